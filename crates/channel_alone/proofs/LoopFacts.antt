@@ -19,7 +19,7 @@ use Rattle.channel_calls.specs.Plain.{parts_of, DoesPlain}
 use Rattle.channel_calls.specs.Walks.{ChannelMakes}
 use Rattle.channel_calls.proofs.Interface.{exact_step}
 use Rattle.channel_alone.specs.Alone.{Outcome, after_waking, answers}
-use Rattle.channel_alone.specs.Run.{HasPosition, IsAtRest, RanAlone, RunsAlone}
+use Rattle.channel_alone.specs.Run.{HasPosition, IsAtRest, AnsweredAlone, AnswersAlone}
 use Rattle.channel_alone.proofs.TryFacts.{idle}
 use Rattle.channel_alone.proofs.Order.{measure}
 use Rattle.channel_alone.proofs.FirstFacts.{first_rest, first_goes_on, Begun, begun}
@@ -103,7 +103,7 @@ module _ {T W S : Type 0} (wakes : S → W → S → Type 0) where
           (left : kept ≡ kept_by stage') where
         ran_by : (q : Queue T) (woken : List W) → Woken wakes sink0 woken sink'
             → Advances a (channel q parts0) parts' stage' woken (Some y)
-            → RanAlone wakes a q parts0 sink0 (record { reply = y; kept = kept }) parts' sink'
+            → AnsweredAlone wakes a q parts0 sink0 (record { reply = y; kept = kept }) parts' sink'
         ran_by q woken w x =
             let e : Answered x.turn y (phase x.at stage') = answered x.turn y (phase x.at stage') x.turned in
             let f = finished_kept x.at stage' e.kept e.finished in
@@ -123,11 +123,11 @@ module _ {T W S : Type 0} (wakes : S → W → S → Type 0) where
         ends_so : (q : Queue T) (woken : List W) → Woken wakes sink0 woken sink'
             → (IsAlone a (channel q parts0) parts' stage' woken × (Some y ≡ None))
             ⊎ Advances a (channel q parts0) parts' stage' woken (Some y)
-            → RanAlone wakes a q parts0 sink0 (record { reply = y; kept = kept }) parts' sink'
+            → AnsweredAlone wakes a q parts0 sink0 (record { reply = y; kept = kept }) parts' sink'
         ends_so q woken w (inl h) = absurd (let no : Some y ≡ None = h.1 in cc)
         ends_so q woken w (inr h) = ran_by q woken w h
 
-        pub way_ends : RunsAlone wakes a parts0 sink0 (record { reply = y; kept = kept }) parts' sink'
+        pub way_ends : AnswersAlone wakes a parts0 sink0 (record { reply = y; kept = kept }) parts' sink'
         way_ends q position fits =
             let x = way q position fits in
             ends_so q (x.so_far ++ step.0) (woken_on wakes sink0 sink sink' x.so_far step.0 x.woken step.1)

@@ -105,7 +105,7 @@ module _ {T W : Type 0} where
   nearness c (Working w) = 0
   nearness c (Finished kept) = 0
 
-  -- a call of the queue that nobody holds up ends within 63 steps
+  -- a call of the queue ends within 63 steps where the others are quiet
   pub near : (c : Contents T) (q : Queue T) (f : Phase T) (s : Stage (QueueCall T) T W) → Fits c q (seats f s ++ []) → nearness c s < 64
   near c q f (Trying call aim) fits = ranks c q f call [] [] fits
   near c q f (Working w) fits = omega arith

@@ -19,33 +19,74 @@ use Rattle.channel_steps.specs.declared.party.Entry.{Entry}
 use Rattle.channel_steps.specs.declared.party.Party.{Party}
 use Rattle.channel_steps.specs.declared.run.Step.TheVariants as step
 use Rattle.channel_steps.specs.Count.{counted}
-use Rattle.channel_steps.specs.Run.{Begins}
+use Rattle.channel_steps.specs.Run.{Begins, EachStep, IsRun, NextScene, end_of}
 use Rattle.channel_steps.specs.Run as steps
 use Rattle.channel_steps.specs.Scene.{Under, Scene, Sitting, blocks_after, does, under_of, all_seats, Known, AllKnown, IsBalanced, Steps, Represents}
-use Rattle.channel_steps.proofs.Interface.{known_next, fits_after, none_after, after_lone, lone_goes, lone_ends, messages_counted, messages_moved}
+use Rattle.channel_steps.proofs.Interface.{end_on, run_none, known_next, fits_after, none_after, after_lone, lone_goes, lone_ends, messages_counted, messages_moved}
 use Rattle.channel_alone.specs.Alone.{Outcome, Alone, after_waking, answers}
 use Rattle.channel_alone.specs.Run.{HasPosition}
-use Rattle.channel_alone.specs.Scenes.{Goes, names_of_all, RanInScenes, RunsInScenes}
+use Rattle.channel_alone.specs.Scenes.{steps_by, woken_in, EndsWith, RanInScenes, RunsInScenes}
 use Rattle.channel_alone.specs.declared.run.Done.{Done}
 use Rattle.channel_alone.proofs.FirstFacts.{first_goes_on, Begun, begun}
 use Rattle.channel_alone.proofs.AloneFacts.{IsAlone, Advances, Answered, StepsTo, woken_on, answered, finished_kept, goes_on_so, capacity_now, accepts_one, made_by, next}
 use Rattle.channel_alone.proofs.Counts.{counted_few}
 use Rattle.channel_alone.proofs.LoopFacts.{starts_over}
 
+module _ {T : Type 0} where
+  -- none of these answers
+  abbrev pub AreSilent : List (Entry T) → Type 0
+  AreSilent [] = Unit {0}
+  AreSilent (e ∷ es) = (e.reply ≡ None) × (e.kept ≡ None) × AreSilent es
+
+  silent_more : (es : List (Entry T)) (e : Entry T) → AreSilent es → e.reply ≡ None → e.kept ≡ None → AreSilent (es ++ e ∷ [])
+  silent_more [] e h reply kept = (reply, kept, tt)
+  silent_more (f ∷ es) e h reply kept = (h.0, h.1, silent_more es e h.2 reply kept)
+
+  silent_ends : (es : List (Entry T)) (e : Entry T) (x : Reply T) (k : Kept T) → AreSilent es → e.reply ≡ Some x → e.kept ≡ Some k
+      → EndsWith x k (es ++ e ∷ [])
+  silent_ends [] e x k h reply kept = (reply, kept)
+  silent_ends (f ∷ []) e x k h reply kept = (h.0, h.1, (reply, kept))
+  silent_ends (f ∷ g ∷ es) e x k h reply kept = (h.0, h.1, silent_ends (g ∷ es) e x k h.2 reply kept)
+
 module _ {T W : Type 0} where
   -- ---- steps, one after another
 
-  goes_more : (s : Scene T W) (p : ℕ) (xs : List (Entry T × List W)) (m : Scene T W) (e : Entry T) (names : List W)
-      (t : Scene T W)
-      → Goes s p xs m → e.reply ≡ None → e.kept ≡ None → Steps m p e names t → Goes s p (xs ++ (e, names) ∷ []) t
-  goes_more s p [] m e names t same reply kept x = (reply, kept, t, subst (λ (z : Scene T W). Steps z p e names t) same x, refl)
-  goes_more s p (y ∷ xs) m e names t g reply kept x = (g.0, g.1, g.2, g.3, goes_more g.2 p xs m e names t g.4 reply kept x)
+  -- steps of the party p, whom they wake, and one more
+  module _ (p : ℕ) where
+    each_more : (s : Scene T W) (es : List (Entry T)) (ns : List (Scene T W)) → EachStep NextScene s (steps_by p es) es ns
+        → (e : Entry T) (names : List W) (t : Scene T W) → Steps (end_of s ns) p e names t
+        → EachStep NextScene s (steps_by p (es ++ e ∷ [])) (es ++ e ∷ []) (ns ++ t ∷ [])
+    each_more s [] [] h e names t x = ((names, x), tt)
+    each_more s (f ∷ es) (n ∷ ns) h e names t x = (h.0, each_more n es ns h.1 e names t x)
+    each_more s [] (n ∷ ns) h e names t x = absurd h
+    each_more s (f ∷ es) [] h e names t x = absurd h
 
-  names_more : (xs : List (Entry T × List W)) (e : Entry T) (names : List W)
-      → names_of_all (xs ++ (e, names) ∷ []) ≡ names_of_all xs ++ names
-  names_more [] e names = append-nil names
-  names_more (y ∷ xs) e names = ap (λ (ws : List W). y.1 ++ ws) (names_more xs e names)
-      ∙ sym (append_assoc y.1 (names_of_all xs) names)
+    woken_more : (s : Scene T W) (es : List (Entry T)) (ns : List (Scene T W)) (h : EachStep NextScene s (steps_by p es) es ns)
+        (e : Entry T) (names : List W) (t : Scene T W) (x : Steps (end_of s ns) p e names t)
+        → woken_in s (steps_by p (es ++ e ∷ [])) (es ++ e ∷ []) (ns ++ t ∷ []) (each_more s es ns h e names t x)
+        ≡ woken_in s (steps_by p es) es ns h ++ names
+    unfolding each_more
+    woken_more s [] [] h e names t x = append-nil names
+    woken_more s (f ∷ es) (n ∷ ns) h e names t x =
+        ap (λ (ws : List W). h.0.0 ++ ws) (woken_more n es ns h.1 e names t x)
+        ∙ sym (append_assoc h.0.0 (woken_in n (steps_by p es) es ns h.1) names)
+    woken_more s [] (n ∷ ns) h e names t x = absurd h
+    woken_more s (f ∷ es) [] h e names t x = absurd h
+
+    -- the run so far, and those whom it woke
+    pub record WentSo (s : Scene T W) (es : List (Entry T)) (woken : List W) (t : Scene T W) : Type 0 where
+      pub run : IsRun NextScene s (steps_by p es) es t
+      pub named : woken_in s (steps_by p es) es run.moments run.each ≡ woken
+
+    went_more : (s m t : Scene T W) (es : List (Entry T)) (so_far names : List W) (e : Entry T) → WentSo s es so_far m → Steps m p e names t
+        → WentSo s (es ++ e ∷ []) (so_far ++ names) t
+    went_more s m t es so_far names e g x =
+        let r = g.run in
+        let here = subst (λ (z : Scene T W). Steps z p e names t) (sym r.ends) x in
+        record {
+          run = record { moments = r.moments ++ t ∷ []; each = each_more s es r.moments r.each e names t here; ends = end_on s r.moments (t ∷ []) };
+          named = woken_more s es r.moments r.each e names t here ∙ ap (λ (ws : List W). ws ++ names) g.named;
+        }
 
   -- ---- a scene with nobody at work
 
@@ -74,10 +115,10 @@ module _ {T W : Type 0} where
     pub alone : IsAlone a c0 parts stage so_far
     pub begun : Scene T W
     pub begins : Begins s p a (record { mark = Nothing; reply = None; kept = None }) begun
-    pub silent : List (Entry T × List W)
+    pub entries : List (Entry T)
+    pub silent : AreSilent entries
     pub mid : Scene T W
-    pub goes : Goes begun p silent mid
-    pub named : names_of_all silent ≡ so_far
+    pub went : WentSo p begun entries so_far mid
     pub mine : Under T W
     pub only : mid.under_way ≡ mine ∷ []
     pub whose : mine.party ≡ p
@@ -97,7 +138,7 @@ module _ {T W : Type 0} where
         → (y : IsAlone a start parts0 stage []) × (y.now ≡ sh.queue) × (y.at ≡ t.at)
         → Between a s p start messages0 parts0 stage [] messages0
     begins_between stage t y =
-        let mine : Under T W = steps.begun p a (phase t.at stage) s.now in
+        let mine : Under T W = steps.call_begun p a (phase t.at stage) s.now in
         let after : Scene T W = record { now = s.now; blocks = s.blocks; under_way = mine ∷ []; gone = s.gone; came = s.came } in
         let entry : Entry T = record { mark = Nothing; reply = None; kept = None } in
         let begins : Begins s p a entry after =
@@ -120,10 +161,10 @@ module _ {T W : Type 0} where
           alone = y.0;
           begun = after;
           begins = begins;
-          silent = [];
+          entries = [];
+          silent = tt;
           mid = after;
-          goes = refl;
-          named = refl;
+          went = record { run = run_none NextScene after; named = refl };
           mine = mine;
           only = refl;
           whose = refl;
@@ -212,10 +253,10 @@ module _ {T W : Type 0} where
             alone = y.0;
             begun = x.begun;
             begins = x.begins;
-            silent = x.silent ++ (e, names) ∷ [];
+            entries = x.entries ++ e ∷ [];
+            silent = silent_more x.entries e x.silent refl refl;
             mid = after;
-            goes = goes_more x.begun p x.silent x.mid e names after x.goes refl refl n;
-            named = names_more x.silent e names ∙ ap (λ (ws : List W). ws ++ names) x.named;
+            went = went_more p x.begun x.mid after x.entries so_far names e x.went n;
             mine = does x.mine at_now m x.mid.now d;
             only = refl;
             whose = x.whose;
@@ -260,6 +301,7 @@ module _ {T W : Type 0} where
             (lone_ends x.mid x.mine x.only x.known x.balanced m names blocks_now d at_now y kept
             (λ k there. left ∙ (let g = finished_kept made.phase_now stage' k there in g.0)) (moves_there (Some y) made)) in
             let k : AllKnown after.now after.under_way × IsBalanced after.now.queue = follows last after n in
+            let went = went_more p x.begun x.mid after x.entries so_far names last x.went n in
             let none : seats made.phase_now stage' ≡ [] = subst (λ (g : Phase T). seats g stage' ≡ []) z.2 f.1 in
             let from : s.now ≡ start = sh.now in
             record {
@@ -273,15 +315,10 @@ module _ {T W : Type 0} where
               run = record {
                 begun = x.begun;
                 begins = x.begins;
-                silent = x.silent;
-                mid = x.mid;
-                goes = x.goes;
-                last = last;
-                names = names;
-                ends = n;
-                reply = refl;
-                kept = ap (λ (h : Kept T). Some h) (left ∙ f.0);
-                woken = ap (λ (ws : List W). ws ++ names) x.named ∙ sym (append-nil (so_far ++ names));
+                entries = x.entries ++ last ∷ [];
+                run = went.run;
+                ends = silent_ends x.entries last y e.kept x.silent refl (ap (λ (h : Kept T). Some h) (left ∙ f.0));
+                woken = went.named ∙ sym (append-nil (so_far ++ names));
                 over = refl;
               };
               shown = record {

@@ -20,7 +20,7 @@ module _ {T W : Type 0} where
   IsAtRest parts = (q : Queue T) × HasPosition q × Fits parts.cells q []
 
   -- what a call left, from a channel with this queue
-  pub record RanAlone {S : Type 0} (wakes : S → W → S → Type 0) (ask : ChannelAsk T W) (q : Queue T) (parts : Parts T W) (sink : S) (done : Done T) (parts' : Parts T W) (sink' : S) : Type 0 where
+  pub record AnsweredAlone {S : Type 0} (wakes : S → W → S → Type 0) (ask : ChannelAsk T W) (q : Queue T) (parts : Parts T W) (sink : S) (done : Done T) (parts' : Parts T W) (sink' : S) : Type 0 where
     pub outcome : Outcome T W
     pub does : Alone ask (channel q parts) outcome
     pub reply : done.reply ≡ outcome.reply
@@ -32,9 +32,9 @@ module _ {T W : Type 0} where
     pub woken : Woken wakes sink outcome.woken sink'
 
   -- whatever queue the cells mean
-  abbrev pub RunsAlone : {S : Type 0} → (S → W → S → Type 0) → ChannelAsk T W → Parts T W → S → Done T → Parts T W → S → Type 0
-  RunsAlone wakes ask parts sink done parts' sink' =
-      (q : Queue T) → HasPosition q → Fits parts.cells q [] → RanAlone wakes ask q parts sink done parts' sink'
+  abbrev pub AnswersAlone : {S : Type 0} → (S → W → S → Type 0) → ChannelAsk T W → Parts T W → S → Done T → Parts T W → S → Type 0
+  AnswersAlone wakes ask parts sink done parts' sink' =
+      (q : Queue T) → HasPosition q → Fits parts.cells q [] → AnsweredAlone wakes ask q parts sink done parts' sink'
 
   -- a channel of one slot, which counts no positions, with no call under way
   abbrev pub IsOneSlot : Parts T W → Type 0

@@ -1,40 +1,45 @@
 -- A call that is made alone, as a run of scenes: it begins in a scene with nobody at work, makes its steps, and ends.
-use Rattle.std.specs.Prelude.{◌≡◌, ℕ, ◌+◌, ◌≤◌, List, [], ◌∷◌, ◌++◌, length, None, Some}
+use Rattle.std.specs.Prelude.{◌≡◌, ℕ, ◌+◌, ◌≤◌, List, [], ◌∷◌, ◌++◌, map, length, None, Some}
 use Rattle.event_listener.specs.Notices.{Woken}
 use Rattle.channel_calls.specs.Parts.{Parts}
 use Rattle.channel_calls.specs.declared.ask.ChannelAsk.{ChannelAsk}
 use Rattle.channel_calls.specs.declared.mark.Mark.TheVariants.{Nothing}
+use Rattle.channel_calls.specs.declared.reply.Reply.{Reply}
+use Rattle.channel_calls.specs.declared.stage.Kept.{Kept}
 use Rattle.channel_steps.specs.declared.party.Entry.{Entry}
-use Rattle.channel_steps.specs.Run.{Begins}
-use Rattle.channel_steps.specs.Scene.{Scene, Steps, Represents}
+use Rattle.channel_steps.specs.declared.run.Step.{Step}
+use Rattle.channel_steps.specs.declared.run.Step.TheVariants as step
+use Rattle.channel_steps.specs.Run.{EachStep, IsRun, NextScene, Begins}
+use Rattle.channel_steps.specs.Scene.{Scene, Represents}
 use Rattle.channel_alone.specs.Alone.{Outcome, Alone}
 use Rattle.channel_alone.specs.Run.{HasPosition}
 use Rattle.channel_alone.specs.declared.run.Done.{Done}
 
+module _ {T : Type 0} where
+  -- the last of these answers this and leaves this, and no other answers
+  abbrev pub EndsWith : Reply T → Kept T → List (Entry T) → Type 0
+  EndsWith reply kept [] = ⊥
+  EndsWith reply kept (e ∷ []) = (e.reply ≡ Some reply) × (e.kept ≡ Some kept)
+  EndsWith reply kept (e ∷ es) = (e.reply ≡ None) × (e.kept ≡ None) × EndsWith reply kept es
+
 module _ {T W : Type 0} where
-  -- steps of the party p that do not answer, one after another, each with its entry and those whom it wakes
-  abbrev pub Goes : Scene T W → ℕ → List (Entry T × List W) → Scene T W → Type 0
-  Goes s p [] t = t ≡ s
-  Goes s p (x ∷ xs) t = (x.0.reply ≡ None) × (x.0.kept ≡ None) × (m : Scene T W) × Steps s p x.0 x.1 m × Goes m p xs t
+  -- steps of the party p, one for each entry
+  abbrev pub steps_by : ℕ → List (Entry T) → List (Step T W)
+  steps_by p entries = map (λ (e : Entry T). step.Step p) entries
 
   -- all whom these steps wake, in order
-  abbrev pub names_of_all : List (Entry T × List W) → List W
-  names_of_all [] = []
-  names_of_all (x ∷ xs) = x.1 ++ names_of_all xs
+  abbrev pub woken_in : (s : Scene T W) (xs : List (Step T W)) (es : List (Entry T)) (ns : List (Scene T W)) → EachStep NextScene s xs es ns → List W
+  woken_in s (x ∷ xs) (e ∷ es) (n ∷ ns) h = h.0.0 ++ woken_in n xs es ns h.1
+  woken_in s xs es ns h = []
 
   -- a call of the party p begins in the scene s, makes its steps and ends with this outcome, after which nobody is at work
   pub record LoneRun (s : Scene T W) (p : ℕ) (ask : ChannelAsk T W) (o : Outcome T W) (t : Scene T W) : Type 0 where
     pub begun : Scene T W
     pub begins : Begins s p ask (record { mark = Nothing; reply = None; kept = None }) begun
-    pub silent : List (Entry T × List W)
-    pub mid : Scene T W
-    pub goes : Goes begun p silent mid
-    pub last : Entry T
-    pub names : List W
-    pub ends : Steps mid p last names t
-    pub reply : last.reply ≡ Some o.reply
-    pub kept : last.kept ≡ Some o.kept
-    pub woken : names_of_all silent ++ names ≡ o.woken
+    pub entries : List (Entry T)
+    pub run : IsRun NextScene begun (steps_by p entries) entries t
+    pub ends : EndsWith o.reply o.kept entries
+    pub woken : woken_in begun (steps_by p entries) entries run.moments run.each ≡ o.woken
     pub over : t.under_way ≡ []
 
   module _ {S : Type 0} (wakes : S → W → S → Type 0) where

@@ -3,7 +3,7 @@
 ghost use Rattle.std.specs.Prelude.{◌≡◌, false};
 ghost use Rattle.channel_calls.specs.Plain.{parts_of};
 ghost use Rattle.channel_alone.specs.Ample.{lacks_memory, HasNode};
-ghost use Rattle.channel_alone.specs.Run.{IsAtRest, RunsAlone};
+ghost use Rattle.channel_alone.specs.Run.{IsAtRest, AnswersAlone};
 ghost use Rattle.channel_alone.specs.Scenes.{RunsInScenes};
 
 use channel_calls::ask::ChannelAsk;
@@ -38,7 +38,7 @@ pub fn run_alone<T: Drop, W: Drop, S: Wakes<W>>(
     sink: &mut S,
 ) -> Done<T>
     requires at_rest { IsAtRest (parts_of channel.old) }
-    ensures alone { RunsAlone S.wakes ask (parts_of channel.old) sink.old result (parts_of channel.new) sink.new }
+    ensures alone { AnswersAlone S.wakes ask (parts_of channel.old) sink.old result (parts_of channel.new) sink.new }
     ensures scenes { RunsInScenes S.wakes ask (parts_of channel.old) sink.old messages.old
         result (parts_of channel.new) sink.new messages.new }
     ensures ample { HasNode ask (parts_of channel.old) → lacks_memory result.reply ≡ false }

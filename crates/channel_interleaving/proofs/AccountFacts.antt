@@ -1,17 +1,13 @@
--- Accounts: over a step, over a run, over a call made alone, and one after the other.
-use Rattle.std.proofs.Common.{◌≡◌, ℕ, List, [], ◌∷◌, ◌++◌, sym, ap, ◌∙◌, subst, append-nil, append_assoc}
-use Rattle.channel_alone.specs.Alone.{Outcome}
-use Rattle.channel_alone.specs.Scenes.{Goes, LoneRun}
+-- Accounts: over a step, over a run, and one after the other.
+use Rattle.std.proofs.Common.{◌≡◌, List, [], ◌++◌, sym, ap, ◌∙◌, append-nil, append_assoc}
 use Rattle.channel_calls.specs.Moves.{Channel}
-use Rattle.channel_calls.specs.declared.ask.ChannelAsk.{ChannelAsk}
 use Rattle.channel_model.specs.declared.name.Waiter.{Waiter}
-use Rattle.channel_steps.specs.Run.{Accounts, Begins}
-use Rattle.channel_steps.specs.Scene.{Scene, Steps, gone_by, came_by}
+use Rattle.channel_steps.specs.Run.{Accounts, IsRun, Next, NextScene}
+use Rattle.channel_steps.specs.Scene.{Scene, gone_by, came_by}
 use Rattle.channel_steps.specs.declared.party.Entry.{Entry as ChannelEntry}
-use Rattle.channel_interleaving.specs.Run.{Book, Made}
-use Rattle.channel_interleaving.specs.declared.step.Entry.{Entry}
-use Rattle.channel_interleaving.specs.declared.step.Step.{Step}
-use Rattle.channel_interleaving.specs.declared.step.Step.TheVariants as step
+use Rattle.channel_steps.specs.declared.run.Step.{Step as ChannelStep}
+use Rattle.channel_steps.specs.declared.run.Step.TheVariants as step
+use Rattle.channel_steps.proofs.Interface.{run_keeps}
 
 module _ {T : Type 0} where
   pub no_accounts : (s : Scene T Waiter) → Accounts s s
@@ -41,33 +37,17 @@ module _ {T : Type 0} where
   pub accounts_both : (s m t : Scene T Waiter) → Accounts s m → Accounts m t → Accounts s t
   accounts_both s m t h k = both s m t k.out k.into h k.gone k.came k.held
 
-  begins_accounts : (s m t : Scene T Waiter) (p : ℕ) (a : ChannelAsk T Waiter) (e : ChannelEntry T) → Accounts s m
-      → Begins m p a e t → Accounts s t
-  begins_accounts s m t p a e h n =
-      both s m t [] [] h (n.gone ∙ sym (append-nil m.gone)) (n.came ∙ sym (append-nil m.came))
-      (ap (λ (d : Channel T Waiter). d.queue.items) n.now ∙ sym (append-nil m.now.queue.items))
-
-  steps_accounts : (s m t : Scene T Waiter) (p : ℕ) (e : ChannelEntry T) (names : List Waiter) → Accounts s m
-      → Steps m p e names t → Accounts s t
-  steps_accounts s m t p e names h n =
+  -- a step
+  pub next_accounts : (s m t : Scene T Waiter) (x : ChannelStep T Waiter) (e : ChannelEntry T) (names : List Waiter) → Accounts s m
+      → Next m x e names t → Accounts s t
+  next_accounts s m t (step.Begin p a) e names h n =
+      both s m t [] [] h (n.0.gone ∙ sym (append-nil m.gone)) (n.0.came ∙ sym (append-nil m.came))
+      (ap (λ (d : Channel T Waiter). d.queue.items) n.0.now ∙ sym (append-nil m.now.queue.items))
+  next_accounts s m t (step.Step p) e names h n =
       both s m t (gone_by e.mark m.now.queue.items) (came_by e.mark n.mine.ask) h n.gone n.came n.held
 
-  -- a step that was made
-  pub next_accounts : (s m t : Scene T Waiter) (b c : Book T) (x : Step T) (e : Entry T) → Accounts s m
-      → Made b m x e c t → Accounts s t
-  next_accounts s m t b c (step.Begin p call) e h made = begins_accounts s m t p.0 _ _ h made.next.0
-  next_accounts s m t b c (step.Step p) e h made = steps_accounts s m t p.0 _ e.woken.items h made.next
-
-  goes_accounts : (s m t : Scene T Waiter) (p : ℕ) (xs : List (ChannelEntry T × List Waiter)) → Accounts s m
-      → Goes m p xs t → Accounts s t
-  goes_accounts s m t p [] h same = subst (λ (u : Scene T Waiter). Accounts s u) (sym same) h
-  goes_accounts s m t p (x ∷ xs) h (silent, left, n, st, more) =
-      goes_accounts s n t p xs (steps_accounts s m n p x.0 x.1 h st) more
-
-  -- a call made alone
-  pub lone_accounts : (s t : Scene T Waiter) (p : ℕ) (a : ChannelAsk T Waiter) (o : Outcome T Waiter) → LoneRun s p a o t
+  -- a run
+  pub run_accounts : (s t : Scene T Waiter) (xs : List (ChannelStep T Waiter)) (es : List (ChannelEntry T)) → IsRun NextScene s xs es t
       → Accounts s t
-  lone_accounts s t p a o r =
-      let began = begins_accounts s s r.begun p a _ (no_accounts s) r.begins in
-      let went = goes_accounts s r.begun r.mid p r.silent began r.goes in
-      steps_accounts s r.mid t p r.last r.names went r.ends
+  run_accounts s t xs es run =
+      run_keeps NextScene (λ u. Accounts s u) (λ a x e b n h. next_accounts s a b x e n.0 h n.1) s xs es t run (no_accounts s)

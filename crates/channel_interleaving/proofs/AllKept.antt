@@ -1,16 +1,16 @@
 -- What every step keeps of those who wait, and what a call made alone keeps.
-use Rattle.std.proofs.Common.{◌≡◌, ℕ, false, List, [], ◌∷◌, ◌++◌, map, slice_get, Option, None, Some, inl, refl, sym, ap, ◌∙◌, subst}
+use Rattle.std.proofs.Common.{◌≡◌, ℕ, false, List, [], ◌∷◌, ◌++◌, map, slice_get, Option, None, Some, inl, refl, sym, ap, ◌∙◌, subst, append-nil}
 use Rattle.channel_calls.specs.Moves.{Channel}
 use Rattle.channel_calls.specs.declared.ask.ChannelAsk.{ChannelAsk}
 use Rattle.channel_calls.specs.declared.reply.Reply.{Reply}
 use Rattle.channel_calls.specs.declared.stage.Kept.{Kept}
 use Rattle.channel_alone.specs.Alone.{Outcome}
-use Rattle.channel_alone.specs.Scenes.{Goes, names_of_all, LoneRun}
+use Rattle.channel_alone.specs.Scenes.{EndsWith, LoneRun, steps_by, woken_in}
 use Rattle.channel_laws.proofs.Interface.{all_sound_new, all_sound_next, stays_closed}
 use Rattle.channel_model.specs.declared.call.Call.{Call}
 use Rattle.channel_model.specs.declared.name.Waiter.{Waiter}
 use Rattle.channel_steps.specs.Answers.{asks_first}
-use Rattle.channel_steps.specs.Run.{new_scene, Begins, Next}
+use Rattle.channel_steps.specs.Run.{EachStep, NextScene, end_of, new_scene, Begins, Next}
 use Rattle.channel_steps.specs.Scene.{Under, Scene, Steps, sees, does, unless_ended}
 use Rattle.channel_steps.specs.declared.party.Entry.{Entry as ChannelEntry}
 use Rattle.channel_steps.specs.declared.run.Step.{Step as ChannelStep}
@@ -22,7 +22,7 @@ use Rattle.channel_interleaving.specs.Lone.{book_alone}
 use Rattle.channel_interleaving.specs.Order.{all_moved_last}
 use Rattle.channel_interleaving.specs.Roll.{first_roll, is_at_work}
 use Rattle.channel_interleaving.specs.Refusal.{step_refusal}
-use Rattle.channel_interleaving.specs.Run.{Book, Made, IsBookOf, begun, ended, with_woken}
+use Rattle.channel_interleaving.specs.Run.{Book, Made, IsBookOf, book_begun, book_ended, with_woken}
 use Rattle.channel_interleaving.specs.Users.{FewUsers}
 use Rattle.channel_interleaving.specs.declared.names.Agent.{Agent}
 use Rattle.channel_interleaving.specs.declared.roll.Roll.{Roll}
@@ -66,7 +66,7 @@ module _ {T : Type 0} where
   -- a call begins
   pub names_kept_begun : (q : PartyId) (c : Call T) (b : Book T) (a : ChannelAsk T Waiter) (s t : Scene T Waiter) (e : ChannelEntry T)
       → IsOrListens (asks b.roll c) a → Begins s q.0 a e t → is_at_work q.0 b.agents ≡ false → Admitted b.roll c → NamesKept b s
-      → NamesKept (begun q c b) t
+      → NamesKept (book_begun q c b) t
   names_kept_begun q c b a s t e is n idle fine k =
       record {
         owned = begins_owned q c b a s t e is n k.owned idle fine;
@@ -81,7 +81,7 @@ module _ {T : Type 0} where
   -- the book after a step of a party
   abbrev IsAfter : Book T → PartyId → Option (Reply T) → Option (Kept T) → List Waiter → Book T → Type 0
   IsAfter b q r kp names c =
-      (k : ℕ) × (a : Agent T) × (slice_get b.agents k ≡ Some a) × (a.party ≡ q.0) × (c ≡ ended k a r kp (with_woken names b))
+      (k : ℕ) × (a : Agent T) × (slice_get b.agents k ≡ Some a) × (a.party ≡ q.0) × (c ≡ book_ended k a r kp (with_woken names b))
 
   -- a call makes a step
   pub names_kept_step : (b c : Book T) (s t : Scene T Waiter) (q : PartyId) (e : ChannelEntry T) (names : List Waiter)
@@ -149,9 +149,9 @@ module _ {T : Type 0} where
   -- a call begins
   pub kept_begun : (q : PartyId) (c : Call T) (b : Book T) (s t : Scene T Waiter) (e : ChannelEntry T)
       → Begins s q.0 (asks b.roll c) e t → is_at_work q.0 b.agents ≡ false → Admitted b.roll c → AllKept b s
-      → AllKept (begun q c b) t
+      → AllKept (book_begun q c b) t
   kept_begun q c b s t e n idle fine k =
-      with_tries (begun q c b) t (names_kept_begun q c b (asks b.roll c) s t e (inl refl) n idle fine (names_of b s k))
+      with_tries (book_begun q c b) t (names_kept_begun q c b (asks b.roll c) s t e (inl refl) n idle fine (names_of b s k))
       (subst AllTry (sym n.under_way) (all_join Try s.under_way _ k.tries (tries_first b.roll c, tt)))
 
   tries_seen : (d : Channel T Waiter) (us : List (Under T Waiter)) → AllTry us → AllTry (map (sees d) us)
@@ -202,16 +202,29 @@ module _ {T : Type 0} where
   first_agent : (agents : List (Agent T)) (a : Agent T) → agents ≡ a ∷ [] → slice_get agents 0 ≡ Some a
   first_agent agents a e = ap (λ (l : List (Agent T)). slice_get l 0) e
 
-  -- steps of the only one at work that do not answer
-  kept_goes : (q : PartyId) (a : Agent T) (xs : List (ChannelEntry T × List Waiter)) (b : Book T) (s t : Scene T Waiter)
-      → b.agents ≡ a ∷ [] → a.party ≡ q.0 → Goes s q.0 xs t → AllKept b s → AllKept (with_woken (names_of_all xs) b) t
-  kept_goes q a [] b s t only his same k = subst (λ (u : Scene T Waiter). AllKept b u) (sym same) k
-  kept_goes q a (x ∷ xs) b s t only his (silent, left, m, st, more) k =
-      let after : with_woken x.1 b ≡ ended 0 a x.0.reply x.0.kept (with_woken x.1 b) =
-      ap (λ (r : Option (Reply T)). ended 0 a r x.0.kept (with_woken x.1 b)) (sym silent) in
-      let next = kept_step b (with_woken x.1 b) s m q x.0 x.1 st (0, a, first_agent b.agents a only, his, after) k in
-      subst (λ (d : Book T). AllKept d t) (sym (woken_append x.1 (names_of_all xs) b))
-      (kept_goes q a xs (with_woken x.1 b) m t only his more next)
+  -- steps of the only one at work, of which the last one answers
+  kept_over : (q : PartyId) (a : Agent T) (r : Reply T) (kept : Kept T) (es : List (ChannelEntry T)) (ns : List (Scene T Waiter))
+      (b : Book T) (s : Scene T Waiter) → b.agents ≡ a ∷ [] → a.party ≡ q.0 → EndsWith r kept es
+      → (h : EachStep NextScene s (steps_by q.0 es) es ns) → AllKept b s
+      → AllKept (book_ended 0 a (Some r) (Some kept) (with_woken (woken_in s (steps_by q.0 es) es ns h) b)) (end_of s ns)
+  kept_over q a r kept (e ∷ []) (n ∷ []) b s only his last h k =
+      let woken : Book T = with_woken h.0.0 b in
+      let after : book_ended 0 a (Some r) (Some kept) (with_woken (h.0.0 ++ []) b) ≡ book_ended 0 a e.reply e.kept woken =
+      ap (λ (ws : List Waiter). book_ended 0 a (Some r) (Some kept) (with_woken ws b)) (append-nil h.0.0)
+      ∙ (ap (λ (x : Option (Reply T)). book_ended 0 a x (Some kept) woken) (sym last.0)
+      ∙ ap (λ (x : Option (Kept T)). book_ended 0 a e.reply x woken) (sym last.1)) in
+      kept_step b _ s n q e h.0.0 h.0.1 (0, a, first_agent b.agents a only, his, after) k
+  kept_over q a r kept (e ∷ f ∷ es) (n ∷ ns) b s only his last h k =
+      let woken : Book T = with_woken h.0.0 b in
+      let after : woken ≡ book_ended 0 a e.reply e.kept woken =
+      ap (λ (x : Option (Reply T)). book_ended 0 a x e.kept woken) (sym last.0) in
+      let next = kept_step b woken s n q e h.0.0 h.0.1 (0, a, first_agent b.agents a only, his, after) k in
+      subst (λ (d : Book T). AllKept (book_ended 0 a (Some r) (Some kept) d) (end_of n ns))
+      (sym (woken_append h.0.0 (woken_in n (steps_by q.0 (f ∷ es)) (f ∷ es) ns h.1) b))
+      (kept_over q a r kept (f ∷ es) ns woken n only his last.2 h.1 next)
+  kept_over q a r kept [] ns b s only his last h k = absurd last
+  kept_over q a r kept (e ∷ []) (n ∷ m ∷ ns) b s only his last h k = absurd h.1
+  kept_over q a r kept (e ∷ es) [] b s only his last h k = absurd h
 
   -- the whole call
   pub kept_alone : (b : Book T) (c : Call T) (s t : Scene T Waiter) (o : Outcome T Waiter) → b.agents ≡ []
@@ -221,17 +234,11 @@ module _ {T : Type 0} where
       let a : Agent T = record { party = 0; errand = errand_of b.roll c } in
       let idle : is_at_work 0 b.agents ≡ false = ap (λ (l : List (Agent T)). is_at_work 0 l) none in
       let began = kept_begun q c b s run.begun _ run.begins idle fine k in
-      let only : (begun q c b).agents ≡ a ∷ [] = ap (λ (l : List (Agent T)). l ++ (a ∷ [])) none in
-      let middle : Book T = with_woken (names_of_all run.silent) (begun q c b) in
-      let mid = kept_goes q a run.silent (begun q c b) run.begun run.mid only refl run.goes began in
-      let left : with_woken run.names middle ≡ with_woken o.woken (begun q c b) =
-      sym (woken_append (names_of_all run.silent) run.names (begun q c b))
-      ∙ ap (λ (ws : List Waiter). with_woken ws (begun q c b)) run.woken in
-      let whole : Book T = with_woken o.woken (begun q c b) in
-      let last : ended 0 a run.last.reply run.last.kept (with_woken run.names middle) ≡ book_alone b c o =
-      ap (λ (r : Option (Reply T)). ended 0 a r run.last.kept (with_woken run.names middle)) run.reply
-      ∙ (ap (λ (l : Option (Kept T)). ended 0 a (Some o.reply) l (with_woken run.names middle)) run.kept
-      ∙ (ap (λ (d : Book T). ended 0 a (Some o.reply) (Some o.kept) d) left
-      ∙ ap (λ (l : List (Agent T)). ended 0 a (Some o.reply) (Some o.kept) (record whole { agents = l })) only)) in
-      kept_step middle (book_alone b c o) run.mid t q run.last run.names run.ends
-      (0, a, first_agent (begun q c b).agents a only, refl, sym last) mid
+      let only : (book_begun q c b).agents ≡ a ∷ [] = ap (λ (l : List (Agent T)). l ++ (a ∷ [])) none in
+      let over = kept_over q a o.reply o.kept run.entries run.run.moments (book_begun q c b) run.begun only refl run.ends run.run.each began in
+      let whole : Book T = with_woken o.woken (book_begun q c b) in
+      let same = ap (λ (ws : List Waiter). book_ended 0 a (Some o.reply) (Some o.kept) (with_woken ws (book_begun q c b))) run.woken
+      ∙ ap (λ (l : List (Agent T)). book_ended 0 a (Some o.reply) (Some o.kept) (record whole { agents = l })) only in
+      let last : Book T = book_ended 0 a (Some o.reply) (Some o.kept)
+      (with_woken (woken_in run.begun (steps_by q.0 run.entries) run.entries run.run.moments run.run.each) (book_begun q c b)) in
+      subst (λ (d : Book T). AllKept d t) same (subst (λ (u : Scene T Waiter). AllKept last u) run.run.ends over)

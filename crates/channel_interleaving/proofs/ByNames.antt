@@ -12,7 +12,7 @@ use Rattle.channel_interleaving.specs.Kept.{NamesKept}
 use Rattle.channel_interleaving.specs.Owners.{Post, post, Together}
 use Rattle.channel_interleaving.specs.Refusal.{refusal, step_refusal}
 use Rattle.channel_interleaving.specs.Roll.{is_at_work}
-use Rattle.channel_interleaving.specs.Run.{Book, IsBookOf, ended, with_woken}
+use Rattle.channel_interleaving.specs.Run.{Book, IsBookOf, book_ended, with_woken}
 use Rattle.channel_interleaving.specs.declared.names.Agent.{Agent}
 use Rattle.channel_interleaving.specs.declared.step.PartyId.{PartyId}
 use Rattle.channel_interleaving.specs.declared.step.Step.TheVariants as step
@@ -79,6 +79,6 @@ module _ {T : Type 0} where
       ap (λ (l : List (Agent T)). slice_get l (length pt.front)) pt.are ∙ found pt.front pt.agent pt.back in
       record {
         accepted = ap (λ (x : Bool). let r : Option WorldRefusal = (if x then None else Some Idle) in r) works;
-        after = ended (length pt.front) pt.agent e.reply e.kept (with_woken names b);
+        after = book_ended (length pt.front) pt.agent e.reply e.kept (with_woken names b);
         book = (length pt.front, pt.agent, there, his, refl);
       }

@@ -18,7 +18,7 @@ use Rattle.channel_calls.specs.declared.stage.Turn.TheVariants.{Tries, Works, En
 use Rattle.channel_calls.specs.declared.stage.Waiting.{Waiting}
 use Rattle.channel_calls.specs.declared.stage.Waiting.TheVariants as waiting
 use Rattle.channel_model.specs.Answer.{weak_of, strong_of}
-use Rattle.channel_model.specs.Asked.{Held, poll_asked, refusal_asked, giving_up_asked, drop_asked, clone_asked, upgrade_asked}
+use Rattle.channel_model.specs.Asked.{KeysHeld, poll_asked, refusal_asked, giving_up_asked, drop_asked, clone_asked, upgrade_asked}
 use Rattle.channel_model.specs.Names.{at}
 use Rattle.channel_model.specs.Names as model
 use Rattle.channel_model.specs.declared.call.Call.{Call}
@@ -139,27 +139,27 @@ module _ (T : Type 0) where
   abbrev Aside : Side → ChannelAsk T Waiter → Type 0
   Aside side a = (asks_lowering side a ≡ false) × (asks_raising side a ≡ false)
 
-  polls_aside : (side : Side) (held : Held) (op : OpId) (o : Option (model.Operation T)) → Aside side (poll_asked held op o)
+  polls_aside : (side : Side) (held : KeysHeld) (op : OpId) (o : Option (model.ModelOperation T)) → Aside side (poll_asked held op o)
   polls_aside side held op (Some (model.send handle (Some m))) = (refl, refl)
   polls_aside side held op (Some (model.send handle None)) = (refl, refl)
   polls_aside side held op (Some (model.recv handle)) = (refl, refl)
   polls_aside side held op (Some (model.closing handle)) = (refl, refl)
   polls_aside side held op None = (refl, refl)
 
-  refuses_aside : (side : Side) (held : Held) (op : OpId) (o : Option (model.Operation T)) → Aside side (refusal_asked held op o)
+  refuses_aside : (side : Side) (held : KeysHeld) (op : OpId) (o : Option (model.ModelOperation T)) → Aside side (refusal_asked held op o)
   refuses_aside side held op (Some (model.send handle m)) = (refl, refl)
   refuses_aside side held op (Some (model.recv handle)) = (refl, refl)
   refuses_aside side held op (Some (model.closing handle)) = (refl, refl)
   refuses_aside side held op None = (refl, refl)
 
-  gives_up_aside : (side : Side) (held : Held) (op : OpId) (o : Option (model.Operation T)) → Aside side (giving_up_asked held op o)
+  gives_up_aside : (side : Side) (held : KeysHeld) (op : OpId) (o : Option (model.ModelOperation T)) → Aside side (giving_up_asked held op o)
   gives_up_aside side held op (Some (model.send handle m)) = (refl, refl)
   gives_up_aside side held op (Some (model.recv handle)) = (refl, refl)
   gives_up_aside side held op (Some (model.closing handle)) = (refl, refl)
   gives_up_aside side held op None = (refl, refl)
 
   -- the drop of a strong handle is to lower the count of its side, and no other
-  drop_kind : (side : Side) (held : Held) (handle : HandleId) (k : HandleKind) (n : ℕ)
+  drop_kind : (side : Side) (held : KeysHeld) (handle : HandleId) (k : HandleKind) (n : ℕ)
       → (let a : ChannelAsk T Waiter = drop_asked held handle (Some (record { kind = k; borrowers = n })) in
       (asks_lowering side a ≡ is_strong side k) × (asks_raising side a ≡ false))
   drop_kind Senders held handle handle_kind.Sender n = (refl, refl)
@@ -171,7 +171,7 @@ module _ (T : Type 0) where
   drop_kind Receivers held handle handle_kind.WeakSender n = (refl, refl)
   drop_kind Receivers held handle handle_kind.WeakReceiver n = (refl, refl)
 
-  drop_lowers : (side : Side) (held : Held) (handle : HandleId) (o : Option Hold)
+  drop_lowers : (side : Side) (held : KeysHeld) (handle : HandleId) (o : Option Hold)
       → (let a : ChannelAsk T Waiter = drop_asked held handle (option_map (λ (h : Hold). h.handle) o) in
       (asks_lowering side a ≡ strong_lives side o) × (asks_raising side a ≡ false))
   drop_lowers side held handle None = (refl, refl)

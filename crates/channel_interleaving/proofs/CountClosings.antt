@@ -26,7 +26,7 @@ use Rattle.channel_calls.specs.declared.stage.Stage.TheVariants.{Trying, Working
 use Rattle.channel_calls.specs.declared.stage.Turn.TheVariants.{Tries}
 use Rattle.channel_calls.specs.declared.stage.Work.TheVariants.{Lower}
 use Rattle.channel_steps.specs.Known.{TriesFor, StageAt}
-use Rattle.channel_steps.specs.Moments.{Deed, Shut}
+use Rattle.channel_steps.specs.Moments.{MarkedMoment, Shut}
 use Rattle.channel_interleaving.specs.Counted.{is_last_of, is_lowering, is_closing}
 
 not_one : (n : ℕ) → (n == 1) ≡ false → 1 ≤ n → 1 ≤ n - 1
@@ -43,7 +43,7 @@ module _ (T W : Type 0) where
   closed_so q queue_mark.Nothing (answer.Close false) (stages.trying seen) h = h
   closed_so q m y s h = absurd h
 
-  closer_asks : (x : ChannelAsk T W) (c : Closer) (a : QueueAsk T) (ds : List (Deed T W)) (seen : List (Channel T W))
+  closer_asks : (x : ChannelAsk T W) (c : Closer) (a : QueueAsk T) (ds : List (MarkedMoment T W)) (seen : List (Channel T W))
       → TriesFor x (aim.Close c) a ds seen → a ≡ queue.Close
   closer_asks ask.Close closer.Call queue.Close ds seen h = refl
   closer_asks ask.DropSender closer.Sender queue.Close ds seen h = refl
@@ -64,7 +64,7 @@ module _ (T W : Type 0) where
 
   -- after its step the channel is closed
   pub closing_shuts : (side : Side) (c : Channel T W) (x : ChannelAsk T W) (at : Stage (Phase T) T W) (e : Effect T W)
-      (r : Option (Reply T)) (s : Stage (Phase T) T W) (ds : List (Deed T W)) (seen : List (Channel T W)) → StageAt c x at ds seen
+      (r : Option (Reply T)) (s : Stage (Phase T) T W) (ds : List (MarkedMoment T W)) (seen : List (Channel T W)) → StageAt c x at ds seen
       → Moves c at e r s → is_closing side at ≡ true → Shut e.channel
   closing_shuts side c x (Trying f (aim.Close cl)) e r s ds seen k h sure = shuts c f cl e r s (closer_asks x cl f.ask ds seen k.0) h
   closing_shuts side c x at e r s ds seen k h sure = absurd (let no : false ≡ true = sure in cc)

@@ -24,7 +24,7 @@ use Rattle.channel_interleaving.specs.Bookkeeping.{asks, errand_of, settled, all
 use Rattle.channel_interleaving.specs.Counted.{tally, is_lowering, is_closing, is_raising, makes_strong, CountsSide, Counted}
 use Rattle.channel_interleaving.specs.Owners.{Post, post, wait_of, Suits, Together, AllDiffer, Owned}
 use Rattle.channel_interleaving.specs.Roll.{first_roll}
-use Rattle.channel_interleaving.specs.Run.{Book, begun, ended, with_woken}
+use Rattle.channel_interleaving.specs.Run.{Book, book_begun, book_ended, with_woken}
 use Rattle.channel_interleaving.specs.declared.names.Agent.{Agent}
 use Rattle.channel_interleaving.specs.declared.step.PartyId.{PartyId}
 use Rattle.channel_interleaving.proofs.CountBegins.{asks_lowering, lowering_same, raising_same, Starts, starts, BeginsSo, begins_so}
@@ -64,7 +64,7 @@ module _ {T : Type 0} where
   -- ---- a call begins
 
   pub counted_begun : (q : PartyId) (c : Call T) (b : Book T) (a : ChannelAsk T Waiter) (s t : Scene T Waiter) (e : Entry T)
-      → IsOrListens (asks b.roll c) a → Begins s q.0 a e t → Counted b s → Counted (begun q c b) t
+      → IsOrListens (asks b.roll c) a → Begins s q.0 a e t → Counted b s → Counted (book_begun q c b) t
   counted_begun q c b a s t e is n counted side =
       record {
         counts = omega (arith, same_count, was.counts, low, begins.0, lowering);
@@ -85,7 +85,7 @@ module _ {T : Type 0} where
       begins = begins_so T side b.roll c
 
       new : Under T Waiter
-      new = start.begun q.0 a n.at s.now
+      new = start.call_begun q.0 a n.at s.now
 
       same_count : count side t.now.roster ≡ count side s.now.roster
       same_count = ap (λ (x : Channel T Waiter). count side x.roster) n.now
@@ -111,7 +111,7 @@ module _ {T : Type 0} where
           by (inl h) = inl (omega (arith, same_count, h))
           by (inr h) = let closing = all (λ (u : Under T Waiter). is_closing side u.at) in inr (omega (arith, closing, h))
 
-      makers : map (λ (a : Agent T). makes_strong side a.errand) (begun q c b).agents ≡ map (λ (u : Under T Waiter). is_raising side u.at) t.under_way
+      makers : map (λ (a : Agent T). makes_strong side a.errand) (book_begun q c b).agents ≡ map (λ (u : Under T Waiter). is_raising side u.at) t.under_way
       makers =
           map_both (λ (a : Agent T). makes_strong side a.errand) b.agents (record { party = q.0; errand = errand_of b.roll c } ∷ [])
           ∙ (ap (λ (l : List Bool). l ++ (makes_strong side (errand_of b.roll c) ∷ [])) was.makers
@@ -232,7 +232,7 @@ module _ {T : Type 0} where
         → (is_closing side st.mine.at ≡ true) ⊎ (is_closing side st.mine.at ≡ false) → Opened
     had_closer is_open h (inl e) =
         let k = own_known in
-        let shut = closing_shuts T Waiter side s.now st.mine.ask st.mine.at effect r st.at_now st.mine.deeds st.mine.seen k.stands st.moves e in
+        let shut = closing_shuts T Waiter side s.now st.mine.ask st.mine.at effect r st.at_now st.mine.marks st.mine.seen k.stands st.moves e in
         absurd (let no : false ≡ true = sym is_open ∙ shut in cc)
     had_closer is_open h (inr e) =
         let none : bit (is_closing side st.mine.at) ≡ 0 = ap bit e in
@@ -351,7 +351,7 @@ module _ {T : Type 0} where
 
   abbrev IsAfter : Book T → PartyId → Option (Reply T) → Option (Kept T) → List Waiter → Book T → Type 0
   IsAfter b q r kp names c = (k : ℕ) × (a : Agent T) × (slice_get b.agents k ≡ Some a) × (a.party ≡ q.0)
-      × (c ≡ ended k a r kp (with_woken names b))
+      × (c ≡ book_ended k a r kp (with_woken names b))
 
   pub counted_step : (b c : Book T) (s t : Scene T Waiter) (q : PartyId) (m : Mark) (r : Option (Reply T)) (kp : Option (Kept T))
       (names : List Waiter) → Owned b s → AllKnown s.now s.under_way

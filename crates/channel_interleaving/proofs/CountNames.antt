@@ -8,7 +8,7 @@ use Rattle.channel_calls.specs.declared.reply.Reply.TheVariants as reply
 use Rattle.channel_calls.specs.declared.stage.Kept.{Kept}
 use Rattle.channel_calls.specs.declared.stage.Line.{Line}
 use Rattle.channel_calls.specs.declared.stage.Side.{Side}
-use Rattle.channel_model.specs.Names.{Directory, at, with_spent, with_changed, without}
+use Rattle.channel_model.specs.Names.{Directory, at, with_spent, with_changed, without_name}
 use Rattle.channel_model.specs.declared.name.HandleId.{HandleId}
 use Rattle.channel_model.specs.declared.name.HandleKind.{HandleKind}
 use Rattle.channel_model.specs.declared.name.HandleKind.TheVariants as handle_kind
@@ -31,10 +31,6 @@ abbrev pub bit : Bool → ℕ
 bit b = cond b 1 0
 
 -- ---- a directory
-
-abbrev lives_in : Side → Option (Option Hold) → Bool
-lives_in side None = false
-lives_in side (Some x) = strong_lives side x
 
 -- a value in the place of another
 set_at : (side : Side) (t : Bool) (n : ℕ) (f : ℕ × Option Hold) (d : Directory Hold) (v : Option Hold) (m : ℕ)
@@ -67,10 +63,10 @@ unset n (f ∷ d) v e = unset_at (nat_eq n f.0) n f d v (unset n d v) e
 
 -- what lived under a name lives no more
 pub without_live : (side : Side) (n : ℕ) (d : Directory Hold)
-    → live_on side (without n d) + bit (strong_lives side (at n d)) ≡ live_on side d
+    → live_on side (without_name n d) + bit (strong_lives side (at n d)) ≡ live_on side d
 without_live side n d = by (lookup (nat_eq n) d) refl where
   by : (o : Option (Option Hold)) → lookup (nat_eq n) d ≡ o
-      → live_on side (without n d) + bit (strong_lives side (option_map_or (λ (x : Option Hold). x) o None)) ≡ live_on side d
+      → live_on side (without_name n d) + bit (strong_lives side (option_map_or (λ (x : Option Hold). x) o None)) ≡ live_on side d
   by None e = let same = ap (λ (l : Directory Hold). live_on side l) (unset n d None e) in omega (arith, same)
   by (Some x) e = let same = set_live side n d None x e in omega (arith, same)
 

@@ -10,8 +10,8 @@ use Rattle.channel_calls.specs.declared.stage.Stage.{Stage}
 use Rattle.channel_model.specs.declared.name.Waiter.{Waiter}
 use Rattle.channel_steps.proofs.Interface.{messages_moved}
 use Rattle.channel_steps.specs.Count.{taken_out}
-use Rattle.channel_steps.specs.Moments.{Deed, with_deed}
-use Rattle.channel_steps.specs.Run.{Begins, begun}
+use Rattle.channel_steps.specs.Moments.{MarkedMoment, with_marked}
+use Rattle.channel_steps.specs.Run.{Begins, call_begun}
 use Rattle.channel_steps.specs.Scene.{Under, Scene, Steps, IsBalanced, sees, does, unless_ended}
 use Rattle.channel_steps.specs.Tellings.{takings, with_taking}
 use Rattle.channel_steps.specs.declared.party.Entry.{Entry}
@@ -87,19 +87,19 @@ noted_so r b n mark.Take =
 noted_so r b n m = same_doing r b (b || false) (at_most n) (at_most (n + 0)) (sym (or_false b)) (omega arith)
 
 module _ {T W : Type 0} where
-  close_more : (ds : List (Deed T W)) (d : Deed T W) → any_close (ds ++ (d ∷ [])) ≡ (any_close ds || is_close d.mark)
+  close_more : (ds : List (MarkedMoment T W)) (d : MarkedMoment T W) → any_close (ds ++ (d ∷ [])) ≡ (any_close ds || is_close d.mark)
   close_more [] d = or_false (is_close d.mark)
   close_more (e ∷ ds) d =
       ap (λ (b : Bool). is_close e.mark || b) (close_more ds d) ∙ or_assoc (is_close e.mark) (any_close ds) (is_close d.mark)
 
-  takings_more : (ds : List (Deed T W)) (d : Deed T W) → takings (ds ++ (d ∷ [])) ≡ takings ds + with_taking d.mark 0
+  takings_more : (ds : List (MarkedMoment T W)) (d : MarkedMoment T W) → takings (ds ++ (d ∷ [])) ≡ takings ds + with_taking d.mark 0
   takings_more [] d = omega arith
   takings_more (e ∷ ds) d =
       ap (λ (n : ℕ). with_taking e.mark n) (takings_more ds d) ∙ taking_more e.mark (takings ds) (with_taking d.mark 0)
 
   -- what a call has done, after a step more
-  takings_by : (ds : List (Deed T W)) (m : Mark) (c : Channel T W) (seen : List (Channel T W))
-      → takings (with_deed ds m c seen) ≡ takings ds + with_taking m 0
+  takings_by : (ds : List (MarkedMoment T W)) (m : Mark) (c : Channel T W) (seen : List (Channel T W))
+      → takings (with_marked ds m c seen) ≡ takings ds + with_taking m 0
   takings_by ds mark.Nothing c seen = omega arith
   takings_by ds mark.Append c seen = takings_more ds (record { mark = mark.Append; before = c; seen = seen })
   takings_by ds mark.Take c seen = takings_more ds (record { mark = mark.Take; before = c; seen = seen })
@@ -111,8 +111,8 @@ module _ {T W : Type 0} where
   takings_by ds mark.ReceiverUp c seen = takings_more ds (record { mark = mark.ReceiverUp; before = c; seen = seen })
   takings_by ds mark.ReceiverDown c seen = takings_more ds (record { mark = mark.ReceiverDown; before = c; seen = seen })
 
-  close_by : (ds : List (Deed T W)) (m : Mark) (c : Channel T W) (seen : List (Channel T W))
-      → any_close (with_deed ds m c seen) ≡ (any_close ds || is_close m)
+  close_by : (ds : List (MarkedMoment T W)) (m : Mark) (c : Channel T W) (seen : List (Channel T W))
+      → any_close (with_marked ds m c seen) ≡ (any_close ds || is_close m)
   close_by ds mark.Nothing c seen = sym (or_false (any_close ds))
   close_by ds mark.Append c seen = close_more ds (record { mark = mark.Append; before = c; seen = seen })
   close_by ds mark.Take c seen = close_more ds (record { mark = mark.Take; before = c; seen = seen })
@@ -127,9 +127,9 @@ module _ {T W : Type 0} where
   does_noted : (u : Under T W) (at : Stage (Phase T) T W) (m : Mark) (c d : Channel T W)
       → doing_after m (doing_of u) ≡ doing_of (does u at m c d)
   does_noted u at m c d =
-      noted_so (role_of u.ask) (any_close u.deeds) (takings u.deeds) m
-      ∙ same_doing (role_of u.ask) _ _ _ _ (sym (close_by u.deeds m c u.seen))
-      (ap (λ (n : ℕ). at_most n) (sym (takings_by u.deeds m c u.seen)))
+      noted_so (role_of u.ask) (any_close u.marks) (takings u.marks) m
+      ∙ same_doing (role_of u.ask) _ _ _ _ (sym (close_by u.marks m c u.seen))
+      (ap (λ (n : ℕ). at_most n) (sym (takings_by u.marks m c u.seen)))
 
   -- others only see a step
   seen_same : (c : Channel T W) (us : List (Under T W)) → map doing_of (map (sees c) us) ≡ map doing_of us
@@ -139,7 +139,7 @@ module _ {T W : Type 0} where
 module _ {T : Type 0} where
   -- none has taken more than were removed
   abbrev pub TookFew : ℕ → Under T Waiter → Type 0
-  TookFew n u = takings u.deeds ≤ n
+  TookFew n u = takings u.marks ≤ n
 
   few_seen : (c : Channel T Waiter) (n k : ℕ) (us : List (Under T Waiter)) → n ≤ k → All (TookFew n) us → All (TookFew k) (map (sees c) us)
   few_seen c n k [] more h = tt
@@ -151,14 +151,14 @@ module _ {T : Type 0} where
       → Begins s p a e t → doings ≡ map doing_of s.under_way → doings ++ (doing_begun a ∷ []) ≡ map doing_of t.under_way
   begun_noted s p a e t doings b same =
       ap (λ (ds : List Doing). ds ++ (doing_begun a ∷ [])) same
-      ∙ (sym (map_both doing_of s.under_way (begun p a b.at s.now ∷ [])) ∙ ap (λ (us : List (Under T Waiter)). map doing_of us) (sym b.under_way))
+      ∙ (sym (map_both doing_of s.under_way (call_begun p a b.at s.now ∷ [])) ∙ ap (λ (us : List (Under T Waiter)). map doing_of us) (sym b.under_way))
 
   pub begun_few : (s : Scene T Waiter) (p : ℕ) (a : ChannelAsk T Waiter) (e : Entry T) (t : Scene T Waiter) → Begins s p a e t
       → All (TookFew s.now.queue.removed) s.under_way → All (TookFew t.now.queue.removed) t.under_way
   begun_few s p a e t b h =
-      let all = all_join (TookFew s.now.queue.removed) s.under_way (begun p a b.at s.now ∷ []) h (omega arith, tt) in
+      let all = all_join (TookFew s.now.queue.removed) s.under_way (call_begun p a b.at s.now ∷ []) h (omega arith, tt) in
       subst (λ (us : List (Under T Waiter)). All (TookFew t.now.queue.removed) us) (sym b.under_way)
-      (subst (λ (c : Channel T Waiter). All (TookFew c.queue.removed) (s.under_way ++ (begun p a b.at s.now ∷ []))) (sym b.now) all)
+      (subst (λ (c : Channel T Waiter). All (TookFew c.queue.removed) (s.under_way ++ (call_begun p a b.at s.now ∷ []))) (sym b.now) all)
 
   -- ---- a call makes a step
 
@@ -175,7 +175,7 @@ module _ {T : Type 0} where
   took_one : (u : Under T Waiter) (at : Stage (Phase T) T Waiter) (m : Mark) (c d : Channel T Waiter) (n k : ℕ) → TookFew n u
       → k ≡ n + taken_out m → TookFew k (does u at m c d)
   took_one u at m c d n k few more =
-      let now = takings_by u.deeds m c u.seen in
+      let now = takings_by u.marks m c u.seen in
       let one = taking_out m in
       omega (arith, now, one, few, more)
 

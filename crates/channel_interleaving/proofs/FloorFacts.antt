@@ -17,7 +17,7 @@ use Rattle.channel_calls.specs.declared.stage.Line.{Line}
 use Rattle.channel_model.specs.declared.call.Call.{Call}
 use Rattle.channel_model.specs.declared.name.Waiter.{Waiter}
 use Rattle.channel_steps.specs.Count.{counted, brought_in, taken_out}
-use Rattle.channel_steps.specs.Run.{end_of, new_scene, HasBegun, Begins}
+use Rattle.channel_steps.specs.Run.{IsRun, new_scene, HasBegun, Begins}
 use Rattle.channel_steps.specs.Tellings.{telling, dropping}
 use Rattle.channel_steps.specs.Left.{left_at}
 use Rattle.channel_steps.specs.Scene.{Scene, Sitting, blocks_after, under_of, all_seats, IsBalanced, Represents, StepsAt, StepsNearer, parties_in, unless_answered, brought}
@@ -35,7 +35,7 @@ use Rattle.channel_model.specs.declared.run.Stopped.{Stopped}
 use Rattle.std.proofs.lemmas.Bool.Decides.{nat_tests}
 use Rattle.channel_interleaving.specs.Refusal.{step_refusal}
 use Rattle.channel_interleaving.specs.Roll.{first_roll, IsAgent}
-use Rattle.channel_interleaving.specs.Run.{Book, Made, MayRefuse, Stops, begun, ended, with_woken}
+use Rattle.channel_interleaving.specs.Run.{Book, Made, MayRefuseStep, StopsAt, book_begun, book_ended, with_woken, channel_step}
 use Rattle.channel_interleaving.specs.Runs.{Moment, FewLeft, LeadsBy, accepted_in, left_in, moment_of, RanTo}
 use Rattle.channel_interleaving.specs.Woken.{Hears}
 use Rattle.channel_interleaving.specs.declared.doing.Doing.{Doing}
@@ -46,7 +46,7 @@ use Rattle.channel_interleaving.specs.declared.step.Entry.{Entry}
 use Rattle.channel_interleaving.specs.declared.step.Step.{Step}
 use Rattle.channel_interleaving.specs.declared.step.Step.TheVariants as step
 use Rattle.channel_interleaving.specs.declared.woken.Woken.{Woken as Sink}
-use Rattle.channel_steps.proofs.Interface.{each_on, end_on, few_left, messages_counted, messages_moved, blocks_begun}
+use Rattle.channel_steps.proofs.Interface.{run_none, run_on, few_left, messages_counted, messages_moved, blocks_begun}
 use Rattle.channel_interleaving.specs.Kept.{AllKept}
 use Rattle.channel_interleaving.proofs.AccountFacts.{no_accounts, next_accounts}
 use Rattle.channel_interleaving.proofs.AllKept.{kept_first, kept_next}
@@ -161,7 +161,7 @@ module _ {T : Type 0} where
   pub has_begun : (p : PartyId) (c : Call T) (old new : Floor T) (e : Entry T) (entry : ChannelEntry T)
       → HasBegun p.0 (asks old.roll c) old.parties.items entry new.parties.items
       → e.mark ≡ Nothing → e.reply ≡ None → e.woken.items ≡ []
-      → new.channel ≡ old.channel → book_of new ≡ begun p c (book_of old) → new.messages ≡ old.messages → new.accepted ≡ old.accepted
+      → new.channel ≡ old.channel → book_of new ≡ book_begun p c (book_of old) → new.messages ≡ old.messages → new.accepted ≡ old.accepted
       → new.has_one_place ≡ old.has_one_place
       → new.doings.items ≡ old.doings.items ++ (doing_begun (asks old.roll c) ∷ [])
       → HasPosition c old → step_refusal old.roll old.agents.items (step.Begin p c) ≡ None
@@ -210,13 +210,13 @@ module _ {T : Type 0} where
 
   -- who has answered is at work no more, and has no call under way
   ended_at_work : (k : ℕ) (a : Agent T) (r : Option (Reply T)) (kept : Option (Kept T)) (b : Book T)
-      → map (λ (x : Agent T). x.party) (ended k a r kept b).agents ≡ unless_answered k r (map (λ (x : Agent T). x.party) b.agents)
+      → map (λ (x : Agent T). x.party) (book_ended k a r kept b).agents ≡ unless_answered k r (map (λ (x : Agent T). x.party) b.agents)
   ended_at_work k a None kept b = refl
   ended_at_work k a (Some r) kept b = map-remove (λ (x : Agent T). x.party) b.agents k
 
   pub stepped_at_work : (k : ℕ) (a : Agent T) (r : Option (Reply T)) (kept : Option (Kept T)) (names : List Waiter)
       (old : Floor T) (new : Book T) (parties : List (Party T Waiter)) → AreAtWork old
-      → new ≡ ended k a r kept (with_woken names (book_of old))
+      → new ≡ book_ended k a r kept (with_woken names (book_of old))
       → parties_in parties ≡ unless_answered k r (parties_in old.parties.items)
       → map (λ (x : Agent T). x.party) new.agents ≡ parties_in parties
   stepped_at_work k a r kept names old new parties at_work book after =
@@ -277,7 +277,7 @@ module _ {T : Type 0} where
       → empty.names.items ≡ [] → ((line : Line) → length (listeners line (parts_in old).roster).waiting ≤ n)
       → n ≤ vec_capacity empty.names
       → e.mark ≡ entry.mark → e.reply ≡ entry.reply → e.woken.items ≡ full.names.items
-      → book_of new ≡ ended k a entry.reply entry.kept (with_woken full.names.items (book_of old))
+      → book_of new ≡ book_ended k a entry.reply entry.kept (with_woken full.names.items (book_of old))
       → new.messages ≡ counted old.messages entry.mark → came ≡ brought_in entry.mark
       → new.accepted ≡ min (old.accepted + came) (2 ^ 64 - 1) → new.has_one_place ≡ old.has_one_place
       → ((d : Doing) → slice_get old.doings.items k ≡ Some d
@@ -394,11 +394,9 @@ module _ {T : Type 0} where
   pub ran_none : (steps : List (Step T)) (f : Floor T) → RanTo steps steps f [] f
   ran_none steps f s k = record {
     made = [];
-    moments = [];
     last = s;
     first = refl;
-    run = tt;
-    ends = refl;
+    run = run_none LeadsBy (moment_of f s);
     stands = k;
     accounts = no_accounts s;
     numbers = refl;
@@ -410,19 +408,16 @@ module _ {T : Type 0} where
   ran_more steps left x f trace g e h ran stepped s k =
       let r = ran s k in
       let t = stepped r.last r.stands.shown in
-      let m : Moment T = moment_of f s in
       let n : Moment T = moment_of h t.after in
-      let one : LeadsBy (end_of m r.moments) x e n =
-      subst (λ (o : Moment T). LeadsBy o x e n) (sym r.ends) (leads_by x g h e r.last r.stands t) in
+      let one = leads_by x g h e r.last r.stands t in
       record {
         made = r.made ++ x ∷ [];
-        moments = r.moments ++ n ∷ [];
         last = t.after;
         first = r.first ∙ sym (append_assoc r.made (x ∷ []) left);
-        run = each_on LeadsBy m r.made trace r.moments (x ∷ []) (e ∷ []) (n ∷ []) r.run (one, tt);
-        ends = end_on m r.moments (n ∷ []);
+        run = run_on LeadsBy (moment_of f s) (moment_of g r.last) n r.made (x ∷ []) trace (e ∷ []) r.run
+            (record { moments = n ∷ []; each = (one, tt); ends = refl });
         stands = step_stands x g h e r.last r.stands t;
-        accounts = next_accounts s r.last t.after (book_of g) (book_of h) x e r.accounts t.made;
+        accounts = next_accounts s r.last t.after (channel_step g.roll x) _ e.woken.items r.accounts t.made.next;
         numbers = (
             let one = next_numbers x (book_of g) (book_of h) r.last t.after e t.made (balanced_in _ _ r.last r.stands.shown.shows)
             (balanced_in _ _ t.after t.shown.shows) in
@@ -435,15 +430,15 @@ module _ {T : Type 0} where
 
   pub stops_here : (b : Book T) (left : List (Step T)) (x : Step T) (made n : ℕ) (why : WorldRefusal) (o : Option Stopped)
       → true ≡ nat_lt 0 (length left) → x ≡ slice_index_or left 0 x → n ≡ made → o ≡ Some (record { place = made; why = why })
-      → MayRefuse b x why → Stops b left n o
+      → MayRefuseStep b x why → StopsAt b left n o
   stops_here b [] x made n why o e p m f h = absurd (cc e)
-  stops_here b (y ∷ ys) x made n why o e p m f h = rw f (sym m, subst (λ (z : Step T). MayRefuse b z why) p h)
+  stops_here b (y ∷ ys) x made n why o e p m f h = rw f (sym m, subst (λ (z : Step T). MayRefuseStep b z why) p h)
 
   pub stops_back : (b : Book T) (left rest : List (Step T)) (x : Step T) (made n : ℕ) (why : WorldRefusal) (o : Option Stopped)
-      → left ≡ x ∷ rest → n ≡ made → o ≡ Some (record { place = made; why = why }) → MayRefuse b x why → Stops b left n o
+      → left ≡ x ∷ rest → n ≡ made → o ≡ Some (record { place = made; why = why }) → MayRefuseStep b x why → StopsAt b left n o
   stops_back b left rest x made n why o e m f h = rw (e, f) (sym m, h)
 
-  pub stops_at_end : (b : Book T) (left : List (Step T)) (n : ℕ) → false ≡ nat_lt 0 (length left) → Stops b left n None
+  pub stops_at_end : (b : Book T) (left : List (Step T)) (n : ℕ) → false ≡ nat_lt 0 (length left) → StopsAt b left n None
   stops_at_end b [] n e = refl
   stops_at_end b (x ∷ xs) n e = absurd (grind (arith, nat_tests))
 
@@ -489,19 +484,13 @@ module _ {T : Type 0} where
       let r = ran s k in
       record {
         made = r.made;
-        moments = r.moments;
         last = r.last;
         first = rw more r.first;
-        run = r.run;
-        ends = r.ends ∙ sym (moment_same g h r.last same);
+        run = subst (λ (n : Moment T). IsRun LeadsBy (moment_of f s) r.made trace n) (sym (moment_same g h r.last same)) r.run;
         stands = stands_same g h r.last same r.stands;
         accounts = r.accounts;
         numbers = r.numbers;
       }
-
-  pub at_work_same : (g h : Floor T) → IsSame g h → AreAtWork g → AreAtWork h
-  at_work_same g h same at_work = rw same.parties
-      (subst (λ (b : Book T). map (λ (a : Agent T). a.party) b.agents ≡ parties_in g.parties.items) (sym same.book) at_work)
 
   pub owned_same : (g h : Floor T) → IsSame g h → AreOwned g → AreOwned h
   owned_same g h same o = record {

@@ -9,10 +9,10 @@ use Rattle.channel_model.specs.Settling.{poll_of}
 use Rattle.channel_model.specs.declared.call.Call.{Call}
 use Rattle.channel_model.specs.declared.name.Waiter.{Waiter}
 use Rattle.channel_steps.specs.Answers.{asks_first}
-use Rattle.channel_steps.specs.Scene.{Under, Scene, HoldNobodyUp}
+use Rattle.channel_steps.specs.Scene.{Under, Scene, OthersQuiet}
 use Rattle.channel_interleaving.specs.Floor.{Shown, AreAtWork, IsQuiet, Led, LeadsOn, Stands, StandsIn}
 use Rattle.channel_interleaving.specs.Kept.{AllKept, AllTry, NamesKept}
-use Rattle.channel_interleaving.specs.Left.{others_of}
+use Rattle.channel_interleaving.specs.Left.{calls_of_others}
 use Rattle.channel_interleaving.specs.Owed.{Owed}
 use Rattle.channel_interleaving.specs.Owners.{All, post}
 use Rattle.channel_interleaving.specs.Positions.{brings}
@@ -88,13 +88,13 @@ module _ {T : Type 0} where
       let t = leads before.scene before.stands in
       record { scene = t.last; stands = t.stands }
 
-  -- no call has more than 197 steps left that nobody holds up, and 64 for each message that it may take more than one
+  -- no call has more steps left than few, where the others are quiet
   pub few_in : (f : Floor T) (s : Scene T Waiter) → StandsIn f s → FewLeft (moment_of f s)
   few_in f s k = floor_facts.few_in f s k
 
-  -- where the others hold a call up no more, they still do so after a step of its own
+  -- where the others of a call are quiet, they are still so after a step of its own
   pub nobody_still : (m : Moment T) (p : PartyId) (e : Entry T) (n : Moment T) → AllKept m.book m.scene → LeadsBy m (step.Step p) e n
-      → e.reply ≡ None → HoldNobodyUp m.scene.now (others_of p.0 m.scene.under_way) → HoldNobodyUp n.scene.now (others_of p.0 n.scene.under_way)
+      → e.reply ≡ None → OthersQuiet m.scene.now (calls_of_others p.0 m.scene.under_way) → OthersQuiet n.scene.now (calls_of_others p.0 n.scene.under_way)
   nobody_still m p e n k l goes_on hold = left_facts.nobody_still m p e n k l goes_on hold
 
   -- in a step, no call that began before that of the party that makes it is of this party

@@ -1,19 +1,19 @@
 -- The steps that are left to a call, by its party and by its place.
-use Rattle.std.proofs.Common.{arith, ◌≡◌, ℕ, suc, ◌+◌, ◌*◌, ◌≤◌, ◌==◌, nat_eq, Bool, true, false, if◌then◌else◌, List, [], ◌∷◌, ◌++◌, map, length, slice_get, Option, None, Some, refl, sym, ap, ◌∙◌, subst}
+use Rattle.std.proofs.Common.{arith, ◌≡◌, ℕ, suc, ◌≤◌, ◌==◌, nat_eq, Bool, true, false, if◌then◌else◌, List, [], ◌∷◌, ◌++◌, map, length, slice_get, Option, None, Some, refl, sym, ap, ◌∙◌, subst}
 use Rattle.std.proofs.lemmas.Bool.Decides.{nat_tests}
 use Rattle.std.proofs.lemmas.List.{length-map}
 use Rattle.channel_calls.specs.Moves.{Channel}
 use Rattle.channel_calls.specs.Parts.{Parts}
 use Rattle.channel_calls.specs.declared.reply.Reply.{Reply}
 use Rattle.channel_model.specs.declared.name.Waiter.{Waiter}
-use Rattle.channel_steps.specs.Left.{party_left, all_left, left_at, most_wanted}
+use Rattle.channel_steps.specs.Left.{party_left, all_left, left_at, most_left, most_wanted}
 use Rattle.channel_steps.proofs.Interface.{hold_still}
-use Rattle.channel_steps.specs.Scene.{Under, Scene, Sitting, HoldNobodyUp, Represents, Steps, sees, does, under_of, unless_ended, wanted_at, parties_in}
+use Rattle.channel_steps.specs.Scene.{Under, Scene, Sitting, OthersQuiet, Represents, Steps, sees, does, under_of, unless_ended, wanted_at, parties_in}
 use Rattle.channel_steps.specs.declared.party.Entry.{Entry as ChannelEntry}
 use Rattle.channel_steps.specs.declared.party.Party.{Party}
 use Rattle.channel_interleaving.specs.Floor.{book_of, parts_in, lefts_in, StandsIn, Stepped}
 use Rattle.channel_interleaving.specs.Kept.{AllKept}
-use Rattle.channel_interleaving.specs.Left.{others_of, wanted_of, left_of}
+use Rattle.channel_interleaving.specs.Left.{calls_of_others, wanted_of, left_of}
 use Rattle.channel_interleaving.specs.Owners.{Post, post, All, AllDiffer, Differ, Owned, Together}
 use Rattle.channel_interleaving.specs.Roll.{is_at_work}
 use Rattle.channel_interleaving.specs.Run.{Book}
@@ -69,7 +69,7 @@ module _ {T : Type 0} where
   none_at_work posts p (a ∷ more) [] t idle = absurd t
 
   others_are : (p : ℕ) (us : List (Under T Waiter)) (mine : Under T Waiter) (vs : List (Under T Waiter)) → NoneIs p us → mine.party ≡ p
-      → others_of p (us ++ (mine ∷ vs)) ≡ us ++ vs
+      → calls_of_others p (us ++ (mine ∷ vs)) ≡ us ++ vs
   others_are p [] mine vs none his = rw (is_same mine.party p his) refl
   others_are p (u ∷ us) mine vs none his =
       rw (is_other u.party p none.0) (ap (λ (l : List (Under T Waiter)). u ∷ l) (others_are p us mine vs none.1 his))
@@ -102,17 +102,17 @@ module _ {T : Type 0} where
 
   pub few_of : (p : ℕ) (parts : Parts T Waiter) (ps : List (Party T Waiter)) (us : List (Under T Waiter))
       → parties_in ps ≡ map (λ (u : Under T Waiter). u.party) us
-      → ((k n : ℕ) → slice_get (all_left parts ps) k ≡ Some n → n ≤ 197 + 64 * wanted_at k us) → left_of p parts ps ≤ 197 + 64 * wanted_of p us
+      → ((k n : ℕ) → slice_get (all_left parts ps) k ≡ Some n → n ≤ most_left (wanted_at k us)) → left_of p parts ps ≤ most_left (wanted_of p us)
   few_of p parts [] us e few = omega arith
   few_of p parts (x ∷ xs) [] e few = absurd cc
   few_of p parts (x ∷ xs) (u ∷ us) e few =
       let first : x.id ≡ u.party = cc e in
       let rest : parties_in xs ≡ map (λ (v : Under T Waiter). v.party) us = cc e in
-      subst (λ (i : ℕ). left_of p parts (x ∷ xs) ≤ 197 + 64 * (if i == p then most_wanted u.ask else wanted_of p us)) first
+      subst (λ (i : ℕ). left_of p parts (x ∷ xs) ≤ most_left (if i == p then most_wanted u.ask else wanted_of p us)) first
       (by (few_of p parts xs us rest (λ k n e. few (suc k) n e)) (x.id == p))
     where
-      by : left_of p parts xs ≤ 197 + 64 * wanted_of p us → (b : Bool)
-          → (if b then party_left parts x else left_of p parts xs) ≤ 197 + 64 * (if b then most_wanted u.ask else wanted_of p us)
+      by : left_of p parts xs ≤ most_left (wanted_of p us) → (b : Bool)
+          → (if b then party_left parts x else left_of p parts xs) ≤ most_left (if b then most_wanted u.ask else wanted_of p us)
       by rest true = few 0 (party_left parts x) refl
       by rest false = rest
 
@@ -130,8 +130,8 @@ module _ {T : Type 0} where
         (none_before (post b.roll) b.agents n.before n.mine n.behind
         (subst (λ (us : List (Under T Waiter)). Together (post b.roll) b.agents us) n.there o.together) o.differ)
 
-    others_before : others_of p s.under_way ≡ n.before ++ n.behind
-    others_before = ap (λ (us : List (Under T Waiter)). others_of p us) n.there ∙ others_are p n.before n.mine n.behind apart n.whose
+    others_before : calls_of_others p s.under_way ≡ n.before ++ n.behind
+    others_before = ap (λ (us : List (Under T Waiter)). calls_of_others p us) n.there ∙ others_are p n.before n.mine n.behind apart n.whose
 
     abbrev mine_after : Under T Waiter
     mine_after = does n.mine n.at_now e.mark s.now t.now
@@ -140,19 +140,19 @@ module _ {T : Type 0} where
     after_is goes_on =
         subst (λ (r : Option (Reply T)). t.under_way ≡ map (sees t.now) n.before ++ (unless_ended mine_after r ++ map (sees t.now) n.behind)) goes_on n.left
 
-    others_after : e.reply ≡ None → others_of p t.under_way ≡ map (sees t.now) n.before ++ map (sees t.now) n.behind
+    others_after : e.reply ≡ None → calls_of_others p t.under_way ≡ map (sees t.now) n.before ++ map (sees t.now) n.behind
     others_after goes_on =
-        ap (λ (us : List (Under T Waiter)). others_of p us) (after_is goes_on)
+        ap (λ (us : List (Under T Waiter)). calls_of_others p us) (after_is goes_on)
         ∙ others_are p (map (sees t.now) n.before) mine_after (map (sees t.now) n.behind) (none_seen p t.now n.before apart) n.whose
 
-    still_free : e.reply ≡ None → HoldNobodyUp s.now (others_of p s.under_way) → HoldNobodyUp t.now (others_of p t.under_way)
+    still_free : e.reply ≡ None → OthersQuiet s.now (calls_of_others p s.under_way) → OthersQuiet t.now (calls_of_others p t.under_way)
     still_free goes_on hold =
-        subst (λ (us : List (Under T Waiter)). HoldNobodyUp t.now us) (sym (others_after goes_on))
-        (hold_still s p e names t n (subst (λ (us : List (Under T Waiter)). HoldNobodyUp s.now us) others_before hold))
+        subst (λ (us : List (Under T Waiter)). OthersQuiet t.now us) (sym (others_after goes_on))
+        (hold_still s p e names t n (subst (λ (us : List (Under T Waiter)). OthersQuiet s.now us) others_before hold))
 
-  -- where the others hold a call up no more, they still do so after a step of its own
+  -- where the others of a call are quiet, they are still so after a step of its own
   pub nobody_still : (m : Moment T) (p : PartyId) (e : Entry T) (n : Moment T) → AllKept m.book m.scene → LeadsBy m (step.Step p) e n
-      → e.reply ≡ None → HoldNobodyUp m.scene.now (others_of p.0 m.scene.under_way) → HoldNobodyUp n.scene.now (others_of p.0 n.scene.under_way)
+      → e.reply ≡ None → OthersQuiet m.scene.now (calls_of_others p.0 m.scene.under_way) → OthersQuiet n.scene.now (calls_of_others p.0 n.scene.under_way)
   nobody_still m p e n k l goes_on hold = still_free m.book m.scene k.owned p.0 _ e.woken.items n.scene l.made.next goes_on hold
 
   pub comes_nearer : (x : Step T) (f g : Floor T) (e : Entry T) (s : Scene T Waiter) → StandsIn f s → (t : Stepped x f e g s)
@@ -166,7 +166,7 @@ module _ {T : Type 0} where
       let others = others_before (book_of f) s o p.0 _ e.woken.items u n in
       let after = after_is (book_of f) s o p.0 _ e.woken.items u n goes_on in
       let mine : Under T Waiter = does n.mine n.at_now e.mark s.now u.now in
-      let less = t.nearer goes_on (subst (λ (us : List (Under T Waiter)). HoldNobodyUp s.now us) others hold) in
+      let less = t.nearer goes_on (subst (λ (us : List (Under T Waiter)). OthersQuiet s.now us) others hold) in
       let was : left_of p.0 (parts_in f) f.parties.items ≡ left_at (length n.before) (lefts_in f) =
       left_is p.0 (parts_in f) n.before n.mine n.behind f.parties.items
       (parties_shown (parts_in f) f.parties.items s k.shown.shows ∙ ap (λ (us : List (Under T Waiter)). map (λ (v : Under T Waiter). v.party) us) n.there)

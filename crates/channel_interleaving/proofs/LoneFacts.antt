@@ -29,7 +29,7 @@ use Rattle.channel_interleaving.specs.declared.floor.Floor.{Floor}
 use Rattle.channel_interleaving.specs.declared.names.Agent.{Agent}
 use Rattle.channel_interleaving.specs.declared.woken.Woken.{Woken as Sink}
 use Rattle.channel_interleaving.proofs.AllKept.{kept_alone}
-use Rattle.channel_interleaving.proofs.AccountFacts.{no_accounts, lone_accounts}
+use Rattle.channel_interleaving.proofs.AccountFacts.{no_accounts, run_accounts}
 use Rattle.channel_interleaving.proofs.DoingFacts.{TookFew}
 use Rattle.channel_interleaving.proofs.OwnerBegins.{Admitted, admitted}
 use Rattle.channel_interleaving.proofs.FloorFacts.{no_parties, owned_same, owned_where, stands_in, stands_same}
@@ -161,11 +161,12 @@ module _ {T : Type 0} where
       let kept : AllKept (book_of new) d.after =
       subst (λ (b : Book T). AllKept b d.after) (sym d.book)
       (kept_alone (book_of old) c s d.after d.outcome (no_agents old at_work quiet) fine d.run k.kept) in
+      let way = lone_way s d.after 0 (asks old.roll c) d.outcome d.run in
       record {
         last = d.after;
-        way = subst (λ (y : Reply T). Way s (y ∷ []) d.after) (sym d.reply) (lone_way s d.after 0 (asks old.roll c) d.outcome d.run);
+        way = subst (λ (y : Reply T). Way s (y ∷ []) d.after) (sym d.reply) way;
         stands = stands_in new d.after d.shown kept;
-        accounts = lone_accounts s d.after 0 (asks old.roll c) d.outcome d.run;
+        accounts = run_accounts s d.after way.steps way.trace way.run;
       }
 
   pub same_leads : (old new : Floor T) → IsSame old new → LeadsOn old [] new

@@ -5,7 +5,7 @@ use Rattle.std.specs.Option.{option_map_or}
 use Rattle.std.specs.Map.{keys_of, lookup, lookup_entry, remove_entry}
 use Rattle.std.proofs.lemmas.List.{take_all, map-append}
 use Rattle.lru.specs.LruCache.{LruCache, put_entries, demoted}
-use Rattle.channel_model.specs.Lines.{same_waiter, is_among, without}
+use Rattle.channel_model.specs.Lines.{same_waiter, is_among, without_waiter}
 use Rattle.channel_model.specs.declared.name.Waiter.{Waiter}
 use Rattle.channel_model.proofs.WaiterLemmas.{decided, same_sound, no_entry, entry_is, keys_without}
 use Rattle.channel_interleaving.specs.Order.{placed, moved_last}
@@ -36,13 +36,13 @@ module _ {X : Type 0} (w : Waiter) where
   demoted_last es d = by (lookup_entry (same_waiter w) es) refl where
     by : (o : Option (Waiter × X)) → lookup_entry (same_waiter w) es ≡ o
         → keys_of (option_map_or (λ (e : Waiter × X). remove_entry (same_waiter w) es ++ e ∷ []) o es)
-        ≡ (if is_among w (keys_of es) then without w (keys_of es) ++ w ∷ [] else keys_of es)
+        ≡ (if is_among w (keys_of es) then without_waiter w (keys_of es) ++ w ∷ [] else keys_of es)
     by None e = rw (entry_known es ∙ ap (λ (o : Option (Waiter × X)). is_some o) e) refl
     by (Some g) e =
         rw (entry_known es ∙ ap (λ (o : Option (Waiter × X)). is_some o) e)
         (map-append (λ (x : Waiter × X). x.0) (remove_entry (same_waiter w) es) (g ∷ [])
         ∙ (ap (λ (l : List Waiter). l ++ g.0 ∷ []) (keys_without w es d)
-        ∙ ap (λ (v : Waiter). without w (keys_of es) ++ v ∷ []) (sym (same_sound w g.0 (entry_is w es g e)))))
+        ∙ ap (λ (v : Waiter). without_waiter w (keys_of es) ++ v ∷ []) (sym (same_sound w g.0 (entry_is w es g e)))))
 
   -- one that has none gets one
   pub put_placed : (c : LruCache Waiter X) (x : X) → is_among w (keys_of c.entries) ≡ false → length c.entries < 2 ^ 63

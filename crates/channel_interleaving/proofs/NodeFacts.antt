@@ -32,7 +32,7 @@ use Rattle.channel_interleaving.specs.Floor.{parts_in, book_of, Shown, AreOwned}
 use Rattle.channel_interleaving.specs.Kept.{AllKept}
 use Rattle.channel_interleaving.specs.OwnerOrder.{was_woken}
 use Rattle.channel_interleaving.specs.OwnerWoken.{IsTold}
-use Rattle.channel_interleaving.specs.Owners.{IsAmong, Post, free, vacant, amiss, rests, waits, polled, no_stream_post, stream_post, operation_post, posted, post}
+use Rattle.channel_interleaving.specs.Owners.{IsAmong, free, vacant, amiss, rests, waits, polled, no_stream_post, stream_post, operation_post, posted, post}
 use Rattle.channel_interleaving.specs.Roll.{key_of, operation_of, held_of}
 use Rattle.channel_interleaving.specs.Settle.{IsWoken}
 use Rattle.channel_interleaving.specs.declared.floor.Floor.{Floor}
@@ -84,7 +84,7 @@ module _ {T : Type 0} where
   MayWait h p = h.line ≡ Sends → is_some (capacity_of p.cells.form) ≡ true
 
   module _ (p : Parts T Waiter) (h : Held) (there : IsThere h p.roster) (bound : MayWait h p) where
-    by_kind : (held : model.Held) (op : OpId) (handle : HandleId) (k : OperationKind) (m : Option T) (s : Standing)
+    by_kind : (held : model.KeysHeld) (op : OpId) (handle : HandleId) (k : OperationKind) (m : Option T) (s : Standing)
         → held (Op op) ≡ key_of s → operation_post k m s ≡ waits h true
         → HasNode (poll_asked held op (Some (operation_of (record { kind = k; handle = handle; message = m; standing = s })))) p
     by_kind held op handle kind.Send None Rests e f = absurd (let no : rests Sends ≡ waits h true = f in cc)

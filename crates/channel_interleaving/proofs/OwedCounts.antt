@@ -27,7 +27,7 @@ use Rattle.channel_model.specs.Names.{Directory}
 use Rattle.channel_model.specs.declared.name.Waiter.{Waiter}
 use Rattle.channel_model.specs.declared.name.Waiter.TheVariants.{Op, Stream}
 use Rattle.channel_steps.specs.Known.{TryAt, HasTaken, StageAt, ToldAt}
-use Rattle.channel_steps.specs.Moments.{Deed, TookAll}
+use Rattle.channel_steps.specs.Moments.{MarkedMoment, TookAll}
 use Rattle.channel_steps.specs.Scene.{Under, Scene, AllKnown}
 use Rattle.channel_steps.specs.Tellings.{Telling, one_of, more_of, all_of, owed_for, owed_takings, with_taking, takings, owed_besides}
 use Rattle.channel_laws.specs.Amounts.{is_trying, is_trying_anew, total}
@@ -318,24 +318,24 @@ module _ {T : Type 0} where
 
   -- ---- what was taken and not announced
 
-  besides_never : (n : ℕ) (ds : List (Deed T Waiter)) → IsAmong (more_of n Sends) (owed_besides ds) → ⊥
+  besides_never : (n : ℕ) (ds : List (MarkedMoment T Waiter)) → IsAmong (more_of n Sends) (owed_besides ds) → ⊥
   besides_never n [] h = h
   besides_never n (d ∷ ds) h = elim (among_of (more_of n Sends) (owed_for d.mark) (owed_besides ds) h) [
     | inl i ↦ mark_never n d.mark i
     | inr i ↦ besides_never n ds i
   ]
 
-  never_last : (n : ℕ) (told : List Telling) (ds : List (Deed T Waiter)) → told ++ more_of n Sends ∷ [] ≡ owed_besides ds → ⊥
+  never_last : (n : ℕ) (told : List Telling) (ds : List (MarkedMoment T Waiter)) → told ++ more_of n Sends ∷ [] ≡ owed_besides ds → ⊥
   never_last n told ds e =
       besides_never n ds (subst (λ (ts : List Telling). IsAmong (more_of n Sends) ts) e (among_right (more_of n Sends) told (more_of n Sends ∷ []) (inl refl)))
 
   -- a call that is to tell so many sends has told nobody, and has taken as many messages
-  to_announce : (n k : ℕ) (told : List Telling) (ds : List (Deed T Waiter)) → told ++ more_of n Sends ∷ [] ≡ owed_takings k ++ owed_besides ds → n ≤ unless_told told k
+  to_announce : (n k : ℕ) (told : List Telling) (ds : List (MarkedMoment T Waiter)) → told ++ more_of n Sends ∷ [] ≡ owed_takings k ++ owed_besides ds → n ≤ unless_told told k
   to_announce n zero told ds e = absurd (never_last n told ds e)
   to_announce n (suc k) [] ds e = let same : n ≡ suc k = cc e in omega (arith, same)
   to_announce n (suc k) (t ∷ ts) ds e = absurd (let rest : ts ++ more_of n Sends ∷ [] ≡ owed_besides ds = cc e in never_last n ts ds rest)
 
-  takings_both : (before mine : List (Deed T Waiter)) (taken : List T) → TookAll before taken → takings (before ++ mine) ≡ length taken + takings mine
+  takings_both : (before mine : List (MarkedMoment T Waiter)) (taken : List T) → TookAll before taken → takings (before ++ mine) ≡ length taken + takings mine
   takings_both [] mine [] h = omega arith
   takings_both [] mine (v ∷ vs) h = absurd h
   takings_both (d ∷ before) mine [] h = absurd h
@@ -344,23 +344,23 @@ module _ {T : Type 0} where
       let rest = takings_both before mine vs h.2 in
       omega (arith, one, rest)
 
-  try_takes : (now : Channel T Waiter) (a : QueueAsk T) (x : Stage T) (ds : List (Deed T Waiter)) (seen : List (Channel T Waiter)) → TryAt now a x ds seen → has_taken x ≤ takings ds
+  try_takes : (now : Channel T Waiter) (a : QueueAsk T) (x : Stage T) (ds : List (MarkedMoment T Waiter)) (seen : List (Channel T Waiter)) → TryAt now a x ds seen → has_taken x ≤ takings ds
   try_takes now queue.Pop (taken v) [] seen h = absurd h
   try_takes now queue.Pop (taken v) (d ∷ []) seen h = let one : with_taking d.mark 0 ≡ 1 = ap (λ (m : Mark). with_taking m 0) h.0 in omega (arith, one)
   try_takes now queue.Pop (taken v) (d ∷ e ∷ ds) seen h = absurd h
   try_takes now a (taken v) ds seen h = absurd h
   try_takes now a x ds seen h = omega arith
 
-  tries_take : (now : Channel T Waiter) (vs : List T) (a : QueueAsk T) (x : Stage T) (ds mine : List (Deed T Waiter)) (seen : List (Channel T Waiter)) → HasTaken vs ds mine seen
+  tries_take : (now : Channel T Waiter) (vs : List T) (a : QueueAsk T) (x : Stage T) (ds mine : List (MarkedMoment T Waiter)) (seen : List (Channel T Waiter)) → HasTaken vs ds mine seen
       → TryAt now a x mine seen → length vs + has_taken x ≤ takings ds
   tries_take now vs a x ds mine seen t h =
-      let all : takings ds ≡ takings (t.before ++ mine) = ap (λ (xs : List (Deed T Waiter)). takings xs) t.all in
+      let all : takings ds ≡ takings (t.before ++ mine) = ap (λ (xs : List (MarkedMoment T Waiter)). takings xs) t.all in
       let both = takings_both t.before mine vs t.took in
       let one = try_takes now a x mine seen h in
       omega (arith, all, both, one)
 
   -- no more are to be told than were taken and not announced
-  announces : (now : Channel T Waiter) (a : ChannelAsk T Waiter) (at : stage.Stage (Phase T) T Waiter) (told : List Telling) (ds : List (Deed T Waiter)) (seen : List (Channel T Waiter))
+  announces : (now : Channel T Waiter) (a : ChannelAsk T Waiter) (at : stage.Stage (Phase T) T Waiter) (told : List Telling) (ds : List (MarkedMoment T Waiter)) (seen : List (Channel T Waiter))
       → StageAt now a at ds seen → ToldAt told at ds → is_to_tell_send at ≤ unless_told told (takings ds)
   announces now a (Trying f (aim.RecvMany g)) told ds seen h k = untold _ (takings ds) told k (let t = h.1 in tries_take now g.taken f.ask f.stage ds t.0 seen t.1 t.2)
   announces now a (Trying f y) told ds seen h k = untold _ (takings ds) told k (try_takes now f.ask f.stage ds seen h.1)
@@ -368,7 +368,7 @@ module _ {T : Type 0} where
   announces now a (Working (TellSends n x)) told ds seen h k = to_announce n (takings ds) told ds k
   announces now a at told ds seen h k = omega arith
 
-  module _ (now : Channel T Waiter) (at : stage.Stage (Phase T) T Waiter) (told : List Telling) (ds : List (Deed T Waiter)) (seen : List (Channel T Waiter)) where
+  module _ (now : Channel T Waiter) (at : stage.Stage (Phase T) T Waiter) (told : List Telling) (ds : List (MarkedMoment T Waiter)) (seen : List (Channel T Waiter)) where
     -- beside the told sends a sending call counts for no more than one, and any other for what it has not announced
     send_weight : (a : ChannelAsk T Waiter) → StageAt now a at ds seen → ToldAt told at ds → Lined (line_asked a) (holding at)
         → counts_for_sends a at + in_hand Sends (holding at) ≤ one_if (is_sending a) + unless_told told (takings ds)
@@ -419,7 +419,7 @@ module _ {T : Type 0} where
   all_send now p (a ∷ more) (u ∷ us) t k =
       let own = let l = t.0 in l.lines in
       let known = k.0 in
-      let one = send_weight now u.at u.told u.deeds u.seen u.ask known.stands known.tells own in
+      let one = send_weight now u.at u.told u.marks u.seen u.ask known.stands known.tells own in
       let rest = all_send now p more us t.1 k.1 in
       let sending = count_first (λ (v : Under T Waiter). is_sending v.ask) u us in
       omega (arith, one, rest, sending)

@@ -139,14 +139,14 @@ module _ {T : Type 0} where
         by (inl none) = inl none
         by (inr i) = last (either (AnswersFor key) (λ u. is_sending u.ask ≡ true) (λ u. HasInHand key u.at) pick s.under_way i)
 
-    closing : (w : Waiter) (h : Held) → post b.roll w ≡ waits h false → Shut s.now → AnyOf (λ u. HasClosed u.deeds) s.under_way
-    closing w h e shut = last (either (AnswersClosed h.line h.key) (λ u. HasClosed u.deeds) (λ u. LooksAgain h.line h.key u.at) pick s.under_way (let r = sound.closing in r.owed h.line h.key shut (waiting h.line w h.key e)))
+    closing : (w : Waiter) (h : Held) → post b.roll w ≡ waits h false → Shut s.now → AnyOf (λ u. HasClosed u.marks) s.under_way
+    closing w h e shut = last (either (AnswersClosed h.line h.key) (λ u. HasClosed u.marks) (λ u. LooksAgain h.line h.key u.at) pick s.under_way (let r = sound.closing in r.owed h.line h.key shut (waiting h.line w h.key e)))
       where
-        pick : (u : Under T Waiter) → AnswersClosed h.line h.key u → HasClosed u.deeds ⊎ LooksAgain h.line h.key u.at
+        pick : (u : Under T Waiter) → AnswersClosed h.line h.key u → HasClosed u.marks ⊎ LooksAgain h.line h.key u.at
         pick u (inl k) = inl k.0
         pick u (inr k) = inr k
 
-        last : AnyOf (λ u. HasClosed u.deeds) s.under_way ⊎ Any (λ u. LooksAgain h.line h.key u.at) s.under_way → AnyOf (λ u. HasClosed u.deeds) s.under_way
+        last : AnyOf (λ u. HasClosed u.marks) s.under_way ⊎ Any (λ u. LooksAgain h.line h.key u.at) s.under_way → AnyOf (λ u. HasClosed u.marks) s.under_way
         last (inl i) = i
         last (inr i) = absurd (in_no_hand (λ u. LooksAgain h.line h.key u.at) h.line w h.key e (λ u k. looks_held h.line h.key u.at k) i)
 

@@ -22,7 +22,7 @@ use Rattle.channel_interleaving.specs.Bookkeeping.{asks}
 use Rattle.channel_interleaving.specs.Doing.{is_close, doing_begun, doing_after}
 use Rattle.channel_interleaving.specs.Owed.{Sight, Owed, is_sending, is_receiving}
 use Rattle.channel_interleaving.specs.Roll.{first_roll}
-use Rattle.channel_interleaving.specs.Run.{Book, begun, ended, with_woken}
+use Rattle.channel_interleaving.specs.Run.{Book, book_begun, book_ended, with_woken}
 use Rattle.channel_interleaving.specs.declared.doing.Doing.{Doing}
 use Rattle.channel_interleaving.specs.declared.doing.Role.TheVariants.{Other}
 use Rattle.channel_interleaving.specs.declared.names.Agent.{Agent}
@@ -57,7 +57,7 @@ idle = record { role = Other; has_closed = false; taken = 0 }
 -- the k-th call under way answers, and leaves this to its operation
 abbrev answered : ℕ → Reply ℕ → Kept ℕ → Played → Played
 answered k x kept w = record {
-  book = ended k (slice_index_or w.book.agents k nobody) (Some x) (Some kept) w.book;
+  book = book_ended k (slice_index_or w.book.agents k nobody) (Some x) (Some kept) w.book;
   doings = remove w.doings k;
   messages = w.messages;
   closed = w.closed;
@@ -65,7 +65,7 @@ answered k x kept w = record {
 
 abbrev after : Act → Played → Played
 after (begins p c) w = record {
-  book = begun (record { 0 = p }) c w.book;
+  book = book_begun (record { 0 = p }) c w.book;
   doings = w.doings ++ (doing_begun (asks w.book.roll c) ∷ []);
   messages = w.messages;
   closed = w.closed;

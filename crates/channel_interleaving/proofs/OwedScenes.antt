@@ -43,4 +43,4 @@ module _ {T : Type 0} where
     pub streams :
         (w : Waiter) (key : Key) → post b.roll w ≡ waits (record { line = Streams; key = key }) false
         → (s.now.queue.items ≡ []) ⊎ AnyOf (λ u. is_sending u.ask ≡ true) s.under_way
-    pub closing : (w : Waiter) (h : Held) → post b.roll w ≡ waits h false → Shut s.now → AnyOf (λ u. HasClosed u.deeds) s.under_way
+    pub closing : (w : Waiter) (h : Held) → post b.roll w ≡ waits h false → Shut s.now → AnyOf (λ u. HasClosed u.marks) s.under_way

@@ -20,7 +20,7 @@ use Rattle.channel_calls.specs.declared.stage.Turn.{Turn}
 use Rattle.channel_calls.specs.declared.stage.Turn.TheVariants.{Tries, Works, Ends}
 use Rattle.channel_calls.specs.declared.stage.Waiting.{Waiting}
 use Rattle.channel_calls.specs.declared.stage.Waiting.TheVariants as waiting
-use Rattle.channel_model.specs.Asked.{Held as HeldBy, poll_asked}
+use Rattle.channel_model.specs.Asked.{KeysHeld as HeldBy, poll_asked}
 use Rattle.channel_model.specs.Names.{Directory, at, is_taken}
 use Rattle.channel_model.specs.Names as model
 use Rattle.channel_model.specs.Refusal.{uses, is_live, are_fit, takes_borrowed}
@@ -267,7 +267,7 @@ module _ {T : Type 0} where
 
   -- ---- an operation
 
-  abbrev pub as_model : OperationKind → HandleId → Option T → model.Operation T
+  abbrev pub as_model : OperationKind → HandleId → Option T → model.ModelOperation T
   as_model k h m = elim k [ kind.Send ↦ model.send h m | kind.Receive ↦ model.recv h | kind.Closing ↦ model.closing h ]
 
   pub poll_is : (held : HeldBy) (op : OpId) (k : OperationKind) (h : HandleId) (m : Option T) (key : Option Key)

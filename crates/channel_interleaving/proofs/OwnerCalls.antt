@@ -11,7 +11,7 @@ use Rattle.channel_calls.specs.declared.stage.Line.{Line}
 use Rattle.channel_calls.specs.declared.stage.Line.TheVariants.{Sends, Receives, Streams, Closings}
 use Rattle.channel_calls.specs.declared.stage.Side.TheVariants.{Senders, Receivers}
 use Rattle.channel_model.specs.Answer.{weak_of, strong_of}
-use Rattle.channel_model.specs.Asked.{Held as HeldBy, refusal_asked, giving_up_asked, drop_asked, clone_asked, upgrade_asked}
+use Rattle.channel_model.specs.Asked.{KeysHeld as HeldBy, refusal_asked, giving_up_asked, drop_asked, clone_asked, upgrade_asked}
 use Rattle.channel_model.specs.Names.{at, is_taken}
 use Rattle.channel_model.specs.Refusal.{handle_fits, a_receiver}
 use Rattle.channel_model.specs.declared.call.Call.{Call}

@@ -29,9 +29,9 @@ use Rattle.channel_calls.specs.declared.stage.Waiting.{Waiting}
 use Rattle.channel_calls.specs.declared.stage.Waiting.TheVariants as waiting
 use Rattle.channel_calls.specs.declared.stage.Work.{Work}
 use Rattle.channel_calls.specs.declared.stage.Work.TheVariants.{TellReceive, TellStreams, TellSend, TellSends, TakeRoom, TellAll, Insert, Register, Leave, Lower, Count, Load, Raise}
-use Rattle.channel_steps.specs.Moments.{Deed}
+use Rattle.channel_steps.specs.Moments.{MarkedMoment}
 use Rattle.channel_steps.specs.Known.{IsFor, StageAt}
-use Rattle.channel_interleaving.specs.Owners.{IsAmong, holding, task_at, work_holds, work_task, wait_of, Bears, WaitsFor}
+use Rattle.channel_interleaving.specs.Owners.{IsAmong, holding, task_at, work_holds, work_task, wait_of, Bears, WaitsToWake}
 use Rattle.channel_interleaving.proofs.OwnerKeys.{on}
 use Rattle.channel_interleaving.proofs.OwnerKeys as list
 use Rattle.channel_interleaving.proofs.OwnerTurns.{MayBear, Has, ends_has, told_all_has, room_has, lowered_has, loaded_has, raised_has, answered_has}
@@ -133,7 +133,7 @@ module _ (T W : Type 0) where
   LeavesIt x kept has d =
       ((has ≡ None) × (kept.key ≡ None))
       ⊎ ((line : Line) × (key : Key) × (task : W) × (has ≡ on line key) × (kept.key ≡ Some key) × (wait_of x ≡ Some (line, task))
-      × WaitsFor (record { line = line; key = key }) task d)
+      × WaitsToWake (record { line = line; key = key }) task d)
 
   abbrev pub Then : ChannelAsk T W → Stage (Phase T) T W → Option (Reply T) → Stage (Phase T) T W → Option Held
       → Channel T W → Type 0
@@ -314,7 +314,7 @@ module _ (T W : Type 0) where
     roomed n r s (inl t) = on_it_goes (Working (TakeRoom n)) r s (untouched c) (room_next n) (still c.roster [] None) t (room_has T W n)
     roomed n r s (inr t) = on_it_goes (Working (TakeRoom n)) r s (untouched c) roomless (still c.roster [] None) t.1 (refl, refl)
 
-    works : (w : Work T W) (e : Effect T W) (r : Option (Reply T)) (s : Stage (Phase T) T W) (ds : List (Deed T W))
+    works : (w : Work T W) (e : Effect T W) (r : Option (Reply T)) (s : Stage (Phase T) T W) (ds : List (MarkedMoment T W))
         (seen : List (Channel T W)) → StageAt c x (Working w) ds seen → Bears (work_task w) (wait_of x) → Worked c w e r s
         → Out (Working w) r s e
     works (TellReceive y) e r s ds seen k b h =
@@ -373,7 +373,7 @@ module _ (T W : Type 0) where
 
     -- any step
     pub turnout : (at : Stage (Phase T) T W) (e : Effect T W) (r : Option (Reply T)) (s : Stage (Phase T) T W)
-        (ds : List (Deed T W)) (seen : List (Channel T W)) → StageAt c x at ds seen → Bears (task_at at) (wait_of x)
+        (ds : List (MarkedMoment T W)) (seen : List (Channel T W)) → StageAt c x at ds seen → Bears (task_at at) (wait_of x)
         → Moves c at e r s → Out at r s e
     turnout (Trying f aim) e r s ds seen k b h = tried h.how
       where

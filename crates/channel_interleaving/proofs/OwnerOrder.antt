@@ -18,7 +18,7 @@ use Rattle.channel_interleaving.specs.Order.{all_moved_last, order_settled}
 use Rattle.channel_interleaving.specs.Owners.{IsAmong, NoneTwice, Post, free, vacant, amiss, rests, waits, polled, post, holding, wait_of, subject, Suits, AllDiffer, named, calling, Owned}
 use Rattle.channel_interleaving.specs.OwnerOrder.{woken_key, Within, NeedsPlace, InOrder}
 use Rattle.channel_interleaving.specs.OwnerWoken.{IsTold, WokenSound}
-use Rattle.channel_interleaving.specs.Run.{Book, ended, with_woken}
+use Rattle.channel_interleaving.specs.Run.{Book, book_ended, with_woken}
 use Rattle.channel_interleaving.specs.declared.names.Agent.{Agent}
 use Rattle.channel_interleaving.specs.declared.names.Errand.{Errand}
 use Rattle.channel_interleaving.specs.declared.names.Errand.TheVariants as errand
@@ -337,7 +337,7 @@ module _ {T : Type 0} where
 
   abbrev IsAfter : Book T → PartyId → Option (Reply T) → Option (Kept T) → List Waiter → Book T → Type 0
   IsAfter b q r kp names c =
-      (k : ℕ) × (a : Agent T) × (slice_get b.agents k ≡ Some a) × (a.party ≡ q.0) × (c ≡ ended k a r kp (with_woken names b))
+      (k : ℕ) × (a : Agent T) × (slice_get b.agents k ≡ Some a) × (a.party ≡ q.0) × (c ≡ book_ended k a r kp (with_woken names b))
 
   pub stepped_order : (b c : Book T) (s t : Scene T Waiter) (q : PartyId) (m : Mark) (r : Option (Reply T))
       (kp : Option (Kept T)) (names : List Waiter) → Owned b s → AllKnown s.now s.under_way

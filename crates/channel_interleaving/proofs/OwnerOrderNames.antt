@@ -1,6 +1,6 @@
 -- Names in the order of waking: who has a place, and that no one has two.
 use Rattle.std.proofs.Common.{◌≡◌, Bool, true, false, cond, not, ◌||◌, if◌then◌else◌, List, [], ◌∷◌, ◌++◌, ◌⊎◌, inl, inr, refl, sym, ap, ◌∙◌}
-use Rattle.channel_model.specs.Lines.{same_waiter, is_among, without}
+use Rattle.channel_model.specs.Lines.{same_waiter, is_among, without_waiter}
 use Rattle.channel_model.specs.declared.name.Waiter.{Waiter}
 use Rattle.channel_model.proofs.WaiterLemmas.{same_refl, same_sound, or_true}
 use Rattle.channel_interleaving.specs.Order.{placed, moved_last, all_moved_last}
@@ -32,59 +32,59 @@ not_there w ws e i = absurd (let no : true ≡ false = sym (is_there w ws i) ∙
 
 -- ---- one is taken out
 
-pub was_among : (w v : Waiter) (ws : List Waiter) → IsAmong v (without w ws) → IsAmong v ws
+pub was_among : (w v : Waiter) (ws : List Waiter) → IsAmong v (without_waiter w ws) → IsAmong v ws
 was_among w v [] i = i
 was_among w v (x ∷ ws) i = by (same_waiter w x) i (was_among w v ws)
   where
-    by : (t : Bool) → IsAmong v (cond (not t) (x ∷ without w ws) (without w ws)) → (IsAmong v (without w ws) → IsAmong v ws)
+    by : (t : Bool) → IsAmong v (cond (not t) (x ∷ without_waiter w ws) (without_waiter w ws)) → (IsAmong v (without_waiter w ws) → IsAmong v ws)
         → IsAmong v (x ∷ ws)
     by true j on = inr (on j)
     by false (inl e) on = inl e
     by false (inr j) on = inr (on j)
 
-pub is_out : (w : Waiter) (ws : List Waiter) → IsAmong w (without w ws) → ⊥
+pub is_out : (w : Waiter) (ws : List Waiter) → IsAmong w (without_waiter w ws) → ⊥
 is_out w [] i = i
 is_out w (x ∷ ws) i = by (same_waiter w x) refl i (is_out w ws)
   where
-    by : (t : Bool) → same_waiter w x ≡ t → IsAmong w (cond (not t) (x ∷ without w ws) (without w ws))
-        → (IsAmong w (without w ws) → ⊥) → ⊥
+    by : (t : Bool) → same_waiter w x ≡ t → IsAmong w (cond (not t) (x ∷ without_waiter w ws) (without_waiter w ws))
+        → (IsAmong w (without_waiter w ws) → ⊥) → ⊥
     by true e j on = on j
     by false e (inl same) on = absurd (let no : true ≡ false =
         sym (same_refl w) ∙ (ap (λ (y : Waiter). same_waiter w y) (sym same) ∙ e) in cc)
     by false e (inr j) on = on j
 
-pub stays_among : (w v : Waiter) (ws : List Waiter) → (v ≡ w → ⊥) → IsAmong v ws → IsAmong v (without w ws)
+pub stays_among : (w v : Waiter) (ws : List Waiter) → (v ≡ w → ⊥) → IsAmong v ws → IsAmong v (without_waiter w ws)
 stays_among w v [] other i = i
 stays_among w v (x ∷ ws) other i = by (same_waiter w x) refl i (stays_among w v ws other)
   where
-    by : (t : Bool) → same_waiter w x ≡ t → IsAmong v (x ∷ ws) → (IsAmong v ws → IsAmong v (without w ws))
-        → IsAmong v (cond (not t) (x ∷ without w ws) (without w ws))
+    by : (t : Bool) → same_waiter w x ≡ t → IsAmong v (x ∷ ws) → (IsAmong v ws → IsAmong v (without_waiter w ws))
+        → IsAmong v (cond (not t) (x ∷ without_waiter w ws) (without_waiter w ws))
     by true e (inl same) on = absurd (other (sym same ∙ sym (same_sound w x e)))
     by true e (inr j) on = on j
     by false e (inl same) on = inl same
     by false e (inr j) on = inr (on j)
 
-pub once_without : (w : Waiter) (ws : List Waiter) → NoneTwice ws → NoneTwice (without w ws)
+pub once_without : (w : Waiter) (ws : List Waiter) → NoneTwice ws → NoneTwice (without_waiter w ws)
 once_without w [] h = h
 once_without w (x ∷ ws) h = by (same_waiter w x) (once_without w ws h.1)
   where
-    by : (t : Bool) → NoneTwice (without w ws) → NoneTwice (cond (not t) (x ∷ without w ws) (without w ws))
+    by : (t : Bool) → NoneTwice (without_waiter w ws) → NoneTwice (cond (not t) (x ∷ without_waiter w ws) (without_waiter w ws))
     by true k = k
     by false k = (λ i. h.0 (was_among w x ws i), k)
 
 -- ---- one comes last
 
-in_last : (b : Bool) (w v : Waiter) (ws : List Waiter) → IsAmong v ws → IsAmong v (if b then without w ws ++ w ∷ [] else ws)
+in_last : (b : Bool) (w v : Waiter) (ws : List Waiter) → IsAmong v ws → IsAmong v (if b then without_waiter w ws ++ w ∷ [] else ws)
 in_last false w v ws i = i
 in_last true w v ws i = by (waiter_or v w)
   where
-    by : (v ≡ w) ⊎ (v ≡ w → ⊥) → IsAmong v (without w ws ++ w ∷ [])
-    by (inl same) = among_right v (without w ws) (w ∷ []) (inl (sym same))
-    by (inr other) = among_left v (without w ws) (w ∷ []) (stays_among w v ws other i)
+    by : (v ≡ w) ⊎ (v ≡ w → ⊥) → IsAmong v (without_waiter w ws ++ w ∷ [])
+    by (inl same) = among_right v (without_waiter w ws) (w ∷ []) (inl (sym same))
+    by (inr other) = among_left v (without_waiter w ws) (w ∷ []) (stays_among w v ws other i)
 
-once_last : (b : Bool) (w : Waiter) (ws : List Waiter) → NoneTwice ws → NoneTwice (if b then without w ws ++ w ∷ [] else ws)
+once_last : (b : Bool) (w : Waiter) (ws : List Waiter) → NoneTwice ws → NoneTwice (if b then without_waiter w ws ++ w ∷ [] else ws)
 once_last false w ws h = h
-once_last true w ws h = none_more w (without w ws) (is_out w ws) (once_without w ws h)
+once_last true w ws h = none_more w (without_waiter w ws) (is_out w ws) (once_without w ws h)
 
 pub stays_last : (w v : Waiter) (ws : List Waiter) → IsAmong v ws → IsAmong v (moved_last w ws)
 stays_last w v ws i = in_last (is_among w ws) w v ws i

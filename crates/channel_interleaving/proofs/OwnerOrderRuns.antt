@@ -6,7 +6,7 @@ use Rattle.channel_calls.specs.Moves.{Channel}
 use Rattle.channel_calls.specs.Parts.{listeners}
 use Rattle.channel_calls.specs.declared.ask.ChannelAsk.{ChannelAsk}
 use Rattle.channel_calls.specs.declared.stage.Line.{Line}
-use Rattle.channel_model.specs.Lines.{is_among, without}
+use Rattle.channel_model.specs.Lines.{is_among, without_waiter}
 use Rattle.channel_model.specs.Names.{at}
 use Rattle.channel_model.specs.declared.call.Call.{Call}
 use Rattle.channel_model.specs.declared.call.Call.TheVariants as call
@@ -22,7 +22,7 @@ use Rattle.channel_interleaving.specs.Order.{placed, order_begun}
 use Rattle.channel_interleaving.specs.Owners.{IsAmong, NoneTwice, Post, vacant, post, subject, Owned}
 use Rattle.channel_interleaving.specs.OwnerOrder.{woken_key, Within, NeedsPlace, InOrder}
 use Rattle.channel_interleaving.specs.Roll.{first_roll, with_lent}
-use Rattle.channel_interleaving.specs.Run.{Book, begun}
+use Rattle.channel_interleaving.specs.Run.{Book, book_begun}
 use Rattle.channel_interleaving.specs.declared.names.Operation.{Operation}
 use Rattle.channel_interleaving.specs.declared.roll.Roll.{Roll}
 use Rattle.channel_interleaving.specs.declared.step.PartyId.{PartyId}
@@ -145,17 +145,17 @@ module _ {T : Type 0} where
 
   -- a name is given up or dropped
   drops : (r r' : Roll T) (ws : List Waiter) (c : Channel T Waiter) (w : Waiter) → Sets (post r) (post r') w vacant
-      → Sorted r ws c → Sorted r' (without w ws) c
+      → Sorted r ws c → Sorted r' (without_waiter w ws) c
   drops r r' ws c w s h = record {
     places = λ v n. by v n (waiter_or v w);
     once = once_without w ws h.once;
-    lines = λ line. within_both (gathered (key_on line r') (without w ws)) (gathered (key_on line r') ws)
+    lines = λ line. within_both (gathered (key_on line r') (without_waiter w ws)) (gathered (key_on line r') ws)
         (keys_of (listeners line c.roster).told) (gathered_fewer (key_on line r') w ws)
         (within_both (gathered (key_on line r') ws) (gathered (key_on line r) ws) (keys_of (listeners line c.roster).told)
         (less r r' line ws (set_less r r' w vacant s tt)) (h.lines line));
   }
     where
-      by : (v : Waiter) → NeedsPlace (post r' v) → (v ≡ w) ⊎ (v ≡ w → ⊥) → IsAmong v (without w ws)
+      by : (v : Waiter) → NeedsPlace (post r' v) → (v ≡ w) ⊎ (v ≡ w → ⊥) → IsAmong v (without_waiter w ws)
       by v n (inl same) = absurd (vacant_placeless (post r' v) (ap (post r') same ∙ s.there) n)
       by v n (inr other) = stays_among w v ws other (h.places v (needs_same (post r' v) (post r v) (s.others v other) n))
 
@@ -251,8 +251,8 @@ module _ {T : Type 0} where
 
   -- a call begins
   pub begins_order : (q : PartyId) (c : Call T) (b : Book T) (a : ChannelAsk T Waiter) (s t : Scene T Waiter) (e : ChannelEntry T)
-      → Begins s q.0 a e t → Owned b s → InOrder b s → Admitted b.roll c → InOrder (begun q c b) t
+      → Begins s q.0 a e t → Owned b s → InOrder b s → Admitted b.roll c → InOrder (book_begun q c b) t
   begins_order q c b a s t e n o i fine =
       let h = begins_sorted b.roll b.order s.now o.none_amiss (sorted_of b s i) c fine in
-      of_sorted (begun q c b) t
+      of_sorted (book_begun q c b) t
       (subst (λ (d : Channel T Waiter). Sorted (names_begun b.roll c) (order_begun c b.order) d) (sym n.now) h)

@@ -7,7 +7,7 @@ use Rattle.channel_calls.specs.declared.stage.Held.{Held}
 use Rattle.channel_calls.specs.declared.stage.Line.{Line}
 use Rattle.channel_model.proofs.Awake.{line_sound, line_refl}
 use Rattle.channel_model.specs.Laws.{same_line}
-use Rattle.channel_model.specs.Lines.{is_among, without}
+use Rattle.channel_model.specs.Lines.{is_among, without_waiter}
 use Rattle.channel_model.specs.declared.name.Waiter.{Waiter}
 use Rattle.channel_interleaving.specs.Bookkeeping.{woken, all_woken}
 use Rattle.channel_interleaving.specs.Order.{moved_last, all_moved_last}
@@ -44,9 +44,6 @@ keyless line amiss other = refl
 keyless line (rests l) other = refl
 keyless line (polled l) other = refl
 
-unwoken_keyless : (line : Line) (h : Held) → woken_key line (waits h false) ≡ []
-unwoken_keyless line h = refl
-
 own_key : (line : Line) (key : Key) → woken_key line (waits (at_line line key) true) ≡ key ∷ []
 own_key line key = ap (λ (b : Bool). if b then key ∷ [] else []) (line_refl line)
 
@@ -82,12 +79,12 @@ waiting_or (polled l) = inr (λ w. absurd (let no : polled l ≡ waits w.0 w.1 =
 
 -- a name with no key comes last
 moved_keyless : (b : Bool) (f : Waiter → List Key) (w : Waiter) (ws : List Waiter) → f w ≡ []
-    → gathered f (if b then without w ws ++ w ∷ [] else ws) ≡ gathered f ws
+    → gathered f (if b then without_waiter w ws ++ w ∷ [] else ws) ≡ gathered f ws
 moved_keyless false f w ws none = refl
 moved_keyless true f w ws none =
-    gathered_join f (without w ws) (w ∷ [])
-    ∙ (ap (λ (ks : List Key). gathered f (without w ws) ++ (ks ++ [])) none
-    ∙ (no_more (gathered f (without w ws)) ∙ gathered_without f w ws none))
+    gathered_join f (without_waiter w ws) (w ∷ [])
+    ∙ (ap (λ (ks : List Key). gathered f (without_waiter w ws) ++ (ks ++ [])) none
+    ∙ (no_more (gathered f (without_waiter w ws)) ∙ gathered_without f w ws none))
   where
     no_more : (ks : List Key) → ks ++ [] ≡ ks
     no_more [] = refl
@@ -169,7 +166,7 @@ module _ {T : Type 0} where
   moved_here : (b : Bool) (line : Line) (key : Key) (w : Waiter) (r : Roll T) (ws : List Waiter) (told : List Key)
       → is_among w ws ≡ b → IsAmong w ws → post r w ≡ waits (at_line line key) false
       → Within (gathered (key_on line r) ws) told
-      → Within (gathered (key_on line (woken w r)) (if b then without w ws ++ w ∷ [] else ws)) (told ++ key ∷ [])
+      → Within (gathered (key_on line (woken w r)) (if b then without_waiter w ws ++ w ∷ [] else ws)) (told ++ key ∷ [])
   moved_here false line key w r ws told e i is h = absurd (let no : true ≡ false = sym (is_there w ws i) ∙ e in cc)
   moved_here true line key w r ws told e i is h =
       let f = key_on line r in
@@ -177,11 +174,11 @@ module _ {T : Type 0} where
       let none : f w ≡ [] = ap (woken_key line) is in
       let one : g w ≡ key ∷ [] =
       ap (woken_key line) ((one_woken w r).there ∙ ap told_post is) ∙ own_key line key in
-      let rest : gathered g (without w ws) ≡ gathered f ws =
+      let rest : gathered g (without_waiter w ws) ≡ gathered f ws =
       gathered_apart g f w ws (λ v other. ap (woken_key line) ((one_woken w r).others v other))
       ∙ gathered_without f w ws none in
-      let all : gathered g (without w ws ++ w ∷ []) ≡ gathered f ws ++ key ∷ [] =
-      gathered_join g (without w ws) (w ∷ [])
+      let all : gathered g (without_waiter w ws ++ w ∷ []) ≡ gathered f ws ++ key ∷ [] =
+      gathered_join g (without_waiter w ws) (w ∷ [])
       ∙ (ap (λ (ks : List Key). ks ++ (g w ++ [])) rest ∙ ap (λ (ks : List Key). gathered f ws ++ (ks ++ [])) one) in
       subst (λ (ks : List Key). Within ks (told ++ key ∷ [])) (sym all) (within_last key (gathered f ws) told h)
 

@@ -3,7 +3,7 @@ use Rattle.std.proofs.Common.{◌≡◌, Bool, true, false, cond, not, List, [],
 use Rattle.std.specs.Map.{remove_entry, keys_of}
 use Rattle.event_listener.specs.Lists.{same_key}
 use Rattle.event_listener.specs.declared.key.Key.{Key}
-use Rattle.channel_model.specs.Lines.{same_waiter, without}
+use Rattle.channel_model.specs.Lines.{same_waiter, without_waiter}
 use Rattle.channel_model.specs.declared.name.Waiter.{Waiter}
 use Rattle.channel_model.proofs.WaiterLemmas.{same_refl, same_sound}
 use Rattle.channel_interleaving.specs.Owners.{IsAmong}
@@ -101,36 +101,36 @@ gathered_less f g (w ∷ ws) e = by (e w) (gathered_less f g ws e)
 
 -- one with no key is taken out
 pub gathered_without : (f : Waiter → List Key) (w : Waiter) (ws : List Waiter) → f w ≡ []
-    → gathered f (without w ws) ≡ gathered f ws
+    → gathered f (without_waiter w ws) ≡ gathered f ws
 gathered_without f w [] none = refl
 gathered_without f w (v ∷ ws) none = by (same_waiter w v) refl (gathered_without f w ws none)
   where
-    by : (t : Bool) → same_waiter w v ≡ t → gathered f (without w ws) ≡ gathered f ws
-        → gathered f (cond (not t) (v ∷ without w ws) (without w ws)) ≡ f v ++ gathered f ws
+    by : (t : Bool) → same_waiter w v ≡ t → gathered f (without_waiter w ws) ≡ gathered f ws
+        → gathered f (cond (not t) (v ∷ without_waiter w ws) (without_waiter w ws)) ≡ f v ++ gathered f ws
     by true e h = h ∙ ap (λ (ks : List Key). ks ++ gathered f ws) (sym (ap f (sym (same_sound w v e)) ∙ none))
     by false e h = ap (λ (ks : List Key). f v ++ ks) h
 
 -- where the keys of all others are the same
 pub gathered_apart : (f g : Waiter → List Key) (w : Waiter) (ws : List Waiter) → ((v : Waiter) → (v ≡ w → ⊥) → f v ≡ g v)
-    → gathered f (without w ws) ≡ gathered g (without w ws)
+    → gathered f (without_waiter w ws) ≡ gathered g (without_waiter w ws)
 gathered_apart f g w [] e = refl
 gathered_apart f g w (v ∷ ws) e = by (same_waiter w v) refl (gathered_apart f g w ws e)
   where
-    by : (t : Bool) → same_waiter w v ≡ t → gathered f (without w ws) ≡ gathered g (without w ws)
-        → gathered f (cond (not t) (v ∷ without w ws) (without w ws))
-        ≡ gathered g (cond (not t) (v ∷ without w ws) (without w ws))
+    by : (t : Bool) → same_waiter w v ≡ t → gathered f (without_waiter w ws) ≡ gathered g (without_waiter w ws)
+        → gathered f (cond (not t) (v ∷ without_waiter w ws) (without_waiter w ws))
+        ≡ gathered g (cond (not t) (v ∷ without_waiter w ws) (without_waiter w ws))
     by true s h = h
     by false s h =
         let other : v ≡ w → ⊥ = λ same. absurd (let no : true ≡ false =
         sym (same_refl w) ∙ (ap (λ (x : Waiter). same_waiter w x) (sym same) ∙ s) in cc) in
-        ap (λ (ks : List Key). ks ++ gathered f (without w ws)) (e v other) ∙ ap (λ (ks : List Key). g v ++ ks) h
+        ap (λ (ks : List Key). ks ++ gathered f (without_waiter w ws)) (e v other) ∙ ap (λ (ks : List Key). g v ++ ks) h
 
 -- with fewer names there are no more keys
-pub gathered_fewer : (f : Waiter → List Key) (w : Waiter) (ws : List Waiter) → Within (gathered f (without w ws)) (gathered f ws)
+pub gathered_fewer : (f : Waiter → List Key) (w : Waiter) (ws : List Waiter) → Within (gathered f (without_waiter w ws)) (gathered f ws)
 gathered_fewer f w [] = tt
 gathered_fewer f w (v ∷ ws) = by (same_waiter w v) (gathered_fewer f w ws)
   where
-    by : (t : Bool) → Within (gathered f (without w ws)) (gathered f ws)
-        → Within (gathered f (cond (not t) (v ∷ without w ws) (without w ws))) (f v ++ gathered f ws)
-    by true h = within_behind (f v) (gathered f (without w ws)) (gathered f ws) h
-    by false h = within_front (f v) (gathered f (without w ws)) (gathered f ws) h
+    by : (t : Bool) → Within (gathered f (without_waiter w ws)) (gathered f ws)
+        → Within (gathered f (cond (not t) (v ∷ without_waiter w ws) (without_waiter w ws))) (f v ++ gathered f ws)
+    by true h = within_behind (f v) (gathered f (without_waiter w ws)) (gathered f ws) h
+    by false h = within_front (f v) (gathered f (without_waiter w ws)) (gathered f ws) h

@@ -13,7 +13,7 @@ use Rattle.channel_interleaving.specs.Bookkeeping.{names_begun, errand_of, asks,
 use Rattle.channel_interleaving.specs.OwnerPolled.{IsWorkedAt, PolledAtWork}
 use Rattle.channel_interleaving.specs.Owners.{IsAmong, Post, free, vacant, amiss, rests, waits, polled, post, subject, AllDiffer, Owned}
 use Rattle.channel_interleaving.specs.Roll.{first_roll}
-use Rattle.channel_interleaving.specs.Run.{Book, begun, ended, with_woken}
+use Rattle.channel_interleaving.specs.Run.{Book, book_begun, book_ended, with_woken}
 use Rattle.channel_interleaving.specs.declared.names.Agent.{Agent}
 use Rattle.channel_interleaving.specs.declared.step.PartyId.{PartyId}
 use Rattle.channel_interleaving.proofs.OwnerBegins.{Quiet, Touches, Admitted}
@@ -27,9 +27,6 @@ use Rattle.channel_interleaving.proofs.OwnerTogether.{is_agent}
 
 calm_polled : (x : Post) (line : Line) → IsCalm x → x ≡ polled line → ⊥
 calm_polled x line h e = subst (λ (p : Post). IsCalm p) e h
-
-waits_polled : (x y : Post) (line : Line) → x ≡ y → y ≡ polled line → x ≡ polled line
-waits_polled x y line e f = e ∙ f
 
 -- a waking makes nobody polled
 told_polled : (x : Post) (line : Line) → told_post x ≡ polled line → x ≡ polled line
@@ -49,21 +46,21 @@ module _ {T : Type 0} where
 
   pub polled_begun : (q : PartyId) (c : Call T) (b : Book T) (s : Scene T Waiter) → Owned b s → Admitted b.roll c
       → PolledAtWork b
-      → PolledAtWork (begun q c b)
+      → PolledAtWork (book_begun q c b)
   polled_begun q c b s o fine at w line e = by (begins_so b.roll c o.none_amiss fine)
     where
       mine : Agent T
       mine = record { party = q.0; errand = errand_of b.roll c }
 
-      was : post b.roll w ≡ polled line → IsWorkedAt w (begun q c b)
+      was : post b.roll w ≡ polled line → IsWorkedAt w (book_begun q c b)
       was f = let h = at w line f in (h.0, among_left h.0 b.agents (mine ∷ []) h.1, h.2)
 
       by : Quiet (post b.roll) (post (names_begun b.roll c)) (errand_of b.roll c) (asks b.roll c)
-          ⊎ Touches (post b.roll) (post (names_begun b.roll c)) (errand_of b.roll c) (asks b.roll c) → IsWorkedAt w (begun q c b)
+          ⊎ Touches (post b.roll) (post (names_begun b.roll c)) (errand_of b.roll c) (asks b.roll c) → IsWorkedAt w (book_begun q c b)
       by (inl k) = was (sym (k.same w) ∙ e)
       by (inr k) = now (waiter_or w k.name)
         where
-          now : (w ≡ k.name) ⊎ (w ≡ k.name → ⊥) → IsWorkedAt w (begun q c b)
+          now : (w ≡ k.name) ⊎ (w ≡ k.name → ⊥) → IsWorkedAt w (book_begun q c b)
           now (inr other) = was (sym (k.sets.others w other) ∙ e)
           now (inl same) =
               let p : k.now ≡ polled line =
@@ -93,7 +90,7 @@ module _ {T : Type 0} where
   pub polled_step : (b c : Book T) (s t : Scene T Waiter) (q : PartyId) (m : Mark) (r : Option (Reply T)) (kp : Option (Kept T))
       (names : List Waiter) → Owned b s → AllKnown s.now s.under_way
       → Steps s q.0 (record { mark = m; reply = r; kept = kp }) names t
-      → (k : ℕ) → (a : Agent T) → slice_get b.agents k ≡ Some a → a.party ≡ q.0 → c ≡ ended k a r kp (with_woken names b)
+      → (k : ℕ) → (a : Agent T) → slice_get b.agents k ≡ Some a → a.party ≡ q.0 → c ≡ book_ended k a r kp (with_woken names b)
       → PolledAtWork b → PolledAtWork c
   polled_step b c s t q m None kp names o known st k a there his after at w line e =
       let f : post (all_woken names b.roll) w ≡ polled line = ap (λ (d : Book T). post d.roll w) (sym after) ∙ e in

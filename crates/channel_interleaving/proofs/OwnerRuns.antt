@@ -17,10 +17,10 @@ use Rattle.event_listener.specs.declared.key.Key.{Key}
 use Rattle.channel_steps.specs.Scene.{Under, Scene, Steps, Known, AllKnown, sees, does, unless_ended}
 use Rattle.channel_interleaving.specs.Bookkeeping.{settled, all_woken}
 use Rattle.channel_interleaving.specs.Order.{all_moved_last, order_settled}
-use Rattle.channel_interleaving.specs.Owners.{IsAmong, All, AnyOf, Post, free, vacant, amiss, rests, waits, polled, post, holding, task_at, wait_of, line_asked, Bears, subject, Suits, Fits, Together, Differ, AllDiffer, WaitsFor, Holder, named, calling, HoldsIn, Owned}
+use Rattle.channel_interleaving.specs.Owners.{IsAmong, All, AnyOf, Post, free, vacant, amiss, rests, waits, polled, post, holding, task_at, wait_of, line_asked, Bears, subject, Suits, Fits, Together, Differ, AllDiffer, WaitsToWake, Holder, named, calling, HoldsIn, Owned}
 use Rattle.channel_interleaving.specs.Refusal.{refusal, step_refusal}
 use Rattle.channel_interleaving.specs.Roll.{is_at_work}
-use Rattle.channel_interleaving.specs.Run.{Book, ended, with_woken}
+use Rattle.channel_interleaving.specs.Run.{Book, book_ended, with_woken}
 use Rattle.channel_interleaving.specs.declared.names.Agent.{Agent}
 use Rattle.channel_interleaving.specs.declared.roll.Roll.{Roll}
 use Rattle.channel_interleaving.specs.declared.step.PartyId.{PartyId}
@@ -152,7 +152,7 @@ module _ {T : Type 0} where
 
     pub out : Turnout T Waiter st.mine.ask s.now st.mine.at effect r st.at_now
     out = let k = mine_known in
-        turnout T Waiter st.mine.ask s.now st.mine.at effect r st.at_now st.mine.deeds st.mine.seen k.stands
+        turnout T Waiter st.mine.ask s.now st.mine.at effect r st.at_now st.mine.marks st.mine.seen k.stands
         parts.own.bears st.moves
 
     accounts : Accounted (HoldsIn P s.under_way) s.now
@@ -194,13 +194,13 @@ module _ {T : Type 0} where
         by (inr j) = inr (ap calling (sym j.0 ∙ st.whose), j.1)
 
     -- who isn't woken waits for its name still
-    waits_still : (v : Waiter) (h : Held) → P1 v ≡ waits h false → WaitsFor h v t.now
+    waits_still : (v : Waiter) (h : Held) → P1 v ≡ waits h false → WaitsToWake h v t.now
     waits_still v h e =
         let before = mid_unwoken names b.roll v h e in
         by before.1 ((out.lists h.line).waiting h.key v
         (λ had. apart v p (o.alone (named v) (calling p) h (false, before.0) (was_mine h had))) (o.unwoken v h before.0))
       where
-        by : (IsAmong v names → ⊥) → WaitsFor h v t.now ⊎ IsAmong v names → WaitsFor h v t.now
+        by : (IsAmong v names → ⊥) → WaitsToWake h v t.now ⊎ IsAmong v names → WaitsToWake h v t.now
         by f (inl i) = i
         by f (inr i) = absurd (f i)
 
@@ -390,7 +390,7 @@ module _ {T : Type 0} where
         (calling p) taker
 
     end_owned : (taker : Holder) → Pass taker → ((v : Waiter) → E2 v ≡ amiss → ⊥)
-        → ((v : Waiter) (h : Held) → E2 v ≡ waits h false → WaitsFor h v t.now) → Owned end_book t
+        → ((v : Waiter) (h : Held) → E2 v ≡ waits h false → WaitsToWake h v t.now) → Owned end_book t
     end_owned taker pass sane unwoken =
         let a = accounted s.now t.now names (holding st.mine.at) end_out.has (HoldsIn (post b.roll) s.under_way)
         (HoldsIn E2 end_calls) (calling p) taker end_out.lists end_out.how pass
@@ -468,12 +468,12 @@ module _ {T : Type 0} where
             by (inl own) = calm_amiss (E2 v) (calm v own) e
             by (inr other) = o.none_amiss v (mid_amiss names b.roll v (sym (set.others v other) ∙ e))
 
-        unwoken : (v : Waiter) (h : Held) → E2 v ≡ waits h false → WaitsFor h v t.now
+        unwoken : (v : Waiter) (h : Held) → E2 v ≡ waits h false → WaitsToWake h v t.now
         unwoken v h e = waits_still b s t p m (Some y) kp names o known st v h
             (sym (set.others v (λ own. calm_waits (E2 v) h false (calm v own) e)) ∙ e)
 
     -- it leaves one, and its name is pending
-    leaves_one : (h : Held) (task : Waiter) → end_out.has ≡ Some h → WaitsFor h task t.now → subject pt.agent.errand ≡ Some task
+    leaves_one : (h : Held) (task : Waiter) → end_out.has ≡ Some h → WaitsToWake h task t.now → subject pt.agent.errand ≡ Some task
         → E2 task ≡ waits h false → Owned end_book t
     leaves_one h task has there whose is = end_owned (named task)
         (record { back = back; forth = forth; old = λ k e. was_mine b s t p m (Some y) kp names o known st k e; new = new }) sane
@@ -511,12 +511,12 @@ module _ {T : Type 0} where
             by (inl own) = no_waits_amiss h false (sym is ∙ (ap E2 (sym (same_name v own)) ∙ e))
             by (inr other) = o.none_amiss v (mid_amiss names b.roll v (sym (set.others v other) ∙ e))
 
-        unwoken : (v : Waiter) (k : Held) → E2 v ≡ waits k false → WaitsFor k v t.now
+        unwoken : (v : Waiter) (k : Held) → E2 v ≡ waits k false → WaitsToWake k v t.now
         unwoken v k e = by (subject_or (subject pt.agent.errand) v)
           where
-            by : (subject pt.agent.errand ≡ Some v) ⊎ (subject pt.agent.errand ≡ Some v → ⊥) → WaitsFor k v t.now
-            by (inl own) = subst (λ (x : Held). WaitsFor x v t.now) (sym (same_held v k false own e))
-                (subst (λ (x : Waiter). WaitsFor h x t.now) (sym (same_name v own)) there)
+            by : (subject pt.agent.errand ≡ Some v) ⊎ (subject pt.agent.errand ≡ Some v → ⊥) → WaitsToWake k v t.now
+            by (inl own) = subst (λ (x : Held). WaitsToWake x v t.now) (sym (same_held v k false own e))
+                (subst (λ (x : Waiter). WaitsToWake h x t.now) (sym (same_name v own)) there)
             by (inr other) = waits_still b s t p m (Some y) kp names o known st v k (sym (set.others v other) ∙ e)
 
     ends_owned : Owned end_book t
@@ -541,17 +541,17 @@ module _ {T : Type 0} where
   -- the book after an end, given who ended and what it left
   pub ended_is : (k : ℕ) (a a' : Agent T) (y : Reply T) (kp : Option (Kept T)) (kept : Kept T) (b : Book T)
       (rest : List (Agent T)) → a ≡ a' → kp ≡ Some kept → remove b.agents k ≡ rest
-      → ended k a (Some y) kp b
+      → book_ended k a (Some y) kp b
       ≡ record { roll = settled a'.errand y kept b.roll; order = order_settled a'.errand kept.key b.order; agents = rest }
   ended_is k a a' y kp kept b rest same given left =
-      ap (λ (x : Agent T). ended k x (Some y) kp b) same
-      ∙ (ap (λ (x : Option (Kept T)). ended k a' (Some y) x b) given
+      ap (λ (x : Agent T). book_ended k x (Some y) kp b) same
+      ∙ (ap (λ (x : Option (Kept T)). book_ended k a' (Some y) x b) given
       ∙ ap (λ (l : List (Agent T)).
       record { roll = settled a'.errand y kept b.roll; order = order_settled a'.errand kept.key b.order; agents = l }) left)
 
   abbrev IsAfter : Book T → PartyId → Option (Reply T) → Option (Kept T) → List Waiter → Book T → Type 0
   IsAfter b q r kp names c = (k : ℕ) × (a : Agent T) × (slice_get b.agents k ≡ Some a) × (a.party ≡ q.0)
-      × (c ≡ ended k a r kp (with_woken names b))
+      × (c ≡ book_ended k a r kp (with_woken names b))
 
   pub stepped : (b c : Book T) (s t : Scene T Waiter) (q : PartyId) (m : Mark) (r : Option (Reply T)) (kp : Option (Kept T))
       (names : List Waiter) → Owned b s → AllKnown s.now s.under_way

@@ -10,14 +10,14 @@ use Rattle.channel_calls.specs.declared.stage.Line.TheVariants.{Sends, Receives,
 use Rattle.channel_model.specs.declared.call.Call.{Call}
 use Rattle.channel_model.specs.declared.name.Waiter.{Waiter}
 use Rattle.channel_model.specs.declared.name.Waiter.TheVariants.{Op, Stream}
-use Rattle.channel_steps.specs.Run.{Begins, new_scene, begun as begun_under}
+use Rattle.channel_steps.specs.Run.{Begins, new_scene, call_begun as begun_under}
 use Rattle.channel_steps.specs.Scene.{Under, Scene}
 use Rattle.channel_steps.specs.declared.party.Entry.{Entry as ChannelEntry}
 use Rattle.channel_interleaving.specs.AskedBy.{IsOrListens}
 use Rattle.channel_interleaving.specs.Bookkeeping.{asks, errand_of, names_begun}
 use Rattle.channel_interleaving.specs.Owners.{All, AnyOf, Post, free, vacant, amiss, rests, waits, polled, posted, post, holding, task_at, wait_of, Bears, subject, Suits, Together, Differ, AllDiffer, IsListed, NoneListedTwice, Holder, named, calling, HoldsIn, Owned}
 use Rattle.channel_interleaving.specs.Roll.{first_roll, unused, is_at_work}
-use Rattle.channel_interleaving.specs.Run.{Book, begun}
+use Rattle.channel_interleaving.specs.Run.{Book, book_begun}
 use Rattle.channel_interleaving.specs.declared.names.Agent.{Agent}
 use Rattle.channel_interleaving.specs.declared.names.Errand.{Errand}
 use Rattle.channel_interleaving.specs.declared.names.Errand.TheVariants as errand
@@ -234,13 +234,13 @@ module _ {T : Type 0} where
         → ((v : Waiter) → IsBusy (P v) → P' v ≡ P v) → ((v : Waiter) → IsBusy (P v) → subject (errand_of b.roll c) ≡ Some v → ⊥)
         → ((v : Waiter) → P' v ≡ amiss → ⊥)
         → ((v : Waiter) (h : Held) → P' v ≡ waits h false → P v ≡ waits h false)
-        → Suits P' (errand_of b.roll c) (wait_of (asks b.roll c)) → Owned (begun q c b) t
+        → Suits P' (errand_of b.roll c) (wait_of (asks b.roll c)) → Owned (book_begun q c b) t
     begun_owned had giver taker pass keep own sane unwoken suits =
         let whole = accounted s.now s.now [] had had (HoldsIn P s.under_way) (HoldsIn P' calls) giver taker
         (still s.now.roster [] had) (inl refl) pass before in
-        subst (λ (us : List (Under T Waiter)). Owned (begun q c b)
+        subst (λ (us : List (Under T Waiter)). Owned (book_begun q c b)
         (record { now = t.now; blocks = t.blocks; under_way = us; gone = t.gone; came = t.came })) (sym n.under_way) (
-        subst (λ (d : Channel T Waiter). Owned (begun q c b)
+        subst (λ (d : Channel T Waiter). Owned (book_begun q c b)
         (record { now = d; blocks = t.blocks; under_way = calls; gone = t.gone; came = t.came })) (sym n.now) (
         record {
           together = together_join P' b.agents (new_agent ∷ []) s.under_way (new_call ∷ [])
@@ -264,7 +264,7 @@ module _ {T : Type 0} where
         )
         )
 
-    quietly : Quiet P P' (errand_of b.roll c) (asks b.roll c) → Owned (begun q c b) t
+    quietly : Quiet P P' (errand_of b.roll c) (asks b.roll c) → Owned (book_begun q c b) t
     quietly k = begun_owned None (calling q.0) (calling q.0) pass (λ v i. k.same v)
         (λ v i e. absurd (let no : None ≡ Some v = sym k.nobody ∙ e in cc)) (λ v e. o.none_amiss v (sym (k.same v) ∙ e))
         (λ v h e. sym (k.same v) ∙ e) (plain_suits P' (errand_of b.roll c) (wait_of (asks b.roll c)) k.nobody k.patient)
@@ -306,7 +306,7 @@ module _ {T : Type 0} where
           new = λ h e. absurd (let no : None ≡ Some h = e in cc);
         }
 
-    touching : Touches P P' (errand_of b.roll c) (asks b.roll c) → Owned (begun q c b) t
+    touching : Touches P P' (errand_of b.roll c) (asks b.roll c) → Owned (book_begun q c b) t
     touching k = begun_owned (held_in (P k.name)) (named k.name) (calling q.0) pass (λ v i. k.sets.others v (idle_name v i)) own
         sane unwoken k.suits
       where
@@ -369,10 +369,10 @@ module _ {T : Type 0} where
               new = λ h e. any_right (HasIt q.0 h) s.under_way (new_call ∷ []) (inl (refl, first_stage ∙ (k.takes ∙ e)));
             }
 
-    pub begins_owned : Admitted b.roll c → Owned (begun q c b) t
+    pub begins_owned : Admitted b.roll c → Owned (book_begun q c b) t
     begins_owned no_refusal = by (begins_so b.roll c o.none_amiss no_refusal)
       where
         by : Quiet P P' (errand_of b.roll c) (asks b.roll c) ⊎ Touches P P' (errand_of b.roll c) (asks b.roll c)
-            → Owned (begun q c b) t
+            → Owned (book_begun q c b) t
         by (inl k) = quietly k
         by (inr k) = touching k

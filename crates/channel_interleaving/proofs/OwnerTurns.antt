@@ -15,7 +15,7 @@ use Rattle.concurrent_queue.specs.declared.error.ForcePushError.TheVariants as f
 use Rattle.concurrent_queue.specs.declared.error.PopError.TheVariants as pop_error
 use Rattle.event_listener.specs.declared.key.Key.{Key}
 use Rattle.channel_calls.specs.Answered.{over, answered_next, send_next, receive_next, stream_next, closing_next, closed_next, asked_next, terminated_next, upgraded_next, sent_next, forced_next, received_next, gathered_next, short_next, several_next}
-use Rattle.channel_calls.specs.Turns.{held_on, line_of, dropper, leaving, closer_ending, ends_by, again, refused_next, told_all_next, room_next, lowered_next, counted_next, loaded_next, raised_next, most}
+use Rattle.channel_calls.specs.Turns.{held_on, line_of, dropper, leaving, closer_ending, ends_by, refused_next, told_all_next, room_next, lowered_next, counted_next, loaded_next, raised_next, most}
 use Rattle.channel_calls.specs.declared.ask.ChannelAsk.{ChannelAsk}
 use Rattle.channel_calls.specs.declared.ask.ChannelAsk.TheVariants as ask
 use Rattle.channel_calls.specs.declared.reply.Reply.{Reply}
@@ -97,9 +97,6 @@ module _ (T W : Type 0) where
   refused_has : (w : Waiting T) (key : Option Key) (task : W) → Has (held_on (line_of w) key) (Some task) (refused_next w key task)
   refused_has w None task = (refl, inr refl)
   refused_has w (Some key) task = (refl, inr refl)
-
-  pub again_has : (w : Waiting T) (key : Option Key) (task : W) → Has (held_on (line_of w) key) (Some task) (again w key task)
-  again_has w key task = (refl, inr refl)
 
   over_has : (x : Reply T) (m : Option T) (line : Line) (key : Option Key) (task : Option W) → Has (held_on line key) task (ends_by (over x m line key))
   over_has x m line None task = (refl, refl)

@@ -15,9 +15,9 @@ use Rattle.channel_model.specs.declared.name.Waiter.TheVariants.{Op, Stream}
 use Rattle.channel_steps.specs.Scene.{Under, Scene, Steps, AllKnown, sees, does}
 use Rattle.channel_interleaving.specs.Bookkeeping.{settled, woken, all_woken}
 use Rattle.channel_interleaving.specs.Order.{all_moved_last, order_settled}
-use Rattle.channel_interleaving.specs.Owners.{IsAmong, All, AnyOf, Post, free, vacant, amiss, rests, waits, polled, post, holding, task_at, wait_of, Bears, subject, Suits, Together, Differ, AllDiffer, IsListed, WaitsFor, named, calling, HoldsIn, Owned}
+use Rattle.channel_interleaving.specs.Owners.{IsAmong, All, AnyOf, Post, free, vacant, amiss, rests, waits, polled, post, holding, task_at, wait_of, Bears, subject, Suits, Together, Differ, AllDiffer, IsListed, WaitsToWake, named, calling, HoldsIn, Owned}
 use Rattle.channel_interleaving.specs.OwnerWoken.{IsAway, IsTold, NoneWorks, IsOwn, WokenSound}
-use Rattle.channel_interleaving.specs.Run.{Book, ended, with_woken}
+use Rattle.channel_interleaving.specs.Run.{Book, book_ended, with_woken}
 use Rattle.channel_interleaving.specs.declared.names.Agent.{Agent}
 use Rattle.channel_interleaving.specs.declared.names.Errand.{Errand}
 use Rattle.channel_interleaving.specs.declared.names.Errand.TheVariants as errand
@@ -117,7 +117,7 @@ module _ {T : Type 0} where
   suits_name p (errand.Leave handle) line v wait s w = absurd (let no : None ≡ Some (line, v) = sym s ∙ w in cc)
   suits_name p (errand.LeaveBoth x y) line v wait s w = absurd (let no : None ≡ Some (line, v) = sym s ∙ w in cc)
 
-  listed_of : (h : Held) (w : Waiter) (c : Channel T Waiter) → WaitsFor h w c → IsListed h c
+  listed_of : (h : Held) (w : Waiter) (c : Channel T Waiter) → WaitsToWake h w c → IsListed h c
   listed_of h w c i = among_right h.key (keys_of (listeners h.line c.roster).told)
       (keys_of (listeners h.line c.roster).waiting) (key_of_entry (h.key, Some w) (listeners h.line c.roster).waiting i)
 
@@ -192,7 +192,7 @@ module _ {T : Type 0} where
         now_after t.now q h st.before (mine_now ∷ []) st.behind
         (inl (st.whose ∙ sym e, going.next.0 ∙ still_has b s t p m None kp names o known st w h had i))
 
-    goes_tasks : (v : Waiter) (h : Held) → WaitsFor h v t.now → IsOwn (with_woken names b) After v h
+    goes_tasks : (v : Waiter) (h : Held) → WaitsToWake h v t.now → IsOwn (with_woken names b) After v h
     goes_tasks v h i = by ((follow b s t p m None kp names o known st w).tasks h v i)
       where
         moved : (a : Agent T)
@@ -208,7 +208,7 @@ module _ {T : Type 0} where
         before (inr (inr x)) =
             inr (inr (subst IsAway (sym (mid_busy names b.roll v (away_busy (post b.roll v) x.0))) x.0, x.1))
 
-        by : WaitsFor h v s.now ⊎ ((holding st.mine.at ≡ Some h) × (task_at st.mine.at ≡ Some v))
+        by : WaitsToWake h v s.now ⊎ ((holding st.mine.at ≡ Some h) × (task_at st.mine.at ≡ Some v))
             → IsOwn (with_woken names b) After v h
         by (inl j) = before (w.tasks v h j)
         by (inr j) =
@@ -291,7 +291,7 @@ module _ {T : Type 0} where
         by (inl whose) = own whose (set b s t p m y kp names o known st).own
         by (inr other) = mid_told b s t p m (Some y) kp names o known st w v h (sym (others_stand v other) ∙ e)
 
-    ended_tasks : (v : Waiter) (h : Held) → WaitsFor h v t.now → IsOwn end_book Left v h
+    ended_tasks : (v : Waiter) (h : Held) → WaitsToWake h v t.now → IsOwn end_book Left v h
     ended_tasks v h i = by ((follow b s t p m (Some y) kp names o known st w).tasks h v i)
       where
         mine : holding st.mine.at ≡ Some h → subject pt.agent.errand ≡ Some v → IsOwn end_book Left v h
@@ -365,7 +365,7 @@ module _ {T : Type 0} where
             others_stand v rest.1 ∙ mid_busy names b.roll v (away_busy (post b.roll v) x.0) in
             inr (inr (subst IsAway (sym same) x.0, rest.0))
 
-        by : WaitsFor h v s.now ⊎ ((holding st.mine.at ≡ Some h) × (task_at st.mine.at ≡ Some v)) → IsOwn end_book Left v h
+        by : WaitsToWake h v s.now ⊎ ((holding st.mine.at ≡ Some h) × (task_at st.mine.at ≡ Some v)) → IsOwn end_book Left v h
         by (inl j) = before (w.tasks v h j)
         by (inr j) = mine j.0 (his_name b s t p m (Some y) kp names o known st w v j.1)
 
@@ -380,7 +380,7 @@ module _ {T : Type 0} where
 
   abbrev IsAfter : Book T → PartyId → Option (Reply T) → Option (Kept T) → List Waiter → Book T → Type 0
   IsAfter b q r kp names c =
-      (k : ℕ) × (a : Agent T) × (slice_get b.agents k ≡ Some a) × (a.party ≡ q.0) × (c ≡ ended k a r kp (with_woken names b))
+      (k : ℕ) × (a : Agent T) × (slice_get b.agents k ≡ Some a) × (a.party ≡ q.0) × (c ≡ book_ended k a r kp (with_woken names b))
 
   pub stepped_woken : (b c : Book T) (s t : Scene T Waiter) (q : PartyId) (m : Mark) (r : Option (Reply T))
       (kp : Option (Kept T)) (names : List Waiter) → Owned b s → AllKnown s.now s.under_way

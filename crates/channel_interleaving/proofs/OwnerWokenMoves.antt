@@ -20,7 +20,7 @@ use Rattle.channel_calls.specs.declared.stage.Stage.TheVariants.{Trying, Working
 use Rattle.channel_calls.specs.declared.stage.Waiting.{Waiting}
 use Rattle.channel_calls.specs.declared.stage.Work.{Work}
 use Rattle.channel_calls.specs.declared.stage.Work.TheVariants.{TellReceive, TellStreams, TellSend, TellSends, TakeRoom, TellAll, Insert, Register, Leave, Lower, Count, Load, Raise}
-use Rattle.channel_interleaving.specs.Owners.{IsAmong, holding, task_at, WaitsFor}
+use Rattle.channel_interleaving.specs.Owners.{IsAmong, holding, task_at, WaitsToWake}
 use Rattle.channel_interleaving.specs.OwnerWoken.{IsTold}
 use Rattle.channel_interleaving.proofs.OwnerKeys.{on}
 use Rattle.channel_interleaving.proofs.OwnerWokenLists.{Tells, passes, more_pass, all_pass, leaves_list, comes_in, registers_on}
@@ -80,8 +80,8 @@ module _ {T W : Type 0} where
   -- its task; whoever is woken waited, and is told.
   pub record Follows (c d : Channel T W) (names : List W) (had : Option Held) (task : Option W) : Type 0 where
     pub told : (h : Held) → (had ≡ Some h → ⊥) → IsTold h c → IsTold h d
-    pub tasks : (h : Held) (w : W) → WaitsFor h w d → WaitsFor h w c ⊎ ((had ≡ Some h) × (task ≡ Some w))
-    pub woken : (w : W) → IsAmong w names → (h : Held) × WaitsFor h w c × IsTold h d
+    pub tasks : (h : Held) (w : W) → WaitsToWake h w d → WaitsToWake h w c ⊎ ((had ≡ Some h) × (task ≡ Some w))
+    pub woken : (w : W) → IsAmong w names → (h : Held) × WaitsToWake h w c × IsTold h d
 
   as_before : (c d : Channel T W) (had : Option Held) (task : Option W)
       → ((line : Line) → listeners line d.roster ≡ listeners line c.roster) → Follows c d [] had task

@@ -8,15 +8,15 @@ use Rattle.channel_calls.specs.declared.stage.Line.{Line}
 use Rattle.channel_calls.specs.declared.stage.Line.TheVariants.{Sends, Receives, Streams, Closings}
 use Rattle.channel_model.specs.declared.call.Call.{Call}
 use Rattle.channel_model.specs.declared.name.Waiter.{Waiter}
-use Rattle.channel_steps.specs.Run.{Begins, new_scene, begun as begun_under}
+use Rattle.channel_steps.specs.Run.{Begins, new_scene, call_begun as begun_under}
 use Rattle.channel_steps.specs.Scene.{Under, Scene}
 use Rattle.channel_steps.specs.declared.party.Entry.{Entry as ChannelEntry}
 use Rattle.channel_interleaving.specs.AskedBy.{IsOrListens}
 use Rattle.channel_interleaving.specs.Bookkeeping.{asks, errand_of, names_begun}
-use Rattle.channel_interleaving.specs.Owners.{Post, free, vacant, amiss, rests, waits, polled, post, holding, subject, Together, WaitsFor, Owned}
+use Rattle.channel_interleaving.specs.Owners.{Post, free, vacant, amiss, rests, waits, polled, post, holding, subject, Together, WaitsToWake, Owned}
 use Rattle.channel_interleaving.specs.OwnerWoken.{IsAway, IsTold, NoneWorks, Works, IsOwn, WokenSound}
 use Rattle.channel_interleaving.specs.Roll.{first_roll}
-use Rattle.channel_interleaving.specs.Run.{Book, begun}
+use Rattle.channel_interleaving.specs.Run.{Book, book_begun}
 use Rattle.channel_interleaving.specs.declared.names.Agent.{Agent}
 use Rattle.channel_interleaving.specs.declared.step.PartyId.{PartyId}
 use Rattle.channel_interleaving.proofs.OwnerBegins.{IsBusy, held_in, holds_same, starts, Quiet, Touches, Admitted}
@@ -37,7 +37,7 @@ busy_away (rests line) h = absurd h
 busy_away (waits k is_woken) h = absurd h
 
 module _ (T : Type 0) where
-  nobody_waits : (cap : Option ℕ) (line : Line) (key : Key) (v : Waiter) → WaitsFor {T = T} {W = Waiter}
+  nobody_waits : (cap : Option ℕ) (line : Line) (key : Key) (v : Waiter) → WaitsToWake {T = T} {W = Waiter}
       (record { line = line; key = key }) v (new_scene cap).now → ⊥
   nobody_waits cap Sends key v i = i
   nobody_waits cap Receives key v i = i
@@ -82,12 +82,12 @@ module _ {T : Type 0} where
     Idle v x = subject x.errand ≡ Some v → ⊥
 
     begun_woken : ((v : Waiter) (h : Held) (x : Bool) → P' v ≡ waits h x → P v ≡ waits h x)
-        → ((v : Waiter) (h : Held) → IsOwn b s.under_way v h → IsOwn (begun q c b) calls v h) → WokenSound (begun q c b) t
+        → ((v : Waiter) (h : Held) → IsOwn b s.under_way v h → IsOwn (book_begun q c b) calls v h) → WokenSound (book_begun q c b) t
     begun_woken f g =
         record {
           told = λ v h i. subst (λ (d : Channel T Waiter). IsTold h d) (sym n.now) (w.told v h (f v h true i));
-          tasks = λ v h i. subst (λ (us : List (Under T Waiter)). IsOwn (begun q c b) us v h) (sym n.under_way)
-              (g v h (w.tasks v h (subst (λ (d : Channel T Waiter). WaitsFor h v d) n.now i)));
+          tasks = λ v h i. subst (λ (us : List (Under T Waiter)). IsOwn (book_begun q c b) us v h) (sym n.under_way)
+              (g v h (w.tasks v h (subst (λ (d : Channel T Waiter). WaitsToWake h v d) n.now i)));
         }
 
     more_work : (v : Waiter) (h : Held) → Works v h b.agents s.under_way → Works v h (b.agents ++ new_agent ∷ []) calls
@@ -97,10 +97,10 @@ module _ {T : Type 0} where
     none_more : (v : Waiter) → NoneWorks v b.agents → Idle v new_agent → NoneWorks v (b.agents ++ new_agent ∷ [])
     none_more v h f = all_join (Idle v) b.agents (new_agent ∷ []) h (f, tt)
 
-    quietly : Quiet P P' (errand_of b.roll c) (asks b.roll c) → WokenSound (begun q c b) t
+    quietly : Quiet P P' (errand_of b.roll c) (asks b.roll c) → WokenSound (book_begun q c b) t
     quietly k = begun_woken (λ v h x i. sym (k.same v) ∙ i) still
       where
-        still : (v : Waiter) (h : Held) → IsOwn b s.under_way v h → IsOwn (begun q c b) calls v h
+        still : (v : Waiter) (h : Held) → IsOwn b s.under_way v h → IsOwn (book_begun q c b) calls v h
         still v h (inl x) = inl (x.0, k.same v ∙ x.1)
         still v h (inr (inl x)) = inr (inl (more_work v h x))
         still v h (inr (inr x)) =
@@ -110,7 +110,7 @@ module _ {T : Type 0} where
                   (λ i. absurd (let no : None ≡ Some v = sym k.nobody ∙ i in cc)),
             ))
 
-    touching : Touches P P' (errand_of b.roll c) (asks b.roll c) → WokenSound (begun q c b) t
+    touching : Touches P P' (errand_of b.roll c) (asks b.roll c) → WokenSound (book_begun q c b) t
     touching k = begun_woken (λ v h x i. sym (k.sets.others v (not_now v h x i)) ∙ i) still
       where
         not_now : (v : Waiter) (h : Held) (x : Bool) → P' v ≡ waits h x → v ≡ k.name → ⊥
@@ -119,7 +119,7 @@ module _ {T : Type 0} where
         -- the name that is touched was pending
         taken : (v : Waiter) (h : Held) (x : Bool) → P v ≡ waits h x → v ≡ k.name
             → (subject (errand_of b.roll c) ≡ None) ⊎ (subject (errand_of b.roll c) ≡ Some k.name)
-            → IsOwn (begun q c b) calls v h
+            → IsOwn (book_begun q c b) calls v h
         taken v h x i same (inl none) =
             let away : IsAway (P' v) = subst IsAway (sym (ap P' same ∙ k.sets.there)) (busy_away k.now k.busy) in
             let idle : NoneWorks v b.agents =
@@ -136,7 +136,7 @@ module _ {T : Type 0} where
             ))
 
         pending : (v : Waiter) (h : Held) (x : Bool) → P v ≡ waits h x → (v ≡ k.name) ⊎ (v ≡ k.name → ⊥)
-            → IsOwn (begun q c b) calls v h
+            → IsOwn (book_begun q c b) calls v h
         pending v h x i (inl same) = taken v h x i same k.whose
         pending v h x i (inr other) = inl (x, k.sets.others v other ∙ i)
 
@@ -145,7 +145,7 @@ module _ {T : Type 0} where
         idle_new v other (inl none) i = absurd (let no : None ≡ Some v = sym none ∙ i in cc)
         idle_new v other (inr some) i = other (inner v k.name (sym i ∙ some))
 
-        still : (v : Waiter) (h : Held) → IsOwn b s.under_way v h → IsOwn (begun q c b) calls v h
+        still : (v : Waiter) (h : Held) → IsOwn b s.under_way v h → IsOwn (book_begun q c b) calls v h
         still v h (inl x) = pending v h x.0 x.1 (waiter_or v k.name)
         still v h (inr (inl x)) = inr (inl (more_work v h x))
         still v h (inr (inr x)) =
@@ -154,10 +154,10 @@ module _ {T : Type 0} where
             in
             inr (inr (subst IsAway (sym (k.sets.others v other)) x.0, none_more v x.1 (idle_new v other k.whose)))
 
-    pub begins_woken : Admitted b.roll c → WokenSound (begun q c b) t
+    pub begins_woken : Admitted b.roll c → WokenSound (book_begun q c b) t
     begins_woken no_refusal = by (begins_so b.roll c o.none_amiss no_refusal)
       where
         by : Quiet P P' (errand_of b.roll c) (asks b.roll c) ⊎ Touches P P' (errand_of b.roll c) (asks b.roll c)
-            → WokenSound (begun q c b) t
+            → WokenSound (book_begun q c b) t
         by (inl k) = quietly k
         by (inr k) = touching k

@@ -5,7 +5,7 @@ use Rattle.futures.specs.declared.task.Poll.TheVariants as poll
 use Rattle.concurrent_queue.specs.Queue.{Queue, is_filled}
 use Rattle.event_listener.specs.declared.key.Key.{Key}
 use Rattle.channel_alone.specs.Alone.{Outcome, Alone, AsksListener, PollsSend, Where, over_queue, appended, replaced, answers, ends, of_message, Waits, Listens}
-use Rattle.channel_alone.specs.Scenes.{Goes, LoneRun}
+use Rattle.channel_alone.specs.Scenes.{LoneRun, steps_by}
 use Rattle.channel_calls.specs.Answered.{over}
 use Rattle.channel_calls.specs.Moves.{Channel, tells_one, tells_all, registers}
 use Rattle.channel_calls.specs.Parts.{listeners, waits}
@@ -36,6 +36,7 @@ use Rattle.channel_model.specs.declared.name.HandleKind.TheVariants as handle_ki
 use Rattle.channel_model.specs.declared.name.OpId.{OpId}
 use Rattle.channel_model.specs.declared.name.Waiter.{Waiter}
 use Rattle.channel_model.specs.declared.name.Waiter.TheVariants.{Op, Stream}
+use Rattle.channel_steps.specs.Run.{EachStep, NextScene, end_of}
 use Rattle.channel_steps.specs.Scene.{Scene, brought}
 use Rattle.channel_steps.specs.declared.party.Entry.{Entry}
 use Rattle.channel_interleaving.specs.Bookkeeping.{asks}
@@ -94,13 +95,13 @@ module _ {T : Type 0} where
     by kind.Receive m e = refl
     by kind.Closing m e = refl
 
-  none_refused : (r : Roll T) (op : OpId) (o : Option (model.Operation T)) → length (brought (refusal_asked (held_of r) op o)) ≡ 0
+  none_refused : (r : Roll T) (op : OpId) (o : Option (model.ModelOperation T)) → length (brought (refusal_asked (held_of r) op o)) ≡ 0
   none_refused r op None = refl
   none_refused r op (Some (model.send handle m)) = refl
   none_refused r op (Some (model.recv handle)) = refl
   none_refused r op (Some (model.closing handle)) = refl
 
-  none_given_up : (r : Roll T) (op : OpId) (o : Option (model.Operation T)) → length (brought (giving_up_asked (held_of r) op o)) ≡ 0
+  none_given_up : (r : Roll T) (op : OpId) (o : Option (model.ModelOperation T)) → length (brought (giving_up_asked (held_of r) op o)) ≡ 0
   none_given_up r op None = refl
   none_given_up r op (Some (model.send handle m)) = refl
   none_given_up r op (Some (model.recv handle)) = refl
@@ -144,7 +145,7 @@ module _ {T : Type 0} where
   pub only_sends_bring : (r : Roll T) (w : Waiter) → brings r (poll_of w) ≡ true → is_line Sends (laws.line_of (names_of r) w) ≡ true
   only_sends_bring r (Stream receiver) e = absurd (let no : false ≡ true = e in cc)
   only_sends_bring r (Op op) e =
-      ap (λ (o : Option (model.Operation T)). is_line Sends (line_of_operation o)) (refusals.operation_at r op.0)
+      ap (λ (o : Option (model.ModelOperation T)). is_line Sends (line_of_operation o)) (refusals.operation_at r op.0)
       ∙ by (at op.0 r.operations) e
     where
       kinds : (handle : HandleId) (k : OperationKind) (m : Option T) → has_message k m ≡ true
@@ -253,26 +254,26 @@ module _ {T : Type 0} where
   abbrev all_in : Scene T Waiter → ℕ
   all_in s = s.now.queue.accepted + yet_in s.under_way
 
-  goes_brings : (s : Scene T Waiter) (p : ℕ) (xs : List (Entry T × List Waiter)) (t : Scene T Waiter) → Goes s p xs t
-      → all_in t ≤ all_in s
-  goes_brings s p [] t same = let e = ap all_in same in omega (arith, e)
-  goes_brings s p (x ∷ xs) t (silent, left, m, st, more) =
-      let b = step_brings s p x.0 x.1 m st in
+  steps_bring : (s : Scene T Waiter) (p : ℕ) (es : List (Entry T)) (ns : List (Scene T Waiter)) → EachStep NextScene s (steps_by p es) es ns
+      → all_in (end_of s ns) ≤ all_in s
+  steps_bring s p [] [] h = omega arith
+  steps_bring s p (e ∷ es) (n ∷ ns) h =
+      let b = step_brings s p e h.0.0 n h.0.1 in
       let one = b.accepted in
       let fewer = b.fewer in
-      let rest = goes_brings m p xs t more in
+      let rest = steps_bring n p es ns h.1 in
       omega (arith, one, fewer, rest)
+  steps_bring s p [] (n ∷ ns) h = absurd h
+  steps_bring s p (e ∷ es) [] h = absurd h
 
   lone_brings : (s : Scene T Waiter) (p : ℕ) (a : ChannelAsk T Waiter) (o : Outcome T Waiter) (t : Scene T Waiter) → LoneRun s p a o t
       → all_in t ≤ all_in s + length (brought a)
   lone_brings s p a o t run =
       let same = ap (λ (c : Channel T Waiter). c.queue.accepted) run.begins.now in
       let more = begin_brings s p a _ run.begun run.begins in
-      let goes = goes_brings run.begun p run.silent run.mid run.goes in
-      let b = step_brings run.mid p run.last run.names t run.ends in
-      let one = b.accepted in
-      let fewer = b.fewer in
-      omega (arith, same, more, goes, one, fewer)
+      let goes = steps_bring run.begun p run.entries run.run.moments run.run.each in
+      let end = ap all_in run.run.ends in
+      omega (arith, same, more, goes, end)
 
   came_most : (x : Reply T) → came_in x ≤ 1
   came_most (reply.TrySend (Ok u)) = omega arith

@@ -45,7 +45,7 @@ use Rattle.channel_calls.specs.declared.stage.Waiting.TheVariants as waiting
 use Rattle.channel_calls.specs.declared.stage.Work.{Work}
 use Rattle.channel_calls.specs.declared.stage.Work.TheVariants.{TellReceive, TellStreams, TellSend, TellSends, TakeRoom, TellAll, Insert, Register, Leave, Lower, Count, Load, Raise}
 use Rattle.channel_steps.specs.Count.{brought_in}
-use Rattle.channel_steps.specs.Run.{Begins, begun}
+use Rattle.channel_steps.specs.Run.{Begins, call_begun}
 use Rattle.channel_steps.specs.Scene.{Under, Scene, Steps, sees, does, unless_ended, brought}
 use Rattle.channel_steps.specs.declared.party.Entry.{Entry}
 use Rattle.channel_interleaving.specs.Positions.{yet_tried, yet_worked, yet, yet_in}
@@ -139,15 +139,6 @@ module _ {T W : Type 0} where
   refused_yet : (m : T) (key : Option Key) (task : W) → yet_after (refused_next (waiting.Send m) key task) ≡ 1
   refused_yet m None task = refl
   refused_yet m (Some key) task = refl
-
-  calm_yet : (w : Waiting T) (key : Option Key) (task : W) → ((m : T) → w ≡ waiting.Send m → ⊥) → yet_after (refused_next w key task) ≡ 0
-  calm_yet (waiting.Send m) key task other = absurd (other m refl)
-  calm_yet waiting.Receive None task other = refl
-  calm_yet waiting.Receive (Some key) task other = refl
-  calm_yet waiting.Stream None task other = refl
-  calm_yet waiting.Stream (Some key) task other = refl
-  calm_yet waiting.Closing None task other = refl
-  calm_yet waiting.Closing (Some key) task other = refl
 
   -- the turn that a reply gives may bring a message only where there was no place for it
   abbrev FewYet : Turn T W → QueueReply T → Type 0
@@ -499,7 +490,7 @@ module _ {T W : Type 0} where
       → yet_in t.under_way ≤ yet_in s.under_way + length (brought a)
   begin_brings s p a e t b =
       let more = ap yet_in b.under_way in
-      let parts = yet_parts s.under_way (begun p a b.at s.now ∷ []) in
+      let parts = yet_parts s.under_way (call_begun p a b.at s.now ∷ []) in
       let next = turned_yet (first a) b.answer b.at b.turned in
       let few = first_yet a in
       omega (arith, more, parts, next, few)

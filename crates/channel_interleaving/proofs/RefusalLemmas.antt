@@ -27,7 +27,7 @@ module _ {T : Type 0} (r : Roll T) (name : ℕ) where
 
   -- an operation is there as it is there for one call at a time
   pub operation_there : is_some (at name r.operations) ≡ is_some (at name (names_of r).operations)
-  operation_there = same (at name r.operations) ∙ sym (ap (λ (o : Option (model.Operation T)). is_some o) operation_at) where
+  operation_there = same (at name r.operations) ∙ sym (ap (λ (o : Option (model.ModelOperation T)). is_some o) operation_at) where
     same : (o : Option (Operation T)) → is_some o ≡ is_some (option_map operation_of o)
     same None = refl
     same (Some o) = refl
@@ -36,7 +36,7 @@ module _ {T : Type 0} (r : Roll T) (name : ℕ) where
   handle_there = sym handle_at
 
   pub send_there : option_map_or (λ (o : Operation T). operation_fits a_send (operation_of o)) (at name r.operations) false ≡ is_fit (names_of r) (name, a_send)
-  send_there = same (at name r.operations) ∙ sym (ap (λ (o : Option (model.Operation T)). option_map_or (operation_fits a_send) o false) operation_at) where
+  send_there = same (at name r.operations) ∙ sym (ap (λ (o : Option (model.ModelOperation T)). option_map_or (operation_fits a_send) o false) operation_at) where
     same : (o : Option (Operation T)) → option_map_or (λ (x : Operation T). operation_fits a_send (operation_of x)) o false ≡ option_map_or (operation_fits a_send) (option_map operation_of o) false
     same None = refl
     same (Some o) = refl

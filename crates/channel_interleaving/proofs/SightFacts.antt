@@ -20,7 +20,7 @@ use Rattle.channel_laws.specs.Sends.{HasPlaces}
 use Rattle.channel_laws.specs.Sound.{AllSound}
 use Rattle.channel_model.specs.declared.name.Waiter.{Waiter}
 use Rattle.channel_steps.specs.Known.{ToldAt}
-use Rattle.channel_steps.specs.Moments.{Deed}
+use Rattle.channel_steps.specs.Moments.{MarkedMoment}
 use Rattle.channel_steps.specs.Scene.{Under, Scene, Sitting, AllKnown, under_of, all_seats}
 use Rattle.channel_steps.specs.Tellings.{Telling, takings, owed_takings, owed_besides}
 use Rattle.channel_steps.specs.declared.party.Party.{Party}
@@ -79,7 +79,7 @@ module _ {T : Type 0} where
       let rest = some_counts P test f us i in
       omega (arith, first, rest)
 
-  closed_is : (ds : List (Deed T Waiter)) → HasClosed ds → any_close ds ≡ true
+  closed_is : (ds : List (MarkedMoment T Waiter)) → HasClosed ds → any_close ds ≡ true
   closed_is [] h = absurd h
   closed_is (d ∷ ds) (inl e) = ap (λ (b : Bool). b || any_close ds) (is_closing d.mark e)
   closed_is (d ∷ ds) (inr h) = ap (λ (b : Bool). is_close d.mark || b) (closed_is ds h) ∙ or_true (is_close d.mark) where
@@ -90,11 +90,11 @@ module _ {T : Type 0} where
   -- ---- what was freed
 
   -- as far as a machine number goes
-  no_more : (f : Phase T) (at : Stage (QueueCall T) T Waiter) (u : Under T Waiter) → ToldAt u.told (phase f at) u.deeds
+  no_more : (f : Phase T) (at : Stage (QueueCall T) T Waiter) (u : Under T Waiter) → ToldAt u.told (phase f at) u.marks
       → min (freed_by u) (2 ^ 64 - 1) ≤ unannounced at (doing_of u)
   no_more f (Working (Leave x)) u h =
-      let none = all_announced u.told (takings u.deeds) (owed_besides u.deeds) h in omega (arith, none)
-  no_more f at u h = let most = unless_most u.told (takings u.deeds) in omega (arith, most)
+      let none = all_announced u.told (takings u.marks) (owed_besides u.marks) h in omega (arith, none)
+  no_more f at u h = let most = unless_most u.told (takings u.marks) in omega (arith, most)
 
   module _ (now : Channel T Waiter) where
     -- where few were taken, all are counted
@@ -105,8 +105,8 @@ module _ {T : Type 0} where
     all_no_more n low [] k few = omega arith
     all_no_more n low (x ∷ xs) k few =
         let known = k.0 in
-        let most : freed_by (under_of x) ≤ takings x.deeds = unless_most x.told (takings x.deeds) in
-        let took : takings x.deeds ≤ n = few.0 in
+        let most : freed_by (under_of x) ≤ takings x.marks = unless_most x.told (takings x.marks) in
+        let took : takings x.marks ≤ n = few.0 in
         let one = no_more x.inner x.party.call.stage (under_of x) known.tells in
         let rest = all_no_more n low xs k.1 few.1 in
         omega (arith, one, rest, most, took, low)
@@ -187,7 +187,7 @@ module _ {T : Type 0} where
       streams = λ name i some. stream (o.streams name i.0 i.1) some;
       closing = λ line name i shut.
           let h = o.closing name (record { line = line; key = i.0 }) i.1 (closed_is_so ∙ shut) in
-          let one = some_counts (λ (u : Under T Waiter). HasClosed u.deeds) (λ (u : Under T Waiter). any_close u.deeds) (λ u k. closed_is u.deeds k) s.under_way h in
+          let one = some_counts (λ (u : Under T Waiter). HasClosed u.marks) (λ (u : Under T Waiter). any_close u.marks) (λ u k. closed_is u.marks k) s.under_way h in
           omega (arith, one, by_role (λ (d : Doing). d.has_closed));
     } where
       stream : (s.now.queue.items ≡ []) ⊎ AnyOf (λ u. scenes.is_sending u.ask ≡ true) s.under_way → 0 < f.messages → 0 < (sight_of f).sending
@@ -212,7 +212,7 @@ module _ {T : Type 0} where
         sends = λ name i is_open. o.sends name i.0 i.1 is_open;
         streams = λ name i some. some_send s (o.streams name i.0 i.1) some;
         closing = λ line name i shut.
-            some_counts (λ (u : Under T Waiter). HasClosed u.deeds) (λ (u : Under T Waiter). any_close u.deeds) (λ u c. closed_is u.deeds c) s.under_way
+            some_counts (λ (u : Under T Waiter). HasClosed u.marks) (λ (u : Under T Waiter). any_close u.marks) (λ u c. closed_is u.marks c) s.under_way
             (o.closing name (record { line = line; key = i.0 }) i.1 shut);
       }
 

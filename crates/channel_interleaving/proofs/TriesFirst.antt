@@ -1,10 +1,9 @@
 -- No call by names asks its listener before it tries, but a stream's poll.
 use Rattle.std.proofs.Common.{◌≡◌, false, Option, None, Some, refl}
-use Rattle.std.specs.Option.{option_map}
 use Rattle.channel_calls.specs.declared.ask.ChannelAsk.{ChannelAsk}
 use Rattle.channel_calls.specs.declared.ask.ChannelAsk.TheVariants as ask
 use Rattle.channel_calls.specs.declared.stage.Side.TheVariants.{Senders, Receivers}
-use Rattle.channel_model.specs.Asked.{Held, poll_asked, refusal_asked, giving_up_asked, drop_asked, clone_asked, upgrade_asked}
+use Rattle.channel_model.specs.Asked.{KeysHeld, poll_asked, refusal_asked, giving_up_asked, drop_asked, clone_asked, upgrade_asked}
 use Rattle.channel_model.specs.Names as model
 use Rattle.channel_model.specs.declared.call.Call.{Call}
 use Rattle.channel_model.specs.declared.call.Call.TheVariants as call
@@ -54,7 +53,7 @@ module _ (T : Type 0) where
       by handle_kind.WeakSender = refl
       by handle_kind.WeakReceiver = refl
 
-  dropped : (held : Held) (handle : HandleId) (o : Option Handle) → Tries (drop_asked held handle o)
+  dropped : (held : KeysHeld) (handle : HandleId) (o : Option Handle) → Tries (drop_asked held handle o)
   dropped held handle None = refl
   dropped held handle (Some h) = by h.kind
     where
@@ -70,20 +69,20 @@ module _ (T : Type 0) where
       by handle_kind.WeakReceiver = refl
 
 module _ {T : Type 0} where
-  polled : (held : Held) (op : OpId) (o : Option (model.Operation T)) → asks_first (poll_asked held op o) ≡ false
+  polled : (held : KeysHeld) (op : OpId) (o : Option (model.ModelOperation T)) → asks_first (poll_asked held op o) ≡ false
   polled held op None = refl
   polled held op (Some (model.send handle None)) = refl
   polled held op (Some (model.send handle (Some m))) = refl
   polled held op (Some (model.recv handle)) = refl
   polled held op (Some (model.closing handle)) = refl
 
-  refused : (held : Held) (op : OpId) (o : Option (model.Operation T)) → asks_first (refusal_asked held op o) ≡ false
+  refused : (held : KeysHeld) (op : OpId) (o : Option (model.ModelOperation T)) → asks_first (refusal_asked held op o) ≡ false
   refused held op None = refl
   refused held op (Some (model.send handle m)) = refl
   refused held op (Some (model.recv handle)) = refl
   refused held op (Some (model.closing handle)) = refl
 
-  given_up : (held : Held) (op : OpId) (o : Option (model.Operation T)) → asks_first (giving_up_asked held op o) ≡ false
+  given_up : (held : KeysHeld) (op : OpId) (o : Option (model.ModelOperation T)) → asks_first (giving_up_asked held op o) ≡ false
   given_up held op None = refl
   given_up held op (Some (model.send handle m)) = refl
   given_up held op (Some (model.recv handle)) = refl

@@ -9,7 +9,7 @@ use Rattle.channel_calls.specs.declared.reply.Reply.TheVariants as reply
 use Rattle.channel_calls.specs.declared.stage.Kept.{Kept}
 use Rattle.channel_model.proofs.WaiterLemmas.{decided}
 use Rattle.channel_model.specs.Answer.{weak_of, strong_of}
-use Rattle.channel_model.specs.Names.{Directory, at, with_changed, without, with_spent}
+use Rattle.channel_model.specs.Names.{Directory, at, with_changed, without_name, with_spent}
 use Rattle.channel_model.specs.declared.call.Call.{Call}
 use Rattle.channel_model.specs.declared.call.Call.TheVariants as call
 use Rattle.channel_model.specs.declared.name.Handle.{Handle}
@@ -21,7 +21,7 @@ use Rattle.channel_model.specs.declared.name.Waiter.{Waiter}
 use Rattle.channel_model.specs.declared.name.Waiter.TheVariants.{Op, Stream}
 use Rattle.channel_interleaving.specs.Bookkeeping.{names_begun, settled, installed, woken, all_woken, lent_by, lent_to_poll, with_operation, operation_named, handle_named, errand_of, leave_handle_of, new_from}
 use Rattle.channel_interleaving.specs.Roll.{standing_with, used_more, used_less, with_handle, with_lent, with_given_back, with_standing, unused, first_roll, handle_at}
-use Rattle.channel_interleaving.specs.Run.{Book, begun, ended, with_woken}
+use Rattle.channel_interleaving.specs.Run.{Book, book_begun, book_ended, with_woken}
 use Rattle.channel_interleaving.specs.Users.{one, uses, all_uses, FewUsers}
 use Rattle.channel_interleaving.specs.declared.names.Agent.{Agent}
 use Rattle.channel_interleaving.specs.declared.names.Errand.{Errand}
@@ -253,7 +253,7 @@ module _ {T : Type 0} where
     begun_few (call.RecvMany receiver limit) = once receiver
     begun_few (call.Close handle) = once handle
     begun_few (call.Drop handle) =
-        more_few now (λ name. length r.operations + (n name + 0)) (without handle.0 r.handles) (λ name. omega arith)
+        more_few now (λ name. length r.operations + (n name + 0)) (without_name handle.0 r.handles) (λ name. omega arith)
         (set_few now handle.0 r.handles None few (λ h e m. absurd (never h e)))
     begun_few (call.TryClone handle new) = named handle new (λ k. k)
     begun_few (call.Downgrade handle new) = named handle new weak_of
@@ -345,14 +345,14 @@ module _ {T : Type 0} where
 
   -- ---- steps
 
-  pub users_begun : (q : PartyId) (c : Call T) (b : Book T) → FewUsers b → FewUsers (begun q c b)
+  pub users_begun : (q : PartyId) (c : Call T) (b : Book T) → FewUsers b → FewUsers (book_begun q c b)
   users_begun q c b few name h i =
       let most = begun_few (λ (n : ℕ). all_uses n b.agents) b.roll few c name h i in
       let more = uses_more name b.agents (record { party = q.0; errand = errand_of b.roll c }) in
       omega (arith, most, more)
 
   pub users_ended : (k : ℕ) (a : Agent T) (y : Option (Reply T)) (left : Option (Kept T)) (names : List Waiter) (b : Book T)
-      → slice_get b.agents k ≡ Some a → FewUsers b → FewUsers (ended k a y left (with_woken names b))
+      → slice_get b.agents k ≡ Some a → FewUsers b → FewUsers (book_ended k a y left (with_woken names b))
   users_ended k a None left names b there few name h i =
       let most = all_woken_few (λ (n : ℕ). length b.roll.operations + all_uses n b.agents) names b.roll few name h i in
       let same = all_woken_length names b.roll in

@@ -1,5 +1,5 @@
 -- Whom a step wakes: how many, and that the sink has their names in order.
-use Rattle.std.proofs.Common.{arith, ◌≡◌, ℕ, zero, suc, ◌+◌, ◌≤◌, Bool, true, false, if◌then◌else◌, List, [], ◌∷◌, ◌++◌, length, take, drop, slice_get, vec_len, vec_capacity, Option, None, Some, refl, sym, ap, ◌∙◌, subst, append_assoc, append-nil, length-append}
+use Rattle.std.proofs.Common.{arith, ◌≡◌, ℕ, zero, suc, ◌+◌, ◌≤◌, Bool, true, false, if◌then◌else◌, List, [], ◌∷◌, ◌++◌, length, take, drop, vec_len, vec_capacity, Option, None, Some, refl, sym, ap, ◌∙◌, subst, append_assoc, append-nil, length-append}
 use Rattle.std.specs.Map.{remove_entry}
 use Rattle.event_listener.specs.Lists.{Notice, same_key, tasks_of, told_as, moved, passed_wakes, removed_wakes, without}
 use Rattle.event_listener.specs.Notices.{Woken}
@@ -10,7 +10,7 @@ use Rattle.channel_calls.proofs.Interface.{woken_firsts}
 use Rattle.channel_calls.specs.declared.stage.Held.{Held}
 use Rattle.channel_calls.specs.declared.stage.Line.{Line}
 use Rattle.channel_model.specs.declared.name.Waiter.{Waiter}
-use Rattle.channel_steps.specs.Tellings.{Telling, more_of, all_of, Names}
+use Rattle.channel_steps.specs.Tellings.{Telling, more_of, all_of, WokenBy}
 use Rattle.channel_interleaving.specs.Woken.{Hears}
 use Rattle.channel_interleaving.specs.declared.woken.Woken.{Woken as Sink}
 
@@ -51,12 +51,6 @@ pub drop_front : {A : Type 0} (xs ys : List A) → drop (length xs) (xs ++ ys) �
 drop_front [] ys = refl
 drop_front (x ∷ xs) ys = drop_front xs ys
 
--- the k-th is the first of those from there on
-pub drop_from : {A : Type 0} (xs : List A) (k : ℕ) (x : A) → slice_get xs k ≡ Some x → drop k xs ≡ x ∷ drop (suc k) xs
-drop_from [] k x e = absurd cc
-drop_from (y ∷ ys) zero x e = let same : y ≡ x = cc in ap (λ z. z ∷ ys) same
-drop_from (y ∷ ys) (suc k) x e = drop_from ys k x e
-
 -- ---- how many
 
 module _ {W : Type 0} where
@@ -93,7 +87,7 @@ module _ {W : Type 0} where
 
 -- no step wakes more than listen on the longest list
 module _ {T W : Type 0} (n : ℕ) (c : Channel T W) (most : (line : Line) → length (listeners line c.roster).waiting ≤ n) where
-  pub few_woken : (ts : List Telling) (h : Option Held) (names : List W) → Names ts h c names → length names ≤ n
+  pub few_woken : (ts : List Telling) (h : Option Held) (names : List W) → WokenBy ts h c names → length names ≤ n
   few_woken (more_of k line ∷ ts) h names e = let len = ap length e in omega (arith, len, few_more k (listeners line c.roster), most line)
   few_woken (all_of line ∷ ts) h names e = let len = ap length e in omega (arith, len, few_tasks (listeners line c.roster).waiting, most line)
   few_woken [] (Some h) names e = let len = ap length e in omega (arith, len, few_removed h.key (listeners h.line c.roster), most h.line)

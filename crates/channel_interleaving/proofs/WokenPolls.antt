@@ -1,5 +1,5 @@
 -- Who is pending and was woken may be polled: a stream also where a live operation borrows its receiver.
-use Rattle.std.proofs.Common.{◌≡◌, Bool, true, false, ◌&&◌, ◌||◌, not, nat_eq, List, [], ◌∷◌, Option, None, Some, is_some, inl, inr, refl, ap, ◌∙◌}
+use Rattle.std.proofs.Common.{◌≡◌, Bool, true, false, ◌&&◌, ◌||◌, nat_eq, List, [], ◌∷◌, Option, None, Some, is_some, inl, inr, refl, ap, ◌∙◌}
 use Rattle.std.specs.List.{filter}
 use Rattle.std.specs.Map.{lookup}
 use Rattle.std.specs.Option.{option_map, option_map_or}
@@ -24,7 +24,7 @@ use Rattle.channel_interleaving.specs.Order.{order_begun}
 use Rattle.channel_interleaving.specs.OwnerOrder.{was_woken, woken_in}
 use Rattle.channel_interleaving.specs.Owners.{Post, free, vacant, amiss, rests, waits, polled, no_stream_post, stream_post, operation_post, posted, post}
 use Rattle.channel_interleaving.specs.Refusal.{refusal}
-use Rattle.channel_interleaving.specs.Roll.{is_polled, is_woken, has_finished, operation_of, names_of}
+use Rattle.channel_interleaving.specs.Roll.{is_polled, operation_of, names_of}
 use Rattle.channel_interleaving.specs.declared.names.Hold.{Hold}
 use Rattle.channel_interleaving.specs.declared.names.Operation.{Operation}
 use Rattle.channel_interleaving.specs.declared.names.OperationKind.{OperationKind}
@@ -36,36 +36,6 @@ use Rattle.channel_interleaving.proofs.OwnerBegins.{Admitted}
 use Rattle.channel_interleaving.proofs.RefusalLemmas.{handle_at, operation_at}
 
 -- ---- who was woken
-
--- of an operation, by what it is and how it stands
-pub operation_woken : {T : Type 0} → (k : OperationKind) (m : Option T) (s : Standing)
-    → is_woken s && not (has_finished k m s) ≡ was_woken (operation_post k m s)
-operation_woken kind.Send None Rests = refl
-operation_woken kind.Send None (Waits key true) = refl
-operation_woken kind.Send None (Waits key false) = refl
-operation_woken kind.Send None (IsPolled b) = refl
-operation_woken kind.Send (Some m) Rests = refl
-operation_woken kind.Send (Some m) (Waits key true) = refl
-operation_woken kind.Send (Some m) (Waits key false) = refl
-operation_woken kind.Send (Some m) (IsPolled b) = refl
-operation_woken kind.Receive m Rests = refl
-operation_woken kind.Receive m (Waits key true) = refl
-operation_woken kind.Receive m (Waits key false) = refl
-operation_woken kind.Receive m (IsPolled b) = refl
-operation_woken kind.Closing m Rests = refl
-operation_woken kind.Closing m (Waits key true) = refl
-operation_woken kind.Closing m (Waits key false) = refl
-operation_woken kind.Closing m (IsPolled b) = refl
-
-pub stream_woken : (s : Standing) → is_woken s ≡ was_woken (stream_post handle_kind.Receiver s)
-stream_woken Rests = refl
-stream_woken (Waits key w) = refl
-stream_woken (IsPolled b) = refl
-
-pub no_stream_woken : (s : Standing) → false ≡ was_woken (no_stream_post s)
-no_stream_woken Rests = refl
-no_stream_woken (Waits key w) = refl
-no_stream_woken (IsPolled b) = refl
 
 -- who passes is among those before, and passes
 pub among_filter : (p : Waiter → Bool) (w : Waiter) (ws : List Waiter) → is_among w (filter p ws) ≡ true
@@ -158,8 +128,8 @@ module _ {T : Type 0} where
       let there : at op.0 r.operations ≡ Some x.0 = ap (λ (o : Option (Option (Operation T))). option_map_or (λ (y : Option (Operation T)). y) o None) x.1 in
       let seen : at op.0 (names_of r).operations ≡ Some (operation_of x.0) = operation_at r op.0 ∙ ap (λ (o : Option (Operation T)). option_map operation_of o) there in
       record {
-        live = ap (λ (o : Option (model.Operation T)). is_some o && true) seen;
-        fit = ap (λ (o : Option (model.Operation T)). option_map_or (operation_fits an_operation) o false && true) seen;
+        live = ap (λ (o : Option (model.ModelOperation T)). is_some o && true) seen;
+        fit = ap (λ (o : Option (model.ModelOperation T)). option_map_or (operation_fits an_operation) o false && true) seen;
         free_of_polls = ap (λ (o : Option (Operation T)). option_map_or (λ (y : Operation T). is_polled y.standing) o false) there ∙ x.2;
         new = refl;
       }

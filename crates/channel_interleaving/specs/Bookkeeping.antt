@@ -9,7 +9,7 @@ use Rattle.channel_calls.specs.declared.reply.Reply.TheVariants as reply
 use Rattle.channel_calls.specs.declared.stage.Kept.{Kept}
 use Rattle.channel_model.specs.Answer.{weak_of, strong_of}
 use Rattle.channel_model.specs.Asked.{asked, poll_asked, refusal_asked, giving_up_asked, drop_asked, clone_asked, upgrade_asked}
-use Rattle.channel_model.specs.Names.{at, with_spent, with_changed, without}
+use Rattle.channel_model.specs.Names.{at, with_spent, with_changed, without_name}
 use Rattle.channel_model.specs.declared.call.Call.{Call}
 use Rattle.channel_model.specs.declared.call.Call.TheVariants as call
 use Rattle.channel_model.specs.declared.name.Handle.{Handle}
@@ -20,7 +20,7 @@ use Rattle.event_listener.specs.declared.key.Key.{Key}
 use Rattle.channel_model.specs.declared.name.OpId.{OpId}
 use Rattle.channel_model.specs.declared.name.Waiter.{Waiter}
 use Rattle.channel_model.specs.declared.name.Waiter.TheVariants as waiter
-use Rattle.channel_interleaving.specs.Roll.{key_of, standing_with, told, is_finished, names_of, operation_at, handle_at, held_of, with_handle, with_lent, with_given_back, with_standing}
+use Rattle.channel_interleaving.specs.Roll.{key_of, standing_with, told, is_done, names_of, operation_at, handle_at, held_of, with_handle, with_lent, with_given_back, with_standing}
 use Rattle.channel_interleaving.specs.declared.beginning.Begun.{Begun}
 use Rattle.channel_interleaving.specs.declared.names.Errand.{Errand}
 use Rattle.channel_interleaving.specs.declared.names.Errand.TheVariants.{Nothing, Leave, LeaveBoth, Make, Poll, PollNext, New}
@@ -39,7 +39,7 @@ module _ {T : Type 0} where
   asks r (call.Poll op) = poll_asked (held_of r) op (operation_at op r)
   asks r (call.PollRefused op) = refusal_asked (held_of r) op (operation_at op r)
   asks r (call.GiveUp op) = giving_up_asked (held_of r) op (operation_at op r)
-  asks r (call.SendIsTerminated op) = ask.SendIsTerminated (option_map_or is_finished (at op.0 r.operations) false)
+  asks r (call.SendIsTerminated op) = ask.SendIsTerminated (option_map_or is_done (at op.0 r.operations) false)
   asks r (call.Drop handle) = drop_asked (held_of r) handle (handle_at handle r)
   asks r (call.TryClone handle new) = clone_asked (handle_at handle r)
   asks r (call.Upgrade weak new) = upgrade_asked (handle_at weak r)
@@ -116,7 +116,7 @@ module _ {T : Type 0} where
   names_begun r (call.NewClosed op sender) = with_lent sender (operation_named op r)
   names_begun r (call.Poll op) = with_operation lent_to_poll op r
   names_begun r (call.PollRefused op) = with_operation lent_to_poll op r
-  names_begun r (call.GiveUp op) = record r { operations = without op.0 r.operations }
+  names_begun r (call.GiveUp op) = record r { operations = without_name op.0 r.operations }
   names_begun r (call.SendIsTerminated op) = lent_by (at op.0 r.operations) r
   names_begun r (call.PollNext receiver) = with_lent receiver (with_standing (IsPolled false) receiver r)
   names_begun r (call.StreamIsTerminated receiver) = with_lent receiver r
@@ -125,7 +125,7 @@ module _ {T : Type 0} where
   names_begun r (call.TryRecv receiver) = with_lent receiver r
   names_begun r (call.RecvMany receiver limit) = with_lent receiver r
   names_begun r (call.Close handle) = with_lent handle r
-  names_begun r (call.Drop handle) = record r { handles = without handle.0 r.handles }
+  names_begun r (call.Drop handle) = record r { handles = without_name handle.0 r.handles }
   names_begun r (call.TryClone handle new) = with_lent handle (handle_named new r)
   names_begun r (call.Downgrade handle new) = with_lent handle (handle_named new r)
   names_begun r (call.Upgrade weak new) = with_lent weak (handle_named new r)

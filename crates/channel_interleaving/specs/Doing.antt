@@ -7,7 +7,7 @@ use Rattle.channel_calls.specs.declared.mark.Mark.{Mark}
 use Rattle.channel_calls.specs.declared.mark.Mark.TheVariants.{Take, Close}
 use Rattle.channel_calls.specs.declared.reply.Reply.{Reply}
 use Rattle.channel_calls.specs.declared.stage.Line.TheVariants.{Sends, Receives}
-use Rattle.channel_steps.specs.Moments.{Deed}
+use Rattle.channel_steps.specs.Moments.{MarkedMoment}
 use Rattle.channel_steps.specs.Scene.{Under}
 use Rattle.channel_steps.specs.Tellings.{takings}
 use Rattle.channel_interleaving.specs.declared.doing.Doing.{Doing}
@@ -46,13 +46,13 @@ module _ {T W : Type 0} where
   abbrev pub doing_begun : ChannelAsk T W → Doing
   doing_begun a = record { role = role_of a; has_closed = false; taken = 0 }
 
-  abbrev pub any_close : List (Deed T W) → Bool
+  abbrev pub any_close : List (MarkedMoment T W) → Bool
   any_close [] = false
   any_close (d ∷ ds) = is_close d.mark || any_close ds
 
   -- what a call under way is in a scene; its takings are counted as far as a machine number goes
   abbrev pub doing_of : Under T W → Doing
-  doing_of u = record { role = role_of u.ask; has_closed = any_close u.deeds; taken = min (takings u.deeds) (2 ^ 64 - 1) }
+  doing_of u = record { role = role_of u.ask; has_closed = any_close u.marks; taken = min (takings u.marks) (2 ^ 64 - 1) }
 
 module _ {T : Type 0} where
   -- the calls under way after a step of the k-th with this mark, which is under way no more if it has answered

@@ -10,7 +10,7 @@ use Rattle.channel_model.specs.declared.call.Call.{Call}
 use Rattle.channel_model.specs.declared.name.Waiter.{Waiter}
 use Rattle.channel_steps.specs.Left.{all_left, left_at}
 use Rattle.channel_steps.specs.Run.{new_scene, Accounts, Touches}
-use Rattle.channel_steps.specs.Scene.{Under, Scene, Represents, HoldNobodyUp, blocks_after, parties_in}
+use Rattle.channel_steps.specs.Scene.{Under, Scene, Represents, OthersQuiet, blocks_after, parties_in}
 use Rattle.channel_steps.specs.Tellings.{takings}
 use Rattle.channel_interleaving.specs.Doing.{doing_of}
 use Rattle.channel_interleaving.specs.Owed.{Sight, Owed, is_sending, is_receiving, all_unannounced}
@@ -66,7 +66,7 @@ module _ {T : Type 0} where
     pub positions : HasOnePlace f ⊎ AreCounted f s
     pub messages : f.messages ≡ length s.now.queue.items
     pub doings : f.doings.items ≡ map doing_of s.under_way
-    pub few : All (λ (u : Under T Waiter). takings u.deeds ≤ s.now.queue.removed) s.under_way
+    pub few : All (λ (u : Under T Waiter). takings u.marks ≤ s.now.queue.removed) s.under_way
 
   -- the parties at work are those whose calls are under way, in the same order
   abbrev pub AreAtWork : Floor T → Type 0
@@ -132,7 +132,7 @@ module _ {T : Type 0} where
     pub at_work : AreAtWork f
 
   -- a channel that was just opened: its first sender and its first receiver live, and nobody is at work
-  pub record IsOpen (capacity : Option ℕ) (f : Floor T) : Type 0 where
+  pub record IsJustOpened (capacity : Option ℕ) (f : Floor T) : Type 0 where
     pub stands : StandsIn f (new_scene capacity)
     pub book : book_of f ≡ record { roll = first_roll; order = []; agents = [] }
 
@@ -140,11 +140,11 @@ module _ {T : Type 0} where
   abbrev pub lefts_in : Floor T → List ℕ
   lefts_in f = all_left (parts_in f) f.parties.items
 
-  -- where the others hold nobody up, a step that does not end its call leaves it fewer
+  -- where the others are quiet, a step that does not end its call leaves it fewer
   abbrev pub Nearer : (x : Step T) (old : Floor T) (e : Entry T) (new : Floor T) (s t : Scene T Waiter) → Made (book_of old) s x e (book_of new) t → Type 0
   Nearer (step.Begin p c) old e new s t made = Unit {0}
   Nearer (step.Step p) old e new s t made =
-      e.reply ≡ None → HoldNobodyUp s.now (made.next.before ++ made.next.behind)
+      e.reply ≡ None → OthersQuiet s.now (made.next.before ++ made.next.behind)
       → left_at (length made.next.before) (lefts_in new) < left_at (length made.next.before) (lefts_in old)
 
   -- a step that was made, from any scene that was shown

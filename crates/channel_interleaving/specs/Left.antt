@@ -1,4 +1,4 @@
--- How many more steps of its own the call of a party makes at most, where the others hold it up no more.
+-- How many more steps of its own the call of a party makes at most, where the others are quiet.
 use Rattle.std.specs.Prelude.{ℕ, ◌==◌, List, [], ◌∷◌, if◌then◌else◌}
 use Rattle.channel_calls.specs.Parts.{Parts}
 use Rattle.channel_model.specs.declared.name.Waiter.{Waiter}
@@ -8,9 +8,9 @@ use Rattle.channel_steps.specs.declared.party.Party.{Party}
 
 module _ {T : Type 0} where
   -- the calls under way but that of this party
-  abbrev pub others_of : ℕ → List (Under T Waiter) → List (Under T Waiter)
-  others_of p [] = []
-  others_of p (u ∷ us) = if u.party == p then us else u ∷ others_of p us
+  abbrev pub calls_of_others : ℕ → List (Under T Waiter) → List (Under T Waiter)
+  calls_of_others p [] = []
+  calls_of_others p (u ∷ us) = if u.party == p then us else u ∷ calls_of_others p us
 
   -- how many messages the call of this party may take more than one
   abbrev pub wanted_of : ℕ → List (Under T Waiter) → ℕ

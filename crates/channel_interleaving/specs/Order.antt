@@ -1,7 +1,7 @@
 -- The order of waking. Each name that may be woken has a place, and whoever is woken comes last.
 use Rattle.std.specs.Prelude.{List, [], ◌∷◌, ◌++◌, if◌then◌else◌, Option, None, Some}
 use Rattle.event_listener.specs.declared.key.Key.{Key}
-use Rattle.channel_model.specs.Lines.{is_among, without}
+use Rattle.channel_model.specs.Lines.{is_among, without_waiter}
 use Rattle.channel_model.specs.declared.call.Call.{Call}
 use Rattle.channel_model.specs.declared.call.Call.TheVariants as call
 use Rattle.channel_model.specs.declared.name.Waiter.{Waiter}
@@ -15,7 +15,7 @@ placed w ws = if is_among w ws then ws else w ∷ ws
 
 -- w is woken: it comes last, if it has a place
 abbrev pub moved_last : Waiter → List Waiter → List Waiter
-moved_last w ws = if is_among w ws then without w ws ++ w ∷ [] else ws
+moved_last w ws = if is_among w ws then without_waiter w ws ++ w ∷ [] else ws
 
 -- these are woken, one after another
 abbrev pub all_moved_last : List Waiter → List Waiter → List Waiter
@@ -24,7 +24,7 @@ all_moved_last (n ∷ names) ws = all_moved_last names (moved_last n ws)
 
 -- after a poll that left this listener, or none: with none it may not be woken any more
 abbrev pub kept_place : Waiter → Option Key → List Waiter → List Waiter
-kept_place w None ws = without w ws
+kept_place w None ws = without_waiter w ws
 kept_place w (Some key) ws = ws
 
 module _ {T : Type 0} where
@@ -33,8 +33,8 @@ module _ {T : Type 0} where
   order_begun (call.Poll op) ws = placed (Op op) ws
   order_begun (call.PollRefused op) ws = placed (Op op) ws
   order_begun (call.PollNext receiver) ws = placed (Stream receiver) ws
-  order_begun (call.GiveUp op) ws = without (Op op) ws
-  order_begun (call.Drop handle) ws = without (Stream handle) ws
+  order_begun (call.GiveUp op) ws = without_waiter (Op op) ws
+  order_begun (call.Drop handle) ws = without_waiter (Stream handle) ws
   order_begun c ws = ws
 
   -- after a call with this errand that left this listener, or none

@@ -7,7 +7,7 @@ use Rattle.channel_calls.specs.declared.stage.Held.{Held}
 use Rattle.channel_calls.specs.declared.stage.Line.{Line}
 use Rattle.channel_model.specs.declared.name.Waiter.{Waiter}
 use Rattle.channel_steps.specs.Scene.{Under, Scene}
-use Rattle.channel_interleaving.specs.Owners.{IsAmong, All, Post, vacant, polled, waits, post, holding, subject, WaitsFor, AnyOf}
+use Rattle.channel_interleaving.specs.Owners.{IsAmong, All, Post, vacant, polled, waits, post, holding, subject, WaitsToWake, AnyOf}
 use Rattle.channel_interleaving.specs.Run.{Book}
 use Rattle.channel_interleaving.specs.declared.names.Agent.{Agent}
 
@@ -46,4 +46,4 @@ module _ {T : Type 0} where
 
   pub record WokenSound (b : Book T) (s : Scene T Waiter) : Type 0 where
     pub told : WokenAreTold b s
-    pub tasks : (w : Waiter) (h : Held) → WaitsFor h w s.now → IsOwn b s.under_way w h
+    pub tasks : (w : Waiter) (h : Held) → WaitsToWake h w s.now → IsOwn b s.under_way w h

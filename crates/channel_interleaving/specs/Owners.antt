@@ -262,8 +262,8 @@ module _ {T W : Type 0} where
   IsListed h c = IsAmong h.key (keys (listeners h.line c.roster))
 
   -- it waits, to wake this task
-  abbrev pub WaitsFor : Held → W → Channel T W → Type 0
-  WaitsFor h task c = IsAmong (h.key, Some task) (listeners h.line c.roster).waiting
+  abbrev pub WaitsToWake : Held → W → Channel T W → Type 0
+  WaitsToWake h task c = IsAmong (h.key, Some task) (listeners h.line c.roster).waiting
 
   abbrev pub NoneListedTwice : Channel T W → Type 0
   NoneListedTwice c = (line : Line) → NoneTwice (keys (listeners line c.roster))
@@ -293,7 +293,7 @@ module _ {T : Type 0} where
     pub differ : AllDiffer b.agents
     pub none_amiss : (w : Waiter) → post b.roll w ≡ amiss → ⊥
     pub once : NoneListedTwice s.now
-    pub unwoken : (w : Waiter) (h : Held) → post b.roll w ≡ waits h false → WaitsFor h w s.now
+    pub unwoken : (w : Waiter) (h : Held) → post b.roll w ≡ waits h false → WaitsToWake h w s.now
     pub listed : (x : Holder) (h : Held) → HoldsIn (post b.roll) s.under_way x h → IsListed h s.now
     pub held : (h : Held) → IsListed h s.now → (x : Holder) × HoldsIn (post b.roll) s.under_way x h
     pub alone : (x y : Holder) (h : Held) → HoldsIn (post b.roll) s.under_way x h → HoldsIn (post b.roll) s.under_way y h → x ≡ y

@@ -5,7 +5,7 @@ use Rattle.std.specs.Option.{option_map, option_map_or}
 use Rattle.event_listener.specs.declared.key.Key.{Key}
 use Rattle.channel_calls.specs.declared.stage.Line.{Line}
 use Rattle.channel_calls.specs.declared.stage.Line.TheVariants.{Sends, Receives, Closings}
-use Rattle.channel_model.specs.Asked.{Held}
+use Rattle.channel_model.specs.Asked.{KeysHeld}
 use Rattle.channel_model.specs.Names.{Directory, Names, at, with_changed}
 use Rattle.channel_model.specs.Names as model
 use Rattle.channel_model.specs.declared.name.Handle.{Handle}
@@ -69,11 +69,11 @@ module _ {T : Type 0} where
   has_finished Send None s = not (is_lent s)
   has_finished kind m s = false
 
-  abbrev pub is_finished : Operation T → Bool
-  is_finished o = has_finished o.kind o.message o.standing
+  abbrev pub is_done : Operation T → Bool
+  is_done o = has_finished o.kind o.message o.standing
 
   -- an operation as one call at a time sees it
-  abbrev pub operation_of : Operation T → model.Operation T
+  abbrev pub operation_of : Operation T → model.ModelOperation T
   operation_of o = elim o.kind [ Send ↦ model.send o.handle o.message | Receive ↦ model.recv o.handle | Closing ↦ model.closing o.handle ]
 
 -- ---- all names
@@ -100,7 +100,7 @@ module _ {T : Type 0} where
   abbrev pub handle_at : HandleId → Roll T → Option Handle
   handle_at handle r = option_map (λ (h : Hold). h.handle) (at handle.0 r.handles)
 
-  abbrev pub operation_at : OpId → Roll T → Option (model.Operation T)
+  abbrev pub operation_at : OpId → Roll T → Option (model.ModelOperation T)
   operation_at op r = option_map operation_of (at op.0 r.operations)
 
   -- all that lives, as one call at a time sees it
@@ -111,7 +111,7 @@ module _ {T : Type 0} where
   }
 
   -- the listener that each holds that is pending
-  abbrev pub held_of : Roll T → Held
+  abbrev pub held_of : Roll T → KeysHeld
   held_of r = λ w. elim w [
     | Op op ↦ option_map_or (λ (o : Operation T). key_of o.standing) (at op.0 r.operations) None
     | Stream handle ↦ option_map_or (λ (h : Hold). key_of h.standing) (at handle.0 r.handles) None

@@ -39,8 +39,8 @@ module _ {T : Type 0} where
   channel_step r (step.Step p) = channel.Step p.0
 
   -- a call has begun
-  abbrev pub begun : PartyId → Call T → Book T → Book T
-  begun p c b = record {
+  abbrev pub book_begun : PartyId → Call T → Book T → Book T
+  book_begun p c b = record {
     roll = names_begun b.roll c;
     order = order_begun c b.order;
     agents = b.agents ++ record { party = p.0; errand = errand_of b.roll c } ∷ [];
@@ -50,9 +50,9 @@ module _ {T : Type 0} where
   with_woken names b = record b { roll = all_woken names b.roll; order = all_moved_last names b.order }
 
   -- the k-th call has ended, with this reply, and left this: it writes back what it has to, and its party is at work no more
-  abbrev pub ended : ℕ → Agent T → Option (Reply T) → Option (Kept T) → Book T → Book T
-  ended k a None kept b = b
-  ended k a (Some r) kept b =
+  abbrev pub book_ended : ℕ → Agent T → Option (Reply T) → Option (Kept T) → Book T → Book T
+  book_ended k a None kept b = b
+  book_ended k a (Some r) kept b =
       let left : Kept T = unwrap_or kept nothing_kept in
       record {
         roll = settled a.errand r left b.roll;
@@ -62,10 +62,10 @@ module _ {T : Type 0} where
 
   -- the book after a step that answers this or nothing, leaves this and wakes these
   abbrev pub IsBookOf : Step T → Option (Reply T) → Option (Kept T) → List Waiter → Book T → Book T → Type 0
-  IsBookOf (step.Begin p c) reply kept names old new = new ≡ begun p c old
+  IsBookOf (step.Begin p c) reply kept names old new = new ≡ book_begun p c old
   IsBookOf (step.Step p) reply kept names old new =
       (k : ℕ) × (a : Agent T) × (slice_get old.agents k ≡ Some a) × (a.party ≡ p.0)
-      × (new ≡ ended k a reply kept (with_woken names old))
+      × (new ≡ book_ended k a reply kept (with_woken names old))
 
   -- after one with this entry
   abbrev pub IsBookAfter : Step T → Entry T → Option (Kept T) → Book T → Book T → Type 0
@@ -82,15 +82,15 @@ module _ {T : Type 0} where
   -- ---- the end of a run
 
   -- a step is refused for the first reason that there is, or for want of room where there is none
-  abbrev pub MayRefuse : Book T → Step T → WorldRefusal → Type 0
-  MayRefuse b x why = (step_refusal b.roll b.agents x ≡ Some why) ⊎ ((step_refusal b.roll b.agents x ≡ None) × (why ≡ NoMemory))
+  abbrev pub MayRefuseStep : Book T → Step T → WorldRefusal → Type 0
+  MayRefuseStep b x why = (step_refusal b.roll b.agents x ≡ Some why) ⊎ ((step_refusal b.roll b.agents x ≡ None) × (why ≡ NoMemory))
 
-  abbrev pub MayStop : Book T → Step T → Option WorldRefusal → Type 0
-  MayStop b x None = step_refusal b.roll b.agents x ≡ None
-  MayStop b x (Some why) = MayRefuse b x why
+  abbrev pub MayStopAt : Book T → Step T → Option WorldRefusal → Type 0
+  MayStopAt b x None = step_refusal b.roll b.agents x ≡ None
+  MayStopAt b x (Some why) = MayRefuseStep b x why
 
   -- the list is at its end, or the step in front is refused, at the place that says how many were made
-  abbrev pub Stops : Book T → List (Step T) → ℕ → Option Stopped → Type 0
-  Stops b left made None = left ≡ []
-  Stops b [] made (Some stopped) = ⊥
-  Stops b (x ∷ xs) made (Some stopped) = (stopped.place ≡ made) × MayRefuse b x stopped.why
+  abbrev pub StopsAt : Book T → List (Step T) → ℕ → Option Stopped → Type 0
+  StopsAt b left made None = left ≡ []
+  StopsAt b [] made (Some stopped) = ⊥
+  StopsAt b (x ∷ xs) made (Some stopped) = (stopped.place ≡ made) × MayRefuseStep b x stopped.why

@@ -1,13 +1,14 @@
 -- Runs: what may follow from steps of many parties in any order, by names, and what holds at each moment of them.
-use Rattle.std.specs.Prelude.{◌≡◌, ℕ, ◌+◌, ◌*◌, ◌<◌, ◌≤◌, List, [], ◌∷◌, ◌++◌, length, None}
+use Rattle.std.specs.Prelude.{◌≡◌, ℕ, ◌+◌, ◌<◌, ◌≤◌, List, [], ◌∷◌, ◌++◌, length, None}
 use Rattle.channel_calls.specs.Parts.{Parts}
 use Rattle.channel_model.specs.declared.name.Waiter.{Waiter}
 use Rattle.channel_steps.specs.Count.{brought_in, taken_out}
-use Rattle.channel_steps.specs.Run.{EachStep, end_of, Accounts, Touches}
-use Rattle.channel_steps.specs.Scene.{Scene, HoldNobodyUp, blocks_after}
+use Rattle.channel_steps.specs.Left.{most_left}
+use Rattle.channel_steps.specs.Run.{IsRun, Accounts, Touches}
+use Rattle.channel_steps.specs.Scene.{Scene, OthersQuiet, blocks_after}
 use Rattle.channel_interleaving.specs.Floor.{parts_in, book_of, StandsIn}
 use Rattle.channel_interleaving.specs.Kept.{AllKept}
-use Rattle.channel_interleaving.specs.Left.{left_of, others_of, wanted_of}
+use Rattle.channel_interleaving.specs.Left.{left_of, calls_of_others, wanted_of}
 use Rattle.channel_interleaving.specs.Run.{Book, Made, channel_step}
 use Rattle.channel_interleaving.specs.declared.floor.Floor.{Floor}
 use Rattle.channel_interleaving.specs.declared.step.Entry.{Entry}
@@ -15,7 +16,7 @@ use Rattle.channel_interleaving.specs.declared.step.Step.{Step}
 use Rattle.channel_interleaving.specs.declared.step.Step.TheVariants as step
 
 -- a moment: what the cells hold, the channel with its calls under way, the book, and how many more steps of its own the call of
--- each party makes at most, where nobody holds it up
+-- each party makes at most, where the others are quiet
 pub record Moment (T : Type 0) : Type 0 where
   pub parts : Parts T Waiter
   pub scene : Scene T Waiter
@@ -33,10 +34,9 @@ module _ {T : Type 0} where
     pub moment : m ≡ moment_of f m.scene
     pub stands : StandsIn f m.scene
 
-  -- no call has more steps of its own left than these, where nobody holds it up: 64 more for each message that it may take more
-  -- than one
+  -- no call has more steps of its own left than these, where the others are quiet
   abbrev pub FewLeft : Moment T → Type 0
-  FewLeft m = (party : ℕ) → m.left party ≤ 197 + 64 * wanted_of party m.scene.under_way
+  FewLeft m = (party : ℕ) → m.left party ≤ most_left (wanted_of party m.scene.under_way)
 
   -- what holds at every moment: it is one of a channel that stands in its scene, all is kept, and few steps are left
   pub record Holds (m : Moment T) : Type 0 where
@@ -45,11 +45,11 @@ module _ {T : Type 0} where
     pub kept : AllKept m.book m.scene
     pub few : FewLeft m
 
-  -- a step of a call that the others do not hold up, and that does not end it, leaves it fewer
+  -- where the others are quiet a step of a call that does not end it leaves it fewer
   abbrev pub ComesNearer : Moment T → Step T → Entry T → Moment T → Type 0
   ComesNearer m (step.Begin p c) e n = Unit {0}
   ComesNearer m (step.Step p) e n =
-      e.reply ≡ None → HoldNobodyUp m.scene.now (others_of p.0 m.scene.under_way) → n.left p.0 < m.left p.0
+      e.reply ≡ None → OthersQuiet m.scene.now (calls_of_others p.0 m.scene.under_way) → n.left p.0 < m.left p.0
 
   -- a step leads from one moment to the next: nothing refused it, at most one cell, list or count differs after it, the blocks are
   -- those that it leaves, and its call comes nearer to its end where the others let it
@@ -77,11 +77,9 @@ module _ {T : Type 0} where
   pub record Ran (steps left : List (Step T)) (old : Floor T) (trace : List (Entry T)) (new : Floor T)
       (s : Scene T Waiter) : Type 0 where
     pub made : List (Step T)
-    pub moments : List (Moment T)
     pub last : Scene T Waiter
     pub first : steps ≡ made ++ left
-    pub run : EachStep LeadsBy (moment_of old s) made trace moments
-    pub ends : end_of (moment_of old s) moments ≡ moment_of new last
+    pub run : IsRun LeadsBy (moment_of old s) made trace (moment_of new last)
     pub stands : StandsIn new last
     pub accounts : Accounts s last
     pub numbers : length last.now.queue.items + left_in trace ≡ length s.now.queue.items + accepted_in trace

@@ -16,7 +16,7 @@ unless_told (t ∷ ts) n = 0
 module _ {T : Type 0} where
   -- the places that a call has freed by taking messages, while it has told nobody of them
   abbrev pub freed_by : Under T Waiter → ℕ
-  freed_by u = unless_told u.told (takings u.deeds)
+  freed_by u = unless_told u.told (takings u.marks)
 
   abbrev pub all_freed : List (Under T Waiter) → ℕ
   all_freed [] = 0
@@ -31,6 +31,6 @@ module _ {T : Type 0} where
     closed = s.now.queue.closed;
     sending = count_by (λ (u : Under T Waiter). is_sending (role_of u.ask)) s.under_way;
     receiving = count_by (λ (u : Under T Waiter). is_receiving (role_of u.ask)) s.under_way;
-    closers = count_by (λ (u : Under T Waiter). any_close u.deeds) s.under_way;
+    closers = count_by (λ (u : Under T Waiter). any_close u.marks) s.under_way;
     freed = all_freed s.under_way;
   }

@@ -111,7 +111,7 @@ impl<T: Drop> Roll<T> {
 }
 
 ghost use Rattle.std.specs.Prelude.{◌≡◌, ◌<◌, vec_len, slice_get, Some};
-ghost use Rattle.channel_interleaving.specs.Run.{ended};
+ghost use Rattle.channel_interleaving.specs.Run.{book_ended};
 ghost use Rattle.channel_interleaving.specs.declared.names.Agent.{Agent};
 
 /// The k-th call writes back what it has to, if it has answered, and its party is at work no more then.
@@ -126,7 +126,7 @@ pub(crate) fn write_back<T: Drop>(
     requires { k < vec_len agents.old }
     ensures { (a : Agent T) → slice_get agents.old.items k ≡ Some a
         → record { roll = roll.new; order = order.new; agents = agents.new.items }
-        ≡ ended k a reply.now kept (record { roll = roll.old; order = order.old; agents = agents.old.items }) }
+        ≡ book_ended k a reply.now kept (record { roll = roll.old; order = order.old; agents = agents.old.items }) }
 {
     if let Some(reply) = reply {
         let Agent { party: _, errand } = agents.remove(k);

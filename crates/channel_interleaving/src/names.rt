@@ -126,11 +126,11 @@ pub struct Operation<T> {
 
 impl<T> Operation<T> {
     ghost use Rattle.std.specs.Prelude.{◌≡◌};
-    ghost use Rattle.channel_interleaving.specs.Roll.{is_finished};
+    ghost use Rattle.channel_interleaving.specs.Roll.{is_done};
 
     /// Whether a poll has finished a send: its message is gone, and no poll under way has it.
     pub(crate) fn is_finished(&self) -> bool
-        ensures { result ≡ is_finished self.now }
+        ensures { result ≡ is_done self.now }
     {
         match (self.kind, &self.message, self.standing) {
             (OperationKind::Send, None, Standing::IsPolled { brings }) => !brings,

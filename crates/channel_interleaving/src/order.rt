@@ -32,7 +32,7 @@ impl Model for Order {
 
 impl Order {
     ghost use Rattle.std.specs.Prelude.{◌≡◌, [], IfOk, OnOk, OnErr};
-    ghost use Rattle.channel_model.specs.Lines.{without};
+    ghost use Rattle.channel_model.specs.Lines.{without_waiter};
     ghost use Rattle.channel_interleaving.specs.Order.{placed, moved_last, all_moved_last, kept_place};
     ghost use Rattle.channel_interleaving.specs.OwnerOrder.{woken_in};
 
@@ -69,7 +69,7 @@ impl Order {
 
     /// w has no place any more.
     pub(crate) fn leave(&mut self, w: Waiter)
-        ensures { self.new ≡ without w self.old }
+        ensures { self.new ≡ without_waiter w self.old }
     {
         let _length = self.places.len();
         let _removed = self.places.pop(&w);

@@ -1,5 +1,5 @@
 -- Words that are left on a line, and words of a language.
-use Rattle.std.proofs.Common.{arith, ◌≡◌, ℕ, List, [], ◌∷◌, ◌++◌, length, ◌==◌, Bool, true, false, if◌then◌else◌, None, Some, refl, sym}
+use Rattle.std.proofs.Common.{arith, ◌≡◌, ℕ, List, [], ◌∷◌, ◌++◌, length, ◌==◌, Bool, true, false, if◌then◌else◌, None, Some, sym}
 use Rattle.std.specs.Str.{bytes_eq}
 use Rattle.channel_language.specs.Command.{for_word}
 use Rattle.std.proofs.lemmas.List.Splits.{length-slice_split}
@@ -17,13 +17,4 @@ word_in_front word (e ∷ es) ys x h = by (λ k. word_in_front word es ys x k) (
   where
     by : (Some x ≡ for_word word es → for_word word (es ++ ys) ≡ Some x) → (b : Bool) → Some x ≡ (if b then Some e.1 else for_word word es) → (if b then Some e.1 else for_word word (es ++ ys)) ≡ Some x
     by on true i = sym i
-    by on false i = on i
-
--- and one that doesn't
-pub word_behind : {X : Type 0} (word : List ℕ) (xs ys : List (List ℕ × X)) → None ≡ for_word word xs → for_word word (xs ++ ys) ≡ for_word word ys
-word_behind word [] ys h = refl
-word_behind word (e ∷ es) ys h = by (λ k. word_behind word es ys k) (bytes_eq word e.0) h
-  where
-    by : (None ≡ for_word word es → for_word word (es ++ ys) ≡ for_word word ys) → (b : Bool) → None ≡ (if b then Some e.1 else for_word word es) → (if b then Some e.1 else for_word word (es ++ ys)) ≡ for_word word ys
-    by on true i = absurd (let no : None ≡ Some e.1 = i in cc)
     by on false i = on i

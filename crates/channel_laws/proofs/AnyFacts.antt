@@ -3,7 +3,7 @@ use Rattle.std.proofs.Common.{◌≡◌, ℕ, List, [], ◌∷◌, ◌++◌, map
 use Rattle.channel_calls.specs.declared.ask.ChannelAsk.{ChannelAsk}
 use Rattle.channel_calls.specs.declared.reply.Reply.{Reply}
 use Rattle.channel_steps.specs.Scene.{Under, Scene, Steps, sees, does, unless_ended}
-use Rattle.channel_steps.specs.Run.{Begins, begun}
+use Rattle.channel_steps.specs.Run.{Begins, call_begun}
 use Rattle.channel_steps.specs.declared.party.Entry.{Entry}
 use Rattle.channel_laws.specs.Ends.{Each}
 use Rattle.channel_laws.specs.Waits.{Any}
@@ -91,4 +91,4 @@ module _ {T W : Type 0} (P : Under T W → Type 0) where
     any_steps h = split (any_of st.before (st.mine ∷ st.behind) (subst (λ (us : List (Under T W)). Any P us) st.there h))
 
   pub any_begins : (s t : Scene T W) (p : ℕ) (ask : ChannelAsk T W) (e : Entry T) (b : Begins s p ask e t) → Any P s.under_way → Any P t.under_way
-  any_begins s t p ask e b h = subst (λ (us : List (Under T W)). Any P us) (sym b.under_way) (any_left s.under_way (begun p ask b.at s.now ∷ []) h)
+  any_begins s t p ask e b h = subst (λ (us : List (Under T W)). Any P us) (sym b.under_way) (any_left s.under_way (call_begun p ask b.at s.now ∷ []) h)

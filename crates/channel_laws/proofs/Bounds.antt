@@ -2,7 +2,6 @@
 use Rattle.std.proofs.Common.{arith, ◌≡◌, ℕ, true, false, List, [], ◌∷◌, ◌++◌, Option, None, Some, Err, inl, inr, refl, sym, ap, ◌∙◌, subst}
 use Rattle.concurrent_queue.specs.Queue.{is_filled, is_full_at}
 use Rattle.channel_calls.specs.Moves.{Channel}
-use Rattle.channel_calls.specs.Parts.{Parts}
 use Rattle.channel_calls.specs.declared.ask.ChannelAsk.{ChannelAsk}
 use Rattle.channel_calls.specs.declared.ask.ChannelAsk.TheVariants as ask
 use Rattle.channel_calls.specs.declared.error.Refused.TheVariants as refused
@@ -14,8 +13,8 @@ use Rattle.channel_calls.specs.declared.reply.Reply.TheVariants as reply
 use Rattle.channel_calls.specs.declared.stage.Kept.{Kept}
 use Rattle.channel_calls.specs.declared.stage.Line.TheVariants.{Sends, Receives, Streams, Closings}
 use Rattle.channel_steps.specs.Answers.{Row}
-use Rattle.channel_steps.specs.Moments.{Deed, Crowded, Once}
-use Rattle.channel_steps.specs.Run.{Next, IsRun, new_scene}
+use Rattle.channel_steps.specs.Moments.{MarkedMoment, Crowded, Once}
+use Rattle.channel_steps.specs.Run.{Next, IsRun, NextScene, new_scene}
 use Rattle.channel_steps.specs.Scene.{Under, Scene, Steps, MayFinish, does}
 use Rattle.channel_steps.specs.declared.party.Entry.{Entry}
 use Rattle.channel_steps.specs.declared.run.Step.{Step}
@@ -24,6 +23,7 @@ use Rattle.channel_laws.specs.Bounds.{IsDisplacing, SaysFull, NoneFull, Fits, Al
 use Rattle.channel_laws.specs.Ends.{Replies}
 use Rattle.channel_laws.proofs.BoundMoves.{Bounded, SaysOf, moves_bounded}
 use Rattle.channel_laws.proofs.EachFacts.{of_mine, each_steps, each_begins}
+use Rattle.channel_steps.proofs.Interface.{run_so}
 use Rattle.channel_laws.proofs.RunFacts.{kept_long}
 
 module _ {T W : Type 0} where
@@ -70,7 +70,7 @@ module _ {T W : Type 0} where
   older_all capacity [] older all = all
   older_all capacity (c ∷ newer) older all = older_all capacity newer older all.1
 
-  row_full : (a : ChannelAsk T W) (ds : List (Deed T W)) (seen : List (Channel T W)) (m : T)
+  row_full : (a : ChannelAsk T W) (ds : List (MarkedMoment T W)) (seen : List (Channel T W)) (m : T)
       → Row a ds seen (reply.TrySend (Err (refused.Plain (try_send_error.Full m)))) → Once Crowded seen
   row_full (ask.TrySend v) ds seen m h = h.2
   row_full ask.PollFinishedSend ds seen m h = absurd (cc h.1)
@@ -92,7 +92,7 @@ module _ {T W : Type 0} where
   finish_full u (Some (reply.TrySend (Err (refused.Plain (try_send_error.Full m))))) left h all full =
       let met = h.met in
       let seen = subst (λ (cs : List (Channel T W)). AllOf None cs) met.2 all in
-      never_crowded met.1 (older_all None met.0 met.1 seen) (row_full u.ask u.deeds met.1 m met.3)
+      never_crowded met.1 (older_all None met.0 met.1 seen) (row_full u.ask u.marks met.1 m met.3)
   finish_full u (Some r) left h all full = absurd full
 
   displaces_full : (m : Mark) (c : Channel T W) → SaysOf m c → IsDisplacing m → is_filled c.queue ≡ true
@@ -120,30 +120,29 @@ module _ {T W : Type 0} where
       (λ k. subst (λ (f : Entry T). Replies SaysFull f.reply) entry k, λ k. subst (λ (f : Entry T). IsDisplacing f.mark) entry k)
   next_never_full s (step.Step p) e names t n h none = step_never_full s t p e names n h none
 
-  module _ {S : Type 0} (wakes : S → W → S → Type 0) where
-    run_never_full : (parts parts' : Parts T W) (s t : Scene T W) (a b : S) (xs : List (Step T W)) (es : List (Entry T)) → BoundSound s → s.now.queue.capacity ≡ None
-        → IsRun wakes parts s a xs es parts' t b → NoneFull es
-    run_never_full parts parts' s t a b [] [] h none run = tt
-    run_never_full parts parts' s t a b (x ∷ xs) (e ∷ es) h none run =
-        let k = next_never_full s x e run.3 run.1 run.5 h none in
-        (k.0, k.1, run_never_full run.0 parts' run.1 t run.2 b xs es (bound_next s x e run.3 run.1 run.5 h) (capacity_next s x e run.3 run.1 run.5 ∙ none) run.7)
-    run_never_full parts parts' s t a b [] (e ∷ es) h none run = absurd run
-    run_never_full parts parts' s t a b (x ∷ xs) [] h none run = absurd run
+  run_never_full : (s t : Scene T W) (xs : List (Step T W)) (es : List (Entry T)) → BoundSound s → s.now.queue.capacity ≡ None
+      → IsRun NextScene s xs es t → NoneFull es
+  run_never_full s t xs es h none run =
+      run_so NextScene (λ a xs es b. BoundSound a → a.now.queue.capacity ≡ None → NoneFull es) (λ a k o. tt)
+      (λ a x e b xs es c n rest k o.
+      let now = next_never_full a x e n.0 b n.1 k o in
+      (now.0, now.1, rest (bound_next a x e n.0 b n.1 k) (capacity_next a x e n.0 b n.1 ∙ o)))
+      s xs es t run h none
 
-    run_capacity : (parts parts' : Parts T W) (s t : Scene T W) (a b : S) (xs : List (Step T W)) (es : List (Entry T)) → IsRun wakes parts s a xs es parts' t b
-        → t.now.queue.capacity ≡ s.now.queue.capacity
-    run_capacity parts parts' s t a b xs es run =
-        kept_long wakes (λ (x : Scene T W). x.now.queue.capacity ≡ s.now.queue.capacity) (λ y x e names z n h. capacity_next y x e names z n ∙ h)
-        parts parts' s t a b xs es refl run
+  run_capacity : (s t : Scene T W) (xs : List (Step T W)) (es : List (Entry T)) → IsRun NextScene s xs es t
+      → t.now.queue.capacity ≡ s.now.queue.capacity
+  run_capacity s t xs es run =
+      kept_long (λ (x : Scene T W). x.now.queue.capacity ≡ s.now.queue.capacity) (λ y x e names z n h. capacity_next y x e names z n ∙ h)
+      s t xs es refl run
 
-module _ (T W S : Type 0) (wakes : S → W → S → Type 0) where
-  pub bounds_stay : BoundsStay T W S wakes
-  bounds_stay s t steps trace h run = kept_long wakes (λ (x : Scene T W). BoundSound x) bound_next run.0 run.1 s t run.2 run.3 steps trace h run.4
+module _ (T W : Type 0) where
+  pub bounds_stay : BoundsStay T W
+  bounds_stay s t steps trace h run = kept_long (λ (x : Scene T W). BoundSound x) bound_next s t steps trace h run
 
-  pub never_overfull : NeverOverfull T W S wakes
+  pub never_overfull : NeverOverfull T W
   never_overfull capacity t steps trace run =
       let k = bounds_stay (new_scene capacity) t steps trace (bound_new capacity) run in
-      (run_capacity wakes run.0 run.1 (new_scene capacity) t run.2 run.3 steps trace run.4, k.fits)
+      (run_capacity (new_scene capacity) t steps trace run, k.fits)
 
-  pub never_full : UnboundedIsNeverFull T W S wakes
-  never_full s t steps trace h none run = run_never_full wakes run.0 run.1 s t run.2 run.3 steps trace h none run.4
+  pub never_full : UnboundedIsNeverFull T W
+  never_full s t steps trace h none run = run_never_full s t steps trace h none run

@@ -37,7 +37,7 @@ use Rattle.channel_steps.proofs.RunFacts as runs
 use Rattle.channel_steps.proofs.SceneFacts.{stepped_at, made_at}
 use Rattle.channel_laws.specs.Bridge.{Act, on_queue, on_roster, on_nothing, Event, begins, does, Happening, Given, Notes, Acts, own, step_of, steps_of, given_by, given_to, Changes, InOneOrder}
 use Rattle.channel_laws.specs.Ends.{Each, IsIdle}
-use Rattle.channel_laws.proofs.BridgeLeads.{id_of, of, LeadsOn, GoThrough, leads_begun, leads_stepped, through_none, through_more}
+use Rattle.channel_laws.proofs.BridgeLeads.{id_of, of, StepLeadsOn, GoThrough, leads_begun, leads_stepped, through_none, through_more}
 
 -- ---- a step that was noted, over cells that it changes
 
@@ -171,7 +171,7 @@ module _ {T W S : Type 0} (wakes : S → W → S → Type 0) (form : QueueForm) 
           (subst (λ (ys : List (Event T W)). Acts form (call_of id_of of q before) ys (given q)) (own_other p q x xs e) (acts q)))
 
   joined : (p : ℕ) (x : Event T W) (xs : List (Happening T W)) (e : Entry T) (given left : ℕ → List (Given T)) (last : Parts T W × S)
-      (c d : Parts T W × S) (parties after : List (Party T W)) → LeadsOn wakes c parties (step_of p x) e d after
+      (c d : Parts T W × S) (parties after : List (Party T W)) → StepLeadsOn wakes c parties (step_of p x) e d after
       → Merged xs d after left last → ((q : ℕ) → (if p == q then given_by e.reply e.kept ++ left q else left q) ≡ given q) → Merged (happens p x ∷ xs) c parties given last
   joined p x xs e given left last c d parties after one m same =
       record {
@@ -212,8 +212,8 @@ module _ {T W S : Type 0} (wakes : S → W → S → Type 0) (form : QueueForm) 
       let is_new : IsNewCall new.call (first ask) = (None, taken_of (first ask) at None mine.1.1) in
       let begins_so : HasBegun p ask parties unmarked after = runs.begun (asked queue_ask.Pop) p ask new.call parties unmarked after is_new refl refl in
       let here : Acts form (call_of id_of of p after) (own p xs) (given p) = subst (λ (o : Option (Stage (QueueCall T) T W)). Acts form o (own p xs) (given p)) (sym (begun_mine id_of of p parties new refl mine.0)) mine.1.2 in
-      let leads : LeadsOn wakes c parties (step.Begin p ask) unmarked d after =
-      subst (λ (x : Parts T W × S). LeadsOn wakes c parties (step.Begin p ask) unmarked x after) (sym same)
+      let leads : StepLeadsOn wakes c parties (step.Begin p ask) unmarked d after =
+      subst (λ (x : Parts T W × S). StepLeadsOn wakes c parties (step.Begin p ask) unmarked x after) (sym same)
       (leads_begun wakes p ask c parties unmarked after (λ s sh. none_under_way p c.0 parties s mine.0 sh) begins_so) in
       joined p (begins ask) xs unmarked given given last c d parties after leads
       (further d after given (ap (λ (y : Parts T W × S). y.0.cells.form) same ∙ f)
@@ -257,7 +257,7 @@ module _ {T W S : Type 0} (wakes : S → W → S → Type 0) (form : QueueForm) 
         stepped_at wakes c.0 d.0 parties (parties_after parties k mine answer) k c.1 d.1 (entry answer)
         (made_at wakes c.0 d.0 parties (parties_after parties k mine answer) k c.1 d.1 who mine.call m answer (left_by mine answer) has refl mine_steps refl refl)
 
-    leads : (answer : Option (Reply T)) → ChannelMakes (Notes form) at on_nothing o m next answer → LeadsOn wakes c parties (step.Step p) (entry answer) d (parties_after parties k mine answer)
+    leads : (answer : Option (Reply T)) → ChannelMakes (Notes form) at on_nothing o m next answer → StepLeadsOn wakes c parties (step.Step p) (entry answer) d (parties_after parties k mine answer)
     leads answer makes = leads_stepped wakes p c parties (entry answer) d (parties_after parties k mine answer) apart (is_there, steps_so answer makes)
 
     made_on : (answer : Option (Reply T)) → ChannelMakes (Notes form) at on_nothing o m next answer

@@ -1,5 +1,5 @@
 -- Each moment and each step of a merge says what the headline says.
-use Rattle.std.proofs.Common.{Bool, true, false, ◌==◌, ◌&&◌, ◌<◌, suc, is_none, if◌then◌else◌, map, arith, ◌≡◌, ℕ, ◌+◌, ◌*◌, ◌≤◌, List, [], ◌∷◌, ◌++◌, length, slice_get, unwrap_or, Option, None, Some, inl, inr, refl, sym, ap, ◌∙◌, subst, append_assoc}
+use Rattle.std.proofs.Common.{Bool, true, false, ◌==◌, ◌&&◌, ◌<◌, suc, is_none, if◌then◌else◌, map, arith, ◌≡◌, ℕ, ◌≤◌, List, [], ◌∷◌, ◌++◌, length, slice_get, unwrap_or, Option, None, Some, inl, inr, refl, sym, ap, ◌∙◌, subst, append_assoc}
 use Rattle.std.specs.List.{remove}
 use Rattle.std.proofs.lemmas.List.{length-map}
 use Rattle.concurrent_queue.proofs.Callers.{is_same}
@@ -11,20 +11,20 @@ use Rattle.event_listener.specs.Notices.{Woken}
 use Rattle.channel_calls.specs.Moves.{Channel}
 use Rattle.channel_calls.specs.declared.ask.ChannelAsk.{ChannelAsk}
 use Rattle.channel_calls.specs.declared.reply.Reply.{Reply}
-use Rattle.channel_steps.specs.Left.{all_left}
+use Rattle.channel_steps.specs.Left.{all_left, most_left}
 use Rattle.channel_steps.specs.Moments.{Spent}
-use Rattle.channel_steps.specs.Run.{EachStep, end_of, HasRange, Next, IsRun, new_scene}
-use Rattle.channel_steps.specs.Scene.{Under, Scene, Represents, brought, does, gone_by, came_by, wanted_at, HoldNobodyUp, sees, unless_ended}
+use Rattle.channel_steps.specs.Run.{EachStep, end_of, HasRange, Next, new_scene}
+use Rattle.channel_steps.specs.Scene.{Under, Scene, Represents, brought, does, gone_by, came_by, wanted_at, OthersQuiet, sees, unless_ended}
 use Rattle.channel_steps.specs.declared.party.Entry.{Entry}
 use Rattle.channel_steps.specs.declared.run.Step.{Step}
 use Rattle.channel_steps.specs.declared.run.Step.TheVariants as step
-use Rattle.channel_steps.proofs.Interface.{few_left, hold_still}
+use Rattle.channel_steps.proofs.Interface.{each_says, few_left, hold_still}
 use Rattle.channel_steps.proofs.StartFacts.{new_shown}
 use Rattle.channel_laws.specs.Bounds.{BoundSound}
-use Rattle.channel_laws.specs.Bridge.{Happening, steps_of, opened_parts, LastsFor, MergesAreRuns}
-use Rattle.channel_laws.specs.BridgeEnd.{GiveNothing, NothingComesAfter}
-use Rattle.channel_laws.specs.BridgeHeadline.{MomentSays, BeginSays, WorkSays, CallSays, StepSays, MergesKeepTheHeadline}
-use Rattle.channel_laws.specs.BridgeMoments.{Moment, opened, EndInARow, NobodyHoldsUp, in_a_row, left_to, FewLeft}
+use Rattle.channel_laws.specs.Bridge.{MergeMoment, NextMoment, Happening, steps_of, opened_parts, just_opened, LastsFor, MergesAreRuns}
+use Rattle.channel_laws.specs.BridgeEnd.{NewCallsGiveNothing, NoMessageAfter}
+use Rattle.channel_laws.specs.BridgeHeadline.{MergeMomentSays, MergeBeginSays, MergeWorkSays, MergeCallSays, MergeStepSays, MergesKeepTheHeadline}
+use Rattle.channel_laws.specs.BridgeMoments.{MergeEndsInARow, OthersQuietAt, steps_in_a_row, left_to, FewStepsLeft}
 use Rattle.channel_laws.specs.Ends.{SaysTheEnd, Replies}
 use Rattle.channel_laws.specs.Marked.{AddUp, brought_by}
 use Rattle.channel_laws.specs.Receives.{MessagesAreFew, counts_for_receives}
@@ -32,7 +32,7 @@ use Rattle.channel_laws.specs.Sends.{PlacesAreFew, counts_for_sends}
 use Rattle.channel_laws.specs.Sound.{AllSound}
 use Rattle.channel_laws.proofs.Bounds.{bound_new, bound_next}
 use Rattle.channel_laws.proofs.Bridge.{merge}
-use Rattle.channel_laws.proofs.BridgeLeads.{Leads, is_run}
+use Rattle.channel_laws.proofs.BridgeLeads.{Leads, next_moment, scenes_of}
 use Rattle.channel_laws.proofs.Closings as closings
 use Rattle.channel_laws.proofs.EndFacts.{may_end}
 use Rattle.channel_laws.proofs.Ends.{silent_from, silent_long}
@@ -82,15 +82,15 @@ module _ {T W : Type 0} where
 
   -- ---- a moment
 
-  few_at : (ns : List ℕ) (us : List (Under T W)) → ((k n : ℕ) → slice_get ns k ≡ Some n → n ≤ 197 + 64 * wanted_at k us)
-      → (k : ℕ) → unwrap_or (slice_get ns k) 0 ≤ 197 + 64 * wanted_at k us
+  few_at : (ns : List ℕ) (us : List (Under T W)) → ((k n : ℕ) → slice_get ns k ≡ Some n → n ≤ most_left (wanted_at k us))
+      → (k : ℕ) → unwrap_or (slice_get ns k) 0 ≤ most_left (wanted_at k us)
   few_at ns us few k = by (slice_get ns k) refl where
-    by : (o : Option ℕ) → slice_get ns k ≡ o → unwrap_or o 0 ≤ 197 + 64 * wanted_at k us
+    by : (o : Option ℕ) → slice_get ns k ≡ o → unwrap_or o 0 ≤ most_left (wanted_at k us)
     by None e = omega arith
     by (Some n) e = few k n e
 
 module _ {T W S : Type 0} where
-  says_moment : (m : Moment T W S) → Represents m.parts m.parties m.scene → StaysSo m.scene → MomentSays m
+  says_moment : (m : MergeMoment T W S) → Represents m.parts m.parties m.scene → StaysSo m.scene → MergeMomentSays m
   says_moment m sh k =
       record {
         shows = sh;
@@ -108,7 +108,7 @@ module _ {T W S : Type 0} where
 module _ {T W S : Type 0} (wakes : S → W → S → Type 0) where
   -- ---- a step
 
-  says_begin : (m : Moment T W S) (p : ℕ) (ask : ChannelAsk T W) (e : Entry T) (n : Moment T W S) → Leads wakes m (step.Begin p ask) e n → BeginSays m p ask e n
+  says_begin : (m : MergeMoment T W S) (p : ℕ) (ask : ChannelAsk T W) (e : Entry T) (n : MergeMoment T W S) → Leads wakes m (step.Begin p ask) e n → MergeBeginSays m p ask e n
   says_begin m p ask e n l =
       let b = l.next.0 in
       record {
@@ -122,7 +122,7 @@ module _ {T W S : Type 0} (wakes : S → W → S → Type 0) where
         under_way = b.under_way;
       }
 
-  says_work : (m : Moment T W S) (p : ℕ) (e : Entry T) (n : Moment T W S) → (l : Leads wakes m (step.Step p) e n) → StaysSo m.scene → WorkSays wakes m p e n l.names
+  says_work : (m : MergeMoment T W S) (p : ℕ) (e : Entry T) (n : MergeMoment T W S) → (l : Leads wakes m (step.Step p) e n) → StaysSo m.scene → MergeWorkSays wakes m p e n l.names
   says_work m p e n l k =
       let s = l.next in
       let after : Under T W = does s.mine s.at_now e.mark m.scene.now n.scene.now in
@@ -150,15 +150,15 @@ module _ {T W S : Type 0} (wakes : S → W → S → Type 0) where
         nearer = l.nearer;
       }
 
-  says_call : (m : Moment T W S) (x : Step T W) (e : Entry T) (n : Moment T W S) → (l : Leads wakes m x e n) → StaysSo m.scene → CallSays wakes m x e n l.names
+  says_call : (m : MergeMoment T W S) (x : Step T W) (e : Entry T) (n : MergeMoment T W S) → (l : Leads wakes m x e n) → StaysSo m.scene → MergeCallSays wakes m x e n l.names
   says_call m (step.Begin p ask) e n l k = says_begin m p ask e n l
   says_call m (step.Step p) e n l k = says_work m p e n l k
 
-  says_end : (m : Moment T W S) (x : Step T W) (e : Entry T) (n : Moment T W S) → Leads wakes m x e n → StaysSo m.scene → Replies SaysTheEnd e.reply → Spent n.scene.now
+  says_end : (m : MergeMoment T W S) (x : Step T W) (e : Entry T) (n : MergeMoment T W S) → Leads wakes m x e n → StaysSo m.scene → Replies SaysTheEnd e.reply → Spent n.scene.now
   says_end m (step.Begin p ask) e n l k end = absurd (no_reply e (let b = l.next.0 in ap (λ (x : Entry T). x.reply) b.entry) end)
   says_end m (step.Step p) e n l k end = says_over m.scene p e l.names n.scene l.next k.sound end
 
-  says : (m : Moment T W S) (x : Step T W) (e : Entry T) (n : Moment T W S) → Leads wakes m x e n → StaysSo m.scene → StepSays wakes m x e n
+  says : (m : MergeMoment T W S) (x : Step T W) (e : Entry T) (n : MergeMoment T W S) → Leads wakes m x e n → StaysSo m.scene → MergeStepSays wakes m x e n
   says m x e n l k =
       record {
         names = l.names;
@@ -172,28 +172,17 @@ module _ {T W S : Type 0} (wakes : S → W → S → Type 0) where
         after = says_moment n l.shows (kept_next m.scene x e l.names n.scene l.next k);
       }
 
-  each_says : (m : Moment T W S) (xs : List (Step T W)) (es : List (Entry T)) (ns : List (Moment T W S)) → StaysSo m.scene
-      → EachStep (Leads wakes) m xs es ns → EachStep (StepSays wakes) m xs es ns
-  each_says m [] [] [] k h = tt
-  each_says m (x ∷ xs) (e ∷ es) (n ∷ ns) k h =
-      let l = h.0 in
-      (says m x e n h.0 k, each_says n xs es ns (kept_next m.scene x e l.names n.scene l.next k) h.1)
-  each_says m [] [] (n ∷ ns) k h = absurd h
-  each_says m [] (e ∷ es) ns k h = absurd h
-  each_says m (x ∷ xs) [] ns k h = absurd h
-  each_says m (x ∷ xs) (e ∷ es) [] k h = absurd h
-
   -- ---- the end
 
-  give_nothing : (m : Moment T W S) (xs : List (Step T W)) (es : List (Entry T)) (ns : List (Moment T W S)) → EachStep (Leads wakes) m xs es ns
-      → Spent m.scene.now → GiveNothing xs es
+  give_nothing : (m : MergeMoment T W S) (xs : List (Step T W)) (es : List (Entry T)) (ns : List (MergeMoment T W S)) → EachStep (Leads wakes) m xs es ns
+      → Spent m.scene.now → NewCallsGiveNothing xs es
   give_nothing m [] [] [] h over = tt
   give_nothing m (step.Begin p ask ∷ xs) (e ∷ es) (n ∷ ns) h over =
       let l = h.0 in
       let last = end_of n ns in
+      let run = scenes_of wakes m (step.Begin p ask ∷ xs) (e ∷ es) last (record { moments = n ∷ ns; each = h; ends = refl }) in
       let first = stays_over m.scene (step.Begin p ask) e l.names n.scene l.next over in (
-        silent_long wakes p m.parts last.parts m.scene last.scene m.sink last.sink (step.Begin p ask ∷ xs) (e ∷ es) over
-            (silent_from p m.scene.under_way l.begins) (is_run wakes m (step.Begin p ask ∷ xs) (e ∷ es) (n ∷ ns) h),
+        silent_long p m.scene last.scene (step.Begin p ask ∷ xs) (e ∷ es) over (silent_from p m.scene.under_way l.begins) run,
         give_nothing n xs es ns h.1 first.0,
       )
   give_nothing m (step.Step p ∷ xs) (e ∷ es) (n ∷ ns) h over =
@@ -205,8 +194,8 @@ module _ {T W S : Type 0} (wakes : S → W → S → Type 0) where
   give_nothing m (x ∷ xs) [] ns h over = absurd h
   give_nothing m (x ∷ xs) (e ∷ es) [] h over = absurd h
 
-  nothing_comes : (m : Moment T W S) (xs : List (Step T W)) (es : List (Entry T)) (ns : List (Moment T W S)) → StaysSo m.scene
-      → EachStep (Leads wakes) m xs es ns → NothingComesAfter xs es
+  nothing_comes : (m : MergeMoment T W S) (xs : List (Step T W)) (es : List (Entry T)) (ns : List (MergeMoment T W S)) → StaysSo m.scene
+      → EachStep (Leads wakes) m xs es ns → NoMessageAfter xs es
   nothing_comes m [] [] [] k h = tt
   nothing_comes m (x ∷ xs) (e ∷ es) (n ∷ ns) k h =
       let l = h.0 in (
@@ -239,15 +228,15 @@ module _ {T W : Type 0} where
       subst (λ (xs : List (Under T W)). Stands (length us) u (us ++ vs) xs) (sym e) (record { there = found us u vs; others_are = removed us u vs })
 
 module _ {T W S : Type 0} (wakes : S → W → S → Type 0) where
-  row_left : (k p : ℕ) (u : Under T W) (m : Moment T W S) (xs : List (Step T W)) (es : List (Entry T)) (ns : List (Moment T W S))
-      → EachStep (Leads wakes) m xs es ns → slice_get m.scene.under_way k ≡ Some u → u.party ≡ p → NobodyHoldsUp k m → in_a_row p xs es ≤ left_to k m
+  row_left : (k p : ℕ) (u : Under T W) (m : MergeMoment T W S) (xs : List (Step T W)) (es : List (Entry T)) (ns : List (MergeMoment T W S))
+      → EachStep (Leads wakes) m xs es ns → slice_get m.scene.under_way k ≡ Some u → u.party ≡ p → OthersQuietAt k m → steps_in_a_row p xs es ≤ left_to k m
   row_left k p u m [] [] [] h there his free = omega arith
   row_left k p u m (step.Begin q ask ∷ xs) (e ∷ es) (n ∷ ns) h there his free = omega arith
   row_left k p u m (step.Step q ∷ xs) (e ∷ es) (n ∷ ns) h there his free =
       by (λ v here mine still. row_left k p v n xs es ns h.1 here mine still) (q == p) refl e.reply refl
     where
-      by : ((v : Under T W) → slice_get n.scene.under_way k ≡ Some v → v.party ≡ p → NobodyHoldsUp k n → in_a_row p xs es ≤ left_to k n)
-          → (b : Bool) → (q == p) ≡ b → (r : Option (Reply T)) → e.reply ≡ r → (if b && is_none r then suc (in_a_row p xs es) else 0) ≤ left_to k m
+      by : ((v : Under T W) → slice_get n.scene.under_way k ≡ Some v → v.party ≡ p → OthersQuietAt k n → steps_in_a_row p xs es ≤ left_to k n)
+          → (b : Bool) → (q == p) ≡ b → (r : Option (Reply T)) → e.reply ≡ r → (if b && is_none r then suc (steps_in_a_row p xs es) else 0) ≤ left_to k m
       by more false same r goes_on = omega arith
       by more true same (Some x) goes_on = omega arith
       by more true same None goes_on =
@@ -255,10 +244,10 @@ module _ {T W S : Type 0} (wakes : S → W → S → Type 0) where
           let s = l.next in
           let one : k ≡ length s.before = l.only k u there (his ∙ sym (is_same q p same)) in
           let was = stands s.before s.mine s.behind m.scene.under_way s.there in
-          let free_there : HoldNobodyUp m.scene.now (remove m.scene.under_way (length s.before)) =
-          subst (λ (j : ℕ). HoldNobodyUp m.scene.now (remove m.scene.under_way j)) one free in
-          let hold : HoldNobodyUp m.scene.now (s.before ++ s.behind) =
-          subst (λ (us : List (Under T W)). HoldNobodyUp m.scene.now us) was.others_are free_there in
+          let free_there : OthersQuiet m.scene.now (remove m.scene.under_way (length s.before)) =
+          subst (λ (j : ℕ). OthersQuiet m.scene.now (remove m.scene.under_way j)) one free in
+          let hold : OthersQuiet m.scene.now (s.before ++ s.behind) =
+          subst (λ (us : List (Under T W)). OthersQuiet m.scene.now us) was.others_are free_there in
           let less : left_to k n < left_to k m = subst (λ (j : ℕ). left_to j n < left_to j m) (sym one) (l.nearer goes_on hold) in
           let before : List (Under T W) = map (sees n.scene.now) s.before in
           let behind : List (Under T W) = map (sees n.scene.now) s.behind in
@@ -267,22 +256,22 @@ module _ {T W S : Type 0} (wakes : S → W → S → Type 0) where
           subst (λ (r : Option (Reply T)). n.scene.under_way ≡ before ++ (unless_ended after r ++ behind)) goes_on s.left in
           let is = stands before after behind n.scene.under_way goes in
           let place : length before ≡ k = length-map s.before (sees n.scene.now) ∙ sym one in
-          let still : HoldNobodyUp n.scene.now (remove n.scene.under_way (length before)) =
-          subst (λ (us : List (Under T W)). HoldNobodyUp n.scene.now us) (sym is.others_are) (hold_still m.scene q e l.names n.scene s hold) in
+          let still : OthersQuiet n.scene.now (remove n.scene.under_way (length before)) =
+          subst (λ (us : List (Under T W)). OthersQuiet n.scene.now us) (sym is.others_are) (hold_still m.scene q e l.names n.scene s hold) in
           let rest = more after
           (subst (λ (j : ℕ). slice_get n.scene.under_way j ≡ Some after) place is.there) (s.whose ∙ is_same q p same)
-          (subst (λ (j : ℕ). HoldNobodyUp n.scene.now (remove n.scene.under_way j)) place still) in
+          (subst (λ (j : ℕ). OthersQuiet n.scene.now (remove n.scene.under_way j)) place still) in
           omega (arith, less, rest)
   row_left k p u m [] [] (n ∷ ns) h there his free = absurd h
   row_left k p u m [] (e ∷ es) ns h there his free = absurd h
   row_left k p u m (x ∷ xs) [] ns h there his free = absurd h
   row_left k p u m (x ∷ xs) (e ∷ es) [] h there his free = absurd h
 
-  few_now : (m : Moment T W S) → Represents m.parts m.parties m.scene → FewLeft m
+  few_now : (m : MergeMoment T W S) → Represents m.parts m.parties m.scene → FewStepsLeft m
   few_now m sh = few_at (all_left m.parts m.parties) m.scene.under_way (few_left m.parts m.parties m.scene sh)
 
-  end_in_a_row : (m : Moment T W S) (xs : List (Step T W)) (es : List (Entry T)) (ns : List (Moment T W S)) → Represents m.parts m.parties m.scene
-      → EachStep (Leads wakes) m xs es ns → EndInARow m xs es ns
+  end_in_a_row : (m : MergeMoment T W S) (xs : List (Step T W)) (es : List (Entry T)) (ns : List (MergeMoment T W S)) → Represents m.parts m.parties m.scene
+      → EachStep (Leads wakes) m xs es ns → MergeEndsInARow m xs es ns
   end_in_a_row m [] [] [] sh h = tt
   end_in_a_row m (x ∷ xs) (e ∷ es) (n ∷ ns) sh h =
       let l = h.0 in (
@@ -313,11 +302,11 @@ lasts form events (inr few) = let e = steps_many events in inr (omega (arith, fe
 pub merges_keep_the_headline : (T W S : Type 0) (wakes : S → W → S → Type 0) → MergesKeepTheHeadline T W S wakes
 merges_keep_the_headline T W S wakes form events given sink last woken has long acts order =
     let new : IsNew {T = T} form (new_cells form) = new_is form has in
-    let first : Moment T W S = opened form sink in
+    let first : MergeMoment T W S = just_opened form sink in
     let shown : Represents first.parts first.parties first.scene = new_shown form (opened_parts form) [] new refl refl in
     let m = merge wakes form events (last, woken) (opened_parts form, sink) [] given new.0 tt acts order in
     let g = m.through first.scene (lasts form events long) shown in
-    let run = is_run wakes first (steps_of events) m.more g.moments g.each in
+    let r = g.run in
     let kept = kept_new (capacity_of form) in
     record {
       is = record {
@@ -325,16 +314,20 @@ merges_keep_the_headline T W S wakes form events given sink last woken has long 
         parties = m.parties;
         scene = g.end;
         opened = shown;
-        run = subst (λ (n : Moment T W S). IsRun wakes first.parts first.scene sink (steps_of events) m.more n.parts n.scene n.sink) g.ends run;
+        run = record {
+          moments = r.moments;
+          each = each_says (Leads wakes) (λ n. Unit {0}) (NextMoment wakes) (λ a x e b l k. (next_moment wakes a x e b l, tt)) first (steps_of events) m.more r.moments tt r.each;
+          ends = r.ends;
+        };
+        scenes = scenes_of wakes first (steps_of events) m.more _ r;
         shown = g.shown;
         answers = m.answers;
       };
-      moments = g.moments;
-      ends = g.ends;
       at_first = says_moment first shown kept;
-      each = each_says wakes first (steps_of events) m.more g.moments kept g.each;
-      after_the_end = nothing_comes wakes first (steps_of events) m.more g.moments kept g.each;
-      ends_soon = end_in_a_row wakes first (steps_of events) m.more g.moments shown g.each;
+      each = each_says (Leads wakes) (λ (n : MergeMoment T W S). StaysSo n.scene) (MergeStepSays wakes)
+          (λ a x e b l k. (says wakes a x e b l k, kept_next a.scene x e l.names b.scene l.next k)) first (steps_of events) m.more r.moments kept r.each;
+      after_the_end = nothing_comes wakes first (steps_of events) m.more r.moments kept r.each;
+      ends_soon = end_in_a_row wakes first (steps_of events) m.more r.moments shown r.each;
     }
 
 pub merges_are_runs : (T W S : Type 0) (wakes : S → W → S → Type 0) → MergesAreRuns T W S wakes

@@ -7,16 +7,17 @@ use Rattle.event_listener.specs.Notices.{Woken}
 use Rattle.channel_calls.specs.Parts.{Parts}
 use Rattle.channel_calls.specs.declared.ask.ChannelAsk.{ChannelAsk}
 use Rattle.channel_calls.specs.declared.stage.Stage.{Stage}
-use Rattle.channel_steps.specs.Run.{EachStep, end_of, HasBegun, Touches, Next, HasRange, IsRun}
-use Rattle.channel_steps.specs.Scene.{Scene, HoldNobodyUp, Represents, StepsAt, HasParty, Under, Sitting, under_of, blocks_after}
+use Rattle.channel_steps.specs.Run.{HasBegun, Touches, Next, NextScene, HasRange, IsRun}
+use Rattle.channel_steps.specs.Scene.{Scene, OthersQuiet, Represents, StepsAt, HasParty, Under, Sitting, under_of, blocks_after}
 use Rattle.channel_steps.specs.declared.party.Entry.{Entry}
 use Rattle.channel_steps.specs.declared.party.Party.{Party}
 use Rattle.channel_steps.specs.declared.run.Step.{Step}
 use Rattle.channel_steps.specs.declared.run.Step.TheVariants as step
-use Rattle.channel_steps.proofs.Interface.{blocks_begun}
+use Rattle.channel_steps.proofs.Interface.{blocks_begun, run_seen}
 use Rattle.channel_steps.proofs.MoveFacts.{in_range}
 use Rattle.channel_steps.proofs.RunFacts.{next_range}
-use Rattle.channel_laws.specs.BridgeMoments.{Moment, left_to}
+use Rattle.channel_laws.specs.Bridge.{MergeMoment, NextMoment}
+use Rattle.channel_laws.specs.BridgeMoments.{left_to}
 use Rattle.channel_laws.specs.Ends.{IsIdle}
 
 module _ {T W : Type 0} where
@@ -51,28 +52,28 @@ module _ {T W : Type 0} where
       at_one_place p parties apart k x.0 (subst (λ (ps : List (Party T W)). slice_get ps k ≡ Some x.0) (sym sh.parties_are) x.1) (x.2 ∙ his)
 
 module _ {T W S : Type 0} where
-  abbrev pub at : Parts T W × S → List (Party T W) → Scene T W → Moment T W S
+  abbrev pub at : Parts T W × S → List (Party T W) → Scene T W → MergeMoment T W S
   at c parties s = record { parts = c.0; parties = parties; scene = s; sink = c.1 }
 
-  -- where the others hold a call up no more, a step that doesn't end it leaves it fewer steps
-  abbrev pub Nearer : (m : Moment T W S) (x : Step T W) (e : Entry T) (names : List W) (n : Moment T W S) → Next m.scene x e names n.scene → Type 0
+  -- where the others of a call are quiet, a step that doesn't end it leaves it fewer steps
+  abbrev pub Nearer : (m : MergeMoment T W S) (x : Step T W) (e : Entry T) (names : List W) (n : MergeMoment T W S) → Next m.scene x e names n.scene → Type 0
   Nearer m (step.Begin p ask) e names n next = Unit {0}
   Nearer m (step.Step p) e names n next =
-      e.reply ≡ None → HoldNobodyUp m.scene.now (next.before ++ next.behind) → left_to (length next.before) n < left_to (length next.before) m
+      e.reply ≡ None → OthersQuiet m.scene.now (next.before ++ next.behind) → left_to (length next.before) n < left_to (length next.before) m
 
   -- a party that begins a call has none under way
-  abbrev pub MayBegin : Moment T W S → Step T W → Type 0
+  abbrev pub MayBegin : MergeMoment T W S → Step T W → Type 0
   MayBegin m (step.Begin p ask) = IsIdle p m.scene
   MayBegin m (step.Step p) = Unit {0}
 
   -- the call that makes the step is the only one of its party
-  abbrev pub Only : (m : Moment T W S) (x : Step T W) (e : Entry T) (names : List W) (n : Moment T W S) → Next m.scene x e names n.scene → Type 0
+  abbrev pub Only : (m : MergeMoment T W S) (x : Step T W) (e : Entry T) (names : List W) (n : MergeMoment T W S) → Next m.scene x e names n.scene → Type 0
   Only m (step.Begin p ask) e names n next = Unit {0}
   Only m (step.Step p) e names n next =
       (k : ℕ) (u : Under T W) → slice_get m.scene.under_way k ≡ Some u → u.party ≡ p → k ≡ length next.before
 
 module _ {T W S : Type 0} (wakes : S → W → S → Type 0) where
-  pub record Leads (m : Moment T W S) (x : Step T W) (e : Entry T) (n : Moment T W S) : Type 0 where
+  pub record Leads (m : MergeMoment T W S) (x : Step T W) (e : Entry T) (n : MergeMoment T W S) : Type 0 where
     pub begins : MayBegin m x
     pub names : List W
     pub touches : Touches x m.parts n.parts
@@ -84,15 +85,15 @@ module _ {T W S : Type 0} (wakes : S → W → S → Type 0) where
     pub only : Only m x e names n next
 
   -- so it does from each scene that the cells and the parties show
-  pub record Led (c : Parts T W × S) (parties : List (Party T W)) (s : Scene T W) (x : Step T W) (e : Entry T) (d : Parts T W × S) (after : List (Party T W)) : Type 0 where
+  pub record StepLed (c : Parts T W × S) (parties : List (Party T W)) (s : Scene T W) (x : Step T W) (e : Entry T) (d : Parts T W × S) (after : List (Party T W)) : Type 0 where
     pub scene : Scene T W
     pub leads : Leads (at c parties s) x e (at d after scene)
 
-  abbrev pub LeadsOn : Parts T W × S → List (Party T W) → Step T W → Entry T → Parts T W × S → List (Party T W) → Type 0
-  LeadsOn c parties x e d after = (s : Scene T W) → IsInRange s.now.queue → Represents c.0 parties s → Led c parties s x e d after
+  abbrev pub StepLeadsOn : Parts T W × S → List (Party T W) → Step T W → Entry T → Parts T W × S → List (Party T W) → Type 0
+  StepLeadsOn c parties x e d after = (s : Scene T W) → IsInRange s.now.queue → Represents c.0 parties s → StepLed c parties s x e d after
 
   pub leads_begun : (p : ℕ) (ask : ChannelAsk T W) (c : Parts T W × S) (parties : List (Party T W)) (e : Entry T) (after : List (Party T W))
-      → ((s : Scene T W) → Represents c.0 parties s → IsIdle p s) → HasBegun p ask parties e after → LeadsOn c parties (step.Begin p ask) e c after
+      → ((s : Scene T W) → Represents c.0 parties s → IsIdle p s) → HasBegun p ask parties e after → StepLeadsOn c parties (step.Begin p ask) e c after
   leads_begun p ask c parties e after idle begun s range sh =
       let b = begun c.0 s sh in
       record {
@@ -102,12 +103,12 @@ module _ {T W S : Type 0} (wakes : S → W → S → Type 0) where
 
   pub leads_stepped : (p : ℕ) (c : Parts T W × S) (parties : List (Party T W)) (e : Entry T) (d : Parts T W × S) (after : List (Party T W))
       → AllApart id_of of parties → (let k = place_of id_of of p parties in HasParty p parties k × StepsAt wakes c.0 parties k c.1 e d.0 after d.1)
-      → LeadsOn c parties (step.Step p) e d after
+      → StepLeadsOn c parties (step.Step p) e d after
   leads_stepped p c parties e d after apart (has, steps) s range sh =
       let h = steps s (record { id = p; call = has.0 }) range sh has.1 in
       let near = h.steps in
-      let m : Moment T W S = at c parties s in
-      let n : Moment T W S = at d after h.after in
+      let m : MergeMoment T W S = at c parties s in
+      let n : MergeMoment T W S = at d after h.after in
       record {
         scene = h.after;
         leads = record {
@@ -127,10 +128,8 @@ module _ {T W S : Type 0} (wakes : S → W → S → Type 0) where
 
   -- these steps lead from a scene to a last one, by these moments
   pub record Through (xs : List (Step T W)) (es : List (Entry T)) (c : Parts T W × S) (parties : List (Party T W)) (s : Scene T W) (last : Parts T W × S) (left : List (Party T W)) : Type 0 where
-    pub moments : List (Moment T W S)
-    pub each : EachStep (Leads) (at c parties s) xs es moments
     pub end : Scene T W
-    pub ends : end_of (at c parties s) moments ≡ at last left end
+    pub run : IsRun Leads (at c parties s) xs es (at last left end)
     pub shown : Represents last.0 left end
 
   -- from each scene that is shown
@@ -141,28 +140,26 @@ module _ {T W S : Type 0} (wakes : S → W → S → Type 0) where
   pub through_none : (c : Parts T W × S) (parties : List (Party T W)) (last : Parts T W × S) → last ≡ c → GoThrough [] [] c parties last parties
   through_none c parties last same s range sh =
       record {
-        moments = [];
-        each = tt;
         end = s;
-        ends = ap (λ (x : Parts T W × S). at x parties s) (sym same);
+        run = record { moments = []; each = tt; ends = ap (λ (x : Parts T W × S). at x parties s) (sym same) };
         shown = subst (λ (x : Parts T W × S). Represents x.0 parties s) (sym same) sh;
       }
 
   pub through_more : (x : Step T W) (xs : List (Step T W)) (e : Entry T) (es : List (Entry T)) (c : Parts T W × S) (parties : List (Party T W)) (d : Parts T W × S) (after : List (Party T W)) (last : Parts T W × S) (left : List (Party T W))
-      → LeadsOn c parties x e d after → GoThrough xs es d after last left → GoThrough (x ∷ xs) (e ∷ es) c parties last left
+      → StepLeadsOn c parties x e d after → GoThrough xs es d after last left → GoThrough (x ∷ xs) (e ∷ es) c parties last left
   through_more x xs e es c parties d after last left one more s range sh =
       let h = one s (in_range (suc (length xs)) s.now.queue range) sh in
       let g = more h.scene (next_range (length xs) s x e h.leads.names h.scene h.leads.next range) h.leads.shows in
-      record { moments = at d after h.scene ∷ g.moments; each = (h.leads, g.each); end = g.end; ends = g.ends; shown = g.shown }
+      record {
+        end = g.end;
+        run = record { moments = at d after h.scene ∷ g.run.moments; each = (h.leads, g.run.each); ends = g.run.ends };
+        shown = g.shown;
+      }
 
-  -- such steps are a run
-  pub is_run : (m : Moment T W S) (xs : List (Step T W)) (es : List (Entry T)) (ns : List (Moment T W S)) → EachStep Leads m xs es ns
-      → let n = end_of m ns in IsRun wakes m.parts m.scene m.sink xs es n.parts n.scene n.sink
-  is_run m [] [] [] h = (refl, refl, refl)
-  is_run m (x ∷ xs) (e ∷ es) (n ∷ ns) h =
-      let l = h.0 in
-      (n.parts, n.scene, n.sink, l.names, l.touches, l.next, l.woken, is_run n xs es ns h.1)
-  is_run m [] [] (n ∷ ns) h = absurd h
-  is_run m [] (e ∷ es) ns h = absurd h
-  is_run m (x ∷ xs) [] ns h = absurd h
-  is_run m (x ∷ xs) (e ∷ es) [] h = absurd h
+  -- each of them is a step of a run, from moment to moment and from scene to scene
+  pub next_moment : (m : MergeMoment T W S) (x : Step T W) (e : Entry T) (n : MergeMoment T W S) → Leads m x e n → NextMoment wakes m x e n
+  next_moment m x e n l = record { names = l.names; next = l.next; woken = l.woken; touches = l.touches }
+
+  pub scenes_of : (m : MergeMoment T W S) (xs : List (Step T W)) (es : List (Entry T)) (n : MergeMoment T W S) → IsRun Leads m xs es n
+      → IsRun NextScene m.scene xs es n.scene
+  scenes_of m xs es n run = run_seen Leads (λ (k : MergeMoment T W S). k.scene) NextScene (λ a x e b l. (l.names, l.next)) m xs es n run

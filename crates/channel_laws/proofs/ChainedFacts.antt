@@ -23,7 +23,7 @@ use Rattle.concurrent_queue.specs.declared.unbounded.action.UnboundedAction.TheV
 use Rattle.concurrent_queue.specs.declared.unbounded.action.UnboundedCall.{UnboundedCall}
 use Rattle.channel_steps.specs.Scene.{MayHave}
 use Rattle.channel_laws.proofs.PutFacts.{some_is, by_bool, by_eq, same_not, taken_all, taken_full, get_inside, head_number}
-use Rattle.channel_laws.specs.Chained.{TurnsTheHead, Turns, first_named, pair_linked, Names, Links, AreBlocks, ChainBy}
+use Rattle.channel_laws.specs.Chained.{TurnsTheHead, Turns, first_named, pair_linked, NamesTheHead, Links, AreBlocks, ChainBy}
 
 none_some : {A : Type 0} {x : A} → None ≡ Some x → ⊥
 none_some e = absurd cc
@@ -58,7 +58,7 @@ module _ {T : Type 0} where
   to_seat Q P is (s ∷ ss) (p ∷ ps) h (inl g) = inl (is s.call.state p.action h.0.0 g)
   to_seat Q P is (s ∷ ss) (p ∷ ps) h (inr g) = inr (to_seat Q P is ss ps h.1 g)
 
-  names_is : (b : ℕ) (s : CallState T) (a : UnboundedCall T) → IsAtBlocks s a → first_named a.action ≡ Some b → Names b s
+  names_is : (b : ℕ) (s : CallState T) (a : UnboundedCall T) → IsAtBlocks s a → first_named a.action ≡ Some b → NamesTheHead b s
   names_is b (Blocks y) a e g = subst (λ (z : UnboundedCall T). first_named z.action ≡ Some b) e g
   names_is b (Asked k) a e g = absurd (start_none k (subst (λ (z : UnboundedCall T). first_named z.action ≡ Some b) e g))
     where
@@ -242,19 +242,19 @@ module _ {T : Type 0} where
         (short, some_is (sym e ∙ of.1 k short))
 
     first_named_by : (b : ℕ) → slice_get chain (r.first - 1) ≡ Some b
-        → (c.head_block ≡ b + 1) ⊎ ((c.head_block ≡ 0) × SomeSeat ss (Names b))
+        → (c.head_block ≡ b + 1) ⊎ ((c.head_block ≡ 0) × SomeSeat ss (NamesTheHead b))
     first_named_by b e =
         let is = chain_is (r.first - 1) b e in
         ⊎_elim
         (λ g. inr (g.1, named_yet (r.first) b g.0 is.0 is.1))
         (λ g. inl (g.1 ∙ ap (λ (x : ℕ). x + 1) (sym is.1))) d.head_block
       where
-        named_yet : (f b : ℕ) → r.first ≡ 0 → r.first - 1 < r.last → b ≡ r.num (r.first - 1) → SomeSeat ss (Names b)
+        named_yet : (f b : ℕ) → r.first ≡ 0 → r.first - 1 < r.last → b ≡ r.num (r.first - 1) → SomeSeat ss (NamesTheHead b)
         named_yet f b z short at =
             let zero_is : r.first - 1 ≡ 0 = omega (arith, z) in
             let b_is : r.num 0 ≡ b = ap r.num (sym zero_is) ∙ sym at in
             ⊎_elim (λ g. absurd g)
-            (λ g. to_seat (λ a. first_named a ≡ Some b) (Names b) (names_is b) ss ps are (subst (λ (x : ℕ). SomePlace
+            (λ g. to_seat (λ a. first_named a ≡ Some b) (NamesTheHead b) (names_is b) ss ps are (subst (λ (x : ℕ). SomePlace
             (λ a. first_named a ≡ Some x) ps) b_is g))
             (owing (λ a. first_named a ≡ Some (r.num 0)) start (owed_start r.first r.last z (omega (arith, short))) (starts r))
 
@@ -319,7 +319,7 @@ module _ {T : Type 0} where
     first = h.first;
     place = ⊎_elim (λ x. inl x) (λ y. inr (⊎_elim (λ x. inl (x.0, x.1, goes (Turns true) x.2))
         (λ x. inr (x.0, x.1, goes (Turns false) x.2)) y)) h.place;
-    named = λ b e. ⊎_elim (λ g. inl g) (λ g. inr (g.0, goes (Names b) g.1)) (h.named b e);
+    named = λ b e. ⊎_elim (λ g. inl g) (λ g. inr (g.0, goes (NamesTheHead b) g.1)) (h.named b e);
     linked = λ k b d low e f. ⊎_elim (λ g. inl g) (λ g. inr (goes (Links b d) g)) (h.linked k b d low e f);
     last = h.last;
   }

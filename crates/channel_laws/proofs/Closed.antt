@@ -1,12 +1,11 @@
 -- A closed channel over runs.
-use Rattle.std.proofs.Common.{◌≡◌, ℕ, ◌+◌, ◌≤◌, Bool, false, if◌then◌else◌, List, [], ◌∷◌, length, drop, Option, refl, sym, ap, subst, arith, length-append}
+use Rattle.std.proofs.Common.{◌≡◌, ℕ, ◌+◌, ◌≤◌, Bool, false, if◌then◌else◌, List, ◌∷◌, length, drop, Option, refl, sym, ap, subst, arith, length-append}
 use Rattle.concurrent_queue.specs.Queue.{Queue, Phase, IsShut, IsOldest, message, after, is_displaced}
 use Rattle.concurrent_queue.specs.declared.call.QueueAsk.{QueueAsk}
 use Rattle.concurrent_queue.specs.declared.call.QueueAsk.TheVariants as ask
 use Rattle.concurrent_queue.specs.declared.call.QueueMark.{QueueMark}
 use Rattle.concurrent_queue.specs.declared.call.QueueMark.TheVariants as queue
 use Rattle.channel_calls.specs.Moves.{Channel, Effect, queued, Moves}
-use Rattle.channel_calls.specs.Parts.{Parts}
 use Rattle.channel_calls.specs.declared.mark.Mark.{Mark}
 use Rattle.channel_calls.specs.declared.mark.Mark.TheVariants.{Append, Take, TakeDisplaced, Replace, Close}
 use Rattle.channel_calls.specs.declared.reply.Reply.{Reply}
@@ -15,12 +14,13 @@ use Rattle.channel_calls.specs.declared.stage.Stage.{Stage}
 use Rattle.channel_calls.specs.declared.stage.Stage.TheVariants.{Trying, Working, Finished}
 use Rattle.channel_steps.specs.Moments.{Shut}
 use Rattle.channel_steps.specs.Scene.{Scene, Steps}
-use Rattle.channel_steps.specs.Run.{Next, IsRun}
+use Rattle.channel_steps.specs.Run.{Next, IsRun, NextScene}
 use Rattle.channel_steps.specs.declared.party.Entry.{Entry}
 use Rattle.channel_steps.specs.declared.run.Step.{Step}
 use Rattle.channel_steps.specs.declared.run.Step.TheVariants as step
 use Rattle.channel_laws.specs.Ends.{IsStill}
 use Rattle.channel_laws.specs.Closed.{one_if, within, MayStillDo, ClosingIsForGood}
+use Rattle.channel_steps.proofs.Interface.{run_so}
 use Rattle.channel_laws.proofs.ClosedMoves.{MayMark, tried_may, worked_spares}
 
 module _ {T : Type 0} where
@@ -98,20 +98,20 @@ module _ {T W : Type 0} where
   next_keeps s (step.Begin p ask) e names t n shut = keeps_same s.now.queue t.now.queue (ap (λ (c : Channel T W). c.queue) n.0.now) shut
   next_keeps s (step.Step p) e names t n shut = let h = steps_does s p e names t n shut in h.0
 
-  module _ {S : Type 0} (wakes : S → W → S → Type 0) where
-    keeps_long : (parts parts' : Parts T W) (s t : Scene T W) (a b : S) (xs : List (Step T W)) (es : List (Entry T)) → Shut s.now → IsRun wakes parts s a xs es parts' t b → Keeps s.now.queue t.now.queue
-    keeps_long parts parts' s t a b [] [] shut run = keeps_same s.now.queue t.now.queue (ap (λ (z : Scene T W). z.now.queue) run.1) shut
-    keeps_long parts parts' s t a b (x ∷ xs) (e ∷ es) shut run =
-        let h = next_keeps s x e run.3 run.1 run.5 shut in
-        let k = keeps_long run.0 parts' run.1 t run.2 b xs es h.0 run.7 in
-        let first = h.1 in
-        let rest = k.1 in
-        (k.0, omega (arith, first, rest))
-    keeps_long parts parts' s t a b [] (e ∷ es) shut run = absurd run
-    keeps_long parts parts' s t a b (x ∷ xs) [] shut run = absurd run
+  keeps_long : (s t : Scene T W) (xs : List (Step T W)) (es : List (Entry T)) → Shut s.now → IsRun NextScene s xs es t
+      → Keeps s.now.queue t.now.queue
+  keeps_long s t xs es shut run =
+      run_so NextScene (λ a xs es b. Shut a.now → Keeps a.now.queue b.now.queue) (λ a h. keeps_same a.now.queue a.now.queue refl h)
+      (λ a x e b xs es c n rest h.
+      let now = next_keeps a x e n.0 b n.1 h in
+      let k = rest now.0 in
+      let first = now.1 in
+      let later = k.1 in
+      (k.0, omega (arith, first, later)))
+      s xs es t run shut
 
-module _ (T W S : Type 0) (wakes : S → W → S → Type 0) where
-  pub closing_is_for_good : ClosingIsForGood T W S wakes
+module _ (T W : Type 0) where
+  pub closing_is_for_good : ClosingIsForGood T W
   closing_is_for_good s t steps trace shut run =
-      let k = keeps_long wakes run.0 run.1 s t run.2 run.3 steps trace shut run.4 in
+      let k = keeps_long s t steps trace shut run in
       record { closed = k.0; no_more = k.1; next = λ p e names u st. (let h = steps_does t p e names u st k.0 in h.1) }

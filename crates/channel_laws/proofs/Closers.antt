@@ -1,7 +1,6 @@
 -- Of all closes of a run one at most closes the channel: each that says so has its own mark.
 use Rattle.std.proofs.Common.{arith, ◌≡◌, ℕ, ◌+◌, ◌≤◌, Bool, true, false, List, [], ◌∷◌, ◌++◌, map, Option, None, Some, refl, ap}
 use Rattle.channel_calls.specs.Moves.{Channel}
-use Rattle.channel_calls.specs.Parts.{Parts}
 use Rattle.channel_calls.specs.declared.ask.ChannelAsk.{ChannelAsk}
 use Rattle.channel_calls.specs.declared.ask.ChannelAsk.TheVariants as ask
 use Rattle.channel_calls.specs.declared.mark.Mark.{Mark}
@@ -11,13 +10,14 @@ use Rattle.channel_calls.specs.declared.reply.Reply.TheVariants as reply
 use Rattle.channel_calls.specs.declared.stage.Kept.{Kept}
 use Rattle.channel_calls.specs.declared.stage.Line.TheVariants.{Sends, Receives, Streams, Closings}
 use Rattle.channel_steps.specs.Answers.{Row}
-use Rattle.channel_steps.specs.Moments.{Deed, with_deed, ClosedIt}
-use Rattle.channel_steps.specs.Run.{Next, IsRun, new_scene, begun}
+use Rattle.channel_steps.specs.Moments.{MarkedMoment, with_marked, ClosedIt}
+use Rattle.channel_steps.specs.Run.{Next, IsRun, NextScene, new_scene, call_begun}
 use Rattle.channel_steps.specs.Scene.{Under, Scene, Steps, MayFinish, sees, does, unless_ended}
 use Rattle.channel_steps.specs.declared.party.Entry.{Entry}
 use Rattle.channel_steps.specs.declared.run.Step.{Step}
 use Rattle.channel_steps.specs.declared.run.Step.TheVariants as step
 use Rattle.channel_laws.specs.Bounds.{one_if_closed, closings_in, ClosesOnce}
+use Rattle.channel_steps.proofs.Interface.{run_so}
 use Rattle.channel_laws.proofs.BoundMoves.{SaysOf, FlagOf}
 use Rattle.channel_laws.proofs.Bounds.{step_bounded}
 
@@ -32,22 +32,22 @@ one_if_close m = 0
 
 module _ {T W : Type 0} where
   -- how often calls closed it
-  abbrev marks_in : List (Deed T W) → ℕ
+  abbrev marks_in : List (MarkedMoment T W) → ℕ
   marks_in [] = 0
   marks_in (d ∷ ds) = one_if_close d.mark + marks_in ds
 
   abbrev closers : List (Under T W) → ℕ
   closers [] = 0
-  closers (u ∷ us) = marks_in u.deeds + closers us
+  closers (u ∷ us) = marks_in u.marks + closers us
 
-  marks_join : (ds es : List (Deed T W)) → marks_in (ds ++ es) ≡ marks_in ds + marks_in es
+  marks_join : (ds es : List (MarkedMoment T W)) → marks_in (ds ++ es) ≡ marks_in ds + marks_in es
   marks_join [] es = omega arith
   marks_join (d ∷ ds) es = let h = marks_join ds es in omega (arith, h)
 
-  one_more : (ds : List (Deed T W)) (d : Deed T W) → marks_in (ds ++ d ∷ []) ≡ marks_in ds + one_if_close d.mark
+  one_more : (ds : List (MarkedMoment T W)) (d : MarkedMoment T W) → marks_in (ds ++ d ∷ []) ≡ marks_in ds + one_if_close d.mark
   one_more ds d = let h = marks_join ds (d ∷ []) in omega (arith, h)
 
-  marks_with : (ds : List (Deed T W)) (m : Mark) (c : Channel T W) (seen : List (Channel T W)) → marks_in (with_deed ds m c seen) ≡ marks_in ds + one_if_close m
+  marks_with : (ds : List (MarkedMoment T W)) (m : Mark) (c : Channel T W) (seen : List (Channel T W)) → marks_in (with_marked ds m c seen) ≡ marks_in ds + one_if_close m
   marks_with ds Nothing c seen = omega arith
   marks_with ds m c seen = one_more ds (record { mark = m; before = c; seen = seen })
 
@@ -57,16 +57,16 @@ module _ {T W : Type 0} where
 
   closers_see : (c : Channel T W) (us : List (Under T W)) → closers (map (sees c) us) ≡ closers us
   closers_see c [] = refl
-  closers_see c (u ∷ us) = ap (λ (n : ℕ). marks_in u.deeds + n) (closers_see c us)
+  closers_see c (u ∷ us) = ap (λ (n : ℕ). marks_in u.marks + n) (closers_see c us)
 
   -- ---- the end of a call
 
-  closed_marks : (ds : List (Deed T W)) → ClosedIt ds → 1 ≤ marks_in ds
+  closed_marks : (ds : List (MarkedMoment T W)) → ClosedIt ds → 1 ≤ marks_in ds
   closed_marks [] h = absurd h
   closed_marks (d ∷ []) h = let one : one_if_close d.mark ≡ 1 = ap one_if_close h.0 in omega (arith, one)
   closed_marks (d ∷ e ∷ ds) h = absurd h
 
-  pub row_closed : (a : ChannelAsk T W) (ds : List (Deed T W)) (seen : List (Channel T W)) → Row a ds seen (reply.Closed true) → ClosedIt ds
+  pub row_closed : (a : ChannelAsk T W) (ds : List (MarkedMoment T W)) (seen : List (Channel T W)) → Row a ds seen (reply.Closed true) → ClosedIt ds
   row_closed ask.Close ds seen h = h
   row_closed ask.PollFinishedSend ds seen h = absurd (cc h.1)
   row_closed (ask.RefusePoll Sends message key) ds seen h = absurd (cc h.1)
@@ -82,10 +82,10 @@ module _ {T W : Type 0} where
   row_closed ask.DropWeak ds seen h = absurd (cc h.1)
   row_closed a ds seen h = absurd h
 
-  ended : (u : Under T W) (r : Option (Reply T)) (left : Option (Kept T)) → MayFinish u r left → one_if_closed r + closers (unless_ended u r) ≤ marks_in u.deeds
+  ended : (u : Under T W) (r : Option (Reply T)) (left : Option (Kept T)) → MayFinish u r left → one_if_closed r + closers (unless_ended u r) ≤ marks_in u.marks
   ended u None left h = omega arith
   ended u (Some (reply.Closed true)) left h =
-      let met = h.met in let one = closed_marks u.deeds (row_closed u.ask u.deeds met.1 met.3) in omega (arith, one)
+      let met = h.met in let one = closed_marks u.marks (row_closed u.ask u.marks met.1 met.3) in omega (arith, one)
   ended u (Some r) left h = omega arith
 
   -- ---- one step
@@ -105,7 +105,7 @@ module _ {T W : Type 0} where
       let now : Under T W = does st.mine st.at_now e.mark s.now t.now in
       let b = step_bounded s t p e names st in
       let flag = flag_count e.mark s.now t.now b.says b.flag in
-      let mine : marks_in now.deeds ≡ marks_in st.mine.deeds + one_if_close e.mark = marks_with st.mine.deeds e.mark s.now st.mine.seen in
+      let mine : marks_in now.marks ≡ marks_in st.mine.marks + one_if_close e.mark = marks_with st.mine.marks e.mark s.now st.mine.seen in
       let end = ended now e.reply e.kept st.finishes in
       let all : closers s.under_way ≡ closers (st.before ++ (st.mine ∷ st.behind)) = ap closers st.there in
       let joined = closers_join st.before (st.mine ∷ st.behind) in
@@ -120,23 +120,17 @@ module _ {T W : Type 0} where
   next_closes s (step.Begin p a) e names t n =
       let none : one_if_closed e.reply ≡ 0 = ap (λ (f : Entry T). one_if_closed f.reply) n.0.entry in
       let flag : closable t.now.queue.closed ≡ closable s.now.queue.closed = ap (λ (c : Channel T W). closable c.queue.closed) n.0.now in
-      let after : closers t.under_way ≡ closers (s.under_way ++ begun p a n.0.at s.now ∷ []) = ap closers n.0.under_way in
-      let joined = closers_join s.under_way (begun p a n.0.at s.now ∷ []) in
+      let after : closers t.under_way ≡ closers (s.under_way ++ call_begun p a n.0.at s.now ∷ []) = ap closers n.0.under_way in
+      let joined = closers_join s.under_way (call_begun p a n.0.at s.now ∷ []) in
       omega (arith, none, flag, after, joined)
   next_closes s (step.Step p) e names t n = step_closes s t p e names n
 
-  module _ {S : Type 0} (wakes : S → W → S → Type 0) where
-    run_closes : (parts parts' : Parts T W) (s t : Scene T W) (a b : S) (xs : List (Step T W)) (es : List (Entry T)) → IsRun wakes parts s a xs es parts' t b
-        → closings_in es ≤ left_to_close s
-    run_closes parts parts' s t a b [] [] run = omega arith
-    run_closes parts parts' s t a b (x ∷ xs) (e ∷ es) run =
-        let now = next_closes s x e run.3 run.1 run.5 in
-        let rest = run_closes run.0 parts' run.1 t run.2 b xs es run.7 in
-        omega (arith, now, rest)
-    run_closes parts parts' s t a b [] (e ∷ es) run = absurd run
-    run_closes parts parts' s t a b (x ∷ xs) [] run = absurd run
+  run_closes : (s t : Scene T W) (xs : List (Step T W)) (es : List (Entry T)) → IsRun NextScene s xs es t → closings_in es ≤ left_to_close s
+  run_closes s t xs es run =
+      run_so NextScene (λ a xs es b. closings_in es ≤ left_to_close a) (λ a. omega arith)
+      (λ a x e b xs es c n rest. let now = next_closes a x e n.0 b n.1 in omega (arith, now, rest)) s xs es t run
 
-module _ (T W S : Type 0) (wakes : S → W → S → Type 0) where
-  pub closes_once : ClosesOnce T W S wakes
+module _ (T W : Type 0) where
+  pub closes_once : ClosesOnce T W
   closes_once capacity t steps trace run =
-      let most = run_closes wakes run.0 run.1 (new_scene capacity) t run.2 run.3 steps trace run.4 in omega (arith, most)
+      let most = run_closes (new_scene capacity) t steps trace run in omega (arith, most)

@@ -32,7 +32,7 @@ use Rattle.channel_calls.specs.declared.stage.Stage.TheVariants.{Trying, Working
 use Rattle.channel_calls.specs.declared.stage.Turn.{Turn}
 use Rattle.channel_calls.specs.declared.stage.Turn.TheVariants.{Works}
 use Rattle.channel_calls.specs.declared.stage.Work.TheVariants.{TellSend, TellAll, Leave}
-use Rattle.channel_steps.specs.Moments.{Deed, with_deed, Shut}
+use Rattle.channel_steps.specs.Moments.{MarkedMoment, with_marked, Shut}
 use Rattle.channel_steps.specs.Known.{TriesFor, StageAt}
 use Rattle.channel_laws.specs.Closings.{HasClosed, IsToTell, HasNoCauseToWait, HasToTell, LooksAgain}
 use Rattle.channel_laws.specs.Waits.{Waits, WaitApart}
@@ -152,20 +152,20 @@ module _ {T W : Type 0} where
     ask_drops m reply s h = absurd h
 
   -- what a poll asks of the queue
-  pub sends_push : (x : ChannelAsk T W) (o : Option Key) (task : W) (a : QueueAsk T) (ds : List (Deed T W)) (seen : List (Channel T W)) → TriesFor x (aim.Poll Sends o task) a ds seen → (v : T) × (a ≡ ask.Push v)
+  pub sends_push : (x : ChannelAsk T W) (o : Option Key) (task : W) (a : QueueAsk T) (ds : List (MarkedMoment T W)) (seen : List (Channel T W)) → TriesFor x (aim.Poll Sends o task) a ds seen → (v : T) × (a ≡ ask.Push v)
   sends_push (channel.PollSend m k t) o task (ask.Push v) ds seen h = (v, refl)
   sends_push x o task a ds seen h = absurd h
 
-  pub receives_pop : (x : ChannelAsk T W) (o : Option Key) (task : W) (a : QueueAsk T) (ds : List (Deed T W)) (seen : List (Channel T W)) → TriesFor x (aim.Poll Receives o task) a ds seen → a ≡ ask.Pop
+  pub receives_pop : (x : ChannelAsk T W) (o : Option Key) (task : W) (a : QueueAsk T) (ds : List (MarkedMoment T W)) (seen : List (Channel T W)) → TriesFor x (aim.Poll Receives o task) a ds seen → a ≡ ask.Pop
   receives_pop (channel.PollRecv k t) o task ask.Pop ds seen h = refl
   receives_pop x o task a ds seen h = absurd h
 
-  closings_ask : (x : ChannelAsk T W) (o : Option Key) (task : W) (a : QueueAsk T) (ds : List (Deed T W)) (seen : List (Channel T W)) → TriesFor x (aim.Poll Closings o task) a ds seen → a ≡ ask.IsClosed
+  closings_ask : (x : ChannelAsk T W) (o : Option Key) (task : W) (a : QueueAsk T) (ds : List (MarkedMoment T W)) (seen : List (Channel T W)) → TriesFor x (aim.Poll Closings o task) a ds seen → a ≡ ask.IsClosed
   closings_ask (channel.PollClosed k t) o task ask.IsClosed ds seen h = refl
   closings_ask x o task a ds seen h = absurd h
 
   -- on a closed queue it goes on so, or drops its listener
-  module _ (q : Queue T) (shut : IsShut q) (x : ChannelAsk T W) (k : Key) (task : W) (a : QueueAsk T) (ds : List (Deed T W)) (seen : List (Channel T W)) where
+  module _ (q : Queue T) (shut : IsShut q) (x : ChannelAsk T W) (k : Key) (task : W) (a : QueueAsk T) (ds : List (MarkedMoment T W)) (seen : List (Channel T W)) where
     looks_on : (line : Line) (m : QueueMark) (s t : queue.Stage T) → TriesFor x (aim.Poll line (Some k) task) a ds seen → ContinuesBy q a m s t → HasNoCauseToWait s → HasNoCauseToWait t
     looks_on Sends m s t h g n = let p = sends_push x (Some k) task a ds seen h in push_looks q shut m s t (subst (λ (z : QueueAsk T). ContinuesBy q z m s t) p.1 g) n
     looks_on Receives m s t h g n = pop_looks q shut m s t (subst (λ (z : QueueAsk T). ContinuesBy q z m s t) (receives_pop x (Some k) task a ds seen h) g) n
@@ -179,7 +179,7 @@ module _ {T W : Type 0} where
     drops Streams m reply s h g n = let d = pop_drops q shut k task m reply s (subst (λ (z : QueueAsk T). AnswersTo q z m reply s) (stream_pops x (Some k) task a ds seen h) g) in d.1
     drops Closings m reply s h g n = ask_drops q shut k task m reply s (subst (λ (z : QueueAsk T). AnswersTo q z m reply s) (closings_ask x (Some k) task a ds seen h) g)
 
-  polls_on : (c : Channel T W) (x : ChannelAsk T W) (f : Phase T) (line : Line) (k : Key) (task : W) (m : QueueMark) (ds : List (Deed T W)) (seen : List (Channel T W)) (r : Option (Reply T)) (s : Stage (Phase T) T W)
+  polls_on : (c : Channel T W) (x : ChannelAsk T W) (f : Phase T) (line : Line) (k : Key) (task : W) (m : QueueMark) (ds : List (MarkedMoment T W)) (seen : List (Channel T W)) (r : Option (Reply T)) (s : Stage (Phase T) T W)
       → Shut c → TriesFor x (aim.Poll line (Some k) task) f.ask ds seen → HasNoCauseToWait f.stage → How c f (aim.Poll line (Some k) task) m r s → (r ≡ None) × LooksAgain line k s
   polls_on c x f line k task m ds seen r s shut h n (inl (f', goes, none, there)) =
       (none, subst (λ (z : Stage (Phase T) T W). LooksAgain line k z) (sym there) (refl, refl, looks_on c.queue shut x k task f.ask ds seen line m f.stage f'.stage h goes.1 n))
@@ -189,28 +189,28 @@ module _ {T W : Type 0} where
   -- ---- what a step leaves
 
   -- the call goes on, and answers for the one that waits
-  abbrev pub GoesOnFor : List (Deed T W) → Line → Key → Option (Reply T) → Stage (Phase T) T W → Type 0
+  abbrev pub GoesOnFor : List (MarkedMoment T W) → Line → Key → Option (Reply T) → Stage (Phase T) T W → Type 0
   GoesOnFor done line key r s = (r ≡ None) × ((HasClosed done × HasToTell line s) ⊎ LooksAgain line key s)
 
   -- the marks of a call that makes a step: what it had it has, and a closing is one of them
-  has_more : (ds : List (Deed T W)) (d : Deed T W) → HasClosed ds → HasClosed (ds ++ d ∷ [])
+  has_more : (ds : List (MarkedMoment T W)) (d : MarkedMoment T W) → HasClosed ds → HasClosed (ds ++ d ∷ [])
   has_more [] d h = absurd h
   has_more (x ∷ ds) d (inl h) = inl h
   has_more (x ∷ ds) d (inr h) = inr (has_more ds d h)
 
-  has_last : (ds : List (Deed T W)) (d : Deed T W) → d.mark ≡ mark.Close → HasClosed (ds ++ d ∷ [])
+  has_last : (ds : List (MarkedMoment T W)) (d : MarkedMoment T W) → d.mark ≡ mark.Close → HasClosed (ds ++ d ∷ [])
   has_last [] d e = inl e
   has_last (x ∷ ds) d e = inr (has_last ds d e)
 
-  pub has_still : (ds : List (Deed T W)) (m : Mark) (c : Channel T W) (seen : List (Channel T W)) → HasClosed ds → HasClosed (with_deed ds m c seen)
+  pub has_still : (ds : List (MarkedMoment T W)) (m : Mark) (c : Channel T W) (seen : List (Channel T W)) → HasClosed ds → HasClosed (with_marked ds m c seen)
   has_still ds mark.Nothing c seen h = h
   has_still ds m c seen h = has_more ds (record { mark = m; before = c; seen = seen }) h
 
-  pub has_now : (ds : List (Deed T W)) (m : Mark) (c : Channel T W) (seen : List (Channel T W)) → m ≡ mark.Close → HasClosed (with_deed ds m c seen)
+  pub has_now : (ds : List (MarkedMoment T W)) (m : Mark) (c : Channel T W) (seen : List (Channel T W)) → m ≡ mark.Close → HasClosed (with_marked ds m c seen)
   has_now ds m c seen e =
-      subst (λ (z : Mark). HasClosed (with_deed ds z c seen)) (sym e) (has_last ds (record { mark = mark.Close; before = c; seen = seen }) refl)
+      subst (λ (z : Mark). HasClosed (with_marked ds z c seen)) (sym e) (has_last ds (record { mark = mark.Close; before = c; seen = seen }) refl)
 
-  looking : (done : List (Deed T W)) (line at : Line) (key k : Key) (r : Option (Reply T)) (s : Stage (Phase T) T W) → at ≡ line → k ≡ key → (r ≡ None) × LooksAgain at k s → GoesOnFor done line key r s
+  looking : (done : List (MarkedMoment T W)) (line at : Line) (key k : Key) (r : Option (Reply T)) (s : Stage (Phase T) T W) → at ≡ line → k ≡ key → (r ≡ None) × LooksAgain at k s → GoesOnFor done line key r s
   looking done line at key k r s e f h =
       (h.0, inr (subst (λ (l : Line). LooksAgain l key s) e (subst (λ (z : Key). LooksAgain at z s) f h.1)))
 
@@ -220,7 +220,7 @@ module _ {T W : Type 0} where
   left_line Streams key c apart w = removed_leaves key c.roster.streams apart w
   left_line Closings key c apart w = removed_leaves key c.roster.closings apart w
 
-  pub looks_goes : (done : List (Deed T W)) (c : Channel T W) (x : ChannelAsk T W) (at : Stage (Phase T) T W) (ds : List (Deed T W)) (seen : List (Channel T W)) (e : Effect T W) (r : Option (Reply T)) (s : Stage (Phase T) T W) (line : Line) (key : Key)
+  pub looks_goes : (done : List (MarkedMoment T W)) (c : Channel T W) (x : ChannelAsk T W) (at : Stage (Phase T) T W) (ds : List (MarkedMoment T W)) (seen : List (Channel T W)) (e : Effect T W) (r : Option (Reply T)) (s : Stage (Phase T) T W) (line : Line) (key : Key)
       → StageAt c x at ds seen → Moves c at e r s → Shut c → LooksAgain line key at → WaitApart line c → Waits line key e.channel → GoesOnFor done line key r s
   looks_goes done c x (Trying f (aim.Poll at (Some k) task)) ds seen e r s line key st g shut h apart w =
       looking done line at key k r s h.0 h.1 (polls_on c x f at k task g.mark ds seen r s shut st.0 h.2 g.how)
@@ -234,10 +234,10 @@ module _ {T W : Type 0} where
 
   -- ---- the closing
 
-  goes_to : (done : List (Deed T W)) (next line : Line) (closer : Closer) (key : Key) (r : Option (Reply T)) (s : Stage (Phase T) T W) → HasClosed done → IsToTell next line → (r ≡ None) × (s ≡ Working (TellAll next closer)) → GoesOnFor done line key r s
+  goes_to : (done : List (MarkedMoment T W)) (next line : Line) (closer : Closer) (key : Key) (r : Option (Reply T)) (s : Stage (Phase T) T W) → HasClosed done → IsToTell next line → (r ≡ None) × (s ≡ Working (TellAll next closer)) → GoesOnFor done line key r s
   goes_to done next line closer key r s closed h t = (t.0, inl (closed, subst (λ (z : Stage (Phase T) T W). HasToTell line z) (sym t.1) h))
 
-  tells_goes : (done : List (Deed T W)) (at line : Line) (closer : Closer) (c : Channel T W) (e : Effect T W) (r : Option (Reply T)) (s : Stage (Phase T) T W) (key : Key) → HasClosed done → IsToTell at line → e ≡ tells_all at c → Turned (told_all_next at closer) r s → Waits line key e.channel → GoesOnFor done line key r s
+  tells_goes : (done : List (MarkedMoment T W)) (at line : Line) (closer : Closer) (c : Channel T W) (e : Effect T W) (r : Option (Reply T)) (s : Stage (Phase T) T W) (key : Key) → HasClosed done → IsToTell at line → e ≡ tells_all at c → Turned (told_all_next at closer) r s → Waits line key e.channel → GoesOnFor done line key r s
   tells_goes done Sends Sends closer c e r s key closed h same t w = absurd (subst (λ (z : Effect T W). Waits Sends key z.channel) same w)
   tells_goes done Sends Receives closer c e r s key closed h same t w = goes_to done Receives Receives closer key r s closed tt t
   tells_goes done Sends Streams closer c e r s key closed h same t w = goes_to done Receives Streams closer key r s closed tt t
@@ -255,12 +255,12 @@ module _ {T W : Type 0} where
   tells_goes done Closings Streams closer c e r s key closed h same t w = absurd h
   tells_goes done Closings Closings closer c e r s key closed h same t w = absurd (subst (λ (z : Effect T W). Waits Closings key z.channel) same w)
 
-  telling_goes : (done : List (Deed T W)) (c : Channel T W) (at : Stage (Phase T) T W) (e : Effect T W) (r : Option (Reply T)) (s : Stage (Phase T) T W) (line : Line) (key : Key) → Moves c at e r s → HasClosed done → HasToTell line at → Waits line key e.channel → GoesOnFor done line key r s
+  telling_goes : (done : List (MarkedMoment T W)) (c : Channel T W) (at : Stage (Phase T) T W) (e : Effect T W) (r : Option (Reply T)) (s : Stage (Phase T) T W) (line : Line) (key : Key) → Moves c at e r s → HasClosed done → HasToTell line at → Waits line key e.channel → GoesOnFor done line key r s
   telling_goes done c (Working (TellAll at closer)) e r s line key g closed h w = tells_goes done at line closer c e r s key closed h g.0 g.1 w
   telling_goes done c at e r s line key g closed h w = absurd h
 
   -- the call that makes the step answered for the one that waits: so it does
-  pub answering_on : (done : List (Deed T W)) (c : Channel T W) (x : ChannelAsk T W) (at : Stage (Phase T) T W) (ds : List (Deed T W)) (seen : List (Channel T W)) (e : Effect T W) (r : Option (Reply T)) (s : Stage (Phase T) T W) (line : Line) (key : Key)
+  pub answering_on : (done : List (MarkedMoment T W)) (c : Channel T W) (x : ChannelAsk T W) (at : Stage (Phase T) T W) (ds : List (MarkedMoment T W)) (seen : List (Channel T W)) (e : Effect T W) (r : Option (Reply T)) (s : Stage (Phase T) T W) (line : Line) (key : Key)
       → StageAt c x at ds seen → Moves c at e r s → Shut c → WaitApart line c → Waits line key e.channel → (HasClosed ds → HasClosed done) → (HasClosed ds × HasToTell line at) ⊎ LooksAgain line key at → GoesOnFor done line key r s
   answering_on done c x at ds seen e r s line key st g shut apart w kept (inl h) = telling_goes done c at e r s line key g (kept h.0) h.1 w
   answering_on done c x at ds seen e r s line key st g shut apart w kept (inr h) = looks_goes done c x at ds seen e r s line key st g shut h apart w
@@ -270,7 +270,7 @@ module _ {T W : Type 0} where
   TellsFirst (Works (TellAll Sends closer)) = Unit {0}
   TellsFirst turn = ⊥
 
-  close_next : (x : ChannelAsk T W) (y : Aim T W) (ds : List (Deed T W)) (seen : List (Channel T W)) → TriesFor x y ask.Close ds seen → TellsFirst (answered_next y (let r : QueueReply T = answer.Close true in r))
+  close_next : (x : ChannelAsk T W) (y : Aim T W) (ds : List (MarkedMoment T W)) (seen : List (Channel T W)) → TriesFor x y ask.Close ds seen → TellsFirst (answered_next y (let r : QueueReply T = answer.Close true in r))
   close_next (channel.TrySend m) aim.TrySend ds seen h = absurd h
   close_next (channel.ForceSend m) aim.ForceSend ds seen h = absurd h
   close_next channel.TryRecv aim.TryRecv ds seen h = absurd h
@@ -292,11 +292,11 @@ module _ {T W : Type 0} where
   close_next channel.IsTerminated aim.Ask ds seen h = absurd h
   close_next x y ds seen h = absurd h
 
-  turned_first : (done : List (Deed T W)) (turn : Turn T W) (line : Line) (key : Key) (r : Option (Reply T)) (s : Stage (Phase T) T W) → HasClosed done → TellsFirst turn → Turned turn r s → GoesOnFor done line key r s
+  turned_first : (done : List (MarkedMoment T W)) (turn : Turn T W) (line : Line) (key : Key) (r : Option (Reply T)) (s : Stage (Phase T) T W) → HasClosed done → TellsFirst turn → Turned turn r s → GoesOnFor done line key r s
   turned_first done (Works (TellAll Sends closer)) line key r s closed h t = goes_to done Sends line closer key r s closed tt t
   turned_first done turn line key r s closed h t = absurd h
 
-  closed_by : (done : List (Deed T W)) (c : Channel T W) (x : ChannelAsk T W) (f : Phase T) (y : Aim T W) (ds : List (Deed T W)) (seen : List (Channel T W)) (r : Option (Reply T)) (s : Stage (Phase T) T W) (line : Line) (key : Key) (reply : QueueReply T) (m : QueueMark)
+  closed_by : (done : List (MarkedMoment T W)) (c : Channel T W) (x : ChannelAsk T W) (f : Phase T) (y : Aim T W) (ds : List (MarkedMoment T W)) (seen : List (Channel T W)) (r : Option (Reply T)) (s : Stage (Phase T) T W) (line : Line) (key : Key) (reply : QueueReply T) (m : QueueMark)
       → (m ≡ Close → HasClosed done) → TriesFor x y f.ask ds seen → Turned (answered_next y reply) r s → IsShut c.queue ⊎ ((f.ask ≡ ask.Close) × (reply ≡ answer.Close true) × (m ≡ Close)) → Shut c ⊎ GoesOnFor done line key r s
   closed_by done c x f y ds seen r s line key reply m closes h turned (inl shut) = inl shut
   closed_by done c x f y ds seen r s line key reply m closes h turned (inr (asks, says, now)) =
@@ -304,14 +304,14 @@ module _ {T W : Type 0} where
       (close_next x y ds seen (subst (λ (a : QueueAsk T). TriesFor x y a ds seen) asks h))
       (subst (λ (z : QueueReply T). Turned (answered_next y z) r s) says turned))
 
-  tried_shut : (done : List (Deed T W)) (c : Channel T W) (x : ChannelAsk T W) (f : Phase T) (y : Aim T W) (m : QueueMark) (ds : List (Deed T W)) (seen : List (Channel T W)) (r : Option (Reply T)) (s : Stage (Phase T) T W) (line : Line) (key : Key)
+  tried_shut : (done : List (MarkedMoment T W)) (c : Channel T W) (x : ChannelAsk T W) (f : Phase T) (y : Aim T W) (m : QueueMark) (ds : List (MarkedMoment T W)) (seen : List (Channel T W)) (r : Option (Reply T)) (s : Stage (Phase T) T W) (line : Line) (key : Key)
       → (m ≡ Close → HasClosed done) → TriesFor x y f.ask ds seen → How c f y m r s → IsShut (marked f.ask (is_displaced f.stage) m c.queue) → Shut c ⊎ GoesOnFor done line key r s
   tried_shut done c x f y m ds seen r s line key closes h (inl (f', goes, none, there)) shut = inl (goes_same c.queue f.ask (is_displaced f.stage) m f.stage f'.stage goes.1 shut)
   tried_shut done c x f y m ds seen r s line key closes h (inr (reply, ans, turned)) shut =
       closed_by done c x f y ds seen r s line key reply m closes h turned (answers_same c.queue f.ask (is_displaced f.stage) m reply f.stage ans shut)
 
   -- where the channel is closed after a step it was so before, or the step closed it and has all lists to tell
-  pub shut_before : (done : List (Deed T W)) (c : Channel T W) (x : ChannelAsk T W) (at : Stage (Phase T) T W) (ds : List (Deed T W)) (seen : List (Channel T W)) (e : Effect T W) (r : Option (Reply T)) (s : Stage (Phase T) T W) (line : Line) (key : Key)
+  pub shut_before : (done : List (MarkedMoment T W)) (c : Channel T W) (x : ChannelAsk T W) (at : Stage (Phase T) T W) (ds : List (MarkedMoment T W)) (seen : List (Channel T W)) (e : Effect T W) (r : Option (Reply T)) (s : Stage (Phase T) T W) (line : Line) (key : Key)
       → (e.mark ≡ mark.Close → HasClosed done) → StageAt c x at ds seen → Moves c at e r s → Shut e.channel → Shut c ⊎ GoesOnFor done line key r s
   shut_before done c x (Trying f y) ds seen e r s line key closes st g shut =
       tried_shut done c x f y g.mark ds seen r s line key (λ now. closes (ap (λ (z : Effect T W). z.mark) g.effect ∙ ap mark_of_queue now)) st.0 g.how (subst (λ (z : Effect T W). Shut z.channel) g.effect shut)
@@ -319,6 +319,6 @@ module _ {T W : Type 0} where
       let k = worked_spares c w e r s g in inl (subst (λ (q : Queue T). IsShut q) k.0 shut)
   shut_before done c x (Finished kept) ds seen e r s line key closes st g shut = inl (subst (λ (z : Effect T W). Shut z.channel) g.0 shut)
 
-  pub newcomer_looks : (done : List (Deed T W)) (c : Channel T W) (e : Effect T W) (r : Option (Reply T)) (s : Stage (Phase T) T W) (line : Line) (key : Key) → Tries line c e r s key → GoesOnFor done line key r s
+  pub newcomer_looks : (done : List (MarkedMoment T W)) (c : Channel T W) (e : Effect T W) (r : Option (Reply T)) (s : Stage (Phase T) T W) (line : Line) (key : Key) → Tries line c e r s key → GoesOnFor done line key r s
   newcomer_looks done c e r s line key (w, task, at, turned) =
       (turned.0, inr (subst (λ (z : Stage (Phase T) T W). LooksAgain line key z) (sym turned.1) (at, refl, refl)))

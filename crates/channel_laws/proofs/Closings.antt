@@ -4,7 +4,7 @@ use Rattle.event_listener.specs.declared.key.Key.{Key}
 use Rattle.channel_calls.specs.Moves.{Channel, Effect}
 use Rattle.channel_calls.specs.declared.stage.Line.{Line}
 use Rattle.channel_calls.specs.declared.stage.Line.TheVariants.{Sends, Receives, Streams, Closings}
-use Rattle.channel_steps.specs.Moments.{Deed, with_deed, Shut}
+use Rattle.channel_steps.specs.Moments.{MarkedMoment, with_marked, Shut}
 use Rattle.channel_steps.specs.Scene.{Under, Scene, Steps, Known, sees}
 use Rattle.channel_steps.specs.Run.{Next, new_scene}
 use Rattle.channel_steps.specs.declared.party.Entry.{Entry}
@@ -26,8 +26,8 @@ module _ {T W : Type 0} where
     abbrev effect : Effect T W
     effect = record { channel = t.now; mark = e.mark; woken = names }
 
-    abbrev done : List (Deed T W)
-    done = with_deed st.mine.deeds e.mark s.now st.mine.seen
+    abbrev done : List (MarkedMoment T W)
+    done = with_marked st.mine.marks e.mark s.now st.mine.seen
 
     mine_known : Known s.now st.mine
     mine_known = of_mine (Known s.now) s t p e names st (each_known s.now s.under_way sound.known)
@@ -46,7 +46,7 @@ module _ {T W : Type 0} where
       one_of_them before (inl h) = h
       one_of_them before (inr h) =
           let k = mine_known in
-          goes_on (answering_on done s.now st.mine.ask st.mine.at st.mine.deeds st.mine.seen effect e.reply st.at_now line key k.stands st.moves before (sound.apart line) w (has_still st.mine.deeds e.mark s.now st.mine.seen) h)
+          goes_on (answering_on done s.now st.mine.ask st.mine.at st.mine.marks st.mine.seen effect e.reply st.at_now line key k.stands st.moves before (sound.apart line) w (has_still st.mine.marks e.mark s.now st.mine.seen) h)
 
       waited_or_new : Shut s.now → Waits line key s.now ⊎ Tries line s.now effect e.reply st.at_now key → Answered
       waited_or_new before (inl h) = one_of_them before (any_steps (AnswersClosed line key) s t p e names st stays (sound.owed line key before h))
@@ -60,7 +60,7 @@ module _ {T W : Type 0} where
       answered_after : Answered
       answered_after =
           let k = mine_known in
-          closed_or_closes (shut_before done s.now st.mine.ask st.mine.at st.mine.deeds st.mine.seen effect e.reply st.at_now line key (has_now st.mine.deeds e.mark s.now st.mine.seen) k.stands st.moves shut)
+          closed_or_closes (shut_before done s.now st.mine.ask st.mine.at st.mine.marks st.mine.seen effect e.reply st.at_now line key (has_now st.mine.marks e.mark s.now st.mine.seen) k.stands st.moves shut)
 
     apart_after : (line : Line) → WaitApart line t.now
     apart_after line = stays_apart line s.now effect e.reply st.at_now (moved_lists line s.now st.mine.at effect e.reply st.at_now st.moves) (sound.apart line)
@@ -98,11 +98,11 @@ module _ {T W : Type 0} where
 
   pub pending_owed : (s : Scene T W) → ClosingIsOwed s → PendingIsOwedTheClosing s
   pending_owed s owed line key shut w none =
-      any_but (λ u. HasClosed u.deeds × HasToTell line u.at) (λ u. LooksAgain line key u.at) s.under_way (owed line key shut w) none
+      any_but (λ u. HasClosed u.marks × HasToTell line u.at) (λ u. LooksAgain line key u.at) s.under_way (owed line key shut w) none
 
-module _ (T W S : Type 0) (wakes : S → W → S → Type 0) where
-  pub closing_stays_owed : ClosingStaysOwed T W S wakes
-  closing_stays_owed s t steps trace h run = kept_long wakes ClosingSound sound_next run.0 run.1 s t run.2 run.3 steps trace h run.4
+module _ (T W : Type 0) where
+  pub closing_stays_owed : ClosingStaysOwed T W
+  closing_stays_owed s t steps trace h run = kept_long ClosingSound sound_next s t steps trace h run
 
-  pub nobody_misses_the_closing : NobodyMissesTheClosing T W S wakes
+  pub nobody_misses_the_closing : NobodyMissesTheClosing T W
   nobody_misses_the_closing cap t steps trace run = let h = closing_stays_owed (new_scene cap) t steps trace (new_sound cap) run in (h.owed, pending_owed t h.owed)

@@ -4,7 +4,7 @@ use Rattle.channel_calls.specs.Moves.{Channel}
 use Rattle.channel_calls.specs.declared.ask.ChannelAsk.{ChannelAsk}
 use Rattle.channel_calls.specs.declared.reply.Reply.{Reply}
 use Rattle.channel_steps.specs.Scene.{Under, Scene, Steps, Known, AllKnown, sees, does, unless_ended}
-use Rattle.channel_steps.specs.Run.{Begins, begun}
+use Rattle.channel_steps.specs.Run.{Begins, call_begun}
 use Rattle.channel_steps.specs.declared.party.Entry.{Entry}
 use Rattle.channel_laws.specs.Ends.{Each}
 
@@ -55,9 +55,9 @@ module _ {T W : Type 0} where
 
   -- a call that begins comes in beside the others
   pub each_begins : (P Q : Under T W → Type 0) (s t : Scene T W) (p : ℕ) (ask : ChannelAsk T W) (e : Entry T) (b : Begins s p ask e t)
-      → ((u : Under T W) → P u → Q u) → Q (begun p ask b.at s.now) → Each P s.under_way → Each Q t.under_way
+      → ((u : Under T W) → P u → Q u) → Q (call_begun p ask b.at s.now) → Each P s.under_way → Each Q t.under_way
   each_begins P Q s t p ask e b others mine h =
-      subst (λ (us : List (Under T W)). Each Q us) (sym b.under_way) (each_join Q s.under_way (begun p ask b.at s.now ∷ []) (each_same P Q others s.under_way h) (mine, tt))
+      subst (λ (us : List (Under T W)). Each Q us) (sym b.under_way) (each_join Q s.under_way (call_begun p ask b.at s.now ∷ []) (each_same P Q others s.under_way h) (mine, tt))
 
   pub each_known : (c : Channel T W) (us : List (Under T W)) → AllKnown c us → Each (Known c) us
   each_known c [] h = tt

@@ -10,12 +10,12 @@ use Rattle.channel_calls.specs.declared.reply.Reply.{Reply}
 use Rattle.channel_calls.specs.declared.reply.Reply.TheVariants as reply
 use Rattle.channel_calls.specs.declared.stage.Kept.{Kept}
 use Rattle.channel_steps.specs.Answers.{Row, Keeps}
-use Rattle.channel_steps.specs.Moments.{Deed}
+use Rattle.channel_steps.specs.Moments.{MarkedMoment}
 use Rattle.channel_steps.specs.Scene.{Under, Finishes, MayFinish}
 use Rattle.channel_laws.specs.EndSays.{LeavesNothing, EndSays}
 
 module _ {T W : Type 0} where
-  leaves : (a : ChannelAsk T W) (ds : List (Deed T W)) (seen : List (Channel T W)) (r : Reply T) (k : Kept T)
+  leaves : (a : ChannelAsk T W) (ds : List (MarkedMoment T W)) (seen : List (Channel T W)) (r : Reply T) (k : Kept T)
       → Row a ds seen r → Keeps a r k → LeavesNothing a ds r k
   leaves (ask.TrySend m) ds seen (reply.TrySend (Err (refused.NoMemory v))) k h keeps = (h.1, h.0, keeps)
   leaves (ask.ForceSend m) ds seen (reply.ForceSend (Err (refused.NoMemory v))) k h keeps = (h.1, h.0, keeps)
@@ -36,7 +36,7 @@ module _ {T W : Type 0} where
     kept = f.kept;
     leaves = f.given;
     keeps = f.keeps;
-    nothing = leaves u.ask u.deeds f.met.1 r f.kept f.met.3 f.keeps;
+    nothing = leaves u.ask u.marks f.met.1 r f.kept f.met.3 f.keeps;
   }
 
   pub may_end : (u : Under T W) (r : Option (Reply T)) (left : Option (Kept T)) → MayFinish u r left → IfSome r (λ x. EndSays u x left)

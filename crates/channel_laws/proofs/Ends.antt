@@ -2,19 +2,20 @@
 use Rattle.std.proofs.Common.{◌≡◌, ℕ, List, [], ◌∷◌, ◌++◌, ◌⊎◌, inl, inr, refl, sym, ap, ◌∙◌, subst, append-nil}
 use Rattle.concurrent_queue.specs.Queue.{Queue, IsShut, IsDrained}
 use Rattle.channel_calls.specs.Moves.{Channel}
-use Rattle.channel_calls.specs.Parts.{Parts}
 use Rattle.channel_calls.specs.declared.ask.ChannelAsk.{ChannelAsk}
 use Rattle.channel_calls.specs.declared.mark.Mark.{Mark}
 use Rattle.channel_calls.specs.declared.mark.Mark.TheVariants.{Append, Take, TakeDisplaced, Replace, Close}
 use Rattle.channel_steps.specs.Moments.{Spent, Once}
 use Rattle.channel_steps.specs.Scene.{Under, Scene, Steps, does, gone_by, came_by}
-use Rattle.channel_steps.specs.Run.{Next, IsRun}
+use Rattle.channel_steps.specs.Run.{Next, IsRun, NextScene}
 use Rattle.channel_steps.specs.declared.party.Entry.{Entry}
 use Rattle.channel_steps.specs.declared.run.Step.{Step}
 use Rattle.channel_steps.specs.declared.run.Step.TheVariants as step
 use Rattle.channel_laws.specs.Ends.{IsStill, GivesMessage, Replies, Each, KnowsTheEnd, GetsNothing, StaysOver, EndIsForGood, EndIsKnown, NothingComesAfterTheEnd}
 use Rattle.channel_laws.specs.Over.{StillDeeds}
+use Rattle.channel_steps.proofs.Interface.{run_so}
 use Rattle.channel_laws.proofs.EachFacts.{of_mine, each_steps, each_begins}
+use Rattle.channel_laws.proofs.RunFacts.{kept_long}
 use Rattle.channel_laws.proofs.ClosedMoves.{over_spares}
 use Rattle.channel_laws.proofs.ReplyFacts.{with_still, finish_gives, finish_ends}
 
@@ -92,18 +93,18 @@ module _ {T W : Type 0} where
   -- ---- a party that was idle when it was over
 
   abbrev Silent : ℕ → Under T W → Type 0
-  Silent q u = u.party ≡ q → StillDeeds u.deeds
+  Silent q u = u.party ≡ q → StillDeeds u.marks
 
   silent_next : (q : ℕ) (s : Scene T W) (x : Step T W) (e : Entry T) (names : List W) (t : Scene T W) → Next s x e names t → IsStill e.mark → Each (Silent q) s.under_way → Each (Silent q) t.under_way
   silent_next q s (step.Begin p ask) e names t n still h =
       each_begins (Silent q) (Silent q) s t p ask e n.0 (λ u k. k) (λ same. tt) h
   silent_next q s (step.Step p) e names t n still h =
-      each_steps (Silent q) (Silent q) s t p e names n (λ u k. k) (λ k same. with_still n.mine.deeds e.mark s.now n.mine.seen (k same) still) h
+      each_steps (Silent q) (Silent q) s t p e names n (λ u k. k) (λ k same. with_still n.mine.marks e.mark s.now n.mine.seen (k same) still) h
 
   gives_none : (q : ℕ) (s : Scene T W) (p : ℕ) (e : Entry T) (names : List W) (t : Scene T W) → Steps s p e names t → IsStill e.mark → Each (Silent q) s.under_way → p ≡ q → Replies GivesMessage e.reply → ⊥
   gives_none q s p e names t st still h same g =
       let k = of_mine (Silent q) s t p e names st h in
-      finish_gives (does st.mine st.at_now e.mark s.now t.now) e.reply e.kept st.finishes (with_still st.mine.deeds e.mark s.now st.mine.seen (k (st.whose ∙ same)) still) g
+      finish_gives (does st.mine st.at_now e.mark s.now t.now) e.reply e.kept st.finishes (with_still st.mine.marks e.mark s.now st.mine.seen (k (st.whose ∙ same)) still) g
 
   pub silent_from : (q : ℕ) (us : List (Under T W)) → Each (λ u. u.party ≡ q → ⊥) us → Each (Silent q) us
   silent_from q [] h = tt
@@ -111,50 +112,39 @@ module _ {T W : Type 0} where
 
   -- ---- runs
 
-  module _ {S : Type 0} (wakes : S → W → S → Type 0) where
-    rests_long : (parts parts' : Parts T W) (s t : Scene T W) (a b : S) (xs : List (Step T W)) (es : List (Entry T)) → Spent s.now → IsRun wakes parts s a xs es parts' t b → StaysOver s es t
-    rests_long parts parts' s t a b [] [] over run =
-        record {
-          over = subst (λ (z : Scene T W). Spent z.now) (sym run.1) over;
-          still = tt;
-          gone = ap (λ (z : Scene T W). z.gone) run.1;
-          came = ap (λ (z : Scene T W). z.came) run.1;
-        }
-    rests_long parts parts' s t a b (x ∷ xs) (e ∷ es) over run =
-        let h = rests s x e run.3 run.1 over run.5 in
-        let k = rests_long run.0 parts' run.1 t run.2 b xs es h.over run.7 in
-        record { over = k.over; still = (h.still, k.still); gone = k.gone ∙ h.gone; came = k.came ∙ h.came }
-    rests_long parts parts' s t a b [] (e ∷ es) over run = absurd run
-    rests_long parts parts' s t a b (x ∷ xs) [] over run = absurd run
+  rests_long : (s t : Scene T W) (xs : List (Step T W)) (es : List (Entry T)) → Spent s.now → IsRun NextScene s xs es t → StaysOver s es t
+  rests_long s t xs es over run =
+      run_so NextScene (λ a xs es b. Spent a.now → StaysOver a es b) (λ a h. record { over = h; still = tt; gone = refl; came = refl })
+      (λ a x e b xs es c n rest h.
+      let first = rests a x e n.0 b h n.1 in
+      let k = rest first.over in
+      record { over = k.over; still = (first.still, k.still); gone = k.gone ∙ first.gone; came = k.came ∙ first.came })
+      s xs es t run over
 
-    true_long : (parts parts' : Parts T W) (s t : Scene T W) (a b : S) (xs : List (Step T W)) (es : List (Entry T)) → KnowsTheEnd s → IsRun wakes parts s a xs es parts' t b → KnowsTheEnd t
-    true_long parts parts' s t a b [] [] h run = subst (λ (z : Scene T W). KnowsTheEnd z) (sym run.1) h
-    true_long parts parts' s t a b (x ∷ xs) (e ∷ es) h run =
-        true_long run.0 parts' run.1 t run.2 b xs es (true_next s x e run.3 run.1 run.5 h) run.7
-    true_long parts parts' s t a b [] (e ∷ es) h run = absurd run
-    true_long parts parts' s t a b (x ∷ xs) [] h run = absurd run
+  pub silent_long : (q : ℕ) (s t : Scene T W) (xs : List (Step T W)) (es : List (Entry T)) → Spent s.now → Each (Silent q) s.under_way
+      → IsRun NextScene s xs es t → GetsNothing q xs es
+  silent_long q s t xs es over h run =
+      run_so NextScene (λ a xs es b. Spent a.now → Each (Silent q) a.under_way → GetsNothing q xs es) (λ a o k. tt) one s xs es t run over h
+    where
+      one : (a : Scene T W) (x : Step T W) (e : Entry T) (b : Scene T W) (xs : List (Step T W)) (es : List (Entry T)) (c : Scene T W)
+          → NextScene a x e b → (Spent b.now → Each (Silent q) b.under_way → GetsNothing q xs es)
+          → Spent a.now → Each (Silent q) a.under_way → GetsNothing q (x ∷ xs) (e ∷ es)
+      one a (step.Begin p ask) e b xs es c n rest o k =
+          let r = rests a (step.Begin p ask) e n.0 b o n.1 in rest r.over (silent_next q a (step.Begin p ask) e n.0 b n.1 r.still k)
+      one a (step.Step p) e b xs es c n rest o k =
+          let r = rests a (step.Step p) e n.0 b o n.1 in (
+            λ same g. gives_none q a p e n.0 b n.1 r.still k same g,
+            rest r.over (silent_next q a (step.Step p) e n.0 b n.1 r.still k),
+          )
 
-    pub silent_long : (q : ℕ) (parts parts' : Parts T W) (s t : Scene T W) (a b : S) (xs : List (Step T W)) (es : List (Entry T)) → Spent s.now → Each (Silent q) s.under_way → IsRun wakes parts s a xs es parts' t b → GetsNothing q xs es
-    silent_long q parts parts' s t a b [] [] over h run = tt
-    silent_long q parts parts' s t a b (step.Begin p ask ∷ xs) (e ∷ es) over h run =
-        let r = rests s (step.Begin p ask) e run.3 run.1 over run.5 in
-        silent_long q run.0 parts' run.1 t run.2 b xs es r.over (silent_next q s (step.Begin p ask) e run.3 run.1 run.5 r.still h) run.7
-    silent_long q parts parts' s t a b (step.Step p ∷ xs) (e ∷ es) over h run =
-        let r = rests s (step.Step p) e run.3 run.1 over run.5 in (
-          λ same g. gives_none q s p e run.3 run.1 run.5 r.still h same g,
-          silent_long q run.0 parts' run.1 t run.2 b xs es r.over (silent_next q s (step.Step p) e run.3 run.1 run.5 r.still h) run.7,
-        )
-    silent_long q parts parts' s t a b [] (e ∷ es) over h run = absurd run
-    silent_long q parts parts' s t a b (x ∷ xs) [] over h run = absurd run
+module _ (T W : Type 0) where
+  pub end_is_for_good : EndIsForGood T W
+  end_is_for_good s t steps trace over run = rests_long s t steps trace over run
 
-module _ (T W S : Type 0) (wakes : S → W → S → Type 0) where
-  pub end_is_for_good : EndIsForGood T W S wakes
-  end_is_for_good s t steps trace over run = rests_long wakes run.0 run.1 s t run.2 run.3 steps trace over run.4
+  pub end_is_known : EndIsKnown T W
+  end_is_known s t steps trace h run = kept_long KnowsTheEnd true_next s t steps trace h run
 
-  pub end_is_known : EndIsKnown T W S wakes
-  end_is_known s t steps trace h run = true_long wakes run.0 run.1 s t run.2 run.3 steps trace h run.4
-
-  pub nothing_comes : NothingComesAfterTheEnd T W S wakes
+  pub nothing_comes : NothingComesAfterTheEnd T W
   nothing_comes start said after later last before between behind first second third p q e names h to_said says end to_later idle to_last =
       let known : KnowsTheEnd said = end_is_known start said before first h to_said in
       let known' : KnowsTheEnd after = true_next said (step.Step p) e names after says known in
@@ -162,4 +152,4 @@ module _ (T W S : Type 0) (wakes : S → W → S → Type 0) where
       let mine = of_mine (Knows said.now) said after p e names says known in
       let over : Spent after.now = now_or_before after.now says.mine.seen (λ o. over_after said (step.Step p) e names after says (mine o)) once in
       let over' = end_is_for_good after later between second over to_later in
-      silent_long wakes q to_last.0 to_last.1 later last to_last.2 to_last.3 behind third over'.over (silent_from q later.under_way idle) to_last.4
+      silent_long q later last behind third over'.over (silent_from q later.under_way idle) to_last

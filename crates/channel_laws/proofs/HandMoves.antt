@@ -24,7 +24,7 @@ use Rattle.channel_calls.specs.declared.stage.Turn.{Turn}
 use Rattle.channel_calls.specs.declared.stage.Turn.TheVariants.{Works}
 use Rattle.channel_calls.specs.declared.stage.Work.TheVariants.{TellReceive, TellStreams, TellSend, Leave}
 use Rattle.channel_steps.specs.Known.{TriesFor, StageAt}
-use Rattle.channel_steps.specs.Moments.{Deed}
+use Rattle.channel_steps.specs.Moments.{MarkedMoment}
 use Rattle.channel_laws.specs.Amounts.{HoldsListener}
 use Rattle.channel_laws.specs.Closings.{LooksAgain}
 use Rattle.channel_laws.specs.Notices.{IsOneByOne}
@@ -95,7 +95,7 @@ module _ {T W : Type 0} where
     pop_answered m reply s h = absurd h
 
     poll_answered : (line : Line) → IsOneByOne line
-        → (x : ChannelAsk T W) (a : QueueAsk T) (ds : List (Deed T W)) (seen : List (Channel T W)) (m : QueueMark)
+        → (x : ChannelAsk T W) (a : QueueAsk T) (ds : List (MarkedMoment T W)) (seen : List (Channel T W)) (m : QueueMark)
         (reply : QueueReply T) (s : queue.Stage T)
         → TriesFor x (aim.Poll line (Some k) task) a ds seen → AnswersTo q a m reply s
         → DropsLater line k (polled_next line reply (Some k) task) ⊎ ((m ≡ Nothing) × HasCause line q)
@@ -119,7 +119,7 @@ module _ {T W : Type 0} where
       subst (λ (z : Effect T W). HasCause line z.channel.queue) (sym (effect ∙ ap (λ (n : QueueMark). queued f n c) none)) h
 
   polls : (line : Line) (key : Key) → IsOneByOne line
-      → (c : Channel T W) (x : ChannelAsk T W) (f : Phase T) (task : W) (m : QueueMark) (ds : List (Deed T W))
+      → (c : Channel T W) (x : ChannelAsk T W) (f : Phase T) (task : W) (m : QueueMark) (ds : List (MarkedMoment T W))
       (seen : List (Channel T W)) (e : Effect T W) (r : Option (Reply T)) (s : Stage (Phase T) T W)
       → e ≡ queued f m c → TriesFor x (aim.Poll line (Some key) task) f.ask ds seen
       → How c f (aim.Poll line (Some key) task) m r s → HoldsOrWaits line key e r s
@@ -133,7 +133,7 @@ module _ {T W : Type 0} where
       by_answer (inl d) = inl (turned_holds line key (polled_next line reply (Some key) task) r s d turned)
       by_answer (inr d) = inr (caused line c f m e effect d.0 d.1)
 
-  module _ (line : Line) (key : Key) (one : IsOneByOne line) (c : Channel T W) (x : ChannelAsk T W) (ds : List (Deed T W))
+  module _ (line : Line) (key : Key) (one : IsOneByOne line) (c : Channel T W) (x : ChannelAsk T W) (ds : List (MarkedMoment T W))
       (seen : List (Channel T W)) (e : Effect T W) (r : Option (Reply T)) (s : Stage (Phase T) T W) where
     polls_at : (f : Phase T) (at : Line) (k : Key) (task : W) (m : QueueMark) → e ≡ queued f m c → at ≡ line → k ≡ key
         → TriesFor x (aim.Poll at (Some k) task) f.ask ds seen → How c f (aim.Poll at (Some k) task) m r s

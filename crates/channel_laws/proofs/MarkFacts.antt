@@ -31,7 +31,7 @@ use Rattle.channel_calls.specs.Turns.{closer_ending}
 use Rattle.concurrent_queue.specs.Queue.{Phase}
 use Rattle.channel_steps.specs.Answers.{Row}
 use Rattle.channel_steps.specs.Known.{TriesFor, TryAt, TriesAt, HasTaken, WorkAt, StageAt, Answered}
-use Rattle.channel_steps.specs.Moments.{Deed, Appended, Took, TookAll, Replaced, MadeRoom, Displaced, ClosedIt, Raised, Upgraded, LeftLast, Dropped}
+use Rattle.channel_steps.specs.Moments.{MarkedMoment, Appended, Took, TookAll, Replaced, MadeRoom, Displaced, ClosedIt, CountRaised, Upgraded, LeftLast, Dropped}
 use Rattle.channel_steps.specs.Scene.{Under, Known, AllKnown}
 use Rattle.channel_laws.specs.Ends.{Each}
 use Rattle.channel_laws.specs.Marks.{AreTakings, AreMarksOf, marks_of, BeginsItsMarks}
@@ -55,35 +55,35 @@ module _ {T : Type 0} where
   IsQuestion a = ⊥
 
 module _ {T W : Type 0} where
-  abbrev Begun : ChannelAsk T W → List (Deed T W) → Type 0
+  abbrev Begun : ChannelAsk T W → List (MarkedMoment T W) → Type 0
   Begun a ds = (later : List Mark) × AreMarksOf a (marks_of ds ++ later)
 
   -- ---- which marks these are
 
-  no_marks : (ds : List (Deed T W)) → ds ≡ [] → marks_of ds ≡ []
-  no_marks ds e = ap (λ (x : List (Deed T W)). marks_of x) e
+  no_marks : (ds : List (MarkedMoment T W)) → ds ≡ [] → marks_of ds ≡ []
+  no_marks ds e = ap (λ (x : List (MarkedMoment T W)). marks_of x) e
 
-  appended_marks : (ds : List (Deed T W)) → Appended ds → marks_of ds ≡ Append ∷ []
+  appended_marks : (ds : List (MarkedMoment T W)) → Appended ds → marks_of ds ≡ Append ∷ []
   appended_marks [] h = absurd h
   appended_marks (d ∷ []) h = ap (λ (m : Mark). m ∷ []) h.0
   appended_marks (d ∷ e ∷ ds) h = absurd h
 
-  took_marks : (ds : List (Deed T W)) (v : T) → Took ds v → marks_of ds ≡ Take ∷ []
+  took_marks : (ds : List (MarkedMoment T W)) (v : T) → Took ds v → marks_of ds ≡ Take ∷ []
   took_marks [] v h = absurd h
   took_marks (d ∷ []) v h = ap (λ (m : Mark). m ∷ []) h.0
   took_marks (d ∷ e ∷ ds) v h = absurd h
 
-  no_takings : (n : ℕ) (ds : List (Deed T W)) → ds ≡ [] → FewTakings n (marks_of ds)
+  no_takings : (n : ℕ) (ds : List (MarkedMoment T W)) → ds ≡ [] → FewTakings n (marks_of ds)
   no_takings n ds e = subst (λ (ms : List Mark). FewTakings n ms) (sym (no_marks ds e)) (tt, omega arith)
 
-  all_takings : (n : ℕ) (ds : List (Deed T W)) (vs : List T) → TookAll ds vs → length vs ≤ n → FewTakings n (marks_of ds)
+  all_takings : (n : ℕ) (ds : List (MarkedMoment T W)) (vs : List T) → TookAll ds vs → length vs ≤ n → FewTakings n (marks_of ds)
   all_takings n [] [] h few = (tt, few)
   all_takings n [] (v ∷ vs) h few = absurd h
   all_takings n (d ∷ ds) [] h few = absurd h
   all_takings n (d ∷ ds) (v ∷ vs) h few =
       let rest = all_takings (length vs) ds vs h.2 (omega arith) in ((h.0, rest.0), let less = rest.1 in omega (arith, less, few))
 
-  more_takings : (n : ℕ) (before mine : List (Deed T W)) (vs : List T) → TookAll before vs → FewTakings 1 (marks_of mine) → length vs + 1 ≤ n
+  more_takings : (n : ℕ) (before mine : List (MarkedMoment T W)) (vs : List T) → TookAll before vs → FewTakings 1 (marks_of mine) → length vs + 1 ≤ n
       → FewTakings n (marks_of (before ++ mine))
   more_takings n [] mine [] h one few = (one.0, let less = one.1 in omega (arith, less, few))
   more_takings n [] mine (v ∷ vs) h one few = absurd h
@@ -92,43 +92,43 @@ module _ {T W : Type 0} where
       let rest = more_takings (length vs + 1) before mine vs h.2 one (omega arith) in
       ((h.0, rest.0), let less = rest.1 in omega (arith, less, few))
 
-  replaced_marks : (ds : List (Deed T W)) (v : T) → Replaced ds v → marks_of ds ≡ Replace ∷ []
+  replaced_marks : (ds : List (MarkedMoment T W)) (v : T) → Replaced ds v → marks_of ds ≡ Replace ∷ []
   replaced_marks [] v h = absurd h
   replaced_marks (d ∷ []) v h = ap (λ (m : Mark). m ∷ []) h.0
   replaced_marks (d ∷ e ∷ ds) v h = absurd h
 
-  room_marks : (ds : List (Deed T W)) (v : T) → MadeRoom ds v → marks_of ds ≡ TakeDisplaced ∷ []
+  room_marks : (ds : List (MarkedMoment T W)) (v : T) → MadeRoom ds v → marks_of ds ≡ TakeDisplaced ∷ []
   room_marks [] v h = absurd h
   room_marks (d ∷ []) v h = ap (λ (m : Mark). m ∷ []) h.0
   room_marks (d ∷ e ∷ ds) v h = absurd h
 
-  displaced_marks : (ds : List (Deed T W)) (v : T) → Displaced ds v → marks_of ds ≡ TakeDisplaced ∷ Append ∷ []
+  displaced_marks : (ds : List (MarkedMoment T W)) (v : T) → Displaced ds v → marks_of ds ≡ TakeDisplaced ∷ Append ∷ []
   displaced_marks [] v h = absurd h
   displaced_marks (d ∷ []) v h = absurd h
   displaced_marks (d ∷ e ∷ []) v h = ap (λ (m : Mark). m ∷ e.mark ∷ []) h.0.0 ∙ ap (λ (m : Mark). TakeDisplaced ∷ m ∷ []) h.1
   displaced_marks (d ∷ e ∷ f ∷ ds) v h = absurd h
 
-  closed_marks : (ds : List (Deed T W)) → ClosedIt ds → marks_of ds ≡ Close ∷ []
+  closed_marks : (ds : List (MarkedMoment T W)) → ClosedIt ds → marks_of ds ≡ Close ∷ []
   closed_marks [] h = absurd h
   closed_marks (d ∷ []) h = ap (λ (m : Mark). m ∷ []) h.0
   closed_marks (d ∷ e ∷ ds) h = absurd h
 
-  raised_marks : (side : Side) (ds : List (Deed T W)) → Raised side ds → marks_of ds ≡ up side ∷ []
+  raised_marks : (side : Side) (ds : List (MarkedMoment T W)) → CountRaised side ds → marks_of ds ≡ up side ∷ []
   raised_marks side [] h = absurd h
   raised_marks side (d ∷ []) h = ap (λ (m : Mark). m ∷ []) h.0
   raised_marks side (d ∷ e ∷ ds) h = absurd h
 
-  upgraded_marks : (side : Side) (ds : List (Deed T W)) → Upgraded side ds → marks_of ds ≡ up side ∷ []
+  upgraded_marks : (side : Side) (ds : List (MarkedMoment T W)) → Upgraded side ds → marks_of ds ≡ up side ∷ []
   upgraded_marks side [] h = absurd h
   upgraded_marks side (d ∷ []) h = ap (λ (m : Mark). m ∷ []) h.0
   upgraded_marks side (d ∷ e ∷ ds) h = absurd h
 
-  left_marks : (side : Side) (ds : List (Deed T W)) (seen : List (Channel T W)) → LeftLast side ds seen → marks_of ds ≡ down side ∷ []
+  left_marks : (side : Side) (ds : List (MarkedMoment T W)) (seen : List (Channel T W)) → LeftLast side ds seen → marks_of ds ≡ down side ∷ []
   left_marks side [] seen h = absurd h
   left_marks side (d ∷ []) seen h = ap (λ (m : Mark). m ∷ []) h.0
   left_marks side (d ∷ e ∷ ds) seen h = absurd h
 
-  dropped_marks : (side : Side) (ds : List (Deed T W)) (seen : List (Channel T W)) → Dropped side ds seen
+  dropped_marks : (side : Side) (ds : List (MarkedMoment T W)) (seen : List (Channel T W)) → Dropped side ds seen
       → (marks_of ds ≡ down side ∷ []) ⊎ (marks_of ds ≡ down side ∷ Close ∷ [])
   dropped_marks side [] seen h = absurd h
   dropped_marks side (d ∷ []) seen h = inl (ap (λ (m : Mark). m ∷ []) h.0)
@@ -137,7 +137,7 @@ module _ {T W : Type 0} where
 
   -- ---- a call that has answered
 
-  row_marks : (a : ChannelAsk T W) (ds : List (Deed T W)) (seen : List (Channel T W)) (r : Reply T) → Row a ds seen r
+  row_marks : (a : ChannelAsk T W) (ds : List (MarkedMoment T W)) (seen : List (Channel T W)) (r : Reply T) → Row a ds seen r
       → AreMarksOf a (marks_of ds)
   row_marks (ask.TrySend m) ds seen (reply.TrySend (Ok u)) h = inr (appended_marks ds h)
   row_marks (ask.TrySend m) ds seen (reply.TrySend (Err (refused.Plain (try_send_error.Full v)))) h = inl (no_marks ds h.1)
@@ -199,7 +199,7 @@ module _ {T W : Type 0} where
   row_marks ask.DropWeak ds seen r h = no_marks ds h.0
   row_marks a ds seen r h = absurd h
 
-  whole : (a : ChannelAsk T W) (ds : List (Deed T W)) → AreMarksOf a (marks_of ds) → Begun a ds
+  whole : (a : ChannelAsk T W) (ds : List (MarkedMoment T W)) → AreMarksOf a (marks_of ds) → Begun a ds
   whole a ds h = ([], subst (λ (ms : List Mark). AreMarksOf a ms) (sym (append-nil (marks_of ds))) h)
 
   -- ---- a call that has made no mark
@@ -219,20 +219,20 @@ module _ {T W : Type 0} where
   none_made (ask.Upgrade side) = ([], inl refl)
   none_made a = ([], refl)
 
-  nothing : (a : ChannelAsk T W) (ds : List (Deed T W)) → ds ≡ [] → Begun a ds
+  nothing : (a : ChannelAsk T W) (ds : List (MarkedMoment T W)) → ds ≡ [] → Begun a ds
   nothing a ds e =
       let n = none_made a in
       (n.0, subst (λ (ms : List Mark). AreMarksOf a (ms ++ n.0)) (sym (no_marks ds e)) n.1)
 
   -- ---- while the queue has the next step
 
-  pushed : (now : Channel T W) (v : T) (s : queue.Stage T) (ds : List (Deed T W)) (seen : List (Channel T W)) → TryAt now (q.Push v) s ds seen
+  pushed : (now : Channel T W) (v : T) (s : queue.Stage T) (ds : List (MarkedMoment T W)) (seen : List (Channel T W)) → TryAt now (q.Push v) s ds seen
       → (marks_of ds ≡ []) ⊎ (marks_of ds ≡ Append ∷ [])
   pushed now v (trying b) ds seen h = inl (no_marks ds h.0)
   pushed now v (appended None) ds seen h = inr (appended_marks ds h)
   pushed now v s ds seen h = absurd h
 
-  forced : (now : Channel T W) (m v : T) (s : queue.Stage T) (ds : List (Deed T W)) (seen : List (Channel T W))
+  forced : (now : Channel T W) (m v : T) (s : queue.Stage T) (ds : List (MarkedMoment T W)) (seen : List (Channel T W))
       → TryAt now (q.ForcePush v) s ds seen → Begun (ask.ForceSend m) ds
   forced now m v (trying b) ds seen h = nothing (ask.ForceSend m) ds h.0
   forced now m v (displaced d) ds seen h = (Append ∷ [], inr (inr (inr (ap (λ (ms : List Mark). ms ++ Append ∷ []) (room_marks ds d h)))))
@@ -241,13 +241,13 @@ module _ {T W : Type 0} where
   forced now m v (appended (Some d)) ds seen (inr h) = whole (ask.ForceSend m) ds (inr (inr (inr (displaced_marks ds d h))))
   forced now m v s ds seen h = absurd h
 
-  popped : (now : Channel T W) (s : queue.Stage T) (ds : List (Deed T W)) (seen : List (Channel T W)) → TryAt now q.Pop s ds seen
+  popped : (now : Channel T W) (s : queue.Stage T) (ds : List (MarkedMoment T W)) (seen : List (Channel T W)) → TryAt now q.Pop s ds seen
       → (marks_of ds ≡ []) ⊎ (marks_of ds ≡ Take ∷ [])
   popped now (trying b) ds seen h = inl (no_marks ds h)
   popped now (taken v) ds seen h = inr (took_marks ds v h)
   popped now s ds seen h = absurd h
 
-  questioned : (now : Channel T W) (a : QueueAsk T) (s : queue.Stage T) (ds : List (Deed T W)) (seen : List (Channel T W)) → IsQuestion a
+  questioned : (now : Channel T W) (a : QueueAsk T) (s : queue.Stage T) (ds : List (MarkedMoment T W)) (seen : List (Channel T W)) → IsQuestion a
       → TryAt now a s ds seen → ds ≡ []
   questioned now q.IsClosed (trying b) ds seen i h = h
   questioned now q.IsEmpty (trying b) ds seen i h = h
@@ -264,13 +264,13 @@ module _ {T W : Type 0} where
   questioned now q.Close s ds seen i h = absurd i
   questioned now a s ds seen i h = absurd h
 
-  several : (now : Channel T W) (n : ℕ) (vs : List T) (ds mine : List (Deed T W)) (s : queue.Stage T) (seen : List (Channel T W))
+  several : (now : Channel T W) (n : ℕ) (vs : List T) (ds mine : List (MarkedMoment T W)) (s : queue.Stage T) (seen : List (Channel T W))
       → HasTaken vs ds mine seen → TryAt now q.Pop s mine seen → length vs + 1 ≤ n → FewTakings n (marks_of ds)
   several now n vs ds mine s seen t h few =
-      subst (λ (xs : List (Deed T W)). FewTakings n (marks_of xs)) (sym t.all)
+      subst (λ (xs : List (MarkedMoment T W)). FewTakings n (marks_of xs)) (sym t.all)
       (more_takings n t.before mine vs t.took (one_taking (marks_of mine) (popped now s mine seen h)) few)
 
-  tries : (now : Channel T W) (a : ChannelAsk T W) (y : Aim T W) (x : QueueAsk T) (s : queue.Stage T) (ds : List (Deed T W))
+  tries : (now : Channel T W) (a : ChannelAsk T W) (y : Aim T W) (x : QueueAsk T) (s : queue.Stage T) (ds : List (MarkedMoment T W))
       (seen : List (Channel T W)) → TriesFor a y x ds seen → TriesAt now y x s ds seen → Begun a ds
   tries now (ask.TrySend m) aim.TrySend (q.Push v) s ds seen t h = whole (ask.TrySend m) ds (pushed now v s ds seen h)
   tries now (ask.ForceSend m) aim.ForceSend (q.ForcePush v) s ds seen t h = forced now m v s ds seen h
@@ -295,10 +295,10 @@ module _ {T W : Type 0} where
 
   -- ---- while a list or a count has the next step
 
-  answered : (a : ChannelAsk T W) (x : Ending T) (ds : List (Deed T W)) (seen : List (Channel T W)) → Answered a x ds seen → Begun a ds
+  answered : (a : ChannelAsk T W) (x : Ending T) (ds : List (MarkedMoment T W)) (seen : List (Channel T W)) → Answered a x ds seen → Begun a ds
   answered a x ds seen h = whole a ds (row_marks a ds h.0.1 x.reply h.0.3)
 
-  works : (a : ChannelAsk T W) (w : Work T W) (ds : List (Deed T W)) (seen : List (Channel T W)) → WorkAt a w ds seen → Begun a ds
+  works : (a : ChannelAsk T W) (w : Work T W) (ds : List (MarkedMoment T W)) (seen : List (Channel T W)) → WorkAt a w ds seen → Begun a ds
   works a (TellReceive x) ds seen h = answered a x ds seen h
   works a (TellStreams x) ds seen h = answered a x ds seen h
   works a (TellSend x) ds seen h = answered a x ds seen h
@@ -313,14 +313,14 @@ module _ {T W : Type 0} where
   works a (Load side m) ds seen h = nothing a ds h.1
   works a (Raise side n m) ds seen h = nothing a ds h.1
 
-  stages : (now : Channel T W) (a : ChannelAsk T W) (at : Stage (Phase T) T W) (ds : List (Deed T W)) (seen : List (Channel T W))
+  stages : (now : Channel T W) (a : ChannelAsk T W) (at : Stage (Phase T) T W) (ds : List (MarkedMoment T W)) (seen : List (Channel T W))
       → StageAt now a at ds seen → Begun a ds
   stages now a (Trying f y) ds seen h = tries now a y f.ask f.stage ds seen h.0 h.1
   stages now a (Working w) ds seen h = works a w ds seen h
   stages now a (Finished kept) ds seen h = absurd h
 
   begins : (now : Channel T W) (u : Under T W) → Known now u → BeginsItsMarks u
-  begins now u k = let b = stages now u.ask u.at u.deeds u.seen k.stands in record { later = b.0; all = b.1 }
+  begins now u k = let b = stages now u.ask u.at u.marks u.seen k.stands in record { later = b.0; all = b.1 }
 
   pub all_begin : (now : Channel T W) (us : List (Under T W)) → AllKnown now us → Each (λ u. BeginsItsMarks u) us
   all_begin now [] k = tt

@@ -25,7 +25,7 @@ use Rattle.channel_calls.specs.declared.stage.Stage.TheVariants.{Trying, Working
 use Rattle.channel_calls.specs.declared.stage.Waiting.{Waiting}
 use Rattle.channel_calls.specs.declared.stage.Work.{Work}
 use Rattle.channel_calls.specs.declared.stage.Work.TheVariants.{TellReceive, TellStreams, TellSend, TellSends, TakeRoom, TellAll, Insert, Register, Leave, Lower, Count, Load, Raise}
-use Rattle.channel_model.specs.Channel.{Channel}
+use Rattle.channel_model.specs.Channel.{ModelChannel}
 use Rattle.channel_steps.specs.Scene.{Scene, Steps, brought, gone_by, came_by}
 use Rattle.channel_steps.specs.declared.party.Entry.{Entry}
 use Rattle.channel_laws.specs.Marked.{plain, marked, brought_by, AddUp}
@@ -126,7 +126,7 @@ module _ {T W : Type 0} where
 
 module _ {T : Type 0} where
   -- the message of the call says what else the message says, but which messages there are
-  other_message : (m : Mark) (a b : List T) (c : Channel T) → marked m b c ≡ record (marked m a c) { messages = (marked m b c).messages }
+  other_message : (m : Mark) (a b : List T) (c : ModelChannel T) → marked m b c ≡ record (marked m a c) { messages = (marked m b c).messages }
   other_message Nothing a b c = refl
   other_message Append a b c = refl
   other_message Take a b c = refl
@@ -146,7 +146,7 @@ module _ {T : Type 0} where
   left_is xs ys e = without_first xs ys [] e ∙ append-nil (drop 1 xs)
 
 module _ {T W : Type 0} where
-  messages_are : (m : Mark) (a : ChannelAsk T W) (c : Channel T) (ys : List T)
+  messages_are : (m : Mark) (a : ChannelAsk T W) (c : ModelChannel T) (ys : List T)
       → gone_by m c.messages ++ ys ≡ c.messages ++ came_by m a → ys ≡ (marked m (brought a) c).messages
   messages_are Nothing a c ys e = e ∙ append-nil c.messages
   messages_are Append a c ys e = e
@@ -166,7 +166,7 @@ module _ {T W : Type 0} where
       let x : Effect T W = record { channel = t.now; mark = e.mark; woken = names } in
       let d = by_stage s.now st.mine.at x e.reply st.at_now st.moves in
       let are = messages_are e.mark st.mine.ask (plain s.now) t.now.queue.items st.held in
-      ap (λ (c : Channel T). record c { messages = t.now.queue.items }) d.1
+      ap (λ (c : ModelChannel T). record c { messages = t.now.queue.items }) d.1
       ∙ (ap (λ (ms : List T). record (marked e.mark d.0 (plain s.now)) { messages = ms }) are
       ∙ sym (other_message e.mark d.0 (brought st.mine.ask) (plain s.now)))
 

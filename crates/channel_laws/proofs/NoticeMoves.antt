@@ -16,7 +16,7 @@ use Rattle.channel_calls.specs.declared.stage.Stage.TheVariants.{Trying, Working
 use Rattle.channel_calls.specs.declared.stage.Work.TheVariants.{TellAll}
 use Rattle.event_listener.specs.declared.key.Key.{Key}
 use Rattle.channel_steps.specs.Known.{all_from, ToldAt}
-use Rattle.channel_steps.specs.Moments.{Deed, with_deed, Shut}
+use Rattle.channel_steps.specs.Moments.{MarkedMoment, with_marked, Shut}
 use Rattle.channel_steps.specs.Tellings.{Telling, one_of, more_of, all_of, owed_for, owed_takings, takings, owed_besides, owed}
 use Rattle.channel_laws.specs.Closings.{HasClosed}
 use Rattle.channel_laws.specs.Ends.{IsStill}
@@ -68,23 +68,23 @@ closing_owes Close h = refl
 closing_owes m h = absurd h
 
 module _ {T W : Type 0} where
-  by_mark : (d : Deed T W) (ds : List (Deed T W)) → (IsAmong (all_of Closings) (owed_besides ds) → HasClosed ds)
+  by_mark : (d : MarkedMoment T W) (ds : List (MarkedMoment T W)) → (IsAmong (all_of Closings) (owed_besides ds) → HasClosed ds)
       → IsAmong (all_of Closings) (owed_for d.mark) ⊎ IsAmong (all_of Closings) (owed_besides ds) → HasClosed (d ∷ ds)
   by_mark d ds f (inl h) = inl (closing_owes d.mark h)
   by_mark d ds f (inr h) = inr (f h)
 
-  has_besides : (ds : List (Deed T W)) → IsAmong (all_of Closings) (owed_besides ds) → HasClosed ds
+  has_besides : (ds : List (MarkedMoment T W)) → IsAmong (all_of Closings) (owed_besides ds) → HasClosed ds
   has_besides [] h = absurd h
   has_besides (d ∷ ds) h = by_mark d ds (has_besides ds) (among_either (all_of Closings) (owed_for d.mark) (owed_besides ds) h)
 
-  has_owed : (ds : List (Deed T W)) → IsAmong (all_of Closings) (owed ds) → HasClosed ds
+  has_owed : (ds : List (MarkedMoment T W)) → IsAmong (all_of Closings) (owed ds) → HasClosed ds
   has_owed ds h = by (among_either (all_of Closings) (owed_takings (takings ds)) (owed_besides ds) h) where
     by : IsAmong (all_of Closings) (owed_takings (takings ds)) ⊎ IsAmong (all_of Closings) (owed_besides ds) → HasClosed ds
     by (inl h) = absurd (takings_owe (takings ds) h)
     by (inr h) = has_besides ds h
 
   -- who tells all of a list has closed the channel
-  pub teller_has_closed : (told : List Telling) (line : Line) (closer : Closer) (ds : List (Deed T W))
+  pub teller_has_closed : (told : List Telling) (line : Line) (closer : Closer) (ds : List (MarkedMoment T W))
       → ToldAt told (let at : Stage (Phase T) T W = Working (TellAll line closer) in at) ds → HasClosed ds
   teller_has_closed told line closer ds h =
       has_owed ds (subst (λ (ts : List Telling). IsAmong (all_of Closings) ts) h
@@ -92,7 +92,7 @@ module _ {T W : Type 0} where
 
   -- ---- marks
 
-  had_or_last : (ds : List (Deed T W)) (d : Deed T W) → HasClosed (ds ++ d ∷ []) → HasClosed ds ⊎ (d.mark ≡ Close)
+  had_or_last : (ds : List (MarkedMoment T W)) (d : MarkedMoment T W) → HasClosed (ds ++ d ∷ []) → HasClosed ds ⊎ (d.mark ≡ Close)
   had_or_last [] d (inl h) = inr h
   had_or_last [] d (inr h) = absurd h
   had_or_last (x ∷ ds) d (inl h) = inl (inl h)
@@ -103,8 +103,8 @@ module _ {T W : Type 0} where
       deeper (inr h) = inr h
 
   -- a call that has closed after its step had so before, or the step did
-  pub closed_before : (ds : List (Deed T W)) (m : Mark) (c : Channel T W) (seen : List (Channel T W))
-      → HasClosed (with_deed ds m c seen) → HasClosed ds ⊎ (m ≡ Close)
+  pub closed_before : (ds : List (MarkedMoment T W)) (m : Mark) (c : Channel T W) (seen : List (Channel T W))
+      → HasClosed (with_marked ds m c seen) → HasClosed ds ⊎ (m ≡ Close)
   closed_before ds Nothing c seen h = inl h
   closed_before ds m c seen h = had_or_last ds (record { mark = m; before = c; seen = seen }) h
 

@@ -12,7 +12,7 @@ use Rattle.channel_calls.specs.declared.stage.Stage.{Stage}
 use Rattle.channel_calls.specs.declared.stage.Stage.TheVariants.{Working}
 use Rattle.channel_calls.specs.declared.stage.Work.TheVariants.{TellReceive, TellStreams, TellSend, TellSends, TellAll}
 use Rattle.channel_steps.specs.Known.{ToldAt}
-use Rattle.channel_steps.specs.Moments.{Deed, Open, Shut}
+use Rattle.channel_steps.specs.Moments.{MarkedMoment, Open, Shut}
 use Rattle.channel_steps.specs.Scene.{Scene, Steps, Known}
 use Rattle.channel_steps.specs.Tellings.{Telling}
 use Rattle.channel_steps.specs.Run.{Next, Begins, new_scene}
@@ -44,7 +44,7 @@ at_line P line at e h = subst P (sym e) h
 
 module _ {T W : Type 0} where
   -- a telling of an open channel is as it may be, and else the call has closed the channel
-  tells_as : (line : Line) (b : Bool) (told : List Telling) (at : Stage (Phase T) T W) (ds : List (Deed T W))
+  tells_as : (line : Line) (b : Bool) (told : List Telling) (at : Stage (Phase T) T W) (ds : List (MarkedMoment T W))
       → ToldAt told at ds → Tells line b at → MayBeTold line b ⊎ HasClosed ds
   tells_as line b told (Working (TellReceive x)) ds k h = inl (at_line (λ (z : Line). MayBeTold z b) line Receives h.0 (sym h.1))
   tells_as line b told (Working (TellStreams x)) ds k h = inl (at_line (λ (z : Line). MayBeTold z b) line Streams h.0 (sym h.1))
@@ -55,7 +55,7 @@ module _ {T W : Type 0} where
 
   -- who tells a send or a receive by the default tells all of its list, and has closed the channel
   by_default_as : (line : Line) (one : IsOneByOne line) (told : List Telling) (c : Channel T W) (at : Stage (Phase T) T W)
-      (e : Effect T W) (r : Option (Reply T)) (s : Stage (Phase T) T W) (ds : List (Deed T W))
+      (e : Effect T W) (r : Option (Reply T)) (s : Stage (Phase T) T W) (ds : List (MarkedMoment T W))
       → ToldAt told at ds → Moves c at e r s → Tells line false at → HasClosed ds × ((key : Key) → Waits line key e.channel → ⊥)
   by_default_as line one told c (Working (TellReceive x)) e r s ds k g h = absurd (let never : true ≡ false = h.1 in cc)
   by_default_as line one told c (Working (TellStreams x)) e r s ds k g h = absurd (subst IsOneByOne h.0 one)
@@ -84,17 +84,17 @@ module _ {T W : Type 0} where
     open_back : Open t.now → Open s.now
     open_back now = open_as s.now.queue.closed t.now.queue.closed shut_on now
 
-    mine_closed : HasClosed st.mine.deeds → Shut t.now
-    mine_closed h = shut_on (of_mine (λ u. HasClosed u.deeds → Shut s.now) s t p e names st sound.closers h)
+    mine_closed : HasClosed st.mine.marks → Shut t.now
+    mine_closed h = shut_on (of_mine (λ u. HasClosed u.marks → Shut s.now) s t p e names st sound.closers h)
 
-    or_closes : HasClosed st.mine.deeds ⊎ (e.mark ≡ mark.Close) → Shut t.now
+    or_closes : HasClosed st.mine.marks ⊎ (e.mark ≡ mark.Close) → Shut t.now
     or_closes (inl h) = mine_closed h
     or_closes (inr h) = close_shuts s.now st.mine.at effect e.reply st.at_now st.moves h
 
-    closers_after : Each (λ u. HasClosed u.deeds → Shut t.now) t.under_way
+    closers_after : Each (λ u. HasClosed u.marks → Shut t.now) t.under_way
     closers_after =
-        each_steps (λ u. HasClosed u.deeds → Shut s.now) (λ u. HasClosed u.deeds → Shut t.now) s t p e names st
-        (λ u f h. shut_on (f h)) (λ f h. or_closes (closed_before st.mine.deeds e.mark s.now st.mine.seen h)) sound.closers
+        each_steps (λ u. HasClosed u.marks → Shut s.now) (λ u. HasClosed u.marks → Shut t.now) s t p e names st
+        (λ u f h. shut_on (f h)) (λ f h. or_closes (closed_before st.mine.marks e.mark s.now st.mine.seen h)) sound.closers
 
     apart_after : (line : Line) → WaitApart line t.now
     apart_after line =
@@ -102,14 +102,14 @@ module _ {T W : Type 0} where
         (sound.apart line)
 
     module _ (line : Line) where
-      may_be : (b : Bool) → Open t.now → MayBeTold line b ⊎ HasClosed st.mine.deeds → MayBeTold line b
+      may_be : (b : Bool) → Open t.now → MayBeTold line b ⊎ HasClosed st.mine.marks → MayBeTold line b
       may_be b now (inl h) = h
       may_be b now (inr h) = absurd (let never : true ≡ false = sym (mine_closed h) ∙ now in cc)
 
       was_or_tells : (b : Bool) → Open t.now → AnyTold b (told_of line s.now) ⊎ Tells line b st.mine.at → MayBeTold line b
       was_or_tells b now (inl h) = any_as (MayBeTold line) (told_of line s.now) (sound.fit.while_open line (open_back now)) b h
       was_or_tells b now (inr h) =
-          let k = mine_known in may_be b now (tells_as line b st.mine.told st.mine.at st.mine.deeds k.tells h)
+          let k = mine_known in may_be b now (tells_as line b st.mine.told st.mine.at st.mine.marks k.tells h)
 
       open_after : Open t.now → EachTold (MayBeTold line) (told_of line t.now)
       open_after now =
@@ -128,7 +128,7 @@ module _ {T W : Type 0} where
         still_looks (inl h) = h
         still_looks (inr h) =
             let k = mine_known in
-            goes_on (looks_goes [] s.now st.mine.ask st.mine.at st.mine.deeds st.mine.seen effect e.reply st.at_now line key
+            goes_on (looks_goes [] s.now st.mine.ask st.mine.at st.mine.marks st.mine.seen effect e.reply st.at_now line key
             k.stands st.moves shut h (sound.apart line) w)
 
         looks_or_new : ((key : Key) → Waits line key s.now → Any (λ u. LooksAgain line key u.at) s.under_way)
@@ -149,7 +149,7 @@ module _ {T W : Type 0} where
       default_then one (inl h) = (shut_on h.0, λ key w. looked key w h.0 h.1)
       default_then one (inr h) =
           let k = mine_known in
-          let all = by_default_as line one st.mine.told s.now st.mine.at effect e.reply st.at_now st.mine.deeds k.tells st.moves
+          let all = by_default_as line one st.mine.told s.now st.mine.at effect e.reply st.at_now st.mine.marks k.tells st.moves
           h in
           (mine_closed all.0, λ key w. absurd (all.1 key w))
 
@@ -179,9 +179,9 @@ module _ {T W : Type 0} where
         subst (λ (c : Channel T W). EachTold (MayBeTold line) (told_of line c)) (sym b.now)
         (sound.fit.while_open line (subst (λ (c : Channel T W). Open c) b.now now))
 
-    begun_closers : Each (λ u. HasClosed u.deeds → Shut t.now) t.under_way
+    begun_closers : Each (λ u. HasClosed u.marks → Shut t.now) t.under_way
     begun_closers =
-        each_begins (λ u. HasClosed u.deeds → Shut s.now) (λ u. HasClosed u.deeds → Shut t.now) s t p ask e b
+        each_begins (λ u. HasClosed u.marks → Shut s.now) (λ u. HasClosed u.marks → Shut t.now) s t p ask e b
         (λ u f h. subst (λ (c : Channel T W). Shut c) (sym b.now) (f h)) (λ h. absurd h) sound.closers
 
   pub tellings_next : (s : Scene T W) (x : Step T W) (e : Entry T) (names : List W) (t : Scene T W) → Next s x e names t
@@ -238,10 +238,9 @@ module _ {T W : Type 0} where
             };
       }
 
-module _ (T W S : Type 0) (wakes : S → W → S → Type 0) where
-  pub tellings_stay_fit : TellingsStayFit T W S wakes
-  tellings_stay_fit s t steps trace h run =
-      kept_long wakes TellingsSound tellings_next run.0 run.1 s t run.2 run.3 steps trace h run.4
+module _ (T W : Type 0) where
+  pub tellings_stay_fit : TellingsStayFit T W
+  tellings_stay_fit s t steps trace h run = kept_long TellingsSound tellings_next s t steps trace h run
 
-  pub tellings_always_fit : TellingsAlwaysFit T W S wakes
+  pub tellings_always_fit : TellingsAlwaysFit T W
   tellings_always_fit cap t steps trace run = let h = tellings_stay_fit (new_scene cap) t steps trace (tellings_new cap) run in h.fit

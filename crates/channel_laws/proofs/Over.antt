@@ -31,7 +31,7 @@ module _ {T W : Type 0} where
     late_gives known h all g =
         let k = of_mine IsLate s t p e names st h.late in
         finish_gives (does st.mine st.at_now e.mark s.now t.now) e.reply e.kept st.finishes
-        (with_still st.mine.deeds e.mark s.now st.mine.seen (k all) (still known all)) g
+        (with_still st.mine.marks e.mark s.now st.mine.seen (k all) (still known all)) g
 
     -- a reply that says the end found the channel over
     pub says_over : EndSound s → Replies SaysTheEnd e.reply → Spent t.now
@@ -54,6 +54,6 @@ module _ {T W : Type 0} where
   end_next s (step.Step p) e names t n known h = record {
     knows = true_next s (step.Step p) e names t n h.knows;
     late = each_steps IsLate IsLate s t p e names n (λ u k all. k all.1)
-        (λ k all. with_still n.mine.deeds e.mark s.now n.mine.seen (k all.1) (still s p e names t n known all.1))
+        (λ k all. with_still n.mine.marks e.mark s.now n.mine.seen (k all.1) (still s p e names t n known all.1))
         h.late;
   }

@@ -8,7 +8,7 @@ use Rattle.channel_calls.specs.declared.reply.Reply.{Reply}
 use Rattle.channel_calls.specs.declared.stage.Line.{Line}
 use Rattle.channel_calls.specs.declared.stage.Stage.{Stage}
 use Rattle.channel_steps.specs.Known.{StageAt}
-use Rattle.channel_steps.specs.Moments.{Deed}
+use Rattle.channel_steps.specs.Moments.{MarkedMoment}
 use Rattle.channel_steps.specs.Run.{Next, Begins}
 use Rattle.channel_steps.specs.Scene.{Scene, Steps, Known}
 use Rattle.channel_steps.specs.declared.party.Entry.{Entry}
@@ -37,7 +37,7 @@ module _ {T W : Type 0} (line : Line) (one : IsOneByOne line) (Enough : Channel 
     pub more : (c : Channel T W) (m n : ℕ) → m ≤ n → Enough c m → Enough c n
     pub caused : (c : Channel T W) (n : ℕ) → HasCause line c.queue → Enough c n
     pub pays :
-        (c : Channel T W) (x : ChannelAsk T W) (at : Stage (Phase T) T W) (ds : List (Deed T W)) (seen : List (Channel T W))
+        (c : Channel T W) (x : ChannelAsk T W) (at : Stage (Phase T) T W) (ds : List (MarkedMoment T W)) (seen : List (Channel T W))
         (e : Effect T W) (r : Option (Reply T)) (s : Stage (Phase T) T W) (key : Key)
         → StageAt c x at ds seen → Moves c at e r s → Waits line key e.channel → Pays c x at e r s
         ⊎ AnyTold false (told_of line c)
@@ -65,7 +65,7 @@ module _ {T W : Type 0} (line : Line) (one : IsOneByOne line) (Enough : Channel 
         held (inl h) = inr h
         held (inr h) =
             let k = mine_known in
-            or_waits (holds_on line key one s.now st.mine.ask st.mine.deeds st.mine.seen effect e.reply st.at_now st.mine.at
+            or_waits (holds_on line key one s.now st.mine.ask st.mine.marks st.mine.seen effect e.reply st.at_now st.mine.at
             k.stands st.moves h (sound.apart line) w)
 
         defaulted : Waits line key s.now → AnyTold false (told_of line s.now) → Owed
@@ -87,7 +87,7 @@ module _ {T W : Type 0} (line : Line) (one : IsOneByOne line) (Enough : Channel 
             ⊎ Any (λ u. HoldsListener line key u.at) s.under_way → Owed
         was_owed before (inl h) =
             let k = mine_known in
-            paid before h (ledger.pays s.now st.mine.ask st.mine.at st.mine.deeds st.mine.seen effect e.reply st.at_now key
+            paid before h (ledger.pays s.now st.mine.ask st.mine.at st.mine.marks st.mine.seen effect e.reply st.at_now key
             k.stands st.moves w)
         was_owed before (inr h) = held (any_steps (λ u. HoldsListener line key u.at) s t p e names st (λ u h. h) h)
 

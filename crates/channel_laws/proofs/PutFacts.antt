@@ -65,11 +65,6 @@ get_inside [] i x e = absurd cc
 get_inside (y ∷ xs) zero x e = omega arith
 get_inside (y ∷ xs) (suc i) x e = omega (arith, get_inside xs i x e)
 
-length_drop : {A : Type 0} (xs : List A) (n : ℕ) → n ≤ length xs → length (drop n xs) + n ≡ length xs
-length_drop xs zero h = omega arith
-length_drop [] (suc n) h = absurd (omega arith)
-length_drop (x ∷ xs) (suc n) h = let e = length_drop xs n (omega arith) in omega (arith, e)
-
 pub by_eq : {P : Type 0} (x y : ℕ) → (x ≡ y → P) → ((x ≡ y → ⊥) → P) → P
 by_eq x y f g = ⊎_elim (λ h. g (λ e. absurd (omega arith))) (λ h. ⊎_elim (λ k. g (λ e. absurd (omega arith))) (λ k. f
     (omega arith)) (cases_lt y x)) (cases_lt x y)

@@ -29,7 +29,7 @@ use Rattle.channel_calls.specs.declared.stage.Waiting.TheVariants as waiting
 use Rattle.channel_calls.specs.declared.stage.Work.{Work}
 use Rattle.channel_calls.specs.declared.stage.Work.TheVariants.{TellReceive, Register}
 use Rattle.channel_steps.specs.Known.{TriesFor, IsFor, WorkAt, StageAt}
-use Rattle.channel_steps.specs.Moments.{Deed}
+use Rattle.channel_steps.specs.Moments.{MarkedMoment}
 use Rattle.channel_laws.specs.Notices.{AnyTold, told_of}
 use Rattle.channel_laws.specs.Receives.{is_to_tell_receive, counts_for_receives, MessagesAreFew}
 use Rattle.channel_laws.specs.Waits.{Waits}
@@ -46,7 +46,7 @@ module _ {T W : Type 0} where
   abbrev counted : ChannelAsk T W → Aim T W → QueueAsk T → queue.Stage T → ℕ
   counted x y a s = counts_for_receives x (Trying (record { ask = a; stage = s }) y)
 
-  module _ (q : Queue T) (ds : List (Deed T W)) (seen : List (Channel T W)) where
+  module _ (q : Queue T) (ds : List (MarkedMoment T W)) (seen : List (Channel T W)) where
     popping : (k : Loan) (key : Option Key) (t' task : W) (m : QueueMark) (s t : queue.Stage T) → queue.ContinuesPop q m s t
         → number ask.Pop s m q + counted (channel.PollRecv k t') (aim.Poll Receives key task) ask.Pop s ≤ length q.items
         + counted (channel.PollRecv k t') (aim.Poll Receives key task) ask.Pop t
@@ -122,7 +122,7 @@ module _ {T W : Type 0} where
   abbrev Paid : Channel T W → ChannelAsk T W → Stage (Phase T) T W → Effect T W → Option (Reply T) → Stage (Phase T) T W → Type 0
   Paid c x at e r s = Pays Receives tt MessagesAreFew counts_for_receives c x at e r s
 
-  tried_pays : (c : Channel T W) (x : ChannelAsk T W) (f : Phase T) (y : Aim T W) (m : QueueMark) (ds : List (Deed T W))
+  tried_pays : (c : Channel T W) (x : ChannelAsk T W) (f : Phase T) (y : Aim T W) (m : QueueMark) (ds : List (MarkedMoment T W))
       (seen : List (Channel T W)) (r : Option (Reply T)) (s : Stage (Phase T) T W)
       → TriesFor x y f.ask ds seen → How c f y m r s → Paid c x (Trying f y) (queued f m c) r s
   tried_pays c x f y m ds seen r s h (inl (f', goes, none, there)) n enough =
@@ -162,13 +162,13 @@ module _ {T W : Type 0} where
   asks_as x waiting.Closing task r s h at turned = absurd (let never : Receives ≡ Closings = at in cc)
   asks_as x v task r s h at turned = absurd h
 
-  asks_anew : (x : ChannelAsk T W) (w : Work T W) (ds : List (Deed T W)) (seen : List (Channel T W)) (r : Option (Reply T))
+  asks_anew : (x : ChannelAsk T W) (w : Work T W) (ds : List (MarkedMoment T W)) (seen : List (Channel T W)) (r : Option (Reply T))
       (s : Stage (Phase T) T W) → WorkAt x w ds seen → AsksAnew Receives w r s
       → (left_over counts_for_receives x r s ≡ 1) × (tells_now w Receives ≡ 0)
   asks_anew x (Register v key task) ds seen r s h k = (asks_as x v task r s h.0 k.0 k.1, refl)
   asks_anew x w ds seen r s h k = absurd k
 
-  module _ (c : Channel T W) (x : ChannelAsk T W) (w : Work T W) (ds : List (Deed T W)) (seen : List (Channel T W))
+  module _ (c : Channel T W) (x : ChannelAsk T W) (w : Work T W) (ds : List (MarkedMoment T W)) (seen : List (Channel T W))
       (e : Effect T W) (r : Option (Reply T)) (s : Stage (Phase T) T W) where
     worked_pays : WorkAt x w ds seen → e.channel.queue ≡ c.queue
         → (length (told_of Receives c) + tells_now w Receives ≤ length (told_of Receives e.channel))
@@ -194,7 +194,7 @@ module _ {T W : Type 0} where
             omega (arith, enough, items, counts, k, one, none)
     worked_pays h same (inr (inr d)) = inr d
 
-  receive_pays : (c : Channel T W) (x : ChannelAsk T W) (at : Stage (Phase T) T W) (ds : List (Deed T W))
+  receive_pays : (c : Channel T W) (x : ChannelAsk T W) (at : Stage (Phase T) T W) (ds : List (MarkedMoment T W))
       (seen : List (Channel T W)) (e : Effect T W) (r : Option (Reply T)) (s : Stage (Phase T) T W) (key : Key)
       → StageAt c x at ds seen → Moves c at e r s → Waits Receives key e.channel → Paid c x at e r s
       ⊎ AnyTold false (told_of Receives c)

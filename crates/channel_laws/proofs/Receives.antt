@@ -23,12 +23,11 @@ module _ {T W : Type 0} where
   pub receives_new : (cap : Option ℕ) → ReceivesSound (new_scene {T = T} {W = W} cap)
   receives_new cap = record { tellings = tellings_new cap; owed = λ key w. absurd w }
 
-module _ (T W S : Type 0) (wakes : S → W → S → Type 0) where
-  pub receives_stay_owed : ReceivesStayOwed T W S wakes
-  receives_stay_owed s t steps trace h run =
-      kept_long wakes ReceivesSound receives_next run.0 run.1 s t run.2 run.3 steps trace h run.4
+module _ (T W : Type 0) where
+  pub receives_stay_owed : ReceivesStayOwed T W
+  receives_stay_owed s t steps trace h run = kept_long ReceivesSound receives_next s t steps trace h run
 
-  pub no_receive_is_forgotten : NoReceiveIsForgotten T W S wakes
+  pub no_receive_is_forgotten : NoReceiveIsForgotten T W
   no_receive_is_forgotten cap t steps trace run =
       let h = receives_stay_owed (new_scene cap) t steps trace (receives_new cap) run in
       (h.owed, pending_owed Receives tt MessagesAreFew counts_for_receives t h.owed)

@@ -18,7 +18,7 @@ use Rattle.channel_calls.specs.declared.reply.Reply.TheVariants as reply
 use Rattle.channel_calls.specs.declared.stage.Kept.{Kept}
 use Rattle.channel_calls.specs.declared.stage.Line.{Line}
 use Rattle.channel_calls.specs.declared.stage.Line.TheVariants.{Sends, Receives, Streams, Closings}
-use Rattle.channel_steps.specs.Moments.{Deed, with_deed, Spent, Once, Took, TookAll, Replaced, Displaced}
+use Rattle.channel_steps.specs.Moments.{MarkedMoment, with_marked, Spent, Once, Took, TookAll, Replaced, Displaced}
 use Rattle.channel_steps.specs.Answers.{TrySendRow, ForceSendRow, TryRecvRow, SeveralRow, SendPollRow, RecvPollRow, ClosedPollRow, NextRow, CloseRow, CloneRow, UpgradeRow, FlagRow, CountRow, CapacityRow, TerminatedRow, Row}
 use Rattle.channel_steps.specs.Moments.{is_empty}
 use Rattle.channel_steps.specs.Scene.{Under, MayFinish}
@@ -53,11 +53,11 @@ module _ {T : Type 0} where
 module _ {T W : Type 0} where
   -- ---- the marks of a call to which nothing moved
 
-  one_more : (ds : List (Deed T W)) (d : Deed T W) → StillDeeds ds → IsStill d.mark → StillDeeds (ds ++ d ∷ [])
+  one_more : (ds : List (MarkedMoment T W)) (d : MarkedMoment T W) → StillDeeds ds → IsStill d.mark → StillDeeds (ds ++ d ∷ [])
   one_more [] d h k = (k, tt)
   one_more (x ∷ ds) d h k = (h.0, one_more ds d h.1 k)
 
-  pub with_still : (ds : List (Deed T W)) (m : Mark) (c : Channel T W) (seen : List (Channel T W)) → StillDeeds ds → IsStill m → StillDeeds (with_deed ds m c seen)
+  pub with_still : (ds : List (MarkedMoment T W)) (m : Mark) (c : Channel T W) (seen : List (Channel T W)) → StillDeeds ds → IsStill m → StillDeeds (with_marked ds m c seen)
   with_still ds Nothing c seen h k = h
   with_still ds SenderUp c seen h k = one_more ds (record { mark = SenderUp; before = c; seen = seen }) h k
   with_still ds SenderDown c seen h k = one_more ds (record { mark = SenderDown; before = c; seen = seen }) h k
@@ -65,27 +65,27 @@ module _ {T W : Type 0} where
   with_still ds ReceiverDown c seen h k = one_more ds (record { mark = ReceiverDown; before = c; seen = seen }) h k
   with_still ds m c seen h k = absurd k
 
-  took_moves : (ds : List (Deed T W)) (v : T) → Took ds v → StillDeeds ds → ⊥
+  took_moves : (ds : List (MarkedMoment T W)) (v : T) → Took ds v → StillDeeds ds → ⊥
   took_moves (d ∷ []) v h k = moved d.mark Take h.0 k.0
   took_moves ds v h k = absurd h
 
-  several_moves : (ds : List (Deed T W)) (v : T) (vs : List T) → TookAll ds (v ∷ vs) → StillDeeds ds → ⊥
+  several_moves : (ds : List (MarkedMoment T W)) (v : T) (vs : List T) → TookAll ds (v ∷ vs) → StillDeeds ds → ⊥
   several_moves [] v vs h k = h
   several_moves (d ∷ ds) v vs h k = moved d.mark Take h.0 k.0
 
-  replaced_moves : (ds : List (Deed T W)) (v : T) → Replaced ds v → StillDeeds ds → ⊥
+  replaced_moves : (ds : List (MarkedMoment T W)) (v : T) → Replaced ds v → StillDeeds ds → ⊥
   replaced_moves (d ∷ []) v h k = moved d.mark Replace h.0 k.0
   replaced_moves ds v h k = absurd h
 
-  displaced_moves : (ds : List (Deed T W)) (v : T) → Displaced ds v → StillDeeds ds → ⊥
+  displaced_moves : (ds : List (MarkedMoment T W)) (v : T) → Displaced ds v → StillDeeds ds → ⊥
   displaced_moves (d ∷ e ∷ []) v h k = moved e.mark Append h.1 k.1.0
   displaced_moves ds v h k = absurd h
 
-  displacing_moves : (ds : List (Deed T W)) (v : T) → Replaced ds v ⊎ Displaced ds v → StillDeeds ds → ⊥
+  displacing_moves : (ds : List (MarkedMoment T W)) (v : T) → Replaced ds v ⊎ Displaced ds v → StillDeeds ds → ⊥
   displacing_moves ds v (inl h) k = replaced_moves ds v h k
   displacing_moves ds v (inr h) k = displaced_moves ds v h k
 
-  module _ (ds : List (Deed T W)) (seen : List (Channel T W)) where
+  module _ (ds : List (MarkedMoment T W)) (seen : List (Channel T W)) where
     -- a call that may answer no such reply
     abbrev Never : (Reply T → Type 0) → Type 0
     Never R = ((r : Reply T) → GivesMessage r → R r → ⊥) × ((r : Reply T) → SaysTheEnd r → R r → ⊥)
@@ -181,11 +181,11 @@ module _ {T W : Type 0} where
 
   -- ---- a call that ends
 
-  pub finish_gives : (u : Under T W) (r : Option (Reply T)) (left : Option (Kept T)) → MayFinish u r left → StillDeeds u.deeds → Replies GivesMessage r → ⊥
+  pub finish_gives : (u : Under T W) (r : Option (Reply T)) (left : Option (Kept T)) → MayFinish u r left → StillDeeds u.marks → Replies GivesMessage r → ⊥
   finish_gives u None left h k g = g
-  finish_gives u (Some r) left h k g = row_gives u.deeds h.met.1 u.ask r g h.met.3 k
+  finish_gives u (Some r) left h k g = row_gives u.marks h.met.1 u.ask r g h.met.3 k
 
   pub finish_ends : (u : Under T W) (r : Option (Reply T)) (left : Option (Kept T)) → MayFinish u r left → Replies SaysTheEnd r → Once Spent u.seen
   finish_ends u None left h g = absurd g
   finish_ends u (Some r) left h g =
-      subst (λ (cs : List (Channel T W)). Once Spent cs) (sym h.met.2) (once_behind Spent h.met.0 h.met.1 (row_ends u.deeds h.met.1 u.ask r g h.met.3))
+      subst (λ (cs : List (Channel T W)). Once Spent cs) (sym h.met.2) (once_behind Spent h.met.0 h.met.1 (row_ends u.marks h.met.1 u.ask r g h.met.3))

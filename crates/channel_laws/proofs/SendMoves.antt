@@ -35,7 +35,7 @@ use Rattle.channel_calls.specs.declared.stage.Waiting.TheVariants as waiting
 use Rattle.channel_calls.specs.declared.stage.Work.{Work}
 use Rattle.channel_calls.specs.declared.stage.Work.TheVariants.{TellSend, TellSends, Register}
 use Rattle.channel_steps.specs.Known.{TriesFor, IsFor, WorkAt, StageAt}
-use Rattle.channel_steps.specs.Moments.{Deed, Shut}
+use Rattle.channel_steps.specs.Moments.{MarkedMoment, Shut}
 use Rattle.channel_laws.specs.Notices.{AnyTold, told_of}
 use Rattle.channel_laws.specs.Sends.{is_to_tell_send, counts_for_sends, HasPlaces, PlacesAreFew}
 use Rattle.channel_laws.specs.Waits.{Waits}
@@ -71,7 +71,7 @@ module _ {T W : Type 0} where
   Takes (channel.ForceSend m) = Unit {0}
   Takes x = ⊥
 
-  takes_as : (x : ChannelAsk T W) (y : Aim T W) (a : QueueAsk T) (ds : List (Deed T W)) (seen : List (Channel T W))
+  takes_as : (x : ChannelAsk T W) (y : Aim T W) (a : QueueAsk T) (ds : List (MarkedMoment T W)) (seen : List (Channel T W))
       → TriesFor x y a ds seen → MayTake a → Takes x
   takes_as channel.TryRecv y a ds seen h p = tt
   takes_as (channel.RecvMany n) y a ds seen h p = tt
@@ -98,7 +98,7 @@ module _ {T W : Type 0} where
   abbrev counted : ChannelAsk T W → Aim T W → QueueAsk T → queue.Stage T → ℕ
   counted x y a s = counts_for_sends x (Trying (record { ask = a; stage = s }) y)
 
-  module _ (q : Queue T) (ds : List (Deed T W)) (seen : List (Channel T W)) where
+  module _ (q : Queue T) (ds : List (MarkedMoment T W)) (seen : List (Channel T W)) where
     pushing : (v w : T) (k : Loan) (key : Option Key) (t' task : W) (m : QueueMark) (s t : queue.Stage T) → queue.ContinuesPush q m s t
         → length q.items + counted (channel.PollSend v k t') (aim.Poll Sends key task) (ask.Push w) s ≤ number (ask.Push w) s m
         q + counted (channel.PollSend v k t') (aim.Poll Sends key task) (ask.Push w) t
@@ -228,7 +228,7 @@ module _ {T W : Type 0} where
   refused_places c n k (inr (inr none)) (inr h) =
       absurd (subst (λ (o : Option ℕ). HasPlaces o (length c.queue.items + length (told_of Sends c) + n)) none h)
 
-  module _ (c : Channel T W) (x : ChannelAsk T W) (f : Phase T) (y : Aim T W) (m : QueueMark) (ds : List (Deed T W))
+  module _ (c : Channel T W) (x : ChannelAsk T W) (f : Phase T) (y : Aim T W) (m : QueueMark) (ds : List (MarkedMoment T W))
       (seen : List (Channel T W)) (r : Option (Reply T)) (s : Stage (Phase T) T W)
       (shut : Shut c → Shut (let e : Effect T W = queued f m c in e.channel)) where
     abbrev now : Channel T W
@@ -280,13 +280,13 @@ module _ {T W : Type 0} where
   asks_as x waiting.Closing task r s h at turned = absurd (let never : Sends ≡ Closings = at in cc)
   asks_as x v task r s h at turned = absurd h
 
-  asks_anew : (x : ChannelAsk T W) (w : Work T W) (ds : List (Deed T W)) (seen : List (Channel T W)) (r : Option (Reply T))
+  asks_anew : (x : ChannelAsk T W) (w : Work T W) (ds : List (MarkedMoment T W)) (seen : List (Channel T W)) (r : Option (Reply T))
       (s : Stage (Phase T) T W) → WorkAt x w ds seen → AsksAnew Sends w r s
       → (left_over counts_for_sends x r s ≡ 1) × (tells_now w Sends ≡ 0)
   asks_anew x (Register v key task) ds seen r s h k = (asks_as x v task r s h.0 k.0 k.1, refl)
   asks_anew x w ds seen r s h k = absurd k
 
-  module _ (c : Channel T W) (x : ChannelAsk T W) (w : Work T W) (ds : List (Deed T W)) (seen : List (Channel T W))
+  module _ (c : Channel T W) (x : ChannelAsk T W) (w : Work T W) (ds : List (MarkedMoment T W)) (seen : List (Channel T W))
       (e : Effect T W) (r : Option (Reply T)) (s : Stage (Phase T) T W) (shut : Shut c → Shut e.channel) where
     worked_pays : WorkAt x w ds seen → e.channel.queue ≡ c.queue
         → (length (told_of Sends c) + tells_now w Sends ≤ length (told_of Sends e.channel))
@@ -314,7 +314,7 @@ module _ {T W : Type 0} where
             (ap (λ (q : Queue T). q.capacity) same) (omega (arith, items, counts, k, one, none)) enough
     worked_pays h same (inr (inr d)) = inr d
 
-  send_pays : (c : Channel T W) (x : ChannelAsk T W) (at : Stage (Phase T) T W) (ds : List (Deed T W))
+  send_pays : (c : Channel T W) (x : ChannelAsk T W) (at : Stage (Phase T) T W) (ds : List (MarkedMoment T W))
       (seen : List (Channel T W)) (e : Effect T W) (r : Option (Reply T)) (s : Stage (Phase T) T W) (key : Key)
       → StageAt c x at ds seen → Moves c at e r s → Waits Sends key e.channel → Paid c x at e r s
       ⊎ AnyTold false (told_of Sends c)

@@ -23,11 +23,11 @@ module _ {T W : Type 0} where
   pub sends_new : (cap : Option ℕ) → SendsSound (new_scene {T = T} {W = W} cap)
   sends_new cap = record { tellings = tellings_new cap; owed = λ key w. absurd w }
 
-module _ (T W S : Type 0) (wakes : S → W → S → Type 0) where
-  pub sends_stay_owed : SendsStayOwed T W S wakes
-  sends_stay_owed s t steps trace h run = kept_long wakes SendsSound sends_next run.0 run.1 s t run.2 run.3 steps trace h run.4
+module _ (T W : Type 0) where
+  pub sends_stay_owed : SendsStayOwed T W
+  sends_stay_owed s t steps trace h run = kept_long SendsSound sends_next s t steps trace h run
 
-  pub no_send_is_forgotten : NoSendIsForgotten T W S wakes
+  pub no_send_is_forgotten : NoSendIsForgotten T W
   no_send_is_forgotten cap t steps trace run =
       let h = sends_stay_owed (new_scene cap) t steps trace (sends_new cap) run in
       (h.owed, pending_owed Sends tt PlacesAreFew counts_for_sends t h.owed)

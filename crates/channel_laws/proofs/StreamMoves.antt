@@ -31,7 +31,7 @@ use Rattle.channel_calls.specs.declared.stage.Turn.TheVariants.{Works, Ends}
 use Rattle.channel_calls.specs.declared.stage.Waiting.{Waiting}
 use Rattle.channel_calls.specs.declared.stage.Waiting.TheVariants as waiting
 use Rattle.channel_calls.specs.declared.stage.Work.TheVariants.{TellReceive, TellStreams, TellSend, Leave}
-use Rattle.channel_steps.specs.Moments.{Deed}
+use Rattle.channel_steps.specs.Moments.{MarkedMoment}
 use Rattle.channel_steps.specs.Known.{TriesFor, StageAt}
 use Rattle.channel_laws.specs.Streams.{HasAppended, IsSending, IsBringing, HasInHand}
 use Rattle.channel_laws.specs.Waits.{Waits, WaitApart}
@@ -200,7 +200,7 @@ module _ {T W : Type 0} where
   Brings (Works (TellReceive x)) = Unit {0}
   Brings turn = ⊥
 
-  push_next : (x : ChannelAsk T W) (y : Aim T W) (v : T) (ds : List (Deed T W)) (seen : List (Channel T W)) → TriesFor x y (ask.Push v) ds seen → Brings (answered_next y (let r : QueueReply T = answer.Push (Ok tt) in r))
+  push_next : (x : ChannelAsk T W) (y : Aim T W) (v : T) (ds : List (MarkedMoment T W)) (seen : List (Channel T W)) → TriesFor x y (ask.Push v) ds seen → Brings (answered_next y (let r : QueueReply T = answer.Push (Ok tt) in r))
   push_next (channel.TrySend m) aim.TrySend v ds seen h = tt
   push_next (channel.ForceSend m) aim.ForceSend v ds seen h = absurd h
   push_next channel.TryRecv aim.TryRecv v ds seen h = absurd h
@@ -222,7 +222,7 @@ module _ {T W : Type 0} where
   push_next channel.IsTerminated aim.Ask v ds seen h = absurd h
   push_next x y v ds seen h = absurd h
 
-  force_next : (x : ChannelAsk T W) (y : Aim T W) (v : T) (ds : List (Deed T W)) (seen : List (Channel T W)) → TriesFor x y (ask.ForcePush v) ds seen → (d : Option T) → Brings (answered_next y (let r : QueueReply T = answer.Force (Ok d) in r))
+  force_next : (x : ChannelAsk T W) (y : Aim T W) (v : T) (ds : List (MarkedMoment T W)) (seen : List (Channel T W)) → TriesFor x y (ask.ForcePush v) ds seen → (d : Option T) → Brings (answered_next y (let r : QueueReply T = answer.Force (Ok d) in r))
   force_next (channel.TrySend m) aim.TrySend v ds seen h d = absurd h
   force_next (channel.ForceSend m) aim.ForceSend v ds seen h d = tt
   force_next channel.TryRecv aim.TryRecv v ds seen h d = absurd h
@@ -244,7 +244,7 @@ module _ {T W : Type 0} where
   force_next channel.IsTerminated aim.Ask v ds seen h d = absurd h
   force_next x y v ds seen h d = absurd h
 
-  appended_next : (q : Queue T) (x : ChannelAsk T W) (y : Aim T W) (a : QueueAsk T) (m : QueueMark) (r : QueueReply T) (s : queue.Stage T) (ds : List (Deed T W)) (seen : List (Channel T W))
+  appended_next : (q : Queue T) (x : ChannelAsk T W) (y : Aim T W) (a : QueueAsk T) (m : QueueMark) (r : QueueReply T) (s : queue.Stage T) (ds : List (MarkedMoment T W)) (seen : List (Channel T W))
       → TriesFor x y a ds seen → AnswersTo q a m r s → HasAppended s → Brings (answered_next y r)
   appended_next q x y (ask.Push v) m r s ds seen h ans k = subst (λ (z : QueueReply T). Brings (answered_next y z)) (sym (push_says q v m r s ans k)) (push_next x y v ds seen h)
   appended_next q x y (ask.ForcePush v) m r s ds seen h ans k =
@@ -256,7 +256,7 @@ module _ {T W : Type 0} where
   turned_brings turn r s b t = absurd b
 
   -- who pushes is a sending call
-  pub push_sends : (x : ChannelAsk T W) (y : Aim T W) (a : QueueAsk T) (ds : List (Deed T W)) (seen : List (Channel T W)) → TriesFor x y a ds seen → IsPush a → IsSending x
+  pub push_sends : (x : ChannelAsk T W) (y : Aim T W) (a : QueueAsk T) (ds : List (MarkedMoment T W)) (seen : List (Channel T W)) → TriesFor x y a ds seen → IsPush a → IsSending x
   push_sends (channel.TrySend m) y a ds seen h p = tt
   push_sends (channel.ForceSend m) y a ds seen h p = tt
   push_sends (channel.PollSend m k t) y a ds seen h p = tt
@@ -296,14 +296,14 @@ module _ {T W : Type 0} where
   no_items : (c : Channel T W) (f : Phase T) (m : QueueMark) (e : Effect T W) → e ≡ queued f m c → Empties f.ask f.stage m c.queue → e.channel.queue.items ≡ []
   no_items c f m e same h = ap (λ (z : Effect T W). z.channel.queue.items) same ∙ h
 
-  bringing_tried : (c : Channel T W) (x : ChannelAsk T W) (f : Phase T) (y : Aim T W) (m : QueueMark) (ds : List (Deed T W)) (seen : List (Channel T W)) (key : Key) (r : Option (Reply T)) (s : Stage (Phase T) T W)
+  bringing_tried : (c : Channel T W) (x : ChannelAsk T W) (f : Phase T) (y : Aim T W) (m : QueueMark) (ds : List (MarkedMoment T W)) (seen : List (Channel T W)) (key : Key) (r : Option (Reply T)) (s : Stage (Phase T) T W)
       → TriesFor x y f.ask ds seen → IsSending x → HasAppended f.stage → How c f y m r s → Going x key r s
   bringing_tried c x f y m ds seen key r s h sends k (inl (f', goes, none, there)) =
       (none, inl (sends, subst (λ (z : Stage (Phase T) T W). IsBringing z) (sym there) (goes_stays c.queue f.ask m f.stage f'.stage goes.1 k)))
   bringing_tried c x f y m ds seen key r s h sends k (inr (reply, ans, turned)) =
       let t = turned_brings (answered_next y reply) r s (appended_next c.queue x y f.ask m reply f.stage ds seen h ans k) turned in (t.0, inl (sends, t.1))
 
-  bringing_goes : (c : Channel T W) (x : ChannelAsk T W) (at : Stage (Phase T) T W) (ds : List (Deed T W)) (seen : List (Channel T W)) (e : Effect T W) (r : Option (Reply T)) (s : Stage (Phase T) T W) (key : Key)
+  bringing_goes : (c : Channel T W) (x : ChannelAsk T W) (at : Stage (Phase T) T W) (ds : List (MarkedMoment T W)) (seen : List (Channel T W)) (e : Effect T W) (r : Option (Reply T)) (s : Stage (Phase T) T W) (key : Key)
       → StageAt c x at ds seen → Moves c at e r s → IsSending x → IsBringing at → Waits Streams key e.channel → Settled x key e r s
   bringing_goes c x (Trying f y) ds seen e r s key st g sends b w = inr (bringing_tried c x f y g.mark ds seen key r s st.0 sends b g.how)
   bringing_goes c x (Working (TellReceive z)) ds seen e r s key st g sends b w = inr (g.1.0, inl (sends, subst (λ (z : Stage (Phase T) T W). IsBringing z) (sym g.1.1) tt))
@@ -312,7 +312,7 @@ module _ {T W : Type 0} where
 
   -- ---- a stream's own poll
 
-  pub stream_pops : (x : ChannelAsk T W) (o : Option Key) (task : W) (a : QueueAsk T) (ds : List (Deed T W)) (seen : List (Channel T W)) → TriesFor x (aim.Poll Streams o task) a ds seen → a ≡ ask.Pop
+  pub stream_pops : (x : ChannelAsk T W) (o : Option Key) (task : W) (a : QueueAsk T) (ds : List (MarkedMoment T W)) (seen : List (Channel T W)) → TriesFor x (aim.Poll Streams o task) a ds seen → a ≡ ask.Pop
   stream_pops (channel.PollNext k t) o task ask.Pop ds seen h = refl
   stream_pops x o task a ds seen h = absurd h
 
@@ -336,7 +336,7 @@ module _ {T W : Type 0} where
   leaves_next x None h r s e t = absurd (let never : None ≡ Some h = e in cc)
   leaves_next x (Some k) h r s e t = t
 
-  in_hand_goes : (c : Channel T W) (x : ChannelAsk T W) (at : Stage (Phase T) T W) (ds : List (Deed T W)) (seen : List (Channel T W)) (e : Effect T W) (r : Option (Reply T)) (s : Stage (Phase T) T W) (key : Key)
+  in_hand_goes : (c : Channel T W) (x : ChannelAsk T W) (at : Stage (Phase T) T W) (ds : List (MarkedMoment T W)) (seen : List (Channel T W)) (e : Effect T W) (r : Option (Reply T)) (s : Stage (Phase T) T W) (key : Key)
       → StageAt c x at ds seen → Moves c at e r s → HasInHand key at → WaitApart Streams c → Waits Streams key e.channel → Settled x key e r s
   in_hand_goes c x (Trying f (aim.Poll Streams (Some k) task)) ds seen e r s key st g h apart w =
       polled c x f k task g.mark e key r s (stream_pops x (Some k) task f.ask ds seen st.0) h g.effect g.how
@@ -350,7 +350,7 @@ module _ {T W : Type 0} where
 
   -- ---- messages
 
-  filled : (c : Channel T W) (x : ChannelAsk T W) (f : Phase T) (y : Aim T W) (m : QueueMark) (ds : List (Deed T W)) (seen : List (Channel T W)) (e : Effect T W) (key : Key) (r : Option (Reply T)) (s : Stage (Phase T) T W) → TriesFor x y f.ask ds seen → e ≡ queued f m c → How c f y m r s → c.queue.items ≡ [] → Settled x key e r s
+  filled : (c : Channel T W) (x : ChannelAsk T W) (f : Phase T) (y : Aim T W) (m : QueueMark) (ds : List (MarkedMoment T W)) (seen : List (Channel T W)) (e : Effect T W) (key : Key) (r : Option (Reply T)) (s : Stage (Phase T) T W) → TriesFor x y f.ask ds seen → e ≡ queued f m c → How c f y m r s → c.queue.items ≡ [] → Settled x key e r s
   filled c x f y m ds seen e key r s tries effect (inl (f', goes, none, there)) empty = by_stage (goes_fills c.queue f.ask m f.stage f'.stage goes.1 empty)
     where
       by_stage : Empties f.ask f.stage m c.queue ⊎ (IsPush f.ask × HasAppended f'.stage) → Settled x key e r s
@@ -358,13 +358,13 @@ module _ {T W : Type 0} where
       by_stage (inr h) = inr (none, inl (push_sends x y f.ask ds seen tries h.0, subst (λ (z : Stage (Phase T) T W). IsBringing z) (sym there) h.1))
   filled c x f y m ds seen e key r s tries effect (inr (reply, ans, turned)) empty = inl (no_items c f m e effect (answers_fill c.queue f.ask m reply f.stage ans empty))
 
-  pub empty_goes : (c : Channel T W) (x : ChannelAsk T W) (at : Stage (Phase T) T W) (ds : List (Deed T W)) (seen : List (Channel T W)) (e : Effect T W) (r : Option (Reply T)) (s : Stage (Phase T) T W) (key : Key) → StageAt c x at ds seen → Moves c at e r s → c.queue.items ≡ [] → Settled x key e r s
+  pub empty_goes : (c : Channel T W) (x : ChannelAsk T W) (at : Stage (Phase T) T W) (ds : List (MarkedMoment T W)) (seen : List (Channel T W)) (e : Effect T W) (r : Option (Reply T)) (s : Stage (Phase T) T W) (key : Key) → StageAt c x at ds seen → Moves c at e r s → c.queue.items ≡ [] → Settled x key e r s
   empty_goes c x (Trying f y) ds seen e r s key st g h = filled c x f y g.mark ds seen e key r s st.0 g.effect g.how h
   empty_goes c x (Working w) ds seen e r s key st g h = let k = worked_spares c w e r s g in inl (ap (λ (q : Queue T). q.items) k.0 ∙ h)
   empty_goes c x (Finished kept) ds seen e r s key st g h = inl (ap (λ (z : Effect T W). z.channel.queue.items) g.0 ∙ h)
 
   -- the call that makes the step answered for the stream: so it does, or there is no message
-  pub answering_goes : (c : Channel T W) (x : ChannelAsk T W) (at : Stage (Phase T) T W) (ds : List (Deed T W)) (seen : List (Channel T W)) (e : Effect T W) (r : Option (Reply T)) (s : Stage (Phase T) T W) (key : Key)
+  pub answering_goes : (c : Channel T W) (x : ChannelAsk T W) (at : Stage (Phase T) T W) (ds : List (MarkedMoment T W)) (seen : List (Channel T W)) (e : Effect T W) (r : Option (Reply T)) (s : Stage (Phase T) T W) (key : Key)
       → StageAt c x at ds seen → Moves c at e r s → WaitApart Streams c → Waits Streams key e.channel → (IsSending x × IsBringing at) ⊎ HasInHand key at → Settled x key e r s
   answering_goes c x at ds seen e r s key st g apart w (inl h) = bringing_goes c x at ds seen e r s key st g h.0 h.1 w
   answering_goes c x at ds seen e r s key st g apart w (inr h) = in_hand_goes c x at ds seen e r s key st g h apart w

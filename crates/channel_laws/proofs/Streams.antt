@@ -44,12 +44,12 @@ module _ {T W : Type 0} where
     one_of_them key w (inl h) = inr h
     one_of_them key w (inr h) =
         let k = mine_known in
-        settled key (answering_goes s.now st.mine.ask st.mine.at st.mine.deeds st.mine.seen effect e.reply st.at_now key k.stands st.moves sound.apart w h)
+        settled key (answering_goes s.now st.mine.ask st.mine.at st.mine.marks st.mine.seen effect e.reply st.at_now key k.stands st.moves sound.apart w h)
 
     was_empty : (key : Key) → s.now.queue.items ≡ [] → Settled st.mine.ask key effect e.reply st.at_now
     was_empty key h =
         let k = mine_known in
-        empty_goes s.now st.mine.ask st.mine.at st.mine.deeds st.mine.seen effect e.reply st.at_now key k.stands st.moves h
+        empty_goes s.now st.mine.ask st.mine.at st.mine.marks st.mine.seen effect e.reply st.at_now key k.stands st.moves h
 
     was_owed : (key : Key) → Waits Streams key t.now → (s.now.queue.items ≡ []) ⊎ Any (AnswersFor key) s.under_way → Owed key
     was_owed key w (inl h) = settled key (was_empty key h)
@@ -95,9 +95,9 @@ module _ {T W : Type 0} where
       but_it (inl h) = inl h
       but_it (inr h) = inr (any_but (λ u. IsSending u.ask × IsBringing u.at) (λ u. HasInHand key u.at) s.under_way h none)
 
-module _ (T W S : Type 0) (wakes : S → W → S → Type 0) where
-  pub streams_stay_owed : StreamsStayOwed T W S wakes
-  streams_stay_owed s t steps trace h run = kept_long wakes StreamsSound sound_next run.0 run.1 s t run.2 run.3 steps trace h run.4
+module _ (T W : Type 0) where
+  pub streams_stay_owed : StreamsStayOwed T W
+  streams_stay_owed s t steps trace h run = kept_long StreamsSound sound_next s t steps trace h run
 
-  pub no_stream_is_forgotten : NoStreamIsForgotten T W S wakes
+  pub no_stream_is_forgotten : NoStreamIsForgotten T W
   no_stream_is_forgotten cap t steps trace run = let h = streams_stay_owed (new_scene cap) t steps trace (new_sound cap) run in (h.owed, pending_owed t h.owed)

@@ -6,7 +6,7 @@ use Rattle.channel_calls.specs.declared.ask.ChannelAsk.{ChannelAsk}
 use Rattle.channel_calls.specs.declared.reply.Reply.{Reply}
 use Rattle.channel_calls.specs.declared.stage.Stage.{Stage}
 use Rattle.channel_steps.specs.Scene.{Under, Scene, Steps, sees, does, unless_ended}
-use Rattle.channel_steps.specs.Run.{Begins, begun}
+use Rattle.channel_steps.specs.Run.{Begins, call_begun}
 use Rattle.channel_steps.specs.declared.party.Entry.{Entry}
 use Rattle.channel_laws.specs.Amounts.{total}
 
@@ -54,5 +54,5 @@ module _ {T W : Type 0} (weigh : ChannelAsk T W → Stage (Phase T) T W → ℕ)
       → total weigh s.under_way ≤ total weigh t.under_way
   total_begins s t p ask e b =
       let all = ap (λ (us : List (Under T W)). total weigh us) b.under_way in
-      let joined = total_join s.under_way (begun p ask b.at s.now ∷ []) in
+      let joined = total_join s.under_way (call_begun p ask b.at s.now ∷ []) in
       omega (arith, all, joined)

@@ -19,7 +19,7 @@ use Rattle.channel_calls.specs.declared.stage.Stage.TheVariants.{Trying, Working
 use Rattle.channel_calls.specs.declared.stage.Waiting.TheVariants as waiting
 use Rattle.channel_calls.specs.declared.stage.Work.TheVariants.{TellReceive, TellStreams, TellSend, TellSends, TakeRoom, TellAll, Insert, Register, Leave, Lower, Count, Load, Raise}
 use Rattle.channel_steps.specs.Known.{StageAt}
-use Rattle.channel_steps.specs.Moments.{Deed}
+use Rattle.channel_steps.specs.Moments.{MarkedMoment}
 use Rattle.channel_steps.specs.Run.{Next, new_scene}
 use Rattle.channel_steps.specs.Scene.{Scene, Known, AllKnown}
 use Rattle.channel_steps.specs.declared.party.Entry.{Entry}
@@ -95,7 +95,7 @@ module _ {T W : Type 0} (c : Channel T W) (none : c.roster.sends ≡ nobody_list
 
 module _ {T W : Type 0} where
   -- a send that inserts its listener has found the channel full
-  found_full : (now : Channel T W) (a : ChannelAsk T W) (at : Stage (Phase T) T W) (ds : List (Deed T W)) (seen : List (Channel T W))
+  found_full : (now : Channel T W) (a : ChannelAsk T W) (at : Stage (Phase T) T W) (ds : List (MarkedMoment T W)) (seen : List (Channel T W))
       → StageAt now a at ds seen → AllOf None seen → (m : T) (task : W) → at ≡ Working (Insert (waiting.Send m) task) → ⊥
   found_full now a at ds seen k all m task e =
       let h : StageAt now a (Working (Insert (waiting.Send m) task)) ds seen =
@@ -119,6 +119,6 @@ module _ {T W : Type 0} where
         unlisted = λ none.
             let before = sym (capacity_next s (step.Step p) e names t n) ∙ none in
             stays s.now (h.unlisted before) n.mine.at (record { channel = t.now; mark = e.mark; woken = names }) e.reply n.at_now n.moves
-            (found_full s.now n.mine.ask n.mine.at n.mine.deeds n.mine.seen mine.stands
+            (found_full s.now n.mine.ask n.mine.at n.mine.marks n.mine.seen mine.stands
             (subst (λ (o : Option ℕ). AllOf o n.mine.seen) before alike));
       }

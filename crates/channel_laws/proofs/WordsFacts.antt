@@ -24,7 +24,7 @@ use Rattle.channel_calls.specs.declared.stage.Stage.{Stage}
 use Rattle.channel_calls.specs.declared.stage.Stage.TheVariants.{Trying, Working, Finished}
 use Rattle.channel_laws.specs.Ends.{Each}
 use Rattle.channel_steps.specs.Known.{TriesFor, TryAt, TriesAt, StageAt, ToldAt}
-use Rattle.channel_steps.specs.Moments.{Deed, Appended, Replaced, Displaced}
+use Rattle.channel_steps.specs.Moments.{MarkedMoment, Appended, Replaced, Displaced}
 use Rattle.channel_steps.specs.Scene.{Under, Scene, Sitting, MayHave, Known, AllKnown, Represents, under_of, all_seats, brought}
 use Rattle.channel_steps.specs.Tellings.{Telling}
 use Rattle.channel_steps.specs.declared.party.Party.{Party}
@@ -42,29 +42,29 @@ module _ {T : Type 0} where
 module _ {T W : Type 0} where
   -- ---- the marks of a call that has let its message in
 
-  appended_in : (ds : List (Deed T W)) → Appended ds → HasLetIn ds
+  appended_in : (ds : List (MarkedMoment T W)) → Appended ds → HasLetIn ds
   appended_in [] h = absurd h
   appended_in (d ∷ []) h = inl (inl h.0)
   appended_in (d ∷ e ∷ ds) h = absurd h
 
-  replaced_in : (ds : List (Deed T W)) (v : T) → Replaced ds v → HasLetIn ds
+  replaced_in : (ds : List (MarkedMoment T W)) (v : T) → Replaced ds v → HasLetIn ds
   replaced_in [] v h = absurd h
   replaced_in (d ∷ []) v h = inl (inr h.0)
   replaced_in (d ∷ e ∷ ds) v h = absurd h
 
-  displaced_in : (ds : List (Deed T W)) (v : T) → Displaced ds v → HasLetIn ds
+  displaced_in : (ds : List (MarkedMoment T W)) (v : T) → Displaced ds v → HasLetIn ds
   displaced_in [] v h = absurd h
   displaced_in (d ∷ []) v h = absurd h
   displaced_in (d ∷ e ∷ []) v h = inr (inl (inl h.1))
   displaced_in (d ∷ e ∷ f ∷ ds) v h = absurd h
 
-  push_in : (now : Channel T W) (w : T) (s : queue.Stage T) (ds : List (Deed T W)) (seen : List (Channel T W)) → HasBrought s
+  push_in : (now : Channel T W) (w : T) (s : queue.Stage T) (ds : List (MarkedMoment T W)) (seen : List (Channel T W)) → HasBrought s
       → TryAt now (q.Push w) s ds seen → HasLetIn ds
   push_in now w (appended None) ds seen b h = appended_in ds h
   push_in now w (appended (Some d)) ds seen b h = absurd h
   push_in now w s ds seen b h = absurd b
 
-  force_in : (now : Channel T W) (w : T) (s : queue.Stage T) (ds : List (Deed T W)) (seen : List (Channel T W)) → HasBrought s
+  force_in : (now : Channel T W) (w : T) (s : queue.Stage T) (ds : List (MarkedMoment T W)) (seen : List (Channel T W)) → HasBrought s
       → TryAt now (q.ForcePush w) s ds seen → HasLetIn ds
   force_in now w (appended None) ds seen b h = appended_in ds h
   force_in now w (appended (Some d)) ds seen b (inl h) = replaced_in ds d h
@@ -73,10 +73,10 @@ module _ {T W : Type 0} where
 
   -- ---- the call that brought a message
 
-  abbrev Brings : T → ChannelAsk T W → List (Deed T W) → Type 0
+  abbrev Brings : T → ChannelAsk T W → List (MarkedMoment T W) → Type 0
   Brings v a ds = (brought a ≡ v ∷ []) × HasLetIn ds
 
-  tries : (v : T) (now : Channel T W) (a : ChannelAsk T W) (y : Aim T W) (x : QueueAsk T) (s : queue.Stage T) (ds : List (Deed T W))
+  tries : (v : T) (now : Channel T W) (a : ChannelAsk T W) (y : Aim T W) (x : QueueAsk T) (s : queue.Stage T) (ds : List (MarkedMoment T W))
       (seen : List (Channel T W)) → message x ≡ v ∷ [] → HasBrought s → TriesFor a y x ds seen → TriesAt now y x s ds seen → Brings v a ds
   tries v now (ask.TrySend m) aim.TrySend (q.Push w) s ds seen one b t h = (same v w m t one, push_in now w s ds seen b h)
   tries v now (ask.ForceSend m) aim.ForceSend (q.ForcePush w) s ds seen one b t h = (same v w m t one, force_in now w s ds seen b h)
@@ -105,13 +105,13 @@ module _ {T W : Type 0} where
   Brought v at = ⊥
 
   stands_with : (v : T) (now : Channel T W)
-      (a : ChannelAsk T W) (at : Stage (Phase T) T W) (ds : List (Deed T W)) (seen : List (Channel T W))
+      (a : ChannelAsk T W) (at : Stage (Phase T) T W) (ds : List (MarkedMoment T W)) (seen : List (Channel T W))
       → StageAt now a at ds seen → Brought v at → Brings v a ds × IsAtQueue at
   stands_with v now a (Trying f y) ds seen k b = (tries v now a y f.ask f.stage ds seen b.0 b.1 k.0 k.1, tt)
   stands_with v now a (Working w) ds seen k b = absurd b
   stands_with v now a (Finished kept) ds seen k b = absurd b
 
-  nothing_told : (told : List Telling) (at : Stage (Phase T) T W) (ds : List (Deed T W)) → ToldAt told at ds → IsAtQueue at → told ≡ []
+  nothing_told : (told : List Telling) (at : Stage (Phase T) T W) (ds : List (MarkedMoment T W)) → ToldAt told at ds → IsAtQueue at → told ≡ []
   nothing_told told (Trying f y) ds k at_queue = k
   nothing_told told (Working w) ds k at_queue = absurd at_queue
   nothing_told told (Finished kept) ds k at_queue = absurd at_queue
@@ -131,8 +131,8 @@ module _ {T W : Type 0} where
       → (yet_to_put form x.party.call.stage ≡ Some (at, v)) × Brought v (under_of x).at → IsWith form at v x.party (under_of x)
   is_with form at v now x k b =
       let u : Under T W = under_of x in
-      let h = stands_with v now u.ask u.at u.deeds u.seen k.stands b.1 in
-      record { party = refl; brings = h.0.0; let_in = h.0.1; untold = nothing_told u.told u.at u.deeds k.tells h.1; puts = b.0 }
+      let h = stands_with v now u.ask u.at u.marks u.seen k.stands b.1 in
+      record { party = refl; brings = h.0.0; let_in = h.0.1; untold = nothing_told u.told u.at u.marks k.tells h.1; puts = b.0 }
 
   with_one : (form : QueueForm) (at : Slot) (v : T) (now : Channel T W) (xs : List (Sitting T W)) → AllKnown now (map under_of xs)
       → IsHeldFor form at v (all_seats xs) → IsWithOne form at v (map (λ (x : Sitting T W). x.party) xs) (map under_of xs)

@@ -7,11 +7,11 @@ use Rattle.channel_calls.specs.declared.mark.Mark.{Mark}
 use Rattle.channel_calls.specs.declared.mark.Mark.TheVariants.{TakeDisplaced, Replace}
 use Rattle.channel_calls.specs.declared.reply.Reply.{Reply}
 use Rattle.channel_calls.specs.declared.reply.Reply.TheVariants as reply
-use Rattle.channel_steps.specs.Run.{new_scene}
+use Rattle.channel_steps.specs.Run.{IsRun, NextScene, new_scene}
 use Rattle.channel_steps.specs.Scene.{Scene}
 use Rattle.channel_steps.specs.declared.party.Entry.{Entry}
 use Rattle.channel_steps.specs.declared.run.Step.{Step}
-use Rattle.channel_laws.specs.Ends.{Each, Leads, Replies}
+use Rattle.channel_laws.specs.Ends.{Each, Replies}
 
 -- a mark of a send that takes an older message out to make room
 abbrev pub IsDisplacing : Mark → Type 0
@@ -54,24 +54,24 @@ module _ {T W : Type 0} where
     pub fits : Fits s.now
     pub alike : Each (λ u. AllOf s.now.queue.capacity u.seen) s.under_way
 
-module _ (T W S : Type 0) (wakes : S → W → S → Type 0) where
+module _ (T W : Type 0) where
   abbrev pub BoundsStay : Type 0
-  BoundsStay = (s t : Scene T W) (steps : List (Step T W)) (trace : List (Entry T)) → BoundSound s → Leads wakes s steps trace t → BoundSound t
+  BoundsStay = (s t : Scene T W) (steps : List (Step T W)) (trace : List (Entry T)) → BoundSound s → IsRun NextScene s steps trace t → BoundSound t
 
   -- in every run from a channel that was just opened
   abbrev pub NeverOverfull : Type 0
   NeverOverfull =
-      (capacity : Option ℕ) (t : Scene T W) (steps : List (Step T W)) (trace : List (Entry T)) → Leads wakes (new_scene capacity) steps trace t
+      (capacity : Option ℕ) (t : Scene T W) (steps : List (Step T W)) (trace : List (Entry T)) → IsRun NextScene (new_scene capacity) steps trace t
       → (t.now.queue.capacity ≡ capacity) × Fits t.now
 
   -- in every run from a channel without a bound
   abbrev pub UnboundedIsNeverFull : Type 0
   UnboundedIsNeverFull =
-      (s t : Scene T W) (steps : List (Step T W)) (trace : List (Entry T)) → BoundSound s → s.now.queue.capacity ≡ None → Leads wakes s steps trace t
+      (s t : Scene T W) (steps : List (Step T W)) (trace : List (Entry T)) → BoundSound s → s.now.queue.capacity ≡ None → IsRun NextScene s steps trace t
       → NoneFull trace
 
   -- in every run from a channel that was just opened
   abbrev pub ClosesOnce : Type 0
   ClosesOnce =
-      (capacity : Option ℕ) (t : Scene T W) (steps : List (Step T W)) (trace : List (Entry T)) → Leads wakes (new_scene capacity) steps trace t
+      (capacity : Option ℕ) (t : Scene T W) (steps : List (Step T W)) (trace : List (Entry T)) → IsRun NextScene (new_scene capacity) steps trace t
       → closings_in trace ≤ 1

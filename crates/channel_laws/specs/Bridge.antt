@@ -15,6 +15,7 @@ use Rattle.concurrent_queue.specs.declared.call.QueueReply.{QueueReply}
 use Rattle.concurrent_queue.specs.declared.cells.QueueForm.{QueueForm}
 use Rattle.concurrent_queue.specs.declared.queue_call.CallState.{CallState}
 use Rattle.concurrent_queue.specs.declared.queue_call.QueueCall.{QueueCall}
+use Rattle.event_listener.specs.Notices.{Woken}
 use Rattle.channel_calls.specs.Asks.{first, kept_by}
 use Rattle.channel_calls.specs.Deeds.{Deed, stepped, Done}
 use Rattle.channel_calls.specs.Effects.{Does}
@@ -26,7 +27,7 @@ use Rattle.channel_calls.specs.declared.mark.Mark.{Mark}
 use Rattle.channel_calls.specs.declared.reply.Reply.{Reply}
 use Rattle.channel_calls.specs.declared.stage.Kept.{Kept}
 use Rattle.channel_calls.specs.declared.stage.Stage.{Stage}
-use Rattle.channel_steps.specs.Run.{IsRun, new_scene}
+use Rattle.channel_steps.specs.Run.{IsRun, Next, NextScene, Touches, new_scene}
 use Rattle.channel_steps.specs.Scene.{Scene, Represents}
 use Rattle.channel_steps.specs.declared.party.Entry.{Entry}
 use Rattle.channel_steps.specs.declared.party.Party.{Party}
@@ -54,6 +55,13 @@ pub record Happening (T W : Type 0) : Type 0 where
 pub record Given (T : Type 0) : Type 0 where
   pub reply : Reply T
   pub kept : Kept T
+
+-- a moment: what the cells hold, the parties with their calls under way, the channel with these calls, and the sink of whom was woken
+pub record MergeMoment (T W S : Type 0) : Type 0 where
+  pub parts : Parts T W
+  pub parties : List (Party T W)
+  pub scene : Scene T W
+  pub sink : S
 
 module _ {T : Type 0} where
   abbrev pub given_by : Option (Reply T) → Option (Kept T) → List (Given T)
@@ -104,6 +112,10 @@ module _ {T W : Type 0} where
   abbrev pub opened_parts : QueueForm → Parts T W
   opened_parts form = record { cells = new_cells form; roster = new_roster }
 
+  -- with nobody at work
+  abbrev pub just_opened : {S : Type 0} → QueueForm → S → MergeMoment T W S
+  just_opened form sink = record { parts = opened_parts form; parties = []; scene = new_scene (capacity_of form); sink = sink }
+
   module _ {S : Type 0} (wakes : S → W → S → Type 0) where
     -- ---- what is asked of the cells, and of the sink that is given whom a step wakes
 
@@ -117,6 +129,14 @@ module _ {T W : Type 0} where
     InOneOrder [] c e = e ≡ c
     InOneOrder (x ∷ xs) c e = (m : Parts T W × S) × Changes x.event c m × InOneOrder xs m e
 
+    -- a step of a run: what the machine of the party's call does next. It wakes these, and at most one cell, list or count differs
+    -- after it
+    pub record NextMoment (m : MergeMoment T W S) (x : Step T W) (e : Entry T) (n : MergeMoment T W S) : Type 0 where
+      pub names : List W
+      pub next : Next m.scene x e names n.scene
+      pub woken : Woken wakes m.sink names n.sink
+      pub touches : Touches x m.parts n.parts
+
     -- a run from a channel that was opened over a queue of this form, with nobody at work, made just these steps, gave each party
     -- this, and left these cells and this sink
     pub record IsRunOf (form : QueueForm) (events : List (Happening T W)) (given : ℕ → List (Given T)) (sink : S) (last : Parts T W) (woken : S) : Type 0 where
@@ -124,7 +144,9 @@ module _ {T W : Type 0} where
       pub parties : List (Party T W)
       pub scene : Scene T W
       pub opened : let nobody : List (Party T W) = [] in Represents (opened_parts form) nobody (new_scene (capacity_of form))
-      pub run : IsRun wakes (opened_parts form) (new_scene (capacity_of form)) sink (steps_of events) trace last scene woken
+      pub run : IsRun NextMoment (just_opened form sink) (steps_of events) trace (record { parts = last; parties = parties; scene = scene; sink = woken })
+      -- and so from scene to scene, of which the laws of all runs speak
+      pub scenes : IsRun NextScene (new_scene (capacity_of form)) (steps_of events) trace scene
       pub shown : Represents last parties scene
       pub answers : (p : ℕ) → given_to p events trace ≡ given p
 

@@ -7,12 +7,12 @@ use Rattle.channel_laws.specs.Ends.{SaysTheEnd, Replies, GetsNothing}
 
 module _ {T W : Type 0} where
   -- no call that begins by one of these steps gives a message
-  abbrev pub GiveNothing : List (Step T W) → List (Entry T) → Type 0
-  GiveNothing (step.Begin p ask ∷ xs) (e ∷ es) = GetsNothing p xs es × GiveNothing xs es
-  GiveNothing (step.Step p ∷ xs) (e ∷ es) = GiveNothing xs es
-  GiveNothing xs es = Unit {0}
+  abbrev pub NewCallsGiveNothing : List (Step T W) → List (Entry T) → Type 0
+  NewCallsGiveNothing (step.Begin p ask ∷ xs) (e ∷ es) = GetsNothing p xs es × NewCallsGiveNothing xs es
+  NewCallsGiveNothing (step.Step p ∷ xs) (e ∷ es) = NewCallsGiveNothing xs es
+  NewCallsGiveNothing xs es = Unit {0}
 
   -- a reply that says the end is followed by no message but from calls that had begun before it
-  abbrev pub NothingComesAfter : List (Step T W) → List (Entry T) → Type 0
-  NothingComesAfter (x ∷ xs) (e ∷ es) = (Replies SaysTheEnd e.reply → GiveNothing xs es) × NothingComesAfter xs es
-  NothingComesAfter xs es = Unit {0}
+  abbrev pub NoMessageAfter : List (Step T W) → List (Entry T) → Type 0
+  NoMessageAfter (x ∷ xs) (e ∷ es) = (Replies SaysTheEnd e.reply → NewCallsGiveNothing xs es) × NoMessageAfter xs es
+  NoMessageAfter xs es = Unit {0}

@@ -12,16 +12,16 @@ use Rattle.channel_calls.specs.declared.mark.Mark.TheVariants.{Nothing}
 use Rattle.channel_calls.specs.declared.stage.Stage.{Stage}
 use Rattle.channel_steps.specs.Known.{IsQuick}
 use Rattle.channel_steps.specs.Moments.{Shut, Spent}
-use Rattle.channel_steps.specs.Run.{EachStep, Next, begun as call_begun, end_of}
-use Rattle.channel_steps.specs.Scene.{Under, Represents, EndsInTime, HoldNobodyUp, brought, does, gone_by, sees, unless_ended, blocks_after}
-use Rattle.channel_steps.specs.Tellings.{telling, dropping, Names}
+use Rattle.channel_steps.specs.Run.{EachStep, Next, call_begun}
+use Rattle.channel_steps.specs.Scene.{Under, Represents, EndsInTime, OthersQuiet, brought, does, gone_by, sees, unless_ended, blocks_after}
+use Rattle.channel_steps.specs.Tellings.{telling, dropping, WokenBy}
 use Rattle.channel_steps.specs.declared.party.Entry.{Entry}
 use Rattle.channel_steps.specs.declared.run.Step.{Step}
 use Rattle.channel_steps.specs.declared.run.Step.TheVariants as step
 use Rattle.channel_laws.specs.Bounds.{Fits}
-use Rattle.channel_laws.specs.Bridge.{Happening, Given, Acts, own, steps_of, opened_parts, InOneOrder, IsRunOf, LastsFor}
-use Rattle.channel_laws.specs.BridgeEnd.{NothingComesAfter}
-use Rattle.channel_laws.specs.BridgeMoments.{Moment, FewLeft, EndInARow, opened, left_to}
+use Rattle.channel_laws.specs.Bridge.{MergeMoment, just_opened, Happening, Given, Acts, own, steps_of, opened_parts, InOneOrder, IsRunOf, LastsFor}
+use Rattle.channel_laws.specs.BridgeEnd.{NoMessageAfter}
+use Rattle.channel_laws.specs.BridgeMoments.{FewStepsLeft, MergeEndsInARow, left_to}
 use Rattle.channel_laws.specs.Closings.{PendingIsOwedTheClosing}
 use Rattle.channel_laws.specs.EndSays.{EndSays}
 use Rattle.channel_laws.specs.Ends.{Each, IsIdle, IsStill, GivesMessage, SaysTheEnd, Replies}
@@ -36,7 +36,7 @@ use Rattle.channel_laws.specs.Words.{WordsSay}
 module _ {T W S : Type 0} where
   -- ---- a moment
 
-  pub record MomentSays (m : Moment T W S) : Type 0 where
+  pub record MergeMomentSays (m : MergeMoment T W S) : Type 0 where
     -- the cells and the parties show its scene
     pub shows : Represents m.parts m.parties m.scene
     -- what left the channel, followed by what it holds, is what came into it, in order, and no more than fit
@@ -53,12 +53,12 @@ module _ {T W S : Type 0} where
     -- the channel is closed or not and holds so many messages as its queue's words say; and each message lies in the slot that
     -- they name for it alone, without a bound by the blocks that the queue has used, or is with the call that is yet to put it there
     pub words : WordsSay m.parts.cells m.parties m.scene
-    -- no call has more steps left than 197, and 64 for each message that a receive of several may take, where none holds it up
-    pub few : FewLeft m
+    -- no call has more steps left than these, by how many messages a receive of several may take, where the others are quiet
+    pub few : FewStepsLeft m
 
   -- ---- the beginning of a call
 
-  pub record BeginSays (m : Moment T W S) (p : ℕ) (ask : ChannelAsk T W) (e : Entry T) (n : Moment T W S) : Type 0 where
+  pub record MergeBeginSays (m : MergeMoment T W S) (p : ℕ) (ask : ChannelAsk T W) (e : Entry T) (n : MergeMoment T W S) : Type 0 where
     -- its party has no call under way
     pub idle : IsIdle p m.scene
     -- it has no mark and wakes nobody, and touches nothing
@@ -75,7 +75,7 @@ module _ {T W S : Type 0} (wakes : S → W → S → Type 0) where
   -- ---- a step of a call
 
   -- what the step does, which wakes these, of a call that is `call` before it and `after` after it
-  pub record StepDoes (m : Moment T W S) (e : Entry T) (n : Moment T W S) (names : List W) (call after : Under T W) : Type 0 where
+  pub record StepDoes (m : MergeMoment T W S) (e : Entry T) (n : MergeMoment T W S) (names : List W) (call after : Under T W) : Type 0 where
     -- to the plain channel what its mark says, by touching one cell, one list or one count at most
     pub effect : plain n.scene.now ≡ marked e.mark (brought call.ask) (plain m.scene.now)
     pub touches : OnePlace m.parts n.parts
@@ -83,7 +83,7 @@ module _ {T W S : Type 0} (wakes : S → W → S → Type 0) where
     pub accounts : AddUp m.scene (gone_by e.mark m.scene.now.queue.items) (brought_by e.mark (brought call.ask)) n.scene
     -- it wakes those whom its one telling finds waiting, in order, or him to whom a listener of its own that it drops passes its
     -- notice on, and nobody else
-    pub told : Names (telling call.at) (dropping call.at) m.scene.now names
+    pub told : WokenBy (telling call.at) (dropping call.at) m.scene.now names
     -- where it ends its call
     pub ends : IfSome e.reply (λ r. EndSays after r e.kept)
     -- closing, dropping, giving up, refused polls and the questions but the length end within eight steps of their own, whatever
@@ -92,7 +92,7 @@ module _ {T W S : Type 0} (wakes : S → W → S → Type 0) where
     -- a call that began when the end was said gives no message
     pub late : AllSpent call.seen → Replies GivesMessage e.reply → ⊥
 
-  pub record WorkSays (m : Moment T W S) (p : ℕ) (e : Entry T) (n : Moment T W S) (names : List W) : Type 0 where
+  pub record MergeWorkSays (m : MergeMoment T W S) (p : ℕ) (e : Entry T) (n : MergeMoment T W S) (names : List W) : Type 0 where
     -- the party's call, among those under way
     pub before : List (Under T W)
     pub call : Under T W
@@ -106,22 +106,22 @@ module _ {T W S : Type 0} (wakes : S → W → S → Type 0) where
     pub is : after ≡ does call at_now e.mark m.scene.now n.scene.now
     pub goes_on : n.scene.under_way ≡ map (sees n.scene.now) before ++ (unless_ended after e.reply ++ map (sees n.scene.now) behind)
     pub work : StepDoes m e n names call after
-    -- where no other call holds it up, a step that does not end its call leaves it fewer steps
-    pub nearer : e.reply ≡ None → HoldNobodyUp m.scene.now (before ++ behind) → left_to (length before) n < left_to (length before) m
+    -- where the others are quiet, a step that does not end its call leaves it fewer steps
+    pub nearer : e.reply ≡ None → OthersQuiet m.scene.now (before ++ behind) → left_to (length before) n < left_to (length before) m
 
   -- ---- a step of a run
 
   -- the party begins a call, or makes a step of the one that it has under way
-  abbrev pub CallSays : Moment T W S → Step T W → Entry T → Moment T W S → List W → Type 0
-  CallSays m (step.Begin p ask) e n names = BeginSays m p ask e n
-  CallSays m (step.Step p) e n names = WorkSays m p e n names
+  abbrev pub MergeCallSays : MergeMoment T W S → Step T W → Entry T → MergeMoment T W S → List W → Type 0
+  MergeCallSays m (step.Begin p ask) e n names = MergeBeginSays m p ask e n
+  MergeCallSays m (step.Step p) e n names = MergeWorkSays m p e n names
 
-  pub record StepSays (m : Moment T W S) (x : Step T W) (e : Entry T) (n : Moment T W S) : Type 0 where
+  pub record MergeStepSays (m : MergeMoment T W S) (x : Step T W) (e : Entry T) (n : MergeMoment T W S) : Type 0 where
     -- it is what the machine of the party's call does next, and these are woken by it, in order
     pub names : List W
     pub next : Next m.scene x e names n.scene
     pub woken : Woken wakes m.sink names n.sink
-    pub call : CallSays m x e n names
+    pub call : MergeCallSays m x e n names
     -- the queue has used the blocks that it had used before, and one more, at the end, where its tail's word then names another
     pub blocks : n.scene.blocks ≡ blocks_after n.parts.cells.form m.scene.blocks m.parts.cells n.parts.cells
     -- what is closed stays closed; what is over, closed with nothing there and nothing on its way, stays over, and no message comes
@@ -129,24 +129,21 @@ module _ {T W S : Type 0} (wakes : S → W → S → Type 0) where
     pub closed : Shut m.scene.now → Shut n.scene.now
     pub over : Spent m.scene.now → Spent n.scene.now × IsStill e.mark
     pub the_end : Replies SaysTheEnd e.reply → Spent n.scene.now
-    pub after : MomentSays n
+    pub after : MergeMomentSays n
 
   -- ---- a run
 
   -- What these events are is a run; and each of its moments and of its steps says what the headline says.
   pub record KeepsTheHeadline (form : QueueForm) (events : List (Happening T W)) (given : ℕ → List (Given T)) (sink : S) (last : Parts T W) (woken : S) : Type 0 where
     pub is : IsRunOf wakes form events given sink last woken
-    -- the moment after each step; at the last one the run ends
-    pub moments : List (Moment T W S)
-    pub ends : end_of (opened form sink) moments ≡ record { parts = last; parties = is.parties; scene = is.scene; sink = woken }
     -- what is said of a moment is said of the first one; and what is said of a step, and of the moment after it, of each step
-    pub at_first : MomentSays (opened {T = T} {W = W} form sink)
-    pub each : EachStep StepSays (opened form sink) (steps_of events) is.trace moments
+    pub at_first : MergeMomentSays (just_opened {T = T} {W = W} form sink)
+    pub each : EachStep MergeStepSays (just_opened form sink) (steps_of events) is.trace is.run.moments
     -- once a receive answered closed, or a stream ended, no call that begins later gives a message
-    pub after_the_end : NothingComesAfter (steps_of events) is.trace
-    -- where no other call under way has a mark but Nothing, and an unbounded channel has had its first taking or there is no other
-    -- call, a call ends among its next 198 steps, and 64 more for each message that a receive of several may take, if these are next
-    pub ends_soon : EndInARow (opened form sink) (steps_of events) is.trace moments
+    pub after_the_end : NoMessageAfter (steps_of events) is.trace
+    -- where the others are quiet (no other call under way has a mark but Nothing, and an unbounded channel has had its first taking or
+    -- there is no other call), a call makes no more steps than it has left at most before the one that ends it, if its are the next
+    pub ends_soon : MergeEndsInARow (just_opened form sink) (steps_of events) is.trace is.run.moments
 
 -- whatever parties do to a new channel, each by the machine and all in one order, as long as its positions last
 abbrev pub MergesKeepTheHeadline : (T W S : Type 0) → (S → W → S → Type 0) → Type 0

@@ -38,9 +38,9 @@ module _ {T : Type 0} where
   Turns stored (Blocks a) = TurnsTheHead stored a.action
   Turns stored state = ⊥
 
-  abbrev pub Names : ℕ → CallState T → Type 0
-  Names b (Blocks a) = first_named a.action ≡ Some b
-  Names b state = ⊥
+  abbrev pub NamesTheHead : ℕ → CallState T → Type 0
+  NamesTheHead b (Blocks a) = first_named a.action ≡ Some b
+  NamesTheHead b state = ⊥
 
   abbrev pub Links : ℕ → ℕ → CallState T → Type 0
   Links b d (Blocks a) = pair_linked a.action ≡ Some (b, d)
@@ -61,7 +61,7 @@ module _ {T : Type 0} where
     pub record AreBlocks (c : Contents T) (chain : List ℕ) : Type 0 where
       pub first : ℕ
       pub place : IsHeadAt c first
-      pub named : (b : ℕ) → slice_get chain first ≡ Some b → (c.head_block ≡ b + 1) ⊎ ((c.head_block ≡ 0) × some_call (Names b))
+      pub named : (b : ℕ) → slice_get chain first ≡ Some b → (c.head_block ≡ b + 1) ⊎ ((c.head_block ≡ 0) × some_call (NamesTheHead b))
       pub linked : (k b d : ℕ) → first ≤ k → slice_get chain k ≡ Some b → slice_get chain (k + 1) ≡ Some d
           → ((block_at c b).next ≡ d + 1) ⊎ some_call (Links b d)
       pub last : ((chain ≡ []) × (c.tail_block ≡ 0)) ⊎ ((b : ℕ) × (slice_get chain (length chain - 1) ≡ Some b) × (c.tail_block ≡ b + 1))

@@ -7,10 +7,10 @@ use Rattle.channel_calls.specs.declared.mark.Mark.TheVariants.{Append, Replace, 
 use Rattle.channel_calls.specs.declared.stage.Stage.{Stage}
 use Rattle.channel_calls.specs.declared.stage.Stage.TheVariants.{Trying}
 use Rattle.channel_steps.specs.Moments.{Shut}
+use Rattle.channel_steps.specs.Run.{IsRun, NextScene}
 use Rattle.channel_steps.specs.Scene.{Scene, Steps}
 use Rattle.channel_steps.specs.declared.party.Entry.{Entry}
 use Rattle.channel_steps.specs.declared.run.Step.{Step}
-use Rattle.channel_laws.specs.Ends.{Leads}
 
 abbrev pub one_if : Bool → ℕ
 one_if true = 1
@@ -41,7 +41,7 @@ module _ {T W : Type 0} where
     pub no_more : within t.now.queue ≤ within s.now.queue
     pub next : (p : ℕ) (e : Entry T) (names : List W) (u : Scene T W) (st : Steps t p e names u) → MayStillDo e.mark t.now st.mine.at
 
-module _ (T W S : Type 0) (wakes : S → W → S → Type 0) where
+module _ (T W : Type 0) where
   -- in every run from a closed channel
   abbrev pub ClosingIsForGood : Type 0
-  ClosingIsForGood = (s t : Scene T W) (steps : List (Step T W)) (trace : List (Entry T)) → Shut s.now → Leads wakes s steps trace t → StaysClosed s t
+  ClosingIsForGood = (s t : Scene T W) (steps : List (Step T W)) (trace : List (Entry T)) → Shut s.now → IsRun NextScene s steps trace t → StaysClosed s t

@@ -9,12 +9,12 @@ use Rattle.channel_calls.specs.declared.stage.Line.TheVariants.{Sends, Receives,
 use Rattle.channel_calls.specs.declared.stage.Stage as stage
 use Rattle.channel_calls.specs.declared.stage.Stage.TheVariants.{Trying, Working}
 use Rattle.channel_calls.specs.declared.stage.Work.TheVariants.{TellSend, TellAll, Leave}
-use Rattle.channel_steps.specs.Moments.{Deed, Shut}
+use Rattle.channel_steps.specs.Moments.{MarkedMoment, Shut}
 use Rattle.channel_steps.specs.Scene.{Under, Scene, AllKnown, IsBalanced}
-use Rattle.channel_steps.specs.Run.{new_scene}
+use Rattle.channel_steps.specs.Run.{IsRun, NextScene, new_scene}
 use Rattle.channel_steps.specs.declared.party.Entry.{Entry}
 use Rattle.channel_steps.specs.declared.run.Step.{Step}
-use Rattle.channel_laws.specs.Ends.{Each, Leads}
+use Rattle.channel_laws.specs.Ends.{Each}
 use Rattle.channel_laws.specs.Waits.{Waits, WaitApart, Any}
 
 -- a closing that tells the first list next has the second one to tell
@@ -37,7 +37,7 @@ module _ {T : Type 0} where
 
 module _ {T W : Type 0} where
   -- one of these is a closing
-  abbrev pub HasClosed : List (Deed T W) → Type 0
+  abbrev pub HasClosed : List (MarkedMoment T W) → Type 0
   HasClosed [] = ⊥
   HasClosed (d ∷ ds) = (d.mark ≡ Close) ⊎ HasClosed ds
 
@@ -56,7 +56,7 @@ module _ {T W : Type 0} where
 
   -- who answers for one that waits on a closed channel: the call that closed it, or such a poll
   abbrev pub AnswersClosed : Line → Key → Under T W → Type 0
-  AnswersClosed line key u = (HasClosed u.deeds × HasToTell line u.at) ⊎ LooksAgain line key u.at
+  AnswersClosed line key u = (HasClosed u.marks × HasToTell line u.at) ⊎ LooksAgain line key u.at
 
   -- on a closed channel a call under way answers for each that waits
   abbrev pub ClosingIsOwed : Scene T W → Type 0
@@ -67,7 +67,7 @@ module _ {T W : Type 0} where
   abbrev pub PendingIsOwedTheClosing : Scene T W → Type 0
   PendingIsOwedTheClosing s =
       (line : Line) (key : Key) → Shut s.now → Waits line key s.now → Each (λ u. LooksAgain line key u.at → ⊥) s.under_way
-      → Any (λ u. HasClosed u.deeds × HasToTell line u.at) s.under_way
+      → Any (λ u. HasClosed u.marks × HasToTell line u.at) s.under_way
 
   -- with what every run needs to keep it: what is known of its calls, and no listener twice on a list
   pub record ClosingSound (s : Scene T W) : Type 0 where
@@ -76,10 +76,10 @@ module _ {T W : Type 0} where
     pub apart : (line : Line) → WaitApart line s.now
     pub owed : ClosingIsOwed s
 
-module _ (T W S : Type 0) (wakes : S → W → S → Type 0) where
+module _ (T W : Type 0) where
   abbrev pub ClosingStaysOwed : Type 0
-  ClosingStaysOwed = (s t : Scene T W) (steps : List (Step T W)) (trace : List (Entry T)) → ClosingSound s → Leads wakes s steps trace t → ClosingSound t
+  ClosingStaysOwed = (s t : Scene T W) (steps : List (Step T W)) (trace : List (Entry T)) → ClosingSound s → IsRun NextScene s steps trace t → ClosingSound t
 
   -- in every run from a channel that was just opened
   abbrev pub NobodyMissesTheClosing : Type 0
-  NobodyMissesTheClosing = (cap : Option ℕ) (t : Scene T W) (steps : List (Step T W)) (trace : List (Entry T)) → Leads wakes (new_scene cap) steps trace t → ClosingIsOwed t × PendingIsOwedTheClosing t
+  NobodyMissesTheClosing = (cap : Option ℕ) (t : Scene T W) (steps : List (Step T W)) (trace : List (Entry T)) → IsRun NextScene (new_scene cap) steps trace t → ClosingIsOwed t × PendingIsOwedTheClosing t

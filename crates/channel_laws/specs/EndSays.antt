@@ -9,14 +9,14 @@ use Rattle.channel_calls.specs.declared.reply.Reply.{Reply}
 use Rattle.channel_calls.specs.declared.reply.Reply.TheVariants as reply
 use Rattle.channel_calls.specs.declared.stage.Kept.{Kept}
 use Rattle.channel_steps.specs.Answers.{Keeps, Met}
-use Rattle.channel_steps.specs.Moments.{Deed}
+use Rattle.channel_steps.specs.Moments.{MarkedMoment}
 use Rattle.channel_steps.specs.Scene.{Under}
 use Rattle.channel_steps.specs.Tellings.{owed}
 
 module _ {T W : Type 0} where
   -- a reply for memory or serials: the call made no mark, hands its message back or leaves it to its operation, and leaves no
   -- listener, so that it isn't pending
-  abbrev pub LeavesNothing : ChannelAsk T W → List (Deed T W) → Reply T → Kept T → Type 0
+  abbrev pub LeavesNothing : ChannelAsk T W → List (MarkedMoment T W) → Reply T → Kept T → Type 0
   LeavesNothing (ask.TrySend m) ds (reply.TrySend (Err (refused.NoMemory v))) k = (ds ≡ []) × (v ≡ m) × (k ≡ nothing_kept)
   LeavesNothing (ask.ForceSend m) ds (reply.ForceSend (Err (refused.NoMemory v))) k = (ds ≡ []) × (v ≡ m) × (k ≡ nothing_kept)
   LeavesNothing (ask.RecvMany n) ds (reply.RecvMany (Err (refused.NoMemory u))) k = (ds ≡ []) × (k ≡ nothing_kept)
@@ -32,11 +32,11 @@ module _ {T W : Type 0} where
   -- a call that ends with this reply, and leaves this to its operation
   pub record EndSays (u : Under T W) (r : Reply T) (left : Option (Kept T)) : Type 0 where
     -- it has the marks that its reply's row names, and found what the row says at moments of its own
-    pub row : Met u.ask u.deeds u.seen r
+    pub row : Met u.ask u.marks u.seen r
     -- all that its marks owe was told, in order, once each
-    pub told : u.told ≡ owed u.deeds
+    pub told : u.told ≡ owed u.marks
     -- a pending one keeps its listener and its message, any other nothing; a reply for memory or serials leaves the message
     pub kept : Kept T
     pub leaves : left ≡ Some kept
     pub keeps : Keeps u.ask r kept
-    pub nothing : LeavesNothing u.ask u.deeds r kept
+    pub nothing : LeavesNothing u.ask u.marks r kept

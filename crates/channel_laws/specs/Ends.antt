@@ -1,6 +1,5 @@
 -- What is over stays over: a channel that is closed, with nothing there and nothing on its way.
 use Rattle.std.specs.Prelude.{◌≡◌, ℕ, List, [], ◌∷◌, Option, None, Some, Ok, Err}
-use Rattle.channel_calls.specs.Parts.{Parts}
 use Rattle.channel_calls.specs.declared.error.Refused.TheVariants as refused
 use Rattle.channel_calls.specs.declared.error.TryRecvError.TheVariants as try_recv_error
 use Rattle.channel_calls.specs.declared.mark.Mark.{Mark}
@@ -10,7 +9,7 @@ use Rattle.channel_calls.specs.declared.reply.Reply.TheVariants as reply
 use Rattle.futures.specs.declared.task.Poll.TheVariants.{Ready}
 use Rattle.channel_steps.specs.Moments.{Spent, Once}
 use Rattle.channel_steps.specs.Scene.{Under, Scene, Steps}
-use Rattle.channel_steps.specs.Run.{IsRun}
+use Rattle.channel_steps.specs.Run.{IsRun, NextScene}
 use Rattle.channel_steps.specs.declared.party.Entry.{Entry}
 use Rattle.channel_steps.specs.declared.run.Step.{Step}
 use Rattle.channel_steps.specs.declared.run.Step.TheVariants as step
@@ -78,21 +77,16 @@ module _ {T W : Type 0} where
     pub gone : t.gone ≡ s.gone
     pub came : t.came ≡ s.came
 
-  module _ {S : Type 0} (wakes : S → W → S → Type 0) where
-    -- these steps, with these entries, lead from one scene to another
-    abbrev pub Leads : Scene T W → List (Step T W) → List (Entry T) → Scene T W → Type 0
-    Leads s steps trace t = (parts parts' : Parts T W) × (a b : S) × IsRun wakes parts s a steps trace parts' t b
-
-module _ (T W S : Type 0) (wakes : S → W → S → Type 0) where
+module _ (T W : Type 0) where
   -- in every run from a channel that is over
   abbrev pub EndIsForGood : Type 0
   EndIsForGood =
-      (s t : Scene T W) (steps : List (Step T W)) (trace : List (Entry T)) → Spent s.now → Leads wakes s steps trace t → StaysOver s trace t
+      (s t : Scene T W) (steps : List (Step T W)) (trace : List (Entry T)) → Spent s.now → IsRun NextScene s steps trace t → StaysOver s trace t
 
   -- what calls under way know of the end is true after every run, where it was before
   abbrev pub EndIsKnown : Type 0
   EndIsKnown =
-      (s t : Scene T W) (steps : List (Step T W)) (trace : List (Entry T)) → KnowsTheEnd s → Leads wakes s steps trace t → KnowsTheEnd t
+      (s t : Scene T W) (steps : List (Step T W)) (trace : List (Entry T)) → KnowsTheEnd s → IsRun NextScene s steps trace t → KnowsTheEnd t
 
   -- a call says the end; at any later moment a party has no call under way; no call of it that begins from then on gives a
   -- message
@@ -101,9 +95,9 @@ module _ (T W S : Type 0) (wakes : S → W → S → Type 0) where
       (start said after later last : Scene T W) (before between behind : List (Step T W)) (first second third : List (Entry T))
       (p q : ℕ) (e : Entry T) (names : List W)
       → KnowsTheEnd start
-      → Leads wakes start before first said
+      → IsRun NextScene start before first said
       → Steps said p e names after → Replies SaysTheEnd e.reply
-      → Leads wakes after between second later
+      → IsRun NextScene after between second later
       → IsIdle q later
-      → Leads wakes later behind third last
+      → IsRun NextScene later behind third last
       → GetsNothing q behind third

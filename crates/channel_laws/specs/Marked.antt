@@ -3,12 +3,12 @@ use Rattle.std.specs.Prelude.{◌≡◌, ◌+◌, ◌-◌, true, List, [], ◌++
 use Rattle.channel_calls.specs.Moves as moves
 use Rattle.channel_calls.specs.declared.mark.Mark.{Mark}
 use Rattle.channel_calls.specs.declared.mark.Mark.TheVariants.{Nothing, Append, Take, TakeDisplaced, Replace, Close, SenderUp, SenderDown, ReceiverUp, ReceiverDown}
-use Rattle.channel_model.specs.Channel.{Channel}
+use Rattle.channel_model.specs.Channel.{ModelChannel}
 use Rattle.channel_steps.specs.Scene.{Scene}
 
 module _ {T W : Type 0} where
   -- the plain channel that a channel is at a moment: its messages, oldest first, its capacity, its flag and its two counts
-  abbrev pub plain : moves.Channel T W → Channel T
+  abbrev pub plain : moves.Channel T W → ModelChannel T
   plain c = record {
     messages = c.queue.items;
     capacity = c.queue.capacity;
@@ -19,7 +19,7 @@ module _ {T W : Type 0} where
 
 module _ {T : Type 0} where
   -- what it is after a step with this mark, made by a call that brings this message
-  abbrev pub marked : Mark → List T → Channel T → Channel T
+  abbrev pub marked : Mark → List T → ModelChannel T → ModelChannel T
   marked Nothing message c = c
   marked Append message c = record c { messages = c.messages ++ message }
   marked Take message c = record c { messages = drop 1 c.messages }

@@ -5,7 +5,7 @@ use Rattle.channel_calls.specs.declared.ask.ChannelAsk.{ChannelAsk}
 use Rattle.channel_calls.specs.declared.ask.ChannelAsk.TheVariants as ask
 use Rattle.channel_calls.specs.declared.mark.Mark.{Mark}
 use Rattle.channel_calls.specs.declared.mark.Mark.TheVariants.{Append, Take, TakeDisplaced, Replace, Close, SenderDown, ReceiverDown}
-use Rattle.channel_steps.specs.Moments.{Deed}
+use Rattle.channel_steps.specs.Moments.{MarkedMoment}
 use Rattle.channel_steps.specs.Scene.{Under}
 
 -- each of them takes a message
@@ -30,10 +30,10 @@ module _ {T W : Type 0} where
   AreMarksOf (ask.Upgrade side) ms = (ms ≡ []) ⊎ (ms ≡ up side ∷ [])
   AreMarksOf a ms = ms ≡ []
 
-  abbrev pub marks_of : List (Deed T W) → List Mark
-  marks_of ds = map (λ (d : Deed T W). d.mark) ds
+  abbrev pub marks_of : List (MarkedMoment T W) → List Mark
+  marks_of ds = map (λ (d : MarkedMoment T W). d.mark) ds
 
   -- the marks that a call under way has made are the first of all that it makes
   pub record BeginsItsMarks (u : Under T W) : Type 0 where
     pub later : List Mark
-    pub all : AreMarksOf u.ask (marks_of u.deeds ++ later)
+    pub all : AreMarksOf u.ask (marks_of u.marks ++ later)

@@ -7,12 +7,12 @@ use Rattle.channel_calls.specs.Parts.{listeners}
 use Rattle.channel_calls.specs.declared.stage.Line.{Line}
 use Rattle.channel_calls.specs.declared.stage.Line.TheVariants.{Sends, Receives, Streams, Closings}
 use Rattle.channel_steps.specs.Moments.{Open, Shut}
-use Rattle.channel_steps.specs.Run.{new_scene}
+use Rattle.channel_steps.specs.Run.{IsRun, NextScene, new_scene}
 use Rattle.channel_steps.specs.Scene.{Scene, AllKnown, IsBalanced}
 use Rattle.channel_steps.specs.declared.party.Entry.{Entry}
 use Rattle.channel_steps.specs.declared.run.Step.{Step}
 use Rattle.channel_laws.specs.Closings.{HasClosed, LooksAgain}
-use Rattle.channel_laws.specs.Ends.{Each, Leads}
+use Rattle.channel_laws.specs.Ends.{Each}
 use Rattle.channel_laws.specs.Waits.{Waits, WaitApart, Any}
 
 -- how one of a list may be told while the channel is open: a send or a receive as one more, a stream by the default, and
@@ -60,18 +60,18 @@ module _ {T W : Type 0} where
     pub known : AllKnown s.now s.under_way
     pub balanced : IsBalanced s.now.queue
     pub apart : (line : Line) → WaitApart line s.now
-    pub closers : Each (λ u. HasClosed u.deeds → Shut s.now) s.under_way
+    pub closers : Each (λ u. HasClosed u.marks → Shut s.now) s.under_way
     pub fit : TellingsFit s
 
-module _ (T W S : Type 0) (wakes : S → W → S → Type 0) where
+module _ (T W : Type 0) where
   abbrev pub TellingsStayFit : Type 0
   TellingsStayFit =
-      (s t : Scene T W) (steps : List (Step T W)) (trace : List (Entry T)) → TellingsSound s → Leads wakes s steps trace t
+      (s t : Scene T W) (steps : List (Step T W)) (trace : List (Entry T)) → TellingsSound s → IsRun NextScene s steps trace t
       → TellingsSound t
 
   -- in every run from a channel that was just opened
   abbrev pub TellingsAlwaysFit : Type 0
   TellingsAlwaysFit =
       (cap : Option ℕ) (t : Scene T W) (steps : List (Step T W)) (trace : List (Entry T))
-      → Leads wakes (new_scene cap) steps trace t
+      → IsRun NextScene (new_scene cap) steps trace t
       → TellingsFit t

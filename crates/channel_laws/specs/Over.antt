@@ -1,7 +1,7 @@
 -- What is known of the end by calls under way, in a form that every step keeps.
 use Rattle.std.specs.Prelude.{List, [], ◌∷◌}
 use Rattle.channel_calls.specs.Moves.{Channel}
-use Rattle.channel_steps.specs.Moments.{Deed, Spent}
+use Rattle.channel_steps.specs.Moments.{MarkedMoment, Spent}
 use Rattle.channel_steps.specs.Scene.{Under, Scene}
 use Rattle.channel_laws.specs.Ends.{IsStill, Each, KnowsTheEnd}
 
@@ -12,13 +12,13 @@ module _ {T W : Type 0} where
   AllSpent (c ∷ cs) = Spent c × AllSpent cs
 
   -- these marks brought no message, took none and closed nothing
-  abbrev pub StillDeeds : List (Deed T W) → Type 0
+  abbrev pub StillDeeds : List (MarkedMoment T W) → Type 0
   StillDeeds [] = Unit {0}
   StillDeeds (d ∷ ds) = IsStill d.mark × StillDeeds ds
 
   -- a call that began when it was over, and so saw nothing else, brought and took nothing
   abbrev pub IsLate : Under T W → Type 0
-  IsLate u = AllSpent u.seen → StillDeeds u.deeds
+  IsLate u = AllSpent u.seen → StillDeeds u.marks
 
   pub record EndSound (s : Scene T W) : Type 0 where
     pub knows : KnowsTheEnd s

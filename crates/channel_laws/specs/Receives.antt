@@ -9,11 +9,10 @@ use Rattle.channel_calls.specs.declared.stage.Stage as stage
 use Rattle.channel_calls.specs.declared.stage.Stage.TheVariants.{Trying, Working}
 use Rattle.channel_calls.specs.declared.stage.Work.TheVariants.{TellReceive}
 use Rattle.channel_steps.specs.Scene.{Scene}
-use Rattle.channel_steps.specs.Run.{new_scene}
+use Rattle.channel_steps.specs.Run.{IsRun, NextScene, new_scene}
 use Rattle.channel_steps.specs.declared.party.Entry.{Entry}
 use Rattle.channel_steps.specs.declared.run.Step.{Step}
 use Rattle.channel_laws.specs.Amounts.{is_trying_anew, AreOwed, PendingAreOwed}
-use Rattle.channel_laws.specs.Ends.{Leads}
 use Rattle.channel_laws.specs.Notices.{told_of, TellingsSound}
 
 module _ {T : Type 0} where
@@ -55,15 +54,15 @@ module _ {T W : Type 0} where
     pub tellings : TellingsSound s
     pub owed : ReceivesAreOwed s
 
-module _ (T W S : Type 0) (wakes : S → W → S → Type 0) where
+module _ (T W : Type 0) where
   abbrev pub ReceivesStayOwed : Type 0
   ReceivesStayOwed =
-      (s t : Scene T W) (steps : List (Step T W)) (trace : List (Entry T)) → ReceivesSound s → Leads wakes s steps trace t
+      (s t : Scene T W) (steps : List (Step T W)) (trace : List (Entry T)) → ReceivesSound s → IsRun NextScene s steps trace t
       → ReceivesSound t
 
   -- in every run from a channel that was just opened
   abbrev pub NoReceiveIsForgotten : Type 0
   NoReceiveIsForgotten =
       (cap : Option ℕ) (t : Scene T W) (steps : List (Step T W)) (trace : List (Entry T))
-      → Leads wakes (new_scene cap) steps trace t
+      → IsRun NextScene (new_scene cap) steps trace t
       → ReceivesAreOwed t × PendingReceivesAreOwed t

@@ -11,11 +11,10 @@ use Rattle.channel_calls.specs.declared.stage.Stage.TheVariants.{Trying, Working
 use Rattle.channel_calls.specs.declared.stage.Work.TheVariants.{TellSend, TellSends}
 use Rattle.channel_steps.specs.Moments.{Shut}
 use Rattle.channel_steps.specs.Scene.{Scene}
-use Rattle.channel_steps.specs.Run.{new_scene}
+use Rattle.channel_steps.specs.Run.{IsRun, NextScene, new_scene}
 use Rattle.channel_steps.specs.declared.party.Entry.{Entry}
 use Rattle.channel_steps.specs.declared.run.Step.{Step}
 use Rattle.channel_laws.specs.Amounts.{is_trying_anew, AreOwed, PendingAreOwed}
-use Rattle.channel_laws.specs.Ends.{Leads}
 use Rattle.channel_laws.specs.Notices.{told_of, TellingsSound}
 
 module _ {T : Type 0} where
@@ -75,15 +74,15 @@ module _ {T W : Type 0} where
     pub tellings : TellingsSound s
     pub owed : SendsAreOwed s
 
-module _ (T W S : Type 0) (wakes : S → W → S → Type 0) where
+module _ (T W : Type 0) where
   abbrev pub SendsStayOwed : Type 0
   SendsStayOwed =
-      (s t : Scene T W) (steps : List (Step T W)) (trace : List (Entry T)) → SendsSound s → Leads wakes s steps trace t
+      (s t : Scene T W) (steps : List (Step T W)) (trace : List (Entry T)) → SendsSound s → IsRun NextScene s steps trace t
       → SendsSound t
 
   -- in every run from a channel that was just opened
   abbrev pub NoSendIsForgotten : Type 0
   NoSendIsForgotten =
       (cap : Option ℕ) (t : Scene T W) (steps : List (Step T W)) (trace : List (Entry T))
-      → Leads wakes (new_scene cap) steps trace t
+      → IsRun NextScene (new_scene cap) steps trace t
       → SendsAreOwed t × PendingSendsAreOwed t

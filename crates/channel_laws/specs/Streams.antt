@@ -10,10 +10,10 @@ use Rattle.channel_calls.specs.declared.stage.Stage as stage
 use Rattle.channel_calls.specs.declared.stage.Stage.TheVariants.{Trying, Working}
 use Rattle.channel_calls.specs.declared.stage.Work.TheVariants.{TellReceive, TellStreams, TellSend, Leave}
 use Rattle.channel_steps.specs.Scene.{Under, Scene, AllKnown, IsBalanced}
-use Rattle.channel_steps.specs.Run.{new_scene}
+use Rattle.channel_steps.specs.Run.{IsRun, NextScene, new_scene}
 use Rattle.channel_steps.specs.declared.party.Entry.{Entry}
 use Rattle.channel_steps.specs.declared.run.Step.{Step}
-use Rattle.channel_laws.specs.Ends.{Each, Leads}
+use Rattle.channel_laws.specs.Ends.{Each}
 use Rattle.channel_laws.specs.Waits.{Waits, WaitApart, Any}
 
 module _ {T : Type 0} where
@@ -65,10 +65,10 @@ module _ {T W : Type 0} where
     pub apart : WaitApart Streams s.now
     pub owed : StreamsAreOwed s
 
-module _ (T W S : Type 0) (wakes : S → W → S → Type 0) where
+module _ (T W : Type 0) where
   abbrev pub StreamsStayOwed : Type 0
-  StreamsStayOwed = (s t : Scene T W) (steps : List (Step T W)) (trace : List (Entry T)) → StreamsSound s → Leads wakes s steps trace t → StreamsSound t
+  StreamsStayOwed = (s t : Scene T W) (steps : List (Step T W)) (trace : List (Entry T)) → StreamsSound s → IsRun NextScene s steps trace t → StreamsSound t
 
   -- in every run from a channel that was just opened
   abbrev pub NoStreamIsForgotten : Type 0
-  NoStreamIsForgotten = (cap : Option ℕ) (t : Scene T W) (steps : List (Step T W)) (trace : List (Entry T)) → Leads wakes (new_scene cap) steps trace t → StreamsAreOwed t × PendingStreamsAreOwed t
+  NoStreamIsForgotten = (cap : Option ℕ) (t : Scene T W) (steps : List (Step T W)) (trace : List (Entry T)) → IsRun NextScene (new_scene cap) steps trace t → StreamsAreOwed t × PendingStreamsAreOwed t

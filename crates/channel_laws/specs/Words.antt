@@ -9,7 +9,7 @@ use Rattle.channel_calls.specs.declared.mark.Mark.TheVariants.{Append, Replace}
 use Rattle.channel_calls.specs.declared.stage.Stage.{Stage}
 use Rattle.channel_calls.specs.declared.stage.Stage.TheVariants.{Trying}
 use Rattle.channel_laws.specs.Ends.{Each}
-use Rattle.channel_steps.specs.Moments.{Deed}
+use Rattle.channel_steps.specs.Moments.{MarkedMoment}
 use Rattle.channel_steps.specs.Scene.{Under, Scene, brought}
 use Rattle.channel_steps.specs.declared.party.Party.{Party}
 use Rattle.channel_laws.specs.Chained.{AreChained}
@@ -22,7 +22,7 @@ module _ {T W : Type 0} where
   IsAtQueue stage = ⊥
 
   -- one of these marks let a message in
-  abbrev pub HasLetIn : List (Deed T W) → Type 0
+  abbrev pub HasLetIn : List (MarkedMoment T W) → Type 0
   HasLetIn [] = ⊥
   HasLetIn (d ∷ ds) = ((d.mark ≡ Append) ⊎ (d.mark ≡ Replace)) ⊎ HasLetIn ds
 
@@ -32,7 +32,7 @@ module _ {T W : Type 0} where
   pub record IsWith (form : QueueForm) (at : Slot) (v : T) (code : Party T W) (u : Under T W) : Type 0 where
     pub party : code.id ≡ u.party
     pub brings : brought u.ask ≡ v ∷ []
-    pub let_in : HasLetIn u.deeds
+    pub let_in : HasLetIn u.marks
     pub untold : u.told ≡ []
     pub puts : yet_to_put form code.call.stage ≡ Some (at, v)
 

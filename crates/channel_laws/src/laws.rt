@@ -26,16 +26,16 @@ use event_listener::wakes::Wakes;
 /// holds more messages than it held, with the one on its way.
 ///
 /// Own to this project.
-pub fn a_closed_channel_stays_closed<T, W, S: Wakes<W>>()
-    ensures closed { ClosingIsForGood T W S S.wakes }
+pub fn a_closed_channel_stays_closed<T, W>()
+    ensures closed { ClosingIsForGood T W }
 {}
 
 /// A channel that is closed, with nothing there and nothing on its way, stays so in every run, whatever calls are under way
 /// already: no step brings a message, takes one or closes, and no message leaves or comes.
 ///
 /// Own to this project.
-pub fn what_is_over_stays_over<T, W, S: Wakes<W>>()
-    ensures stays { EndIsForGood T W S S.wakes }
+pub fn what_is_over_stays_over<T, W>()
+    ensures stays { EndIsForGood T W }
 {}
 
 /// Once a receive answered that the channel is closed and empty, or a stream that it has ended, no receive that is begun later
@@ -46,9 +46,9 @@ pub fn what_is_over_stays_over<T, W, S: Wakes<W>>()
 /// opened, and stays so.
 ///
 /// Own to this project.
-pub fn nothing_comes_after_the_end<T, W, S: Wakes<W>>()
-    ensures known { EndIsKnown T W S S.wakes }
-    ensures nothing { NothingComesAfterTheEnd T W S S.wakes }
+pub fn nothing_comes_after_the_end<T, W>()
+    ensures known { EndIsKnown T W }
+    ensures nothing { NothingComesAfterTheEnd T W }
 {}
 
 /// Wherever a run from a channel that was just opened has come, whatever its steps are: where a stream waits there is no
@@ -59,9 +59,9 @@ pub fn nothing_comes_after_the_end<T, W, S: Wakes<W>>()
 /// What makes it so is kept by every run, from whatever scene it holds of.
 ///
 /// Own to this project.
-pub fn no_stream_is_forgotten<T, W, S: Wakes<W>>()
-    ensures kept { StreamsStayOwed T W S S.wakes }
-    ensures owed { NoStreamIsForgotten T W S S.wakes }
+pub fn no_stream_is_forgotten<T, W>()
+    ensures kept { StreamsStayOwed T W }
+    ensures owed { NoStreamIsForgotten T W }
 {}
 
 /// Wherever a run from a channel that was just opened has come, whatever its steps are: where the channel is closed, then for
@@ -72,9 +72,9 @@ pub fn no_stream_is_forgotten<T, W, S: Wakes<W>>()
 /// What makes it so is kept by every run, from whatever scene it holds of.
 ///
 /// Own to this project.
-pub fn nobody_misses_the_closing<T, W, S: Wakes<W>>()
-    ensures kept { ClosingStaysOwed T W S S.wakes }
-    ensures owed { NobodyMissesTheClosing T W S S.wakes }
+pub fn nobody_misses_the_closing<T, W>()
+    ensures kept { ClosingStaysOwed T W }
+    ensures owed { NobodyMissesTheClosing T W }
 {}
 
 /// Wherever a run from a channel that was just opened has come, whatever its steps are: while the channel is open, each send
@@ -86,9 +86,9 @@ pub fn nobody_misses_the_closing<T, W, S: Wakes<W>>()
 /// What makes it so is kept by every run, from whatever scene it holds of.
 ///
 /// Own to this project.
-pub fn each_list_is_told_its_way<T, W, S: Wakes<W>>()
-    ensures kept { TellingsStayFit T W S S.wakes }
-    ensures fit { TellingsAlwaysFit T W S S.wakes }
+pub fn each_list_is_told_its_way<T, W>()
+    ensures kept { TellingsStayFit T W }
+    ensures fit { TellingsAlwaysFit T W }
 {}
 
 /// Wherever a run from a channel that was just opened has come, whatever its steps are: where a receive waits there are no
@@ -100,9 +100,9 @@ pub fn each_list_is_told_its_way<T, W, S: Wakes<W>>()
 /// What makes it so is kept by every run, from whatever scene it holds of.
 ///
 /// Own to this project.
-pub fn no_receive_is_forgotten<T, W, S: Wakes<W>>()
-    ensures kept { ReceivesStayOwed T W S S.wakes }
-    ensures owed { NoReceiveIsForgotten T W S S.wakes }
+pub fn no_receive_is_forgotten<T, W>()
+    ensures kept { ReceivesStayOwed T W }
+    ensures owed { NoReceiveIsForgotten T W }
 {}
 
 /// Wherever a run from a channel that was just opened has come, whatever its steps are: where a send waits the channel is
@@ -116,9 +116,9 @@ pub fn no_receive_is_forgotten<T, W, S: Wakes<W>>()
 /// What makes it so is kept by every run, from whatever scene it holds of.
 ///
 /// Own to this project.
-pub fn no_send_is_forgotten<T, W, S: Wakes<W>>()
-    ensures kept { SendsStayOwed T W S S.wakes }
-    ensures owed { NoSendIsForgotten T W S S.wakes }
+pub fn no_send_is_forgotten<T, W>()
+    ensures kept { SendsStayOwed T W }
+    ensures owed { NoSendIsForgotten T W }
 {}
 
 /// Wherever a run from a channel that was just opened has come, whatever its steps are, the channel holds no more messages than its
@@ -128,25 +128,25 @@ pub fn no_send_is_forgotten<T, W, S: Wakes<W>>()
 /// What makes it so is kept by every run, from whatever scene it holds of.
 ///
 /// Own to this project.
-pub fn no_more_than_fit<T, W, S: Wakes<W>>()
-    ensures kept { BoundsStay T W S S.wakes }
-    ensures within { NeverOverfull T W S S.wakes }
-    ensures never_full { UnboundedIsNeverFull T W S S.wakes }
+pub fn no_more_than_fit<T, W>()
+    ensures kept { BoundsStay T W }
+    ensures within { NeverOverfull T W }
+    ensures never_full { UnboundedIsNeverFull T W }
 {}
 
 /// Of all closes of a run from a channel that was just opened, whatever its steps are, one at most answers that it closed the
 /// channel.
 ///
 /// Own to this project.
-pub fn one_close_at_most<T, W, S: Wakes<W>>()
-    ensures once { ClosesOnce T W S S.wakes }
+pub fn one_close_at_most<T, W>()
+    ensures once { ClosesOnce T W }
 {}
 
 /// What any number of parties do to a new channel, merged in any order in which each answer is what the cells then held, is a
 /// run, with all that was answered and left: of any length over one slot, and else of fewer than 2^61 events. An event is one
 /// operation on a cell of the queue, one section on a list of listeners or one operation on a count. Of a party nothing is asked
-/// but that its calls do what their machines do next, and go by the answers. So what holds of every run holds of calls on threads, whose operations are atomic and
-/// whose sections are under one lock each, and so come in one order.
+/// but that its calls do what their machines do next, and go by the answers. So what holds of every run holds of calls on threads,
+/// whose operations are atomic and whose sections are under one lock each, and so come in one order.
 ///
 /// Own to this project.
 pub fn merges_are_runs<T, W, S: Wakes<W>>()
@@ -160,13 +160,13 @@ pub fn merges_are_runs<T, W, S: Wakes<W>>()
 /// Of each moment, the first one too: what left the channel, followed by what it holds, is what came into it, in order, and it is no
 /// more than fit. Beside one who is pending and was not told there is no message, no free place and no closing but such as a told one
 /// or a call under way answers for. Each message lies in the slot that the words of the queue name for it alone, or is with the call
-/// that is yet to put it there. No call has more than 197 steps left, and 64 for each message that it may take more than one.
+/// that is yet to put it there. Where the others are quiet no call has more steps left than `most_left` of `channel_steps/specs/Left`.
 ///
 /// Of each step: the machine of its call makes it. It does to the plain channel what its mark says, touches one place at most, and wakes
 /// whom its telling finds waiting.
-/// Where it ends its call the row of the reply holds of the marks and moments of that call. Where the others hold the call up no
-/// more, it ends it or leaves it fewer steps. What is closed stays closed; once a reply says the end, nothing comes or leaves, and a call
-/// that begins then gives no message.
+/// Where it ends its call the row of the reply holds of the marks and moments of that call. Where the others are quiet it ends its call
+/// or leaves it fewer steps. What is closed stays closed; once a reply says the end, nothing comes or leaves, and a call that begins
+/// then gives no message.
 ///
 /// Each party was given what these replies give it. `specs/BridgeHeadline` has this sentence by sentence. Of names a law of
 /// `channel_world` speaks, `merges_by_names_are_runs`.

@@ -1,7 +1,7 @@
 -- What keeps everybody awake, whatever the names are: how many messages and free places there are, and who waits.
 use Rattle.std.proofs.Common.{zero, suc, arith, ◌≡◌, ◌⊎◌, ◌≤◌, ◌+◌, ◌-◌, ℕ, List, [], ◌∷◌, ◌++◌, length, take, drop, Bool, true, false, cond, if◌then◌else◌, Option, None, Some, IsSome, refl, sym, ap, subst, ◌∙◌, inl, inr}
 use Rattle.std.specs.List.{filter}
-use Rattle.channel_model.specs.Lines.{Waiting, same_waiter, is_among, untold, told_by, after_news, after_rooms, without, gone, passed_on, at_end, standing}
+use Rattle.channel_model.specs.Lines.{Waiting, same_waiter, is_among, untold, told_by, after_news, after_rooms, without_waiter, gone, passed_on, at_end, standing}
 use Rattle.channel_model.specs.Awake.{Kind, Enough, times, times_in, Placed, Awake}
 use Rattle.channel_model.specs.Laws.{same_line, is_line, count_of, free_places}
 use Rattle.channel_model.specs.declared.name.Waiter.{Waiter}
@@ -193,7 +193,7 @@ gain_next k line n m l p le (inr h) = elim (first_counts k line (untold line l) 
 -- ---- one who is gone
 
 pub empty_gone : (line : Line) (w : Waiter) (l : Waiting) → untold line l ≡ [] → untold line (gone w l) ≡ []
-empty_gone line w l e = untold_gone line w l ∙ ap (λ (xs : List Waiter). without w xs) e
+empty_gone line w l e = untold_gone line w l ∙ ap (λ (xs : List Waiter). without_waiter w xs) e
 
 pub times_gone : (v w : Waiter) (l : Waiting) → times_in v (gone w l) ≤ times_in v l
 times_gone v w l = omega (arith, times_without v w l.sends, times_without v w l.receives, times_without v w l.streams, times_without v w l.closings, times_without v w l.woken)

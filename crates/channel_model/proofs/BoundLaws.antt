@@ -3,9 +3,9 @@ use Rattle.std.proofs.Common.{arith, ◌≡◌, ◌⊎◌, ◌≤◌, ◌<◌, �
 use Rattle.std.specs.List.{filter}
 use Rattle.std.specs.Option.{option_map_or}
 use Rattle.std.proofs.lemmas.Bool.Decides.{nat_tests}
-use Rattle.channel_model.specs.Answer.{Answer, replying, space_of, try_send_answer, force_send_answer, count, with_count, without_one, shut}
+use Rattle.channel_model.specs.Answer.{Answer, replying, space_of, try_send_answer, force_send_answer, strong_handles, with_strong_handles, without_one, shut}
 use Rattle.channel_model.specs.Bounds.{EachDone, says_full, says_closed}
-use Rattle.channel_model.specs.Channel.{Channel, is_full, appended}
+use Rattle.channel_model.specs.Channel.{ModelChannel, is_full, appended}
 use Rattle.channel_model.specs.Refused.{Lack, memory, serials, not_held, Answers}
 use Rattle.channel_model.specs.Run.{Runs}
 use Rattle.channel_model.specs.State.{State, start}
@@ -28,25 +28,25 @@ room_left n c t h = grind (arith, nat_tests)
 
 module _ {T : Type 0} where
   -- the same messages, the same capacity, and closed where it was
-  record Same (b c : Channel T) : Type 0 where
+  record Same (b c : ModelChannel T) : Type 0 where
     messages : b.messages ≡ c.messages
     capacity : b.capacity ≡ c.capacity
     closed : c.closed ≡ true → b.closed ≡ true
 
-  counted_same : (kind : HandleKind) (n : ℕ) (c : Channel T) → Same (with_count kind n c) c
+  counted_same : (kind : HandleKind) (n : ℕ) (c : ModelChannel T) → Same (with_strong_handles kind n c) c
   counted_same Sender n c = record { messages = refl; capacity = refl; closed = λ e. e }
   counted_same Receiver n c = record { messages = refl; capacity = refl; closed = λ e. e }
   counted_same WeakSender n c = record { messages = refl; capacity = refl; closed = λ e. e }
   counted_same WeakReceiver n c = record { messages = refl; capacity = refl; closed = λ e. e }
 
-  shut_same : (last : Bool) (b c : Channel T) → Same b c → Same (if last then shut b else b) c
+  shut_same : (last : Bool) (b c : ModelChannel T) → Same b c → Same (if last then shut b else b) c
   shut_same true b c s = record { messages = s.messages; capacity = s.capacity; closed = λ e. refl }
   shut_same false b c s = s
 
-  dropped_same : (kind : HandleKind) (c : Channel T) → Same (without_one kind c) c
-  dropped_same kind c = shut_same (count kind c == 1) (with_count kind (count kind c - 1) c) c (counted_same kind (count kind c - 1) c)
+  dropped_same : (kind : HandleKind) (c : ModelChannel T) → Same (without_one kind c) c
+  dropped_same kind c = shut_same (strong_handles kind c == 1) (with_strong_handles kind (strong_handles kind c - 1) c) c (counted_same kind (strong_handles kind c - 1) c)
 
-  space_room : (c : Channel T) → space_of c ≡ Open → is_full c ≡ false
+  space_room : (c : ModelChannel T) → space_of c ≡ Open → is_full c ≡ false
   space_room c e = elim (decided c.closed) [
     | inl t ↦ cc (rw t at e)
     | inr t ↦ elim (decided (is_full c)) [
@@ -57,15 +57,15 @@ module _ {T : Type 0} where
 
   -- ---- the length
 
-  record Fits (most : ℕ) (c : Channel T) : Type 0 where
+  record Fits (most : ℕ) (c : ModelChannel T) : Type 0 where
     capacity : c.capacity ≡ Some most
     short : length c.messages ≤ most
 
-  same_fits : (most : ℕ) (b c : Channel T) → Same b c → Fits most c → Fits most b
+  same_fits : (most : ℕ) (b c : ModelChannel T) → Same b c → Fits most c → Fits most b
   same_fits most b c s f = record { capacity = s.capacity ∙ f.capacity; short = subst (λ (ms : List T). length ms ≤ most) (sym s.messages) f.short }
 
   module _ (most : ℕ) (some : 0 < most) where
-    one_more_fits : (c : Channel T) (m : T) → (space_of c ≡ Open) ⊎ (c.messages ≡ []) → Fits most c → Fits most (appended c m)
+    one_more_fits : (c : ModelChannel T) (m : T) → (space_of c ≡ Open) ⊎ (c.messages ≡ []) → Fits most c → Fits most (appended c m)
     one_more_fits c m (inl e) f =
         let not_full : (length c.messages == most) ≡ false =
         subst (λ (o : Option ℕ). option_map_or (λ (capacity : ℕ). length c.messages == capacity) o false ≡ false) f.capacity (space_room c e) in
@@ -75,16 +75,16 @@ module _ {T : Type 0} where
         record { capacity = f.capacity; short = omega (arith, length-append c.messages (m ∷ []), none, some) }
 
     step_fits : (s : State T) (a : Answer T) → Deed s a → Fits most s.channel → Fits most a.after.channel
-    step_fits s a (stays same alike none) f = subst (λ (c : Channel T). Fits most c) (sym same) f
-    step_fits s a (grows m room same alike none) f = subst (λ (c : Channel T). Fits most c) (sym same) (one_more_fits s.channel m room f)
+    step_fits s a (stays same alike none) f = subst (λ (c : ModelChannel T). Fits most c) (sym same) f
+    step_fits s a (grows m room same alike none) f = subst (λ (c : ModelChannel T). Fits most c) (sym same) (one_more_fits s.channel m room f)
     step_fits s a (holds ms n less same alike none) f =
-        subst (λ (c : Channel T). Fits most c) (sym same) (record { capacity = f.capacity; short = omega (arith, less, f.short) })
-    step_fits s a (shuts opened same alike) f = subst (λ (c : Channel T). Fits most c) (sym same) (record { capacity = f.capacity; short = f.short })
+        subst (λ (c : ModelChannel T). Fits most c) (sym same) (record { capacity = f.capacity; short = omega (arith, less, f.short) })
+    step_fits s a (shuts opened same alike) f = subst (λ (c : ModelChannel T). Fits most c) (sym same) (record { capacity = f.capacity; short = f.short })
     step_fits s a (adds name kind same handles none) f =
-        subst (λ (c : Channel T). Fits most c) (sym same)
-        (same_fits most (with_count kind (count kind s.channel + 1) s.channel) s.channel (counted_same kind (count kind s.channel + 1) s.channel) f)
+        subst (λ (c : ModelChannel T). Fits most c) (sym same)
+        (same_fits most (with_strong_handles kind (strong_handles kind s.channel + 1) s.channel) s.channel (counted_same kind (strong_handles kind s.channel + 1) s.channel) f)
     step_fits s a (drops name h kind there is same handles none) f =
-        subst (λ (c : Channel T). Fits most c) (sym same) (same_fits most (without_one kind s.channel) s.channel (dropped_same kind s.channel) f)
+        subst (λ (c : ModelChannel T). Fits most c) (sym same) (same_fits most (without_one kind s.channel) s.channel (dropped_same kind s.channel) f)
 
     run_fits : (s : State T) (cs : List (Call T)) (ds : List (Done T)) (why : Option WorldRefusal) (rest : List (Call T)) (t : State T)
         → Fits most s.channel → Runs s cs ds why rest t → Fits most t.channel
@@ -103,24 +103,24 @@ module _ {T : Type 0} where
   -- ---- without a bound
 
   unbounded_after : (s : State T) (a : Answer T) → Deed s a → s.channel.capacity ≡ None → a.after.channel.capacity ≡ None
-  unbounded_after s a (stays same alike none) e = ap (λ (c : Channel T). c.capacity) same ∙ e
-  unbounded_after s a (grows m room same alike none) e = ap (λ (c : Channel T). c.capacity) same ∙ e
-  unbounded_after s a (holds ms n less same alike none) e = ap (λ (c : Channel T). c.capacity) same ∙ e
-  unbounded_after s a (shuts opened same alike) e = ap (λ (c : Channel T). c.capacity) same ∙ e
-  unbounded_after s a (adds name kind same handles none) e = ap (λ (c : Channel T). c.capacity) same ∙ ((counted_same kind (count kind s.channel + 1) s.channel).capacity ∙ e)
-  unbounded_after s a (drops name h kind there is same handles none) e = ap (λ (c : Channel T). c.capacity) same ∙ ((dropped_same kind s.channel).capacity ∙ e)
+  unbounded_after s a (stays same alike none) e = ap (λ (c : ModelChannel T). c.capacity) same ∙ e
+  unbounded_after s a (grows m room same alike none) e = ap (λ (c : ModelChannel T). c.capacity) same ∙ e
+  unbounded_after s a (holds ms n less same alike none) e = ap (λ (c : ModelChannel T). c.capacity) same ∙ e
+  unbounded_after s a (shuts opened same alike) e = ap (λ (c : ModelChannel T). c.capacity) same ∙ e
+  unbounded_after s a (adds name kind same handles none) e = ap (λ (c : ModelChannel T). c.capacity) same ∙ ((counted_same kind (strong_handles kind s.channel + 1) s.channel).capacity ∙ e)
+  unbounded_after s a (drops name h kind there is same handles none) e = ap (λ (c : ModelChannel T). c.capacity) same ∙ ((dropped_same kind s.channel).capacity ∙ e)
 
-  never_filled : (c : Channel T) → c.capacity ≡ None → is_full c ≡ false
+  never_filled : (c : ModelChannel T) → c.capacity ≡ None → is_full c ≡ false
   never_filled c e = ap (λ (o : Option ℕ). option_map_or (λ (capacity : ℕ). length c.messages == capacity) o false) e
 
-  no_space_filled : {A : Type 0} (c : Channel T) → c.capacity ≡ None → space_of c ≡ Filled → A
+  no_space_filled : {A : Type 0} (c : ModelChannel T) → c.capacity ≡ None → space_of c ≡ Filled → A
   no_space_filled c none e = elim (decided c.closed) [
     | inl t ↦ cc (rw t at e)
     | inr t ↦ let gone_on : (if is_full c then Filled else Open) ≡ Filled = rw t at e in cc (rw (never_filled c none) at gone_on)
   ]
 
   -- what is answered for want of memory
-  held_not : (lack : Lack) (c : Channel T) (x : Space) (y a : Answer T) → not_held lack c x y ≡ Some a → y ≡ a
+  held_not : (lack : Lack) (c : ModelChannel T) (x : Space) (y a : Answer T) → not_held lack c x y ≡ Some a → y ≡ a
   held_not memory c Open y a e = elim (decided (is_none c.capacity)) [ inl t ↦ cc (rw t at e) | inr t ↦ cc (rw t at e) ]
   held_not memory c Filled y a e = cc e
   held_not memory c Shut y a e = cc e
@@ -185,12 +185,12 @@ module _ {T : Type 0} where
   -- ---- closing
 
   stays_closed : (s : State T) (a : Answer T) → Deed s a → s.channel.closed ≡ true → a.after.channel.closed ≡ true
-  stays_closed s a (stays same alike none) e = ap (λ (c : Channel T). c.closed) same ∙ e
-  stays_closed s a (grows m room same alike none) e = ap (λ (c : Channel T). c.closed) same ∙ e
-  stays_closed s a (holds ms n less same alike none) e = ap (λ (c : Channel T). c.closed) same ∙ e
-  stays_closed s a (shuts opened same alike) e = ap (λ (c : Channel T). c.closed) same
-  stays_closed s a (adds name kind same handles none) e = ap (λ (c : Channel T). c.closed) same ∙ (counted_same kind (count kind s.channel + 1) s.channel).closed e
-  stays_closed s a (drops name h kind there is same handles none) e = ap (λ (c : Channel T). c.closed) same ∙ (dropped_same kind s.channel).closed e
+  stays_closed s a (stays same alike none) e = ap (λ (c : ModelChannel T). c.closed) same ∙ e
+  stays_closed s a (grows m room same alike none) e = ap (λ (c : ModelChannel T). c.closed) same ∙ e
+  stays_closed s a (holds ms n less same alike none) e = ap (λ (c : ModelChannel T). c.closed) same ∙ e
+  stays_closed s a (shuts opened same alike) e = ap (λ (c : ModelChannel T). c.closed) same
+  stays_closed s a (adds name kind same handles none) e = ap (λ (c : ModelChannel T). c.closed) same ∙ (counted_same kind (strong_handles kind s.channel + 1) s.channel).closed e
+  stays_closed s a (drops name h kind there is same handles none) e = ap (λ (c : ModelChannel T). c.closed) same ∙ (dropped_same kind s.channel).closed e
 
   -- who says so found it open, and leaves it closed
   record ByThis (s : State T) (a : Answer T) : Type 0 where
@@ -201,7 +201,7 @@ module _ {T : Type 0} where
   by_this s a (stays same alike none) e = cc (none, e)
   by_this s a (grows m room same alike none) e = cc (none, e)
   by_this s a (holds ms n less same alike none) e = cc (none, e)
-  by_this s a (shuts opened same alike) e = record { opened = opened; closed = ap (λ (c : Channel T). c.closed) same }
+  by_this s a (shuts opened same alike) e = record { opened = opened; closed = ap (λ (c : ModelChannel T). c.closed) same }
   by_this s a (adds name kind same handles none) e = cc (none, e)
   by_this s a (drops name h kind there is same handles none) e = cc (none, e)
 

@@ -2,7 +2,7 @@
 use Rattle.std.proofs.Common.{arith, ◌≡◌, ◌⊎◌, ◌≤◌, ◌+◌, ℕ, suc, List, [], ◌∷◌, ◌++◌, length, take, drop, Bool, true, false, ◌||◌, cond, refl, ap, subst, ◌∙◌, inl, inr, length-append}
 use Rattle.std.specs.List.{filter}
 use Rattle.std.proofs.lemmas.List.Elements.{filter-append}
-use Rattle.channel_model.specs.Lines.{same_waiter, is_among, without}
+use Rattle.channel_model.specs.Lines.{same_waiter, is_among, without_waiter}
 use Rattle.channel_model.specs.Awake.{times}
 use Rattle.channel_model.specs.declared.name.Waiter.{Waiter}
 use Rattle.channel_model.proofs.WaiterLemmas.{same_refl, same_sound, decided, or_true}
@@ -28,11 +28,11 @@ both_more true x ys zs n h = omega (arith, h)
 both_more false x ys zs n h = h
 
 -- what is counted goes down at most by as often as the name stood there
-pub count_without : (p : Waiter → Bool) (w : Waiter) (xs : List Waiter) → length (filter p xs) ≤ length (filter p (without w xs)) + times w xs
+pub count_without : (p : Waiter → Bool) (w : Waiter) (xs : List Waiter) → length (filter p xs) ≤ length (filter p (without_waiter w xs)) + times w xs
 count_without p w [] = omega arith
 count_without p w (x ∷ xs) = elim (decided (same_waiter w x)) [
-  | inl t ↦ rw t (one_less (p x) x (filter p xs) (filter p (without w xs)) (times w xs) (count_without p w xs))
-  | inr t ↦ rw t (both_more (p x) x (filter p xs) (filter p (without w xs)) (times w xs) (count_without p w xs))
+  | inl t ↦ rw t (one_less (p x) x (filter p xs) (filter p (without_waiter w xs)) (times w xs) (count_without p w xs))
+  | inr t ↦ rw t (both_more (p x) x (filter p xs) (filter p (without_waiter w xs)) (times w xs) (count_without p w xs))
 ]
 
 both_up : (b : Bool) (x : Waiter) (ys zs : List Waiter) → length ys ≤ length zs → length (cond b (x ∷ ys) ys) ≤ length (cond b (x ∷ zs) zs)
@@ -40,25 +40,25 @@ both_up true x ys zs h = omega (arith, h)
 both_up false x ys zs h = h
 
 -- and not at all where the name is not counted
-pub count_without_other : (p : Waiter → Bool) (w : Waiter) → p w ≡ false → (xs : List Waiter) → length (filter p xs) ≤ length (filter p (without w xs))
+pub count_without_other : (p : Waiter → Bool) (w : Waiter) → p w ≡ false → (xs : List Waiter) → length (filter p xs) ≤ length (filter p (without_waiter w xs))
 count_without_other p w off [] = omega arith
 count_without_other p w off (x ∷ xs) = elim (decided (same_waiter w x)) [
   | inl t ↦ let here : p x ≡ false = subst (λ (v : Waiter). p v ≡ false) (same_sound w x t) off in rw (t, here) (count_without_other p w off xs)
-  | inr t ↦ rw t (both_up (p x) x (filter p xs) (filter p (without w xs)) (count_without_other p w off xs))
+  | inr t ↦ rw t (both_up (p x) x (filter p xs) (filter p (without_waiter w xs)) (count_without_other p w off xs))
 ]
 
 one_up : (b : Bool) (x : Waiter) (ys zs : List Waiter) → length ys ≤ length zs → length ys ≤ length (cond b (x ∷ zs) zs)
 one_up true x ys zs h = omega (arith, h)
 one_up false x ys zs h = h
 
-pub times_without : (v w : Waiter) (xs : List Waiter) → times v (without w xs) ≤ times v xs
+pub times_without : (v w : Waiter) (xs : List Waiter) → times v (without_waiter w xs) ≤ times v xs
 times_without v w [] = omega arith
 times_without v w (x ∷ xs) = elim (decided (same_waiter w x)) [
-  | inl t ↦ rw t (one_up (same_waiter v x) x (filter (same_waiter v) (without w xs)) (filter (same_waiter v) xs) (times_without v w xs))
-  | inr t ↦ rw t (both_up (same_waiter v x) x (filter (same_waiter v) (without w xs)) (filter (same_waiter v) xs) (times_without v w xs))
+  | inl t ↦ rw t (one_up (same_waiter v x) x (filter (same_waiter v) (without_waiter w xs)) (filter (same_waiter v) xs) (times_without v w xs))
+  | inr t ↦ rw t (both_up (same_waiter v x) x (filter (same_waiter v) (without_waiter w xs)) (filter (same_waiter v) xs) (times_without v w xs))
 ]
 
-pub times_self : (w : Waiter) (xs : List Waiter) → times w (without w xs) ≡ 0
+pub times_self : (w : Waiter) (xs : List Waiter) → times w (without_waiter w xs) ≡ 0
 times_self w [] = refl
 times_self w (x ∷ xs) = elim (decided (same_waiter w x)) [
   | inl t ↦ rw t (times_self w xs)

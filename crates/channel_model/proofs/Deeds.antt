@@ -4,14 +4,14 @@ use Rattle.std.proofs.lemmas.List.{take-append-drop}
 use Rattle.channel_model.specs.Bounds.{says_closed}
 use Rattle.channel_model.specs.Channel.{appended, holding}
 use Rattle.channel_model.specs.Handles.{live_of}
-use Rattle.channel_model.specs.Names.{Directory, Operation, send, recv, closing, at, with_new, without, with_operation}
+use Rattle.channel_model.specs.Names.{Directory, ModelOperation, send, recv, closing, at, with_new, without_name, with_operation}
 use Rattle.channel_model.specs.Lines.{is_among, untold, gone}
 use Rattle.channel_model.specs.State.{State, with_channel, with_waiting}
 use Rattle.channel_model.specs.declared.call.Call.{Call}
 use Rattle.channel_model.specs.declared.call.Call.TheVariants as call
 use Rattle.channel_calls.specs.declared.reply.Reply.{Reply}
 use Rattle.channel_calls.specs.declared.reply.Reply.TheVariants as reply
-use Rattle.channel_model.specs.Answer.{Answer, replying, telling, leaving, pending, space_of, Found, first, none_yet, none_ever, found_in, found, try_send_answer, force_send_answer, displacing, send_poll_answer, try_recv_answer, recv_many_answer, recv_poll_answer, next_answer, poll_next_answer, close_answer, shut, closed_poll_answer, poll_answer, poll_refused_answer, give_up_answer, new_answer, drop_one, dropped, drop_answer, made, spent, weak_of, clone_answer, downgrade_answer, upgrade_answer, one_more, strong_of, count, with_count, without_one, answer}
+use Rattle.channel_model.specs.Answer.{Answer, replying, after_telling, after_leaving, pending, space_of, Found, first, none_yet, none_ever, found_in, found, try_send_answer, force_send_answer, displacing, send_poll_answer, try_recv_answer, recv_many_answer, recv_poll_answer, next_answer, poll_next_answer, close_answer, shut, closed_poll_answer, poll_answer, poll_refused_answer, give_up_answer, new_answer, drop_one, dropped, drop_answer, made, spent, weak_of, clone_answer, downgrade_answer, upgrade_answer, one_more, strong_of, strong_handles, with_strong_handles, without_one, answer}
 use Rattle.channel_model.specs.Refused.{Lack, memory, serials, refused, not_listening, not_standing, not_held, send_not_polled, recv_not_polled, not_polled, next_not_polled, not_received, answer_without, Answers}
 use Rattle.channel_calls.specs.declared.stage.Line.{Line}
 use Rattle.channel_calls.specs.declared.stage.Line.TheVariants.{Sends, Receives, Streams, Closings}
@@ -40,10 +40,10 @@ module _ {T : Type 0} where
     grows : (m : T) → (space_of s.channel ≡ Open) ⊎ (s.channel.messages ≡ []) → a.after.channel ≡ appended s.channel m → Alike s a → says_closed a.reply ≡ false → Deed s a
     holds : (ms : List T) → (n : ℕ) → length ms + n ≡ length s.channel.messages → a.after.channel ≡ holding s.channel ms → Alike s a → says_closed a.reply ≡ false → Deed s a
     shuts : s.channel.closed ≡ false → a.after.channel ≡ shut s.channel → Alike s a → Deed s a
-    adds : (name : ℕ) (kind : HandleKind) → a.after.channel ≡ with_count kind (count kind s.channel + 1) s.channel
+    adds : (name : ℕ) (kind : HandleKind) → a.after.channel ≡ with_strong_handles kind (strong_handles kind s.channel + 1) s.channel
         → a.after.names.handles ≡ with_new name (record { kind = kind; borrowers = 0 }) s.names.handles → says_closed a.reply ≡ false → Deed s a
     drops : (name : ℕ) (h : Handle) (kind : HandleKind) → at name s.names.handles ≡ Some h → h.kind ≡ kind → a.after.channel ≡ without_one kind s.channel
-        → a.after.names.handles ≡ without name s.names.handles → says_closed a.reply ≡ false → Deed s a
+        → a.after.names.handles ≡ without_name name s.names.handles → says_closed a.reply ≡ false → Deed s a
 
   -- one of two answers
   either_way : (P : Answer T → Type 0) (b : Bool) (x y : Answer T) → (b ≡ true → P x) → (b ≡ false → P y) → P (if b then x else y)
@@ -105,23 +105,23 @@ module _ {T : Type 0} where
     closed_poll : (op : OpId) → Deed s (closed_poll_answer s op)
     closed_poll op =
         either_way (λ (a : Answer T). Deed s a) s.channel.closed
-        (leaving Nothing Closings (Op op) s (reply.ClosedPoll (Ready (Ok tt)))) (pending Closings (Op op) s (reply.ClosedPoll Pending))
+        (after_leaving Nothing Closings (Op op) s (reply.ClosedPoll (Ready (Ok tt)))) (pending Closings (Op op) s (reply.ClosedPoll Pending))
         (λ t. stays refl (λ side. refl) refl) (λ t. stays refl (λ side. refl) refl)
 
-    poll : (op : OpId) (o : Option (Operation T)) → Deed s (poll_answer s op o)
+    poll : (op : OpId) (o : Option (ModelOperation T)) → Deed s (poll_answer s op o)
     poll op (Some (send handle (Some m))) = send_poll op handle m (space_of s.channel) refl
     poll op (Some (send handle None)) = stays refl (λ side. refl) refl
     poll op (Some (recv handle)) = recv_poll op (found s.channel) refl
     poll op (Some (closing handle)) = closed_poll op
     poll op None = stays refl (λ side. refl) refl
 
-    poll_refused : (op : OpId) (o : Option (Operation T)) → Deed s (poll_refused_answer s op o)
+    poll_refused : (op : OpId) (o : Option (ModelOperation T)) → Deed s (poll_refused_answer s op o)
     poll_refused op (Some (send handle msg)) = stays refl (λ side. refl) refl
     poll_refused op (Some (recv handle)) = stays refl (λ side. refl) refl
     poll_refused op (Some (closing handle)) = stays refl (λ side. refl) refl
     poll_refused op None = stays refl (λ side. refl) refl
 
-    give_up : (op : OpId) (o : Option (Operation T)) → Deed s (give_up_answer s op o)
+    give_up : (op : OpId) (o : Option (ModelOperation T)) → Deed s (give_up_answer s op o)
     give_up op (Some (send handle msg)) = stays refl (λ side. back_alike side handle s.names.handles) refl
     give_up op (Some (recv handle)) = stays refl (λ side. back_alike side handle s.names.handles) refl
     give_up op (Some (closing handle)) = stays refl (λ side. back_alike side handle s.names.handles) refl
@@ -143,7 +143,7 @@ module _ {T : Type 0} where
     close : Deed s (close_answer s)
     close =
         either_way (λ (a : Answer T). Deed s a) s.channel.closed
-        (replying s (reply.Closed false)) (telling Closing (with_channel (shut s.channel) s) (reply.Closed true))
+        (replying s (reply.Closed false)) (after_telling Closing (with_channel (shut s.channel) s) (reply.Closed true))
         (λ t. stays refl (λ side. refl) refl) (λ t. shuts t refl (λ side. refl))
 
     drop_kind : (handle : HandleId) (h : Handle) (kind : HandleKind) → at handle.0 s.names.handles ≡ Some h → h.kind ≡ kind → Deed s (drop_one (dropped s handle) handle kind)
@@ -158,8 +158,8 @@ module _ {T : Type 0} where
 
     more : (new : HandleId) (kind : HandleKind) → Deed s (one_more s new kind)
     more new kind =
-        either_way (λ (a : Answer T). Deed s a) (nat_lt (2 ^ 63 - 1) (count kind s.channel))
-        (replying (spent s new) reply.TooMany) (replying (with_channel (with_count kind (count kind s.channel + 1) s.channel) (made s new kind)) reply.Made)
+        either_way (λ (a : Answer T). Deed s a) (nat_lt (2 ^ 63 - 1) (strong_handles kind s.channel))
+        (replying (spent s new) reply.TooMany) (replying (with_channel (with_strong_handles kind (strong_handles kind s.channel + 1) s.channel) (made s new kind)) reply.Made)
         (λ t. stays refl (λ side. refl) refl)
         (λ t. adds new.0 kind refl refl refl)
 
@@ -179,12 +179,12 @@ module _ {T : Type 0} where
 
     upgrade : (new : HandleId) (o : Option Handle) → Deed s (upgrade_answer s new o)
     upgrade new (Some h) =
-        either_way (λ (a : Answer T). Deed s a) (s.channel.closed || (count (strong_of h.kind) s.channel == 0))
+        either_way (λ (a : Answer T). Deed s a) (s.channel.closed || (strong_handles (strong_of h.kind) s.channel == 0))
         (replying (spent s new) reply.NotMade) (one_more s new (strong_of h.kind))
         (λ t. stays refl (λ side. refl) refl) (λ t. more new (strong_of h.kind))
     upgrade new None = stays refl (λ side. refl) refl
 
-    begun : (op : OpId) (x : Operation T) (handle : HandleId) → (new_answer s op x).after.names.handles ≡ (with_operation op (recv handle) s.names).handles → Deed s (new_answer s op x)
+    begun : (op : OpId) (x : ModelOperation T) (handle : HandleId) → (new_answer s op x).after.names.handles ≡ (with_operation op (recv handle) s.names).handles → Deed s (new_answer s op x)
     begun op x handle e = stays refl (λ side. subst (λ (d : Directory Handle). live_of side d ≡ live_of side s.names.handles) (sym e) (lent_alike side handle s.names.handles)) refl
 
     -- ---- every call
@@ -247,7 +247,7 @@ module _ {T : Type 0} where
     no_room serials x a d = none_stays
 
     send_unpolled : (lack : Lack) (op : OpId) (x : Space) → AllStay (send_not_polled lack s op x)
-    send_unpolled lack op Open = no_room lack Open (leaving Nothing Sends (Op op) s (reply.SendPoll (Ready (Err (refused lack))))) (stays refl (λ side. refl) refl)
+    send_unpolled lack op Open = no_room lack Open (after_leaving Nothing Sends (Op op) s (reply.SendPoll (Ready (Err (refused lack))))) (stays refl (λ side. refl) refl)
     send_unpolled lack op Filled = out_of_line Sends (Op op) (reply.SendPoll (Ready (Err (refused lack)))) refl
     send_unpolled lack op Shut = none_stays
 
@@ -256,7 +256,7 @@ module _ {T : Type 0} where
     recv_unpolled lack op none_yet = out_of_line Receives (Op op) (reply.RecvPoll (Ready (Err (refused lack)))) refl
     recv_unpolled lack op none_ever = none_stays
 
-    unpolled : (lack : Lack) (op : OpId) (o : Option (Operation T)) → AllStay (not_polled lack s op o)
+    unpolled : (lack : Lack) (op : OpId) (o : Option (ModelOperation T)) → AllStay (not_polled lack s op o)
     unpolled lack op (Some (send handle (Some m))) = send_unpolled lack op (space_of s.channel)
     unpolled lack op (Some (send handle None)) = none_stays
     unpolled lack op (Some (recv handle)) = recv_unpolled lack op (found s.channel)

@@ -6,7 +6,7 @@ use Rattle.std.proofs.lemmas.List.{take_all}
 use Rattle.std.proofs.lemmas.Option.{slice_get_past}
 use Rattle.lru.specs.LruCache.{LruCache, put_entries, displaced}
 use Rattle.std.specs.Option.{option_map, option_map_or}
-use Rattle.channel_model.specs.Names.{Directory, at, is_taken, without}
+use Rattle.channel_model.specs.Names.{Directory, at, is_taken, without_name}
 use Rattle.channel_model.proofs.WaiterLemmas.{decided}
 
 module _ {X : Type 0} (name : ℕ) where
@@ -51,16 +51,16 @@ module _ {X : Type 0} (name : ℕ) where
       rw e (slice_get_past c.entries (c.cap - 1) past)
 
 -- what was never there, or is gone, can't go
-pub nothing_to_end : {Y : Type 0} (name : ℕ) (es : List (ℕ × Option Y)) → at name es ≡ None → without name es ≡ es
+pub nothing_to_end : {Y : Type 0} (name : ℕ) (es : List (ℕ × Option Y)) → at name es ≡ None → without_name name es ≡ es
 nothing_to_end name [] e = refl
 nothing_to_end {Y} name ((k, o) ∷ es) e = elim (decided (nat_eq name k)) [
   | inl t ↦ gone o t (rw t at e)
   | inr t ↦ rw t (ap (λ (l : List (ℕ × Option Y)). (k, o) ∷ l) (nothing_to_end name es (rw t at e)))
 ] where
-  gone : (p : Option Y) → nat_eq name k ≡ true → p ≡ None → without name ((k, p) ∷ es) ≡ (k, p) ∷ es
+  gone : (p : Option Y) → nat_eq name k ≡ true → p ≡ None → without_name name ((k, p) ∷ es) ≡ (k, p) ∷ es
   gone p t h = rw t (ap (λ (q : Option Y). (k, q) ∷ es) (sym h))
 
-pub left_alone : {Y : Type 0} (name : ℕ) (old : Directory Y) (r : Option Y) (new : Directory Y) → r ≡ at name old → new ≡ without name old → IfNone r (new ≡ old)
+pub left_alone : {Y : Type 0} (name : ℕ) (old : Directory Y) (r : Option Y) (new : Directory Y) → r ≡ at name old → new ≡ without_name name old → IfNone r (new ≡ old)
 left_alone name old None new e f = f ∙ nothing_to_end name old (sym e)
 left_alone name old (Some x) new e f = tt
 

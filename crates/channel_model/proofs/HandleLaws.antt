@@ -2,10 +2,10 @@
 use Rattle.std.proofs.Common.{arith, ◌≡◌, ◌⊎◌, ◌≤◌, ◌<◌, ◌+◌, ◌-◌, ◌^◌, ◌==◌, ℕ, zero, suc, nat_lt, List, [], ◌∷◌, Bool, true, false, ◌&&◌, ◌||◌, not, cond, if◌then◌else◌, Option, None, Some, is_some, refl, sym, ap, subst, ◌∙◌, inl, inr}
 use Rattle.std.proofs.lemmas.Bool.Decides.{nat_tests}
 use Rattle.std.specs.List.{list_all}
-use Rattle.channel_model.specs.Answer.{Answer, replying, count, strong_of, with_count, without_one, shut, spent, upgrade_answer, upgrade_to, one_more}
-use Rattle.channel_model.specs.Channel.{Channel}
+use Rattle.channel_model.specs.Answer.{Answer, replying, strong_handles, strong_of, with_strong_handles, without_one, shut, spent, upgrade_answer, upgrade_to, one_more}
+use Rattle.channel_model.specs.Channel.{ModelChannel}
 use Rattle.channel_model.specs.Handles.{HandlesAreCounted, UpgradesAsOpen, live_of}
-use Rattle.channel_model.specs.Names.{Directory, at, with_new, without}
+use Rattle.channel_model.specs.Names.{Directory, at, with_new, without_name}
 use Rattle.channel_model.specs.Refusal.{are_alike, is_live, uses, are_fit, takes_borrowed, names_taken}
 use Rattle.channel_model.specs.Run.{Does, Runs}
 use Rattle.channel_model.specs.State.{State, start}
@@ -41,9 +41,9 @@ never_none : (n : ℕ) → 1 ≤ n → (n == 0) ≡ false
 never_none n h = grind (arith, nat_tests)
 
 module _ {T : Type 0} where
-  module _ (c : Channel T) (d : Directory Handle) (counted : HandlesAreCounted c d) where
+  module _ (c : ModelChannel T) (d : Directory Handle) (counted : HandlesAreCounted c d) where
     -- neither the counts nor the flag nor the number of handles is changed
-    as_before : (b : Channel T) (e : Directory Handle) → b.senders ≡ c.senders → b.receivers ≡ c.receivers → (b.closed ≡ false → c.closed ≡ false)
+    as_before : (b : ModelChannel T) (e : Directory Handle) → b.senders ≡ c.senders → b.receivers ≡ c.receivers → (b.closed ≡ false → c.closed ≡ false)
         → ((side : HandleKind) → live_of side e ≡ live_of side d) → HandlesAreCounted b e
     as_before b e s r o alike = record {
       senders = s ∙ counted.senders ∙ sym (alike Sender);
@@ -52,7 +52,7 @@ module _ {T : Type 0} where
       receiving = λ h. subst (λ (n : ℕ). 1 ≤ n) (sym r) (counted.receiving (o h));
     }
 
-    one_added : (name : ℕ) (kind : HandleKind) → HandlesAreCounted (with_count kind (count kind c + 1) c) (with_new name (record { kind = kind; borrowers = 0 }) d)
+    one_added : (name : ℕ) (kind : HandleKind) → HandlesAreCounted (with_strong_handles kind (strong_handles kind c + 1) c) (with_new name (record { kind = kind; borrowers = 0 }) d)
     one_added name Sender = record {
       senders = omega (arith, counted.senders);
       receivers = counted.receivers;
@@ -80,7 +80,7 @@ module _ {T : Type 0} where
 
     -- the last of a side closes the channel
     sender_dropped : (e : Directory Handle) → live_of Sender d ≡ live_of Sender e + 1 → live_of Receiver d ≡ live_of Receiver e + 0
-        → (last : Bool) → (c.senders == 1) ≡ last → HandlesAreCounted (let left = with_count Sender (c.senders - 1) c in if last then shut left else left) e
+        → (last : Bool) → (c.senders == 1) ≡ last → HandlesAreCounted (let left = with_strong_handles Sender (c.senders - 1) c in if last then shut left else left) e
     sender_dropped e less same true t = record {
       senders = omega (arith, counted.senders, less);
       receivers = omega (arith, counted.receivers, same);
@@ -95,7 +95,7 @@ module _ {T : Type 0} where
     }
 
     receiver_dropped : (e : Directory Handle) → live_of Receiver d ≡ live_of Receiver e + 1 → live_of Sender d ≡ live_of Sender e + 0
-        → (last : Bool) → (c.receivers == 1) ≡ last → HandlesAreCounted (let left = with_count Receiver (c.receivers - 1) c in if last then shut left else left) e
+        → (last : Bool) → (c.receivers == 1) ≡ last → HandlesAreCounted (let left = with_strong_handles Receiver (c.receivers - 1) c in if last then shut left else left) e
     receiver_dropped e less same true t = record {
       senders = omega (arith, counted.senders, same);
       receivers = omega (arith, counted.receivers, less);
@@ -109,15 +109,15 @@ module _ {T : Type 0} where
       receiving = λ h. more_than_one c.receivers t (counted.receiving h);
     }
 
-    one_dropped : (name : ℕ) (h : Handle) (kind : HandleKind) → at name d ≡ Some h → h.kind ≡ kind → HandlesAreCounted (without_one kind c) (without name d)
+    one_dropped : (name : ℕ) (h : Handle) (kind : HandleKind) → at name d ≡ Some h → h.kind ≡ kind → HandlesAreCounted (without_one kind c) (without_name name d)
     one_dropped name h kind there e = of kind (λ side. less side) where
-      less : (side : HandleKind) → live_of side d ≡ live_of side (without name d) + cond (are_alike side kind) 1 0
-      less side = subst (λ (k : HandleKind). live_of side d ≡ live_of side (without name d) + cond (are_alike side k) 1 0) e (gone_less side name h d there)
+      less : (side : HandleKind) → live_of side d ≡ live_of side (without_name name d) + cond (are_alike side kind) 1 0
+      less side = subst (λ (k : HandleKind). live_of side d ≡ live_of side (without_name name d) + cond (are_alike side k) 1 0) e (gone_less side name h d there)
 
-      weak_too : (k : HandleKind) → ((side : HandleKind) → are_alike side k ≡ false) → ((side : HandleKind) → live_of side d ≡ live_of side (without name d) + cond (are_alike side k) 1 0)
-          → (side : HandleKind) → live_of side (without name d) ≡ live_of side d
+      weak_too : (k : HandleKind) → ((side : HandleKind) → are_alike side k ≡ false) → ((side : HandleKind) → live_of side d ≡ live_of side (without_name name d) + cond (are_alike side k) 1 0)
+          → (side : HandleKind) → live_of side (without_name name d) ≡ live_of side d
       weak_too k off l side =
-          let now : live_of side d ≡ live_of side (without name d) + 0 = subst (λ (b : Bool). live_of side d ≡ live_of side (without name d) + cond b 1 0) (off side) (l side) in
+          let now : live_of side d ≡ live_of side (without_name name d) + 0 = subst (λ (b : Bool). live_of side d ≡ live_of side (without_name name d) + cond b 1 0) (off side) (l side) in
           omega (arith, now)
 
       no_sender : (side : HandleKind) → are_alike side WeakSender ≡ false
@@ -132,32 +132,32 @@ module _ {T : Type 0} where
       no_receiver WeakSender = refl
       no_receiver WeakReceiver = refl
 
-      of : (k : HandleKind) → ((side : HandleKind) → live_of side d ≡ live_of side (without name d) + cond (are_alike side k) 1 0) → HandlesAreCounted (without_one k c) (without name d)
-      of Sender l = sender_dropped (without name d) (l Sender) (l Receiver) (c.senders == 1) refl
-      of Receiver l = receiver_dropped (without name d) (l Receiver) (l Sender) (c.receivers == 1) refl
-      of WeakSender l = as_before c (without name d) refl refl (λ o. o) (weak_too WeakSender no_sender l)
-      of WeakReceiver l = as_before c (without name d) refl refl (λ o. o) (weak_too WeakReceiver no_receiver l)
+      of : (k : HandleKind) → ((side : HandleKind) → live_of side d ≡ live_of side (without_name name d) + cond (are_alike side k) 1 0) → HandlesAreCounted (without_one k c) (without_name name d)
+      of Sender l = sender_dropped (without_name name d) (l Sender) (l Receiver) (c.senders == 1) refl
+      of Receiver l = receiver_dropped (without_name name d) (l Receiver) (l Sender) (c.receivers == 1) refl
+      of WeakSender l = as_before c (without_name name d) refl refl (λ o. o) (weak_too WeakSender no_sender l)
+      of WeakReceiver l = as_before c (without_name name d) refl refl (λ o. o) (weak_too WeakReceiver no_receiver l)
 
   -- ---- whole runs
 
   step_counted : (s : State T) (a : Answer T) → Deed s a → HandlesAreCounted s.channel s.names.handles → HandlesAreCounted a.after.channel a.after.names.handles
   step_counted s a (stays same alike none) k =
-      as_before s.channel s.names.handles k a.after.channel a.after.names.handles (ap (λ (c : Channel T). c.senders) same) (ap (λ (c : Channel T). c.receivers) same)
-      (λ o. ap (λ (c : Channel T). c.closed) (sym same) ∙ o) alike
+      as_before s.channel s.names.handles k a.after.channel a.after.names.handles (ap (λ (c : ModelChannel T). c.senders) same) (ap (λ (c : ModelChannel T). c.receivers) same)
+      (λ o. ap (λ (c : ModelChannel T). c.closed) (sym same) ∙ o) alike
   step_counted s a (grows m room same alike none) k =
-      as_before s.channel s.names.handles k a.after.channel a.after.names.handles (ap (λ (c : Channel T). c.senders) same) (ap (λ (c : Channel T). c.receivers) same)
-      (λ o. ap (λ (c : Channel T). c.closed) (sym same) ∙ o) alike
+      as_before s.channel s.names.handles k a.after.channel a.after.names.handles (ap (λ (c : ModelChannel T). c.senders) same) (ap (λ (c : ModelChannel T). c.receivers) same)
+      (λ o. ap (λ (c : ModelChannel T). c.closed) (sym same) ∙ o) alike
   step_counted s a (holds ms n less same alike none) k =
-      as_before s.channel s.names.handles k a.after.channel a.after.names.handles (ap (λ (c : Channel T). c.senders) same) (ap (λ (c : Channel T). c.receivers) same)
-      (λ o. ap (λ (c : Channel T). c.closed) (sym same) ∙ o) alike
+      as_before s.channel s.names.handles k a.after.channel a.after.names.handles (ap (λ (c : ModelChannel T). c.senders) same) (ap (λ (c : ModelChannel T). c.receivers) same)
+      (λ o. ap (λ (c : ModelChannel T). c.closed) (sym same) ∙ o) alike
   step_counted s a (shuts opened same alike) k =
-      as_before s.channel s.names.handles k a.after.channel a.after.names.handles (ap (λ (c : Channel T). c.senders) same) (ap (λ (c : Channel T). c.receivers) same)
+      as_before s.channel s.names.handles k a.after.channel a.after.names.handles (ap (λ (c : ModelChannel T). c.senders) same) (ap (λ (c : ModelChannel T). c.receivers) same)
       (λ o. opened) alike
   step_counted s a (adds name kind same handles none) k =
-      subst (λ (c : Channel T). HandlesAreCounted c a.after.names.handles) (sym same)
-      (subst (λ (d : Directory Handle). HandlesAreCounted (with_count kind (count kind s.channel + 1) s.channel) d) (sym handles) (one_added s.channel s.names.handles k name kind))
+      subst (λ (c : ModelChannel T). HandlesAreCounted c a.after.names.handles) (sym same)
+      (subst (λ (d : Directory Handle). HandlesAreCounted (with_strong_handles kind (strong_handles kind s.channel + 1) s.channel) d) (sym handles) (one_added s.channel s.names.handles k name kind))
   step_counted s a (drops name h kind there is same handles none) k =
-      subst (λ (c : Channel T). HandlesAreCounted c a.after.names.handles) (sym same)
+      subst (λ (c : ModelChannel T). HandlesAreCounted c a.after.names.handles) (sym same)
       (subst (λ (d : Directory Handle). HandlesAreCounted (without_one kind s.channel) d) (sym handles) (one_dropped s.channel s.names.handles k name h kind there is))
 
   run_counted : (s : State T) (cs : List (Call T)) (ds : List (Done T)) (why : Option WorldRefusal) (rest : List (Call T)) (t : State T)
@@ -175,7 +175,7 @@ module _ {T : Type 0} where
 
   -- ---- upgrades
 
-  strong_lives : (s : State T) → HandlesAreCounted s.channel s.names.handles → s.channel.closed ≡ false → (kind : HandleKind) → (count (strong_of kind) s.channel == 0) ≡ false
+  strong_lives : (s : State T) → HandlesAreCounted s.channel s.names.handles → s.channel.closed ≡ false → (kind : HandleKind) → (strong_handles (strong_of kind) s.channel == 0) ≡ false
   strong_lives s k o Sender = never_none s.channel.senders (k.sending o)
   strong_lives s k o Receiver = never_none s.channel.receivers (k.receiving o)
   strong_lives s k o WeakSender = never_none s.channel.senders (k.sending o)
@@ -183,8 +183,8 @@ module _ {T : Type 0} where
 
   -- one more handle is made, or there are too many
   one_more_says : (s : State T) (new : HandleId) (kind : HandleKind)
-      → ((one_more s new kind).reply ≡ reply.Made) ⊎ (((one_more s new kind).reply ≡ reply.TooMany) × (2 ^ 63 - 1 < count kind s.channel))
-  one_more_says s new kind = elim (decided (nat_lt (2 ^ 63 - 1) (count kind s.channel))) [
+      → ((one_more s new kind).reply ≡ reply.Made) ⊎ (((one_more s new kind).reply ≡ reply.TooMany) × (2 ^ 63 - 1 < strong_handles kind s.channel))
+  one_more_says s new kind = elim (decided (nat_lt (2 ^ 63 - 1) (strong_handles kind s.channel))) [
     | inl t ↦ inr (rw t refl, grind (arith, nat_tests))
     | inr t ↦ inl (rw t refl)
   ]
@@ -196,8 +196,8 @@ module _ {T : Type 0} where
         let shut_is : (upgrade_to s new (strong_of h.kind)).reply ≡ reply.NotMade = rw t refl in
         record { closed = λ e. shut_is; opened = λ e. cc (t, e); limit = λ e. cc (shut_is, e) }
     | inr t ↦
-        let off : (s.channel.closed || (count (strong_of h.kind) s.channel == 0)) ≡ false =
-        ap (λ (b : Bool). b || (count (strong_of h.kind) s.channel == 0)) t ∙ strong_lives s k t h.kind in
+        let off : (s.channel.closed || (strong_handles (strong_of h.kind) s.channel == 0)) ≡ false =
+        ap (λ (b : Bool). b || (strong_handles (strong_of h.kind) s.channel == 0)) t ∙ strong_lives s k t h.kind in
         let goes_on : (upgrade_to s new (strong_of h.kind)).reply ≡ (one_more s new (strong_of h.kind)).reply =
         ap (λ (b : Bool). (if b then replying (spent s new) reply.NotMade else one_more s new (strong_of h.kind)).reply) off in
         elim (one_more_says s new (strong_of h.kind)) [

@@ -6,15 +6,15 @@ use Rattle.std.specs.List.{list_all}
 use Rattle.std.specs.Option.{option_map_or, option_to_list}
 use Rattle.std.specs.Map.{lookup, set_value}
 use Rattle.std.proofs.lemmas.Map.{lookup-set_value}
-use Rattle.channel_model.specs.Channel.{Channel, is_full}
-use Rattle.channel_model.specs.Names.{Names, Directory, Operation, send, recv, closing, at, is_taken, with_operation, with_operation_changed, without_operation}
+use Rattle.channel_model.specs.Channel.{ModelChannel, is_full}
+use Rattle.channel_model.specs.Names.{Names, Directory, ModelOperation, send, recv, closing, at, is_taken, with_operation, with_operation_changed, without_operation}
 use Rattle.channel_model.specs.Lines.{Waiting, nobody, is_among, untold, after_news, gone, left_after, standing}
 use Rattle.channel_model.specs.State.{State, start, with_channel, with_names, with_waiting}
 use Rattle.channel_model.specs.declared.call.Call.{Call}
 use Rattle.channel_model.specs.declared.call.Call.TheVariants as call
 use Rattle.channel_calls.specs.declared.reply.Reply.{Reply}
 use Rattle.channel_calls.specs.declared.reply.Reply.TheVariants as reply
-use Rattle.channel_model.specs.Answer.{Answer, replying, telling, leaving, pending, space_of, Found, first, none_yet, none_ever, found_in, found, try_send_answer, force_send_answer, displacing, send_poll_answer, try_recv_answer, recv_many_answer, recv_poll_answer, next_answer, poll_next_answer, close_answer, shut, closed_poll_answer, poll_answer, poll_refused_answer, give_up_answer, given_up, new_answer, drop_one, dropped, drop_answer, made, spent, weak_of, clone_answer, downgrade_answer, upgrade_answer, one_more, strong_of, count, with_count, news_without_one, answer}
+use Rattle.channel_model.specs.Answer.{Answer, replying, after_telling, after_leaving, pending, space_of, Found, first, none_yet, none_ever, found_in, found, try_send_answer, force_send_answer, displacing, send_poll_answer, try_recv_answer, recv_many_answer, recv_poll_answer, next_answer, poll_next_answer, close_answer, shut, closed_poll_answer, poll_answer, poll_refused_answer, give_up_answer, given_up, new_answer, drop_one, dropped, drop_answer, made, spent, weak_of, clone_answer, downgrade_answer, upgrade_answer, one_more, strong_of, strong_handles, with_strong_handles, news_without_one, answer}
 use Rattle.channel_model.specs.Refused.{Lack, memory, serials, refused, not_listening, not_standing, not_held, send_not_polled, recv_not_polled, not_polled, next_not_polled, not_received, answer_without, Answers}
 use Rattle.channel_model.specs.Refusal.{refusal, is_live, uses, are_fit, takes_borrowed, names_taken}
 use Rattle.channel_model.specs.Laws.{removed_by, accepted_by, sends_after, removed, accepted, line_of_operation, line_of, free_places, NobodyIsLeft}
@@ -76,27 +76,27 @@ module _ {T : Type 0} where
     pub account : removed_by a.reply ++ a.after.channel.messages ≡ s.channel.messages ++ accepted_by sends c a.reply
     pub keeps : Keeps (sends_after sends c) a.after.names
 
-  pub found_name : (n : ℕ) (d : Directory (Operation T)) (x : Operation T) → at n d ≡ Some x → IsSome (lookup (nat_eq n) d)
+  pub found_name : (n : ℕ) (d : Directory (ModelOperation T)) (x : ModelOperation T) → at n d ≡ Some x → IsSome (lookup (nat_eq n) d)
   found_name n d x e = some (lookup (nat_eq n) d) e where
-    some : (o : Option (Option (Operation T))) → option_map_or (λ (y : Option (Operation T)). y) o None ≡ Some x → IsSome o
+    some : (o : Option (Option (ModelOperation T))) → option_map_or (λ (y : Option (ModelOperation T)). y) o None ≡ Some x → IsSome o
     some None h = cc h
     some (Some y) h = refl
 
   -- what stands under other names stays when one is changed
-  pub set_elsewhere : (n m : ℕ) (v : Option (Operation T)) (d : Directory (Operation T)) → IsSome (lookup (nat_eq n) d) → nat_eq n m ≡ false → at m (set_value (nat_eq n) d v) ≡ at m d
+  pub set_elsewhere : (n m : ℕ) (v : Option (ModelOperation T)) (d : Directory (ModelOperation T)) → IsSome (lookup (nat_eq n) d) → nat_eq n m ≡ false → at m (set_value (nat_eq n) d v) ≡ at m d
   set_elsewhere n m v d there off =
       let now : lookup (nat_eq m) (set_value (nat_eq n) d v) ≡ lookup (nat_eq m) d =
       lookup-set_value nat_eq_equiv (nat_eq n) (λ x y t. nat_eq_equiv.congr n x y t) m v d there ∙ chosen_no (nat_eq n m) (Some v) (lookup (nat_eq m) d) off in
-      ap (λ (o : Option (Option (Operation T))). option_map_or (λ (y : Option (Operation T)). y) o None) now
+      ap (λ (o : Option (Option (ModelOperation T))). option_map_or (λ (y : Option (ModelOperation T)). y) o None) now
 
-  pub set_here : (n m : ℕ) (v : Option (Operation T)) (d : Directory (Operation T)) → IsSome (lookup (nat_eq n) d) → nat_eq n m ≡ true → at m (set_value (nat_eq n) d v) ≡ v
+  pub set_here : (n m : ℕ) (v : Option (ModelOperation T)) (d : Directory (ModelOperation T)) → IsSome (lookup (nat_eq n) d) → nat_eq n m ≡ true → at m (set_value (nat_eq n) d v) ≡ v
   set_here n m v d there on =
       let now : lookup (nat_eq m) (set_value (nat_eq n) d v) ≡ Some v =
       lookup-set_value nat_eq_equiv (nat_eq n) (λ x y t. nat_eq_equiv.congr n x y t) m v d there ∙ chosen_yes (nat_eq n m) (Some v) (lookup (nat_eq m) d) on in
-      ap (λ (o : Option (Option (Operation T))). option_map_or (λ (y : Option (Operation T)). y) o None) now
+      ap (λ (o : Option (Option (ModelOperation T))). option_map_or (λ (y : Option (ModelOperation T)). y) o None) now
 
   -- one operation was changed, which stands in no line
-  awake_changed : (op : OpId) (v : Option (Operation T)) (x : Operation T) (names names' : Names T) (capacity : Option ℕ) (closed : Bool) (n : ℕ) (l : Waiting)
+  awake_changed : (op : OpId) (v : Option (ModelOperation T)) (x : ModelOperation T) (names names' : Names T) (capacity : Option ℕ) (closed : Bool) (n : ℕ) (l : Waiting)
       → at op.0 names.operations ≡ Some x → names'.operations ≡ set_value (nat_eq op.0) names.operations v → times_in (Op op) l ≡ 0
       → Awake (line_of names) capacity closed n l → Awake (line_of names') capacity closed n l
   awake_changed op v x names names' capacity closed n l there set zero_times a = awake_renamed (line_of names) (line_of names') capacity closed n l same a where
@@ -106,16 +106,16 @@ module _ {T : Type 0} where
       | inl t ↦
           let here : times_in (Op other) l ≡ 0 = subst (λ (n : ℕ). times_in (Op (record { 0 = n })) l ≡ 0) (same_number op.0 other.0 t) zero_times in
           absurd (omega (arith, h, here))
-      | inr t ↦ ap (λ (o : Option (Operation T)). line_of_operation o)
-          (ap (λ (d : Directory (Operation T)). at other.0 d) set ∙ set_elsewhere op.0 other.0 v names.operations (found_name op.0 names.operations x there) t)
+      | inr t ↦ ap (λ (o : Option (ModelOperation T)). line_of_operation o)
+          (ap (λ (d : Directory (ModelOperation T)). at other.0 d) set ∙ set_elsewhere op.0 other.0 v names.operations (found_name op.0 names.operations x there) t)
     ]
 
-  keeps_changed : (op : OpId) (v : Option (Operation T)) (x : Operation T) (sends : List (ℕ × T)) (names names' : Names T)
+  keeps_changed : (op : OpId) (v : Option (ModelOperation T)) (x : ModelOperation T) (sends : List (ℕ × T)) (names names' : Names T)
       → ((h : HandleId) (m : T) → v ≡ Some (send h (Some m)) → ⊥)
       → at op.0 names.operations ≡ Some x → names'.operations ≡ set_value (nat_eq op.0) names.operations v
       → Keeps sends names → Keeps sends names'
   keeps_changed op v x sends names names' spent there set keeps n h m e =
-      let now : at n (set_value (nat_eq op.0) names.operations v) ≡ Some (send h (Some m)) = subst (λ (d : Directory (Operation T)). at n d ≡ Some (send h (Some m))) set e in
+      let now : at n (set_value (nat_eq op.0) names.operations v) ≡ Some (send h (Some m)) = subst (λ (d : Directory (ModelOperation T)). at n d ≡ Some (send h (Some m))) set e in
       elim (decided (nat_eq op.0 n)) [
         | inl t ↦ absurd (spent h m (sym (set_here op.0 n v names.operations (found_name op.0 names.operations x there) t) ∙ now))
         | inr t ↦ keeps n h m (sym (set_elsewhere op.0 n v names.operations (found_name op.0 names.operations x there) t) ∙ now)
@@ -127,7 +127,7 @@ module _ {T : Type 0} where
   awake_handles names names' capacity closed n l e a = awake_renamed (line_of names) (line_of names') capacity closed n l same a where
     same : (w : Waiter) → 1 ≤ times_in w l → line_of names' w ≡ line_of names w
     same (Stream receiver) h = refl
-    same (Op other) h = ap (λ (d : Directory (Operation T)). line_of_operation (at other.0 d)) e
+    same (Op other) h = ap (λ (d : Directory (ModelOperation T)). line_of_operation (at other.0 d)) e
 
   -- ---- what a call finds
 
@@ -141,7 +141,7 @@ module _ {T : Type 0} where
   found_yet [] false e = (refl, refl)
   found_yet (x ∷ xs) closed e = cc e
 
-  space_filled : (c : Channel T) → space_of c ≡ Filled → (c.closed ≡ false) × (is_full c ≡ true)
+  space_filled : (c : ModelChannel T) → space_of c ≡ Filled → (c.closed ≡ false) × (is_full c ≡ true)
   space_filled c e = elim (decided c.closed) [
     | inl t ↦ cc (rw t at e)
     | inr t ↦ elim (decided (is_full c)) [
@@ -160,9 +160,9 @@ module _ {T : Type 0} where
   either_way P true x y so not_so = so refl
   either_way P false x y so not_so = not_so refl
 
-  pub untaken : (n : ℕ) (d : Directory (Operation T)) → is_taken n d ≡ false → at n d ≡ None
+  pub untaken : (n : ℕ) (d : Directory (ModelOperation T)) → is_taken n d ≡ false → at n d ≡ None
   untaken n d e = none (lookup (nat_eq n) d) e where
-    none : (o : Option (Option (Operation T))) → is_some o ≡ false → option_map_or (λ (y : Option (Operation T)). y) o None ≡ None
+    none : (o : Option (Option (ModelOperation T))) → is_some o ≡ false → option_map_or (λ (y : Option (ModelOperation T)). y) o None ≡ None
     none None h = refl
     none (Some y) h = cc h
 
@@ -185,7 +185,7 @@ module _ {T : Type 0} where
     good c a w account ops same = record {
       awake = w;
       account = account;
-      keeps = λ n h m e. subst (λ (ss : List (ℕ × T)). lookup (nat_eq n) ss ≡ Some m) (sym same) (keeps n h m (subst (λ (d : Directory (Operation T)). at n d ≡ Some (send h (Some m))) ops e));
+      keeps = λ n h m e. subst (λ (ss : List (ℕ × T)). lookup (nat_eq n) ss ≡ Some m) (sym same) (keeps n h m (subst (λ (d : Directory (ModelOperation T)). at n d ≡ Some (send h (Some m))) ops e));
     }
 
     stay : (c : Call T) (r : Reply T) → removed_by r ≡ [] → accepted_by sends c r ≡ [] → sends_after sends c ≡ sends → Good sends s c (replying s r)
@@ -267,7 +267,7 @@ module _ {T : Type 0} where
 
     send_poll : (op : OpId) (handle : HandleId) (m : T) (x : Space) → at op.0 s.names.operations ≡ Some (send handle (Some m)) → space_of s.channel ≡ x → Good sends s (call.Poll op) (send_poll_answer s op handle m x)
     send_poll op handle m Open there e =
-        let own : line_of s.names (Op op) ≡ Some Sends = ap (λ (o : Option (Operation T)). line_of_operation o) there in
+        let own : line_of s.names (Op op) ≡ Some Sends = ap (λ (o : Option (ModelOperation T)). line_of_operation o) there in
         record {
           awake = awake_changed op (Some (send handle None)) (send handle (Some m)) s.names (with_operation_changed op (send handle None) s.names) s.channel.capacity s.channel.closed (length (s.channel.messages ++ m ∷ [])) (left_after Message Sends (Op op) s.waiting)
               there refl (left_nowhere Sends (Op op) (after_news Message s.waiting))
@@ -276,13 +276,13 @@ module _ {T : Type 0} where
           keeps = keeps_changed op (Some (send handle None)) (send handle (Some m)) sends s.names (with_operation_changed op (send handle None) s.names) (λ h v q. cc q) there refl keeps;
         }
     send_poll op handle m Filled there e =
-        let own : line_of s.names (Op op) ≡ Some Sends = ap (λ (o : Option (Operation T)). line_of_operation o) there in
+        let own : line_of s.names (Op op) ≡ Some Sends = ap (λ (o : Option (ModelOperation T)). line_of_operation o) there in
         let filled = space_filled s.channel e in
         good (call.Poll op) (send_poll_answer s op handle m Filled)
         (awake_pending Sends (Op op) (send_poll_answer s op handle m Filled).reply own filled.0 (full_idle s.channel.capacity (length s.channel.messages) filled.1))
         (nothing_moved (call.Poll op) (send_poll_answer s op handle m Filled).reply refl refl) refl refl
     send_poll op handle m Shut there e =
-        let own : line_of s.names (Op op) ≡ Some Sends = ap (λ (o : Option (Operation T)). line_of_operation o) there in
+        let own : line_of s.names (Op op) ≡ Some Sends = ap (λ (o : Option (ModelOperation T)). line_of_operation o) there in
         record {
           awake = awake_changed op (Some (send handle None)) (send handle (Some m)) s.names (with_operation_changed op (send handle None) s.names) s.channel.capacity s.channel.closed (length s.channel.messages) (left_after Nothing Sends (Op op) s.waiting)
               there refl (left_nowhere Sends (Op op) (after_news Nothing s.waiting)) (awake_left Sends (Op op) own);
@@ -292,30 +292,30 @@ module _ {T : Type 0} where
 
     recv_poll : (op : OpId) (handle : HandleId) (x : Found T) → at op.0 s.names.operations ≡ Some (recv handle) → found s.channel ≡ x → Good sends s (call.Poll op) (recv_poll_answer s op x)
     recv_poll op handle (first m rest) there e =
-        let own : line_of s.names (Op op) ≡ Some Receives = ap (λ (o : Option (Operation T)). line_of_operation o) there in
+        let own : line_of s.names (Op op) ≡ Some Receives = ap (λ (o : Option (ModelOperation T)). line_of_operation o) there in
         let is_first = found_first s.channel.messages s.channel.closed m rest e in
         good (call.Poll op) (recv_poll_answer s op (first m rest))
         (awake_leave (line_of s.names) s.channel.capacity s.channel.closed (length rest) Receives (Op op) (after_news Room s.waiting) own (awake_less m rest is_first))
         (taken m rest is_first) refl refl
     recv_poll op handle none_yet there e =
-        let own : line_of s.names (Op op) ≡ Some Receives = ap (λ (o : Option (Operation T)). line_of_operation o) there in
+        let own : line_of s.names (Op op) ≡ Some Receives = ap (λ (o : Option (ModelOperation T)). line_of_operation o) there in
         let yet = found_yet s.channel.messages s.channel.closed e in
         good (call.Poll op) (recv_poll_answer s op none_yet) (awake_pending Receives (Op op) (recv_poll_answer s op none_yet).reply own yet.1 (no_message yet.0))
         (nothing_moved (call.Poll op) (recv_poll_answer s op none_yet).reply refl refl) refl refl
     recv_poll op handle none_ever there e =
-        let own : line_of s.names (Op op) ≡ Some Receives = ap (λ (o : Option (Operation T)). line_of_operation o) there in
+        let own : line_of s.names (Op op) ≡ Some Receives = ap (λ (o : Option (ModelOperation T)). line_of_operation o) there in
         good (call.Poll op) (recv_poll_answer s op none_ever) (awake_left Receives (Op op) own)
         (nothing_moved (call.Poll op) (recv_poll_answer s op none_ever).reply refl refl) refl refl
 
     closed_poll : (op : OpId) (handle : HandleId) → at op.0 s.names.operations ≡ Some (closing handle) → Good sends s (call.Poll op) (closed_poll_answer s op)
     closed_poll op handle there =
-        let own : line_of s.names (Op op) ≡ Some Closings = ap (λ (o : Option (Operation T)). line_of_operation o) there in
+        let own : line_of s.names (Op op) ≡ Some Closings = ap (λ (o : Option (ModelOperation T)). line_of_operation o) there in
         either_way (λ (a : Answer T). Good sends s (call.Poll op) a) s.channel.closed
-        (leaving Nothing Closings (Op op) s (reply.ClosedPoll (Ready (Ok tt)))) (pending Closings (Op op) s (reply.ClosedPoll Pending))
-        (λ t. good (call.Poll op) (leaving Nothing Closings (Op op) s (reply.ClosedPoll (Ready (Ok tt)))) (awake_left Closings (Op op) own) (nothing_moved (call.Poll op) (reply.ClosedPoll (Ready (Ok tt))) refl refl) refl refl)
+        (after_leaving Nothing Closings (Op op) s (reply.ClosedPoll (Ready (Ok tt)))) (pending Closings (Op op) s (reply.ClosedPoll Pending))
+        (λ t. good (call.Poll op) (after_leaving Nothing Closings (Op op) s (reply.ClosedPoll (Ready (Ok tt)))) (awake_left Closings (Op op) own) (nothing_moved (call.Poll op) (reply.ClosedPoll (Ready (Ok tt))) refl refl) refl refl)
         (λ t. good (call.Poll op) (pending Closings (Op op) s (reply.ClosedPoll Pending)) (awake_pending Closings (Op op) (reply.ClosedPoll Pending) own t tt) (nothing_moved (call.Poll op) (reply.ClosedPoll Pending) refl refl) refl refl)
 
-    poll : (op : OpId) (o : Option (Operation T)) → at op.0 s.names.operations ≡ o → Good sends s (call.Poll op) (poll_answer s op o)
+    poll : (op : OpId) (o : Option (ModelOperation T)) → at op.0 s.names.operations ≡ o → Good sends s (call.Poll op) (poll_answer s op o)
     poll op (Some (send handle (Some m))) there = send_poll op handle m (space_of s.channel) there refl
     poll op (Some (send handle None)) there = stay (call.Poll op) (reply.SendPoll Pending) refl refl refl
     poll op (Some (recv handle)) there = recv_poll op handle (found s.channel) there refl
@@ -324,20 +324,20 @@ module _ {T : Type 0} where
 
     -- an operation of this line, and a finished send, leaves
     refused_poll : (op : OpId) (own : Line) (r : Reply T) → (line_of s.names (Op op) ≡ Some own) ⊎ (line_of s.names (Op op) ≡ None) → removed_by r ≡ [] → accepted_by sends (call.PollRefused op) r ≡ []
-        → Good sends s (call.PollRefused op) (leaving Nothing own (Op op) s r)
-    refused_poll op own r (inl e) f g = good (call.PollRefused op) (leaving Nothing own (Op op) s r) (awake_left own (Op op) e) (nothing_moved (call.PollRefused op) r f g) refl refl
-    refused_poll op own r (inr e) f g = good (call.PollRefused op) (leaving Nothing own (Op op) s r) (awake_left_spent own (Op op) e) (nothing_moved (call.PollRefused op) r f g) refl refl
+        → Good sends s (call.PollRefused op) (after_leaving Nothing own (Op op) s r)
+    refused_poll op own r (inl e) f g = good (call.PollRefused op) (after_leaving Nothing own (Op op) s r) (awake_left own (Op op) e) (nothing_moved (call.PollRefused op) r f g) refl refl
+    refused_poll op own r (inr e) f g = good (call.PollRefused op) (after_leaving Nothing own (Op op) s r) (awake_left_spent own (Op op) e) (nothing_moved (call.PollRefused op) r f g) refl refl
 
-    poll_refused : (op : OpId) (o : Option (Operation T)) → at op.0 s.names.operations ≡ o → Good sends s (call.PollRefused op) (poll_refused_answer s op o)
-    poll_refused op (Some (send handle (Some m))) there = refused_poll op Sends (reply.SendPoll (Ready (Err (NoMemory tt)))) (inl (ap (λ (o : Option (Operation T)). line_of_operation o) there)) refl refl
-    poll_refused op (Some (send handle None)) there = refused_poll op Sends (reply.SendPoll (Ready (Err (NoMemory tt)))) (inr (ap (λ (o : Option (Operation T)). line_of_operation o) there)) refl refl
-    poll_refused op (Some (recv handle)) there = refused_poll op Receives (reply.RecvPoll (Ready (Err (NoMemory tt)))) (inl (ap (λ (o : Option (Operation T)). line_of_operation o) there)) refl refl
-    poll_refused op (Some (closing handle)) there = refused_poll op Closings (reply.ClosedPoll (Ready (Err listen.NoMemory))) (inl (ap (λ (o : Option (Operation T)). line_of_operation o) there)) refl refl
+    poll_refused : (op : OpId) (o : Option (ModelOperation T)) → at op.0 s.names.operations ≡ o → Good sends s (call.PollRefused op) (poll_refused_answer s op o)
+    poll_refused op (Some (send handle (Some m))) there = refused_poll op Sends (reply.SendPoll (Ready (Err (NoMemory tt)))) (inl (ap (λ (o : Option (ModelOperation T)). line_of_operation o) there)) refl refl
+    poll_refused op (Some (send handle None)) there = refused_poll op Sends (reply.SendPoll (Ready (Err (NoMemory tt)))) (inr (ap (λ (o : Option (ModelOperation T)). line_of_operation o) there)) refl refl
+    poll_refused op (Some (recv handle)) there = refused_poll op Receives (reply.RecvPoll (Ready (Err (NoMemory tt)))) (inl (ap (λ (o : Option (ModelOperation T)). line_of_operation o) there)) refl refl
+    poll_refused op (Some (closing handle)) there = refused_poll op Closings (reply.ClosedPoll (Ready (Err listen.NoMemory))) (inl (ap (λ (o : Option (ModelOperation T)). line_of_operation o) there)) refl refl
     poll_refused op None there = stay (call.PollRefused op) reply.Unit refl refl refl
 
-    given : (op : OpId) (x : Operation T) (own : Line) (r : Reply T) → at op.0 s.names.operations ≡ Some x → removed_by r ≡ [] → accepted_by sends (call.GiveUp op) r ≡ []
+    given : (op : OpId) (x : ModelOperation T) (own : Line) (r : Reply T) → at op.0 s.names.operations ≡ Some x → removed_by r ≡ [] → accepted_by sends (call.GiveUp op) r ≡ []
         → Awake (line_of s.names) s.channel.capacity s.channel.closed (length s.channel.messages) (left_after Nothing own (Op op) s.waiting)
-        → Good sends s (call.GiveUp op) (leaving Nothing own (Op op) (given_up s op x) r)
+        → Good sends s (call.GiveUp op) (after_leaving Nothing own (Op op) (given_up s op x) r)
     given op x own r there f g w = record {
       awake = awake_changed op None x s.names (without_operation op x s.names) s.channel.capacity s.channel.closed (length s.channel.messages) (left_after Nothing own (Op op) s.waiting)
           there refl (left_nowhere own (Op op) (after_news Nothing s.waiting)) w;
@@ -345,30 +345,30 @@ module _ {T : Type 0} where
       keeps = keeps_changed op None x sends s.names (without_operation op x s.names) (λ h v q. cc q) there refl keeps;
     }
 
-    give_up : (op : OpId) (o : Option (Operation T)) → at op.0 s.names.operations ≡ o → Good sends s (call.GiveUp op) (give_up_answer s op o)
+    give_up : (op : OpId) (o : Option (ModelOperation T)) → at op.0 s.names.operations ≡ o → Good sends s (call.GiveUp op) (give_up_answer s op o)
     give_up op (Some (send handle (Some m))) there =
-        given op (send handle (Some m)) Sends (reply.GivenUp (Some m)) there refl refl (awake_left Sends (Op op) (ap (λ (o : Option (Operation T)). line_of_operation o) there))
+        given op (send handle (Some m)) Sends (reply.GivenUp (Some m)) there refl refl (awake_left Sends (Op op) (ap (λ (o : Option (ModelOperation T)). line_of_operation o) there))
     give_up op (Some (send handle None)) there =
-        given op (send handle None) Sends (reply.GivenUp None) there refl refl (awake_left_spent Sends (Op op) (ap (λ (o : Option (Operation T)). line_of_operation o) there))
+        given op (send handle None) Sends (reply.GivenUp None) there refl refl (awake_left_spent Sends (Op op) (ap (λ (o : Option (ModelOperation T)). line_of_operation o) there))
     give_up op (Some (recv handle)) there =
-        given op (recv handle) Receives (reply.GivenUp None) there refl refl (awake_left Receives (Op op) (ap (λ (o : Option (Operation T)). line_of_operation o) there))
+        given op (recv handle) Receives (reply.GivenUp None) there refl refl (awake_left Receives (Op op) (ap (λ (o : Option (ModelOperation T)). line_of_operation o) there))
     give_up op (Some (closing handle)) there =
-        given op (closing handle) Closings (reply.GivenUp None) there refl refl (awake_left Closings (Op op) (ap (λ (o : Option (Operation T)). line_of_operation o) there))
+        given op (closing handle) Closings (reply.GivenUp None) there refl refl (awake_left Closings (Op op) (ap (λ (o : Option (ModelOperation T)). line_of_operation o) there))
     give_up op None there = stay (call.GiveUp op) reply.Unit refl refl refl
 
     -- a new operation stands in no line
-    awake_new : (op : OpId) (x : Operation T) → at op.0 s.names.operations ≡ None → AwakeIn (new_answer s op x).after
+    awake_new : (op : OpId) (x : ModelOperation T) → at op.0 s.names.operations ≡ None → AwakeIn (new_answer s op x).after
     awake_new op x free = awake_renamed (line_of s.names) (line_of (with_operation op x s.names)) s.channel.capacity s.channel.closed (length s.channel.messages) s.waiting same awake where
       same : (w : Waiter) → 1 ≤ times_in w s.waiting → line_of (with_operation op x s.names) w ≡ line_of s.names w
       same (Stream receiver) h = refl
       same (Op other) h = elim (decided (nat_eq other.0 op.0)) [
         | inl t ↦
-            let nowhere : line_of s.names (Op other) ≡ None = subst (λ (n : ℕ). line_of_operation (at n s.names.operations) ≡ None) (sym (same_number other.0 op.0 t)) (ap (λ (o : Option (Operation T)). line_of_operation o) free) in
+            let nowhere : line_of s.names (Op other) ≡ None = subst (λ (n : ℕ). line_of_operation (at n s.names.operations) ≡ None) (sym (same_number other.0 op.0 t)) (ap (λ (o : Option (ModelOperation T)). line_of_operation o) free) in
             no_line (line_of s.names (Op other)) (stands (line_of s.names) (Op other) s.waiting awake.placed h) nowhere
         | inr t ↦ rw t refl
       ]
 
-    new_keeps : (op : OpId) (x : Operation T) (ss : List (ℕ × T)) → ((h : HandleId) (m : T) → Some x ≡ Some (send h (Some m)) → lookup (nat_eq op.0) ss ≡ Some m)
+    new_keeps : (op : OpId) (x : ModelOperation T) (ss : List (ℕ × T)) → ((h : HandleId) (m : T) → Some x ≡ Some (send h (Some m)) → lookup (nat_eq op.0) ss ≡ Some m)
         → ((n : ℕ) → nat_eq n op.0 ≡ false → lookup (nat_eq n) ss ≡ lookup (nat_eq n) sends) → Keeps ss (with_operation op x s.names)
     new_keeps op x ss mine others n h m e = elim (decided (nat_eq n op.0)) [
       | inl t ↦
@@ -412,9 +412,9 @@ module _ {T : Type 0} where
     close : (handle : HandleId) → Good sends s (call.Close handle) (close_answer s)
     close handle =
         either_way (λ (a : Answer T). Good sends s (call.Close handle) a) s.channel.closed
-        (replying s (reply.Closed false)) (telling Closing (with_channel (shut s.channel) s) (reply.Closed true))
+        (replying s (reply.Closed false)) (after_telling Closing (with_channel (shut s.channel) s) (reply.Closed true))
         (λ t. stay (call.Close handle) (reply.Closed false) refl refl refl)
-        (λ t. good (call.Close handle) (telling Closing (with_channel (shut s.channel) s) (reply.Closed true))
+        (λ t. good (call.Close handle) (after_telling Closing (with_channel (shut s.channel) s) (reply.Closed true))
         (awake_closing (line_of s.names) s.channel.capacity s.channel.closed (length s.channel.messages) s.waiting awake)
         (nothing_moved (call.Close handle) (reply.Closed true) refl refl) refl refl)
 
@@ -429,11 +429,11 @@ module _ {T : Type 0} where
     awake_operations names capacity closed n l e a = awake_handles s.names names capacity closed n l e a
 
     -- the channel after a sender, or a receiver, is gone
-    abbrev sender_gone : ℕ → Bool → Channel T
-    sender_gone n last = let left = with_count Sender n s.channel in if last then shut left else left
+    abbrev sender_gone : ℕ → Bool → ModelChannel T
+    sender_gone n last = let left = with_strong_handles Sender n s.channel in if last then shut left else left
 
-    abbrev receiver_gone : ℕ → Bool → Channel T
-    receiver_gone n last = let left = with_count Receiver n s.channel in if last then shut left else left
+    abbrev receiver_gone : ℕ → Bool → ModelChannel T
+    receiver_gone n last = let left = with_strong_handles Receiver n s.channel in if last then shut left else left
 
     sender_lost : (n : ℕ) (last closed : Bool) → s.channel.closed ≡ closed → Awake (line_of s.names) (sender_gone n last).capacity (sender_gone n last).closed (length (sender_gone n last).messages) (after_news (if last && not closed then Closing else Nothing) s.waiting)
     sender_lost n true closed e = lost closed true e
@@ -486,20 +486,20 @@ module _ {T : Type 0} where
       renamed names r e f = good c (replying (with_names names s) r)
           (awake_operations names s.channel.capacity s.channel.closed (length s.channel.messages) s.waiting e awake) (nothing_moved c r f (quiet r)) e still
 
-      counted : (new : HandleId) (kind : HandleKind) (n : ℕ) → Good sends s c (replying (with_channel (with_count kind n s.channel) (made s new kind)) reply.Made)
-      counted new Sender n = good c (replying (with_channel (with_count Sender n s.channel) (made s new Sender)) reply.Made)
+      counted : (new : HandleId) (kind : HandleKind) (n : ℕ) → Good sends s c (replying (with_channel (with_strong_handles kind n s.channel) (made s new kind)) reply.Made)
+      counted new Sender n = good c (replying (with_channel (with_strong_handles Sender n s.channel) (made s new Sender)) reply.Made)
           (awake_operations (made s new Sender).names s.channel.capacity s.channel.closed (length s.channel.messages) s.waiting refl awake) (nothing_moved c reply.Made refl (quiet reply.Made)) refl still
-      counted new Receiver n = good c (replying (with_channel (with_count Receiver n s.channel) (made s new Receiver)) reply.Made)
+      counted new Receiver n = good c (replying (with_channel (with_strong_handles Receiver n s.channel) (made s new Receiver)) reply.Made)
           (awake_operations (made s new Receiver).names s.channel.capacity s.channel.closed (length s.channel.messages) s.waiting refl awake) (nothing_moved c reply.Made refl (quiet reply.Made)) refl still
       counted new WeakSender n = renamed (made s new WeakSender).names reply.Made refl refl
       counted new WeakReceiver n = renamed (made s new WeakReceiver).names reply.Made refl refl
 
       more : (new : HandleId) (kind : HandleKind) → Good sends s c (one_more s new kind)
       more new kind =
-          either_way (λ (a : Answer T). Good sends s c a) (nat_lt (2 ^ 63 - 1) (count kind s.channel))
-          (replying (spent s new) reply.TooMany) (replying (with_channel (with_count kind (count kind s.channel + 1) s.channel) (made s new kind)) reply.Made)
+          either_way (λ (a : Answer T). Good sends s c a) (nat_lt (2 ^ 63 - 1) (strong_handles kind s.channel))
+          (replying (spent s new) reply.TooMany) (replying (with_channel (with_strong_handles kind (strong_handles kind s.channel + 1) s.channel) (made s new kind)) reply.Made)
           (λ t. renamed (spent s new).names reply.TooMany refl refl)
-          (λ t. counted new kind (count kind s.channel + 1))
+          (λ t. counted new kind (strong_handles kind s.channel + 1))
 
       clone_handle : (new : HandleId) (o : Option Handle) → Good sends s c (clone_answer s new o)
       clone_handle new (Some h) = more new h.kind
@@ -511,7 +511,7 @@ module _ {T : Type 0} where
 
       upgrade : (new : HandleId) (o : Option Handle) → Good sends s c (upgrade_answer s new o)
       upgrade new (Some h) =
-          either_way (λ (a : Answer T). Good sends s c a) (s.channel.closed || (count (strong_of h.kind) s.channel == 0))
+          either_way (λ (a : Answer T). Good sends s c a) (s.channel.closed || (strong_handles (strong_of h.kind) s.channel == 0))
           (replying (spent s new) reply.NotMade) (one_more s new (strong_of h.kind))
           (λ t. renamed (spent s new).names reply.NotMade refl refl)
           (λ t. more new (strong_of h.kind))
@@ -601,8 +601,8 @@ module _ {T : Type 0} where
 
     send_unpolled : (lack : Lack) (op : OpId) (x : Space) → line_of s.names (Op op) ≡ Some Sends → space_of s.channel ≡ x → AllGood (call.Poll op) (send_not_polled lack s op x)
     send_unpolled lack op Open own e =
-        no_room (call.Poll op) lack Open (leaving Nothing Sends (Op op) s (reply.SendPoll (Ready (Err (refused lack)))))
-        (good (call.Poll op) (leaving Nothing Sends (Op op) s (reply.SendPoll (Ready (Err (refused lack))))) (awake_left Sends (Op op) own)
+        no_room (call.Poll op) lack Open (after_leaving Nothing Sends (Op op) s (reply.SendPoll (Ready (Err (refused lack)))))
+        (good (call.Poll op) (after_leaving Nothing Sends (Op op) s (reply.SendPoll (Ready (Err (refused lack))))) (awake_left Sends (Op op) own)
         (nothing_moved (call.Poll op) (reply.SendPoll (Ready (Err (refused lack)))) refl refl) refl refl)
     send_unpolled lack op Filled own e =
         out_of_line (call.Poll op) Sends (Op op) (reply.SendPoll (Ready (Err (refused lack)))) refl refl refl own (full_idle s.channel.capacity (length s.channel.messages) (space_filled s.channel e).1)
@@ -614,13 +614,13 @@ module _ {T : Type 0} where
         out_of_line (call.Poll op) Receives (Op op) (reply.RecvPoll (Ready (Err (refused lack)))) refl refl refl own (no_message (found_yet s.channel.messages s.channel.closed e).0)
     recv_unpolled lack op none_ever own e = none_good (call.Poll op)
 
-    unpolled : (lack : Lack) (op : OpId) (o : Option (Operation T)) → at op.0 s.names.operations ≡ o → AllGood (call.Poll op) (not_polled lack s op o)
-    unpolled lack op (Some (send handle (Some m))) there = send_unpolled lack op (space_of s.channel) (ap (λ (o : Option (Operation T)). line_of_operation o) there) refl
+    unpolled : (lack : Lack) (op : OpId) (o : Option (ModelOperation T)) → at op.0 s.names.operations ≡ o → AllGood (call.Poll op) (not_polled lack s op o)
+    unpolled lack op (Some (send handle (Some m))) there = send_unpolled lack op (space_of s.channel) (ap (λ (o : Option (ModelOperation T)). line_of_operation o) there) refl
     unpolled lack op (Some (send handle None)) there = none_good (call.Poll op)
-    unpolled lack op (Some (recv handle)) there = recv_unpolled lack op (found s.channel) (ap (λ (o : Option (Operation T)). line_of_operation o) there) refl
+    unpolled lack op (Some (recv handle)) there = recv_unpolled lack op (found s.channel) (ap (λ (o : Option (ModelOperation T)). line_of_operation o) there) refl
     unpolled lack op (Some (closing handle)) there =
         either_good (call.Poll op) s.channel.closed None (not_standing Closings (Op op) s (reply.ClosedPoll (Ready (Err (not_listening lack))))) (none_good (call.Poll op))
-        (out_of_line (call.Poll op) Closings (Op op) (reply.ClosedPoll (Ready (Err (not_listening lack)))) refl refl refl (ap (λ (o : Option (Operation T)). line_of_operation o) there) tt)
+        (out_of_line (call.Poll op) Closings (Op op) (reply.ClosedPoll (Ready (Err (not_listening lack)))) refl refl refl (ap (λ (o : Option (ModelOperation T)). line_of_operation o) there) tt)
     unpolled lack op None there = none_good (call.Poll op)
 
     next_unpolled : (lack : Lack) (receiver : HandleId) (x : Found T) → found s.channel ≡ x → AllGood (call.PollNext receiver) (next_not_polled lack s (Stream receiver) x)
@@ -739,7 +739,7 @@ module _ {T : Type 0} where
   -- ---- from any state
 
   -- the unfinished sends, each with its message
-  sends_of : Directory (Operation T) → List (ℕ × T)
+  sends_of : Directory (ModelOperation T) → List (ℕ × T)
   sends_of [] = []
   sends_of ((name, Some (send h (Some m))) ∷ d) = (name, m) ∷ sends_of d
   sends_of ((name, Some (send h None)) ∷ d) = sends_of d
@@ -747,7 +747,7 @@ module _ {T : Type 0} where
   sends_of ((name, Some (closing h)) ∷ d) = sends_of d
   sends_of ((name, None) ∷ d) = sends_of d
 
-  sends_found : (d : Directory (Operation T)) (n : ℕ) (h : HandleId) (m : T) → at n d ≡ Some (send h (Some m)) → lookup (nat_eq n) (sends_of d) ≡ Some m
+  sends_found : (d : Directory (ModelOperation T)) (n : ℕ) (h : HandleId) (m : T) → at n d ≡ Some (send h (Some m)) → lookup (nat_eq n) (sends_of d) ≡ Some m
   unfolding sends_of
   sends_found [] n h m e = cc e
   sends_found ((name, Some (send g (Some x))) ∷ d) n h m e = elim (decided (nat_eq n name)) [

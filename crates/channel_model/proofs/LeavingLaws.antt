@@ -1,11 +1,11 @@
 -- That messages leave in the order in which they were accepted, and that refused ones are not in the channel.
 use Rattle.std.proofs.Common.{arith, ◌≡◌, ◌<◌, ℕ, zero, suc, List, [], ◌∷◌, ◌++◌, length, Bool, true, false, if◌then◌else◌, Option, None, Some, is_none, slice_get, Ok, Err, refl, sym, ap, subst, ◌∙◌, inl, inr}
 use Rattle.std.proofs.lemmas.Cmp.{nat_eq_equiv}
-use Rattle.channel_model.specs.Answer.{Answer, replying, leaving, pending, displacing, space_of, Found, first, none_yet, none_ever, found, try_send_answer, force_send_answer, send_poll_answer, recv_poll_answer, poll_answer, poll_refused_answer}
+use Rattle.channel_model.specs.Answer.{Answer, replying, after_leaving, pending, displacing, space_of, Found, first, none_yet, none_ever, found, try_send_answer, force_send_answer, send_poll_answer, recv_poll_answer, poll_answer, poll_refused_answer}
 use Rattle.channel_model.specs.Laws.{removed, accepted}
 use Rattle.channel_model.specs.Leaving.{RefusesWhole, unsent_in, unsent_at}
 use Rattle.channel_model.specs.Lines.{is_among, untold, gone}
-use Rattle.channel_model.specs.Names.{Operation, send, recv, closing, at}
+use Rattle.channel_model.specs.Names.{ModelOperation, send, recv, closing, at}
 use Rattle.channel_model.specs.Refused.{Lack, memory, serials, refused, not_listening, not_standing, not_held, send_not_polled, recv_not_polled, not_polled, Answers}
 use Rattle.channel_model.specs.Run.{Does, Runs}
 use Rattle.channel_model.specs.State.{State, start, with_waiting}
@@ -78,14 +78,14 @@ module _ {T : Type 0} where
     -- the send has its message no more
     emptied : (op : OpId) (handle : HandleId) (m : T) → at op.0 s.names.operations ≡ Some (send handle (Some m)) → unsent_at op (send_poll_answer s op handle m Shut).after ≡ None
     emptied op handle m there =
-        ap (λ (o : Option (Operation T)). unsent_in o)
+        ap (λ (o : Option (ModelOperation T)). unsent_in o)
         (set_here op.0 op.0 (Some (send handle None)) s.names.operations (found_name op.0 s.names.operations (send handle (Some m)) there) (nat_eq_equiv.refl op.0))
 
     send_poll : (op : OpId) (handle : HandleId) (m : T) (x : Space) → at op.0 s.names.operations ≡ Some (send handle (Some m))
         → RefusesWhole s (call.Poll op) (send_poll_answer s op handle m x).reply (send_poll_answer s op handle m x).after
     send_poll op handle m Open there = tt
     send_poll op handle m Filled there = (refl, refl)
-    send_poll op handle m Shut there = (ap (λ (o : Option (Operation T)). unsent_in o) there, emptied op handle m there, refl)
+    send_poll op handle m Shut there = (ap (λ (o : Option (ModelOperation T)). unsent_in o) there, emptied op handle m there, refl)
 
     recv_poll : (op : OpId) (x : Found T) → RefusesWhole s (call.Poll op) (recv_poll_answer s op x).reply (recv_poll_answer s op x).after
     recv_poll op (first m ms) = tt
@@ -93,19 +93,19 @@ module _ {T : Type 0} where
     recv_poll op none_ever = tt
 
     closed_poll : (op : OpId) (b : Bool) →
-        RefusesWhole s (call.Poll op) (if b then leaving Nothing Closings (Op op) s (reply.ClosedPoll (Ready (Ok tt))) else pending Closings (Op op) s (reply.ClosedPoll Pending)).reply
-        (if b then leaving Nothing Closings (Op op) s (reply.ClosedPoll (Ready (Ok tt))) else pending Closings (Op op) s (reply.ClosedPoll Pending)).after
+        RefusesWhole s (call.Poll op) (if b then after_leaving Nothing Closings (Op op) s (reply.ClosedPoll (Ready (Ok tt))) else pending Closings (Op op) s (reply.ClosedPoll Pending)).reply
+        (if b then after_leaving Nothing Closings (Op op) s (reply.ClosedPoll (Ready (Ok tt))) else pending Closings (Op op) s (reply.ClosedPoll Pending)).after
     closed_poll op true = tt
     closed_poll op false = tt
 
-    poll : (op : OpId) (o : Option (Operation T)) → at op.0 s.names.operations ≡ o → RefusesWhole s (call.Poll op) (poll_answer s op o).reply (poll_answer s op o).after
+    poll : (op : OpId) (o : Option (ModelOperation T)) → at op.0 s.names.operations ≡ o → RefusesWhole s (call.Poll op) (poll_answer s op o).reply (poll_answer s op o).after
     poll op (Some (send handle (Some m))) there = send_poll op handle m (space_of s.channel) there
     poll op (Some (send handle None)) there = (refl, refl)
     poll op (Some (recv handle)) there = recv_poll op (found s.channel)
     poll op (Some (closing handle)) there = closed_poll op s.channel.closed
     poll op None there = tt
 
-    poll_refused : (op : OpId) (o : Option (Operation T)) → RefusesWhole s (call.PollRefused op) (poll_refused_answer s op o).reply (poll_refused_answer s op o).after
+    poll_refused : (op : OpId) (o : Option (ModelOperation T)) → RefusesWhole s (call.PollRefused op) (poll_refused_answer s op o).reply (poll_refused_answer s op o).after
     poll_refused op (Some (send handle msg)) = (refl, refl)
     poll_refused op (Some (recv handle)) = tt
     poll_refused op (Some (closing handle)) = tt
@@ -125,7 +125,7 @@ module _ {T : Type 0} where
         (one_whole c (replying (with_waiting (gone w s.waiting) s) r) good)
 
     send_unpolled : (lack : Lack) (op : OpId) (x : Space) → AllWhole (call.Poll op) (send_not_polled lack s op x)
-    send_unpolled memory op Open = no_room (call.Poll op) memory Open (leaving Nothing Sends (Op op) s (reply.SendPoll (Ready (Err (refused memory))))) (refl, refl)
+    send_unpolled memory op Open = no_room (call.Poll op) memory Open (after_leaving Nothing Sends (Op op) s (reply.SendPoll (Ready (Err (refused memory))))) (refl, refl)
     send_unpolled serials op Open = none_whole (call.Poll op)
     send_unpolled memory op Filled = out_of_line (call.Poll op) Sends (Op op) (reply.SendPoll (Ready (Err (refused memory)))) (refl, refl)
     send_unpolled serials op Filled = out_of_line (call.Poll op) Sends (Op op) (reply.SendPoll (Ready (Err (refused serials)))) (refl, refl)
@@ -136,7 +136,7 @@ module _ {T : Type 0} where
     recv_unpolled lack op none_yet = out_of_line (call.Poll op) Receives (Op op) (reply.RecvPoll (Ready (Err (refused lack)))) tt
     recv_unpolled lack op none_ever = none_whole (call.Poll op)
 
-    unpolled : (lack : Lack) (op : OpId) (o : Option (Operation T)) → AllWhole (call.Poll op) (not_polled lack s op o)
+    unpolled : (lack : Lack) (op : OpId) (o : Option (ModelOperation T)) → AllWhole (call.Poll op) (not_polled lack s op o)
     unpolled lack op (Some (send handle (Some m))) = send_unpolled lack op (space_of s.channel)
     unpolled lack op (Some (send handle None)) = none_whole (call.Poll op)
     unpolled lack op (Some (recv handle)) = recv_unpolled lack op (found s.channel)

@@ -3,7 +3,7 @@ use Rattle.std.proofs.Common.{arith, ◌≡◌, ◌+◌, ◌-◌, ℕ, nat_eq, L
 use Rattle.std.specs.List.{filter}
 use Rattle.std.specs.Option.{option_map_or}
 use Rattle.channel_model.specs.Handles.{is_of, live_of}
-use Rattle.channel_model.specs.Names.{Directory, at, lent, given_back, with_changed, without}
+use Rattle.channel_model.specs.Names.{Directory, at, lent_once_more, given_back, with_changed, without_name}
 use Rattle.channel_model.specs.Refusal.{are_alike}
 use Rattle.channel_model.specs.declared.name.Handle.{Handle}
 use Rattle.channel_model.specs.declared.name.HandleId.{HandleId}
@@ -45,17 +45,17 @@ module _ (side : HandleKind) (name : ℕ) where
   ]
 
   -- one that lives no more is counted no more
-  pub gone_less : (h : Handle) (d : Directory Handle) → at name d ≡ Some h → live_of side d ≡ live_of side (without name d) + cond (are_alike side h.kind) 1 0
+  pub gone_less : (h : Handle) (d : Directory Handle) → at name d ≡ Some h → live_of side d ≡ live_of side (without_name name d) + cond (are_alike side h.kind) 1 0
   gone_less h [] there = cc there
   gone_less h ((k, o) ∷ d) there = elim (decided (nat_eq name k)) [
     | inl t ↦
         let here : o ≡ Some h = rw t at there in
         rw t (more_front (is_of side o) (are_alike side h.kind) (k, o) (filter (λ (f : ℕ × Option Handle). is_of side f.1) d) (ap (λ (p : Option Handle). is_of side p) here))
-    | inr t ↦ rw t (more_behind (is_of side o) (k, o) (filter (λ (f : ℕ × Option Handle). is_of side f.1) d) (filter (λ (f : ℕ × Option Handle). is_of side f.1) (without name d))
+    | inr t ↦ rw t (more_behind (is_of side o) (k, o) (filter (λ (f : ℕ × Option Handle). is_of side f.1) d) (filter (λ (f : ℕ × Option Handle). is_of side f.1) (without_name name d))
         (cond (are_alike side h.kind) 1 0) (gone_less h d (rw t at there)))
   ]
 
-pub lent_alike : (side : HandleKind) (handle : HandleId) (d : Directory Handle) → live_of side (lent handle d) ≡ live_of side d
+pub lent_alike : (side : HandleKind) (handle : HandleId) (d : Directory Handle) → live_of side (lent_once_more handle d) ≡ live_of side d
 lent_alike side handle d = found (at handle.0 d) refl where
   found : (o : Option Handle) → at handle.0 d ≡ o
       → live_of side (option_map_or (λ (h : Handle). with_changed handle.0 (record h { borrowers = h.borrowers + 1 }) d) o d) ≡ live_of side d

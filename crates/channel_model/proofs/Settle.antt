@@ -1,14 +1,14 @@
 -- Settling ends: each poll of the oldest woken one brings it nearer, and with w pending it makes no more than w(w+1)/2 polls.
-use Rattle.std.proofs.Common.{arith, ◌≡◌, ◌⊎◌, ◌≤◌, ◌+◌, ◌*◌, ℕ, zero, suc, List, [], ◌∷◌, ◌++◌, length, take, drop, Bool, true, false, cond, if◌then◌else◌, not, Option, None, Some, IsSome, is_none, Ok, Err, refl, sym, ap, subst, ◌∙◌, ◌&&◌, inl, inr, length-append, append-nil, append_assoc, mul-le-mul_left}
+use Rattle.std.proofs.Common.{arith, ◌≡◌, ◌⊎◌, ◌≤◌, ◌+◌, ◌*◌, ℕ, zero, suc, List, [], ◌∷◌, ◌++◌, length, take, drop, Bool, true, false, cond, if◌then◌else◌, not, Option, None, Some, IsSome, is_none, Ok, Err, refl, sym, ap, subst, ◌∙◌, ◌&&◌, inl, inr, length-append, append-nil, append_assoc}
 use Rattle.std.proofs.Math.Nat.{suc-mul, mul-suc}
 use Rattle.std.specs.List.{filter, list_any}
 use Rattle.std.proofs.lemmas.List.Elements.{filter-append}
 use Rattle.std.specs.Prelude.{slice_get}
-use Rattle.channel_model.specs.Answer.{Answer, replying, leaving, pending, space_of, Found, first, none_yet, none_ever, found, send_poll_answer, recv_poll_answer, next_answer, closed_poll_answer, poll_answer, answer}
+use Rattle.channel_model.specs.Answer.{Answer, replying, after_leaving, pending, space_of, Found, first, none_yet, none_ever, found, send_poll_answer, recv_poll_answer, next_answer, closed_poll_answer, poll_answer, answer}
 use Rattle.channel_model.specs.Awake.{AwakeIn, Enough, Kind, Placed, times}
 use Rattle.channel_model.specs.Laws.{count_of, free_places, line_of, line_of_operation}
-use Rattle.channel_model.specs.Lines.{Waiting, same_waiter, is_among, untold, told_by, after_news, without, gone, passed_on, left_after, told_after, at_end, standing, is_stream}
-use Rattle.channel_model.specs.Names.{Names, Operation, send, recv, closing, at}
+use Rattle.channel_model.specs.Lines.{Waiting, same_waiter, is_among, untold, told_by, after_news, without_waiter, gone, passed_on, left_after, told_after, at_end, standing, is_stream}
+use Rattle.channel_model.specs.Names.{ModelOperation, send, recv, closing, at}
 use Rattle.channel_model.specs.Refused.{Lack, memory, serials, refused, not_listening, not_standing, not_held, send_not_polled, recv_not_polled, not_polled, next_not_polled, answer_without, Answers}
 use Rattle.channel_model.specs.Settling.{poll_of, Settles, SettlesTo, NobodyGoesOn, pending_count, pairs, polls_left}
 use Rattle.channel_model.specs.State.{State, with_waiting}
@@ -26,7 +26,7 @@ use Rattle.channel_model.specs.declared.name.OpId.{OpId}
 use Rattle.channel_model.specs.declared.name.HandleId.{HandleId}
 use Rattle.futures.specs.declared.task.Poll.TheVariants.{Ready, Pending}
 use Rattle.channel_model.proofs.WaiterLemmas.{decided, same_refl, same_sound, none_left, without_absent}
-use Rattle.channel_model.proofs.Counting.{among_counts, among_self, count_append, count_split, or_right}
+use Rattle.channel_model.proofs.Counting.{among_counts, count_append, count_split}
 use Rattle.channel_model.proofs.Awake.{told_stood}
 use Rattle.channel_model.proofs.LawSteps.{poll_awake}
 
@@ -59,12 +59,12 @@ one_more : (b : Bool) (x : Waiter) (ys zs : List Waiter) → length ys ≤ lengt
 one_more true x ys zs h = omega (arith, h)
 one_more false x ys zs h = omega (arith, h)
 
-fewer : (w : Waiter) (ws : List Waiter) → length (without w ws) ≤ length ws
+fewer : (w : Waiter) (ws : List Waiter) → length (without_waiter w ws) ≤ length ws
 fewer w [] = omega arith
-fewer w (v ∷ vs) = one_more (not (same_waiter w v)) v (without w vs) vs (fewer w vs)
+fewer w (v ∷ vs) = one_more (not (same_waiter w v)) v (without_waiter w vs) vs (fewer w vs)
 
 -- one who is there leaves fewer behind
-one_fewer : (w : Waiter) (ws : List Waiter) → is_among w ws ≡ true → suc (length (without w ws)) ≤ length ws
+one_fewer : (w : Waiter) (ws : List Waiter) → is_among w ws ≡ true → suc (length (without_waiter w ws)) ≤ length ws
 one_fewer w [] e = cc e
 one_fewer w (v ∷ vs) e = elim (decided (same_waiter w v)) [
   | inl t ↦ let h = fewer w vs in rw t (omega (arith, h))
@@ -78,12 +78,12 @@ woken_gone : (w : Waiter) (l : Waiting) → is_among w l.woken ≡ true → suc 
 woken_gone w l e = omega (arith, fewer w l.sends, fewer w l.receives, fewer w l.streams, fewer w l.closings, one_fewer w l.woken e)
 
 size_end : (line : Line) (w : Waiter) (l : Waiting) → pending_count (at_end line w l) ≡ suc (pending_count (gone w l))
-size_end Sends w l = omega (arith, length-append (without w l.sends) (w ∷ []))
-size_end Receives w l = omega (arith, length-append (without w l.receives) (w ∷ []))
-size_end Streams w l = omega (arith, length-append (without w l.streams) (w ∷ []))
-size_end Closings w l = omega (arith, length-append (without w l.closings) (w ∷ []))
+size_end Sends w l = omega (arith, length-append (without_waiter w l.sends) (w ∷ []))
+size_end Receives w l = omega (arith, length-append (without_waiter w l.receives) (w ∷ []))
+size_end Streams w l = omega (arith, length-append (without_waiter w l.streams) (w ∷ []))
+size_end Closings w l = omega (arith, length-append (without_waiter w l.closings) (w ∷ []))
 
-woken_end : (line : Line) (w : Waiter) (l : Waiting) → (at_end line w l).woken ≡ without w l.woken
+woken_end : (line : Line) (w : Waiter) (l : Waiting) → (at_end line w l).woken ≡ without_waiter w l.woken
 woken_end Sends w l = refl
 woken_end Receives w l = refl
 woken_end Streams w l = refl
@@ -147,7 +147,7 @@ again_nearer w l e =
     let b = woken_gone w l e in
     let c = one_fewer w l.woken e in
     let d = size_gone w (gone w l) in
-    let f = fewer w (without w l.woken) in
+    let f = fewer w (without_waiter w l.woken) in
     rw off (inr (omega (arith, a, b, d), omega (arith, c, f)))
 
 -- one who is woken is not untold
@@ -211,11 +211,11 @@ module _ {T : Type 0} where
 
     closed_so : (op : OpId) → Cases (Op op) s.waiting P → So (closed_poll_answer s op)
     closed_so op c =
-        either_way So s.channel.closed (leaving Nothing Closings (Op op) s (reply.ClosedPoll (Ready (Ok tt)))) (pending Closings (Op op) s (reply.ClosedPoll Pending))
+        either_way So s.channel.closed (after_leaving Nothing Closings (Op op) s (reply.ClosedPoll (Ready (Ok tt)))) (pending Closings (Op op) s (reply.ClosedPoll Pending))
         (λ t. c.left Nothing tt Closings) (λ t. c.stands Closings)
 
     -- who is woken belongs to a line
-    poll_so : (op : OpId) (o : Option (Operation T)) → IsSome (line_of_operation o) → Cases (Op op) s.waiting P → So (poll_answer s op o)
+    poll_so : (op : OpId) (o : Option (ModelOperation T)) → IsSome (line_of_operation o) → Cases (Op op) s.waiting P → So (poll_answer s op o)
     poll_so op (Some (send handle (Some m))) h c = send_so op handle m (space_of s.channel) c
     poll_so op (Some (send handle None)) h c = cc h
     poll_so op (Some (recv handle)) h c = recv_so op (found s.channel) c
@@ -258,7 +258,7 @@ module _ {T : Type 0} where
 
     send_refused : (lack : Lack) (op : OpId) (x : Space) → Cases (Op op) s.waiting P → AllSo (send_not_polled lack s op x)
     send_refused lack op Open c =
-        unheld lack Open (leaving Nothing Sends (Op op) s (reply.SendPoll (Ready (Err (refused lack))))) (c.left Nothing tt Sends)
+        unheld lack Open (after_leaving Nothing Sends (Op op) s (reply.SendPoll (Ready (Err (refused lack))))) (c.left Nothing tt Sends)
     send_refused lack op Filled c = out_of_line Sends (Op op) (reply.SendPoll (Ready (Err (refused lack)))) c
     send_refused lack op Shut c = none_so
 
@@ -267,7 +267,7 @@ module _ {T : Type 0} where
     recv_refused lack op none_yet c = out_of_line Receives (Op op) (reply.RecvPoll (Ready (Err (refused lack)))) c
     recv_refused lack op none_ever c = none_so
 
-    poll_refused : (lack : Lack) (op : OpId) (o : Option (Operation T)) → Cases (Op op) s.waiting P → AllSo (not_polled lack s op o)
+    poll_refused : (lack : Lack) (op : OpId) (o : Option (ModelOperation T)) → Cases (Op op) s.waiting P → AllSo (not_polled lack s op o)
     poll_refused lack op (Some (send handle (Some m))) c = send_refused lack op (space_of s.channel) c
     poll_refused lack op (Some (send handle None)) c = none_so
     poll_refused lack op (Some (recv handle)) c = recv_refused lack op (found s.channel) c
@@ -324,7 +324,7 @@ nearer s awake w a e answers =
 -- ---- the woken are a queue: the one that is polled leaves its front, and those whom it wakes come to its end
 
 pub Follows : Waiter → Waiting → Waiting → List Waiter → Type 0
-Follows w l m names = m.woken ≡ without w l.woken ++ names
+Follows w l m names = m.woken ≡ without_waiter w l.woken ++ names
 
 not_told : (k : Kind) (news : News) (w : Waiter) (l : Waiting) → Placed k l → is_among w l.woken ≡ true → is_among w (told_by news l) ≡ false
 not_told k news w l p e = by (decided (is_among w (told_by news l)))
@@ -343,17 +343,17 @@ module _ (k : Kind) (w : Waiter) (l : Waiting) (placed : Placed k l) (e : is_amo
       let told = after_news news l in
       let new = told_by news l in
       let more = told_by (passed_on line w told) (gone w told) in
-      let kept : without w new ≡ new = without_absent w new (not_told k news w l placed e) in
+      let kept : without_waiter w new ≡ new = without_absent w new (not_told k news w l placed e) in
       ap (λ (ws : List Waiter). ws ++ more) (filter-append (λ (v : Waiter). not (same_waiter w v)) l.woken new)
-      ∙ (ap (λ (ws : List Waiter). (without w l.woken ++ ws) ++ more) kept ∙ append_assoc (without w l.woken) new more)
+      ∙ (ap (λ (ws : List Waiter). (without_waiter w l.woken ++ ws) ++ more) kept ∙ append_assoc (without_waiter w l.woken) new more)
 
   stands_follows : (line : Line) → Follows w l (standing line w l) []
   unfolding Follows
-  stands_follows line = rw (not_untold k line w l placed e) (woken_end line w l ∙ sym (append-nil (without w l.woken)))
+  stands_follows line = rw (not_untold k line w l placed e) (woken_end line w l ∙ sym (append-nil (without_waiter w l.woken)))
 
   leaves_follows : Follows w l (gone w l) []
   unfolding Follows
-  leaves_follows = sym (append-nil (without w l.woken))
+  leaves_follows = sym (append-nil (without_waiter w l.woken))
 
   takes_follows : Follows w l (after_news Room (gone w l)) (told_by Room (gone w l))
   unfolding Follows
@@ -363,7 +363,7 @@ module _ (k : Kind) (w : Waiter) (l : Waiting) (placed : Placed k l) (e : is_amo
   unfolding Follows
   again_follows =
       rw (none_left w l.streams)
-      (woken_end Streams w (gone w l) ∙ (without_absent w (without w l.woken) (none_left w l.woken) ∙ sym (append-nil (without w l.woken))))
+      (woken_end Streams w (gone w l) ∙ (without_absent w (without_waiter w l.woken) (none_left w l.woken) ∙ sym (append-nil (without_waiter w l.woken))))
 
   follow_cases : Cases w l (λ m names. Follows w l m names)
   follow_cases = record { left = λ news brief line. left_follows news line; stands = stands_follows; takes = takes_follows; leaves = leaves_follows; again = again_follows }
@@ -378,12 +378,12 @@ first_absent w ws h = by (decided (is_among w ws))
     by (inr t) = t
     by (inl t) = absurd (let one = among_counts w ws t in omega (arith, h, here, one))
 
-without_first : (w : Waiter) (ws : List Waiter) → slice_get ws 0 ≡ Some w → times w ws ≤ 1 → without w ws ≡ drop 1 ws
+without_first : (w : Waiter) (ws : List Waiter) → slice_get ws 0 ≡ Some w → times w ws ≤ 1 → without_waiter w ws ≡ drop 1 ws
 without_first w [] e h = refl
 without_first w (x ∷ xs) e h =
     let same : w ≡ x = cc e in
     let absent : is_among w xs ≡ false = first_absent w xs (subst (λ (v : Waiter). times w (v ∷ xs) ≤ 1) (sym same) h) in
-    subst (λ (v : Waiter). without w (v ∷ xs) ≡ xs) same (rw (same_refl w) (without_absent w xs absent))
+    subst (λ (v : Waiter). without_waiter w (v ∷ xs) ≡ xs) same (rw (same_refl w) (without_absent w xs absent))
 
 -- so whoever settles may keep the woken in a queue of its own
 pub woken_next : {T : Type 0} → (s : State T) → AwakeIn s → (w : Waiter) (a : Answer T) → slice_get s.waiting.woken 0 ≡ Some w → Answers s (poll_of w) a
@@ -392,7 +392,7 @@ unfolding Follows
 woken_next s awake w a front answers =
     let e = first_there w s.waiting.woken front in
     let all : times w s.waiting.sends + times w s.waiting.receives + times w s.waiting.streams + times w s.waiting.closings + times w s.waiting.woken ≤ 1 = awake.placed.once w in
-    let f : a.after.waiting.woken ≡ without w s.waiting.woken ++ a.woken =
+    let f : a.after.waiting.woken ≡ without_waiter w s.waiting.woken ++ a.woken =
     poll_cases s (λ m names. Follows w s.waiting m names) awake w a e answers (follow_cases (line_of s.names) w s.waiting awake.placed e) in
     f ∙ ap (λ (ws : List Waiter). ws ++ a.woken) (without_first w s.waiting.woken front (omega (arith, all)))
 
@@ -409,7 +409,7 @@ few_first false line l = omega arith
 pub few_passed : (line : Line) (w : Waiter) (l m : Waiting) → length (told_by (passed_on line w l) m) ≤ 1
 few_passed Sends w l m = few_first (is_among w l.woken) Sends m
 few_passed Receives w l m = few_first (is_among w l.woken) Receives m
-few_passed Streams w l m = few_first (is_among w l.woken && not (list_any is_stream (without w l.woken))) Streams m
+few_passed Streams w l m = few_first (is_among w l.woken && not (list_any is_stream (without_waiter w l.woken))) Streams m
 few_passed Closings w l m = omega arith
 
 few_told : (news : News) (l : Waiting) → IsBrief news → length (told_by news l) ≤ 1 + length l.streams
@@ -454,14 +454,14 @@ count_head p v vs = by (p v)
     by true = omega arith
     by false = omega arith
 
-count_without : (p : Waiter → Bool) (w : Waiter) (ws : List Waiter) → length (filter p (without w ws)) ≤ length (filter p ws)
+count_without : (p : Waiter → Bool) (w : Waiter) (ws : List Waiter) → length (filter p (without_waiter w ws)) ≤ length (filter p ws)
 count_without p w [] = omega arith
 count_without p w (v ∷ vs) = elim (decided (same_waiter w v)) [
   | inl t ↦ let h = count_without p w vs in let k = count_head p v vs in rw t (omega (arith, h, k))
-  | inr t ↦ let h = count_without p w vs in let k = count_head p v vs in let j = count_head p v (without w vs) in rw t (omega (arith, h, k, j))
+  | inr t ↦ let h = count_without p w vs in let k = count_head p v vs in let j = count_head p v (without_waiter w vs) in rw t (omega (arith, h, k, j))
 ]
 
-count_without_one : (p : Waiter → Bool) (w : Waiter) (ws : List Waiter) → is_among w ws ≡ true → length (filter p (without w ws)) + one_if (p w) ≤ length (filter p ws)
+count_without_one : (p : Waiter → Bool) (w : Waiter) (ws : List Waiter) → is_among w ws ≡ true → length (filter p (without_waiter w ws)) + one_if (p w) ≤ length (filter p ws)
 count_without_one p w [] e = cc e
 count_without_one p w (v ∷ vs) e = elim (decided (same_waiter w v)) [
   | inl t ↦
@@ -472,7 +472,7 @@ count_without_one p w (v ∷ vs) e = elim (decided (same_waiter w v)) [
   | inr t ↦
       let h = count_without_one p w vs (rw t at e) in
       let k = count_head p v vs in
-      let j = count_head p v (without w vs) in
+      let j = count_head p v (without_waiter w vs) in
       rw t (omega (arith, h, k, j))
 ]
 
@@ -485,135 +485,10 @@ count_gone_one p w l e =
     omega (arith, count_without p w l.sends, count_without p w l.receives, count_without p w l.streams, count_without p w l.closings, count_without_one p w l.woken e)
 
 pub count_end : (p : Waiter → Bool) (line : Line) (w : Waiter) (l : Waiting) → count_all p (at_end line w l) ≡ count_all p (gone w l) + one_if (p w)
-count_end p Sends w l = omega (arith, count_append p (without w l.sends) (w ∷ []), count_head p w [])
-count_end p Receives w l = omega (arith, count_append p (without w l.receives) (w ∷ []), count_head p w [])
-count_end p Streams w l = omega (arith, count_append p (without w l.streams) (w ∷ []), count_head p w [])
-count_end p Closings w l = omega (arith, count_append p (without w l.closings) (w ∷ []), count_head p w [])
-
--- ---- a bound that grows with the streams alone
-
--- one that leaves wakes at most two more than there are streams; one that stands wakes nobody; no more streams are pending
-pub record Wakes (l m : Waiting) (names : List Waiter) : Type 0 where
-  pub streams : count_all is_stream m ≤ count_all is_stream l
-  pub few : ((suc (pending_count m) ≤ pending_count l) × (length names ≤ 2 + length l.streams)) ⊎ ((pending_count m ≤ pending_count l) × (names ≡ []))
-
-module _ (k : Kind) (w : Waiter) (l : Waiting) (placed : Placed k l) (e : is_among w l.woken ≡ true) where
-  left_wakes : (news : News) → IsBrief news → (line : Line) → Wakes l (left_after news line w l) (told_after news line w l)
-  left_wakes news brief line =
-      let told = after_news news l in
-      let there : is_among w told.woken ≡ true = front_stays w l.woken (told_by news l) e in
-      let a = size_news (passed_on line w told) (gone w told) in
-      let b = woken_gone w told there in
-      let c = size_news news l in
-      let s = count_news is_stream (passed_on line w told) (gone w told) in
-      let t = count_gone is_stream w told in
-      let u = count_news is_stream news l in
-      let f = few_told news l brief in
-      let g = few_passed line w told (gone w told) in
-      let j = length-append (told_by news l) (told_by (passed_on line w told) (gone w told)) in
-      record { streams = omega (arith, s, t, u); few = inl (omega (arith, a, b, c), omega (arith, f, g, j)) }
-
-  end_wakes : (line : Line) → Wakes l (at_end line w l) []
-  end_wakes line =
-      let a = size_end line w l in
-      let b = woken_gone w l e in
-      let c = count_end is_stream line w l in
-      let d = count_gone_one is_stream w l e in
-      record { streams = omega (arith, c, d); few = inr (omega (arith, a, b), refl) }
-
-  again_wakes : Wakes l (standing Streams w (gone w l)) []
-  again_wakes =
-      let off : is_among w (untold Streams (gone w l)) ≡ false = none_left w l.streams in
-      let a = size_end Streams w (gone w l) in
-      let b = woken_gone w l e in
-      let c = count_end is_stream Streams w (gone w l) in
-      let d = count_gone_one is_stream w l e in
-      let f = count_gone is_stream w (gone w l) in
-      let g = size_gone w (gone w l) in
-      rw off (record { streams = omega (arith, c, d, f); few = inr (omega (arith, a, b, g), refl) })
-
-  takes_wakes : Wakes l (after_news Room (gone w l)) (told_by Room (gone w l))
-  takes_wakes =
-      let a = size_news Room (gone w l) in
-      let b = woken_gone w l e in
-      let s = count_news is_stream Room (gone w l) in
-      let t = count_gone is_stream w l in
-      let f = first_one (gone w l).sends in
-      record { streams = omega (arith, s, t); few = inl (omega (arith, a, b), omega (arith, f)) }
-
-  wake_cases : Cases w l (λ m names. Wakes l m names)
-  wake_cases = record {
-    left = left_wakes;
-    stands = λ line. rw (not_untold k line w l placed e) (end_wakes line);
-    takes = takes_wakes;
-    leaves = record { streams = count_gone is_stream w l; few = inl (woken_gone w l e, omega arith) };
-    again = again_wakes;
-  }
-
--- who stands in the line of streams is a stream
-no_stream : {T : Type 0} → (o : Option (Operation T)) → line_of_operation o ≡ Some Streams → ⊥
-no_stream (Some (send handle (Some m))) e = let no : Some Sends ≡ Some Streams = e in cc
-no_stream (Some (send handle None)) e = cc e
-no_stream (Some (recv handle)) e = let no : Some Receives ≡ Some Streams = e in cc
-no_stream (Some (closing handle)) e = let no : Some Closings ≡ Some Streams = e in cc
-no_stream None e = cc e
-
-all_streams : {T : Type 0} → (names : Names T) (ws : List Waiter) → ((w : Waiter) → is_among w ws ≡ true → line_of names w ≡ Some Streams)
-    → length ws ≤ length (filter is_stream ws)
-all_streams names [] h = omega arith
-all_streams names (Stream r ∷ ws) h =
-    let on = all_streams names ws (λ w e. h w (or_right (same_waiter w (Stream r)) (is_among w ws) e)) in omega (arith, on)
-all_streams names (Op op ∷ ws) h = absurd (no_stream (at op.0 names.operations) (h (Op op) (among_self (Op op) ws)))
-
-module _ {T : Type 0} where
-  -- with so many streams pending at most, each poll brings the end nearer by one
-  pub streams_nearer : (n : ℕ) (s : State T) → AwakeIn s → count_all is_stream s.waiting ≤ n → (w : Waiter) (a : Answer T)
-      → slice_get s.waiting.woken 0 ≡ Some w → Answers s (poll_of w) a
-      → (count_all is_stream a.after.waiting ≤ n)
-      × (suc (length a.after.waiting.woken + (2 + n) * pending_count a.after.waiting) ≤ length s.waiting.woken + (2 + n) * pending_count s.waiting)
-  streams_nearer n s awake most w a front answers =
-      let e = first_there w s.waiting.woken front in
-      let x : Wakes s.waiting a.after.waiting a.woken =
-      poll_cases s (λ m names. Wakes s.waiting m names) awake w a e answers (wake_cases (line_of s.names) w s.waiting awake.placed e) in
-      let few = all_streams s.names s.waiting.streams (awake.placed.lines Streams) in
-      let streams = x.streams in
-      let next = ap (λ (ws : List Waiter). length ws) (woken_next s awake w a front answers) ∙ length-append (drop 1 s.waiting.woken) a.woken in
-      let one = split_length s.waiting.woken in
-      let some = first_some w s.waiting.woken front in
-      let short : length (drop 1 s.waiting.woken) + 1 ≡ length s.waiting.woken = dropped s.waiting.woken some in
-      (omega (arith, most, streams), by x.few next short few)
-    where
-      dropped : (ws : List Waiter) → 1 ≤ length ws → length (drop 1 ws) + 1 ≡ length ws
-      dropped [] h = absurd (omega (arith, h))
-      dropped (v ∷ vs) h = omega arith
-
-      by : ((suc (pending_count a.after.waiting) ≤ pending_count s.waiting) × (length a.woken ≤ 2 + length s.waiting.streams))
-          ⊎ ((pending_count a.after.waiting ≤ pending_count s.waiting) × (a.woken ≡ []))
-          → length a.after.waiting.woken ≡ length (drop 1 s.waiting.woken) + length a.woken
-          → length (drop 1 s.waiting.woken) + 1 ≡ length s.waiting.woken
-          → length s.waiting.streams ≤ length (filter is_stream s.waiting.streams)
-          → suc (length a.after.waiting.woken + (2 + n) * pending_count a.after.waiting) ≤ length s.waiting.woken + (2 + n) * pending_count s.waiting
-      by (inl (less, names)) next short few =
-          let up = mul-le-mul_left (2 + n) less in
-          let more = mul-suc (2 + n) (pending_count a.after.waiting) in
-          omega (arith, up, more, names, next, short, few, most)
-      by (inr (less, none)) next short few =
-          let up = mul-le-mul_left (2 + n) less in
-          let zero_names = ap (λ (ws : List Waiter). length ws) none in
-          omega (arith, up, zero_names, next, short)
-
-  -- however it is answered, settling makes no more polls than this
-  pub polled_by_streams : (n : ℕ) (s t : State T) (ps : List (Waiter × Reply T)) → AwakeIn s → count_all is_stream s.waiting ≤ n → SettlesTo s ps t
-      → length ps + (length t.waiting.woken + (2 + n) * pending_count t.waiting) ≤ length s.waiting.woken + (2 + n) * pending_count s.waiting
-  polled_by_streams n s t [] awake most same =
-      subst (λ (x : State T). 0 + (length x.waiting.woken + (2 + n) * pending_count x.waiting) ≤ length s.waiting.woken + (2 + n) * pending_count s.waiting)
-      (sym same) (omega arith)
-  polled_by_streams n s t (p ∷ ps) awake most (front, (mid, names, answers, more)) =
-      let a : Answer T = record { after = mid; reply = p.1; woken = names } in
-      let next = streams_nearer n s awake most p.0 a front answers in
-      let nearer = next.1 in
-      let on = polled_by_streams n mid t ps (poll_awake s p.0 a awake answers) next.0 more in
-      omega (arith, nearer, on)
+count_end p Sends w l = omega (arith, count_append p (without_waiter w l.sends) (w ∷ []), count_head p w [])
+count_end p Receives w l = omega (arith, count_append p (without_waiter w l.receives) (w ∷ []), count_head p w [])
+count_end p Streams w l = omega (arith, count_append p (without_waiter w l.streams) (w ∷ []), count_head p w [])
+count_end p Closings w l = omega (arith, count_append p (without_waiter w l.closings) (w ∷ []), count_head p w [])
 
 -- ---- how many polls are left
 

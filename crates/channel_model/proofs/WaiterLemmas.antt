@@ -1,11 +1,11 @@
 -- Names in lists, and names as the keys of entries.
-use Rattle.std.proofs.Common.{arith, ◌≡◌, ◌⊎◌, ℕ, nat_eq, List, [], ◌∷◌, Bool, true, false, ◌||◌, not, cond, None, Some, IsSome, refl, sym, ap, subst, inl, inr}
+use Rattle.std.proofs.Common.{arith, ◌≡◌, ◌⊎◌, ℕ, nat_eq, List, [], ◌∷◌, Bool, true, false, ◌||◌, not, cond, None, Some, refl, sym, ap, subst, inl, inr}
 use Rattle.std.specs.List.{IsDistinct, AllByRecursion}
 use Rattle.std.specs.Cmp.{IsEquivalence}
 use Rattle.std.proofs.lemmas.Cmp.{nat_eq_equiv}
 use Rattle.std.proofs.lemmas.Bool.Decides.{nat_tests}
-use Rattle.std.specs.Map.{keys_of, lookup, lookup_entry, remove_entry, set_value}
-use Rattle.channel_model.specs.Lines.{Waiting, same_waiter, is_among, without, untold, gone}
+use Rattle.std.specs.Map.{keys_of, lookup_entry, remove_entry}
+use Rattle.channel_model.specs.Lines.{Waiting, same_waiter, is_among, without_waiter, untold, gone}
 use Rattle.channel_model.specs.declared.name.Waiter.{Waiter}
 use Rattle.channel_model.specs.contracts.name.WaiterPartialEq.TheImpl as derived
 use Rattle.channel_model.specs.declared.name.Waiter.TheVariants.{Op, Stream}
@@ -69,9 +69,9 @@ keeps_head true r v vs kept e h = cc e
 keeps_head false r v vs kept e h = ap (λ xs. v ∷ xs) (h e)
 
 -- to take out one who isn't there changes nothing
-pub without_absent : (w : Waiter) (ws : List Waiter) → is_among w ws ≡ false → without w ws ≡ ws
+pub without_absent : (w : Waiter) (ws : List Waiter) → is_among w ws ≡ false → without_waiter w ws ≡ ws
 without_absent w [] e = refl
-without_absent w (v ∷ vs) e = keeps_head (same_waiter w v) (is_among w vs) v vs (without w vs) e (without_absent w vs)
+without_absent w (v ∷ vs) e = keeps_head (same_waiter w v) (is_among w vs) v vs (without_waiter w vs) e (without_absent w vs)
 
 not_among_others : (w : Waiter) (ws : List Waiter) → AllByRecursion (λ v. same_waiter w v ≡ false) ws → is_among w ws ≡ false
 not_among_others w [] h = refl
@@ -93,13 +93,6 @@ module _ {X : Type 0} (w : Waiter) where
   no_entry [] e = refl
   no_entry (f ∷ es) e = let h = or_false (same_waiter w f.0) (is_among w (keys_of es)) e in rw h.0 (no_entry es h.1)
 
-  pub lookup_from_entry : (es : List (Waiter × X)) → lookup_entry (same_waiter w) es ≡ None → lookup (same_waiter w) es ≡ None
-  lookup_from_entry [] e = refl
-  lookup_from_entry (f ∷ es) e = elim (decided (same_waiter w f.0)) [
-    | inl t ↦ cc (rw t at e)
-    | inr t ↦ rw t (lookup_from_entry es (rw t at e))
-  ]
-
   pub entry_is : (es : List (Waiter × X)) (g : Waiter × X) → lookup_entry (same_waiter w) es ≡ Some g → same_waiter w g.0 ≡ true
   entry_is [] g e = cc e
   entry_is (f ∷ es) g e = elim (decided (same_waiter w f.0)) [
@@ -107,31 +100,14 @@ module _ {X : Type 0} (w : Waiter) where
     | inr t ↦ entry_is es g (rw t at e)
   ]
 
-  -- to take out one who has no entry changes nothing
-  pub remove_absent : (es : List (Waiter × X)) → lookup (same_waiter w) es ≡ None → remove_entry (same_waiter w) es ≡ es
-  remove_absent [] e = refl
-  remove_absent (f ∷ es) e = elim (decided (same_waiter w f.0)) [
-    | inl t ↦ cc (rw t at e)
-    | inr t ↦ rw t (ap (λ xs. f ∷ xs) (remove_absent es (rw t at e)))
-  ]
-
   -- the entry taken out is that of the name
-  pub keys_without : (es : List (Waiter × X)) → IsDistinct same_waiter (keys_of es) → keys_of (remove_entry (same_waiter w) es) ≡ without w (keys_of es)
+  pub keys_without : (es : List (Waiter × X)) → IsDistinct same_waiter (keys_of es) → keys_of (remove_entry (same_waiter w) es) ≡ without_waiter w (keys_of es)
   keys_without [] d = refl
   keys_without (f ∷ es) d = elim (decided (same_waiter w f.0)) [
     | inl t ↦
         let absent : is_among w (keys_of es) ≡ false = subst (λ (v : Waiter). is_among v (keys_of es) ≡ false) (sym (same_sound w f.0 t)) (first_apart f.0 (keys_of es) d) in
         rw t (sym (without_absent w (keys_of es) absent))
     | inr t ↦ rw t (ap (λ xs. f.0 ∷ xs) (keys_without es (rest_apart f.0 (keys_of es) d)))
-  ]
-
-  -- an entry that is changed and then moved to the end
-  pub moved_to_end : (es : List (Waiter × X)) (x : X) → IsSome (lookup (same_waiter w) es)
-      → (lookup_entry (same_waiter w) (set_value (same_waiter w) es x) ≡ Some (w, x)) × (remove_entry (same_waiter w) (set_value (same_waiter w) es x) ≡ remove_entry (same_waiter w) es)
-  moved_to_end [] x h = cc h
-  moved_to_end (f ∷ es) x h = elim (decided (same_waiter w f.0)) [
-    | inl t ↦ (rw (t, t) (ap (λ (v : Waiter). Some (v, x)) (sym (same_sound w f.0 t))), rw (t, t) refl)
-    | inr t ↦ let on = moved_to_end es x (rw t at h) in (rw (t, t) on.0, rw (t, t) (ap (λ xs. f ∷ xs) on.1))
   ]
 
 -- ---- who is left where one was taken out
@@ -141,25 +117,25 @@ or_right true r e = refl
 or_right false r e = e
 
 -- who is left where one was taken out
-pub left_among : (w x : Waiter) (ws : List Waiter) → is_among x (without w ws) ≡ true → (is_among x ws ≡ true) × (same_waiter w x ≡ false)
+pub left_among : (w x : Waiter) (ws : List Waiter) → is_among x (without_waiter w ws) ≡ true → (is_among x ws ≡ true) × (same_waiter w x ≡ false)
 left_among w x [] e = cc e
 left_among w x (v ∷ vs) e = elim (decided (same_waiter w v)) [
   | inl t ↦ let on = left_among w x vs (rw t at e) in (or_right (same_waiter x v) (is_among x vs) on.0, on.1)
-  | inr t ↦ elim (or_true (same_waiter x v) (is_among x (without w vs)) (rw t at e)) [
+  | inr t ↦ elim (or_true (same_waiter x v) (is_among x (without_waiter w vs)) (rw t at e)) [
     | inl s ↦ (rw s refl, rw (same_sound x v s) t)
     | inr r ↦ let on = left_among w x vs r in (or_right (same_waiter x v) (is_among x vs) on.0, on.1)
   ]
 ]
 
 -- one who was taken out is not among the rest
-pub none_left : (w : Waiter) (ws : List Waiter) → is_among w (without w ws) ≡ false
+pub none_left : (w : Waiter) (ws : List Waiter) → is_among w (without_waiter w ws) ≡ false
 none_left w [] = refl
 none_left w (v ∷ vs) = elim (decided (same_waiter w v)) [
   | inl t ↦ rw t (none_left w vs)
   | inr t ↦ rw (t, t) (none_left w vs)
 ]
 
-pub untold_gone : (line : Line) (w : Waiter) (l : Waiting) → untold line (gone w l) ≡ without w (untold line l)
+pub untold_gone : (line : Line) (w : Waiter) (l : Waiting) → untold line (gone w l) ≡ without_waiter w (untold line l)
 untold_gone Sends w l = refl
 untold_gone Receives w l = refl
 untold_gone Streams w l = refl

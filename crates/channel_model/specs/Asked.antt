@@ -5,7 +5,7 @@ use Rattle.channel_calls.specs.declared.ask.ChannelAsk.{ChannelAsk}
 use Rattle.channel_calls.specs.declared.ask.ChannelAsk.TheVariants as ask
 use Rattle.channel_calls.specs.declared.stage.Line.TheVariants as list
 use Rattle.channel_calls.specs.declared.stage.Side.TheVariants.{Senders, Receivers}
-use Rattle.channel_model.specs.Names.{Names, Operation, send, recv, closing, at}
+use Rattle.channel_model.specs.Names.{Names, ModelOperation, send, recv, closing, at}
 use Rattle.channel_model.specs.Answer.{is_finished}
 use Rattle.channel_model.specs.declared.call.Call.{Call}
 use Rattle.channel_model.specs.declared.call.Call.TheVariants as call
@@ -18,8 +18,8 @@ use Rattle.channel_model.specs.declared.name.Handle.{Handle}
 use Rattle.event_listener.specs.declared.key.Key.{Key}
 
 -- the key of the listener that an operation or a stream holds
-abbrev pub Held : Type 0
-Held = Waiter → Option Key
+abbrev pub KeysHeld : Type 0
+KeysHeld = Waiter → Option Key
 
 -- ---- asks
 
@@ -35,27 +35,27 @@ stream_of handle (Some h) = elim h.kind [
 
 module _ {T : Type 0} where
   -- of an operation; a world never asks for one that doesn't live
-  abbrev pub poll_asked : Held → OpId → Option (Operation T) → ChannelAsk T Waiter
+  abbrev pub poll_asked : KeysHeld → OpId → Option (ModelOperation T) → ChannelAsk T Waiter
   poll_asked held op (Some (send handle (Some m))) = ask.PollSend m (lent (held (Op op))) (Op op)
   poll_asked held op (Some (send handle None)) = ask.PollFinishedSend
   poll_asked held op (Some (recv handle)) = ask.PollRecv (lent (held (Op op))) (Op op)
   poll_asked held op (Some (closing handle)) = ask.PollClosed (held (Op op)) (Op op)
   poll_asked held op None = ask.Make
 
-  abbrev pub refusal_asked : Held → OpId → Option (Operation T) → ChannelAsk T Waiter
+  abbrev pub refusal_asked : KeysHeld → OpId → Option (ModelOperation T) → ChannelAsk T Waiter
   refusal_asked held op (Some (send handle msg)) = ask.RefusePoll list.Sends msg (held (Op op))
   refusal_asked held op (Some (recv handle)) = ask.RefusePoll list.Receives None (held (Op op))
   refusal_asked held op (Some (closing handle)) = ask.RefusePoll list.Closings None (held (Op op))
   refusal_asked held op None = ask.Make
 
-  abbrev pub giving_up_asked : Held → OpId → Option (Operation T) → ChannelAsk T Waiter
+  abbrev pub giving_up_asked : KeysHeld → OpId → Option (ModelOperation T) → ChannelAsk T Waiter
   giving_up_asked held op (Some (send handle msg)) = ask.GiveUp list.Sends msg (held (Op op))
   giving_up_asked held op (Some (recv handle)) = ask.GiveUp list.Receives None (held (Op op))
   giving_up_asked held op (Some (closing handle)) = ask.GiveUp list.Closings None (held (Op op))
   giving_up_asked held op None = ask.Make
 
   -- of a handle
-  abbrev pub drop_asked : Held → HandleId → Option Handle → ChannelAsk T Waiter
+  abbrev pub drop_asked : KeysHeld → HandleId → Option Handle → ChannelAsk T Waiter
   drop_asked held handle None = ask.Make
   drop_asked held handle (Some h) = elim h.kind [
     | Sender ↦ ask.DropSender
@@ -96,7 +96,7 @@ module _ {T : Type 0} where
   question_asked c = ask.Make
 
   -- what a call asks of the channel
-  abbrev pub asked : Held → Names T → Call T → ChannelAsk T Waiter
+  abbrev pub asked : KeysHeld → Names T → Call T → ChannelAsk T Waiter
   asked held names (call.Poll op) = poll_asked held op (at op.0 names.operations)
   asked held names (call.PollRefused op) = refusal_asked held op (at op.0 names.operations)
   asked held names (call.GiveUp op) = giving_up_asked held op (at op.0 names.operations)

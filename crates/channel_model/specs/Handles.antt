@@ -1,8 +1,8 @@
 -- What the counts of a channel count, and when an upgrade gives a handle: over all runs of calls, one at a time.
 use Rattle.std.specs.Prelude.{◌≡◌, ◌⊎◌, ◌≤◌, ◌<◌, ◌-◌, ◌^◌, ℕ, List, length, Bool, true, false, Option, None, Some, IfSome}
 use Rattle.std.specs.List.{filter}
-use Rattle.channel_model.specs.Answer.{count, strong_of}
-use Rattle.channel_model.specs.Channel.{Channel}
+use Rattle.channel_model.specs.Answer.{strong_handles, strong_of}
+use Rattle.channel_model.specs.Channel.{ModelChannel}
 use Rattle.channel_model.specs.Names.{Directory, at}
 use Rattle.channel_model.specs.Refusal.{are_alike}
 use Rattle.channel_model.specs.Run.{Does, Runs}
@@ -30,7 +30,7 @@ abbrev pub live_of : HandleKind → Directory Handle → ℕ
 live_of side handles = length (filter (λ (e : ℕ × Option Handle). is_of side e.1) handles)
 
 -- A count is the number of live strong handles of its side, and while the channel is open each side has one.
-pub record HandlesAreCounted {T : Type 0} (channel : Channel T) (handles : Directory Handle) : Type 0 where
+pub record HandlesAreCounted {T : Type 0} (channel : ModelChannel T) (handles : Directory Handle) : Type 0 where
   pub senders : channel.senders ≡ live_of Sender handles
   pub receivers : channel.receivers ≡ live_of Receiver handles
   pub sending : channel.closed ≡ false → 1 ≤ channel.senders
@@ -49,7 +49,7 @@ CountsAreHandles T =
 pub record UpgradesAsOpen {T : Type 0} (s : State T) (weak : HandleId) (r : Reply T) : Type 0 where
   pub closed : s.channel.closed ≡ true → r ≡ reply.NotMade
   pub opened : s.channel.closed ≡ false → (r ≡ reply.Made) ⊎ (r ≡ reply.TooMany)
-  pub limit : r ≡ reply.TooMany → IfSome (at weak.0 s.names.handles) (λ h. 2 ^ 63 - 1 < count (strong_of h.kind) s.channel)
+  pub limit : r ≡ reply.TooMany → IfSome (at weak.0 s.names.handles) (λ h. 2 ^ 63 - 1 < strong_handles (strong_of h.kind) s.channel)
 
 abbrev pub UpgradesWhileOpen : Type 0 → Type 0
 UpgradesWhileOpen T =

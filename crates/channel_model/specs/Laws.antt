@@ -3,7 +3,7 @@ use Rattle.std.specs.Prelude.{◌≡◌, ◌⊎◌, ◌≤◌, ◌-◌, ℕ, nat
 use Rattle.std.specs.List.{filter}
 use Rattle.std.specs.Map.{lookup}
 use Rattle.std.specs.Option.{option_to_list}
-use Rattle.channel_model.specs.Names.{Names, Operation, send, recv, closing, at}
+use Rattle.channel_model.specs.Names.{Names, ModelOperation, send, recv, closing, at}
 use Rattle.channel_model.specs.Lines.{untold}
 use Rattle.channel_model.specs.State.{State, start}
 use Rattle.channel_model.specs.declared.call.Call.{Call}
@@ -63,7 +63,7 @@ NothingIsLost T =
 -- ---- nobody is left asleep
 
 -- the line that an operation belongs to while it is pending; a finished send is never pending
-abbrev pub line_of_operation : {T : Type 0} → Option (Operation T) → Option Line
+abbrev pub line_of_operation : {T : Type 0} → Option (ModelOperation T) → Option Line
 line_of_operation (Some (send handle (Some m))) = Some Sends
 line_of_operation (Some (send handle None)) = None
 line_of_operation (Some (recv handle)) = Some Receives

@@ -1,7 +1,7 @@
 -- In which order messages leave, and what becomes of those that are refused: calls made one at a time.
 use Rattle.std.specs.Prelude.{◌≡◌, ◌<◌, ℕ, List, [], length, Option, None, Some, Err, slice_get}
 use Rattle.channel_model.specs.Laws.{removed, accepted}
-use Rattle.channel_model.specs.Names.{Operation, send, recv, closing, at}
+use Rattle.channel_model.specs.Names.{ModelOperation, send, recv, closing, at}
 use Rattle.channel_model.specs.Run.{Does, Runs}
 use Rattle.channel_model.specs.State.{State, start}
 use Rattle.channel_model.specs.declared.call.Call.{Call}
@@ -28,7 +28,7 @@ LeavesInTurn T =
 -- ---- refused sends
 
 -- the message of the operation, if it is an unfinished send
-abbrev pub unsent_in : {T : Type 0} → Option (Operation T) → Option T
+abbrev pub unsent_in : {T : Type 0} → Option (ModelOperation T) → Option T
 unsent_in (Some (send handle m)) = m
 unsent_in (Some (recv handle)) = None
 unsent_in (Some (closing handle)) = None

@@ -68,17 +68,17 @@ left_by (NextIn line) l = with_untold line (drop 1 (untold line l)) l
 abbrev pub after_news : News → Waiting → Waiting
 after_news news l = record (left_by news l) { woken = l.woken ++ told_by news l }
 
-abbrev pub without : Waiter → List Waiter → List Waiter
-without w ws = filter (λ v. not (same_waiter w v)) ws
+abbrev pub without_waiter : Waiter → List Waiter → List Waiter
+without_waiter w ws = filter (λ v. not (same_waiter w v)) ws
 
 -- w stands nowhere any more
 abbrev pub gone : Waiter → Waiting → Waiting
 gone w l = record {
-  sends = without w l.sends;
-  receives = without w l.receives;
-  streams = without w l.streams;
-  closings = without w l.closings;
-  woken = without w l.woken;
+  sends = without_waiter w l.sends;
+  receives = without_waiter w l.receives;
+  streams = without_waiter w l.streams;
+  closings = without_waiter w l.closings;
+  woken = without_waiter w l.woken;
 }
 
 -- What one who leaves passes on: a told send or receive tells one more of its line, a told stream tells one more only
@@ -87,7 +87,7 @@ abbrev pub passed_on : Line → Waiter → Waiting → News
 passed_on Sends w l = if is_among w l.woken then NextIn Sends else Nothing
 passed_on Receives w l = if is_among w l.woken then NextIn Receives else Nothing
 passed_on Streams w l =
-    if is_among w l.woken && not (list_any is_stream (without w l.woken)) then NextIn Streams else Nothing
+    if is_among w l.woken && not (list_any is_stream (without_waiter w l.woken)) then NextIn Streams else Nothing
 passed_on Closings w l = Nothing
 
 -- news are told, and then w leaves its line and passes on what it was told

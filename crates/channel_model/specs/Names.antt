@@ -32,47 +32,47 @@ abbrev pub with_changed : {X : Type 0} → ℕ → X → Directory X → Directo
 with_changed name x directory = set_value (nat_eq name) directory (Some x)
 
 -- what lived under the name lives no more; the name stays taken
-abbrev pub without : {X : Type 0} → ℕ → Directory X → Directory X
-without name directory = set_value (nat_eq name) directory None
+abbrev pub without_name : {X : Type 0} → ℕ → Directory X → Directory X
+without_name name directory = set_value (nat_eq name) directory None
 
 -- An operation, with the handle that it borrows. A send has its message until it is finished.
-pub data Operation (T : Type 0) : Type 0 where
-  send : HandleId → Option T → Operation T
-  recv : HandleId → Operation T
-  closing : HandleId → Operation T
+pub data ModelOperation (T : Type 0) : Type 0 where
+  send : HandleId → Option T → ModelOperation T
+  recv : HandleId → ModelOperation T
+  closing : HandleId → ModelOperation T
 
-abbrev pub borrowed_by : {T : Type 0} → Operation T → HandleId
+abbrev pub borrowed_by : {T : Type 0} → ModelOperation T → HandleId
 borrowed_by (send handle msg) = handle
 borrowed_by (recv handle) = handle
 borrowed_by (closing handle) = handle
 
 -- one more live operation borrows the handle, or one less
-abbrev pub lent : HandleId → Directory Handle → Directory Handle
-lent handle directory = option_map_or (λ (h : Handle). with_changed handle.0 (record h { borrowers = h.borrowers + 1 }) directory) (at handle.0 directory) directory
+abbrev pub lent_once_more : HandleId → Directory Handle → Directory Handle
+lent_once_more handle directory = option_map_or (λ (h : Handle). with_changed handle.0 (record h { borrowers = h.borrowers + 1 }) directory) (at handle.0 directory) directory
 
 abbrev pub given_back : HandleId → Directory Handle → Directory Handle
 given_back handle directory = option_map_or (λ (h : Handle). with_changed handle.0 (record h { borrowers = h.borrowers - 1 }) directory) (at handle.0 directory) directory
 
 pub record Names (T : Type 0) : Type 0 where
   pub handles : Directory Handle
-  pub operations : Directory (Operation T)
+  pub operations : Directory (ModelOperation T)
 
 -- a new operation, which borrows its handle as long as it lives
-abbrev pub with_operation : {T : Type 0} → OpId → Operation T → Names T → Names T
+abbrev pub with_operation : {T : Type 0} → OpId → ModelOperation T → Names T → Names T
 with_operation op operation names = record {
-  handles = lent (borrowed_by operation) names.handles;
+  handles = lent_once_more (borrowed_by operation) names.handles;
   operations = with_new op.0 operation names.operations;
 }
 
 -- the operation is another from now on, over the same handle
-abbrev pub with_operation_changed : {T : Type 0} → OpId → Operation T → Names T → Names T
+abbrev pub with_operation_changed : {T : Type 0} → OpId → ModelOperation T → Names T → Names T
 with_operation_changed op operation names = record names { operations = with_changed op.0 operation names.operations }
 
 -- the operation lives no more
-abbrev pub without_operation : {T : Type 0} → OpId → Operation T → Names T → Names T
+abbrev pub without_operation : {T : Type 0} → OpId → ModelOperation T → Names T → Names T
 without_operation op operation names = record {
   handles = given_back (borrowed_by operation) names.handles;
-  operations = without op.0 names.operations;
+  operations = without_name op.0 names.operations;
 }
 
 -- the handles are these from now on

@@ -1,10 +1,10 @@
 -- What a call answers where the one growth that it needs is refused; None where it needs none.
 use Rattle.std.specs.Prelude.{◌≡◌, ◌⊎◌, ℕ, zero, suc, Option, None, Some, is_none, Err, if◌then◌else◌}
-use Rattle.channel_model.specs.Channel.{Channel}
-use Rattle.channel_model.specs.Names.{Operation, send, recv, closing, at}
+use Rattle.channel_model.specs.Channel.{ModelChannel}
+use Rattle.channel_model.specs.Names.{ModelOperation, send, recv, closing, at}
 use Rattle.channel_model.specs.Lines.{untold, is_among, gone}
 use Rattle.channel_model.specs.State.{State, with_waiting}
-use Rattle.channel_model.specs.Answer.{Answer, replying, leaving, space_of, Found, first, none_yet, none_ever, found, answer}
+use Rattle.channel_model.specs.Answer.{Answer, replying, after_leaving, space_of, Found, first, none_yet, none_ever, found, answer}
 use Rattle.channel_model.specs.declared.call.Call.{Call}
 use Rattle.channel_model.specs.declared.call.Call.TheVariants as call
 use Rattle.channel_calls.specs.declared.reply.Reply.{Reply}
@@ -42,7 +42,7 @@ not_standing line w s r =
     if is_among w (untold line s.waiting) then None else Some (replying (with_waiting (gone w s.waiting) s) r)
 
 -- an unbounded channel takes memory to hold one more message, and never serials
-abbrev pub not_held : {T : Type 0} → Lack → Channel T → Space → Answer T → Option (Answer T)
+abbrev pub not_held : {T : Type 0} → Lack → ModelChannel T → Space → Answer T → Option (Answer T)
 not_held memory c Open a = if is_none c.capacity then Some a else None
 not_held memory c Filled a = None
 not_held memory c Shut a = None
@@ -50,7 +50,7 @@ not_held serials c space a = None
 
 abbrev pub send_not_polled : {T : Type 0} → Lack → State T → OpId → Space → Option (Answer T)
 send_not_polled lack s op Filled = not_standing Sends (Op op) s (reply.SendPoll (Ready (Err (refused lack))))
-send_not_polled lack s op Open = not_held lack s.channel Open (leaving Nothing Sends (Op op) s (reply.SendPoll (Ready (Err (refused lack)))))
+send_not_polled lack s op Open = not_held lack s.channel Open (after_leaving Nothing Sends (Op op) s (reply.SendPoll (Ready (Err (refused lack)))))
 send_not_polled lack s op Shut = None
 
 abbrev pub recv_not_polled : {T : Type 0} → Lack → State T → OpId → Found T → Option (Answer T)
@@ -58,7 +58,7 @@ recv_not_polled lack s op none_yet = not_standing Receives (Op op) s (reply.Recv
 recv_not_polled lack s op (first m ms) = None
 recv_not_polled lack s op none_ever = None
 
-abbrev pub not_polled : {T : Type 0} → Lack → State T → OpId → Option (Operation T) → Option (Answer T)
+abbrev pub not_polled : {T : Type 0} → Lack → State T → OpId → Option (ModelOperation T) → Option (Answer T)
 not_polled lack s op (Some (send handle (Some m))) = send_not_polled lack s op (space_of s.channel)
 not_polled lack s op (Some (send handle None)) = None
 not_polled lack s op (Some (recv handle)) = recv_not_polled lack s op (found s.channel)

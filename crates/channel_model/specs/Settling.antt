@@ -83,8 +83,3 @@ state_after s (c ∷ cs) = if is_none (refusal s c) then state_after (answer s c
 abbrev pub settled : {T : Type 0} → ℕ → State T → List (Waiter × Reply T)
 settled zero s = []
 settled (suc n) s = option_map_or (λ (w : Waiter). let a = answer s (poll_of w) in (w, a.reply) ∷ settled n a.after) (slice_get s.waiting.woken 0) []
-
--- and the state after them
-abbrev pub state_settled : {T : Type 0} → ℕ → State T → State T
-state_settled zero s = s
-state_settled (suc n) s = option_map_or (λ (w : Waiter). state_settled n (answer s (poll_of w)).after) (slice_get s.waiting.woken 0) s

@@ -1,13 +1,13 @@
 -- The state between two calls, when calls are made one at a time.
 use Rattle.std.specs.Prelude.{ℕ, [], ◌∷◌, Option, Some}
-use Rattle.channel_model.specs.Channel.{Channel, opened}
+use Rattle.channel_model.specs.Channel.{ModelChannel, opened}
 use Rattle.channel_model.specs.Names.{Names, Directory}
 use Rattle.channel_model.specs.Lines.{Waiting, nobody}
 use Rattle.channel_model.specs.declared.name.Handle.{Handle}
 use Rattle.channel_model.specs.declared.name.HandleKind.TheVariants.{Sender, Receiver}
 
 pub record State (T : Type 0) : Type 0 where
-  pub channel : Channel T
+  pub channel : ModelChannel T
   pub names : Names T
   pub waiting : Waiting
 
@@ -23,7 +23,7 @@ start capacity = record {
   waiting = nobody;
 }
 
-abbrev pub with_channel : {T : Type 0} → Channel T → State T → State T
+abbrev pub with_channel : {T : Type 0} → ModelChannel T → State T → State T
 with_channel c s = record s { channel = c }
 
 abbrev pub with_names : {T : Type 0} → Names T → State T → State T

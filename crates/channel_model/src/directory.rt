@@ -26,7 +26,7 @@ impl<X> Directory<X> {
     ghost use Rattle.std.specs.Prelude.{◌≡◌, ◌<◌, ◌^◌, ◌∷◌, [], length, nat_eq, false, option_copied, IfNone, IfOk, IfErr, OnOk, OnErr};
     ghost use Rattle.std.specs.List.{IsDistinct};
     ghost use Rattle.std.specs.Map.{keys_of};
-    ghost use Rattle.channel_model.specs.Names.{at, is_taken, with_new, with_changed, without};
+    ghost use Rattle.channel_model.specs.Names.{at, is_taken, with_new, with_changed, without_name};
 
     /// No name was taken.
     pub fn new(alloc: Global) -> Result<Directory<X>, AllocError>
@@ -109,7 +109,7 @@ impl<X> Directory<X> {
 
     fn take_out(&mut self, name: u32) -> Option<X>
         ensures found { result ≡ at name self.old }
-        ensures rest { self.new ≡ without name self.old }
+        ensures rest { self.new ≡ without_name name self.old }
     {
         match self.entries.peek_mut(&name) {
             Some(x) => x.take(),
@@ -120,7 +120,7 @@ impl<X> Directory<X> {
     /// Takes what lives under the name; the name stays taken.
     pub fn take(&mut self, name: u32) -> Option<X>
         ensures found { result ≡ at name self.old }
-        ensures rest { self.new ≡ without name self.old }
+        ensures rest { self.new ≡ without_name name self.old }
         ensures none { IfNone result (self.new ≡ self.old) }
     {
         self.take_out(name)
@@ -130,7 +130,7 @@ impl<X> Directory<X> {
 impl<X: Drop> Directory<X> {
     ghost use Rattle.std.specs.Prelude.{◌≡◌, List, ℕ, Option, false};
     ghost use Rattle.std.specs.Bool.{OnTrue, OnFalse};
-    ghost use Rattle.channel_model.specs.Names.{is_taken, with_changed, with_spent, without};
+    ghost use Rattle.channel_model.specs.Names.{is_taken, with_changed, with_spent, without_name};
 
     /// A name that is new is taken, and nothing lives under it. False where memory was refused.
     pub fn spend(&mut self, name: u32) -> bool
@@ -147,7 +147,7 @@ impl<X: Drop> Directory<X> {
     /// What lives under the name, or lived there, is this from now on. A name that was never taken stays so.
     pub fn set(&mut self, name: u32, x: X)
         ensures set { self.new ≡ with_changed name x self.old }
-        ensures taken { (before : List (ℕ × Option X)) → self.old ≡ without name before → self.new ≡ with_changed name x before }
+        ensures taken { (before : List (ℕ × Option X)) → self.old ≡ without_name name before → self.new ≡ with_changed name x before }
     {
         let _before = self.swap(name, x);
     }

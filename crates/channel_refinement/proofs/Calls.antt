@@ -13,10 +13,10 @@ use Rattle.channel_calls.specs.declared.stage.Line.{Line}
 use Rattle.channel_calls.specs.declared.stage.Line.TheVariants.{Sends, Receives, Closings}
 use Rattle.channel_calls.specs.declared.stage.Side.TheVariants.{Senders, Receivers}
 use Rattle.channel_alone.specs.Alone.{Outcome, Alone, MayLackRoom, ends, sends, force_sends, says_only}
-use Rattle.channel_model.specs.Answer.{replying, leaving, is_finished, poll_refused_answer, made, dropped, clone_answer, downgrade_answer, upgrade_answer, drop_answer, weak_of, strong_of}
+use Rattle.channel_model.specs.Answer.{replying, after_leaving, is_finished, poll_refused_answer, made, dropped, clone_answer, downgrade_answer, upgrade_answer, drop_answer, weak_of, strong_of}
 use Rattle.channel_model.specs.Awake.{AwakeIn}
 use Rattle.channel_model.specs.Laws.{line_of, line_of_operation}
-use Rattle.channel_model.specs.Names.{Operation, send, recv, closing, at}
+use Rattle.channel_model.specs.Names.{ModelOperation, send, recv, closing, at}
 use Rattle.channel_model.specs.Refusal.{refusal, is_live, uses, are_fit, takes_borrowed, names_taken}
 use Rattle.channel_model.specs.State.{State}
 use Rattle.channel_model.specs.declared.call.Call.{Call}
@@ -30,8 +30,8 @@ use Rattle.channel_model.specs.declared.name.Waiter.{Waiter}
 use Rattle.channel_model.specs.declared.name.Waiter.TheVariants.{Op}
 use Rattle.channel_model.specs.declared.news.News.TheVariants.{Nothing}
 use Rattle.channel_model.proofs.LawSteps.{last_reason, untaken}
-use Rattle.channel_model.specs.Asked.{poll_asked, refusal_asked, giving_up_asked, drop_asked, clone_asked, upgrade_asked, stream_of, Held}
-use Rattle.channel_refinement.specs.Asked.{asked}
+use Rattle.channel_model.specs.Asked.{poll_asked, refusal_asked, giving_up_asked, drop_asked, clone_asked, upgrade_asked, stream_of, KeysHeld}
+use Rattle.channel_refinement.specs.Asked.{asked_in}
 use Rattle.channel_refinement.specs.Over.{Matches, CallsAreOver, refused_names, made_names}
 use Rattle.channel_refinement.specs.Refines.{Refines, list_of}
 use Rattle.channel_refinement.proofs.ClosingPolls.{poll_closing}
@@ -46,7 +46,7 @@ use Rattle.channel_refinement.proofs.Streams.{poll_next}
 use Rattle.channel_refinement.proofs.Told.{same_names}
 use Rattle.channel_refinement.proofs.Trying.{filled_is, only_answers, try_send, try_send_lacks, force_send, force_send_lacks, try_recv, recv_many, close}
 
-module _ {T : Type 0} (held : Held) (c : Channel T Waiter) (s : State T) (h : Refines held c s) (awake : AwakeIn s) (o : Outcome T Waiter) where
+module _ {T : Type 0} (held : KeysHeld) (c : Channel T Waiter) (s : State T) (h : Refines held c s) (awake : AwakeIn s) (o : Outcome T Waiter) where
   -- a new name is free where the call is begun
   free_name : (d : Call T) → refusal s d ≡ None → names_taken s.names d ≡ false
   free_name d ok = last_reason (list_all (is_live s.names) (uses d)) (are_fit s.names d) (takes_borrowed s.names d) (names_taken s.names d) ok
@@ -63,7 +63,7 @@ module _ {T : Type 0} (held : Held) (c : Channel T Waiter) (s : State T) (h : Re
 
   -- ---- operations
 
-  polled : (op : OpId) (x : Option (Operation T)) → at op.0 s.names.operations ≡ x → refusal s (call.Poll op) ≡ None → Alone (poll_asked held op x) c o → Matches held s (call.Poll op) o
+  polled : (op : OpId) (x : Option (ModelOperation T)) → at op.0 s.names.operations ≡ x → refusal s (call.Poll op) ≡ None → Alone (poll_asked held op x) c o → Matches held s (call.Poll op) o
   polled op (Some (send handle (Some m))) there ok does = poll_send held c s h awake op handle m there o does
   polled op (Some (send handle None)) there ok does = poll_finished held c s h awake op handle o there does
   polled op (Some (recv handle)) there ok does = poll_recv held c s h awake op handle there o does
@@ -71,18 +71,18 @@ module _ {T : Type 0} (held : Held) (c : Channel T Waiter) (s : State T) (h : Re
   polled op None there ok does = cc (rw there at ok)
 
   -- an operation that got no copy of its waker
-  refused_as : (op : OpId) (x : Operation T) (line : Line) (msg : Option T) → at op.0 s.names.operations ≡ Some x → (line_of s.names (Op op) ≡ Some line) ⊎ (line_of s.names (Op op) ≡ None)
-      → poll_refused_answer s op (Some x) ≡ leaving Nothing line (Op op) s (refused_reply (list_of line) listening.NoMemory) → s.names ≡ refused_names op (Some x) msg s.names
+  refused_as : (op : OpId) (x : ModelOperation T) (line : Line) (msg : Option T) → at op.0 s.names.operations ≡ Some x → (line_of s.names (Op op) ≡ Some line) ⊎ (line_of s.names (Op op) ≡ None)
+      → poll_refused_answer s op (Some x) ≡ after_leaving Nothing line (Op op) s (refused_reply (list_of line) listening.NoMemory) → s.names ≡ refused_names op (Some x) msg s.names
       → o ≡ ends [] (is_refused (list_of line) msg (held (Op op))) c → Matches held s (call.PollRefused op) o
   refused_as op x line msg there k answer_is names e =
       ends_so held c s h awake (call.PollRefused op) line (Op op) (refused_reply (list_of line) listening.NoMemory) msg o refl k
-      (inl (sym answer_is ∙ ap (λ (y : Option (Operation T)). poll_refused_answer s op y) (sym there)))
-      (names ∙ ap (λ (y : Option (Operation T)). refused_names op y msg s.names) (sym there)) e
+      (inl (sym answer_is ∙ ap (λ (y : Option (ModelOperation T)). poll_refused_answer s op y) (sym there)))
+      (names ∙ ap (λ (y : Option (ModelOperation T)). refused_names op y msg s.names) (sym there)) e
 
-  kind_is : (op : OpId) (x : Operation T) → at op.0 s.names.operations ≡ Some x → line_of s.names (Op op) ≡ line_of_operation (Some x)
-  kind_is op x there = ap (λ (y : Option (Operation T)). line_of_operation y) there
+  kind_is : (op : OpId) (x : ModelOperation T) → at op.0 s.names.operations ≡ Some x → line_of s.names (Op op) ≡ line_of_operation (Some x)
+  kind_is op x there = ap (λ (y : Option (ModelOperation T)). line_of_operation y) there
 
-  refused : (op : OpId) (x : Option (Operation T)) → at op.0 s.names.operations ≡ x → refusal s (call.PollRefused op) ≡ None → Alone (refusal_asked held op x) c o → Matches held s (call.PollRefused op) o
+  refused : (op : OpId) (x : Option (ModelOperation T)) → at op.0 s.names.operations ≡ x → refusal s (call.PollRefused op) ≡ None → Alone (refusal_asked held op x) c o → Matches held s (call.PollRefused op) o
   refused op (Some (send handle (Some m))) there ok does =
       refused_as op (send handle (Some m)) Sends (Some m) there (inl (kind_is op (send handle (Some m)) there)) refl (sym (same_names op (send handle (Some m)) s.names there)) does
   refused op (Some (send handle None)) there ok does =
@@ -91,7 +91,7 @@ module _ {T : Type 0} (held : Held) (c : Channel T Waiter) (s : State T) (h : Re
   refused op (Some (closing handle)) there ok does = refused_as op (closing handle) Closings None there (inl (kind_is op (closing handle) there)) refl refl does
   refused op None there ok does = cc (rw there at ok)
 
-  given_up : (op : OpId) (x : Option (Operation T)) → at op.0 s.names.operations ≡ x → refusal s (call.GiveUp op) ≡ None → Alone (giving_up_asked held op x) c o → Matches held s (call.GiveUp op) o
+  given_up : (op : OpId) (x : Option (ModelOperation T)) → at op.0 s.names.operations ≡ x → refusal s (call.GiveUp op) ≡ None → Alone (giving_up_asked held op x) c o → Matches held s (call.GiveUp op) o
   given_up op (Some (send handle (Some m))) there ok does = give_up held c s h awake op (send handle (Some m)) Sends (Some m) o there (inl (kind_is op (send handle (Some m)) there)) refl does
   given_up op (Some (send handle None)) there ok does = give_up held c s h awake op (send handle None) Sends None o there (inr (kind_is op (send handle None) there)) refl does
   given_up op (Some (recv handle)) there ok does = give_up held c s h awake op (recv handle) Receives None o there (inl (kind_is op (recv handle) there)) refl does
@@ -169,7 +169,7 @@ module _ {T : Type 0} (held : Held) (c : Channel T Waiter) (s : State T) (h : Re
 
   -- ---- every call
 
-  every : (d : Call T) → refusal s d ≡ None → Alone (asked held s d) c o → Matches held s d o
+  every : (d : Call T) → refusal s d ≡ None → Alone (asked_in held s d) c o → Matches held s d o
   every (call.NewSend op sender msg) ok does =
       new_operation held c s h awake op (call.NewSend op sender msg) (send sender (Some msg)) o refl (untaken op.0 s.names.operations (free_name (call.NewSend op sender msg) ok)) (inl refl) refl does
   every (call.NewRecv op receiver) ok does =

@@ -10,11 +10,11 @@ use Rattle.channel_calls.specs.declared.reply.Reply.TheVariants as reply
 use Rattle.channel_calls.specs.declared.stage.Line.TheVariants as list
 use Rattle.channel_calls.specs.declared.stage.Waiting.TheVariants as waiting
 use Rattle.channel_alone.specs.Alone.{Outcome, Waits, PollsClosing}
-use Rattle.channel_model.specs.Answer.{replying, leaving, pending, closed_poll_answer, poll_answer}
+use Rattle.channel_model.specs.Answer.{replying, after_leaving, pending, closed_poll_answer, poll_answer}
 use Rattle.channel_model.specs.Awake.{AwakeIn}
 use Rattle.channel_model.specs.Laws.{line_of, line_of_operation}
 use Rattle.channel_model.specs.Lines.{is_among, untold, gone}
-use Rattle.channel_model.specs.Names.{Operation, closing, at}
+use Rattle.channel_model.specs.Names.{ModelOperation, closing, at}
 use Rattle.channel_model.specs.Refused.{not_polled}
 use Rattle.channel_model.specs.State.{State, with_waiting}
 use Rattle.channel_model.specs.declared.call.Call.TheVariants as call
@@ -27,15 +27,15 @@ use Rattle.channel_calls.specs.declared.stage.Line.TheVariants.{Closings}
 use Rattle.channel_model.proofs.LawSteps.{chosen_no}
 use Rattle.channel_model.proofs.WaiterLemmas.{decided}
 use Rattle.channel_refinement.specs.Over.{Matches, polled_names}
-use Rattle.channel_model.specs.Asked.{Held}
+use Rattle.channel_model.specs.Asked.{KeysHeld}
 use Rattle.channel_refinement.specs.Refines.{Refines}
 use Rattle.channel_refinement.proofs.Ends.{ends_so}
 use Rattle.channel_refinement.proofs.Operations.{lack_of, not_standing_is, poll_waited}
 use Rattle.channel_refinement.proofs.Polling.{WaitsAs, where_true, where_false, wait_ends}
 
-module _ {T : Type 0} (held : Held) (c : Channel T Waiter) (s : State T) (h : Refines held c s) (awake : AwakeIn s) (op : OpId) (handle : HandleId) (there : at op.0 s.names.operations ≡ Some (closing handle)) where
+module _ {T : Type 0} (held : KeysHeld) (c : Channel T Waiter) (s : State T) (h : Refines held c s) (awake : AwakeIn s) (op : OpId) (handle : HandleId) (there : at op.0 s.names.operations ≡ Some (closing handle)) where
   closing_kind : line_of s.names (Op op) ≡ Some Closings
-  closing_kind = ap (λ (o : Option (Operation T)). line_of_operation o) there
+  closing_kind = ap (λ (o : Option (ModelOperation T)). line_of_operation o) there
 
   closing_waits : (key : Option Key) (o : Outcome T Waiter) → Waits waiting.Closing key (Op op) c o
       → WaitsAs Closings (reply.ClosedPoll poll.Pending) (λ e. refused_reply list.Closings e) None (Op op) key c o
@@ -47,7 +47,7 @@ module _ {T : Type 0} (held : Held) (c : Channel T Waiter) (s : State T) (h : Re
   lacks_closing t listening.NoMemory u = chosen_no s.channel.closed _ _ t ∙ not_standing_is Closings (Op op) s (refused_reply list.Closings listening.NoMemory) u
   lacks_closing t listening.SerialsUsedUp u = chosen_no s.channel.closed _ _ t ∙ not_standing_is Closings (Op op) s (refused_reply list.Closings listening.SerialsUsedUp) u
 
-  shut_answer : s.channel.closed ≡ true → closed_poll_answer s op ≡ leaving Nothing Closings (Op op) s (reply.ClosedPoll (poll.Ready (Ok tt)))
+  shut_answer : s.channel.closed ≡ true → closed_poll_answer s op ≡ after_leaving Nothing Closings (Op op) s (reply.ClosedPoll (poll.Ready (Ok tt)))
   shut_answer t = rw t refl
 
   open_answer : s.channel.closed ≡ false → closed_poll_answer s op ≡ pending Closings (Op op) s (reply.ClosedPoll poll.Pending)
@@ -57,8 +57,8 @@ module _ {T : Type 0} (held : Held) (c : Channel T Waiter) (s : State T) (h : Re
   poll_closing o x = elim (decided c.queue.closed) [
     | inl t ↦
         ends_so held c s h awake (call.Poll op) Closings (Op op) (reply.ClosedPoll (poll.Ready (Ok tt))) None o refl (inl closing_kind)
-        (inl (sym (shut_answer (sym h.closed ∙ t)) ∙ ap (λ (y : Option (Operation T)). poll_answer s op y) (sym there)))
-        (ap (λ (y : Option (Operation T)). polled_names op y None s.names) (sym there)) (where_true c.queue.closed _ _ t x)
+        (inl (sym (shut_answer (sym h.closed ∙ t)) ∙ ap (λ (y : Option (ModelOperation T)). poll_answer s op y) (sym there)))
+        (ap (λ (y : Option (ModelOperation T)). polled_names op y None s.names) (sym there)) (where_true c.queue.closed _ _ t x)
     | inr t ↦
         poll_waited held c s h awake op (closing handle) Closings (reply.ClosedPoll poll.Pending) (λ e. refused_reply list.Closings e) None there
         (open_answer (sym h.closed ∙ t)) (lacks_closing (sym h.closed ∙ t)) refl o

@@ -6,7 +6,7 @@ use Rattle.channel_calls.specs.Parts.{Listeners, Roster, with_listeners}
 use Rattle.channel_calls.specs.Turns.{held_on}
 use Rattle.channel_model.specs.Lines.{Waiting, is_among, is_stream, untold, told_by, after_news, gone, passed_on}
 use Rattle.channel_model.specs.Awake.{Kind, Placed, times_in}
-use Rattle.channel_model.specs.Names.{Operation, send, recv, closing, Names, at}
+use Rattle.channel_model.specs.Names.{ModelOperation, send, recv, closing, Names, at}
 use Rattle.channel_model.specs.Laws.{line_of, line_of_operation}
 use Rattle.channel_model.specs.declared.name.Waiter.{Waiter}
 use Rattle.channel_model.specs.declared.name.Waiter.TheVariants.{Op, Stream}
@@ -17,7 +17,7 @@ use Rattle.channel_calls.specs.declared.stage.Line.TheVariants.{Sends, Receives,
 use Rattle.channel_model.proofs.WaiterLemmas.{decided}
 use Rattle.channel_model.proofs.Counting.{among_counts}
 use Rattle.channel_model.proofs.Awake.{times_news, times_gone_self}
-use Rattle.channel_model.specs.Asked.{Held}
+use Rattle.channel_model.specs.Asked.{KeysHeld}
 use Rattle.channel_refinement.specs.Refines.{with_held, ShowsLines, KeysFit, list_of}
 use Rattle.channel_refinement.proofs.News.{nothing_lines, keys_news}
 use Rattle.channel_refinement.proofs.Standing.{Nowhere, gone_nowhere, kindless_nowhere, keyless_nowhere, nowhere_keyless, times_untold, rekeyed_lines, keys_gone}
@@ -48,7 +48,7 @@ passes_nothing Closings w l e = refl
 pub streams_are : {T : Type 0} → (names : Names T) → StreamsAreStreams (line_of names)
 streams_are names (Stream r) = (λ e. refl, λ e. refl)
 streams_are {T} names (Op op) = (λ e. cc e, λ e. never (at op.0 names.operations) e) where
-  never : (o : Option (Operation T)) → line_of_operation o ≡ Some Streams → is_stream (Op op) ≡ true
+  never : (o : Option (ModelOperation T)) → line_of_operation o ≡ Some Streams → is_stream (Op op) ≡ true
   never (Some (send h (Some m))) e = cc e
   never (Some (send h None)) e = cc e
   never (Some (recv h)) e = cc e
@@ -68,7 +68,7 @@ same_receivers Streams x a = refl
 same_receivers Closings x a = refl
 
 -- the channel d that the leaving of w makes of c, and the names woken by it
-pub record Departed {T : Type 0} (kind : Kind) (held : Held) (closed : Bool) (line : Line) (w : Waiter) (l : Waiting) (c d : Channel T Waiter) (names : List Waiter) : Type 0 where
+pub record Departed {T : Type 0} (kind : Kind) (held : KeysHeld) (closed : Bool) (line : Line) (w : Waiter) (l : Waiting) (c d : Channel T Waiter) (names : List Waiter) : Type 0 where
   pub queue : d.queue ≡ c.queue
   pub senders : d.roster.senders ≡ c.roster.senders
   pub receivers : d.roster.receivers ≡ c.roster.receivers
@@ -76,7 +76,7 @@ pub record Departed {T : Type 0} (kind : Kind) (held : Held) (closed : Bool) (li
   pub keys : KeysFit kind (with_held w None held) (after_news (passed_on line w l) (gone w l))
   pub wakes : names ≡ told_by (passed_on line w l) (gone w l)
 
-module _ {T : Type 0} (kind : Kind) (held : Held) (closed : Bool) (streams : StreamsAreStreams kind) (line : Line) (w : Waiter) (k : (kind w ≡ Some line) ⊎ (kind w ≡ None)) (l : Waiting)
+module _ {T : Type 0} (kind : Kind) (held : KeysHeld) (closed : Bool) (streams : StreamsAreStreams kind) (line : Line) (w : Waiter) (k : (kind w ≡ Some line) ⊎ (kind w ≡ None)) (l : Waiting)
     (placed : Placed kind l) (keys : KeysFit kind held l) (shut : closed ≡ true → (line : Line) → untold line l ≡ []) (c : Channel T Waiter) (h : ShowsLines kind held closed c.roster l) where
   keys_after : KeysFit kind (with_held w None held) (after_news (passed_on line w l) (gone w l))
   keys_after = keys_news kind (with_held w None held) (passed_on line w l) (gone w l) (keys_gone kind held w l keys)

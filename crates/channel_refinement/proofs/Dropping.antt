@@ -12,7 +12,7 @@ use Rattle.channel_calls.specs.declared.stage.Side.TheVariants.{Senders, Receive
 use Rattle.channel_alone.specs.Alone as alone
 use Rattle.channel_alone.specs.Alone.{Outcome, ends, of_closing, over_queue, drops}
 use Rattle.channel_model.specs.Answer as model
-use Rattle.channel_model.specs.Answer.{telling, leaving, shut, without_one, news_without_one, dropped, drop_answer}
+use Rattle.channel_model.specs.Answer.{after_telling, after_leaving, shut, without_one, news_without_one, dropped, drop_answer}
 use Rattle.channel_model.specs.Awake.{AwakeIn, Awake, Kind}
 use Rattle.channel_model.specs.Channel as plain
 use Rattle.channel_model.specs.Laws.{line_of}
@@ -30,7 +30,7 @@ use Rattle.channel_model.specs.declared.news.News.TheVariants.{Nothing, Closing}
 use Rattle.channel_calls.specs.declared.stage.Line.{Line}
 use Rattle.channel_calls.specs.declared.stage.Line.TheVariants.{Sends, Receives, Streams, Closings}
 use Rattle.channel_model.proofs.Awake.{placed_news}
-use Rattle.channel_model.specs.Asked.{stream_of, Held}
+use Rattle.channel_model.specs.Asked.{stream_of, KeysHeld}
 use Rattle.channel_refinement.specs.Over.{Matches}
 use Rattle.channel_refinement.specs.Refines.{Refines, ShowsLines}
 use Rattle.channel_refinement.proofs.Departing.{departed, streams_are}
@@ -46,18 +46,18 @@ nobody_left Receives l = refl
 nobody_left Streams l = refl
 nobody_left Closings l = refl
 
-module _ {T : Type 0} (held : Held) (c : Channel T Waiter) (s : State T) (h : Refines held c s) (awake : AwakeIn s) (handle : HandleId) where
+module _ {T : Type 0} (held : KeysHeld) (c : Channel T Waiter) (s : State T) (h : Refines held c s) (awake : AwakeIn s) (handle : HandleId) where
   -- ---- the handle is gone and its count is lower
 
-  abbrev fewer : Side → plain.Channel T
-  fewer side = model.with_count (kind_of_side side) (model.count (kind_of_side side) s.channel - 1) s.channel
+  abbrev fewer : Side → plain.ModelChannel T
+  fewer side = model.with_strong_handles (kind_of_side side) (model.strong_handles (kind_of_side side) s.channel - 1) s.channel
 
   abbrev lowered : Side → State T
   lowered side = with_channel (fewer side) (dropped s handle)
 
   shows_lowered : (side : Side) → Refines held (lowers side c).channel (lowered side)
   shows_lowered side =
-      shows_count held c (dropped s handle) side (count side c.roster - 1) (model.count (kind_of_side side) s.channel - 1) (ap (λ (n : ℕ). n - 1) (same_count held c s side h))
+      shows_count held c (dropped s handle) side (count side c.roster - 1) (model.strong_handles (kind_of_side side) s.channel - 1) (ap (λ (n : ℕ). n - 1) (same_count held c s side h))
       (shows_handles held c s (dropped s handle).names.handles h)
 
   awake_names : AwakeIn (dropped s handle)
@@ -69,43 +69,43 @@ module _ {T : Type 0} (held : Held) (c : Channel T Waiter) (s : State T) (h : Re
 
   -- ---- what the model says of it
 
-  news_are : (side : Side) (last closed : Bool) → (model.count (kind_of_side side) s.channel == 1) ≡ last → s.channel.closed ≡ closed
+  news_are : (side : Side) (last closed : Bool) → (model.strong_handles (kind_of_side side) s.channel == 1) ≡ last → s.channel.closed ≡ closed
       → news_without_one (kind_of_side side) s.channel ≡ (if last && not closed then Closing else Nothing)
   news_are side last closed e f =
       ap (λ (b : Bool). if b && not s.channel.closed then Closing else Nothing) e ∙ ap (λ (b : Bool). if last && not b then Closing else Nothing) f
 
-  channel_is : (side : Side) (last : Bool) → (model.count (kind_of_side side) s.channel == 1) ≡ last → without_one (kind_of_side side) s.channel ≡ (if last then shut (fewer side) else fewer side)
+  channel_is : (side : Side) (last : Bool) → (model.strong_handles (kind_of_side side) s.channel == 1) ≡ last → without_one (kind_of_side side) s.channel ≡ (if last then shut (fewer side) else fewer side)
   channel_is side last e = ap (λ (b : Bool). if b then shut (fewer side) else fewer side) e
 
   shut_already : (side : Side) → s.channel.closed ≡ true → shut (fewer side) ≡ fewer side
-  shut_already Senders e = ap (λ (b : Bool). let x : plain.Channel T = record (fewer Senders) { closed = b } in x) (sym e)
-  shut_already Receivers e = ap (λ (b : Bool). let x : plain.Channel T = record (fewer Receivers) { closed = b } in x) (sym e)
+  shut_already Senders e = ap (λ (b : Bool). let x : plain.ModelChannel T = record (fewer Senders) { closed = b } in x) (sym e)
+  shut_already Receivers e = ap (λ (b : Bool). let x : plain.ModelChannel T = record (fewer Receivers) { closed = b } in x) (sym e)
 
   -- news and the channel, where the drop closes nothing
-  quiet : (side : Side) (last closed : Bool) → (model.count (kind_of_side side) s.channel == 1) ≡ last → s.channel.closed ≡ closed → (last && not closed) ≡ false
+  quiet : (side : Side) (last closed : Bool) → (model.strong_handles (kind_of_side side) s.channel == 1) ≡ last → s.channel.closed ≡ closed → (last && not closed) ≡ false
       → (news_without_one (kind_of_side side) s.channel ≡ Nothing) × (without_one (kind_of_side side) s.channel ≡ fewer side)
   quiet side true true e f g = (news_are side true true e f, channel_is side true e ∙ shut_already side f)
   quiet side true false e f g = cc g
   quiet side false closed e f g = (news_are side false closed e f, channel_is side false e)
 
-  same_last : (side : Side) (last : Bool) → (count side c.roster == 1) ≡ last → (model.count (kind_of_side side) s.channel == 1) ≡ last
+  same_last : (side : Side) (last : Bool) → (count side c.roster == 1) ≡ last → (model.strong_handles (kind_of_side side) s.channel == 1) ≡ last
   same_last side last e = ap (λ (n : ℕ). n == 1) (sym (same_count held c s side h)) ∙ e
 
   -- ---- a sender
 
   module _ (borrowers : ℕ) (there : at handle.0 s.names.handles ≡ Some (record { kind = Sender; borrowers = borrowers })) where
-    sender_says : (news : News) (channel : plain.Channel T) → news_without_one Sender s.channel ≡ news → without_one Sender s.channel ≡ channel
-        → telling news (with_channel channel (dropped s handle)) reply.Unit ≡ drop_answer s handle (at handle.0 s.names.handles)
+    sender_says : (news : News) (channel : plain.ModelChannel T) → news_without_one Sender s.channel ≡ news → without_one Sender s.channel ≡ channel
+        → after_telling news (with_channel channel (dropped s handle)) reply.Unit ≡ drop_answer s handle (at handle.0 s.names.handles)
     sender_says news channel e f =
-        ap (λ (n : News). telling n (with_channel channel (dropped s handle)) reply.Unit) (sym e)
-        ∙ ap (λ (x : plain.Channel T). telling (news_without_one Sender s.channel) (with_channel x (dropped s handle)) reply.Unit) (sym f)
+        ap (λ (n : News). after_telling n (with_channel channel (dropped s handle)) reply.Unit) (sym e)
+        ∙ ap (λ (x : plain.ModelChannel T). after_telling (news_without_one Sender s.channel) (with_channel x (dropped s handle)) reply.Unit) (sym f)
         ∙ ap (λ (o : Option Handle). drop_answer s handle o) (sym there)
 
     sender_leaves : (news_without_one Sender s.channel ≡ Nothing) × (without_one Sender s.channel ≡ fewer Senders) → Matches held s (call.Drop handle) (ends [] (closer_ending (dropper Senders None) false) (lowers Senders c).channel)
     sender_leaves q =
         let g = shows_lowered Senders in
         matching held s (call.Drop handle) None (ap (λ (o : Option Handle). stream_of handle o) there) (ends [] (closer_ending (dropper Senders None) false) (lowers Senders c).channel)
-        (telling Nothing (lowered Senders) reply.Unit) (inl (sender_says Nothing (fewer Senders) q.0 q.1)) refl refl
+        (after_telling Nothing (lowered Senders) reply.Unit) (inl (sender_says Nothing (fewer Senders) q.0 q.1)) refl refl
         (record {
           messages = g.messages;
           closed = g.closed;
@@ -117,7 +117,7 @@ module _ {T : Type 0} (held : Held) (c : Channel T Waiter) (s : State T) (h : Re
         })
         refl refl
 
-    sender_closes : (last : (model.count Sender s.channel == 1) ≡ true) → s.channel.closed ≡ false
+    sender_closes : (last : (model.strong_handles Sender s.channel == 1) ≡ true) → s.channel.closed ≡ false
         → Matches held s (call.Drop handle) (ends of_closing (closer_ending (dropper Senders None) true) (over_queue alone.shut (lowers Senders c).channel))
     sender_closes last open_yet =
         let g = shows_lowered Senders in
@@ -125,7 +125,7 @@ module _ {T : Type 0} (held : Held) (c : Channel T Waiter) (s : State T) (h : Re
         let d : Channel T Waiter = (lowers Senders c).channel in
         let woken = closing_wakes kind held s.channel.closed d.roster s.waiting [] g.lines ∙ append-nil _ in
         matching held s (call.Drop handle) None (ap (λ (o : Option Handle). stream_of handle o) there) (ends of_closing (closer_ending (dropper Senders None) true) (over_queue alone.shut d))
-        (telling Closing (with_channel (shut (fewer Senders)) (dropped s handle)) reply.Unit) (inl (sender_says Closing (shut (fewer Senders)) (news_are Senders true false last open_yet) (channel_is Senders true last))) refl woken
+        (after_telling Closing (with_channel (shut (fewer Senders)) (dropped s handle)) reply.Unit) (inl (sender_says Closing (shut (fewer Senders)) (news_are Senders true false last open_yet) (channel_is Senders true last))) refl woken
         (record {
           messages = g.messages;
           closed = refl;
@@ -154,11 +154,11 @@ module _ {T : Type 0} (held : Held) (c : Channel T Waiter) (s : State T) (h : Re
     abbrev key : Option Key
     key = held (Stream handle)
 
-    receiver_says : (news : News) (channel : plain.Channel T) → news_without_one Receiver s.channel ≡ news → without_one Receiver s.channel ≡ channel
-        → leaving news Streams (Stream handle) (with_channel channel (dropped s handle)) reply.Unit ≡ drop_answer s handle (at handle.0 s.names.handles)
+    receiver_says : (news : News) (channel : plain.ModelChannel T) → news_without_one Receiver s.channel ≡ news → without_one Receiver s.channel ≡ channel
+        → after_leaving news Streams (Stream handle) (with_channel channel (dropped s handle)) reply.Unit ≡ drop_answer s handle (at handle.0 s.names.handles)
     receiver_says news channel e f =
-        ap (λ (n : News). leaving n Streams (Stream handle) (with_channel channel (dropped s handle)) reply.Unit) (sym e)
-        ∙ ap (λ (x : plain.Channel T). leaving (news_without_one Receiver s.channel) Streams (Stream handle) (with_channel x (dropped s handle)) reply.Unit) (sym f)
+        ap (λ (n : News). after_leaving n Streams (Stream handle) (with_channel channel (dropped s handle)) reply.Unit) (sym e)
+        ∙ ap (λ (x : plain.ModelChannel T). after_leaving (news_without_one Receiver s.channel) Streams (Stream handle) (with_channel x (dropped s handle)) reply.Unit) (sym f)
         ∙ ap (λ (o : Option Handle). drop_answer s handle o) (sym there)
 
     receiver_leaves : (news_without_one Receiver s.channel ≡ Nothing) × (without_one Receiver s.channel ≡ fewer Receivers)
@@ -168,11 +168,11 @@ module _ {T : Type 0} (held : Held) (c : Channel T Waiter) (s : State T) (h : Re
         let g = leaves_now held d (lowered Receivers) (shows_lowered Receivers) (awake_lowered Receivers) Streams (Stream handle) (inl refl) in
         let woken = append-nil _ ∙ g.wakes in
         matching held s (call.Drop handle) (Some (Stream handle)) (ap (λ (o : Option Handle). stream_of handle o) there) (ends [] (closer_ending (dropper Receivers key) false) d)
-        (leaving Nothing Streams (Stream handle) (lowered Receivers) reply.Unit) (inl (receiver_says Nothing (fewer Receivers) q.0 q.1)) refl woken
+        (after_leaving Nothing Streams (Stream handle) (lowered Receivers) reply.Unit) (inl (receiver_says Nothing (fewer Receivers) q.0 q.1)) refl woken
         (left_state held d (lowered Receivers) (shows_lowered Receivers) (awake_lowered Receivers) Streams (Stream handle) reply.Unit _ _ g)
         refl (told_left_as Nothing Streams (Stream handle) s.waiting _ woken)
 
-    receiver_closes : (last : (model.count Receiver s.channel == 1) ≡ true) → s.channel.closed ≡ false
+    receiver_closes : (last : (model.strong_handles Receiver s.channel == 1) ≡ true) → s.channel.closed ≡ false
         → Matches held s (call.Drop handle) (ends of_closing (closer_ending (dropper Receivers key) true) (over_queue alone.shut (lowers Receivers c).channel))
     receiver_closes last open_yet =
         let w : Waiter = Stream handle in
@@ -190,7 +190,7 @@ module _ {T : Type 0} (held : Held) (c : Channel T Waiter) (s : State T) (h : Re
         closing_wakes (line_of names) held s.channel.closed d.roster s.waiting ((leaves (held_on list.Streams key) told).woken ++ []) g.lines
         ∙ ap (λ (ws : List Waiter). told_by Closing s.waiting ++ ws) (append-nil _ ∙ left.wakes) in
         matching held s (call.Drop handle) (Some w) (ap (λ (o : Option Handle). stream_of handle o) there) (ends of_closing (closer_ending (dropper Receivers key) true) (over_queue alone.shut d))
-        (leaving Closing Streams w (with_channel (shut (fewer Receivers)) (dropped s handle)) reply.Unit)
+        (after_leaving Closing Streams w (with_channel (shut (fewer Receivers)) (dropped s handle)) reply.Unit)
         (inl (receiver_says Closing (shut (fewer Receivers)) (news_are Receivers true false last open_yet) (channel_is Receivers true last))) refl woken
         (record {
           messages = ap (λ (q : Queue T). q.items) left.queue ∙ g.messages;

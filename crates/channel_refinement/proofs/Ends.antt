@@ -7,7 +7,7 @@ use Rattle.channel_calls.specs.Answered.{over}
 use Rattle.channel_calls.specs.declared.reply.Reply.{Reply}
 use Rattle.channel_calls.specs.declared.stage.Line.{Line}
 use Rattle.channel_alone.specs.Alone.{Outcome, ends}
-use Rattle.channel_model.specs.Answer.{leaving}
+use Rattle.channel_model.specs.Answer.{after_leaving}
 use Rattle.channel_model.specs.Awake.{AwakeIn}
 use Rattle.channel_model.specs.Laws.{line_of}
 use Rattle.channel_model.specs.Lines.{after_news}
@@ -19,14 +19,14 @@ use Rattle.channel_model.specs.declared.news.News.TheVariants.{Nothing}
 use Rattle.channel_model.proofs.Awake.{placed_news, empty_news}
 use Rattle.channel_refinement.specs.Asked.{keeper}
 use Rattle.channel_refinement.specs.Over.{Matches, names_after}
-use Rattle.channel_model.specs.Asked.{Held}
+use Rattle.channel_model.specs.Asked.{KeysHeld}
 use Rattle.channel_refinement.specs.Refines.{with_held, Refines, list_of}
 use Rattle.channel_refinement.proofs.Departing.{Departed, departed, streams_are}
 use Rattle.channel_refinement.proofs.Matching.{matching}
 use Rattle.channel_refinement.proofs.News.{nothing_lines, keys_news}
 use Rattle.channel_refinement.proofs.Told.{told_left_as}
 
-module _ {T : Type 0} (held : Held) (c : Channel T Waiter) (s : State T) (h : Refines held c s) (awake : AwakeIn s) where
+module _ {T : Type 0} (held : KeysHeld) (c : Channel T Waiter) (s : State T) (h : Refines held c s) (awake : AwakeIn s) where
   -- nothing is told, and w leaves
   pub leaves_now : (line : Line) (w : Waiter) → (line_of s.names w ≡ Some line) ⊎ (line_of s.names w ≡ None)
       → Departed (line_of s.names) held s.channel.closed line w (after_news Nothing s.waiting) c (leaves (held_on (list_of line) (held w)) c).channel (leaves (held_on (list_of line) (held w)) c).woken
@@ -37,7 +37,7 @@ module _ {T : Type 0} (held : Held) (c : Channel T Waiter) (s : State T) (h : Re
 
   -- the state after it, where no name changed
   pub left_state : (line : Line) (w : Waiter) (r : Reply T) (d : Channel T Waiter) (names : List Waiter)
-      → Departed (line_of s.names) held s.channel.closed line w (after_news Nothing s.waiting) c d names → Refines (with_held w None held) d (leaving Nothing line w s r).after
+      → Departed (line_of s.names) held s.channel.closed line w (after_news Nothing s.waiting) c d names → Refines (with_held w None held) d (after_leaving Nothing line w s r).after
   left_state line w r d names g = record {
     messages = ap (λ (q : Queue T). q.items) g.queue ∙ h.messages;
     closed = ap (λ (q : Queue T). q.closed) g.queue ∙ h.closed;
@@ -50,11 +50,11 @@ module _ {T : Type 0} (held : Held) (c : Channel T Waiter) (s : State T) (h : Re
 
   -- a call of w's that ends so with this answer, and keeps this message
   pub ends_so : (call : Call T) (line : Line) (w : Waiter) (r : Reply T) (m : Option T) (o : Outcome T Waiter) → keeper s call ≡ Some w
-      → (line_of s.names w ≡ Some line) ⊎ (line_of s.names w ≡ None) → Answers s call (leaving Nothing line w s r)
+      → (line_of s.names w ≡ Some line) ⊎ (line_of s.names w ≡ None) → Answers s call (after_leaving Nothing line w s r)
       → s.names ≡ names_after s call (ends [] (over r m (list_of line) (held w)) c) → o ≡ ends [] (over r m (list_of line) (held w)) c → Matches held s call o
   ends_so call line w r m o own k allowed names e =
       let g = leaves_now line w k in
       let woken = append-nil _ ∙ g.wakes in
       subst (λ (x : Outcome T Waiter). Matches held s call x) (sym e)
-      (matching held s call (Some w) own (ends [] (over r m (list_of line) (held w)) c) (leaving Nothing line w s r) allowed refl woken (left_state line w r _ _ g) names
+      (matching held s call (Some w) own (ends [] (over r m (list_of line) (held w)) c) (after_leaving Nothing line w s r) allowed refl woken (left_state line w r _ _ g) names
       (told_left_as Nothing line w s.waiting _ woken))

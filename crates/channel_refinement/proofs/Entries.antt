@@ -4,13 +4,13 @@ use Rattle.std.specs.Map.{lookup, remove_entry}
 use Rattle.std.proofs.lemmas.Bool.Decides.{nat_tests}
 use Rattle.event_listener.specs.Lists.{Notice, same_key, told_with, tasks_of}
 use Rattle.event_listener.specs.declared.key.Key.{Key}
-use Rattle.channel_model.specs.Lines.{same_waiter, is_among, without}
+use Rattle.channel_model.specs.Lines.{same_waiter, is_among, without_waiter}
 use Rattle.channel_model.specs.Awake.{times}
 use Rattle.channel_model.specs.declared.name.Waiter.{Waiter}
 use Rattle.channel_calls.specs.declared.stage.Line.{Line}
 use Rattle.channel_model.proofs.WaiterLemmas.{same_refl, same_sound, decided, or_false, or_true, without_absent}
 use Rattle.channel_model.proofs.Counting.{among_self, or_right, among_counts}
-use Rattle.channel_model.specs.Asked.{Held}
+use Rattle.channel_model.specs.Asked.{KeysHeld}
 use Rattle.channel_refinement.specs.Refines.{AreUntold, AreTold, IsToldSo}
 
 pub same_key_refl : (key : Key) → same_key key key ≡ true
@@ -30,7 +30,7 @@ some_same a b off e =
 
 -- ---- the waiting
 
-module _ (held : Held) where
+module _ (held : KeysHeld) where
   -- each untold one wakes by its name
   pub tasks_are : (es : List (Key × Option Waiter)) (ws : List Waiter) → AreUntold held es ws → tasks_of es ≡ ws
   tasks_are [] [] h = refl
@@ -72,7 +72,7 @@ module _ (held : Held) where
   ]
 
 -- the same names under other keys of others
-pub untold_kept : (held other : Held) (es : List (Key × Option Waiter)) (ws : List Waiter) → AreUntold held es ws → ((w : Waiter) → is_among w ws ≡ true → other w ≡ held w) → AreUntold other es ws
+pub untold_kept : (held other : KeysHeld) (es : List (Key × Option Waiter)) (ws : List Waiter) → AreUntold held es ws → ((w : Waiter) → is_among w ws ≡ true → other w ≡ held w) → AreUntold other es ws
 untold_kept held other [] [] h same = h
 untold_kept held other [] (w ∷ ws) h same = absurd h
 untold_kept held other (e ∷ es) [] h same = absurd h
@@ -81,7 +81,7 @@ untold_kept held other (e ∷ es) (w ∷ ws) h same =
 
 -- ---- the told
 
-module _ (held : Held) (closed : Bool) (line : Line) where
+module _ (held : KeysHeld) (closed : Bool) (line : Line) where
   pub told_append : (es fs : List (Key × Notice Unit)) (vs ws : List Waiter) → AreTold held closed line es vs → AreTold held closed line fs ws → AreTold held closed line (es ++ fs) (vs ++ ws)
   told_append [] fs [] ws g h = h
   told_append [] fs (v ∷ vs) ws g h = absurd g
@@ -112,7 +112,7 @@ module _ (held : Held) (closed : Bool) (line : Line) where
   told_lengths (e ∷ es) [] h = absurd h
   told_lengths (e ∷ es) (w ∷ ws) h = let on = told_lengths es ws h.2 in omega (arith, on)
 
-pub told_kept : (held other : Held) (closed : Bool) (line : Line) (es : List (Key × Notice Unit)) (ws : List Waiter) → AreTold held closed line es ws
+pub told_kept : (held other : KeysHeld) (closed : Bool) (line : Line) (es : List (Key × Notice Unit)) (ws : List Waiter) → AreTold held closed line es ws
     → ((w : Waiter) → is_among w ws ≡ true → other w ≡ held w) → AreTold other closed line es ws
 told_kept held other closed line [] [] h same = h
 told_kept held other closed line [] (w ∷ ws) h same = absurd h
@@ -121,7 +121,7 @@ told_kept held other closed line (e ∷ es) (w ∷ ws) h same =
     (same w (among_self w ws) ∙ h.0, h.1, told_kept held other closed line es ws h.2 (λ v f. same v (or_right (same_waiter v w) (is_among v ws) f)))
 
 -- a channel that is closed asks nothing of how they were told
-pub told_closed : (held : Held) (closed : Bool) (line : Line) (es : List (Key × Notice Unit)) (ws : List Waiter) → AreTold held closed line es ws → AreTold held true line es ws
+pub told_closed : (held : KeysHeld) (closed : Bool) (line : Line) (es : List (Key × Notice Unit)) (ws : List Waiter) → AreTold held closed line es ws → AreTold held true line es ws
 told_closed held closed line [] [] h = h
 told_closed held closed line [] (w ∷ ws) h = absurd h
 told_closed held closed line (e ∷ es) [] h = absurd h
@@ -130,13 +130,13 @@ told_closed held closed line (e ∷ es) (w ∷ ws) h = (h.0, (λ c. cc c), told_
 -- ---- one who leaves
 
 -- among these names only w holds the key
-abbrev pub OnlyHolder : Held → Key → Waiter → List Waiter → Type 0
+abbrev pub OnlyHolder : KeysHeld → Key → Waiter → List Waiter → Type 0
 OnlyHolder held key w ws = (v : Waiter) → is_among v ws ≡ true → held v ≡ Some key → v ≡ w
 
-pub only_rest : (held : Held) (key : Key) (w v : Waiter) (vs : List Waiter) → OnlyHolder held key w (v ∷ vs) → OnlyHolder held key w vs
+pub only_rest : (held : KeysHeld) (key : Key) (w v : Waiter) (vs : List Waiter) → OnlyHolder held key w (v ∷ vs) → OnlyHolder held key w vs
 only_rest held key w v vs only = λ x e h. only x (or_right (same_waiter x v) (is_among x vs) e) h
 
-module _ (held : Held) (key : Key) (w : Waiter) (holds : held w ≡ Some key) where
+module _ (held : KeysHeld) (key : Key) (w : Waiter) (holds : held w ≡ Some key) where
   -- one whose entry it is, or isn't
   same_entry : (v : Waiter) (vs : List Waiter) (k : Key) → OnlyHolder held key w (v ∷ vs) → held v ≡ Some k → same_key key k ≡ same_waiter w v
   same_entry v vs k only h = elim (decided (same_key key k)) [
@@ -162,7 +162,7 @@ module _ (held : Held) (key : Key) (w : Waiter) (holds : held w ≡ Some key) wh
     | inr s ↦ rw s at once
   ]
 
-  pub untold_without : (es : List (Key × Option Waiter)) (ws : List Waiter) → OnlyHolder held key w ws → times w ws ≤ 1 → AreUntold held es ws → AreUntold held (remove_entry (same_key key) es) (without w ws)
+  pub untold_without : (es : List (Key × Option Waiter)) (ws : List Waiter) → OnlyHolder held key w ws → times w ws ≤ 1 → AreUntold held es ws → AreUntold held (remove_entry (same_key key) es) (without_waiter w ws)
   untold_without [] [] only once h = h
   untold_without [] (v ∷ vs) only once h = absurd h
   untold_without (e ∷ es) [] only once h = absurd h
@@ -174,7 +174,7 @@ module _ (held : Held) (key : Key) (w : Waiter) (holds : held w ≡ Some key) wh
       ]
 
   pub told_without : (closed : Bool) (line : Line) (es : List (Key × Notice Unit)) (ws : List Waiter) → OnlyHolder held key w ws → times w ws ≤ 1
-      → AreTold held closed line es ws → AreTold held closed line (remove_entry (same_key key) es) (without w ws)
+      → AreTold held closed line es ws → AreTold held closed line (remove_entry (same_key key) es) (without_waiter w ws)
   told_without closed line [] [] only once h = h
   told_without closed line [] (v ∷ vs) only once h = absurd h
   told_without closed line (e ∷ es) [] only once h = absurd h

@@ -30,11 +30,11 @@ use Rattle.channel_model.proofs.LawSteps.{chosen_no}
 use Rattle.channel_refinement.specs.Asked.{keeper}
 use Rattle.channel_refinement.specs.Over.{Matches, names_after, made_names}
 use Rattle.channel_refinement.proofs.Matching.{matching}
-use Rattle.channel_model.specs.Asked.{Held}
+use Rattle.channel_model.specs.Asked.{KeysHeld}
 use Rattle.channel_refinement.specs.Refines.{Refines, ShowsLines, KeysFit}
 
 -- the counts of handles are no matter to the lists
-pub counted_lines : (kind : Kind) (held : Held) (closed : Bool) (side : Side) (n : ℕ) (a : Roster Waiter) (l : Waiting) → ShowsLines kind held closed a l → ShowsLines kind held closed (with_count side n a) l
+pub counted_lines : (kind : Kind) (held : KeysHeld) (closed : Bool) (side : Side) (n : ℕ) (a : Roster Waiter) (l : Waiting) → ShowsLines kind held closed a l → ShowsLines kind held closed (with_count side n a) l
 counted_lines kind held closed Senders n a l h Sends = h Sends
 counted_lines kind held closed Senders n a l h Receives = h Receives
 counted_lines kind held closed Senders n a l h Streams = h Streams
@@ -60,7 +60,7 @@ module _ {T : Type 0} where
     same (Stream r) = refl
     same (Op op) = refl
 
-  pub shows_handles : (held : Held) (c : Channel T Waiter) (s : State T) (handles : Directory Handle) → Refines held c s → Refines held c (with_names (with_handles handles s.names) s)
+  pub shows_handles : (held : KeysHeld) (c : Channel T Waiter) (s : State T) (handles : Directory Handle) → Refines held c s → Refines held c (with_names (with_handles handles s.names) s)
   shows_handles held c s handles h = record {
     messages = h.messages;
     closed = h.closed;
@@ -72,8 +72,8 @@ module _ {T : Type 0} where
   }
 
   -- a count that changed
-  pub shows_count : (held : Held) (c : Channel T Waiter) (s : State T) (side : Side) (n m : ℕ) → n ≡ m → Refines held c s
-      → Refines held (record c { roster = with_count side n c.roster }) (with_channel (model.with_count (kind_of_side side) m s.channel) s)
+  pub shows_count : (held : KeysHeld) (c : Channel T Waiter) (s : State T) (side : Side) (n m : ℕ) → n ≡ m → Refines held c s
+      → Refines held (record c { roster = with_count side n c.roster }) (with_channel (model.with_strong_handles (kind_of_side side) m s.channel) s)
   shows_count held c s Senders n m e h = record {
     messages = h.messages;
     closed = h.closed;
@@ -93,13 +93,13 @@ module _ {T : Type 0} where
     keys = h.keys;
   }
 
-  pub same_count : (held : Held) (c : Channel T Waiter) (s : State T) (side : Side) → Refines held c s → count side c.roster ≡ model.count (kind_of_side side) s.channel
+  pub same_count : (held : KeysHeld) (c : Channel T Waiter) (s : State T) (side : Side) → Refines held c s → count side c.roster ≡ model.strong_handles (kind_of_side side) s.channel
   same_count held c s Senders h = h.senders
   same_count held c s Receivers h = h.receivers
 
 -- ---- new handles
 
-module _ {T : Type 0} (held : Held) (c : Channel T Waiter) (s : State T) (h : Refines held c s) (call : Call T) (nobody : keeper s call ≡ None) where
+module _ {T : Type 0} (held : KeysHeld) (c : Channel T Waiter) (s : State T) (h : Refines held c s) (call : Call T) (nobody : keeper s call ≡ None) where
   -- a call over which nobody keeps a listener, which wakes nobody and changes the handles alone
   pub renames : (handles : Directory Handle) (r : Reply T) (o : Outcome T Waiter) → Answers s call (replying (with_names (with_handles handles s.names) s) r)
       → with_handles handles s.names ≡ names_after s call (says_only r c) → o ≡ says_only r c → Matches held s call o
@@ -109,11 +109,11 @@ module _ {T : Type 0} (held : Held) (c : Channel T Waiter) (s : State T) (h : Re
       (sym (append-nil s.waiting.woken)))
 
   module _ (new : HandleId) (side : Side) (renamed : (o : Outcome T Waiter) → names_after s call o ≡ made_names new (Some (kind_of_side side)) o.reply s.names) where
-    counted : Answers s call (replying (with_channel (model.with_count (kind_of_side side) (model.count (kind_of_side side) s.channel + 1) s.channel) (made s new (kind_of_side side))) reply.Made)
+    counted : Answers s call (replying (with_channel (model.with_strong_handles (kind_of_side side) (model.strong_handles (kind_of_side side) s.channel + 1) s.channel) (made s new (kind_of_side side))) reply.Made)
         → (d : Channel T Waiter) → d ≡ record c { roster = with_count side (count side c.roster + 1) c.roster } → Matches held s call (answers reply.Made nothing_kept d)
     counted allowed d e =
-        let n : ℕ = model.count (kind_of_side side) s.channel + 1 in
-        let t : State T = with_channel (model.with_count (kind_of_side side) n s.channel) (made s new (kind_of_side side)) in
+        let n : ℕ = model.strong_handles (kind_of_side side) s.channel + 1 in
+        let t : State T = with_channel (model.with_strong_handles (kind_of_side side) n s.channel) (made s new (kind_of_side side)) in
         let one_more_each : count side c.roster + 1 ≡ n = ap (λ (m : ℕ). m + 1) (same_count held c s side h) in
         let shows : Refines held d t =
         subst (λ (x : Channel T Waiter). Refines held x t) (sym e) (shows_count held c (made s new (kind_of_side side)) side (count side c.roster + 1) n one_more_each (shows_handles held c s _ h)) in
@@ -127,7 +127,7 @@ module _ {T : Type 0} (held : Held) (c : Channel T Waiter) (s : State T) (h : Re
       by_test false t = cc t
 
     -- the model's count is as great as the channel's
-    as_great : (b : Bool) → nat_lt most (count side c.roster) ≡ b → nat_lt (2 ^ 63 - 1) (model.count (kind_of_side side) s.channel) ≡ b
+    as_great : (b : Bool) → nat_lt most (count side c.roster) ≡ b → nat_lt (2 ^ 63 - 1) (model.strong_handles (kind_of_side side) s.channel) ≡ b
     as_great b e = ap (λ (n : ℕ). nat_lt most n) (sym (same_count held c s side h)) ∙ e
 
     cloned : (b : Bool) → nat_lt most (count side c.roster) ≡ b → Answers s call (one_more s new (kind_of_side side))
@@ -136,26 +136,26 @@ module _ {T : Type 0} (held : Held) (c : Channel T Waiter) (s : State T) (h : Re
         let too_many : one_more s new (kind_of_side side) ≡ replying (spent s new) reply.TooMany = rw (as_great true e) refl in
         renames (spent s new).names.handles reply.TooMany _ (subst (λ (a : Answer T). Answers s call a) too_many allowed) (sym (renamed (says_only reply.TooMany c))) refl
     cloned false e allowed =
-        let more : one_more s new (kind_of_side side) ≡ replying (with_channel (model.with_count (kind_of_side side) (model.count (kind_of_side side) s.channel + 1) s.channel) (made s new (kind_of_side side))) reply.Made = rw (as_great false e) refl in
+        let more : one_more s new (kind_of_side side) ≡ replying (with_channel (model.with_strong_handles (kind_of_side side) (model.strong_handles (kind_of_side side) s.channel + 1) s.channel) (made s new (kind_of_side side))) reply.Made = rw (as_great false e) refl in
         counted (subst (λ (a : Answer T). Answers s call a) more allowed) _ (raises_are e)
 
     pub clones_so : (o : Outcome T Waiter) → o ≡ clones side c → Answers s call (one_more s new (kind_of_side side)) → Matches held s call o
     clones_so o e allowed = subst (λ (x : Outcome T Waiter). Matches held s call x) (sym e) (cloned (nat_lt most (count side c.roster)) refl allowed)
 
-    not_made : (s.channel.closed || (model.count (kind_of_side side) s.channel == 0)) ≡ true → Answers s call (upgrade_to s new (kind_of_side side)) → Matches held s call (answers reply.NotMade nothing_kept c)
+    not_made : (s.channel.closed || (model.strong_handles (kind_of_side side) s.channel == 0)) ≡ true → Answers s call (upgrade_to s new (kind_of_side side)) → Matches held s call (answers reply.NotMade nothing_kept c)
     not_made e allowed =
         let none : upgrade_to s new (kind_of_side side) ≡ replying (spent s new) reply.NotMade = rw e refl in
         renames (spent s new).names.handles reply.NotMade _ (subst (λ (a : Answer T). Answers s call a) none allowed) (sym (renamed (says_only reply.NotMade c))) refl
 
     upgraded : (closed none : Bool) → c.queue.closed ≡ closed → (count side c.roster == 0) ≡ none → Answers s call (upgrade_to s new (kind_of_side side))
         → Matches held s call (if closed then answers reply.NotMade nothing_kept c else (if none then answers reply.NotMade nothing_kept c else clones side c))
-    upgraded true none e f allowed = not_made (ap (λ (b : Bool). b || (model.count (kind_of_side side) s.channel == 0)) (sym h.closed ∙ e)) allowed
+    upgraded true none e f allowed = not_made (ap (λ (b : Bool). b || (model.strong_handles (kind_of_side side) s.channel == 0)) (sym h.closed ∙ e)) allowed
     upgraded false true e f allowed =
-        let zero : (model.count (kind_of_side side) s.channel == 0) ≡ true = ap (λ (n : ℕ). n == 0) (sym (same_count held c s side h)) ∙ f in
-        not_made (ap (λ (b : Bool). b || (model.count (kind_of_side side) s.channel == 0)) (sym h.closed ∙ e) ∙ zero) allowed
+        let zero : (model.strong_handles (kind_of_side side) s.channel == 0) ≡ true = ap (λ (n : ℕ). n == 0) (sym (same_count held c s side h)) ∙ f in
+        not_made (ap (λ (b : Bool). b || (model.strong_handles (kind_of_side side) s.channel == 0)) (sym h.closed ∙ e) ∙ zero) allowed
     upgraded false false e f allowed =
-        let some : (s.channel.closed || (model.count (kind_of_side side) s.channel == 0)) ≡ false =
-        ap (λ (b : Bool). b || (model.count (kind_of_side side) s.channel == 0)) (sym h.closed ∙ e) ∙ (ap (λ (n : ℕ). n == 0) (sym (same_count held c s side h)) ∙ f) in
+        let some : (s.channel.closed || (model.strong_handles (kind_of_side side) s.channel == 0)) ≡ false =
+        ap (λ (b : Bool). b || (model.strong_handles (kind_of_side side) s.channel == 0)) (sym h.closed ∙ e) ∙ (ap (λ (n : ℕ). n == 0) (sym (same_count held c s side h)) ∙ f) in
         let made_so : upgrade_to s new (kind_of_side side) ≡ one_more s new (kind_of_side side) = chosen_no _ _ _ some in
         clones_so _ refl (subst (λ (a : Answer T). Answers s call a) made_so allowed)
 

@@ -15,7 +15,7 @@ use Rattle.channel_calls.specs.declared.stage.Line.TheVariants.{Sends, Receives,
 use Rattle.channel_model.proofs.WaiterLemmas.{decided, or_false, without_absent}
 use Rattle.channel_model.proofs.WaiterLemmas.{untold_gone}
 use Rattle.channel_model.proofs.Awake.{line_refl, placed_gone, empty_gone}
-use Rattle.channel_model.specs.Asked.{Held}
+use Rattle.channel_model.specs.Asked.{KeysHeld}
 use Rattle.channel_refinement.specs.Refines.{AreUntold, AreTold, IsToldSo, ShowsLine, ShowsLines, KeysFit, list_of, of_line}
 use Rattle.channel_refinement.proofs.Names.{AllOf, among_of_line, among_its_line, not_of_line, of_line_without}
 use Rattle.channel_refinement.proofs.Entries.{tasks_are, untold_first, none_untold, told_lengths, OnlyHolder, untold_without, told_without, told_found, told_missed, untold_found, untold_missed}
@@ -44,12 +44,12 @@ module _ (key : Key) (l : Listeners Waiter) where
   wakes_are o e = ap (λ (p : Option (Notice (Unit {0}))). wakes_by p) e
 
 -- a list that was left and then told news
-record Left (kind : Kind) (held : Held) (closed : Bool) (line : Line) (x : Listeners Waiter) (names : List Waiter) (news : News) (m : Waiting) : Type 0 where
+record Left (kind : Kind) (held : KeysHeld) (closed : Bool) (line : Line) (x : Listeners Waiter) (names : List Waiter) (news : News) (m : Waiting) : Type 0 where
   own : ShowsLine kind held closed line x (after_news news m)
   wakes : names ≡ told_by news m
   quiet : (news ≡ Nothing) ⊎ (news ≡ NextIn line)
 
-module _ (kind : Kind) (held : Held) (closed : Bool) where
+module _ (kind : Kind) (held : KeysHeld) (closed : Bool) where
   -- ---- a notice that is passed on
 
   none_moved : (line : Line) (n : Notice (Unit {0})) (y : Listeners Waiter) (m : Waiting) → moved n.additional 1 y ≡ 0 → ShowsLine kind held closed line y m

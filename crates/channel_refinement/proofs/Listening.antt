@@ -12,7 +12,7 @@ use Rattle.channel_calls.specs.declared.stage.Line.{Line}
 use Rattle.channel_calls.specs.declared.stage.Line.TheVariants.{Sends, Receives, Streams, Closings}
 use Rattle.channel_model.proofs.WaiterLemmas.{same_refl, same_sound, decided}
 use Rattle.channel_model.proofs.Counting.{count_append}
-use Rattle.channel_model.specs.Asked.{Held}
+use Rattle.channel_model.specs.Asked.{KeysHeld}
 use Rattle.channel_refinement.specs.Refines.{with_held, AreUntold, AreTold, ShowsLines, KeysFit, list_of, of_line}
 use Rattle.channel_refinement.proofs.Names.{among_of_line, among_its_line}
 use Rattle.channel_refinement.proofs.Entries.{same_key_refl, OnlyHolder, told_found, untold_found, untold_append}
@@ -112,7 +112,7 @@ module _ (key : Key) (w : Waiter) where
       chosen (is_some (told_as (listened key x) key)) (is_some (waits_as (listened key x) key)) _ _ _ off.0 (found_last x.waiting)
       ∙ ap (λ (es : List (Key × Option Waiter)). let l : Listeners Waiter = record { told = x.told; waiting = es } in l) (set_last x.waiting off.1)
 
-module _ (kind : Kind) (held : Held) (closed : Bool) (a : Roster Waiter) (m : Waiting) (line : Line) (w : Waiter) (key : Key) (k : kind w ≡ Some line) (placed : Placed kind m) (keys : KeysFit kind held m)
+module _ (kind : Kind) (held : KeysHeld) (closed : Bool) (a : Roster Waiter) (m : Waiting) (line : Line) (w : Waiter) (key : Key) (k : kind w ≡ Some line) (placed : Placed kind m) (keys : KeysFit kind held m)
     (nowhere : Nowhere w m) (none : kind_of (listeners (list_of line) a) key ≡ None) (h : ShowsLines kind held closed a m) where
   off : (is_some (told_as (listeners (list_of line) a) key) ≡ false) × (is_some (waits_as (listeners (list_of line) a) key) ≡ false)
   off = neither (is_some (told_as (listeners (list_of line) a) key)) (is_some (waits_as (listeners (list_of line) a) key)) none
@@ -164,7 +164,7 @@ module _ (kind : Kind) (held : Held) (closed : Bool) (a : Roster Waiter) (m : Wa
   pub joins_lines : ShowsLines kind (with_held w (Some key) held) closed (with_listeners (list_of line) (joined key w (listeners (list_of line) a)) a) (at_last line w m)
   joins_lines =
       let x : Listeners Waiter = listeners (list_of line) a in
-      let new : Held = with_held w (Some key) held in
+      let new : KeysHeld = with_held w (Some key) held in
       let g : ShowsLines kind new closed a m = rekeyed_lines kind held closed a m w (Some key) nowhere h in
       replaced kind new closed line (joined key w x) a (at_last line w m)
       (record {

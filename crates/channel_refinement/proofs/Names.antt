@@ -1,7 +1,7 @@
 -- Names in lists, those of one line among them, and how often a name stands.
 use Rattle.std.proofs.Common.{◌≡◌, List, [], ◌∷◌, ◌++◌, Bool, true, false, ◌||◌, Option, None, Some, refl, sym, ap, subst, ◌∙◌, inl, inr}
 use Rattle.std.proofs.lemmas.List.Elements.{filter-append}
-use Rattle.channel_model.specs.Lines.{same_waiter, is_among, without}
+use Rattle.channel_model.specs.Lines.{same_waiter, is_among, without_waiter}
 use Rattle.channel_model.specs.Awake.{Kind}
 use Rattle.channel_model.specs.Laws.{same_line, is_line}
 use Rattle.channel_model.specs.declared.name.Waiter.{Waiter}
@@ -39,7 +39,7 @@ among_its_line kind line w (v ∷ vs) k = elim (decided (same_waiter w v)) [
 ]
 
 -- to take one out, and to keep those of a line, in either order
-pub of_line_without : (kind : Kind) (line : Line) (w : Waiter) (ws : List Waiter) → of_line kind line (without w ws) ≡ without w (of_line kind line ws)
+pub of_line_without : (kind : Kind) (line : Line) (w : Waiter) (ws : List Waiter) → of_line kind line (without_waiter w ws) ≡ without_waiter w (of_line kind line ws)
 of_line_without kind line w [] = refl
 of_line_without kind line w (v ∷ vs) = elim (decided (same_waiter w v)) [
   | inl t ↦ elim (decided (is_line line (kind v))) [

@@ -8,7 +8,7 @@ use Rattle.channel_model.specs.Answer.{replying, new_answer, poll_answer}
 use Rattle.channel_model.specs.Awake.{AwakeIn}
 use Rattle.channel_model.specs.Laws.{line_of, line_of_operation}
 use Rattle.channel_model.specs.Lines.{same_waiter}
-use Rattle.channel_model.specs.Names.{Names, Operation, send, at, with_operation}
+use Rattle.channel_model.specs.Names.{Names, ModelOperation, send, at, with_operation}
 use Rattle.channel_model.specs.Refused.{Answers}
 use Rattle.channel_model.specs.State.{State}
 use Rattle.channel_model.specs.declared.call.Call.{Call}
@@ -20,7 +20,7 @@ use Rattle.channel_model.specs.declared.name.Waiter.TheVariants.{Op, Stream}
 use Rattle.channel_model.proofs.WaiterLemmas.{same_symm}
 use Rattle.channel_refinement.specs.Asked.{keeper}
 use Rattle.channel_refinement.specs.Over.{Matches, names_after, polled_names}
-use Rattle.channel_model.specs.Asked.{Held}
+use Rattle.channel_model.specs.Asked.{KeysHeld}
 use Rattle.channel_refinement.specs.Refines.{Refines}
 use Rattle.channel_refinement.proofs.Matching.{matching}
 use Rattle.channel_refinement.proofs.Pending.{held_same}
@@ -28,11 +28,11 @@ use Rattle.channel_refinement.proofs.Standing.{Nowhere, kindless_nowhere, nowher
 use Rattle.channel_refinement.proofs.Told.{told_away}
 
 -- every name but the new one keeps its kind
-new_kind : {T : Type 0} → (op : OpId) (x : Operation T) (names : Names T) (w : Waiter) → same_waiter (Op op) w ≡ false → line_of (with_operation op x names) w ≡ line_of names w
+new_kind : {T : Type 0} → (op : OpId) (x : ModelOperation T) (names : Names T) (w : Waiter) → same_waiter (Op op) w ≡ false → line_of (with_operation op x names) w ≡ line_of names w
 new_kind op x names (Stream r) off = refl
 new_kind op x names (Op other) off = let apart : nat_eq other.0 op.0 ≡ false = same_symm (Op other) (Op op) ∙ off in rw apart refl
 
-module _ {T : Type 0} (held : Held) (c : Channel T Waiter) (s : State T) (h : Refines held c s) (awake : AwakeIn s) (op : OpId) where
+module _ {T : Type 0} (held : KeysHeld) (c : Channel T Waiter) (s : State T) (h : Refines held c s) (awake : AwakeIn s) (op : OpId) where
   -- one that belongs to no line
   kindless : line_of s.names (Op op) ≡ None → Nowhere (Op op) s.waiting
   kindless none = kindless_nowhere (line_of s.names) (Op op) s.waiting none awake.placed
@@ -40,10 +40,10 @@ module _ {T : Type 0} (held : Held) (c : Channel T Waiter) (s : State T) (h : Re
   unheld : line_of s.names (Op op) ≡ None → held (Op op) ≡ None
   unheld none = nowhere_keyless (line_of s.names) held (Op op) s.waiting (kindless none) h.keys
 
-  pub new_operation : (call : Call T) (x : Operation T) (o : Outcome T Waiter) → keeper s call ≡ None → at op.0 s.names.operations ≡ None → Answers s call (new_answer s op x)
+  pub new_operation : (call : Call T) (x : ModelOperation T) (o : Outcome T Waiter) → keeper s call ≡ None → at op.0 s.names.operations ≡ None → Answers s call (new_answer s op x)
       → with_operation op x s.names ≡ names_after s call (says_only reply.Made c) → o ≡ says_only reply.Made c → Matches held s call o
   new_operation call x o nobody free allowed names e =
-      let none : line_of s.names (Op op) ≡ None = ap (λ (y : Option (Operation T)). line_of_operation y) free in
+      let none : line_of s.names (Op op) ≡ None = ap (λ (y : Option (ModelOperation T)). line_of_operation y) free in
       subst (λ (y : Outcome T Waiter). Matches held s call y) (sym e)
       (matching held s call None nobody (says_only reply.Made c) (new_answer s op x) allowed refl refl
       (record {
@@ -60,9 +60,9 @@ module _ {T : Type 0} (held : Held) (c : Channel T Waiter) (s : State T) (h : Re
   -- a finished send stays pending, and is only answered
   pub poll_finished : (handle : HandleId) (o : Outcome T Waiter) → at op.0 s.names.operations ≡ Some (send handle None) → o ≡ says_only (reply.SendPoll poll.Pending) c → Matches held s (call.Poll op) o
   poll_finished handle o there e =
-      let none : line_of s.names (Op op) ≡ None = ap (λ (y : Option (Operation T)). line_of_operation y) there in
+      let none : line_of s.names (Op op) ≡ None = ap (λ (y : Option (ModelOperation T)). line_of_operation y) there in
       subst (λ (y : Outcome T Waiter). Matches held s (call.Poll op) y) (sym e)
       (matching held s (call.Poll op) (Some (Op op)) refl (says_only (reply.SendPoll poll.Pending) c) (replying s (reply.SendPoll poll.Pending))
-      (inl (ap (λ (y : Option (Operation T)). poll_answer s op y) (sym there))) refl refl
-      (subst (λ (g : Held). Refines g c s) (sym (held_same (Op op) None held (unheld none))) h)
-      (ap (λ (y : Option (Operation T)). polled_names op y None s.names) (sym there)) (told_away (Op op) s.waiting.woken (kindless none).woken))
+      (inl (ap (λ (y : Option (ModelOperation T)). poll_answer s op y) (sym there))) refl refl
+      (subst (λ (g : KeysHeld). Refines g c s) (sym (held_same (Op op) None held (unheld none))) h)
+      (ap (λ (y : Option (ModelOperation T)). polled_names op y None s.names) (sym there)) (told_away (Op op) s.waiting.woken (kindless none).woken))

@@ -11,7 +11,7 @@ use Rattle.channel_model.specs.declared.news.News.TheVariants.{Nothing, Message,
 use Rattle.channel_calls.specs.declared.stage.Line.{Line}
 use Rattle.channel_calls.specs.declared.stage.Line.TheVariants.{Sends, Receives, Streams, Closings}
 use Rattle.channel_model.proofs.Awake.{times_news}
-use Rattle.channel_model.specs.Asked.{Held}
+use Rattle.channel_model.specs.Asked.{KeysHeld}
 use Rattle.channel_refinement.specs.Refines.{ShowsLines, KeysFit, list_of}
 use Rattle.channel_refinement.proofs.Entries.{told_closed}
 use Rattle.channel_refinement.proofs.Telling.{Lined, lined_all, lined_next, one_told, one_woken, all_are_told, all_woken, message_is, closing_is}
@@ -44,16 +44,16 @@ abbrev pub closing_told : Roster Waiter → Roster Waiter
 closing_told a = closings_told (streams_told (receives_told (sends_told a)))
 
 -- a closed channel asks nothing of how anybody was told
-pub shut_lines : (kind : Kind) (held : Held) (closed : Bool) (a : Roster Waiter) (l : Waiting) → ShowsLines kind held closed a l → ShowsLines kind held true a l
+pub shut_lines : (kind : Kind) (held : KeysHeld) (closed : Bool) (a : Roster Waiter) (l : Waiting) → ShowsLines kind held closed a l → ShowsLines kind held true a l
 shut_lines kind held closed a l h line = record { untold = (h line).untold; told = told_closed held closed line _ _ (h line).told }
 
-pub keys_news : (kind : Kind) (held : Held) (news : News) (l : Waiting) → KeysFit kind held l → KeysFit kind held (after_news news l)
+pub keys_news : (kind : Kind) (held : KeysHeld) (news : News) (l : Waiting) → KeysFit kind held l → KeysFit kind held (after_news news l)
 keys_news kind held news l h = record {
   holds = λ w key e. let one : 1 ≤ _ = h.holds w key e in let same = times_news news w l in omega (arith, one, same);
   apart = h.apart;
 }
 
-pub keys_rooms : (kind : Kind) (held : Held) (n : ℕ) (l : Waiting) → KeysFit kind held l → KeysFit kind held (after_rooms n l)
+pub keys_rooms : (kind : Kind) (held : KeysHeld) (n : ℕ) (l : Waiting) → KeysFit kind held l → KeysFit kind held (after_rooms n l)
 keys_rooms kind held zero l h = h
 keys_rooms kind held (suc n) l h = keys_rooms kind held n (after_news Room l) (keys_news kind held Room l h)
 
@@ -64,7 +64,7 @@ rooms_woken (suc n) l =
     let m : Waiting = after_news Room l in
     rooms_woken n m ∙ append_assoc l.woken (told_by Room l) (told_by_rooms n m)
 
-module _ (kind : Kind) (held : Held) where
+module _ (kind : Kind) (held : KeysHeld) where
   pub nothing_lines : (closed : Bool) (a : Roster Waiter) (l : Waiting) → ShowsLines kind held closed a l → ShowsLines kind held closed a (after_news Nothing l)
   nothing_lines closed a l h =
       subst (λ (ws : List Waiter). let m : Waiting = record { sends = l.sends; receives = l.receives; streams = l.streams; closings = l.closings; woken = ws } in ShowsLines kind held closed a m)

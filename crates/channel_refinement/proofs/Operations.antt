@@ -10,11 +10,11 @@ use Rattle.channel_calls.specs.declared.reply.Reply.{Reply}
 use Rattle.channel_calls.specs.declared.reply.Reply.TheVariants as reply
 use Rattle.channel_calls.specs.declared.stage.Line.{Line}
 use Rattle.channel_alone.specs.Alone.{Outcome, ends}
-use Rattle.channel_model.specs.Answer.{replying, leaving, pending, poll_answer, give_up_answer, given_up}
+use Rattle.channel_model.specs.Answer.{replying, after_leaving, pending, poll_answer, give_up_answer, given_up}
 use Rattle.channel_model.specs.Awake.{AwakeIn}
 use Rattle.channel_model.specs.Laws.{line_of, line_of_operation}
 use Rattle.channel_model.specs.Lines.{Waiting, same_waiter, is_among, untold, after_news, gone, passed_on}
-use Rattle.channel_model.specs.Names.{Names, Directory, Operation, at}
+use Rattle.channel_model.specs.Names.{Names, Directory, ModelOperation, at}
 use Rattle.channel_model.specs.Refused.{Lack, memory, serials, not_standing, not_polled}
 use Rattle.channel_model.specs.State.{State, with_waiting}
 use Rattle.channel_model.specs.declared.call.Call.TheVariants as call
@@ -25,7 +25,7 @@ use Rattle.channel_model.specs.declared.news.News.TheVariants.{Nothing}
 use Rattle.channel_model.proofs.LawSteps.{found_name, set_elsewhere}
 use Rattle.channel_model.proofs.WaiterLemmas.{same_refl}
 use Rattle.channel_refinement.specs.Over.{Matches, polled_names, given_up_names}
-use Rattle.channel_model.specs.Asked.{Held}
+use Rattle.channel_model.specs.Asked.{KeysHeld}
 use Rattle.channel_refinement.specs.Refines.{with_held, Refines, ShowsLines, KeysFit, list_of}
 use Rattle.channel_refinement.proofs.Departing.{Departed, nowhere_after}
 use Rattle.channel_refinement.proofs.Ends.{leaves_now}
@@ -34,12 +34,12 @@ use Rattle.channel_refinement.proofs.Standing.{with_own, rekinded_lines, rekinde
 use Rattle.channel_refinement.proofs.Told.{told_left_as, told_standing, told_gone}
 
 -- every name but one keeps its kind
-pub other_kind : {T : Type 0} → (op : OpId) (v : Option (Operation T)) (x : Operation T) (names names' : Names T) → at op.0 names.operations ≡ Some x → names'.operations ≡ set_value (nat_eq op.0) names.operations v
+pub other_kind : {T : Type 0} → (op : OpId) (v : Option (ModelOperation T)) (x : ModelOperation T) (names names' : Names T) → at op.0 names.operations ≡ Some x → names'.operations ≡ set_value (nat_eq op.0) names.operations v
     → (w : Waiter) → same_waiter (Op op) w ≡ false → line_of names' w ≡ line_of names w
 other_kind op v x names names' there set (Stream r) off = refl
 other_kind {T} op v x names names' there set (Op other) off =
-    ap (λ (o : Option (Operation T)). line_of_operation o)
-    (ap (λ (d : Directory (Operation T)). at other.0 d) set ∙ set_elsewhere op.0 other.0 v names.operations (found_name op.0 names.operations x there) off)
+    ap (λ (o : Option (ModelOperation T)). line_of_operation o)
+    (ap (λ (d : Directory (ModelOperation T)). at other.0 d) set ∙ set_elsewhere op.0 other.0 v names.operations (found_name op.0 names.operations x there) off)
 
 pub not_standing_is : {T : Type 0} → (line : Line) (w : Waiter) (s : State T) (r : Reply T) → is_among w (untold line s.waiting) ≡ false → not_standing line w s r ≡ Some (replying (with_waiting (gone w s.waiting) s) r)
 not_standing_is line w s r u = rw u refl
@@ -49,7 +49,7 @@ abbrev pub lack_of : ListenError → Lack
 lack_of listening.NoMemory = memory
 lack_of listening.SerialsUsedUp = serials
 
-module _ {T : Type 0} (held : Held) (c : Channel T Waiter) (s : State T) (h : Refines held c s) (awake : AwakeIn s) (op : OpId) (x : Operation T) where
+module _ {T : Type 0} (held : KeysHeld) (c : Channel T Waiter) (s : State T) (h : Refines held c s) (awake : AwakeIn s) (op : OpId) (x : ModelOperation T) where
   -- ---- a poll that found nothing
 
   pub poll_waited : (line : Line) (pends : Reply T) (refuses : ListenError → Reply T) (left : Option T) → at op.0 s.names.operations ≡ Some x → poll_answer s op (Some x) ≡ pending line (Op op) s pends
@@ -59,28 +59,28 @@ module _ {T : Type 0} (held : Held) (c : Channel T Waiter) (s : State T) (h : Re
       subst (λ (y : Outcome T Waiter). Matches held s (call.Poll op) y) (sym e)
       (record {
         answer = pending line (Op op) s pends;
-        allowed = inl (sym pends_is ∙ ap (λ (y : Option (Operation T)). poll_answer s op y) (sym there));
+        allowed = inl (sym pends_is ∙ ap (λ (y : Option (ModelOperation T)). poll_answer s op y) (sym there));
         reply = refl;
         woken = refl;
         shows = g;
-        names = names ∙ ap (λ (y : Option (Operation T)). polled_names op y left s.names) (sym there);
+        names = names ∙ ap (λ (y : Option (ModelOperation T)). polled_names op y left s.names) (sym there);
         told = told_standing (line_of s.names) line (Op op) s.waiting awake.placed;
       })
   poll_waited line pends refuses left there pends_is lacks names o (inr (error, d, e, u, g)) =
       subst (λ (y : Outcome T Waiter). Matches held s (call.Poll op) y) (sym e)
       (record {
         answer = replying (with_waiting (gone (Op op) s.waiting) s) (refuses error);
-        allowed = inr (lack_of error, ap (λ (y : Option (Operation T)). not_polled (lack_of error) s op y) there ∙ lacks error u);
+        allowed = inr (lack_of error, ap (λ (y : Option (ModelOperation T)). not_polled (lack_of error) s op y) there ∙ lacks error u);
         reply = refl;
         woken = refl;
         shows = g;
-        names = names ∙ ap (λ (y : Option (Operation T)). polled_names op y left s.names) (sym there);
+        names = names ∙ ap (λ (y : Option (ModelOperation T)). polled_names op y left s.names) (sym there);
         told = told_gone (Op op) s.waiting.woken;
       })
 
   -- ---- an operation that changes as it leaves
 
-  pub changed_lines : (line : Line) (l : Waiting) (v : Option (Operation T)) (names' : Names T) (b d : Channel T Waiter) (names : List Waiter) (closed : Bool)
+  pub changed_lines : (line : Line) (l : Waiting) (v : Option (ModelOperation T)) (names' : Names T) (b d : Channel T Waiter) (names : List Waiter) (closed : Bool)
       → at op.0 s.names.operations ≡ Some x → names'.operations ≡ set_value (nat_eq op.0) s.names.operations v → Departed (line_of s.names) held closed line (Op op) l b d names
       → ShowsLines (line_of names') (with_held (Op op) None held) closed d.roster (after_news (passed_on line (Op op) l) (gone (Op op) l))
       × KeysFit (line_of names') (with_held (Op op) None held) (after_news (passed_on line (Op op) l) (gone (Op op) l))
@@ -94,7 +94,7 @@ module _ {T : Type 0} (held : Held) (c : Channel T Waiter) (s : State T) (h : Re
   -- ---- an operation that is given up
 
   pub give_up : (line : Line) (msg : Option T) (o : Outcome T Waiter) → at op.0 s.names.operations ≡ Some x → (line_of s.names (Op op) ≡ Some line) ⊎ (line_of s.names (Op op) ≡ None)
-      → give_up_answer s op (Some x) ≡ leaving Nothing line (Op op) (given_up s op x) (reply.GivenUp msg)
+      → give_up_answer s op (Some x) ≡ after_leaving Nothing line (Op op) (given_up s op x) (reply.GivenUp msg)
       → o ≡ ends [] (gives_up (list_of line) msg (held (Op op))) c → Matches held s (call.GiveUp op) o
   give_up line msg o there k answer_is e =
       let g = leaves_now held c s h awake line (Op op) k in
@@ -102,8 +102,8 @@ module _ {T : Type 0} (held : Held) (c : Channel T Waiter) (s : State T) (h : Re
       let woken = append-nil _ ∙ g.wakes in
       subst (λ (y : Outcome T Waiter). Matches held s (call.GiveUp op) y) (sym e)
       (record {
-        answer = leaving Nothing line (Op op) (given_up s op x) (reply.GivenUp msg);
-        allowed = inl (sym answer_is ∙ ap (λ (y : Option (Operation T)). give_up_answer s op y) (sym there));
+        answer = after_leaving Nothing line (Op op) (given_up s op x) (reply.GivenUp msg);
+        allowed = inl (sym answer_is ∙ ap (λ (y : Option (ModelOperation T)). give_up_answer s op y) (sym there));
         reply = refl;
         woken = woken;
         shows = record {
@@ -115,6 +115,6 @@ module _ {T : Type 0} (held : Held) (c : Channel T Waiter) (s : State T) (h : Re
           lines = changed.0;
           keys = changed.1;
         };
-        names = ap (λ (y : Option (Operation T)). given_up_names op y s.names) (sym there);
+        names = ap (λ (y : Option (ModelOperation T)). given_up_names op y s.names) (sym there);
         told = told_left_as Nothing line (Op op) s.waiting _ woken;
       })

@@ -11,7 +11,7 @@ use Rattle.channel_calls.specs.declared.stage.Line.{Line}
 use Rattle.channel_calls.specs.declared.stage.Line.TheVariants.{Sends, Receives, Streams, Closings}
 use Rattle.channel_model.proofs.WaiterLemmas.{same_sound}
 use Rattle.channel_model.proofs.Awake.{placed_gone}
-use Rattle.channel_model.specs.Asked.{Held}
+use Rattle.channel_model.specs.Asked.{KeysHeld}
 use Rattle.channel_refinement.specs.Refines.{with_held, ShowsLines, KeysFit, list_of, of_line}
 use Rattle.channel_refinement.proofs.Names.{among_of_line, among_its_line}
 use Rattle.channel_refinement.proofs.Entries.{OnlyHolder, told_found, told_missed, untold_found}
@@ -27,14 +27,14 @@ if_twice : (b : Bool) (x y z : Option Key) → (if b then x else (if b then y el
 if_twice true x y z = refl
 if_twice false x y z = refl
 
-pub held_twice : (w : Waiter) (x y : Option Key) (held : Held) → with_held w x (with_held w y held) ≡ with_held w x held
+pub held_twice : (w : Waiter) (x y : Option Key) (held : KeysHeld) → with_held w x (with_held w y held) ≡ with_held w x held
 held_twice w x y held = λ i v. if_twice (same_waiter w v) x y (held v) i
 
 if_same : (b : Bool) (x z : Option Key) → (b ≡ true → x ≡ z) → (if b then x else z) ≡ z
 if_same true x z h = h refl
 if_same false x z h = refl
 
-pub held_same : (w : Waiter) (x : Option Key) (held : Held) → held w ≡ x → with_held w x held ≡ held
+pub held_same : (w : Waiter) (x : Option Key) (held : KeysHeld) → held w ≡ x → with_held w x held ≡ held
 held_same w x held e = λ i v. if_same (same_waiter w v) x (held v) (λ t. sym e ∙ ap (λ (u : Waiter). held u) (same_sound w v t)) i
 
 same_list : (line : Line) (a : Roster Waiter) → with_listeners (list_of line) (listeners (list_of line) a) a ≡ a
@@ -44,7 +44,7 @@ same_list Streams a = refl
 same_list Closings a = refl
 
 -- the roster b that shows m after the roster a, with w holding this key
-pub record Waited (kind : Kind) (held : Held) (closed : Bool) (w : Waiter) (a b : Roster Waiter) (key : Option Key) (m : Waiting) : Type 0 where
+pub record Waited (kind : Kind) (held : KeysHeld) (closed : Bool) (w : Waiter) (a b : Roster Waiter) (key : Option Key) (m : Waiting) : Type 0 where
   pub senders : b.senders ≡ a.senders
   pub receivers : b.receivers ≡ a.receivers
   pub lines : ShowsLines kind (with_held w key held) closed b m
@@ -64,7 +64,7 @@ first_of told waiting p q r e = rw e refl
 second_of : (told waiting : Bool) (p q r : Listeners Waiter) → told ≡ false → waiting ≡ true → (if told then p else (if waiting then q else r)) ≡ q
 second_of told waiting p q r e f = rw (e, f) refl
 
-module _ (kind : Kind) (held : Held) (closed : Bool) (streams : StreamsAreStreams kind) (line : Line) (w : Waiter) (k : kind w ≡ Some line) (l : Waiting) (placed : Placed kind l) (keys : KeysFit kind held l)
+module _ (kind : Kind) (held : KeysHeld) (closed : Bool) (streams : StreamsAreStreams kind) (line : Line) (w : Waiter) (k : kind w ≡ Some line) (l : Waiting) (placed : Placed kind l) (keys : KeysFit kind held l)
     (shut : closed ≡ true → (line : Line) → untold line l ≡ []) (a : Roster Waiter) (h : ShowsLines kind held closed a l) where
   -- ---- one who stands nowhere
 
@@ -124,8 +124,8 @@ module _ (kind : Kind) (held : Held) (closed : Bool) (streams : StreamsAreStream
           receivers = same_receivers line (registration key w x) a;
           lines =
               subst (λ (m : Waiting). ShowsLines kind (with_held w (Some key) held) closed (with_listeners (list_of line) (registration key w x) a) m) (sym stood)
-              (subst (λ (b : Roster Waiter). ShowsLines kind (with_held w (Some key) held) closed b l) (sym roster) (subst (λ (g : Held). ShowsLines kind g closed a l) (sym (held_same w (Some key) held e)) h));
-          keys = subst (λ (m : Waiting). KeysFit kind (with_held w (Some key) held) m) (sym stood) (subst (λ (g : Held). KeysFit kind g l) (sym (held_same w (Some key) held e)) keys);
+              (subst (λ (b : Roster Waiter). ShowsLines kind (with_held w (Some key) held) closed b l) (sym roster) (subst (λ (g : KeysHeld). ShowsLines kind g closed a l) (sym (held_same w (Some key) held e)) h));
+          keys = subst (λ (m : Waiting). KeysFit kind (with_held w (Some key) held) m) (sym stood) (subst (λ (g : KeysHeld). KeysFit kind g l) (sym (held_same w (Some key) held e)) keys);
         },
       )
 
@@ -139,8 +139,8 @@ module _ (kind : Kind) (held : Held) (closed : Bool) (streams : StreamsAreStream
       let stood : standing line w l ≡ at_last line w (gone w l) = rw u refl in
       let lines : ShowsLines kind (with_held w (Some key) held) closed d (at_last line w (gone w l)) =
       subst (λ (r : Roster Waiter). ShowsLines kind (with_held w (Some key) held) closed r (at_last line w (gone w l))) (sym e)
-      (subst (λ (f : Held). ShowsLines kind f closed (with_listeners (list_of line) (joined key w (listeners (list_of line) b)) b) (at_last line w (gone w l))) (held_twice w (Some key) None held) here) in
-      let keyed : KeysFit kind (with_held w (Some key) held) (at_last line w (gone w l)) = subst (λ (f : Held). KeysFit kind f (at_last line w (gone w l))) (held_twice w (Some key) None held) fit in
+      (subst (λ (f : KeysHeld). ShowsLines kind f closed (with_listeners (list_of line) (joined key w (listeners (list_of line) b)) b) (at_last line w (gone w l))) (held_twice w (Some key) None held) here) in
+      let keyed : KeysFit kind (with_held w (Some key) held) (at_last line w (gone w l)) = subst (λ (f : KeysHeld). KeysFit kind f (at_last line w (gone w l))) (held_twice w (Some key) None held) fit in
       record {
         senders = ap (λ (r : Roster Waiter). r.senders) e ∙ same_senders line (joined key w (listeners (list_of line) b)) b ∙ g.senders;
         receivers = ap (λ (r : Roster Waiter). r.receivers) e ∙ same_receivers line (joined key w (listeners (list_of line) b)) b ∙ g.receivers;

@@ -16,7 +16,7 @@ use Rattle.channel_model.specs.State.{State, with_waiting}
 use Rattle.channel_model.specs.declared.name.Waiter.{Waiter}
 use Rattle.channel_calls.specs.declared.stage.Line.{Line}
 use Rattle.channel_model.proofs.WaiterLemmas.{decided}
-use Rattle.channel_model.specs.Asked.{Held}
+use Rattle.channel_model.specs.Asked.{KeysHeld}
 use Rattle.channel_refinement.specs.Refines.{with_held, Refines, list_of}
 use Rattle.channel_refinement.proofs.Standing.{Nowhere, keyless_nowhere, away_holds_none}
 use Rattle.channel_refinement.proofs.Departing.{streams_are}
@@ -46,13 +46,13 @@ module _ {T : Type 0} (line : Line) (pends : Reply T) (refuses : ListenError →
       (ListensAs (registers (list_of line) key w c).channel o)
 
   -- how a wait ends: it stands in its line, or it was not let listen and is gone from it
-  abbrev pub WaitEnds : Held → State T → Outcome T Waiter → Type 0
+  abbrev pub WaitEnds : KeysHeld → State T → Outcome T Waiter → Type 0
   WaitEnds held s o =
       ((key : Key) × (d : Channel T Waiter) × (o ≡ answers pends (keeping (Some key) message) d) × Refines (with_held w (Some key) held) d (with_waiting (standing line w s.waiting) s))
       ⊎ ((error : ListenError) × (d : Channel T Waiter) × (o ≡ answers (refuses error) (keeping None message) d) × (is_among w (untold line s.waiting) ≡ false)
       × Refines (with_held w None held) d (with_waiting (gone w s.waiting) s))
 
-  module _ (held : Held) (c : Channel T Waiter) (s : State T) (h : Refines held c s) (awake : AwakeIn s) (k : line_of s.names w ≡ Some line) where
+  module _ (held : KeysHeld) (c : Channel T Waiter) (s : State T) (h : Refines held c s) (awake : AwakeIn s) (k : line_of s.names w ≡ Some line) where
     pub shown : (key : Option Key) (m : Waiting) (d : Channel T Waiter) → d.queue ≡ c.queue → Waited (line_of s.names) held s.channel.closed w c.roster d.roster key m → Refines (with_held w key held) d (with_waiting m s)
     shown key m d e g = record {
       messages = ap (λ (q : Queue T). q.items) e ∙ h.messages;

@@ -18,7 +18,7 @@ use Rattle.channel_model.specs.Answer.{Found, first, none_yet, none_ever, found,
 use Rattle.channel_model.specs.Awake.{AwakeIn}
 use Rattle.channel_model.specs.Laws.{line_of, line_of_operation}
 use Rattle.channel_model.specs.Lines.{after_news, told_by, is_among, untold, gone}
-use Rattle.channel_model.specs.Names.{Operation, recv, at}
+use Rattle.channel_model.specs.Names.{ModelOperation, recv, at}
 use Rattle.channel_model.specs.Refused.{recv_not_polled, not_polled}
 use Rattle.channel_model.specs.State.{State, with_waiting}
 use Rattle.channel_model.specs.declared.call.Call.TheVariants as call
@@ -31,7 +31,7 @@ use Rattle.channel_calls.specs.declared.stage.Line.TheVariants.{Receives}
 use Rattle.channel_model.proofs.Awake.{placed_news, empty_news}
 use Rattle.channel_model.proofs.WaiterLemmas.{decided}
 use Rattle.channel_refinement.specs.Over.{Matches, polled_names}
-use Rattle.channel_model.specs.Asked.{Held}
+use Rattle.channel_model.specs.Asked.{KeysHeld}
 use Rattle.channel_refinement.specs.Refines.{Refines}
 use Rattle.channel_refinement.proofs.Departing.{departed, streams_are}
 use Rattle.channel_refinement.proofs.Ends.{ends_so}
@@ -40,15 +40,15 @@ use Rattle.channel_refinement.proofs.Operations.{lack_of, not_standing_is, poll_
 use Rattle.channel_refinement.proofs.Polling.{WaitsAs, where_true, where_false, wait_ends}
 use Rattle.channel_refinement.proofs.Told.{told_left_as}
 
-module _ {T : Type 0} (held : Held) (c : Channel T Waiter) (s : State T) (h : Refines held c s) (awake : AwakeIn s) (op : OpId) (handle : HandleId) (there : at op.0 s.names.operations ≡ Some (recv handle)) where
+module _ {T : Type 0} (held : KeysHeld) (c : Channel T Waiter) (s : State T) (h : Refines held c s) (awake : AwakeIn s) (op : OpId) (handle : HandleId) (there : at op.0 s.names.operations ≡ Some (recv handle)) where
   recv_kind : line_of s.names (Op op) ≡ Some Receives
-  recv_kind = ap (λ (o : Option (Operation T)). line_of_operation o) there
+  recv_kind = ap (λ (o : Option (ModelOperation T)). line_of_operation o) there
 
   by_found : (x : Found T) → found s.channel ≡ x → recv_poll_answer s op x ≡ poll_answer s op (at op.0 s.names.operations)
-  by_found x e = ap (λ (y : Found T). recv_poll_answer s op y) (sym e) ∙ ap (λ (o : Option (Operation T)). poll_answer s op o) (sym there)
+  by_found x e = ap (λ (y : Found T). recv_poll_answer s op y) (sym e) ∙ ap (λ (o : Option (ModelOperation T)). poll_answer s op o) (sym there)
 
   names_stay : (m : Option T) → s.names ≡ polled_names op (at op.0 s.names.operations) m s.names
-  names_stay m = ap (λ (o : Option (Operation T)). polled_names op o m s.names) (sym there)
+  names_stay m = ap (λ (o : Option (ModelOperation T)). polled_names op o m s.names) (sym there)
 
   -- ---- a message is there
 

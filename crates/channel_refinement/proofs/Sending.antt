@@ -14,12 +14,12 @@ use Rattle.channel_calls.specs.declared.stage.Line.TheVariants as list
 use Rattle.channel_calls.specs.declared.stage.Waiting.TheVariants as waiting
 use Rattle.channel_alone.specs.Alone as alone
 use Rattle.channel_alone.specs.Alone.{Outcome, ends, of_message, over_queue, Waits, PollsSend, MayLackRoom}
-use Rattle.channel_model.specs.Answer.{replying, leaving, send_poll_answer, poll_answer, finished, space_of}
+use Rattle.channel_model.specs.Answer.{replying, after_leaving, send_poll_answer, poll_answer, finished, space_of}
 use Rattle.channel_model.specs.declared.call.Call.TheVariants as call
 use Rattle.channel_model.specs.Refused.{memory, refused, not_polled, send_not_polled}
 use Rattle.channel_model.specs.Laws.{line_of, line_of_operation}
 use Rattle.channel_model.specs.Lines.{is_among, untold, after_news, told_by, gone}
-use Rattle.channel_model.specs.Names.{Operation, send, at}
+use Rattle.channel_model.specs.Names.{ModelOperation, send, at}
 use Rattle.channel_calls.specs.declared.reply.Reply.{Reply}
 use Rattle.channel_model.specs.Awake.{AwakeIn}
 use Rattle.channel_model.specs.State.{State, with_waiting}
@@ -33,7 +33,7 @@ use Rattle.channel_model.specs.declared.space.Space.TheVariants.{Open, Filled, S
 use Rattle.channel_calls.specs.declared.stage.Line.TheVariants.{Sends}
 use Rattle.channel_model.proofs.WaiterLemmas.{decided}
 use Rattle.channel_model.proofs.Awake.{placed_news, empty_news}
-use Rattle.channel_model.specs.Asked.{Held}
+use Rattle.channel_model.specs.Asked.{KeysHeld}
 use Rattle.channel_refinement.specs.Refines.{Refines}
 use Rattle.channel_refinement.specs.Over.{Matches, polled_names}
 use Rattle.channel_refinement.proofs.News.{keys_news, message_lines, message_wakes}
@@ -44,9 +44,9 @@ use Rattle.channel_refinement.proofs.Operations.{lack_of, not_standing_is, poll_
 use Rattle.channel_refinement.proofs.Told.{told_left_as, same_names}
 use Rattle.channel_refinement.proofs.Trying.{shut_space, filled_space, open_space, lacking_space}
 
-module _ {T : Type 0} (held : Held) (c : Channel T Waiter) (s : State T) (h : Refines held c s) (awake : AwakeIn s) (op : OpId) (handle : HandleId) (msg : T) (there : at op.0 s.names.operations ≡ Some (send handle (Some msg))) where
+module _ {T : Type 0} (held : KeysHeld) (c : Channel T Waiter) (s : State T) (h : Refines held c s) (awake : AwakeIn s) (op : OpId) (handle : HandleId) (msg : T) (there : at op.0 s.names.operations ≡ Some (send handle (Some msg))) where
   send_is : line_of s.names (Op op) ≡ Some Sends
-  send_is = ap (λ (o : Option (Operation T)). line_of_operation o) there
+  send_is = ap (λ (o : Option (ModelOperation T)). line_of_operation o) there
 
   send_waits : (key : Option Key) (o : Outcome T Waiter) → Waits (waiting.Send msg) key (Op op) c o
       → WaitsAs Sends (reply.SendPoll poll.Pending) (λ e. refused_reply list.Sends e) (Some msg) (Op op) key c o
@@ -54,10 +54,10 @@ module _ {T : Type 0} (held : Held) (c : Channel T Waiter) (s : State T) (h : Re
   send_waits (Some key) o x = x
 
   by_space : (x : Space) → space_of s.channel ≡ x → send_poll_answer s op handle msg x ≡ poll_answer s op (at op.0 s.names.operations)
-  by_space x e = ap (λ (y : Space). send_poll_answer s op handle msg y) (sym e) ∙ ap (λ (o : Option (Operation T)). poll_answer s op o) (sym there)
+  by_space x e = ap (λ (y : Space). send_poll_answer s op handle msg y) (sym e) ∙ ap (λ (o : Option (ModelOperation T)). poll_answer s op o) (sym there)
 
   names_stay : s.names ≡ polled_names op (at op.0 s.names.operations) (Some msg) s.names
-  names_stay = sym (same_names op (send handle (Some msg)) s.names there) ∙ ap (λ (o : Option (Operation T)). polled_names op o (Some msg) s.names) (sym there)
+  names_stay = sym (same_names op (send handle (Some msg)) s.names there) ∙ ap (λ (o : Option (ModelOperation T)). polled_names op o (Some msg) s.names) (sym there)
 
   -- ---- a full channel
 
@@ -77,9 +77,9 @@ module _ {T : Type 0} (held : Held) (c : Channel T Waiter) (s : State T) (h : Re
   send_lacks : (o : Outcome T Waiter) → MayLackRoom (over (reply.SendPoll (poll.Ready (Err (unmade.NoMemory tt)))) (Some msg) list.Sends (held (Op op))) c o → Matches held s (call.Poll op) o
   send_lacks o lack =
       let r : Reply T = reply.SendPoll (poll.Ready (Err (refused memory))) in
-      let without : send_not_polled memory s op Open ≡ Some (leaving Nothing Sends (Op op) s r) = rw (sym h.capacity ∙ lack.1) refl in
+      let without : send_not_polled memory s op Open ≡ Some (after_leaving Nothing Sends (Op op) s r) = rw (sym h.capacity ∙ lack.1) refl in
       ends_so held c s h awake (call.Poll op) Sends (Op op) r (Some msg) o refl (inl send_is)
-      (inr (memory, ap (λ (x : Option (Operation T)). not_polled memory s op x) there ∙ ap (λ (x : Space). send_not_polled memory s op x) (lacking_space held c s h lack.0 lack.1) ∙ without))
+      (inr (memory, ap (λ (x : Option (ModelOperation T)). not_polled memory s op x) there ∙ ap (λ (x : Space). send_not_polled memory s op x) (lacking_space held c s h lack.0 lack.1) ∙ without))
       names_stay lack.2
 
   -- ---- the send is finished
@@ -105,7 +105,7 @@ module _ {T : Type 0} (held : Held) (c : Channel T Waiter) (s : State T) (h : Re
           lines = changed.0;
           keys = changed.1;
         };
-        names = ap (λ (y : Option (Operation T)). polled_names op y None s.names) (sym there);
+        names = ap (λ (y : Option (ModelOperation T)). polled_names op y None s.names) (sym there);
         told = told_left_as Nothing Sends (Op op) s.waiting _ woken;
       })
 
@@ -136,7 +136,7 @@ module _ {T : Type 0} (held : Held) (c : Channel T Waiter) (s : State T) (h : Re
           lines = changed.0;
           keys = changed.1;
         };
-        names = ap (λ (y : Option (Operation T)). polled_names op y None s.names) (sym there);
+        names = ap (λ (y : Option (ModelOperation T)). polled_names op y None s.names) (sym there);
         told = told_left_as Message Sends (Op op) s.waiting _ woken;
       })
 

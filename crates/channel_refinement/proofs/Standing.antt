@@ -3,7 +3,7 @@ use Rattle.std.proofs.Common.{arith, ◌≡◌, ◌≤◌, ℕ, List, [], ◌∷
 use Rattle.std.specs.List.{filter}
 use Rattle.event_listener.specs.declared.key.Key.{Key}
 use Rattle.channel_calls.specs.Parts.{Roster, listeners}
-use Rattle.channel_model.specs.Lines.{Waiting, same_waiter, is_among, without, untold, gone}
+use Rattle.channel_model.specs.Lines.{Waiting, same_waiter, is_among, without_waiter, untold, gone}
 use Rattle.channel_model.specs.Awake.{Kind, times, times_in, Placed}
 use Rattle.channel_model.specs.Laws.{is_line}
 use Rattle.channel_model.specs.declared.name.Waiter.{Waiter}
@@ -12,7 +12,7 @@ use Rattle.channel_calls.specs.declared.stage.Line.TheVariants.{Sends, Receives,
 use Rattle.channel_model.proofs.WaiterLemmas.{same_sound, same_symm, decided, without_absent}
 use Rattle.channel_model.proofs.Counting.{among_self, or_right, absent_counts}
 use Rattle.channel_model.proofs.WaiterLemmas.{none_left, untold_gone}
-use Rattle.channel_model.specs.Asked.{Held}
+use Rattle.channel_model.specs.Asked.{KeysHeld}
 use Rattle.channel_refinement.specs.Refines.{with_held, AreTold, ShowsLines, KeysFit, list_of, of_line}
 use Rattle.channel_refinement.proofs.Names.{among_of_line, among_its_line}
 use Rattle.channel_refinement.proofs.Entries.{untold_kept, told_kept, untold_holds, told_holds}
@@ -63,7 +63,7 @@ kindless_nowhere kind w l k p = record {
 }
 
 -- one that holds no key
-pub keyless_nowhere : (kind : Kind) (held : Held) (closed : Bool) (a : Roster Waiter) (l : Waiting) (own : Line) (w : Waiter) → kind w ≡ Some own → held w ≡ None → Placed kind l
+pub keyless_nowhere : (kind : Kind) (held : KeysHeld) (closed : Bool) (a : Roster Waiter) (l : Waiting) (own : Line) (w : Waiter) → kind w ≡ Some own → held w ≡ None → Placed kind l
     → ShowsLines kind held closed a l → Nowhere w l
 keyless_nowhere kind held closed a l own w k none p h = record {
   lines = λ line. elim (decided (is_among w (untold line l))) [
@@ -79,7 +79,7 @@ keyless_nowhere kind held closed a l own w k none p h = record {
 }
 
 -- one that is nowhere holds none
-pub nowhere_keyless : (kind : Kind) (held : Held) (w : Waiter) (l : Waiting) → Nowhere w l → KeysFit kind held l → held w ≡ None
+pub nowhere_keyless : (kind : Kind) (held : KeysHeld) (w : Waiter) (l : Waiting) → Nowhere w l → KeysFit kind held l → held w ≡ None
 nowhere_keyless kind held w l n keys = at_key (held w) refl where
   at_key : (o : Option Key) → held w ≡ o → held w ≡ None
   at_key None e = e
@@ -99,13 +99,13 @@ away_from kind line w l k placed u t = record {
 }
 
 -- so it holds no key
-pub away_holds_none : (kind : Kind) (held : Held) (line : Line) (w : Waiter) (l : Waiting) (key : Key) → kind w ≡ Some line → Placed kind l → KeysFit kind held l → held w ≡ Some key
+pub away_holds_none : (kind : Kind) (held : KeysHeld) (line : Line) (w : Waiter) (l : Waiting) (key : Key) → kind w ≡ Some line → Placed kind l → KeysFit kind held l → held w ≡ Some key
     → is_among w (untold line l) ≡ false → is_among w l.woken ≡ false → ⊥
 away_holds_none kind held line w l key k placed keys e u t = omega (arith, keys.holds w key e, nowhere_times w l (away_from kind line w l k placed u t))
 
 -- ---- how often the others stand
 
-pub times_other : (v w : Waiter) (xs : List Waiter) → same_waiter w v ≡ false → times v (without w xs) ≡ times v xs
+pub times_other : (v w : Waiter) (xs : List Waiter) → same_waiter w v ≡ false → times v (without_waiter w xs) ≡ times v xs
 times_other v w [] off = refl
 times_other v w (x ∷ xs) off = elim (decided (same_waiter w x)) [
   | inl t ↦
@@ -144,10 +144,10 @@ times_untold Closings w l = omega arith
 
 -- ---- another key, another kind
 
-pub with_other : (w v : Waiter) (key : Option Key) (held : Held) → same_waiter w v ≡ false → with_held w key held v ≡ held v
+pub with_other : (w v : Waiter) (key : Option Key) (held : KeysHeld) → same_waiter w v ≡ false → with_held w key held v ≡ held v
 with_other w v key held off = rw off refl
 
-pub with_own : (w v : Waiter) (key : Option Key) (held : Held) → same_waiter w v ≡ true → with_held w key held v ≡ key
+pub with_own : (w v : Waiter) (key : Option Key) (held : KeysHeld) → same_waiter w v ≡ true → with_held w key held v ≡ key
 with_own w v key held same = rw same refl
 
 pub apart_from : (w v : Waiter) (ws : List Waiter) → is_among w ws ≡ false → is_among v ws ≡ true → same_waiter w v ≡ false
@@ -156,7 +156,7 @@ apart_from w v ws off e = elim (decided (same_waiter w v)) [
   | inl t ↦ cc (sym off ∙ subst (λ (x : Waiter). is_among x ws ≡ true) (sym (same_sound w v t)) e)
 ]
 
-pub rekeyed_lines : (kind : Kind) (held : Held) (closed : Bool) (a : Roster Waiter) (l : Waiting) (w : Waiter) (key : Option Key) → Nowhere w l
+pub rekeyed_lines : (kind : Kind) (held : KeysHeld) (closed : Bool) (a : Roster Waiter) (l : Waiting) (w : Waiter) (key : Option Key) → Nowhere w l
     → ShowsLines kind held closed a l → ShowsLines kind (with_held w key held) closed a l
 rekeyed_lines kind held closed a l w key n h line = record {
   untold = untold_kept held (with_held w key held) _ _ (h line).untold (λ v e. with_other w v key held (apart_from w v (untold line l) (n.lines line) e));
@@ -165,7 +165,7 @@ rekeyed_lines kind held closed a l w key n h line = record {
 }
 
 -- one who is gone holds nothing
-pub keys_gone : (kind : Kind) (held : Held) (w : Waiter) (l : Waiting) → KeysFit kind held l → KeysFit kind (with_held w None held) (gone w l)
+pub keys_gone : (kind : Kind) (held : KeysHeld) (w : Waiter) (l : Waiting) → KeysFit kind held l → KeysFit kind (with_held w None held) (gone w l)
 keys_gone kind held w l h = record {
   holds = λ v key e. elim (decided (same_waiter w v)) [
     | inl t ↦ cc (sym (with_own w v None held t) ∙ e)
@@ -187,14 +187,14 @@ of_line_by kind other line (x ∷ xs) same =
     let on = of_line_by kind other line xs (λ v e. same v (or_right (same_waiter v x) (is_among v xs) e)) in
     rw (same x (among_self x xs)) (ap (λ (ys : List Waiter). cond (is_line line (kind x)) (x ∷ ys) ys) on)
 
-pub rekinded_lines : (kind other : Kind) (held : Held) (closed : Bool) (a : Roster Waiter) (l : Waiting) (w : Waiter) → Nowhere w l → ((v : Waiter) → same_waiter w v ≡ false → other v ≡ kind v)
+pub rekinded_lines : (kind other : Kind) (held : KeysHeld) (closed : Bool) (a : Roster Waiter) (l : Waiting) (w : Waiter) → Nowhere w l → ((v : Waiter) → same_waiter w v ≡ false → other v ≡ kind v)
     → ShowsLines kind held closed a l → ShowsLines other held closed a l
 rekinded_lines kind other held closed a l w n same h line = record {
   untold = (h line).untold;
   told = subst (λ (ws : List Waiter). AreTold held closed line (listeners (list_of line) a).told ws) (sym (of_line_by kind other line l.woken (λ v e. same v (apart_from w v l.woken n.woken e)))) (h line).told;
 }
 
-pub rekinded_keys : (kind other : Kind) (held : Held) (l : Waiting) (w : Waiter) → held w ≡ None → ((v : Waiter) → same_waiter w v ≡ false → other v ≡ kind v)
+pub rekinded_keys : (kind other : Kind) (held : KeysHeld) (l : Waiting) (w : Waiter) → held w ≡ None → ((v : Waiter) → same_waiter w v ≡ false → other v ≡ kind v)
     → KeysFit kind held l → KeysFit other held l
 rekinded_keys kind other held l w none same h = record {
   holds = h.holds;

@@ -18,7 +18,7 @@ use Rattle.channel_alone.specs.Alone.{Outcome, Alone, ends, of_room, over_queue,
 use Rattle.channel_model.specs.Answer.{Found, first, none_yet, none_ever, found, replying, next_answer, poll_next_answer}
 use Rattle.channel_model.specs.Awake.{AwakeIn}
 use Rattle.channel_model.specs.Laws.{line_of}
-use Rattle.channel_model.specs.Lines.{Waiting, is_among, without, told_by, gone, standing}
+use Rattle.channel_model.specs.Lines.{Waiting, is_among, without_waiter, told_by, gone, standing}
 use Rattle.channel_model.specs.Refused.{next_not_polled, answer_without}
 use Rattle.channel_model.specs.State.{State, with_waiting}
 use Rattle.channel_model.specs.declared.call.Call.TheVariants as call
@@ -30,7 +30,7 @@ use Rattle.channel_calls.specs.declared.stage.Line.TheVariants.{Streams}
 use Rattle.channel_model.proofs.Awake.{awake_without_stream}
 use Rattle.channel_model.proofs.WaiterLemmas.{decided, same_refl, without_absent, none_left}
 use Rattle.channel_refinement.specs.Over.{Matches}
-use Rattle.channel_model.specs.Asked.{Held}
+use Rattle.channel_model.specs.Asked.{KeysHeld}
 use Rattle.channel_refinement.specs.Refines.{with_held, Refines}
 use Rattle.channel_refinement.proofs.Departing.{streams_are, nowhere_after}
 use Rattle.channel_refinement.proofs.News.{keys_news, room_lines, room_wakes}
@@ -40,12 +40,12 @@ use Rattle.channel_refinement.proofs.Polling.{WaitEnds, where_true, where_false,
 use Rattle.channel_refinement.proofs.Standing.{Nowhere, gone_nowhere, nowhere_gone, keyless_nowhere, away_holds_none, with_own}
 use Rattle.channel_refinement.proofs.Told.{told_gone, told_standing, not_both, without_others}
 
-module _ {T : Type 0} (held : Held) (s : State T) (receiver : HandleId) (awake : AwakeIn s) where
+module _ {T : Type 0} (held : KeysHeld) (s : State T) (receiver : HandleId) (awake : AwakeIn s) where
   -- the stream stands nowhere, and holds nothing
   abbrev used_up : State T
   used_up = with_waiting (gone (Stream receiver) s.waiting) s
 
-  abbrev unheld : Held
+  abbrev unheld : KeysHeld
   unheld = with_held (Stream receiver) None held
 
   still_awake : AwakeIn used_up
@@ -87,7 +87,7 @@ module _ {T : Type 0} (held : Held) (s : State T) (receiver : HandleId) (awake :
           names = refl;
           told =
               without_others (Stream receiver) s.waiting.woken (told_by Room l) (nowhere_after Room (Stream receiver) s.waiting).woken
-              ∙ ap (λ (ws : List Waiter). without (Stream receiver) (s.waiting.woken ++ ws)) (sym woken);
+              ∙ ap (λ (ws : List Waiter). without_waiter (Stream receiver) (s.waiting.woken ++ ws)) (sym woken);
         }
 
     ended : c.queue.items ≡ [] → c.queue.closed ≡ true → Matches held s (call.PollNext receiver) (ends [] (over (reply.Next (poll.Ready None)) None list.Streams None) c)
@@ -111,12 +111,12 @@ module _ {T : Type 0} (held : Held) (s : State T) (receiver : HandleId) (awake :
           allowed = inl (answer_then none_yet u none);
           reply = refl;
           woken = refl;
-          shows = subst (λ (f : Held). Refines f d (next_answer used_up receiver none_yet).after) (held_twice (Stream receiver) (Some key) None held) g;
+          shows = subst (λ (f : KeysHeld). Refines f d (next_answer used_up receiver none_yet).after) (held_twice (Stream receiver) (Some key) None held) g;
           names = refl;
           told =
               told_standing (line_of s.names) Streams (Stream receiver) (gone (Stream receiver) s.waiting) still_awake.placed
-              ∙ sym (told_gone (Stream receiver) (without (Stream receiver) s.waiting.woken))
-              ∙ without_absent (Stream receiver) (without (Stream receiver) s.waiting.woken) (none_left (Stream receiver) s.waiting.woken)
+              ∙ sym (told_gone (Stream receiver) (without_waiter (Stream receiver) s.waiting.woken))
+              ∙ without_absent (Stream receiver) (without_waiter (Stream receiver) s.waiting.woken) (none_left (Stream receiver) s.waiting.woken)
               ∙ told_gone (Stream receiver) s.waiting.woken;
         })
     waited none o (inr (error, d, e, v, g)) =
@@ -128,7 +128,7 @@ module _ {T : Type 0} (held : Held) (s : State T) (receiver : HandleId) (awake :
           allowed = inr (lack_of error, lacks_then error u none);
           reply = refl;
           woken = refl;
-          shows = subst (λ (m : Waiting). Refines unheld d (with_waiting m s)) same (subst (λ (f : Held). Refines f d (with_waiting (gone (Stream receiver) l) s)) (held_twice (Stream receiver) None None held) g);
+          shows = subst (λ (m : Waiting). Refines unheld d (with_waiting m s)) same (subst (λ (f : KeysHeld). Refines f d (with_waiting (gone (Stream receiver) l) s)) (held_twice (Stream receiver) None None held) g);
           names = refl;
           told = told_gone (Stream receiver) s.waiting.woken;
         })
@@ -150,7 +150,7 @@ module _ {T : Type 0} (held : Held) (s : State T) (receiver : HandleId) (awake :
 
 -- ---- from what the stream holds
 
-module _ {T : Type 0} (held : Held) (c : Channel T Waiter) (s : State T) (h : Refines held c s) (awake : AwakeIn s) (receiver : HandleId) where
+module _ {T : Type 0} (held : KeysHeld) (c : Channel T Waiter) (s : State T) (h : Refines held c s) (awake : AwakeIn s) (receiver : HandleId) where
   shown_so : (key : Option Key) (m : Waiting) (d : Channel T Waiter) → d.queue ≡ c.queue → Waited (line_of s.names) held s.channel.closed (Stream receiver) c.roster d.roster key m
       → Refines (with_held (Stream receiver) key held) d (with_waiting m s)
   shown_so key m d e g = shown Streams (reply.Next poll.Pending) (λ e. refused_reply list.Streams e) None (Stream receiver) held c s h awake refl key m d e g

@@ -14,7 +14,7 @@ use Rattle.channel_calls.specs.declared.stage.Line.TheVariants.{Sends, Receives,
 use Rattle.channel_model.proofs.WaiterLemmas.{decided}
 use Rattle.channel_model.proofs.Counting.{among_take, among_drop}
 use Rattle.channel_model.proofs.Awake.{line_sound}
-use Rattle.channel_model.specs.Asked.{Held}
+use Rattle.channel_model.specs.Asked.{KeysHeld}
 use Rattle.channel_refinement.specs.Refines.{AreUntold, AreTold, IsToldSo, ShowsLine, ShowsLines, list_of, of_line}
 use Rattle.channel_refinement.proofs.Names.{AllOf, of_line_append, of_own_line, of_other_line}
 use Rattle.channel_refinement.proofs.Entries.{tasks_are, untold_rest, untold_first, told_append, just_told}
@@ -94,7 +94,7 @@ as_many (e ∷ es) = let on = as_many es in omega (arith, on)
 
 -- ---- one list of four
 
-module _ (kind : Kind) (held : Held) (closed : Bool) where
+module _ (kind : Kind) (held : KeysHeld) (closed : Bool) where
   pub replaced : (line : Line) (new : Listeners Waiter) (roster : Roster Waiter) (l : Waiting) → ShowsLine kind held closed line new l
       → ((other : Line) → same_line other line ≡ false → ShowsLine kind held closed other (listeners (list_of other) roster) l)
       → ShowsLines kind held closed (with_listeners (list_of line) new roster) l

@@ -5,8 +5,8 @@ use Rattle.std.specs.Option.{option_map_or}
 use Rattle.std.proofs.lemmas.List.Elements.{filter-append}
 use Rattle.std.proofs.lemmas.Map.Steps.{set_value_same}
 use Rattle.channel_model.specs.Awake.{Kind, Placed, times, times_in}
-use Rattle.channel_model.specs.Lines.{Waiting, same_waiter, is_among, without, untold, told_by, after_news, gone, passed_on, left_after, told_after, standing}
-use Rattle.channel_model.specs.Names.{Names, Directory, Operation, at, with_operation_changed}
+use Rattle.channel_model.specs.Lines.{Waiting, same_waiter, is_among, without_waiter, untold, told_by, after_news, gone, passed_on, left_after, told_after, standing}
+use Rattle.channel_model.specs.Names.{Names, Directory, ModelOperation, at, with_operation_changed}
 use Rattle.channel_model.specs.declared.name.OpId.{OpId}
 use Rattle.channel_model.specs.declared.name.Waiter.{Waiter}
 use Rattle.channel_model.specs.declared.news.News.{News}
@@ -19,33 +19,33 @@ use Rattle.channel_refinement.proofs.Departing.{times_nowhere}
 
 -- ---- those who are woken
 
-without_append : (w : Waiter) (xs ys : List Waiter) → without w (xs ++ ys) ≡ without w xs ++ without w ys
+without_append : (w : Waiter) (xs ys : List Waiter) → without_waiter w (xs ++ ys) ≡ without_waiter w xs ++ without_waiter w ys
 without_append w xs ys = filter-append (λ (v : Waiter). not (same_waiter w v)) xs ys
 
 -- one that was taken out, and is none of those who came, is taken out of all
-pub without_others : (w : Waiter) (xs ys : List Waiter) → is_among w (without w xs ++ ys) ≡ false → without w xs ++ ys ≡ without w (xs ++ ys)
+pub without_others : (w : Waiter) (xs ys : List Waiter) → is_among w (without_waiter w xs ++ ys) ≡ false → without_waiter w xs ++ ys ≡ without_waiter w (xs ++ ys)
 without_others w xs ys away =
-    sym (without_absent w (without w xs ++ ys) away)
-    ∙ without_append w (without w xs) ys
-    ∙ ap (λ (zs : List Waiter). zs ++ without w ys) (without_absent w (without w xs) (none_left w xs))
+    sym (without_absent w (without_waiter w xs ++ ys) away)
+    ∙ without_append w (without_waiter w xs) ys
+    ∙ ap (λ (zs : List Waiter). zs ++ without_waiter w ys) (without_absent w (without_waiter w xs) (none_left w xs))
     ∙ sym (without_append w xs ys)
 
 -- one who leaves after news is told no more
-pub told_left : (news : News) (line : Line) (w : Waiter) (l : Waiting) → (left_after news line w l).woken ≡ without w (l.woken ++ told_after news line w l)
+pub told_left : (news : News) (line : Line) (w : Waiter) (l : Waiting) → (left_after news line w l).woken ≡ without_waiter w (l.woken ++ told_after news line w l)
 told_left news line w l =
     let told : Waiting = after_news news l in
     let away : is_among w (left_after news line w l).woken ≡ false = (times_nowhere w (left_after news line w l) (left_nowhere line w told)).woken in
     without_others w (l.woken ++ told_by news l) (told_by (passed_on line w told) (gone w told)) away
-    ∙ ap (λ (ws : List Waiter). without w ws) (append_assoc l.woken (told_by news l) (told_by (passed_on line w told) (gone w told)))
+    ∙ ap (λ (ws : List Waiter). without_waiter w ws) (append_assoc l.woken (told_by news l) (told_by (passed_on line w told) (gone w told)))
 
 -- the same, where those woken by the call are these
-pub told_left_as : (news : News) (line : Line) (w : Waiter) (l : Waiting) (names : List Waiter) → names ≡ told_after news line w l → (left_after news line w l).woken ≡ without w (l.woken ++ names)
-told_left_as news line w l names e = told_left news line w l ∙ ap (λ (ws : List Waiter). without w (l.woken ++ ws)) (sym e)
+pub told_left_as : (news : News) (line : Line) (w : Waiter) (l : Waiting) (names : List Waiter) → names ≡ told_after news line w l → (left_after news line w l).woken ≡ without_waiter w (l.woken ++ names)
+told_left_as news line w l names e = told_left news line w l ∙ ap (λ (ws : List Waiter). without_waiter w (l.woken ++ ws)) (sym e)
 
-pub told_gone : (w : Waiter) (ws : List Waiter) → without w ws ≡ without w (ws ++ [])
-told_gone w ws = ap (λ (xs : List Waiter). without w xs) (sym (append-nil ws))
+pub told_gone : (w : Waiter) (ws : List Waiter) → without_waiter w ws ≡ without_waiter w (ws ++ [])
+told_gone w ws = ap (λ (xs : List Waiter). without_waiter w xs) (sym (append-nil ws))
 
-pub told_away : (w : Waiter) (ws : List Waiter) → is_among w ws ≡ false → ws ≡ without w (ws ++ [])
+pub told_away : (w : Waiter) (ws : List Waiter) → is_among w ws ≡ false → ws ≡ without_waiter w (ws ++ [])
 told_away w ws away = sym (without_absent w ws away) ∙ told_gone w ws
 
 both_counts : (line : Line) (w : Waiter) (l : Waiting) → times w (untold line l) + times w l.woken ≤ times_in w l
@@ -58,14 +58,14 @@ both_counts Closings w l = omega arith
 pub not_both : (kind : Kind) (line : Line) (w : Waiter) (l : Waiting) → Placed kind l → is_among w (untold line l) ≡ true → is_among w l.woken ≡ true → ⊥
 not_both kind line w l placed u t = omega (arith, placed.once w, among_counts w l.woken t, among_counts w (untold line l) u, both_counts line w l)
 
-stood_woken : (line : Line) (w : Waiter) (l : Waiting) (b : Bool) → is_among w (untold line l) ≡ b → b ≡ false → (standing line w l).woken ≡ without w l.woken
+stood_woken : (line : Line) (w : Waiter) (l : Waiting) (b : Bool) → is_among w (untold line l) ≡ b → b ≡ false → (standing line w l).woken ≡ without_waiter w l.woken
 stood_woken Sends w l b e f = rw (e ∙ f) refl
 stood_woken Receives w l b e f = rw (e ∙ f) refl
 stood_woken Streams w l b e f = rw (e ∙ f) refl
 stood_woken Closings w l b e f = rw (e ∙ f) refl
 
 -- one who stands in its line after a poll is told no more
-pub told_standing : (kind : Kind) (line : Line) (w : Waiter) (l : Waiting) → Placed kind l → (standing line w l).woken ≡ without w (l.woken ++ [])
+pub told_standing : (kind : Kind) (line : Line) (w : Waiter) (l : Waiting) → Placed kind l → (standing line w l).woken ≡ without_waiter w (l.woken ++ [])
 told_standing kind line w l placed = elim (decided (is_among w (untold line l))) [
   | inl u ↦ elim (decided (is_among w l.woken)) [
     | inl t ↦ absurd (not_both kind line w l placed u t)
@@ -77,12 +77,12 @@ told_standing kind line w l placed = elim (decided (is_among w (untold line l)))
 -- ---- names
 
 module _ {T : Type 0} where
-  found_as : (o : Option (Option (Operation T))) (x : Operation T) → option_map_or (λ (y : Option (Operation T)). y) o None ≡ Some x → o ≡ Some (Some x)
+  found_as : (o : Option (Option (ModelOperation T))) (x : ModelOperation T) → option_map_or (λ (y : Option (ModelOperation T)). y) o None ≡ Some x → o ≡ Some (Some x)
   found_as None x e = cc e
-  found_as (Some y) x e = ap (λ (z : Option (Operation T)). Some z) e
+  found_as (Some y) x e = ap (λ (z : Option (ModelOperation T)). Some z) e
 
   -- an operation that is changed to what it was
-  pub same_names : (op : OpId) (x : Operation T) (names : Names T) → at op.0 names.operations ≡ Some x → with_operation_changed op x names ≡ names
+  pub same_names : (op : OpId) (x : ModelOperation T) (names : Names T) → at op.0 names.operations ≡ Some x → with_operation_changed op x names ≡ names
   same_names op x names there =
-      ap (λ (d : Directory (Operation T)). let n : Names T = record { handles = names.handles; operations = d } in n)
+      ap (λ (d : Directory (ModelOperation T)). let n : Names T = record { handles = names.handles; operations = d } in n)
       (set_value_same (nat_eq op.0) names.operations (Some x) (found_as (lookup (nat_eq op.0) names.operations) x there))

@@ -12,7 +12,7 @@ use Rattle.channel_calls.specs.declared.reply.Reply.TheVariants as reply
 use Rattle.channel_calls.specs.declared.stage.Closer.TheVariants as closer
 use Rattle.channel_alone.specs.Alone as alone
 use Rattle.channel_alone.specs.Alone.{Outcome, ends, of_message, of_closing, over_queue, receives_by, receives, receives_these, receives_several, ReceivesSeveral, sends, force_sends, closes, MayLackRoom}
-use Rattle.channel_model.specs.Answer.{Found, first, none_yet, none_ever, found, try_recv_answer, recv_many_answer, try_send_answer, force_send_answer, displacing, space_of, replying, telling, shut}
+use Rattle.channel_model.specs.Answer.{Found, first, none_yet, none_ever, found, try_recv_answer, recv_many_answer, try_send_answer, force_send_answer, displacing, space_of, replying, after_telling, shut}
 use Rattle.channel_model.specs.Awake.{AwakeIn}
 use Rattle.channel_model.specs.Channel.{is_full, holding}
 use Rattle.channel_model.specs.Laws.{line_of}
@@ -27,7 +27,7 @@ use Rattle.channel_model.specs.declared.space.Space.{Space}
 use Rattle.channel_model.specs.declared.space.Space.TheVariants.{Open, Filled, Shut}
 use Rattle.channel_refinement.specs.Asked.{keeper}
 use Rattle.channel_refinement.specs.Over.{Matches, names_after}
-use Rattle.channel_model.specs.Asked.{Held}
+use Rattle.channel_model.specs.Asked.{KeysHeld}
 use Rattle.channel_refinement.specs.Refines.{Refines}
 use Rattle.channel_refinement.proofs.Matching.{matching}
 use Rattle.channel_refinement.proofs.News.{shut_lines, keys_news, keys_rooms, rooms_woken, room_lines, room_wakes, rooms_lines, rooms_wakes, message_lines, message_wakes, closing_lines, closing_wakes}
@@ -37,7 +37,7 @@ pub full_as : {T : Type 0} → (cap : Option ℕ) (items : List T) → is_full_a
 full_as None items = refl
 full_as (Some n) items = refl
 
-module _ {T : Type 0} (held : Held) (c : Channel T Waiter) (s : State T) (h : Refines held c s) where
+module _ {T : Type 0} (held : KeysHeld) (c : Channel T Waiter) (s : State T) (h : Refines held c s) where
   -- ---- what a channel that shows a state has, in the words of the state
 
   pub filled_is : is_filled c.queue ≡ is_full s.channel
@@ -163,12 +163,12 @@ module _ {T : Type 0} (held : Held) (c : Channel T Waiter) (s : State T) (h : Re
     -- ---- sending
 
     -- a message that comes in, perhaps in the place of an older one
-    came_in : (call : Call T) (r : Reply T) (f : Queue T → Queue T) (ms : List T) → keeper s call ≡ None → Answers s call (telling Message (with_channel (holding s.channel ms) s) r)
+    came_in : (call : Call T) (r : Reply T) (f : Queue T → Queue T) (ms : List T) → keeper s call ≡ None → Answers s call (after_telling Message (with_channel (holding s.channel ms) s) r)
         → s.names ≡ names_after s call (ends of_message (says r) (over_queue f c))
         → (f c.queue).items ≡ ms → (f c.queue).closed ≡ c.queue.closed → (f c.queue).capacity ≡ c.queue.capacity → Matches held s call (ends of_message (says r) (over_queue f c))
     came_in call r f ms nobody allowed names items closed capacity =
         let woken = message_wakes (line_of s.names) held s.channel.closed c.roster s.waiting [] h.lines ∙ append-nil _ in
-        let shows : Refines held (ends of_message (says r) (over_queue f c)).channel (telling Message (with_channel (holding s.channel ms) s) r).after =
+        let shows : Refines held (ends of_message (says r) (over_queue f c)).channel (after_telling Message (with_channel (holding s.channel ms) s) r).after =
         record {
           messages = items;
           closed = closed ∙ h.closed;
@@ -178,7 +178,7 @@ module _ {T : Type 0} (held : Held) (c : Channel T Waiter) (s : State T) (h : Re
           lines = message_lines (line_of s.names) held s.channel.closed c.roster s.waiting lined h.lines;
           keys = keys_news (line_of s.names) held Message s.waiting h.keys;
         } in
-        matching held s call None nobody (ends of_message (says r) (over_queue f c)) (telling Message (with_channel (holding s.channel ms) s) r) allowed refl woken shows names
+        matching held s call None nobody (ends of_message (says r) (over_queue f c)) (after_telling Message (with_channel (holding s.channel ms) s) r) allowed refl woken shows names
         (ap (λ (ws : List Waiter). s.waiting.woken ++ ws) (sym woken))
 
     sending : (sender : HandleId) (m : T) (closed full : Bool) → c.queue.closed ≡ closed → is_filled c.queue ≡ full → Matches held s (call.TrySend sender m)
@@ -244,7 +244,7 @@ module _ {T : Type 0} (held : Held) (c : Channel T Waiter) (s : State T) (h : Re
     closing handle false e =
         let woken = closing_wakes (line_of s.names) held s.channel.closed c.roster s.waiting [] h.lines ∙ append-nil _ in
         record {
-          answer = telling Closing (with_channel (shut s.channel) s) (reply.Closed true);
+          answer = after_telling Closing (with_channel (shut s.channel) s) (reply.Closed true);
           allowed = inl (rw (sym h.closed ∙ e) refl);
           reply = refl;
           woken = woken;

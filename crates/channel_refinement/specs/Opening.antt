@@ -4,11 +4,11 @@ use Rattle.channel_calls.specs.Moves.{Channel, new_channel}
 use Rattle.channel_model.specs.Awake.{AwakeIn}
 use Rattle.channel_model.specs.State.{State, start}
 use Rattle.channel_model.specs.declared.name.Waiter.{Waiter}
-use Rattle.channel_model.specs.Asked.{Held}
+use Rattle.channel_model.specs.Asked.{KeysHeld}
 use Rattle.channel_refinement.specs.Refines.{Refines}
 
 -- no operation and no stream holds a listener's key
-abbrev pub nothing_held : Held
+abbrev pub nothing_held : KeysHeld
 nothing_held = λ w. None
 
 -- A channel of any capacity that was just opened shows the start, with no key held; and nobody is asleep there.

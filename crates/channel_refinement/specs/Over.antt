@@ -8,8 +8,8 @@ use Rattle.channel_calls.specs.declared.reply.Reply.TheVariants as reply
 use Rattle.channel_alone.specs.Alone.{Outcome, Alone}
 use Rattle.channel_model.specs.Answer.{Answer, weak_of, strong_of}
 use Rattle.channel_model.specs.Awake.{AwakeIn}
-use Rattle.channel_model.specs.Lines.{without}
-use Rattle.channel_model.specs.Names.{Names, Operation, send, recv, closing, at, with_new, with_spent, with_handles, with_operation, with_operation_changed, without_operation}
+use Rattle.channel_model.specs.Lines.{without_waiter}
+use Rattle.channel_model.specs.Names.{Names, ModelOperation, send, recv, closing, at, with_new, with_spent, with_handles, with_operation, with_operation_changed, without_operation}
 use Rattle.channel_model.specs.Names as names
 use Rattle.channel_model.specs.Refusal.{refusal}
 use Rattle.channel_model.specs.Refused.{Answers}
@@ -21,23 +21,23 @@ use Rattle.channel_model.specs.declared.name.HandleId.{HandleId}
 use Rattle.channel_model.specs.declared.name.HandleKind.{HandleKind}
 use Rattle.channel_model.specs.declared.name.OpId.{OpId}
 use Rattle.channel_model.specs.declared.name.Waiter.{Waiter}
-use Rattle.channel_refinement.specs.Asked.{asked, keeper}
-use Rattle.channel_model.specs.Asked.{Held}
+use Rattle.channel_refinement.specs.Asked.{asked_in, keeper}
+use Rattle.channel_model.specs.Asked.{KeysHeld}
 use Rattle.channel_refinement.specs.Refines.{Refines, with_held}
 
 module _ {T : Type 0} where
   -- ---- what becomes of the names
 
   -- a send has the message that its poll left to it
-  abbrev pub polled_names : OpId → Option (Operation T) → Option T → Names T → Names T
+  abbrev pub polled_names : OpId → Option (ModelOperation T) → Option T → Names T → Names T
   polled_names op (Some (send handle (Some m))) left names = with_operation_changed op (send handle left) names
   polled_names op operation left names = names
 
-  abbrev pub refused_names : OpId → Option (Operation T) → Option T → Names T → Names T
+  abbrev pub refused_names : OpId → Option (ModelOperation T) → Option T → Names T → Names T
   refused_names op (Some (send handle msg)) left names = with_operation_changed op (send handle left) names
   refused_names op operation left names = names
 
-  abbrev pub given_up_names : OpId → Option (Operation T) → Names T → Names T
+  abbrev pub given_up_names : OpId → Option (ModelOperation T) → Names T → Names T
   given_up_names op (Some operation) names = without_operation op operation names
   given_up_names op None names = names
 
@@ -56,7 +56,7 @@ module _ {T : Type 0} where
   names_after s (call.Poll op) o = polled_names op (at op.0 s.names.operations) o.kept.message s.names
   names_after s (call.PollRefused op) o = refused_names op (at op.0 s.names.operations) o.kept.message s.names
   names_after s (call.GiveUp op) o = given_up_names op (at op.0 s.names.operations) s.names
-  names_after s (call.Drop handle) o = with_handles (names.without handle.0 s.names.handles) s.names
+  names_after s (call.Drop handle) o = with_handles (names.without_name handle.0 s.names.handles) s.names
   names_after s (call.TryClone handle new) o = made_names new (kind_at handle s.names) o.reply s.names
   names_after s (call.Downgrade handle new) o = made_names new (option_map weak_of (kind_at handle s.names)) o.reply s.names
   names_after s (call.Upgrade weak new) o = made_names new (option_map strong_of (kind_at weak s.names)) o.reply s.names
@@ -65,16 +65,16 @@ module _ {T : Type 0} where
   -- ---- and of who waits
 
   -- the keys held after a call that left this one to its keeper
-  abbrev pub held_after : State T → Call T → Option Key → Held → Held
+  abbrev pub held_after : State T → Call T → Option Key → KeysHeld → KeysHeld
   held_after s c key held = option_map_or (λ (w : Waiter). with_held w key held) (keeper s c) held
 
   -- those woken are told after all that were before; a call's own operation or stream is told no more
   abbrev pub woken_after : State T → Call T → Outcome T Waiter → List Waiter
-  woken_after s c o = let told = s.waiting.woken ++ o.woken in option_map_or (λ (w : Waiter). without w told) (keeper s c) told
+  woken_after s c o = let told = s.waiting.woken ++ o.woken in option_map_or (λ (w : Waiter). without_waiter w told) (keeper s c) told
 
   -- what the channel answered, whom it woke in order, and what it is now, are as the model may answer this call; the names
   -- and those who are told are then these
-  pub record Matches (held : Held) (s : State T) (c : Call T) (o : Outcome T Waiter) : Type 0 where
+  pub record Matches (held : KeysHeld) (s : State T) (c : Call T) (o : Outcome T Waiter) : Type 0 where
     pub answer : Answer T
     pub allowed : Answers s c answer
     pub reply : o.reply ≡ answer.reply
@@ -87,5 +87,5 @@ module _ {T : Type 0} where
 -- doesn't refuse the call.
 abbrev pub CallsAreOver : Type 0 → Type 0
 CallsAreOver T =
-    (c : Call T) (held : Held) (channel : Channel T Waiter) (s : State T) (o : Outcome T Waiter)
-    → refusal s c ≡ None → Refines held channel s → AwakeIn s → Alone (asked held s c) channel o → Matches held s c o
+    (c : Call T) (held : KeysHeld) (channel : Channel T Waiter) (s : State T) (o : Outcome T Waiter)
+    → refusal s c ≡ None → Refines held channel s → AwakeIn s → Alone (asked_in held s c) channel o → Matches held s c o

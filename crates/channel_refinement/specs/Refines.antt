@@ -7,7 +7,7 @@ use Rattle.channel_calls.specs.Moves.{Channel}
 use Rattle.channel_calls.specs.Parts.{Listeners, Roster, listeners}
 use Rattle.channel_calls.specs.declared.stage.Line.{Line as ListName}
 use Rattle.channel_calls.specs.declared.stage.Line.TheVariants as list
-use Rattle.channel_model.specs.Asked.{Held}
+use Rattle.channel_model.specs.Asked.{KeysHeld}
 use Rattle.channel_model.specs.Lines.{Waiting, same_waiter, untold}
 use Rattle.channel_model.specs.Laws.{is_line, line_of}
 use Rattle.channel_model.specs.Awake.{Kind, times_in}
@@ -17,7 +17,7 @@ use Rattle.channel_calls.specs.declared.stage.Line.{Line}
 use Rattle.channel_calls.specs.declared.stage.Line.TheVariants.{Sends, Receives, Streams, Closings}
 
 -- w holds this, and any other what it held
-abbrev pub with_held : Waiter → Option Key → Held → Held
+abbrev pub with_held : Waiter → Option Key → KeysHeld → KeysHeld
 with_held w key held = λ v. if same_waiter w v then key else held v
 
 -- the list of the channel that keeps a line
@@ -28,7 +28,7 @@ list_of Streams = list.Streams
 list_of Closings = list.Closings
 
 -- waiting listeners are these names in order, each with its name as its task
-abbrev pub AreUntold : Held → List (Key × Option Waiter) → List Waiter → Type 0
+abbrev pub AreUntold : KeysHeld → List (Key × Option Waiter) → List Waiter → Type 0
 AreUntold held [] [] = Unit {0}
 AreUntold held [] (w ∷ ws) = ⊥
 AreUntold held (e ∷ es) [] = ⊥
@@ -43,7 +43,7 @@ IsToldSo Streams additional = additional ≡ false
 IsToldSo Closings additional = ⊥
 
 -- told listeners are these names, in the order in which they were told
-abbrev pub AreTold : Held → Bool → Line → List (Key × Notice Unit) → List Waiter → Type 0
+abbrev pub AreTold : KeysHeld → Bool → Line → List (Key × Notice Unit) → List Waiter → Type 0
 AreTold held closed line [] [] = Unit {0}
 AreTold held closed line [] (w ∷ ws) = ⊥
 AreTold held closed line (e ∷ es) [] = ⊥
@@ -55,24 +55,24 @@ abbrev pub of_line : Kind → Line → List Waiter → List Waiter
 of_line kind line ws = filter (λ w. is_line line (kind w)) ws
 
 -- one list of listeners shows one line
-pub record ShowsLine (kind : Kind) (held : Held) (closed : Bool) (line : Line) (l : Listeners Waiter) (waiting : Waiting)
+pub record ShowsLine (kind : Kind) (held : KeysHeld) (closed : Bool) (line : Line) (l : Listeners Waiter) (waiting : Waiting)
     : Type 0 where
   pub untold : AreUntold held l.waiting (untold line waiting)
   pub told : AreTold held closed line l.told (of_line kind line waiting.woken)
 
 -- the four lists show the four lines
-abbrev pub ShowsLines : Kind → Held → Bool → Roster Waiter → Waiting → Type 0
+abbrev pub ShowsLines : Kind → KeysHeld → Bool → Roster Waiter → Waiting → Type 0
 ShowsLines kind held closed roster waiting =
     (line : Line) → ShowsLine kind held closed line (listeners (list_of line) roster) waiting
 
 -- only who waits holds a key, and no two of a line hold the same
-pub record KeysFit (kind : Kind) (held : Held) (waiting : Waiting) : Type 0 where
+pub record KeysFit (kind : Kind) (held : KeysHeld) (waiting : Waiting) : Type 0 where
   pub holds : (w : Waiter) (key : Key) → held w ≡ Some key → 1 ≤ times_in w waiting
   pub apart :
       (line : Line) (v w : Waiter) (key : Key) → kind v ≡ Some line → kind w ≡ Some line → held v ≡ Some key → held w ≡ Some key
       → v ≡ w
 
-pub record Refines {T : Type 0} (held : Held) (c : Channel T Waiter) (s : State T) : Type 0 where
+pub record Refines {T : Type 0} (held : KeysHeld) (c : Channel T Waiter) (s : State T) : Type 0 where
   pub messages : c.queue.items ≡ s.channel.messages
   pub closed : c.queue.closed ≡ s.channel.closed
   pub capacity : c.queue.capacity ≡ s.channel.capacity

@@ -10,7 +10,7 @@ use Rattle.channel_laws.specs.Notices.{MayBeTold, EachTold}
 use Rattle.channel_laws.specs.Waits.{IsIn}
 use Rattle.channel_model.proofs.Counting.{absent_counts}
 use Rattle.channel_model.proofs.WaiterLemmas.{same_refl, same_sound, decided, or_true}
-use Rattle.channel_model.specs.Asked.{Held}
+use Rattle.channel_model.specs.Asked.{KeysHeld}
 use Rattle.channel_model.specs.Awake.{Kind, times}
 use Rattle.channel_model.specs.Laws.{is_line, same_line}
 use Rattle.channel_model.specs.Lines.{same_waiter, is_among}
@@ -136,31 +136,9 @@ module _ (Has : Key → Waiter → Type 0) where
     pub stand_kind : (ks : List Key) (ws : List Waiter) (w : Waiter) → Stand ks ws → is_among w ws ≡ true → kind w ≡ Some line
     stand_kind ks ws w h e = let found = stand_key ks ws w h e in of found.0 w found.2
 
-    -- all of them belong to their line
-    pub stand_all : (ks : List Key) (ws : List Waiter) → same_line line line ≡ true → Stand ks ws
-        → filter (λ w. is_line line (kind w)) ws ≡ ws
-    stand_all [] [] own h = refl
-    stand_all [] (w ∷ ws) own h = absurd h
-    stand_all (k ∷ ks) [] own h = absurd h
-    stand_all (k ∷ ks) (w ∷ ws) own h =
-        let mine : is_line line (kind w) ≡ true = ap (λ (o : Option Line). is_line line o) (of k w h.0) ∙ own in
-        let rest = filter (λ v. is_line line (kind v)) ws in
-        ap (λ (b : Bool). cond b (w ∷ rest) rest) mine ∙ ap (λ (vs : List Waiter). w ∷ vs) (stand_all ks ws own h.1)
-
-    -- and none to another
-    pub stand_other : (other : Line) (ks : List Key) (ws : List Waiter) → same_line other line ≡ false → Stand ks ws
-        → filter (λ w. is_line other (kind w)) ws ≡ []
-    stand_other other [] [] apart h = refl
-    stand_other other [] (w ∷ ws) apart h = absurd h
-    stand_other other (k ∷ ks) [] apart h = absurd h
-    stand_other other (k ∷ ks) (w ∷ ws) apart h =
-        let not_mine : is_line other (kind w) ≡ false = ap (λ (o : Option Line). is_line other o) (of k w h.0) ∙ apart in
-        let rest = filter (λ v. is_line other (kind v)) ws in
-        ap (λ (b : Bool). cond b (w ∷ rest) rest) not_mine ∙ stand_other other ks ws apart h.1
-
   -- ---- what they show
 
-  module _ (held : Held) (holds : (key : Key) (w : Waiter) → Has key w → held w ≡ Some key) where
+  module _ (held : KeysHeld) (holds : (key : Key) (w : Waiter) → Has key w → held w ≡ Some key) where
     pub are_untold : (es : List (Key × Option Waiter)) (ws : List Waiter)
         → ((e : Key × Option Waiter) (w : Waiter) → IsAmong e es → Has e.0 w → e.1 ≡ Some w) → Stand (keys_of es) ws
         → AreUntold held es ws

@@ -15,11 +15,11 @@ use Rattle.channel_model.proofs.Interface.{awake_after}
 use Rattle.channel_model.proofs.WaiterLemmas.{same_sound, decided, or_true, left_among}
 use Rattle.channel_model.proofs.Counting.{or_right}
 use Rattle.channel_model.specs.Answer.{Answer}
-use Rattle.channel_model.specs.Asked.{Held as Holding}
+use Rattle.channel_model.specs.Asked.{KeysHeld as Holding}
 use Rattle.channel_model.specs.Awake.{AwakeIn, Kind, times, times_in}
-use Rattle.channel_model.specs.Channel.{Channel as PlainChannel}
+use Rattle.channel_model.specs.Channel.{ModelChannel as PlainChannel}
 use Rattle.channel_model.specs.Laws.{line_of, is_line}
-use Rattle.channel_model.specs.Lines.{Waiting, same_waiter, is_among, without}
+use Rattle.channel_model.specs.Lines.{Waiting, same_waiter, is_among, without_waiter}
 use Rattle.channel_model.specs.Names.{Names}
 use Rattle.channel_model.specs.Refusal as model
 use Rattle.channel_model.specs.Refused.{Answers}
@@ -58,7 +58,7 @@ use Rattle.channel_rest.proofs.World.{rest_is_a_world}
 
 -- ---- names
 
-told_but : (k : Option Waiter) (xs : List Waiter) → option_map_or (λ (w : Waiter). without w xs) k xs ≡ but_for k xs
+told_but : (k : Option Waiter) (xs : List Waiter) → option_map_or (λ (w : Waiter). without_waiter w xs) k xs ≡ but_for k xs
 told_but None xs = refl
 told_but (Some w) xs = refl
 
@@ -76,7 +76,7 @@ among_last : (k : Option Waiter) (v : Waiter) (xs ys : List Waiter) → is_among
     → is_among v (but_for k (xs ++ ys)) ≡ true
 among_last None v xs ys e = behind v xs ys e
 among_last (Some w) v xs ys e =
-    ap (λ (l : List Waiter). is_among v l) (filter-append _ xs ys) ∙ behind v (without w xs) (without w ys) e
+    ap (λ (l : List Waiter). is_among v l) (filter-append _ xs ys) ∙ behind v (without_waiter w xs) (without_waiter w ys) e
 
 -- one of a line is among those of the line
 among_line : (kind : Kind) (line : Line) (v : Waiter) (ws : List Waiter) → kind v ≡ Some line → is_among v ws ≡ true

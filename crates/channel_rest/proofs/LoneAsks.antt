@@ -28,7 +28,7 @@ use Rattle.channel_model.specs.declared.refusal.WorldRefusal.TheVariants.{Unknow
 use Rattle.channel_interleaving.specs.Bookkeeping.{asks}
 use Rattle.channel_interleaving.specs.Owners.{amiss, polled, stream_post, operation_post, post}
 use Rattle.channel_interleaving.specs.Refusal.{is_operation_polled, is_stream_polled, meets_poll, names_taken, refusal}
-use Rattle.channel_interleaving.specs.Roll.{is_polled, has_finished, is_finished, operation_of, names_of, held_of}
+use Rattle.channel_interleaving.specs.Roll.{is_polled, has_finished, is_done, operation_of, names_of, held_of}
 use Rattle.channel_interleaving.specs.declared.names.Hold.{Hold}
 use Rattle.channel_interleaving.specs.declared.names.Operation.{Operation}
 use Rattle.channel_interleaving.specs.declared.names.OperationKind.{OperationKind}
@@ -65,7 +65,7 @@ module _ {T : Type 0} where
   polled_operation k m Rests e = absurd (let no : false ≡ true = e in cc)
   polled_operation k m (Waits key w) e = absurd (let no : false ≡ true = e in cc)
 
-  abbrev seen_as : OperationKind → HandleId → Option T → names.Operation T
+  abbrev seen_as : OperationKind → HandleId → Option T → names.ModelOperation T
   seen_as k handle m = elim k [ Send ↦ names.send handle m | Receive ↦ names.recv handle | Closing ↦ names.closing handle ]
 
   finished_as : (k : OperationKind) (handle : HandleId) (m : Option T) (s : Standing) → is_polled s ≡ false
@@ -90,21 +90,21 @@ module _ {T : Type 0} where
     -- ---- what is asked
 
     finished_same : (op : OpId)
-        → option_map_or is_finished (at op.0 r.operations) false ≡ model.is_finished (at op.0 (names_of r).operations)
+        → option_map_or is_done (at op.0 r.operations) false ≡ model.is_finished (at op.0 (names_of r).operations)
     finished_same op = by (at op.0 r.operations) refl ∙ sym (ap model.is_finished (operation_at r op.0))
       where
         by : (x : Option (Operation T)) → at op.0 r.operations ≡ x
-            → option_map_or is_finished (at op.0 r.operations) false ≡ model.is_finished
+            → option_map_or is_done (at op.0 r.operations) false ≡ model.is_finished
             (option_map operation_of (at op.0 r.operations))
         by None e = rw e refl
         by (Some o) e = rw e (finished_as o.kind o.handle o.message o.standing (unpolled op o e))
 
     pub asks_same : (c : Call T) → asks r c ≡ asked (held_of r) (names_of r) c
-    asks_same (call.Poll op) = ap (λ (o : Option (names.Operation T)). poll_asked (held_of r) op o) (sym (operation_at r op.0))
+    asks_same (call.Poll op) = ap (λ (o : Option (names.ModelOperation T)). poll_asked (held_of r) op o) (sym (operation_at r op.0))
     asks_same (call.PollRefused op) =
-        ap (λ (o : Option (names.Operation T)). refusal_asked (held_of r) op o) (sym (operation_at r op.0))
+        ap (λ (o : Option (names.ModelOperation T)). refusal_asked (held_of r) op o) (sym (operation_at r op.0))
     asks_same (call.GiveUp op) =
-        ap (λ (o : Option (names.Operation T)). giving_up_asked (held_of r) op o) (sym (operation_at r op.0))
+        ap (λ (o : Option (names.ModelOperation T)). giving_up_asked (held_of r) op o) (sym (operation_at r op.0))
     asks_same (call.SendIsTerminated op) =
         ap (λ (b : Bool). let x : ChannelAsk T Waiter = ask.SendIsTerminated b in x) (finished_same op)
     asks_same (call.Drop handle) = ap (λ (h : Option Handle). drop_asked (held_of r) handle h) (handle_there r handle.0)

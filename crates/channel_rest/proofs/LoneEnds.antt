@@ -6,7 +6,7 @@ use Rattle.channel_calls.specs.declared.reply.Reply.{Reply}
 use Rattle.channel_calls.specs.declared.stage.Kept.{Kept}
 use Rattle.channel_model.proofs.Counting.{or_right}
 use Rattle.channel_model.proofs.WaiterLemmas.{same_refl, same_sound, decided}
-use Rattle.channel_model.specs.Lines.{same_waiter, is_among, without}
+use Rattle.channel_model.specs.Lines.{same_waiter, is_among, without_waiter}
 use Rattle.channel_model.specs.declared.name.HandleId.{HandleId}
 use Rattle.channel_model.specs.declared.name.Waiter.{Waiter}
 use Rattle.channel_interleaving.specs.Bookkeeping.{settled}
@@ -102,25 +102,25 @@ module _ {T : Type 0} where
         keeps v there false e = rw e (or_right (same_waiter v w) (is_among v order) there)
 
         list : (b : Bool) → is_among w order ≡ b
-            → without w (filter is (placed w order)) ≡ without w (filter is order)
-        list true e = ap (λ (b : Bool). without w (filter is (cond b order (w ∷ order)))) e
+            → without_waiter w (filter is (placed w order)) ≡ without_waiter w (filter is order)
+        list true e = ap (λ (b : Bool). without_waiter w (filter is (cond b order (w ∷ order)))) e
         list false e =
-            ap (λ (b : Bool). without w (filter is (cond b order (w ∷ order)))) e
+            ap (λ (b : Bool). without_waiter w (filter is (cond b order (w ∷ order)))) e
             ∙ out_anyway w w (is w) (filter is order) (same_refl w)
 
     -- whoever is given up or dropped has none
-    pub gone_starts : (order : List Waiter) → Starts r new order (without w order) (Some w)
+    pub gone_starts : (order : List Waiter) → Starts r new order (without_waiter w order) (Some w)
     gone_starts order =
         record {
           others = λ v t. ap is_pending (same v t);
           own = own_is;
           places = λ v e t there. stays w v order t there;
-          woken = ap (without w) (swap_without w is order)
+          woken = ap (without_waiter w) (swap_without w is order)
               ∙ (out_twice w (filter is order) ∙ filter_others (Some w) is was order others_is);
         }
 
     -- a handle that was never polled had none
-    pub unheld_starts : (order : List Waiter) → is_pending (post r w) ≡ false → Starts r new order (without w order) None
+    pub unheld_starts : (order : List Waiter) → is_pending (post r w) ≡ false → Starts r new order (without_waiter w order) None
     unheld_starts order before =
         record {
           others = λ v i. a.pending v;
@@ -162,20 +162,20 @@ module _ {T : Type 0} where
 
   -- one that is not pending is not among those who were woken
   pub off_woken : (r : Roll T) (w : Waiter) (order : List Waiter) → is_pending (post r w) ≡ false
-      → woken_in r order ≡ without w (woken_in r order)
+      → woken_in r order ≡ without_waiter w (woken_in r order)
   off_woken r w order off = sym (out_already w (λ v. was_woken (post r v)) order (not_woken (post r w) off))
 
   -- after a poll
   pub polled_woken : (r new : Roll T) (w : Waiter) (key : Option Key) (order : List Waiter)
       → ((v : Waiter) → same_waiter w v ≡ false → post new v ≡ post r v) → was_woken (post new w) ≡ false
-      → woken_in new (kept_place w key order) ≡ without w (woken_in r order)
+      → woken_in new (kept_place w key order) ≡ without_waiter w (woken_in r order)
   polled_woken r new w key order same off = by key
     where
-      others : without w (woken_in new order) ≡ without w (woken_in r order)
+      others : without_waiter w (woken_in new order) ≡ without_waiter w (woken_in r order)
       others =
           filter_others (Some w) (λ v. was_woken (post new v)) (λ v. was_woken (post r v)) order
           (λ v t. ap was_woken (same v t))
 
-      by : (key : Option Key) → woken_in new (kept_place w key order) ≡ without w (woken_in r order)
+      by : (key : Option Key) → woken_in new (kept_place w key order) ≡ without_waiter w (woken_in r order)
       by None = swap_without w (λ v. was_woken (post new v)) order ∙ others
       by (Some key) = sym (out_already w (λ v. was_woken (post new v)) order off) ∙ others

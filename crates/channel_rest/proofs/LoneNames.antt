@@ -78,7 +78,7 @@ module _ {T : Type 0} where
   seen_settled (errand.LeaveBoth a b) x kept r =
       seen_back (with_given_back a r) b ∙ ap (back_names b) (seen_back r a)
   seen_settled (errand.Make op operation) x kept r =
-      ap (λ (d : Directory (model.Operation T)). with_operations d (names_of r))
+      ap (λ (d : Directory (model.ModelOperation T)). with_operations d (names_of r))
       (views_set operation_of op.0 r.operations (Some operation))
   seen_settled (errand.Poll op) x kept r = seen_restored r kept op
   seen_settled (errand.PollNext receiver) x kept r =
@@ -97,7 +97,7 @@ module _ {T : Type 0} where
     abbrev handles : Directory Handle
     handles = (names_of r).handles
 
-    abbrev operations : Directory (model.Operation T)
+    abbrev operations : Directory (model.ModelOperation T)
     operations = (names_of r).operations
 
     seen_at : (handle : HandleId) → at handle.0 handles ≡ handle_at handle r
@@ -124,29 +124,29 @@ module _ {T : Type 0} where
     polls op x kept ws =
         ends_so (errand.Poll op) x kept ws (with_operation lent_to_poll op r) (left_names None op (names_of r))
         (seen_to_poll r op)
-        ∙ ap (λ (d : Directory (model.Operation T)). with_operations d (names_of r))
+        ∙ ap (λ (d : Directory (model.ModelOperation T)). with_operations d (names_of r))
         (changed_twice (with_message None) (with_message kept.message) (with_message kept.message)
         (put_twice None kept.message) op.0 operations)
 
-    changed : (op : OpId) (left : Option T) (y : model.Operation T) → at op.0 operations ≡ Some y
+    changed : (op : OpId) (left : Option T) (y : model.ModelOperation T) → at op.0 operations ≡ Some y
         → left_names left op (names_of r) ≡ model.with_operation_changed op (with_message left y) (names_of r)
     changed op left y e =
-        ap (λ (d : Directory (model.Operation T)). with_operations d (names_of r))
+        ap (λ (d : Directory (model.ModelOperation T)). with_operations d (names_of r))
         (changed_some (with_message left) op.0 operations y e)
 
-    unchanged : (op : OpId) (left : Option T) (y : model.Operation T) → at op.0 operations ≡ Some y → with_message left y ≡ y
+    unchanged : (op : OpId) (left : Option T) (y : model.ModelOperation T) → at op.0 operations ≡ Some y → with_message left y ≡ y
         → left_names left op (names_of r) ≡ names_of r
     unchanged op left y e same =
-        changed op left y e ∙ ap (λ (d : Directory (model.Operation T)). with_operations d (names_of r))
-        (ap (λ (z : model.Operation T). with_changed op.0 z operations) same ∙ same_put_back op.0 operations y e)
+        changed op left y e ∙ ap (λ (d : Directory (model.ModelOperation T)). with_operations d (names_of r))
+        (ap (λ (z : model.ModelOperation T). with_changed op.0 z operations) same ∙ same_put_back op.0 operations y e)
 
     nothing : (op : OpId) (left : Option T) → at op.0 operations ≡ None → left_names left op (names_of r) ≡ names_of r
     nothing op left e =
-        ap (λ (d : Directory (model.Operation T)). with_operations d (names_of r))
+        ap (λ (d : Directory (model.ModelOperation T)). with_operations d (names_of r))
         (changed_none (with_message left) op.0 operations e)
 
     -- only an unfinished send is changed by it
-    polled_is : (op : OpId) (y : Option (model.Operation T)) (channel : Channel T Waiter) (o : Outcome T Waiter)
+    polled_is : (op : OpId) (y : Option (model.ModelOperation T)) (channel : Channel T Waiter) (o : Outcome T Waiter)
         → at op.0 operations ≡ y → Alone (poll_asked (held_of r) op y) channel o
         → left_names o.kept.message op (names_of r) ≡ polled_names op y o.kept.message (names_of r)
     polled_is op (Some (model.send handle (Some m))) channel o e alone = changed op o.kept.message _ e
@@ -156,7 +156,7 @@ module _ {T : Type 0} where
     polled_is op (Some (model.closing handle)) channel o e alone = unchanged op o.kept.message _ e refl
     polled_is op None channel o e alone = nothing op o.kept.message e
 
-    refused_is : (op : OpId) (y : Option (model.Operation T)) (left : Option T) → at op.0 operations ≡ y
+    refused_is : (op : OpId) (y : Option (model.ModelOperation T)) (left : Option T) → at op.0 operations ≡ y
         → left_names left op (names_of r) ≡ refused_names op y left (names_of r)
     refused_is op (Some (model.send handle msg)) left e = changed op left _ e
     refused_is op (Some (model.recv handle)) left e = unchanged op left _ e refl
@@ -166,26 +166,26 @@ module _ {T : Type 0} where
     -- ---- what lives no more
 
     gives_up : (op : OpId) (y : Option (Operation T)) (x : Reply T) (kept : Kept T) (ws : List Waiter) → at op.0 r.operations ≡ y
-        → names_of (settled (leave_handle_of y) x kept (all_woken ws (record r { operations = model.without op.0 r.operations })))
+        → names_of (settled (leave_handle_of y) x kept (all_woken ws (record r { operations = model.without_name op.0 r.operations })))
         ≡ given_up_names op (option_map operation_of y) (names_of r)
     gives_up op None x kept ws e =
-        ends_so errand.Nothing x kept ws (record r { operations = model.without op.0 r.operations }) (names_of r)
-        (ap (λ (d : Directory (model.Operation T)). with_operations d (names_of r))
+        ends_so errand.Nothing x kept ws (record r { operations = model.without_name op.0 r.operations }) (names_of r)
+        (ap (λ (d : Directory (model.ModelOperation T)). with_operations d (names_of r))
         (views_set operation_of op.0 r.operations None
         ∙ nothing_to_end op.0 operations (at_seen operation_of op.0 r.operations ∙ ap (option_map operation_of) e)))
     gives_up op (Some y) x kept ws e =
-        ends_so (errand.Leave y.handle) x kept ws (record r { operations = model.without op.0 r.operations }) _
-        (ap (λ (d : Directory (model.Operation T)). with_operations d (names_of r))
+        ends_so (errand.Leave y.handle) x kept ws (record r { operations = model.without_name op.0 r.operations }) _
+        (ap (λ (d : Directory (model.ModelOperation T)). with_operations d (names_of r))
         (views_set operation_of op.0 r.operations None))
         ∙ ap (λ (h : HandleId). let n : Names T =
-        record { handles = model.given_back h handles; operations = model.without op.0 operations } in n)
+        record { handles = model.given_back h handles; operations = model.without_name op.0 operations } in n)
         (sym (borrowed_is y))
 
     drops : (handle : HandleId) (x : Reply T) (kept : Kept T) (ws : List Waiter)
-        → names_of (settled errand.Nothing x kept (all_woken ws (record r { handles = model.without handle.0 r.handles })))
-        ≡ model.with_handles (model.without handle.0 handles) (names_of r)
+        → names_of (settled errand.Nothing x kept (all_woken ws (record r { handles = model.without_name handle.0 r.handles })))
+        ≡ model.with_handles (model.without_name handle.0 handles) (names_of r)
     drops handle x kept ws =
-        ends_so errand.Nothing x kept ws (record r { handles = model.without handle.0 r.handles }) _
+        ends_so errand.Nothing x kept ws (record r { handles = model.without_name handle.0 r.handles }) _
         (ap (λ (d : Directory Handle). model.with_handles d (names_of r)) (views_set handle_of handle.0 r.handles None))
 
   -- ---- calls through handles
@@ -262,13 +262,13 @@ module _ {T : Type 0} where
     made op handle operation x kept ws same =
         ends_so (errand.Make op operation) x kept ws (with_lent handle (operation_named op r)) _
         (seen_lent (operation_named op r) handle)
-        ∙ (ap (λ (d : Directory (model.Operation T)). let n : Names T =
+        ∙ (ap (λ (d : Directory (model.ModelOperation T)). let n : Names T =
         record { handles = changed_at more_of handle.0 (handles r); operations = d } in n)
         (set_first op.0 (operation_of operation) (operations r))
         ∙ ap (λ (d : Directory Handle). let n : Names T =
         record { handles = d; operations = with_new op.0 (operation_of operation) (operations r) } in n)
         (lent_is handle (handles r) (lendable_once handle.0)
-        ∙ ap (λ (h : HandleId). model.lent h (handles r)) (sym (borrowed_is operation ∙ same))))
+        ∙ ap (λ (h : HandleId). model.lent_once_more h (handles r)) (sym (borrowed_is operation ∙ same))))
 
     -- ---- new handles
 
@@ -328,7 +328,7 @@ module _ {T : Type 0} where
   names_follow r (call.PollNext receiver) s channel o same few alone =
       follow r s _ (λ n. n) same (streamed r few receiver o.reply o.kept o.woken)
   names_follow r (call.Drop handle) s channel o same few alone =
-      follow r s _ (λ n. model.with_handles (model.without handle.0 n.handles) n) same
+      follow r s _ (λ n. model.with_handles (model.without_name handle.0 n.handles) n) same
       (drops r handle o.reply o.kept o.woken)
   names_follow r (call.TryClone handle new) s channel o same few alone =
       follow r s _ (λ n. made_names new (kind_at handle n) o.reply n) same

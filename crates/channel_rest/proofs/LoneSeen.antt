@@ -3,7 +3,7 @@ use Rattle.std.proofs.Common.{◌≡◌, ℕ, ◌+◌, ◌-◌, ◌^◌, ◌<◌
 use Rattle.std.proofs.Math.Nat.{min-eq_left}
 use Rattle.std.proofs.lemmas.Cmp.{nat_eq_equiv}
 use Rattle.channel_model.proofs.WaiterLemmas.{decided, same_number}
-use Rattle.channel_model.specs.Names.{Directory, Names, at, with_spent, given_back, lent, with_changed}
+use Rattle.channel_model.specs.Names.{Directory, Names, at, with_spent, given_back, lent_once_more, with_changed}
 use Rattle.channel_model.specs.Names as model
 use Rattle.channel_model.specs.declared.name.Handle.{Handle}
 use Rattle.channel_model.specs.declared.name.HandleId.{HandleId}
@@ -106,7 +106,7 @@ back_both a b d few more = elim (decided (nat_eq a b)) [
 
 -- within the bound, it is lent as the model lends it
 pub lent_is : (handle : HandleId) (d : Directory Handle) → Lendable 1 handle.0 d
-    → changed_at more_of handle.0 d ≡ lent handle d
+    → changed_at more_of handle.0 d ≡ lent_once_more handle d
 lent_is handle d few = by (at handle.0 d) refl
   where
     by : (o : Option Handle) → at handle.0 d ≡ o → changed_at more_of handle.0 d ≡ changed_at one_more handle.0 d
@@ -120,19 +120,19 @@ lent_is handle d few = by (at handle.0 d) refl
 
 module _ {T : Type 0} where
   -- the same, where it is a send with this message or none
-  abbrev pub with_message : Option T → model.Operation T → model.Operation T
+  abbrev pub with_message : Option T → model.ModelOperation T → model.ModelOperation T
   with_message left (model.send handle msg) = model.send handle left
   with_message left (model.recv handle) = model.recv handle
   with_message left (model.closing handle) = model.closing handle
 
   -- the last of two messages stays
-  pub put_twice : (first last : Option T) (x : model.Operation T)
+  pub put_twice : (first last : Option T) (x : model.ModelOperation T)
       → with_message last (with_message first x) ≡ with_message last x
   put_twice first last (model.send handle msg) = refl
   put_twice first last (model.recv handle) = refl
   put_twice first last (model.closing handle) = refl
 
-  abbrev as_seen : OperationKind → HandleId → Option T → model.Operation T
+  abbrev as_seen : OperationKind → HandleId → Option T → model.ModelOperation T
   as_seen k handle m =
       elim k [ kind.Send ↦ model.send handle m | kind.Receive ↦ model.recv handle | kind.Closing ↦ model.closing handle ]
 
@@ -162,7 +162,7 @@ module _ {T : Type 0} where
   abbrev pub left_names : Option T → OpId → Names T → Names T
   left_names left op n = record n { operations = changed_at (with_message left) op.0 n.operations }
 
-  abbrev pub with_operations : Directory (model.Operation T) → Names T → Names T
+  abbrev pub with_operations : Directory (model.ModelOperation T) → Names T → Names T
   with_operations d n = record n { operations = d }
 
   pub seen_lent : (r : Roll T) (handle : HandleId) → names_of (with_lent handle r) ≡ lent_names handle (names_of r)
@@ -184,21 +184,21 @@ module _ {T : Type 0} where
   pub seen_to_poll : (r : Roll T) (op : OpId)
       → names_of (with_operation lent_to_poll op r) ≡ left_names None op (names_of r)
   seen_to_poll r op =
-      ap (λ (d : Directory (model.Operation T)). with_operations d (names_of r))
+      ap (λ (d : Directory (model.ModelOperation T)). with_operations d (names_of r))
       (views_changed operation_of lent_to_poll (with_message None)
       (λ o. left_seen None o.kind o.handle o.message) op.0 r.operations)
 
   pub seen_restored : (r : Roll T) (kept : Kept T) (op : OpId)
       → names_of (with_operation (restored kept) op r) ≡ left_names kept.message op (names_of r)
   seen_restored r kept op =
-      ap (λ (d : Directory (model.Operation T)). with_operations d (names_of r))
+      ap (λ (d : Directory (model.ModelOperation T)). with_operations d (names_of r))
       (views_changed operation_of (restored kept) (with_message kept.message)
       (λ o. left_seen kept.message o.kind o.handle o.message) op.0 r.operations)
 
   -- whoever is woken is the same
   seen_woken : (w : Waiter) (r : Roll T) → names_of (woken w r) ≡ names_of r
   seen_woken (Op op) r =
-      ap (λ (d : Directory (model.Operation T)). with_operations d (names_of r))
+      ap (λ (d : Directory (model.ModelOperation T)). with_operations d (names_of r))
       (views_kept operation_of (λ (o : Operation T). record o { standing = told o.standing }) (λ o. refl) op.0 r.operations)
   seen_woken (Stream handle) r = seen_standing r (λ h. told h.standing) handle
 

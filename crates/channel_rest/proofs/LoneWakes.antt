@@ -5,7 +5,7 @@ use Rattle.std.specs.List.{filter}
 use Rattle.channel_model.proofs.Counting.{count_append, among_counts, among_self, or_right}
 use Rattle.channel_model.proofs.WaiterLemmas.{same_refl, same_sound, decided, or_true, without_absent, none_left}
 use Rattle.channel_model.specs.Awake.{times}
-use Rattle.channel_model.specs.Lines.{same_waiter, is_among, without}
+use Rattle.channel_model.specs.Lines.{same_waiter, is_among, without_waiter}
 use Rattle.channel_model.specs.declared.name.Waiter.{Waiter}
 use Rattle.channel_interleaving.specs.Bookkeeping.{woken, all_woken}
 use Rattle.channel_interleaving.specs.Order.{moved_last, all_moved_last}
@@ -42,11 +42,11 @@ filter_swap f g (x ∷ xs) = by (f x) (g x) refl refl (filter_swap f g xs)
     by false true d e on = rw (d, e) (rw d on)
     by false false d e on = rw (d, e) on
 
-pub swap_without : (w : Waiter) (f : Waiter → Bool) (ws : List Waiter) → filter f (without w ws) ≡ without w (filter f ws)
+pub swap_without : (w : Waiter) (f : Waiter → Bool) (ws : List Waiter) → filter f (without_waiter w ws) ≡ without_waiter w (filter f ws)
 swap_without w f ws = filter_swap f (λ v. not (same_waiter w v)) ws
 
-pub out_twice : (w : Waiter) (ws : List Waiter) → without w (without w ws) ≡ without w ws
-out_twice w ws = without_absent w (without w ws) (none_left w ws)
+pub out_twice : (w : Waiter) (ws : List Waiter) → without_waiter w (without_waiter w ws) ≡ without_waiter w ws
+out_twice w ws = without_absent w (without_waiter w ws) (none_left w ws)
 
 -- two tests that agree
 pub filter_same : (f g : Waiter → Bool) (ws : List Waiter) → ((v : Waiter) → f v ≡ g v) → filter f ws ≡ filter g ws
@@ -57,7 +57,7 @@ filter_same f g (x ∷ xs) same =
 
 -- a name that is taken out anyway
 pub out_anyway : (w x : Waiter) (b : Bool) (xs : List Waiter) → same_waiter w x ≡ true
-    → without w (cond b (x ∷ xs) xs) ≡ without w xs
+    → without_waiter w (cond b (x ∷ xs) xs) ≡ without_waiter w xs
 out_anyway w x true xs same = rw same refl
 out_anyway w x false xs same = refl
 
@@ -68,18 +68,18 @@ filter_others None f g ws same = filter_same f g ws (λ v. same v tt)
 filter_others (Some w) f g [] same = refl
 filter_others (Some w) f g (x ∷ xs) same = by (decided (same_waiter w x)) (filter_others (Some w) f g xs same)
   where
-    more : (b : Bool) → without w (filter f xs) ≡ without w (filter g xs)
-        → without w (cond b (x ∷ filter f xs) (filter f xs)) ≡ without w (cond b (x ∷ filter g xs) (filter g xs))
+    more : (b : Bool) → without_waiter w (filter f xs) ≡ without_waiter w (filter g xs)
+        → without_waiter w (cond b (x ∷ filter f xs) (filter f xs)) ≡ without_waiter w (cond b (x ∷ filter g xs) (filter g xs))
     more true on = ap (λ (ys : List Waiter). cond (not (same_waiter w x)) (x ∷ ys) ys) on
     more false on = on
 
-    by : (same_waiter w x ≡ true) ⊎ (same_waiter w x ≡ false) → without w (filter f xs) ≡ without w (filter g xs)
-        → without w (filter f (x ∷ xs)) ≡ without w (filter g (x ∷ xs))
+    by : (same_waiter w x ≡ true) ⊎ (same_waiter w x ≡ false) → without_waiter w (filter f xs) ≡ without_waiter w (filter g xs)
+        → without_waiter w (filter f (x ∷ xs)) ≡ without_waiter w (filter g (x ∷ xs))
     by (inl t) on = out_anyway w x (f x) (filter f xs) t ∙ (on ∙ sym (out_anyway w x (g x) (filter g xs) t))
-    by (inr t) on = ap (λ (b : Bool). without w (cond b (x ∷ filter f xs) (filter f xs))) (same x t) ∙ more (g x) on
+    by (inr t) on = ap (λ (b : Bool). without_waiter w (cond b (x ∷ filter f xs) (filter f xs))) (same x t) ∙ more (g x) on
 
 -- a name that doesn't pass
-pub out_already : (w : Waiter) (f : Waiter → Bool) (ws : List Waiter) → f w ≡ false → without w (filter f ws) ≡ filter f ws
+pub out_already : (w : Waiter) (f : Waiter → Bool) (ws : List Waiter) → f w ≡ false → without_waiter w (filter f ws) ≡ filter f ws
 out_already w f [] off = refl
 out_already w f (x ∷ xs) off = by (f x) refl (out_already w f xs off)
   where
@@ -88,7 +88,7 @@ out_already w f (x ∷ xs) off = by (f x) refl (out_already w f xs off)
         absurd (let never : true ≡ false = sym e ∙ (ap f (sym (same_sound w x t)) ∙ off) in cc)
     apart e (inr t) = t
 
-    by : (b : Bool) → f x ≡ b → without w (filter f xs) ≡ filter f xs → without w (filter f (x ∷ xs)) ≡ filter f (x ∷ xs)
+    by : (b : Bool) → f x ≡ b → without_waiter w (filter f xs) ≡ filter f xs → without_waiter w (filter f (x ∷ xs)) ≡ filter f (x ∷ xs)
     by true e on = rw e (rw (apart e (decided (same_waiter w x))) (ap (λ (ys : List Waiter). x ∷ ys) on))
     by false e on = rw e on
 
@@ -102,25 +102,25 @@ not_twice w xs ys h = elim (decided (is_among w xs)) [
   | inr t ↦ t
 ]
 
-last_out : (w : Waiter) → without w (w ∷ []) ≡ []
+last_out : (w : Waiter) → without_waiter w (w ∷ []) ≡ []
 last_out w = rw (same_refl w) refl
 
 -- ---- who is among others
 
 -- who is not taken out stays
 pub stays : (w v : Waiter) (ws : List Waiter) → same_waiter w v ≡ false → is_among v ws ≡ true
-    → is_among v (without w ws) ≡ true
+    → is_among v (without_waiter w ws) ≡ true
 stays w v [] apart e = absurd (let no : false ≡ true = e in cc)
 stays w v (x ∷ xs) apart e = by (decided (same_waiter w x)) (or_true (same_waiter v x) (is_among v xs) e) (stays w v xs apart)
   where
     by : (same_waiter w x ≡ true) ⊎ (same_waiter w x ≡ false) → (same_waiter v x ≡ true) ⊎ (is_among v xs ≡ true)
-        → (is_among v xs ≡ true → is_among v (without w xs) ≡ true) → is_among v (without w (x ∷ xs)) ≡ true
+        → (is_among v xs ≡ true → is_among v (without_waiter w xs) ≡ true) → is_among v (without_waiter w (x ∷ xs)) ≡ true
     by (inl t) (inl u) on =
         absurd (let never : true ≡ false =
         sym t ∙ (ap (λ (y : Waiter). same_waiter w y) (sym (same_sound v x u)) ∙ apart) in cc)
     by (inl t) (inr u) on = rw t (on u)
     by (inr t) (inl u) on = rw t (rw u refl)
-    by (inr t) (inr u) on = rw t (or_right (same_waiter v x) (is_among v (without w xs)) (on u))
+    by (inr t) (inr u) on = rw t (or_right (same_waiter v x) (is_among v (without_waiter w xs)) (on u))
 
 among_front : (v : Waiter) (xs ys : List Waiter) → is_among v xs ≡ true → is_among v (xs ++ ys) ≡ true
 among_front v [] ys e = absurd (let no : false ≡ true = e in cc)
@@ -140,9 +140,9 @@ among_moved w v ws there = by (decided (is_among w ws)) (decided (same_waiter w 
     by : (is_among w ws ≡ true) ⊎ (is_among w ws ≡ false) → (same_waiter w v ≡ true) ⊎ (same_waiter w v ≡ false)
         → is_among v (moved_last w ws) ≡ true
     by (inl t) (inl u) =
-        rw t (among_behind v (without w ws) (w ∷ [])
+        rw t (among_behind v (without_waiter w ws) (w ∷ [])
         (subst (λ (y : Waiter). is_among y (w ∷ []) ≡ true) (same_sound w v u) (among_self w [])))
-    by (inl t) (inr u) = rw t (among_front v (without w ws) (w ∷ []) (stays w v ws u there))
+    by (inl t) (inr u) = rw t (among_front v (without_waiter w ws) (w ∷ []) (stays w v ws u there))
     by (inr t) u = rw t there
 
 -- ---- who is pending
@@ -222,11 +222,11 @@ module _ {T : Type 0} where
         by (inr t) = others_one v t
 
     last_one : (ws : List Waiter) → is_pending (post r w) ≡ true → is_among w ws ≡ true
-        → woken_in (woken w r) (moved_last w ws) ≡ without w (woken_in r ws) ++ w ∷ []
+        → woken_in (woken w r) (moved_last w ws) ≡ without_waiter w (woken_in r ws) ++ w ∷ []
     last_one ws on there =
-        ap (λ (b : Bool). filter is (cond b (without w ws ++ w ∷ []) ws)) there
-        ∙ (filter-append is (without w ws) (w ∷ [])
-        ∙ (ap (λ (b : Bool). filter is (without w ws) ++ cond b (w ∷ []) []) (own_one ∙ on)
+        ap (λ (b : Bool). filter is (cond b (without_waiter w ws ++ w ∷ []) ws)) there
+        ∙ (filter-append is (without_waiter w ws) (w ∷ [])
+        ∙ (ap (λ (b : Bool). filter is (without_waiter w ws) ++ cond b (w ∷ []) []) (own_one ∙ on)
         ∙ ap (λ (xs : List Waiter). xs ++ w ∷ []) (swap_without w is ws ∙ filter_others (Some w) is was ws others_one)))
 
     still_one : (ws : List Waiter) → is_pending (post r w) ≡ false → woken_in (woken w r) (moved_last w ws) ≡ woken_in r ws
@@ -234,51 +234,51 @@ module _ {T : Type 0} where
       where
         by : (b : Bool) → is_among w ws ≡ b → filter is (moved_last w ws) ≡ filter is ws
         by true e =
-            ap (λ (b : Bool). filter is (cond b (without w ws ++ w ∷ []) ws)) e
-            ∙ (filter-append is (without w ws) (w ∷ [])
-            ∙ (ap (λ (b : Bool). filter is (without w ws) ++ cond b (w ∷ []) []) (own_one ∙ off)
-            ∙ (append-nil (filter is (without w ws))
+            ap (λ (b : Bool). filter is (cond b (without_waiter w ws ++ w ∷ []) ws)) e
+            ∙ (filter-append is (without_waiter w ws) (w ∷ [])
+            ∙ (ap (λ (b : Bool). filter is (without_waiter w ws) ++ cond b (w ∷ []) []) (own_one ∙ off)
+            ∙ (append-nil (filter is (without_waiter w ws))
             ∙ (swap_without w is ws ∙ out_already w is ws (own_one ∙ off)))))
-        by false e = ap (λ (b : Bool). filter is (cond b (without w ws ++ w ∷ []) ws)) e
+        by false e = ap (λ (b : Bool). filter is (cond b (without_waiter w ws ++ w ∷ []) ws)) e
 
     places_one : (ws : List Waiter) → HavePlaces r ws → HavePlaces (woken w r) (moved_last w ws)
     places_one ws places v on = among_moved w v ws (places v (sym (pending_one v) ∙ on))
 
     -- but for one, whoever it is, w was woken last
     own_told : (ws : List Waiter) (k : Waiter) → same_waiter k w ≡ true → HavePlaces r ws
-        → without k (woken_in (woken w r) (moved_last w ws)) ≡ without k (woken_in r ws ++ w ∷ [])
+        → without_waiter k (woken_in (woken w r) (moved_last w ws)) ≡ without_waiter k (woken_in r ws ++ w ∷ [])
     own_told ws k t places =
-        subst (λ (x : Waiter). without x (woken_in (woken w r) (moved_last w ws)) ≡ without x (woken_in r ws ++ w ∷ []))
+        subst (λ (x : Waiter). without_waiter x (woken_in (woken w r) (moved_last w ws)) ≡ without_waiter x (woken_in r ws ++ w ∷ []))
         (sym (same_sound k w t)) (by (decided (is_pending (post r w))))
       where
-        split : without w (woken_in r ws ++ w ∷ []) ≡ without w (woken_in r ws)
+        split : without_waiter w (woken_in r ws ++ w ∷ []) ≡ without_waiter w (woken_in r ws)
         split =
             filter-append (λ v. not (same_waiter w v)) (woken_in r ws) (w ∷ [])
-            ∙ (ap (λ (xs : List Waiter). without w (woken_in r ws) ++ xs) (last_out w) ∙ append-nil (without w (woken_in r ws)))
+            ∙ (ap (λ (xs : List Waiter). without_waiter w (woken_in r ws) ++ xs) (last_out w) ∙ append-nil (without_waiter w (woken_in r ws)))
 
         by : (is_pending (post r w) ≡ true) ⊎ (is_pending (post r w) ≡ false)
-            → without w (woken_in (woken w r) (moved_last w ws)) ≡ without w (woken_in r ws ++ w ∷ [])
+            → without_waiter w (woken_in (woken w r) (moved_last w ws)) ≡ without_waiter w (woken_in r ws ++ w ∷ [])
         by (inl p) =
-            ap (without w) (last_one ws p (places w p))
-            ∙ (filter-append (λ v. not (same_waiter w v)) (without w (woken_in r ws)) (w ∷ [])
-            ∙ (ap (λ (xs : List Waiter). without w (without w (woken_in r ws)) ++ xs) (last_out w)
-            ∙ (append-nil (without w (without w (woken_in r ws))) ∙ (out_twice w (woken_in r ws) ∙ sym split))))
-        by (inr p) = ap (without w) (still_one ws p) ∙ sym split
+            ap (without_waiter w) (last_one ws p (places w p))
+            ∙ (filter-append (λ v. not (same_waiter w v)) (without_waiter w (woken_in r ws)) (w ∷ [])
+            ∙ (ap (λ (xs : List Waiter). without_waiter w (without_waiter w (woken_in r ws)) ++ xs) (last_out w)
+            ∙ (append-nil (without_waiter w (without_waiter w (woken_in r ws))) ∙ (out_twice w (woken_in r ws) ∙ sym split))))
+        by (inr p) = ap (without_waiter w) (still_one ws p) ∙ sym split
 
     other_told : (ws : List Waiter) (k : Option Waiter) → HavePlaces r ws → is_pending (post r w) ≡ true
         → is_among w (but_for k (woken_in r ws)) ≡ false
         → but_for k (woken_in (woken w r) (moved_last w ws)) ≡ but_for k (woken_in r ws ++ w ∷ [])
     other_told ws k places p out =
         ap (but_for k) (last_one ws p (places w p))
-        ∙ (but_append k (without w (woken_in r ws)) (w ∷ [])
+        ∙ (but_append k (without_waiter w (woken_in r ws)) (w ∷ [])
         ∙ (ap (λ (xs : List Waiter). xs ++ but_for k (w ∷ [])) (kept k out) ∙ sym (but_append k (woken_in r ws) (w ∷ []))))
       where
         kept : (k : Option Waiter) → is_among w (but_for k (woken_in r ws)) ≡ false
-            → but_for k (without w (woken_in r ws)) ≡ but_for k (woken_in r ws)
+            → but_for k (without_waiter w (woken_in r ws)) ≡ but_for k (woken_in r ws)
         kept None h = without_absent w (woken_in r ws) h
         kept (Some v) h =
             swap_without w (λ x. not (same_waiter v x)) (woken_in r ws)
-            ∙ without_absent w (without v (woken_in r ws)) h
+            ∙ without_absent w (without_waiter v (woken_in r ws)) h
 
   -- ---- all wakes of a call
 
@@ -302,11 +302,11 @@ module _ {T : Type 0} where
       first (Some v) p o = elim (decided (same_waiter v w)) [
         | inl u ↦ own_told r w ws v u places
         | inr u ↦
-            let there : is_among w (without v (w ∷ ns)) ≡ true = rw u (among_self w (without v ns)) in
-            let split : without v (woken_in r ws ++ w ∷ ns) ≡ without v (woken_in r ws) ++ w ∷ without v ns =
+            let there : is_among w (without_waiter v (w ∷ ns)) ≡ true = rw u (among_self w (without_waiter v ns)) in
+            let split : without_waiter v (woken_in r ws ++ w ∷ ns) ≡ without_waiter v (woken_in r ws) ++ w ∷ without_waiter v ns =
             filter-append (λ x. not (same_waiter v x)) (woken_in r ws) (w ∷ ns) ∙ rw u refl in
             other_told r w ws (Some v) places (p w there)
-            (not_twice w (without v (woken_in r ws)) (without v ns) (subst (λ (xs : List Waiter). times w xs ≤ 1) split (o w)))
+            (not_twice w (without_waiter v (woken_in r ws)) (without_waiter v ns) (subst (λ (xs : List Waiter). times w xs ≤ 1) split (o w)))
       ]
 
       joined : but_for k (woken_in (woken w r) (moved_last w ws) ++ ns) ≡ but_for k (woken_in r ws ++ w ∷ ns)
@@ -322,7 +322,7 @@ module _ {T : Type 0} where
           beyond None h = or_right (same_waiter v w) (is_among v ns) h
           beyond (Some x) h = elim (decided (same_waiter x w)) [
             | inl u ↦ rw u h
-            | inr u ↦ rw u (or_right (same_waiter v w) (is_among v (without x ns)) h)
+            | inr u ↦ rw u (or_right (same_waiter v w) (is_among v (without_waiter x ns)) h)
           ]
 
       fewer : (v : Waiter) → times v (but_for k (woken_in (woken w r) (moved_last w ws) ++ ns)) ≤ 1

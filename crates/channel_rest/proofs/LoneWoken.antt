@@ -12,7 +12,7 @@ use Rattle.channel_model.proofs.WaiterLemmas.{left_among}
 use Rattle.channel_model.specs.Answer.{weak_of, strong_of}
 use Rattle.channel_model.specs.Asked.{stream_of}
 use Rattle.channel_model.specs.Awake.{times}
-use Rattle.channel_model.specs.Lines.{same_waiter, is_among, without}
+use Rattle.channel_model.specs.Lines.{same_waiter, is_among, without_waiter}
 use Rattle.channel_model.specs.Names.{Names, at, is_taken}
 use Rattle.channel_model.specs.State.{State}
 use Rattle.channel_model.specs.declared.call.Call.{Call}
@@ -69,7 +69,7 @@ other_left (Some w) v ws e = (left_among w v ws e).1
 
 -- what is left of all that were woken
 left_of : (k : Option Waiter) (told : List Waiter)
-    → but_for k told ≡ option_map_or (λ (w : Waiter). without w told) k told
+    → but_for k told ≡ option_map_or (λ (w : Waiter). without_waiter w told) k told
 left_of None told = refl
 left_of (Some w) told = refl
 
@@ -208,7 +208,7 @@ module _ {T : Type 0} where
     given_up : (op : OpId) → is_pending (post (with_op_value op None r) (Op op)) ≡ false
     given_up op = op_value_own r op None is_pending sees_pending refl
 
-    gives_up : (op : OpId) → Starts r (with_op_value op None r) order (without (Op op) order) (Some (Op op))
+    gives_up : (op : OpId) → Starts r (with_op_value op None r) order (without_waiter (Op op) order) (Some (Op op))
     gives_up op = gone_starts r (with_op_value op None r) (Op op) (op_value_other r op None) (given_up op) order
 
     gives_up_end : (op : OpId) (o : Option (Operation T)) → EndsSo (with_op_value op None r) (leave_handle_of o) (Some (Op op))
@@ -221,7 +221,7 @@ module _ {T : Type 0} where
 
     abbrev Drops : HandleId → Option Waiter → Type 0
     Drops handle k =
-        Starts r (with_handle_value handle None r) order (without (Stream handle) order) k
+        Starts r (with_handle_value handle None r) order (without_waiter (Stream handle) order) k
         × EndsSo (with_handle_value handle None r) errand.Nothing k
 
     drops_held : (handle : HandleId) → Drops handle (Some (Stream handle))
@@ -329,7 +329,7 @@ module _ {T : Type 0} where
       let then = order_begun c order in
       g.ends o.reply o.kept (all_woken o.woken begun) (all_moved_last o.woken then) (all_pending o.woken begun)
       ∙ (all_last k begun then o.woken have wakes fewer ∙ (joined ∙ (left_of k (woken_in r order ++ o.woken)
-      ∙ ap (λ (ws : List Waiter). option_map_or (λ (w : Waiter). without w (ws ++ o.woken)) k (ws ++ o.woken)) (sym woken))))
+      ∙ ap (λ (ws : List Waiter). option_map_or (λ (w : Waiter). without_waiter w (ws ++ o.woken)) k (ws ++ o.woken)) (sym woken))))
     where
       g : Goes r c order (keeper s c)
       g = goes r s order same c fine

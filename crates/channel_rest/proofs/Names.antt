@@ -108,12 +108,12 @@ hold_pends (Some None) key e = absurd (let no : None ≡ Some key = e in cc)
 hold_pends (Some (Some x)) key e = stream_pends x.handle.kind x.standing key e
 
 module _ {T : Type 0} where
-  abbrev seen_as : OperationKind → HandleId → Option T → model.Operation T
+  abbrev seen_as : OperationKind → HandleId → Option T → model.ModelOperation T
   seen_as k handle m =
       elim k [ kind.Send ↦ model.send handle m | kind.Receive ↦ model.recv handle | kind.Closing ↦ model.closing handle ]
 
   -- the line of what is pending
-  abbrev InLine : Option Key → Option (model.Operation T) → Held → Type 0
+  abbrev InLine : Option Key → Option (model.ModelOperation T) → Held → Type 0
   InLine key o h = (key ≡ Some h.key) × (line_of_operation o ≡ Some h.line)
 
   send_is : (handle : HandleId) (m : Option T) (s : Standing) (h : Held) (b : Bool) → send_post m s ≡ waits h b
@@ -162,7 +162,7 @@ module _ {T : Type 0} where
     -- the line of a pending name is that of its listener
     pub line_is : (w : Waiter) (h : Held) (b : Bool) → post r w ≡ waits h b → line_of (names_of r) w ≡ Some h.line
     line_is (Op op) h b e =
-        ap (λ (o : Option (model.Operation T)). line_of_operation o) (at_seen operation_of op.0 r.operations) ∙
+        ap (λ (o : Option (model.ModelOperation T)). line_of_operation o) (at_seen operation_of op.0 r.operations) ∙
         (op_at (lookup (nat_eq op.0) r.operations) h b e).1
     line_is (Stream handle) h b e =
         ap (λ (x : Line). let o : Option Line = Some x in o) (hold_at (lookup (nat_eq handle.0) r.handles) h b e).1

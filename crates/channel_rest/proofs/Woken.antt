@@ -17,7 +17,7 @@ use Rattle.channel_interleaving.specs.Owners.{IsAmong, NoneTwice, Post, free, va
 use Rattle.channel_interleaving.specs.OwnerOrder.{was_woken, Within, woken_in, woken_keys}
 use Rattle.channel_interleaving.specs.declared.roll.Roll.{Roll}
 use Rattle.channel_refinement.specs.Refines.{AreUntold, of_line}
-use Rattle.channel_model.specs.Asked.{Held as Holding}
+use Rattle.channel_model.specs.Asked.{KeysHeld as Holding}
 use Rattle.channel_rest.proofs.Lists.{Stand}
 use Rattle.channel_rest.proofs.Names.{on}
 

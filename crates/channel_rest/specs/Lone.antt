@@ -11,7 +11,7 @@ use Rattle.channel_interleaving.specs.Refusal.{refusal}
 use Rattle.channel_interleaving.specs.Run.{Book}
 use Rattle.channel_interleaving.specs.declared.names.Hold.{Hold}
 use Rattle.channel_interleaving.specs.declared.roll.Roll.{Roll}
-use Rattle.channel_model.specs.Lines.{is_among, without}
+use Rattle.channel_model.specs.Lines.{is_among, without_waiter}
 use Rattle.channel_model.specs.Names.{at}
 use Rattle.channel_model.specs.Refusal as model
 use Rattle.channel_model.specs.Refused.{Answers}
@@ -24,7 +24,7 @@ use Rattle.channel_steps.specs.Scene.{Scene}
 -- the names, without one if there is one
 abbrev pub but_for : Option Waiter → List Waiter → List Waiter
 but_for None ws = ws
-but_for (Some w) ws = without w ws
+but_for (Some w) ws = without_waiter w ws
 
 module _ {T : Type 0} where
   -- no handle is used by as many as can be counted

@@ -11,7 +11,7 @@ use Rattle.channel_model.specs.Refusal.{refusal}
 use Rattle.channel_model.specs.State.{State}
 use Rattle.channel_model.specs.declared.call.Call.{Call}
 use Rattle.channel_model.specs.declared.name.Waiter.{Waiter}
-use Rattle.channel_refinement.specs.Asked.{asked}
+use Rattle.channel_refinement.specs.Asked.{asked_in}
 use Rattle.channel_refinement.specs.Over.{Matches}
 use Rattle.channel_refinement.specs.Refines.{Refines}
 use Rattle.channel_steps.specs.Scene.{Scene}
@@ -45,7 +45,7 @@ module _ {T : Type 0} where
     pub awake : AwakeIn (state_at b s)
     pub calls :
         (c : Call T) (o : Outcome T Waiter)
-        → refusal (state_at b s) c ≡ None → Alone (asked (held_of b.roll) (state_at b s) c) s.now o
+        → refusal (state_at b s) c ≡ None → Alone (asked_in (held_of b.roll) (state_at b s) c) s.now o
         → Matches (held_of b.roll) (state_at b s) c o
 
 -- A channel with no call under way shows such a state, however it came about, wherever what every step keeps of those who wait

@@ -37,7 +37,7 @@ use Rattle.channel_calls.specs.declared.stage.Side.{Side}
 use Rattle.channel_calls.specs.declared.stage.Side.TheVariants.{Senders, Receivers}
 use Rattle.channel_calls.specs.declared.stage.Turn.{Turn}
 use Rattle.futures.specs.declared.task.Poll.TheVariants.{Ready}
-use Rattle.channel_steps.specs.Moments.{Deed, with_deed, Open, Shut, HasRoom, HasMessage, is_empty, Once, Appended, Took, TookAll, RanOut, Drained, Replaced, Displaced, LeftLast}
+use Rattle.channel_steps.specs.Moments.{MarkedMoment, with_marked, Open, Shut, HasRoom, HasMessage, is_empty, Once, Appended, Took, TookAll, RanOut, Drained, Replaced, Displaced, LeftLast}
 use Rattle.channel_steps.specs.Known.{TriesFor, TryAt, HasTaken, AreBehind, TriesAt, all_from}
 use Rattle.channel_steps.specs.Scene.{IsBalanced}
 use Rattle.channel_steps.specs.Tellings.{Telling, one_of, more_of, all_of, owed_for, owed_takings, with_taking, takings, owed_besides, owed}
@@ -51,30 +51,30 @@ news = one_of Receives ∷ all_of Streams ∷ []
 module _ {T W : Type 0} where
   -- ---- what marks owe
 
-  owed_appended : (ds : List (Deed T W)) → Appended ds → news ≡ owed ds
+  owed_appended : (ds : List (MarkedMoment T W)) → Appended ds → news ≡ owed ds
   owed_appended [] h = absurd h
   owed_appended (d ∷ []) h = sym (ap (λ m. owed_takings (with_taking m 0) ++ (owed_for m ++ [])) h.0)
   owed_appended (d ∷ e ∷ ds) h = absurd h
 
-  owed_replaced : (ds : List (Deed T W)) (v : T) → Replaced ds v → news ≡ owed ds
+  owed_replaced : (ds : List (MarkedMoment T W)) (v : T) → Replaced ds v → news ≡ owed ds
   owed_replaced [] v h = absurd h
   owed_replaced (d ∷ []) v h = sym (ap (λ m. owed_takings (with_taking m 0) ++ (owed_for m ++ [])) h.0)
   owed_replaced (d ∷ e ∷ ds) v h = absurd h
 
-  owed_displaced : (ds : List (Deed T W)) (v : T) → Displaced ds v → news ≡ owed ds
+  owed_displaced : (ds : List (MarkedMoment T W)) (v : T) → Displaced ds v → news ≡ owed ds
   owed_displaced [] v h = absurd h
   owed_displaced (d ∷ []) v h = absurd h
   owed_displaced (d ∷ e ∷ []) v h =
       sym (ap (λ m. owed_takings (with_taking m (with_taking e.mark 0)) ++ (owed_for m ++ (owed_for e.mark ++ []))) h.0.0 ∙ ap (λ m. owed_takings (with_taking m 0) ++ (owed_for m ++ [])) h.1)
   owed_displaced (d ∷ e ∷ f ∷ ds) v h = absurd h
 
-  owed_took : (ds : List (Deed T W)) (v : T) → Took ds v → (let one : List Telling = one_of Sends ∷ [] in one) ≡ owed ds
+  owed_took : (ds : List (MarkedMoment T W)) (v : T) → Took ds v → (let one : List Telling = one_of Sends ∷ [] in one) ≡ owed ds
   owed_took [] v h = absurd h
   owed_took (d ∷ []) v h = sym (ap (λ m. owed_takings (with_taking m 0) ++ (owed_for m ++ [])) h.0)
   owed_took (d ∷ e ∷ ds) v h = absurd h
 
   -- several takings, one after another
-  took_more : (ds : List (Deed T W)) (vs : List T) (mine : List (Deed T W)) (v : T) → TookAll ds vs → Took mine v → TookAll (ds ++ mine) (vs ++ v ∷ [])
+  took_more : (ds : List (MarkedMoment T W)) (vs : List T) (mine : List (MarkedMoment T W)) (v : T) → TookAll ds vs → Took mine v → TookAll (ds ++ mine) (vs ++ v ∷ [])
   took_more [] [] [] v h k = absurd k
   took_more [] [] (d ∷ []) v h k = (k.0, k.1, tt)
   took_more [] [] (d ∷ e ∷ ds) v h k = absurd k
@@ -82,32 +82,32 @@ module _ {T W : Type 0} where
   took_more (d ∷ ds) [] mine v h k = absurd h
   took_more (d ∷ ds) (w ∷ ws) mine v h k = (h.0, h.1, took_more ds ws mine v h.2 k)
 
-  took_none : (ds : List (Deed T W)) → TookAll ds [] → ds ≡ []
+  took_none : (ds : List (MarkedMoment T W)) → TookAll ds [] → ds ≡ []
   took_none [] h = refl
   took_none (d ∷ ds) h = absurd h
 
-  takings_all : (ds : List (Deed T W)) (vs : List T) → TookAll ds vs → takings ds ≡ length vs
+  takings_all : (ds : List (MarkedMoment T W)) (vs : List T) → TookAll ds vs → takings ds ≡ length vs
   takings_all [] [] h = refl
   takings_all [] (v ∷ vs) h = absurd h
   takings_all (d ∷ ds) [] h = absurd h
   takings_all (d ∷ ds) (v ∷ vs) h = ap (λ m. with_taking m (takings ds)) h.0 ∙ ap (λ n. suc n) (takings_all ds vs h.2)
 
-  besides_all : (ds : List (Deed T W)) (vs : List T) → TookAll ds vs → owed_besides ds ≡ []
+  besides_all : (ds : List (MarkedMoment T W)) (vs : List T) → TookAll ds vs → owed_besides ds ≡ []
   besides_all [] [] h = refl
   besides_all [] (v ∷ vs) h = absurd h
   besides_all (d ∷ ds) [] h = absurd h
   besides_all (d ∷ ds) (v ∷ vs) h = ap (λ m. owed_for m ++ owed_besides ds) h.0 ∙ besides_all ds vs h.2
 
-  owed_all : (ds : List (Deed T W)) (vs : List T) → 0 < length vs → TookAll ds vs → more_of (length vs) Sends ∷ [] ≡ owed ds
+  owed_all : (ds : List (MarkedMoment T W)) (vs : List T) → 0 < length vs → TookAll ds vs → more_of (length vs) Sends ∷ [] ≡ owed ds
   owed_all ds [] some h = absurd (omega arith)
   owed_all ds (v ∷ vs) some h =
       sym (ap (λ n. owed_takings n ++ owed_besides ds) (takings_all ds (v ∷ vs) h) ∙ ap (λ ts. owed_takings (length (v ∷ vs)) ++ ts) (besides_all ds (v ∷ vs) h))
 
-  ran_out : (d : Deed T W) (ds : List (Deed T W)) (c : Channel T W) (seen : List (Channel T W)) → AreBehind (d ∷ ds) seen → Drained c → RanOut (d ∷ ds) (c ∷ seen)
+  ran_out : (d : MarkedMoment T W) (ds : List (MarkedMoment T W)) (c : Channel T W) (seen : List (Channel T W)) → AreBehind (d ∷ ds) seen → Drained c → RanOut (d ∷ ds) (c ∷ seen)
   ran_out d [] c seen b h = (c ∷ b.0.0, ap (λ (cs : List (Channel T W)). c ∷ cs) b.0.1, inl h)
   ran_out d (e ∷ ds) c seen b h = ran_out e ds c seen b.1 h
 
-  ran_out_of : (ds : List (Deed T W)) (v : T) (vs : List T) (c : Channel T W) (seen : List (Channel T W)) → TookAll ds (v ∷ vs) → AreBehind ds seen → Drained c → RanOut ds (c ∷ seen)
+  ran_out_of : (ds : List (MarkedMoment T W)) (v : T) (vs : List T) (c : Channel T W) (seen : List (Channel T W)) → TookAll ds (v ∷ vs) → AreBehind ds seen → Drained c → RanOut ds (c ∷ seen)
   ran_out_of [] v vs c seen t b h = absurd t
   ran_out_of (d ∷ ds) v vs c seen t b h = ran_out d ds c seen b h
 
@@ -118,12 +118,12 @@ module _ {T W : Type 0} where
 
   module _ (c : Channel T W) (seen : List (Channel T W)) where
     -- what is known once the turn after an answer is taken; nobody has been told before
-    abbrev pub Then : ChannelAsk T W → QueueAsk T → queue.Stage T → QueueMark → List (Deed T W) → Turn T W → Type 0
-    Then x a st m ds turn = TurnAt (next_channel a st m c) x [] (with_deed ds (mark_of_queue m) c seen) (next_channel a st m c ∷ seen) turn
+    abbrev pub Then : ChannelAsk T W → QueueAsk T → queue.Stage T → QueueMark → List (MarkedMoment T W) → Turn T W → Type 0
+    Then x a st m ds turn = TurnAt (next_channel a st m c) x [] (with_marked ds (mark_of_queue m) c seen) (next_channel a st m c ∷ seen) turn
 
     -- ---- sends
 
-    sent : (msg v : T) (ds : List (Deed T W)) → v ≡ msg → (m : QueueMark) (r : QueueReply T) (st : queue.Stage T) → AnswersPush c.queue v m r st → TryAt c (ask.Push v) st ds seen
+    sent : (msg v : T) (ds : List (MarkedMoment T W)) → v ≡ msg → (m : QueueMark) (r : QueueReply T) (st : queue.Stage T) → AnswersPush c.queue v m r st → TryAt c (ask.Push v) st ds seen
         → Then (channel.TrySend msg) (ask.Push v) st m ds (sent_next r)
     sent msg v ds e Nothing (Push (Ok u)) (appended None) h ev = ((([], c ∷ seen, refl, ev), refl), owed_appended ds ev)
     sent msg v ds e Nothing (Push (Err (push_error.Full w))) (trying b) h ev = ((([], c ∷ seen, refl, (h.0 ∙ e, ev.0, full_once c.queue.capacity c.queue.items (c ∷ seen) h.1 (refusal_seen b c seen ev.1 h.2))), refl), owes_nothing ds ev.0)
@@ -131,7 +131,7 @@ module _ {T W : Type 0} where
     sent msg v ds e Nothing (Push (Err (push_error.NoMemory w))) (trying b) h ev = ((([], c ∷ seen, refl, (h.0 ∙ e, ev.0, unbounded_once c.queue.capacity (c ∷ seen) h.1 (refusal_seen b c seen ev.1 h.2))), refl), owes_nothing ds ev.0)
     sent msg v ds e m r st h ev = absurd h
 
-    forced : (msg v : T) (ds : List (Deed T W)) → v ≡ msg → (m : QueueMark) (r : QueueReply T) (st : queue.Stage T) → AnswersForce c.queue v m r st → TryAt c (ask.ForcePush v) st ds seen
+    forced : (msg v : T) (ds : List (MarkedMoment T W)) → v ≡ msg → (m : QueueMark) (r : QueueReply T) (st : queue.Stage T) → AnswersForce c.queue v m r st → TryAt c (ask.ForcePush v) st ds seen
         → Then (channel.ForceSend msg) (ask.ForcePush v) st m ds (forced_next r)
     forced msg v ds e Nothing (Force (Ok None)) (appended None) h ev = ((([], c ∷ seen, refl, ev), refl), owed_appended ds ev)
     forced msg v ds e Nothing (Force (Ok None)) (appended (Some d)) h ev = absurd (let no : None ≡ Some d = h in cc)
@@ -144,7 +144,7 @@ module _ {T W : Type 0} where
     forced msg v ds e Nothing (Force (Err (force_error.NoMemory w))) (trying b) h ev = ((([], c ∷ seen, refl, (h.0 ∙ e, ev.0, unbounded_once c.queue.capacity (c ∷ seen) h.1 (refusal_seen b c seen ev.1 h.2))), refl), owes_nothing ds ev.0)
     forced msg v ds e m r st h ev = absurd h
 
-    poll_sent : (msg v : T) (k : Loan) (t : W) (key : Option Key) (task : W) (ds : List (Deed T W)) → v ≡ msg → (m : QueueMark) (r : QueueReply T) (st : queue.Stage T) → AnswersPush c.queue v m r st → TryAt c (ask.Push v) st ds seen
+    poll_sent : (msg v : T) (k : Loan) (t : W) (key : Option Key) (task : W) (ds : List (MarkedMoment T W)) → v ≡ msg → (m : QueueMark) (r : QueueReply T) (st : queue.Stage T) → AnswersPush c.queue v m r st → TryAt c (ask.Push v) st ds seen
         → Then (channel.PollSend msg k t) (ask.Push v) st m ds (send_next r key task)
     poll_sent msg v k t key task ds e Nothing (Push (Ok u)) (appended None) h ev = ((([], c ∷ seen, refl, ev), refl), owed_appended ds ev)
     poll_sent msg v k t None task ds e Nothing (Push (Err (push_error.Full w))) (trying b) h ev = ((h.0 ∙ e, ev.0, full_once c.queue.capacity c.queue.items (c ∷ seen) h.1 (refusal_seen b c seen ev.1 h.2)), owes_nothing ds ev.0)
@@ -159,7 +159,7 @@ module _ {T W : Type 0} where
 
     -- ---- receives
 
-    received : (ds : List (Deed T W)) (m : QueueMark) (r : QueueReply T) (st : queue.Stage T) → AnswersPop c.queue m r st → TryAt c ask.Pop st ds seen
+    received : (ds : List (MarkedMoment T W)) (m : QueueMark) (r : QueueReply T) (st : queue.Stage T) → AnswersPop c.queue m r st → TryAt c ask.Pop st ds seen
         → Then channel.TryRecv ask.Pop st m ds (received_next r)
     received ds Nothing (Pop (Ok w)) (taken v) h ev = ((([], c ∷ seen, refl, subst (λ (z : T). Took ds z) (sym h) ev), refl), owed_took ds v ev)
     received ds Nothing (Pop (Err pop_error.Empty)) (trying b) h ev = ((([], c ∷ seen, refl, (ev, inl h)), refl), owes_nothing ds ev)
@@ -168,15 +168,15 @@ module _ {T W : Type 0} where
 
     -- several at once
 
-    handed : (n : ℕ) (ds : List (Deed T W)) (vs : List T) → 0 < length vs → TookAll ds vs → (length vs ≡ n) ⊎ ((length vs < n) × RanOut ds (c ∷ seen))
+    handed : (n : ℕ) (ds : List (MarkedMoment T W)) (vs : List T) → 0 < length vs → TookAll ds vs → (length vs ≡ n) ⊎ ((length vs < n) × RanOut ds (c ∷ seen))
         → TurnAt c (channel.RecvMany n) [] ds (c ∷ seen) (hands_out vs)
     handed n ds vs some took full = ((([], c ∷ seen, refl, (took, full)), refl), owed_all ds vs some took)
 
-    gathered : (n k : ℕ) (vs : List T) (v : T) (ds mine : List (Deed T W)) → n ≡ length vs + (k + 1) → HasTaken vs ds mine seen → Took mine v
+    gathered : (n k : ℕ) (vs : List T) (v : T) (ds mine : List (MarkedMoment T W)) → n ≡ length vs + (k + 1) → HasTaken vs ds mine seen → Took mine v
         → TurnAt c (channel.RecvMany n) [] ds (c ∷ seen) (gathered_next (with_last (vs ++ v ∷ []) k))
     gathered n k vs v ds mine e t took = by k e where
       all : TookAll ds (vs ++ v ∷ [])
-      all = subst (λ (xs : List (Deed T W)). TookAll xs (vs ++ v ∷ [])) (sym t.all) (took_more t.before vs mine v t.took took)
+      all = subst (λ (xs : List (MarkedMoment T W)). TookAll xs (vs ++ v ∷ [])) (sym t.all) (took_more t.before vs mine v t.took took)
 
       by : (k : ℕ) → n ≡ length vs + (k + 1) → TurnAt c (channel.RecvMany n) [] ds (c ∷ seen) (gathered_next (with_last (vs ++ v ∷ []) k))
       by zero e =
@@ -186,26 +186,26 @@ module _ {T W : Type 0} where
           let l = length-append vs (v ∷ []) in
           ((omega (arith, l, e), ([], record { before = ds; all = sym (append-nil ds); took = all; behind = behind_more ds seen c t.behind }, refl)), refl)
 
-    short : (n k : ℕ) (vs : List T) (ds mine : List (Deed T W)) → n ≡ length vs + (k + 1) → HasTaken vs ds mine seen → mine ≡ [] → (e : TryRecvError) → Drained c
+    short : (n k : ℕ) (vs : List T) (ds mine : List (MarkedMoment T W)) → n ≡ length vs + (k + 1) → HasTaken vs ds mine seen → mine ≡ [] → (e : TryRecvError) → Drained c
         → (ds ≡ [] → SeveralRow n ds (c ∷ seen) (reply.RecvMany (Err (refused.Plain e)))) → TurnAt c (channel.RecvMany n) [] ds (c ∷ seen) (short_next vs e)
     short n k vs ds mine e t none error gone row = by vs e t.took where
       same : ds ≡ t.before
-      same = t.all ∙ (ap (λ (xs : List (Deed T W)). t.before ++ xs) none ∙ append-nil t.before)
+      same = t.all ∙ (ap (λ (xs : List (MarkedMoment T W)). t.before ++ xs) none ∙ append-nil t.before)
 
       by : (vs : List T) → n ≡ length vs + (k + 1) → TookAll t.before vs → TurnAt c (channel.RecvMany n) [] ds (c ∷ seen) (short_next vs error)
       by [] e took = let empty : ds ≡ [] = same ∙ took_none t.before took in ((([], c ∷ seen, refl, row empty), refl), owes_nothing ds empty)
       by (v ∷ vs) e took =
-          let all : TookAll ds (v ∷ vs) = subst (λ (xs : List (Deed T W)). TookAll xs (v ∷ vs)) (sym same) took in
+          let all : TookAll ds (v ∷ vs) = subst (λ (xs : List (MarkedMoment T W)). TookAll xs (v ∷ vs)) (sym same) took in
           handed n ds (v ∷ vs) (omega arith) all (inr (omega (arith, e), ran_out_of ds v vs c seen all t.behind gone))
 
-    several : (n : ℕ) (g : Gathered T) (ds : List (Deed T W)) → n ≡ length g.taken + (g.more + 1) → (m : QueueMark) (r : QueueReply T) (st : queue.Stage T) → AnswersPop c.queue m r st
+    several : (n : ℕ) (g : Gathered T) (ds : List (MarkedMoment T W)) → n ≡ length g.taken + (g.more + 1) → (m : QueueMark) (r : QueueReply T) (st : queue.Stage T) → AnswersPop c.queue m r st
         → TriesAt c (aim.RecvMany g) ask.Pop st ds seen → Then (channel.RecvMany n) ask.Pop st m ds (several_next r g)
     several n g ds e Nothing (Pop (Ok w)) (taken v) h ev = gathered n g.more g.taken w ds ev.0 e ev.1 (subst (λ (z : T). Took ev.0 z) (sym h) ev.2)
     several n g ds e Nothing (Pop (Err pop_error.Empty)) (trying b) h ev = short n g.more g.taken ds ev.0 e ev.1 ev.2 try_recv_error.Empty h.1 (λ none. (none, omega (arith, e), inl h))
     several n g ds e Nothing (Pop (Err pop_error.Closed)) (trying b) h ev = short n g.more g.taken ds ev.0 e ev.1 ev.2 try_recv_error.Closed h.1 (λ none. (none, omega (arith, e), inl h))
     several n g ds e m r st h ev = absurd h
 
-    poll_received : (k : Loan) (t : W) (key : Option Key) (task : W) (ds : List (Deed T W)) (m : QueueMark) (r : QueueReply T) (st : queue.Stage T) → AnswersPop c.queue m r st → TryAt c ask.Pop st ds seen
+    poll_received : (k : Loan) (t : W) (key : Option Key) (task : W) (ds : List (MarkedMoment T W)) (m : QueueMark) (r : QueueReply T) (st : queue.Stage T) → AnswersPop c.queue m r st → TryAt c ask.Pop st ds seen
         → Then (channel.PollRecv k t) ask.Pop st m ds (receive_next r key task)
     poll_received k t key task ds Nothing (Pop (Ok w)) (taken v) h ev = ((([], c ∷ seen, refl, subst (λ (z : T). Took ds z) (sym h) ev), refl), owed_took ds v ev)
     poll_received k t None task ds Nothing (Pop (Err pop_error.Empty)) (trying b) h ev = ((tt, ev, inl h), owes_nothing ds ev)
@@ -214,7 +214,7 @@ module _ {T W : Type 0} where
         ended c (channel.PollRecv k t) [] ds (c ∷ seen) (over (reply.RecvPoll (Ready (Err (refused.Plain (record {}))))) None Receives key) (([], c ∷ seen, refl, (ev, inl h)), refl) (owes_nothing ds ev)
     poll_received k t key task ds m r st h ev = absurd h
 
-    streamed : (k : Option Key) (t : W) (key : Option Key) (task : W) (ds : List (Deed T W)) (m : QueueMark) (r : QueueReply T) (st : queue.Stage T) → AnswersPop c.queue m r st → TryAt c ask.Pop st ds seen
+    streamed : (k : Option Key) (t : W) (key : Option Key) (task : W) (ds : List (MarkedMoment T W)) (m : QueueMark) (r : QueueReply T) (st : queue.Stage T) → AnswersPop c.queue m r st → TryAt c ask.Pop st ds seen
         → Then (channel.PollNext k t) ask.Pop st m ds (stream_next r key task)
     streamed k t key task ds Nothing (Pop (Ok w)) (taken v) h ev = ((([], c ∷ seen, refl, subst (λ (z : T). Took ds z) (sym h) ev), refl), owed_took ds v ev)
     streamed k t None task ds Nothing (Pop (Err pop_error.Empty)) (trying b) h ev = ((tt, ev, tt), owes_nothing ds ev)
@@ -225,7 +225,7 @@ module _ {T W : Type 0} where
 
     -- ---- closing
 
-    waited : (k : Option Key) (t : W) (key : Option Key) (task : W) (ds : List (Deed T W)) (m : QueueMark) (r : QueueReply T) (st : queue.Stage T) → AnswersShut c.queue m r st → TryAt c ask.IsClosed st ds seen
+    waited : (k : Option Key) (t : W) (key : Option Key) (task : W) (ds : List (MarkedMoment T W)) (m : QueueMark) (r : QueueReply T) (st : queue.Stage T) → AnswersShut c.queue m r st → TryAt c ask.IsClosed st ds seen
         → Then (channel.PollClosed k t) ask.IsClosed st m ds (closing_next r key task)
     waited k t key task ds Nothing (Flag true) (trying b) h ev =
         ended c (channel.PollClosed k t) [] ds (c ∷ seen) (over (reply.ClosedPoll (Ready (Ok tt))) None Closings key) (([], c ∷ seen, refl, (ev, inl h)), refl) (owes_nothing ds ev)
@@ -238,14 +238,14 @@ module _ {T W : Type 0} where
     closed_none Nothing (answer.Close false) (trying b) h = ((([], c ∷ seen, refl, (refl, inl h)), refl), refl)
     closed_none m r st h = absurd h
 
-    closed_by : (ds : List (Deed T W)) → ds ≡ [] → (m : QueueMark) (r : QueueReply T) (st : queue.Stage T) → AnswersClose c.queue m r st → Then channel.Close ask.Close st m ds (closed_next r closer.Call)
-    closed_by ds e m r st h = subst (λ (xs : List (Deed T W)). Then channel.Close ask.Close st m xs (closed_next r closer.Call)) (sym e) (closed_none m r st h)
+    closed_by : (ds : List (MarkedMoment T W)) → ds ≡ [] → (m : QueueMark) (r : QueueReply T) (st : queue.Stage T) → AnswersClose c.queue m r st → Then channel.Close ask.Close st m ds (closed_next r closer.Call)
+    closed_by ds e m r st h = subst (λ (xs : List (MarkedMoment T W)). Then channel.Close ask.Close st m xs (closed_next r closer.Call)) (sym e) (closed_none m r st h)
 
     owed_last : (side : Side) (m : Mark) → m ≡ down side → (ts : List Telling) → ts ≡ owed_takings (with_taking m 0) ++ (owed_for m ++ ts)
     owed_last Senders m e ts = sym (ap (λ x. owed_takings (with_taking x 0) ++ (owed_for x ++ ts)) e)
     owed_last Receivers m e ts = sym (ap (λ x. owed_takings (with_taking x 0) ++ (owed_for x ++ ts)) e)
 
-    sender_left : (ds : List (Deed T W)) → LeftLast Senders ds seen → (m : QueueMark) (r : QueueReply T) (st : queue.Stage T) → AnswersClose c.queue m r st → Then channel.DropSender ask.Close st m ds (closed_next r closer.Sender)
+    sender_left : (ds : List (MarkedMoment T W)) → LeftLast Senders ds seen → (m : QueueMark) (r : QueueReply T) (st : queue.Stage T) → AnswersClose c.queue m r st → Then channel.DropSender ask.Close st m ds (closed_next r closer.Sender)
     sender_left [] l m r st h = absurd l
     sender_left (d ∷ e ∷ ds) l m r st h = absurd l
     sender_left (d ∷ []) l Close (answer.Close true) (trying b) h = ((([], _, refl, ((l.0, l.1, refl, h), refl)), refl), owed_last Senders d.mark l.0 (all_from Sends))
@@ -253,7 +253,7 @@ module _ {T W : Type 0} where
         ((([], c ∷ seen, refl, ((l.0, inr (c ∷ l.2, ap (λ (cs : List (Channel T W)). c ∷ cs) l.3, inl h)), refl)), refl), owed_last Senders d.mark l.0 [])
     sender_left (d ∷ []) l m r st h = absurd h
 
-    receiver_left : (k key : Option Key) (ds : List (Deed T W)) → LeftLast Receivers ds seen → (m : QueueMark) (r : QueueReply T) (st : queue.Stage T) → AnswersClose c.queue m r st
+    receiver_left : (k key : Option Key) (ds : List (MarkedMoment T W)) → LeftLast Receivers ds seen → (m : QueueMark) (r : QueueReply T) (st : queue.Stage T) → AnswersClose c.queue m r st
         → Then (channel.DropReceiver k) ask.Close st m ds (closed_next r (closer.Receiver key))
     receiver_left k key [] l m r st h = absurd l
     receiver_left k key (d ∷ e ∷ ds) l m r st h = absurd l
@@ -265,17 +265,17 @@ module _ {T W : Type 0} where
 
     -- ---- questions
 
-    upgraded : (side s : Side) (ds : List (Deed T W)) → s ≡ side → (m : QueueMark) (r : QueueReply T) (st : queue.Stage T) → AnswersShut c.queue m r st → TryAt c ask.IsClosed st ds seen
+    upgraded : (side s : Side) (ds : List (MarkedMoment T W)) → s ≡ side → (m : QueueMark) (r : QueueReply T) (st : queue.Stage T) → AnswersShut c.queue m r st → TryAt c ask.IsClosed st ds seen
         → Then (channel.Upgrade side) ask.IsClosed st m ds (upgraded_next r s)
     upgraded side s ds e Nothing (Flag true) (trying b) h ev = ((([], c ∷ seen, refl, (ev, inl (inl h))), refl), owes_nothing ds ev)
     upgraded side s ds e Nothing (Flag false) (trying b) h ev = (((e, inl h), ev), owes_nothing ds ev)
     upgraded side s ds e m r st h ev = absurd h
 
-    shut : (ds : List (Deed T W)) (m : QueueMark) (r : QueueReply T) (st : queue.Stage T) → AnswersShut c.queue m r st → TryAt c ask.IsClosed st ds seen → Then channel.IsClosed ask.IsClosed st m ds (asked_next r)
+    shut : (ds : List (MarkedMoment T W)) (m : QueueMark) (r : QueueReply T) (st : queue.Stage T) → AnswersShut c.queue m r st → TryAt c ask.IsClosed st ds seen → Then channel.IsClosed ask.IsClosed st m ds (asked_next r)
     shut ds Nothing (Flag f) (trying b) h ev = ((([], c ∷ seen, refl, (ev, inl h)), refl), owes_nothing ds ev)
     shut ds m r st h ev = absurd h
 
-    terminated : (ds : List (Deed T W)) (m : QueueMark) (r : QueueReply T) (st : queue.Stage T) → AnswersShut c.queue m r st → TryAt c ask.IsClosed st ds seen → Then channel.IsTerminated ask.IsClosed st m ds (terminated_next r)
+    terminated : (ds : List (MarkedMoment T W)) (m : QueueMark) (r : QueueReply T) (st : queue.Stage T) → AnswersShut c.queue m r st → TryAt c ask.IsClosed st ds seen → Then channel.IsTerminated ask.IsClosed st m ds (terminated_next r)
     terminated ds Nothing (Flag true) (trying b) h ev = ((inl h, ev), refl)
     terminated ds Nothing (Flag false) (trying b) h ev = ((([], c ∷ seen, refl, (ev, inl (inl h))), refl), owes_nothing ds ev)
     terminated ds m r st h ev = absurd h
@@ -287,13 +287,13 @@ module _ {T W : Type 0} where
     some_there n h (inl k) = inr k
     some_there n h (inr k) = absurd (omega arith)
 
-    empty : (ds : List (Deed T W)) (m : QueueMark) (r : QueueReply T) (st : queue.Stage T) → AnswersEmpty c.queue m r st → TryAt c ask.IsEmpty st ds seen → Then channel.IsEmpty ask.IsEmpty st m ds (asked_next r)
+    empty : (ds : List (MarkedMoment T W)) (m : QueueMark) (r : QueueReply T) (st : queue.Stage T) → AnswersEmpty c.queue m r st → TryAt c ask.IsEmpty st ds seen → Then channel.IsEmpty ask.IsEmpty st m ds (asked_next r)
     empty ds Nothing (Flag f) (trying b) h ev = ((([], c ∷ seen, refl, (ev, inl h)), refl), owes_nothing ds ev)
     empty ds Nothing (Flag true) (read n) h ev = ((([], c ∷ seen, refl, (ev.0, inl (none_there h))), refl), owes_nothing ds ev.0)
     empty ds Nothing (Flag false) (read n) h ev = ((([], c ∷ seen, refl, (ev.0, some_there n h ev.1)), refl), owes_nothing ds ev.0)
     empty ds m r st h ev = absurd h
 
-    spent : (ds : List (Deed T W)) → Once Shut seen → (m : QueueMark) (r : QueueReply T) (st : queue.Stage T) → AnswersEmpty c.queue m r st → TryAt c ask.IsEmpty st ds seen → Then channel.IsTerminated ask.IsEmpty st m ds (asked_next r)
+    spent : (ds : List (MarkedMoment T W)) → Once Shut seen → (m : QueueMark) (r : QueueReply T) (st : queue.Stage T) → AnswersEmpty c.queue m r st → TryAt c ask.IsEmpty st ds seen → Then channel.IsTerminated ask.IsEmpty st m ds (asked_next r)
     spent ds o Nothing (Flag true) (trying b) h ev = ((([], c ∷ seen, refl, (ev, inl (h, inr o))), refl), owes_nothing ds ev)
     spent ds o Nothing (Flag false) (trying b) h ev = ((([], c ∷ seen, refl, (ev, inl (inr h))), refl), owes_nothing ds ev)
     spent ds o Nothing (Flag true) (read n) h ev = ((([], c ∷ seen, refl, (ev.0, inl (none_there h, inr o))), refl), owes_nothing ds ev.0)
@@ -308,25 +308,25 @@ module _ {T W : Type 0} where
         let short : (length c.queue.items == cap) ≡ false = ne_of (length c.queue.items) cap (λ same. absurd (omega (arith, same, h, k, b'))) in
         inl (subst (λ (o : Option ℕ). is_full_at o c.queue.items ≡ false) (sym e) short)
 
-    full : (ds : List (Deed T W)) → IsBalanced c.queue → (m : QueueMark) (r : QueueReply T) (st : queue.Stage T) → AnswersFull c.queue m r st → TryAt c ask.IsFull st ds seen → Then channel.IsFull ask.IsFull st m ds (asked_next r)
+    full : (ds : List (MarkedMoment T W)) → IsBalanced c.queue → (m : QueueMark) (r : QueueReply T) (st : queue.Stage T) → AnswersFull c.queue m r st → TryAt c ask.IsFull st ds seen → Then channel.IsFull ask.IsFull st m ds (asked_next r)
     full ds b Nothing (Flag f) (trying s) h ev = ((([], c ∷ seen, refl, (ev, inl h)), refl), owes_nothing ds ev)
     full ds b Nothing (Flag true) (read n) h ev = ((([], c ∷ seen, refl, (ev.0, inl h)), refl), owes_nothing ds ev.0)
     full ds b Nothing (Flag false) (read n) h ev = ((([], c ∷ seen, refl, (ev.0, room_there n h.0 h.1 h.2 b ev.2)), refl), owes_nothing ds ev.0)
     full ds b m r st h ev = absurd h
 
-    counted : (ds : List (Deed T W)) (m : QueueMark) (r : QueueReply T) (st : queue.Stage T) → AnswersLen c.queue m r st → TryAt c ask.Len st ds seen → Then channel.Len ask.Len st m ds (asked_next r)
+    counted : (ds : List (MarkedMoment T W)) (m : QueueMark) (r : QueueReply T) (st : queue.Stage T) → AnswersLen c.queue m r st → TryAt c ask.Len st ds seen → Then channel.Len ask.Len st m ds (asked_next r)
     counted ds Nothing (Count n) (trying s) h ev = ((([], c ∷ seen, refl, (ev, inl h)), refl), owes_nothing ds ev)
     counted ds Nothing (Count n) (measured i k) h ev =
         ((([], c ∷ seen, refl, (ev.0, inr (once_map (λ z. length z.queue.items ≡ k) (λ z. length z.queue.items ≡ n) (λ z e. e ∙ sym h.0) seen ev.1))), refl), owes_nothing ds ev.0)
     counted ds m r st h ev = absurd h
 
-    sized : (ds : List (Deed T W)) (m : QueueMark) (r : QueueReply T) (st : queue.Stage T) → AnswersCapacity c.queue m r st → TryAt c ask.Capacity st ds seen → Then channel.Capacity ask.Capacity st m ds (asked_next r)
+    sized : (ds : List (MarkedMoment T W)) (m : QueueMark) (r : QueueReply T) (st : queue.Stage T) → AnswersCapacity c.queue m r st → TryAt c ask.Capacity st ds seen → Then channel.Capacity ask.Capacity st m ds (asked_next r)
     sized ds Nothing (Cap n) (trying s) h ev = ((([], c ∷ seen, refl, (ev, inl (sym h))), refl), owes_nothing ds ev)
     sized ds m r st h ev = absurd h
 
     -- ---- by what the call asks, and what its queue's call is made for
 
-    pub answered : (ds : List (Deed T W)) → IsBalanced c.queue → (x : ChannelAsk T W) (y : Aim T W) (a : QueueAsk T) (st : queue.Stage T) (m : QueueMark) (r : QueueReply T)
+    pub answered : (ds : List (MarkedMoment T W)) → IsBalanced c.queue → (x : ChannelAsk T W) (y : Aim T W) (a : QueueAsk T) (st : queue.Stage T) (m : QueueMark) (r : QueueReply T)
         → TriesFor x y a ds seen → TriesAt c y a st ds seen → AnswersTo c.queue a m r st → Then x a st m ds (answered_next y r)
     answered ds b (channel.TrySend msg) aim.TrySend (ask.Push v) st m r f ev h = sent msg v ds f m r st h ev
     answered ds b (channel.ForceSend msg) aim.ForceSend (ask.ForcePush v) st m r f ev h = forced msg v ds f m r st h ev

@@ -1,8 +1,8 @@
--- Calls without a mark hold no call of the queue up.
+-- Calls without a mark are quiet to the calls of the queue.
 use Rattle.std.proofs.Common.{arith, ◌≡◌, ◌<◌, ◌≤◌, ℕ, List, [], ◌∷◌, ◌++◌, map, None, Some, ◌⊎◌, inl, inr, refl, sym, ap, ◌∙◌, subst}
 use Rattle.concurrent_queue.specs.Queue.{Phase, trying, displaced, appended, taken, read, measured}
 use Rattle.concurrent_queue.specs.Queue as queue
-use Rattle.concurrent_queue.specs.Step.{Seat, IsQuiet, AllQuiet, HoldsNobodyUp, phases}
+use Rattle.concurrent_queue.specs.Step.{Seat, IsQuiet, AllQuiet, PhasesQuiet, phases}
 use Rattle.concurrent_queue.specs.declared.call.QueueAsk.{QueueAsk}
 use Rattle.concurrent_queue.specs.declared.call.QueueAsk.TheVariants as ask
 use Rattle.concurrent_queue.specs.declared.queue_call.QueueCall.{QueueCall}
@@ -13,8 +13,8 @@ use Rattle.channel_calls.specs.declared.stage.Stage.TheVariants.{Trying, Working
 use Rattle.channel_calls.specs.declared.stage.Aim.{Aim}
 use Rattle.channel_calls.specs.declared.stage.Aim.TheVariants as aim
 use Rattle.channel_steps.specs.Known.{TryAt, TriesAt, StageAt}
-use Rattle.channel_steps.specs.Moments.{Deed}
-use Rattle.channel_steps.specs.Scene.{Under, Scene, Steps, Sitting, sees, under_of, seats_of, all_seats, AllKnown, AreIdle, HoldNobodyUp}
+use Rattle.channel_steps.specs.Moments.{MarkedMoment}
+use Rattle.channel_steps.specs.Scene.{Under, Scene, Steps, Sitting, sees, under_of, seats_of, all_seats, AllKnown, AreIdle, OthersQuiet}
 use Rattle.channel_steps.specs.declared.party.Entry.{Entry}
 use Rattle.channel_steps.proofs.MoveFacts.{grows}
 
@@ -35,13 +35,13 @@ module _ {T W : Type 0} where
   idle_try now ask.Pop (taken v) seen h = absurd h
   idle_try now a s seen h = absurd h
 
-  none_mine : (before mine : List (Deed T W)) → [] ≡ before ++ mine → mine ≡ []
+  none_mine : (before mine : List (MarkedMoment T W)) → [] ≡ before ++ mine → mine ≡ []
   none_mine [] mine e = sym e
   none_mine (d ∷ before) mine e = absurd cc
 
   idle_at : (now : Channel T W) (y : Aim T W) (a : QueueAsk T) (s : queue.Stage T) (seen : List (Channel T W)) → TriesAt now y a s [] seen → IsQuiet s
   idle_at now (aim.RecvMany r) a s seen h =
-      idle_try now a s seen (subst (λ (ds : List (Deed T W)). TryAt now a s ds seen) (none_mine h.1.before h.0 h.1.all) h.2)
+      idle_try now a s seen (subst (λ (ds : List (MarkedMoment T W)). TryAt now a s ds seen) (none_mine h.1.before h.0 h.1.all) h.2)
   idle_at now y a s seen h = idle_try now a s seen h
 
   idle_stage : (now : Channel T W) (x : ChannelAsk T W) (f : Phase T) (s : Stage (QueueCall T) T W) (seen : List (Channel T W))
@@ -55,23 +55,23 @@ module _ {T W : Type 0} where
   idle_seats now [] known idle = tt
   idle_seats now (x ∷ xs) known idle =
       let k = known.0 in
-      let stands = subst (λ (ds : List (Deed T W)). StageAt now x.ask (phase x.inner x.party.call.stage) ds x.seen) idle.0 k.stands in
+      let stands = subst (λ (ds : List (MarkedMoment T W)). StageAt now x.ask (phase x.inner x.party.call.stage) ds x.seen) idle.0 k.stands in
       quiet_append (seats_of x) (all_seats xs) (idle_stage now x.ask x.inner x.party.call.stage x.seen stands) (idle_seats now xs known.1 idle.1)
 
   none_seats : (xs : List (Sitting T W)) → map under_of xs ≡ [] → all_seats xs ≡ []
   none_seats [] e = refl
   none_seats (x ∷ xs) e = absurd cc
 
-  -- calls without a mark hold up no call of the queue
-  pub idle_holds : (now : Channel T W) (xs : List (Sitting T W)) → AllKnown now (map under_of xs) → HoldNobodyUp now (map under_of xs)
-      → HoldsNobodyUp now.queue (phases (all_seats xs))
+  -- calls without a mark are quiet calls of the queue
+  pub idle_holds : (now : Channel T W) (xs : List (Sitting T W)) → AllKnown now (map under_of xs) → OthersQuiet now (map under_of xs)
+      → PhasesQuiet now.queue (phases (all_seats xs))
   idle_holds now xs known (idle, first) = (idle_seats now xs known idle, λ bare. by (first bare))
     where
       by : (0 < now.queue.removed) ⊎ (map under_of xs ≡ []) → (0 < now.queue.removed) ⊎ (phases (all_seats xs) ≡ [])
       by (inl some) = inl some
       by (inr none) = inr (ap phases (none_seats xs none))
 
-  -- ---- they still hold nobody up after its step
+  -- ---- they are still quiet after its step
 
   idle_seen : (c : Channel T W) (us : List (Under T W)) → AreIdle us → AreIdle (map (sees c) us)
   idle_seen c [] h = tt
@@ -90,7 +90,7 @@ module _ {T W : Type 0} where
   idle_both (u ∷ us) vs h k = (h.0, idle_both us vs h.1 k)
 
   pub hold_still : (s : Scene T W) (p : ℕ) (e : Entry T) (names : List W) (t : Scene T W) (n : Steps s p e names t)
-      → HoldNobodyUp s.now (n.before ++ n.behind) → HoldNobodyUp t.now (map (sees t.now) n.before ++ map (sees t.now) n.behind)
+      → OthersQuiet s.now (n.before ++ n.behind) → OthersQuiet t.now (map (sees t.now) n.before ++ map (sees t.now) n.behind)
   hold_still s p e names t n (idle, first) =
       let g = grows s.now n.mine.at (record { channel = t.now; mark = e.mark; woken = names }) e.reply n.at_now n.moves in (
         idle_both (map (sees t.now) n.before) (map (sees t.now) n.behind) (idle_seen t.now n.before (idle_left n.before n.behind idle))

@@ -1,7 +1,7 @@
--- What a layer above may use: steps after steps, with their moments; what is known of the calls under way stays known over every entry of a run; a step of the
--- only call under way; how a step changes the number of messages; that no call has more than 197 steps left that nobody holds
--- up; and that a listener which was just added waits.
-use Rattle.std.proofs.Common.{◌≡◌, ℕ, suc, ◌+◌, ◌*◌, ◌^◌, ◌≤◌, ◌<◌, true, List, [], ◌∷◌, ◌++◌, map, length, slice_get, Option, None, Some, refl, ap, sym, subst}
+-- What a layer above may use: runs, one after another and by induction; what is known of the calls under way stays known over every
+-- entry of a run; a step of the only call under way; how a step changes the number of messages; how few steps a call has left; and
+-- that a listener which was just added waits.
+use Rattle.std.proofs.Common.{◌≡◌, ℕ, suc, ◌+◌, ◌^◌, ◌≤◌, ◌<◌, true, List, [], ◌∷◌, ◌++◌, map, length, slice_get, Option, None, Some, refl, ap, sym, ◌∙◌, subst}
 use Rattle.concurrent_queue.specs.Queue.{Phase, Queue}
 use Rattle.concurrent_queue.specs.Contents.{Contents}
 use Rattle.concurrent_queue.specs.Step.{Seat, FitsAt, chain_after}
@@ -17,9 +17,9 @@ use Rattle.channel_calls.specs.declared.stage.Kept.{Kept}
 use Rattle.channel_calls.specs.declared.stage.Stage.{Stage}
 use Rattle.channel_calls.specs.declared.stage.Stage.TheVariants.{Finished}
 use Rattle.channel_steps.specs.Count.{counted, brought_in, taken_out}
-use Rattle.channel_steps.specs.Left.{all_left}
-use Rattle.channel_steps.specs.Scene.{Under, Scene, sees, does, unless_ended, Known, AllKnown, IsBalanced, HoldNobodyUp, wanted_at, Steps, Represents, MayHave, blocks_after}
-use Rattle.channel_steps.specs.Run.{EachStep, end_of, Next, begun}
+use Rattle.channel_steps.specs.Left.{all_left, most_left}
+use Rattle.channel_steps.specs.Scene.{Under, Scene, sees, does, unless_ended, Known, AllKnown, IsBalanced, OthersQuiet, wanted_at, Steps, Represents, MayHave, blocks_after}
+use Rattle.channel_steps.specs.Run.{EachStep, IsRun, end_of, Next, call_begun}
 use Rattle.channel_steps.specs.declared.party.Entry.{Entry}
 use Rattle.channel_steps.specs.declared.party.Party.{Party}
 use Rattle.channel_steps.specs.declared.run.Step.{Step}
@@ -34,7 +34,12 @@ use Rattle.channel_steps.proofs.LoneFacts as lone_facts
 use Rattle.channel_steps.proofs.SceneFacts as scene_facts
 use Rattle.channel_steps.proofs.LoneFacts.{lone_after}
 
--- ---- steps and their moments
+-- ---- runs
+
+module _ {M : Type 0} where
+  pub end_on : (m : M) (ns os : List M) → end_of m (ns ++ os) ≡ end_of (end_of m ns) os
+  end_on m [] os = refl
+  end_on m (n ∷ ns) os = end_on n ns os
 
 module _ {M X E : Type 0} (P : M → X → E → M → Type 0) where
   -- steps after others, from the moment at which those end
@@ -47,19 +52,64 @@ module _ {M X E : Type 0} (P : M → X → E → M → Type 0) where
   each_on m (x ∷ xs) [] ns ys fs os h k = absurd h
   each_on m (x ∷ xs) (e ∷ es) [] ys fs os h k = absurd h
 
-  -- there are as many entries
-  pub each_entry : (m : M) (xs : List X) (es : List E) (ns : List M) → EachStep P m xs es ns → length es ≡ length xs
-  each_entry m [] [] [] h = refl
-  each_entry m (x ∷ xs) (e ∷ es) (n ∷ ns) h = ap (λ k. suc k) (each_entry n xs es ns h.1)
-  each_entry m [] [] (n ∷ ns) h = absurd h
-  each_entry m [] (e ∷ es) ns h = absurd h
-  each_entry m (x ∷ xs) [] ns h = absurd h
-  each_entry m (x ∷ xs) (e ∷ es) [] h = absurd h
+  -- what is said of each step of a run, where something holds that each step keeps
+  pub each_says : (K : M → Type 0) (Q : M → X → E → M → Type 0)
+      → ((m : M) (x : X) (e : E) (n : M) → P m x e n → K m → Q m x e n × K n)
+      → (m : M) (xs : List X) (es : List E) (ns : List M) → K m → EachStep P m xs es ns → EachStep Q m xs es ns
+  each_says K Q says m [] [] [] k h = tt
+  each_says K Q says m (x ∷ xs) (e ∷ es) (n ∷ ns) k h =
+      let one = says m x e n h.0 k in (one.0, each_says K Q says n xs es ns one.1 h.1)
+  each_says K Q says m [] [] (n ∷ ns) k h = absurd h
+  each_says K Q says m [] (e ∷ es) ns k h = absurd h
+  each_says K Q says m (x ∷ xs) [] ns k h = absurd h
+  each_says K Q says m (x ∷ xs) (e ∷ es) [] k h = absurd h
 
-module _ {M : Type 0} where
-  pub end_on : (m : M) (ns os : List M) → end_of m (ns ++ os) ≡ end_of (end_of m ns) os
-  end_on m [] os = refl
-  end_on m (n ∷ ns) os = end_on n ns os
+  -- no step leads nowhere
+  pub run_none : (m : M) → IsRun P m [] [] m
+  run_none m = record { moments = []; each = tt; ends = refl }
+
+  -- one run after another
+  pub run_on : (m n o : M) (xs ys : List X) (es fs : List E) → IsRun P m xs es n → IsRun P n ys fs o → IsRun P m (xs ++ ys) (es ++ fs) o
+  run_on m n o xs ys es fs a b = record {
+    moments = a.moments ++ b.moments;
+    each = each_on m xs es a.moments ys fs b.moments a.each
+        (subst (λ (l : M). EachStep P l ys fs b.moments) (sym a.ends) b.each);
+    ends = end_on m a.moments b.moments ∙ (ap (λ (l : M). end_of l b.moments) a.ends ∙ b.ends);
+  }
+
+  -- what holds of no step, and of a step and a run behind it where it holds of that, holds of every run
+  module _ (R : M → List X → List E → M → Type 0) (none : (m : M) → R m [] [] m)
+      (more : (m : M) (x : X) (e : E) (n : M) (xs : List X) (es : List E) (o : M) → P m x e n → R n xs es o → R m (x ∷ xs) (e ∷ es) o) where
+    each_so : (m : M) (xs : List X) (es : List E) (ns : List M) → EachStep P m xs es ns → R m xs es (end_of m ns)
+    each_so m [] [] [] h = none m
+    each_so m (x ∷ xs) (e ∷ es) (n ∷ ns) h = more m x e n xs es (end_of n ns) h.0 (each_so n xs es ns h.1)
+    each_so m [] [] (n ∷ ns) h = absurd h
+    each_so m [] (e ∷ es) ns h = absurd h
+    each_so m (x ∷ xs) [] ns h = absurd h
+    each_so m (x ∷ xs) (e ∷ es) [] h = absurd h
+
+    pub run_so : (m : M) (xs : List X) (es : List E) (n : M) → IsRun P m xs es n → R m xs es n
+    run_so m xs es n run = subst (λ (o : M). R m xs es o) run.ends (each_so m xs es run.moments run.each)
+
+  -- what each step keeps, a run keeps
+  pub run_keeps : (Q : M → Type 0) → ((m : M) (x : X) (e : E) (n : M) → P m x e n → Q m → Q n) → (m : M) (xs : List X) (es : List E) (n : M)
+      → IsRun P m xs es n → Q m → Q n
+  run_keeps Q keeps m xs es n run =
+      run_so (λ a xs es b. Q a → Q b) (λ a q. q) (λ a x e b xs es c h rest q. rest (keeps a x e b h q)) m xs es n run
+
+  -- what leads from one moment to the next does so between what is seen of them
+  pub run_seen : {N : Type 0} (seen : M → N) (Q : N → X → E → N → Type 0)
+      → ((m : M) (x : X) (e : E) (n : M) → P m x e n → Q (seen m) x e (seen n))
+      → (m : M) (xs : List X) (es : List E) (n : M) → IsRun P m xs es n → IsRun Q (seen m) xs es (seen n)
+  run_seen {N} seen Q leads m xs es n run =
+      run_so (λ a xs es b. IsRun Q (seen a) xs es (seen b)) (λ a. record { moments = []; each = tt; ends = refl })
+      (λ a x e b xs es c h rest. record { moments = seen b ∷ rest.moments; each = (leads a x e b h, rest.each); ends = rest.ends })
+      m xs es n run
+
+  -- there are as many entries as steps
+  pub run_entries : (m : M) (xs : List X) (es : List E) (n : M) → IsRun P m xs es n → length es ≡ length xs
+  run_entries m xs es n run =
+      run_so (λ a xs es b. length es ≡ length xs) (λ a. refl) (λ a x e b xs es c h rest. ap (λ k. suc k) rest) m xs es n run
 
 -- ---- scenes
 
@@ -85,7 +135,7 @@ module _ {T W : Type 0} where
       → AllKnown s.now s.under_way → IsBalanced s.now.queue → AllKnown t.now t.under_way × IsBalanced t.now.queue
   known_next s (step.Begin p ask) e names t n known bal =
       let b = n.0 in
-      let mine : Under T W = begun p ask b.at s.now in
+      let mine : Under T W = call_begun p ask b.at s.now in
       let all = known_both s.now s.under_way (mine ∷ []) known (begins_known s.now p ask b.answer b.at b.turned, tt) in
       let there = subst (λ (us : List (Under T W)). AllKnown s.now us) (sym b.under_way) all in (
         subst (λ (c : Channel T W). AllKnown c t.under_way) (sym b.now) there,
@@ -158,14 +208,14 @@ module _ {T W : Type 0} where
 
   -- ---- how many steps are left
 
-  -- no call under way has more than 197 that nobody holds up, and 64 for each message that it may take more than one
+  -- no call under way has more than these where the others are quiet
   pub few_left : (parts : Parts T W) (parties : List (Party T W)) (s : Scene T W) → Represents parts parties s
-      → (k n : ℕ) → slice_get (all_left parts parties) k ≡ Some n → n ≤ 197 + 64 * wanted_at k s.under_way
+      → (k n : ℕ) → slice_get (all_left parts parties) k ≡ Some n → n ≤ most_left (wanted_at k s.under_way)
   few_left parts parties s sh k n there = few_facts.few_left parts parties s sh k n there
 
-  -- where the others hold a call up no more, they still do so after a step of its own
+  -- where the others of a call are quiet, they are still so after a step of its own
   pub hold_still : (s : Scene T W) (p : ℕ) (e : Entry T) (names : List W) (t : Scene T W) (n : Steps s p e names t)
-      → HoldNobodyUp s.now (n.before ++ n.behind) → HoldNobodyUp t.now (map (sees t.now) n.before ++ map (sees t.now) n.behind)
+      → OthersQuiet s.now (n.before ++ n.behind) → OthersQuiet t.now (map (sees t.now) n.before ++ map (sees t.now) n.behind)
   hold_still s p e names t n hold = idle_facts.hold_still s p e names t n hold
 
 module _ {W : Type 0} where

@@ -1,9 +1,9 @@
--- How many steps a call still makes at most that nobody holds up, beside others.
+-- How many steps a call still makes at most where the others are quiet.
 use Rattle.std.proofs.Common.{◌≡◌, ◌≤◌, ◌<◌, ◌+◌, ◌-◌, ◌*◌, ◌^◌, ◌==◌, ◌&&◌, nat_lt, ℕ, zero, suc, Bool, true, false, if◌then◌else◌, List, [], ◌∷◌, ◌++◌, Option, None, Some, Ok, Err, inl, inr, refl, sym, ap, ◌∙◌, subst, arith}
 use Rattle.std.proofs.lemmas.Bool.Decides.{nat_tests}
 use Rattle.concurrent_queue.specs.Contents.{Contents}
 use Rattle.concurrent_queue.specs.Queue.{Queue, Phase, asked}
-use Rattle.concurrent_queue.specs.Step.{Seat, Fits, HoldsNobodyUp, phases}
+use Rattle.concurrent_queue.specs.Step.{Seat, Fits, PhasesQuiet, phases}
 use Rattle.concurrent_queue.specs.declared.call.QueueAsk.TheVariants as ask
 use Rattle.concurrent_queue.specs.declared.call.QueueReply.{QueueReply}
 use Rattle.concurrent_queue.specs.declared.call.QueueReply.TheVariants as answer
@@ -43,15 +43,15 @@ use Rattle.channel_calls.specs.Turns.{most, line_of, leaving, nothing_kept, ends
 use Rattle.channel_calls.specs.Answered.{sent_next, forced_next, received_next, gathered_next, short_next, several_next, send_next, receive_next, stream_next, closing_next, polled_next, closed_next, asked_next, terminated_next, upgraded_next, answered_next}
 use Rattle.channel_calls.specs.Moves.{Channel, Effect, channel, Turned, Worked, Tried, seats, phase, IsTaken, Hastens, Made}
 use Rattle.channel_steps.specs.Known.{left_to_tell}
-use Rattle.channel_steps.specs.Left.{left_after, left_to_work, steps_left}
+use Rattle.channel_steps.specs.Left.{one_try, listening_try, told_try, most_left, left_after, left_to_work, steps_left}
 use Rattle.channel_steps.proofs.LineFacts.{fresh_waits, same_line}
 
 -- ---- the steps that are left
 
 module _ {T W : Type 0} where
-  -- a call of the queue that nobody holds up answers by its 64th step
+  -- a call of the queue answers by its 64th step where the others are quiet
   abbrev pub left_to_turn : Roster W → Turn T W → ℕ
-  left_to_turn a (Tries x aim) = 64 + left_after a aim
+  left_to_turn a (Tries x aim) = one_try + left_after a aim
   left_to_turn a (Works w) = left_to_work a w
   left_to_turn a (Ends x kept) = 0
 
@@ -70,9 +70,9 @@ abbrev pub wanted_after : {T W : Type 0} → Aim T W → ℕ
 wanted_after (aim.RecvMany g) = g.more
 wanted_after x = 0
 
-few_after : {T W : Type 0} (a : Roster W) (x : Aim T W) → left_after a x ≤ 133 + 64 * wanted_after x
+few_after : {T W : Type 0} (a : Roster W) (x : Aim T W) → left_after a x ≤ told_try + one_try * wanted_after x
 few_after a (aim.Poll line None task) = omega arith
-few_after a (aim.Poll line (Some key) task) = few_or (waits key (listeners line a)) 133 3 133 (omega arith) (omega arith)
+few_after a (aim.Poll line (Some key) task) = few_or (waits key (listeners line a)) told_try 3 told_try (omega arith) (omega arith)
 few_after a x = omega arith
 
 module _ {T W : Type 0} where
@@ -86,15 +86,15 @@ module _ {T W : Type 0} where
   wanted (Working w) = wanted_by w
   wanted (Finished kept) = 0
 
-  few_to_work : (a : Roster W) (w : Work T W) → left_to_work a w ≤ 133 + 64 * wanted_by w
+  few_to_work : (a : Roster W) (w : Work T W) → left_to_work a w ≤ told_try + one_try * wanted_by w
   few_to_work a (TellAll line c) = let h = few_to_tell line in omega (arith, h)
-  few_to_work a (Register w key task) = few_or (waits key (listeners (line_of w) a)) 133 1 133 (omega arith) (omega arith)
-  few_to_work a (Raise side n m) = few_or (is_raised side n a) 133 1 3 (omega arith) (omega arith)
+  few_to_work a (Register w key task) = few_or (waits key (listeners (line_of w) a)) told_try 1 told_try (omega arith) (omega arith)
+  few_to_work a (Raise side n m) = few_or (is_raised side n a) told_try 1 3 (omega arith) (omega arith)
   few_to_work a w = omega arith
 
-  -- no call makes more than 197 steps that nobody holds up, and 64 for each further message that it may take
+  -- no call has more left where the others are quiet, by how many further messages it may take
   pub few_left : (c : Contents T) (a : Roster W) (q : Queue T) (f : Phase T) (s : Stage (QueueCall T) T W) (l r : List (Seat T))
-      → Fits c q (l ++ (seats f s ++ r)) → steps_left c a s ≤ 197 + 64 * wanted s
+      → Fits c q (l ++ (seats f s ++ r)) → steps_left c a s ≤ most_left (wanted s)
   few_left c a q f (Trying call aim) l r fits =
       let h = ranks c q f call l r fits in
       let k = few_after a aim in
@@ -104,7 +104,7 @@ module _ {T W : Type 0} where
 
 -- ---- after an answer of the queue
 
-register_or_try : (b : Bool) → (if b then 1 else 133) ≤ (if b then 3 else 133)
+register_or_try : (b : Bool) → (if b then 1 else told_try) ≤ (if b then 3 else told_try)
 register_or_try true = omega arith
 register_or_try false = omega arith
 
@@ -115,7 +115,7 @@ at_least false n i j h k = k
 module _ (T : Type 0) {W : Type 0} (a : Roster W) where
   some_to_poll : (line : Line) (key : Option Key) (task : W) (n : ℕ) → n ≤ 3 → n ≤ left_after {T = T} a (aim.Poll line key task)
   some_to_poll line None task n h = omega (arith, h)
-  some_to_poll line (Some key) task n h = at_least (waits key (listeners line a)) n 3 133 h (omega (arith, h))
+  some_to_poll line (Some key) task n h = at_least (waits key (listeners line a)) n 3 told_try h (omega (arith, h))
 
 module _ {T W : Type 0} (a : Roster W) where
   ended : (x : Reply T) (message : Option T) (held : Option Held)
@@ -130,7 +130,7 @@ module _ {T W : Type 0} (a : Roster W) where
       → left_to_turn a (refused_next w key task) ≤ left_after {T = T} a (aim.Poll line key task)
   refused_left w line None task e = omega arith
   refused_left w line (Some key) task e =
-      subst (λ (l : Line). (if waits key (listeners (line_of w) a) then 1 else 133) ≤ (if waits key (listeners l a) then 3 else 133)) e
+      subst (λ (l : Line). (if waits key (listeners (line_of w) a) then 1 else told_try) ≤ (if waits key (listeners l a) then 3 else told_try)) e
       (register_or_try (waits key (listeners (line_of w) a)))
 
   sent_left : (x : QueueReply T) → left_to_turn a (let t : Turn T W = sent_next x in t) ≤ 3
@@ -152,7 +152,7 @@ module _ {T W : Type 0} (a : Roster W) where
   received_left (answer.Pop (Err pop_error.Closed)) = omega arith
   received_left x = omega arith
 
-  gathered_left : (vs : List T) (k : ℕ) → left_to_turn a (let t : Turn T W = gathered_next (with_last vs k) in t) ≤ 2 + 64 * k
+  gathered_left : (vs : List T) (k : ℕ) → left_to_turn a (let t : Turn T W = gathered_next (with_last vs k) in t) ≤ 2 + one_try * k
   gathered_left vs zero = omega arith
   gathered_left vs (suc k) = omega arith
 
@@ -160,7 +160,7 @@ module _ {T W : Type 0} (a : Roster W) where
   short_left [] e = omega arith
   short_left (v ∷ vs) e = omega arith
 
-  several_left : (x : QueueReply T) (g : Gathered T) → left_to_turn a (let t : Turn T W = several_next x g in t) ≤ 2 + 64 * g.more
+  several_left : (x : QueueReply T) (g : Gathered T) → left_to_turn a (let t : Turn T W = several_next x g in t) ≤ 2 + one_try * g.more
   several_left (answer.Pop (Ok m)) g = gathered_left (g.taken ++ m ∷ []) g.more
   several_left (answer.Pop (Err pop_error.Empty)) g = let h = short_left g.taken try_recv_error.Empty in omega (arith, h)
   several_left (answer.Pop (Err pop_error.Closed)) g = let h = short_left g.taken try_recv_error.Closed in omega (arith, h)
@@ -211,7 +211,7 @@ module _ {T W : Type 0} (a : Roster W) where
   asked_left (answer.Cap c) = omega arith
   asked_left x = omega arith
 
-  terminated_left : (x : QueueReply T) → left_to_turn a (let t : Turn T W = terminated_next x in t) ≤ 64
+  terminated_left : (x : QueueReply T) → left_to_turn a (let t : Turn T W = terminated_next x in t) ≤ one_try
   terminated_left (answer.Flag true) = omega arith
   terminated_left (answer.Flag false) = omega arith
   terminated_left x = omega arith
@@ -251,13 +251,13 @@ module _ {T W : Type 0} where
     told_left Streams by = omega arith
     told_left Closings by = let h = ends_soon {T = T} e.channel.roster (closer_ending by true) in omega (arith, h)
 
-    try_less : (b : Bool) → b ≡ true → 64 + (if b then 3 else 133) < 68
+    try_less : (b : Bool) → b ≡ true → one_try + (if b then 3 else told_try) < listening_try
     try_less true h = omega arith
     try_less false h = absurd cc
 
     inserted_less : (w : Waiting T) (task : W) (key : Key) (l : Listeners W) → kind_of l key ≡ None
         → e.channel.roster ≡ with_listeners (line_of w) (listened key l) c.roster
-        → left_to_turn e.channel.roster (again w (Some key) task) < 68
+        → left_to_turn e.channel.roster (again w (Some key) task) < listening_try
     inserted_less w task key l none same =
         let waiting : waits key (listeners (line_of w) e.channel.roster) ≡ true =
         ap (λ (a : Roster W). waits key (listeners (line_of w) a)) same
@@ -265,12 +265,12 @@ module _ {T W : Type 0} where
         try_less (waits key (listeners (line_of w) e.channel.roster)) waiting
 
     registered_less : (b : Bool) (w : Waiting T) (key : Key) (task : W)
-        → left_to_turn e.channel.roster (if b then pends_by w key else again w None task) < (if b then 1 else 133)
+        → left_to_turn e.channel.roster (if b then pends_by w key else again w None task) < (if b then 1 else told_try)
     registered_less true w key task = omega arith
     registered_less false w key task = omega arith
 
     lowered_less : (b : Bool) (by : Closer)
-        → left_to_turn e.channel.roster (let t : Turn T W = if b then Tries ask.Close (aim.Close by) else ends_by (closer_ending by false) in t) < 70
+        → left_to_turn e.channel.roster (let t : Turn T W = if b then Tries ask.Close (aim.Close by) else ends_by (closer_ending by false) in t) < 1 + one_try + 5
     lowered_less true by = omega arith
     lowered_less false by = let x : Ending T = closer_ending by false in let h = ends_soon e.channel.roster x in omega (arith, h)
 
@@ -296,7 +296,7 @@ module _ {T W : Type 0} where
     raised_less true side m = omega arith
     raised_less false side m = omega arith
 
-    roomed_less : (n : ℕ) → left_to_turn e.channel.roster (let t : Turn T W = room_next n in t) < 3 + 64 * n
+    roomed_less : (n : ℕ) → left_to_turn e.channel.roster (let t : Turn T W = room_next n in t) < 3 + one_try * n
     roomed_less zero = omega arith
     roomed_less (suc n) = omega arith
 
@@ -331,7 +331,7 @@ module _ {T W : Type 0} where
         let b = is_raised side n c.roster in
         record { turn = raised_next side m b; turned = h.1; less = raised_less b side m }
 
-  -- ---- a step of a call, beside others that hold nobody up
+  -- ---- a step of a call, beside others that are quiet
 
   -- a turn that was taken leaves no more than it says
   taken_left : (c : Contents T) (a : Roster W) (q : Queue T) (f : Phase T) (l r : List (Seat T)) (turn : Turn T W) (x : Option (Reply T)) (s : Stage (QueueCall T) T W)
@@ -397,9 +397,9 @@ module _ {T W : Type 0} where
         let falls = answered_left parts'.roster y z in
         omega (arith, turn, falls, still)
 
-    -- a step of a call at work that nobody holds up leaves fewer
+    -- a step of a call at work leaves fewer where the others are quiet
     pub step_lessens : (stage : Stage (QueueCall T) T W) → IsAtWork stage → Made parts stage names parts' stage' m x blocks q f l r
-        → HoldsNobodyUp q (phases (l ++ r)) → steps_left parts'.cells parts'.roster stage' < steps_left parts.cells parts.roster stage
+        → PhasesQuiet q (phases (l ++ r)) → steps_left parts'.cells parts'.roster stage' < steps_left parts.cells parts.roster stage
     step_lessens (Trying call y) at made free = tried_less call y made (made.ends free)
     step_lessens (Working w) at made free =
         let e : Effect T W = record { channel = channel made.queue parts'; mark = m; woken = names } in

@@ -44,7 +44,7 @@ module _ {T W : Type 0} where
           quick = own_in_time s.now u bal known m d names at r moves;
           gone = refl;
           came = refl;
-          held = moves_held s.now u.ask u.at u.deeds u.seen effect r at known.stands moves;
+          held = moves_held s.now u.ask u.at u.marks u.seen effect r at known.stands moves;
         }
 
     -- one that does not answer

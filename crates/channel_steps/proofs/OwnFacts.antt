@@ -35,11 +35,11 @@ use Rattle.channel_calls.specs.declared.stage.Turn.TheVariants.{Tries, Works, En
 use Rattle.channel_calls.specs.declared.stage.Work.{Work}
 use Rattle.channel_calls.specs.declared.stage.Waiting.TheVariants as waiting
 use Rattle.channel_calls.specs.declared.stage.Work.TheVariants.{TellReceive, TellStreams, TellSend, TellSends, TakeRoom, TellAll, Insert, Register, Leave, Lower, Count, Load, Raise}
-use Rattle.channel_steps.specs.Moments.{Deed, with_deed}
+use Rattle.channel_steps.specs.Moments.{MarkedMoment, with_marked}
 use Rattle.channel_steps.specs.Known.{TriesFor, TriesAt, StageAt, ToldAt, IsQuick, steps_left}
-use Rattle.channel_steps.specs.Run.{begun}
+use Rattle.channel_steps.specs.Run.{call_begun}
 use Rattle.channel_steps.specs.Scene.{Under, sees, does, Finishes, EndsInTime, brought, gone_by, came_by, Known, AllKnown, IsBalanced}
-use Rattle.channel_steps.specs.Tellings.{Telling, telling, dropping, Names}
+use Rattle.channel_steps.specs.Tellings.{Telling, telling, dropping, WokenBy}
 use Rattle.channel_steps.proofs.MoveFacts.{worked_queue}
 use Rattle.channel_steps.proofs.TryFacts.{Progress, still, progress, answer_progress, next_channel, goes_at, IsClosing, tries_more, tries_stay}
 use Rattle.channel_steps.proofs.TurnFacts.{TurnAt, After, turned_at}
@@ -76,12 +76,12 @@ module _ {T : Type 0} where
 module _ {T W : Type 0} where
   -- ---- what is known of the call after its step
 
-  module _ (c : Channel T W) (x : ChannelAsk T W) (told : List Telling) (ds : List (Deed T W)) (seen : List (Channel T W)) (bal : IsBalanced c.queue) where
+  module _ (c : Channel T W) (x : ChannelAsk T W) (told : List Telling) (ds : List (MarkedMoment T W)) (seen : List (Channel T W)) (bal : IsBalanced c.queue) where
     went : (f f' : Phase T) (y : Aim T W) (m : QueueMark) → TriesFor x y f.ask ds seen → TriesAt c y f.ask f.stage ds seen → Continues c.queue f m f'
-        → After (next_channel f.ask f.stage m c) x [] (with_deed ds (mark_of_queue m) c seen) (next_channel f.ask f.stage m c ∷ seen) None (Trying f' y)
+        → After (next_channel f.ask f.stage m c) x [] (with_marked ds (mark_of_queue m) c seen) (next_channel f.ask f.stage m c ∷ seen) None (Trying f' y)
     went f f' y m tf ta g =
         let d : Channel T W = next_channel f.ask f.stage m c in
-        let es : List (Deed T W) = with_deed ds (mark_of_queue m) c seen in (
+        let es : List (MarkedMoment T W) = with_marked ds (mark_of_queue m) c seen in (
           subst (λ (a : QueueAsk T). TriesFor x y a es (d ∷ seen) × TriesAt d y a f'.stage es (d ∷ seen)) (sym g.0)
               (tries_more d ds es seen x y f.ask (λ h. absurd (never_closes c.queue f.ask m f.stage f'.stage g.1 h)) tf, goes_at c seen y f.ask m f.stage f'.stage ds g.1 bal ta),
           refl,
@@ -89,25 +89,25 @@ module _ {T W : Type 0} where
 
     tried_by : (f : Phase T) (y : Aim T W) (m : QueueMark) (r : Option (Reply T)) (s : Stage (Phase T) T W) → TriesFor x y f.ask ds seen → TriesAt c y f.ask f.stage ds seen
         → ((f' : Phase T) × Continues c.queue f m f' × (r ≡ None) × (s ≡ Trying f' y)) ⊎ ((z : QueueReply T) × Answers c.queue f m z × Turned (answered_next y z) r s)
-        → After (next_channel f.ask f.stage m c) x [] (with_deed ds (mark_of_queue m) c seen) (next_channel f.ask f.stage m c ∷ seen) r s
+        → After (next_channel f.ask f.stage m c) x [] (with_marked ds (mark_of_queue m) c seen) (next_channel f.ask f.stage m c ∷ seen) r s
     tried_by f y m r s tf ta (inl h) =
         let d : Channel T W = next_channel f.ask f.stage m c in
-        let es : List (Deed T W) = with_deed ds (mark_of_queue m) c seen in
+        let es : List (MarkedMoment T W) = with_marked ds (mark_of_queue m) c seen in
         subst (λ (z : Option (Reply T)). After d x [] es (d ∷ seen) z s) (sym h.2)
         (subst (λ (z : Stage (Phase T) T W). After d x [] es (d ∷ seen) None z) (sym h.3) (went f h.0 y m tf ta h.1))
     tried_by f y m r s tf ta (inr h) =
         let d : Channel T W = next_channel f.ask f.stage m c in
-        turned_at d x [] (with_deed ds (mark_of_queue m) c seen) (d ∷ seen) (answered_next y h.0) r s h.2 (answered c seen ds bal x y f.ask f.stage m h.0 tf ta h.1)
+        turned_at d x [] (with_marked ds (mark_of_queue m) c seen) (d ∷ seen) (answered_next y h.0) r s h.2 (answered c seen ds bal x y f.ask f.stage m h.0 tf ta h.1)
 
     tried : (f : Phase T) (y : Aim T W) (e : Effect T W) (r : Option (Reply T)) (s : Stage (Phase T) T W) → TriesFor x y f.ask ds seen → TriesAt c y f.ask f.stage ds seen → told ≡ [] → Tried c f y e r s
-        → After e.channel x (told ++ []) (with_deed ds e.mark c seen) (e.channel ∷ seen) r s
+        → After e.channel x (told ++ []) (with_marked ds e.mark c seen) (e.channel ∷ seen) r s
     tried f y e r s tf ta none h =
-        subst (λ (z : Effect T W). After z.channel x (told ++ []) (with_deed ds z.mark c seen) (z.channel ∷ seen) r s) (sym h.effect)
-        (subst (λ (ts : List Telling). After (next_channel f.ask f.stage h.mark c) x (ts ++ []) (with_deed ds (mark_of_queue h.mark) c seen) (next_channel f.ask f.stage h.mark c ∷ seen) r s) (sym none)
+        subst (λ (z : Effect T W). After z.channel x (told ++ []) (with_marked ds z.mark c seen) (z.channel ∷ seen) r s) (sym h.effect)
+        (subst (λ (ts : List Telling). After (next_channel f.ask f.stage h.mark c) x (ts ++ []) (with_marked ds (mark_of_queue h.mark) c seen) (next_channel f.ask f.stage h.mark c ∷ seen) r s) (sym none)
         (tried_by f y h.mark r s tf ta h.how))
 
     pub own : (at : Stage (Phase T) T W) (e : Effect T W) (r : Option (Reply T)) (s : Stage (Phase T) T W) → StageAt c x at ds seen → ToldAt told at ds → Moves c at e r s
-        → After e.channel x (told ++ telling at) (with_deed ds e.mark c seen) (e.channel ∷ seen) r s
+        → After e.channel x (told ++ telling at) (with_marked ds e.mark c seen) (e.channel ∷ seen) r s
     own (Trying f y) e r s h k g = tried f y e r s h.0 h.1 k g
     own (Working w) e r s h k g = worked c x told ds seen w e r s h k g
     own (Finished kept) e r s h k g = absurd h
@@ -130,7 +130,7 @@ module _ {T W : Type 0} where
 
   -- ---- whom it wakes
 
-  left_names : (o : Option Held) (c : Channel T W) (e : Effect T W) → e ≡ leaves o c → Names [] o c e.woken
+  left_names : (o : Option Held) (c : Channel T W) (e : Effect T W) → e ≡ leaves o c → WokenBy [] o c e.woken
   left_names None c e h = ap (λ (z : Effect T W). z.woken) h
   left_names (Some held) c e h = ap (λ (z : Effect T W). z.woken) h
 
@@ -138,7 +138,7 @@ module _ {T W : Type 0} where
   raised_names true side n c e h = ap (λ (z : Effect T W). z.woken) h
   raised_names false side n c e h = ap (λ (z : Effect T W). z.woken) h
 
-  work_names : (c : Channel T W) (w : Work T W) (e : Effect T W) (r : Option (Reply T)) (s : Stage (Phase T) T W) → Worked c w e r s → Names (telling (Working w)) (dropping (Working w)) c e.woken
+  work_names : (c : Channel T W) (w : Work T W) (e : Effect T W) (r : Option (Reply T)) (s : Stage (Phase T) T W) → Worked c w e r s → WokenBy (telling (Working w)) (dropping (Working w)) c e.woken
   work_names c (TellReceive y) e r s h = ap (λ (z : Effect T W). z.woken) h.0 ∙ sym (append-nil (told_one_wakes (listeners Receives c.roster)))
   work_names c (TellStreams y) e r s h = ap (λ (z : Effect T W). z.woken) h.0
   work_names c (TellSend y) e r s h = ap (λ (z : Effect T W). z.woken) h.0 ∙ sym (append-nil (told_one_wakes (listeners Sends c.roster)))
@@ -154,14 +154,14 @@ module _ {T W : Type 0} where
   work_names c (Load side m) e r s h = ap (λ (z : Effect T W). z.woken) h.0
   work_names c (Raise side n m) e r s h = raised_names (is_raised side n c.roster) side n c e h.0
 
-  pub names_of : (c : Channel T W) (at : Stage (Phase T) T W) (e : Effect T W) (r : Option (Reply T)) (s : Stage (Phase T) T W) → Moves c at e r s → Names (telling at) (dropping at) c e.woken
+  pub names_of : (c : Channel T W) (at : Stage (Phase T) T W) (e : Effect T W) (r : Option (Reply T)) (s : Stage (Phase T) T W) → Moves c at e r s → WokenBy (telling at) (dropping at) c e.woken
   names_of c (Trying f y) e r s h = ap (λ (z : Effect T W). z.woken) h.effect
   names_of c (Working w) e r s h = work_names c w e r s h
   names_of c (Finished kept) e r s h = ap (λ (z : Effect T W). z.woken) h.0
 
   -- ---- what it takes and brings
 
-  brings_own : (x : ChannelAsk T W) (y : Aim T W) (a : QueueAsk T) (ds : List (Deed T W)) (seen : List (Channel T W)) → TriesFor x y a ds seen → message a ≡ brought x
+  brings_own : (x : ChannelAsk T W) (y : Aim T W) (a : QueueAsk T) (ds : List (MarkedMoment T W)) (seen : List (Channel T W)) → TriesFor x y a ds seen → message a ≡ brought x
   brings_own (channel.TrySend m) aim.TrySend (ask.Push v) ds seen h = ap (λ (z : T). z ∷ []) h
   brings_own (channel.ForceSend m) aim.ForceSend (ask.ForcePush v) ds seen h = ap (λ (z : T). z ∷ []) h
   brings_own (channel.PollSend m k t) (aim.Poll Sends key task) (ask.Push v) ds seen h = ap (λ (z : T). z ∷ []) h
@@ -231,7 +231,7 @@ module _ {T W : Type 0} where
   work_other c (Load side m) e r s h = other_mark e _ h.0 tt
   work_other c (Raise side n m) e r s h = other_mark e _ h.0 (raised_other (is_raised side n c.roster) side n c)
 
-  pub moves_held : (c : Channel T W) (x : ChannelAsk T W) (at : Stage (Phase T) T W) (ds : List (Deed T W)) (seen : List (Channel T W)) (e : Effect T W) (r : Option (Reply T)) (s : Stage (Phase T) T W) → StageAt c x at ds seen → Moves c at e r s
+  pub moves_held : (c : Channel T W) (x : ChannelAsk T W) (at : Stage (Phase T) T W) (ds : List (MarkedMoment T W)) (seen : List (Channel T W)) (e : Effect T W) (r : Option (Reply T)) (s : Stage (Phase T) T W) → StageAt c x at ds seen → Moves c at e r s
       → Held_by e.mark x c.queue.items e.channel.queue.items
   moves_held c x (Trying f y) ds seen e r s k h =
       subst (λ (z : Effect T W). Held_by z.mark x c.queue.items z.channel.queue.items) (sym h.effect) (queue_held x f h.mark c.queue (brings_own x y f.ask ds seen k.0))
@@ -246,9 +246,9 @@ module _ {T W : Type 0} where
   sees_known c d p u k =
       record { older = u.seen; latest = refl; stands = stays u.at k.stands; tells = k.tells; quick = k.quick }
     where
-      stays : (at : Stage (Phase T) T W) → StageAt c u.ask at u.deeds u.seen → StageAt d u.ask at u.deeds (d ∷ u.seen)
-      stays (Trying f y) h = (tries_more d u.deeds u.deeds u.seen u.ask y f.ask (λ z. refl) h.0, tries_stay c d p k.older u.seen k.latest y f.ask f.stage u.deeds h.1)
-      stays (Working w) h = work_more u.ask w d u.deeds u.seen h
+      stays : (at : Stage (Phase T) T W) → StageAt c u.ask at u.marks u.seen → StageAt d u.ask at u.marks (d ∷ u.seen)
+      stays (Trying f y) h = (tries_more d u.marks u.marks u.seen u.ask y f.ask (λ z. refl) h.0, tries_stay c d p k.older u.seen k.latest y f.ask f.stage u.marks h.1)
+      stays (Working w) h = work_more u.ask w d u.marks u.seen h
       stays (Finished kept) h = h
 
   pub all_see : (c d : Channel T W) → Progress c.queue d.queue → (us : List (Under T W)) → AllKnown c us → AllKnown d (map (sees d) us)
@@ -262,12 +262,12 @@ module _ {T W : Type 0} where
 
     pub own_known : Moves c u.at effect None s → Known d (does u s m c d)
     own_known g =
-        let h = own c u.ask u.told u.deeds u.seen bal u.at effect None s k.stands k.tells g in
-        record { older = u.seen; latest = refl; stands = h.0; tells = h.1; quick = λ q. (let i = k.quick q in let j = quick_moves c u.ask u.at effect s u.deeds u.seen k.stands q g in omega (arith, i, j)) }
+        let h = own c u.ask u.told u.marks u.seen bal u.at effect None s k.stands k.tells g in
+        record { older = u.seen; latest = refl; stands = h.0; tells = h.1; quick = λ q. (let i = k.quick q in let j = quick_moves c u.ask u.at effect s u.marks u.seen k.stands q g in omega (arith, i, j)) }
 
     pub own_finishes : (r : Reply T) (left : Kept T) → ((kept : Kept T) → s ≡ Finished kept → left ≡ kept) → Moves c u.at effect (Some r) s → Finishes (does u s m c d) r (Some left)
     own_finishes r left same g =
-        let h = own c u.ask u.told u.deeds u.seen bal u.at effect (Some r) s k.stands k.tells g in
+        let h = own c u.ask u.told u.marks u.seen bal u.at effect (Some r) s k.stands k.tells g in
         record { kept = h.0; at_end = h.1; given = ap (λ (z : Kept T). Some z) (same h.0 h.1); met = h.2; keeps = h.3; all_told = h.4 }
 
     pub own_in_time : (r : Option (Reply T)) → Moves c u.at effect r s → IsQuick u.ask → EndsInTime u.made r
@@ -278,7 +278,7 @@ module _ {T W : Type 0} where
         omega (arith, i, j)
     own_in_time (Some r) g q =
         let i : u.made + steps_left u.at ≤ 8 = k.quick q in
-        let j : 0 < steps_left u.at = some_left c u.ask u.at u.deeds u.seen k.stands in
+        let j : 0 < steps_left u.at = some_left c u.ask u.at u.marks u.seen k.stands in
         omega (arith, i, j)
 
   -- ---- a call that begins
@@ -331,15 +331,15 @@ module _ {T W : Type 0} where
   begins_at c channel.Make = (((([], c ∷ [], refl, (refl, refl)), refl), refl), tt)
   begins_at c channel.DropWeak = (((([], c ∷ [], refl, (refl, refl)), refl), refl), tt)
 
-  known_at : (c : Channel T W) (p : ℕ) (x : ChannelAsk T W) (turn : Turn T W) (r : Option (Reply T)) (at : Stage (Phase T) T W) → r ≡ None → TurnAt c x [] [] (c ∷ []) turn → Turned turn r at → Known c (begun p x at c)
+  known_at : (c : Channel T W) (p : ℕ) (x : ChannelAsk T W) (turn : Turn T W) (r : Option (Reply T)) (at : Stage (Phase T) T W) → r ≡ None → TurnAt c x [] [] (c ∷ []) turn → Turned turn r at → Known c (call_begun p x at c)
   known_at c p x turn r at none h t =
       let k : After c x [] [] (c ∷ []) None at = subst (λ (z : Option (Reply T)). After c x [] [] (c ∷ []) z at) none (turned_at c x [] [] (c ∷ []) turn r at t h) in
       record { older = []; latest = refl; stands = k.0; tells = k.1; quick = λ q. (let i = few_left at in omega (arith, i)) }
 
-  first_known : (c : Channel T W) (p : ℕ) (x : ChannelAsk T W) (turn : Turn T W) (r : Option (Reply T)) (at : Stage (Phase T) T W) → TurnAt c x [] [] (c ∷ []) turn → GoesOnAt turn → Turned turn r at → Known c (begun p x at c)
+  first_known : (c : Channel T W) (p : ℕ) (x : ChannelAsk T W) (turn : Turn T W) (r : Option (Reply T)) (at : Stage (Phase T) T W) → TurnAt c x [] [] (c ∷ []) turn → GoesOnAt turn → Turned turn r at → Known c (call_begun p x at c)
   first_known c p x (Tries a y) r at h o t = known_at c p x (Tries a y) r at t.0 h t
   first_known c p x (Works w) r at h o t = known_at c p x (Works w) r at t.0 h t
   first_known c p x (Ends y kept) r at h o t = absurd o
 
-  pub begins_known : (c : Channel T W) (p : ℕ) (x : ChannelAsk T W) (r : Option (Reply T)) (at : Stage (Phase T) T W) → Turned (first x) r at → Known c (begun p x at c)
+  pub begins_known : (c : Channel T W) (p : ℕ) (x : ChannelAsk T W) (r : Option (Reply T)) (at : Stage (Phase T) T W) → Turned (first x) r at → Known c (call_begun p x at c)
   begins_known c p x r at t = let h = begins_at c x in first_known c p x (first x) r at h.0 h.1 t

@@ -33,7 +33,7 @@ use Rattle.channel_calls.specs.declared.stage.Turn.TheVariants.{Tries, Works, En
 use Rattle.channel_calls.specs.declared.stage.Waiting.{Waiting}
 use Rattle.channel_calls.specs.declared.stage.Work.{Work}
 use Rattle.channel_calls.specs.declared.stage.Work.TheVariants.{TellReceive, TellStreams, TellSend, TellSends, TakeRoom, TellAll, Insert, Register, Leave, Lower, Count, Load, Raise}
-use Rattle.channel_steps.specs.Moments.{Deed}
+use Rattle.channel_steps.specs.Moments.{MarkedMoment}
 use Rattle.channel_steps.specs.Known.{TriesFor, IsFor, Makes, WorkAt, StageAt, IsQuick, left_to_try, left_to_tell, left_to_work, steps_left}
 
 module _ {T : Type 0} where
@@ -130,7 +130,7 @@ few_to_tell Streams = omega arith
 few_to_tell Closings = omega arith
 
 module _ {T W : Type 0} where
-  quick_try : (x : ChannelAsk T W) (y : Aim T W) (a : QueueAsk T) (ds : List (Deed T W)) (seen : List (Channel T W)) → TriesFor x y a ds seen → IsQuick x → IsQuickTry a
+  quick_try : (x : ChannelAsk T W) (y : Aim T W) (a : QueueAsk T) (ds : List (MarkedMoment T W)) (seen : List (Channel T W)) → TriesFor x y a ds seen → IsQuick x → IsQuickTry a
   quick_try channel.Close (aim.Close closer.Call) ask.Close ds seen h q = tt
   quick_try channel.DropSender (aim.Close closer.Sender) ask.Close ds seen h q = tt
   quick_try (channel.DropReceiver k) (aim.Close (closer.Receiver key)) ask.Close ds seen h q = tt
@@ -152,7 +152,7 @@ module _ {T W : Type 0} where
   quick_try channel.Len y a ds seen h q = absurd q
   quick_try x y a ds seen h q = absurd h
 
-  quick_answers : (x : ChannelAsk T W) (y : Aim T W) (a : QueueAsk T) (s : queue.Stage T) (r : QueueReply T) (ds : List (Deed T W)) (seen : List (Channel T W)) → TriesFor x y a ds seen → IsQuick x
+  quick_answers : (x : ChannelAsk T W) (y : Aim T W) (a : QueueAsk T) (s : queue.Stage T) (r : QueueReply T) (ds : List (MarkedMoment T W)) (seen : List (Channel T W)) → TriesFor x y a ds seen → IsQuick x
       → left_after (answered_next y r) < left_to_try a s
   quick_answers channel.Close (aim.Close closer.Call) ask.Close s r ds seen h q = closed_left W r closer.Call
   quick_answers channel.DropSender (aim.Close closer.Sender) ask.Close s r ds seen h q = closed_left W r closer.Sender
@@ -196,7 +196,7 @@ module _ {T W : Type 0} where
   ends_less : (w : Work T W) (e : Ending T) → 1 < left_to_work w → Less w (ends_by e)
   ends_less w e h = let k : left_after (let t : Turn T W = ends_by e in t) ≤ 1 = ended_left W e in omega (arith, h, k)
 
-  quick_works : (c : Channel T W) (x : ChannelAsk T W) (w : Work T W) (e : Effect T W) (s : Stage (Phase T) T W) (ds : List (Deed T W)) (seen : List (Channel T W)) → WorkAt x w ds seen → IsQuick x → Worked c w e None s
+  quick_works : (c : Channel T W) (x : ChannelAsk T W) (w : Work T W) (e : Effect T W) (s : Stage (Phase T) T W) (ds : List (MarkedMoment T W)) (seen : List (Channel T W)) → WorkAt x w ds seen → IsQuick x → Worked c w e None s
       → steps_left s < left_to_work w
   quick_works c x (TellReceive y) e s ds seen h q g = step_less (TellReceive y) (Works (TellStreams y)) s g.1 (omega arith)
   quick_works c x (TellStreams y) e s ds seen h q g = step_less (TellStreams y) (ends_by y) s g.1 (ends_less (TellStreams y) y (omega arith))
@@ -212,7 +212,7 @@ module _ {T W : Type 0} where
   quick_works c x (Load side m) e s ds seen h q g = absurd (never_makes x side m seen h.0 q)
   quick_works c x (Raise side n m) e s ds seen h q g = absurd (never_makes x side m seen h.0 q)
 
-  pub quick_moves : (c : Channel T W) (x : ChannelAsk T W) (at : Stage (Phase T) T W) (e : Effect T W) (s : Stage (Phase T) T W) (ds : List (Deed T W)) (seen : List (Channel T W)) → StageAt c x at ds seen → IsQuick x → Moves c at e None s
+  pub quick_moves : (c : Channel T W) (x : ChannelAsk T W) (at : Stage (Phase T) T W) (e : Effect T W) (s : Stage (Phase T) T W) (ds : List (MarkedMoment T W)) (seen : List (Channel T W)) → StageAt c x at ds seen → IsQuick x → Moves c at e None s
       → steps_left s < steps_left at
   quick_moves c x (Trying f y) e s ds seen h q g = by_how g.how
     where
@@ -229,7 +229,7 @@ module _ {T W : Type 0} where
   some_to_work (TellAll line y) = some_to_tell line
   some_to_work w = omega arith
 
-  pub some_left : (c : Channel T W) (x : ChannelAsk T W) (at : Stage (Phase T) T W) (ds : List (Deed T W)) (seen : List (Channel T W)) → StageAt c x at ds seen → 0 < steps_left at
+  pub some_left : (c : Channel T W) (x : ChannelAsk T W) (at : Stage (Phase T) T W) (ds : List (MarkedMoment T W)) (seen : List (Channel T W)) → StageAt c x at ds seen → 0 < steps_left at
   some_left c x (Trying f y) ds seen h = some_to_try f.ask f.stage
   some_left c x (Working w) ds seen h = some_to_work w
   some_left c x (Finished kept) ds seen h = absurd h

@@ -60,7 +60,7 @@ module _ {T W : Type 0} where
         → HasBegun p ask parties e parties'
     begun p ask call parties e parties' new left entry parts s sh =
         let k = came s.blocks parts sh.queue (all_seats sh.sittings) sh.fits any (first ask) call.stage new.0 new.1 in
-        let mine : Sitting T W = record { party = record { id = p; call = call }; inner = k.inner; ask = ask; seen = s.now ∷ []; deeds = []; told = []; made = 0 } in
+        let mine : Sitting T W = record { party = record { id = p; call = call }; inner = k.inner; ask = ask; seen = s.now ∷ []; marks = []; told = []; made = 0 } in
         let all : List (Sitting T W) = sh.sittings ++ (mine ∷ []) in
         let seats_are : all_seats all ≡ all_seats sh.sittings ++ (seats k.inner call.stage ++ []) = seats_append sh.sittings (mine ∷ []) in
         let fits : FitsAt s.blocks parts.cells sh.queue (all_seats all) = subst (λ (ss : List (Seat T)). FitsAt s.blocks parts.cells sh.queue ss) (sym seats_are) k.fits in

@@ -4,7 +4,7 @@ use Rattle.std.specs.List.{remove}
 use Rattle.concurrent_queue.specs.Queue.{Queue, Phase, IsInRange}
 use Rattle.concurrent_queue.proofs.Callers.{itself}
 use Rattle.concurrent_queue.specs.Contents.{Contents}
-use Rattle.concurrent_queue.specs.Step.{Seat, FitsForm, FitsAt, chain_after, HoldsNobodyUp, phases}
+use Rattle.concurrent_queue.specs.Step.{Seat, FitsForm, FitsAt, chain_after, PhasesQuiet, phases}
 use Rattle.concurrent_queue.specs.declared.cells.QueueForm.{QueueForm}
 use Rattle.concurrent_queue.specs.declared.cells.QueueForm.TheVariants.{Bounded, Unbounded}
 use Rattle.channel_calls.specs.Parts.{Parts}
@@ -21,8 +21,8 @@ use Rattle.channel_steps.specs.declared.party.Party.{Party}
 use Rattle.channel_steps.specs.declared.party.Entry.{Entry}
 use Rattle.channel_steps.specs.Known.{StageAt}
 use Rattle.channel_steps.specs.Left.{party_left, all_left, left_at}
-use Rattle.channel_steps.specs.Moments.{Deed, with_deed}
-use Rattle.channel_steps.specs.Scene.{Under, Scene, MayHave, blocks_after, sees, does, gone_by, came_by, Known, AllKnown, IsBalanced, HoldNobodyUp, Sitting, under_of, seats_of, all_seats, Represents, parties_in, unless_answered, parties_after, left_by, StepsNearer, SteppedAt, StepsAt}
+use Rattle.channel_steps.specs.Moments.{MarkedMoment, with_marked}
+use Rattle.channel_steps.specs.Scene.{Under, Scene, MayHave, blocks_after, sees, does, gone_by, came_by, Known, AllKnown, IsBalanced, OthersQuiet, Sitting, under_of, seats_of, all_seats, Represents, parties_in, unless_answered, parties_after, left_by, StepsNearer, SteppedAt, StepsAt}
 use Rattle.channel_steps.specs.Tellings.{telling}
 use Rattle.channel_steps.proofs.IdleFacts.{idle_holds}
 use Rattle.channel_steps.proofs.LeftFacts.{IsAtWork, step_lessens}
@@ -185,26 +185,26 @@ module _ {T W : Type 0} where
     right_known : AllKnown before_it (map under_of r)
     right_known = let h = known_right before_it (map under_of l) (under_of x ∷ map under_of r) all_round in h.1
 
-    -- where the others hold nobody up, fewer steps are left
-    at_work : (ds : List (Deed T W)) (s : Stage (QueueCall T) T W) → StageAt before_it x.ask (phase x.inner s) ds x.seen → IsAtWork s
+    -- where the others are quiet, fewer steps are left
+    at_work : (ds : List (MarkedMoment T W)) (s : Stage (QueueCall T) T W) → StageAt before_it x.ask (phase x.inner s) ds x.seen → IsAtWork s
     at_work ds (Trying call aim) h = tt
     at_work ds (Working w) h = tt
     at_work ds (Finished kept) h = absurd h
 
-    others_hold : HoldNobodyUp before_it (map under_of l ++ map under_of r) → HoldsNobodyUp q (phases (all_seats l ++ all_seats r))
+    others_hold : OthersQuiet before_it (map under_of l ++ map under_of r) → PhasesQuiet q (phases (all_seats l ++ all_seats r))
     others_hold hold =
         let both = map-round under_of l r in
         let others : AllKnown before_it (map under_of (l ++ r)) =
         subst (λ (us : List (Under T W)). AllKnown before_it us) (sym both) (known_both before_it (map under_of l) (map under_of r) left_known right_known) in
-        subst (λ (ss : List (Seat T)). HoldsNobodyUp q (phases ss)) (seats_append l r)
-        (idle_holds before_it (l ++ r) others (subst (λ (us : List (Under T W)). HoldNobodyUp before_it us) (sym both) hold))
+        subst (λ (ss : List (Seat T)). PhasesQuiet q (phases ss)) (seats_append l r)
+        (idle_holds before_it (l ++ r) others (subst (λ (us : List (Under T W)). OthersQuiet before_it us) (sym both) hold))
 
     comes_nearer : Made parts x.party.call.stage names parts' p'.call.stage m None blocks q x.inner (all_seats l) (all_seats r)
-        → HoldNobodyUp before_it (map under_of l ++ map under_of r)
+        → OthersQuiet before_it (map under_of l ++ map under_of r)
         → left_at (length l) (all_left parts' (slice_set (map party_of (l ++ (x ∷ r))) (length l) p')) < left_at (length l) (all_left parts (map party_of (l ++ (x ∷ r))))
     comes_nearer made hold =
         let less = step_lessens parts parts' names p'.call.stage m None blocks q x.inner (all_seats l) (all_seats r) x.party.call.stage
-        (at_work x.deeds x.party.call.stage mine_known.stands) made (others_hold hold) in
+        (at_work x.marks x.party.call.stage mine_known.stands) made (others_hold hold) in
         rw (number-round party_of (party_left parts) l x r, number-set party_of (party_left parts') l x r p') less
 
     -- the blocks after it
@@ -227,7 +227,7 @@ module _ {T W : Type 0} where
         let at0 : Stage (Phase T) T W = phase x.inner x.party.call.stage in
         let e : Effect T W = record { channel = now; mark = m; woken = names } in
         let on : Progress q q' = moves_on before_it at0 e None at' made.moves in
-        let next : Sitting T W = record { party = p'; inner = made.phase_now; ask = x.ask; seen = now ∷ x.seen; deeds = with_deed x.deeds m before_it x.seen; told = x.told ++ telling at0; made = x.made + 1 } in
+        let next : Sitting T W = record { party = p'; inner = made.phase_now; ask = x.ask; seen = now ∷ x.seen; marks = with_marked x.marks m before_it x.seen; told = x.told ++ telling at0; made = x.made + 1 } in
         let after_all : List (Sitting T W) = map (saw now) l ++ (next ∷ map (saw now) r) in
         let seats_are : all_seats after_all ≡ all_seats l ++ (seats made.phase_now p'.call.stage ++ all_seats r) =
         seats_append (map (saw now) l) (next ∷ map (saw now) r) ∙ (ap (λ (zs : List (Seat T)). zs ++ (seats made.phase_now p'.call.stage ++ all_seats (map (saw now) r))) (seats_saw now l) ∙ ap (λ (zs : List (Seat T)). all_seats l ++ (seats made.phase_now p'.call.stage ++ zs)) (seats_saw now r)) in
@@ -257,7 +257,7 @@ module _ {T W : Type 0} where
               quick = own_in_time before_it (under_of x) bal mine_known m now names at' None made.moves;
               gone = refl;
               came = refl;
-              held = moves_held before_it x.ask at0 x.deeds x.seen e None at' mine_known.stands made.moves;
+              held = moves_held before_it x.ask at0 x.marks x.seen e None at' mine_known.stands made.moves;
             };
             place = length-images under_of l;
             nearer = λ none hold. comes_nearer made hold;
@@ -314,7 +314,7 @@ module _ {T W : Type 0} where
               quick = own_in_time before_it (under_of x) bal mine_known m now names at' (Some y) made.moves;
               gone = refl;
               came = refl;
-              held = moves_held before_it x.ask at0 x.deeds x.seen e (Some y) at' mine_known.stands made.moves;
+              held = moves_held before_it x.ask at0 x.marks x.seen e (Some y) at' mine_known.stands made.moves;
             };
             place = length-images under_of l;
             nearer = λ none hold. absurd (let no : Some y ≡ None = none in cc);

@@ -18,7 +18,7 @@ use Rattle.channel_calls.specs.declared.stage.Closer.TheVariants as closer
 use Rattle.channel_calls.specs.declared.stage.Line.TheVariants.{Sends, Receives, Streams, Closings}
 use Rattle.channel_calls.specs.declared.stage.Side.{Side}
 use Rattle.channel_calls.specs.declared.stage.Side.TheVariants.{Senders, Receivers}
-use Rattle.channel_steps.specs.Moments.{Deed, with_deed, Open, HasRoom, Crowded, Unbounded, Refuses, HasMessage, Once, MadeRoom, Displaced, LeftLast}
+use Rattle.channel_steps.specs.Moments.{MarkedMoment, with_marked, Open, HasRoom, Crowded, Unbounded, Refuses, HasMessage, Once, MadeRoom, Displaced, LeftLast}
 use Rattle.channel_calls.specs.declared.mark.Mark.{Mark}
 use Rattle.channel_calls.specs.declared.mark.Mark.TheVariants as mark
 use Rattle.channel_steps.specs.Known.{TriesFor, TryAt, HasTaken, AreBehind, TriesAt}
@@ -157,7 +157,7 @@ module _ {T W : Type 0} where
   open_once cap (c ∷ cs) (inl h) = inl (was_open cap c h)
   open_once cap (c ∷ cs) (inr h) = inr (open_once cap cs h)
 
-  displaced_now : (ds : List (Deed T W)) (d : T) (e : Deed T W) → MadeRoom ds d → e.mark ≡ mark_of_queue Append → HasRoom e.before → Displaced (ds ++ e ∷ []) d
+  displaced_now : (ds : List (MarkedMoment T W)) (d : T) (e : MarkedMoment T W) → MadeRoom ds d → e.mark ≡ mark_of_queue Append → HasRoom e.before → Displaced (ds ++ e ∷ []) d
   displaced_now [] d e h m f = absurd h
   displaced_now (x ∷ []) d e h m f = (h, m, f)
   displaced_now (x ∷ y ∷ ds) d e h m f = absurd h
@@ -170,23 +170,23 @@ module _ {T W : Type 0} where
 
   module _ (c : Channel T W) (seen : List (Channel T W)) where
     -- it is known where the queue's call is now
-    abbrev pub Went : QueueAsk T → QueueMark → queue.Stage T → queue.Stage T → List (Deed T W) → Type 0
+    abbrev pub Went : QueueAsk T → QueueMark → queue.Stage T → queue.Stage T → List (MarkedMoment T W) → Type 0
     Went a m s t ds =
-        TryAt (next_channel a s m c) a t (with_deed ds (mark_of_queue m) c seen) (next_channel a s m c ∷ seen)
+        TryAt (next_channel a s m c) a t (with_marked ds (mark_of_queue m) c seen) (next_channel a s m c ∷ seen)
 
-    at_stage : (a : QueueAsk T) (m : QueueMark) (s t u : queue.Stage T) (ds : List (Deed T W)) → t ≡ u → Went a m s u ds → Went a m s t ds
+    at_stage : (a : QueueAsk T) (m : QueueMark) (s t u : queue.Stage T) (ds : List (MarkedMoment T W)) → t ≡ u → Went a m s u ds → Went a m s t ds
     at_stage a m s t u ds e h = subst (λ (x : queue.Stage T). Went a m s x ds) (sym e) h
 
-    at_deeds : (a : QueueAsk T) (m : QueueMark) (s t : queue.Stage T) (ds : List (Deed T W)) → ds ≡ [] → Went a m s t [] → Went a m s t ds
-    at_deeds a m s t ds e h = subst (λ (x : List (Deed T W)). Went a m s t x) (sym e) h
+    at_deeds : (a : QueueAsk T) (m : QueueMark) (s t : queue.Stage T) (ds : List (MarkedMoment T W)) → ds ≡ [] → Went a m s t [] → Went a m s t ds
+    at_deeds a m s t ds e h = subst (λ (x : List (MarkedMoment T W)). Went a m s t x) (sym e) h
 
-    goes_push : (v : T) (m : QueueMark) (s t : queue.Stage T) (ds : List (Deed T W)) → ContinuesPush c.queue m s t → TryAt c (ask.Push v) s ds seen → Went (ask.Push v) m s t ds
+    goes_push : (v : T) (m : QueueMark) (s t : queue.Stage T) (ds : List (MarkedMoment T W)) → ContinuesPush c.queue m s t → TryAt c (ask.Push v) s ds seen → Went (ask.Push v) m s t ds
     goes_push v Nothing (trying b) t ds g ev = at_stage (ask.Push v) Nothing (trying b) t (trying (seen_after b c.queue)) ds g (ev.0, λ e. refusal_seen b c seen ev.1 e)
     goes_push v Nothing (appended None) t ds g ev = at_stage (ask.Push v) Nothing (appended None) t (appended None) ds g ev
     goes_push v Append (trying b) t ds g ev = at_stage (ask.Push v) Append (trying b) t (appended None) ds g.2 (at_deeds (ask.Push v) Append (trying b) (appended None) ds ev.0 (refl, g.0, g.1))
     goes_push v m s t ds g ev = absurd g
 
-    goes_force : (v : T) (m : QueueMark) (s t : queue.Stage T) (ds : List (Deed T W)) → ContinuesForce c.queue m s t → TryAt c (ask.ForcePush v) s ds seen → Went (ask.ForcePush v) m s t ds
+    goes_force : (v : T) (m : QueueMark) (s t : queue.Stage T) (ds : List (MarkedMoment T W)) → ContinuesForce c.queue m s t → TryAt c (ask.ForcePush v) s ds seen → Went (ask.ForcePush v) m s t ds
     goes_force v Nothing (trying b) t ds g ev = at_stage (ask.ForcePush v) Nothing (trying b) t (trying (seen_after b c.queue)) ds g (ev.0, λ e. refusal_seen b c seen ev.1 e)
     goes_force v Nothing (displaced d) t ds g ev = at_stage (ask.ForcePush v) Nothing (displaced d) t (displaced d) ds g ev
     goes_force v Nothing (appended None) t ds g ev = at_stage (ask.ForcePush v) Nothing (appended None) t (appended None) ds g ev
@@ -198,7 +198,7 @@ module _ {T W : Type 0} where
         at_stage (ask.ForcePush v) TakeDisplaced (trying b) t (displaced g.0) ds g.5 (at_deeds (ask.ForcePush v) TakeDisplaced (trying b) (displaced g.0) ds ev.0 (refl, g.3, g.4, g.1, open_once c.queue.capacity (c ∷ seen) (refusal_seen b c seen ev.1 g.2), g.6))
     goes_force v m s t ds g ev = absurd g
 
-    goes_pop : (m : QueueMark) (s t : queue.Stage T) (ds : List (Deed T W)) → ContinuesPop c.queue m s t → TryAt c ask.Pop s ds seen → Went ask.Pop m s t ds
+    goes_pop : (m : QueueMark) (s t : queue.Stage T) (ds : List (MarkedMoment T W)) → ContinuesPop c.queue m s t → TryAt c ask.Pop s ds seen → Went ask.Pop m s t ds
     goes_pop Nothing (trying b) t ds g ev = at_stage ask.Pop Nothing (trying b) t (trying (seen_after b c.queue)) ds g ev
     goes_pop Nothing (taken v) t ds g ev = at_stage ask.Pop Nothing (taken v) t (taken v) ds g ev
     goes_pop Take (trying b) t ds g ev = at_stage ask.Pop Take (trying b) t (taken g.0) ds g.2 (at_deeds ask.Pop Take (trying b) (taken g.0) ds ev (refl, g.1))
@@ -208,21 +208,21 @@ module _ {T W : Type 0} where
     empty_or_not zero e h = let h' : length c.queue.items + c.queue.removed ≡ c.queue.accepted = h in inr (omega arith)
     empty_or_not (suc n) e h = inl (inl (ne_of (length c.queue.items) 0 (λ k. absurd (omega (arith, e, k)))))
 
-    goes_empty : (m : QueueMark) (s t : queue.Stage T) (ds : List (Deed T W)) → ContinuesBy c.queue ask.IsEmpty m s t → IsBalanced c.queue → TryAt c ask.IsEmpty s ds seen → Went ask.IsEmpty m s t ds
+    goes_empty : (m : QueueMark) (s t : queue.Stage T) (ds : List (MarkedMoment T W)) → ContinuesBy c.queue ask.IsEmpty m s t → IsBalanced c.queue → TryAt c ask.IsEmpty s ds seen → Went ask.IsEmpty m s t ds
     goes_empty Nothing (trying b) t ds g h ev = at_stage ask.IsEmpty Nothing (trying b) t (read c.queue.removed) ds g (ev, empty_or_not (length c.queue.items) refl h)
     goes_empty m s t ds g h ev = absurd g
 
-    goes_full : (m : QueueMark) (s t : queue.Stage T) (ds : List (Deed T W)) → ContinuesBy c.queue ask.IsFull m s t → TryAt c ask.IsFull s ds seen → Went ask.IsFull m s t ds
+    goes_full : (m : QueueMark) (s t : queue.Stage T) (ds : List (MarkedMoment T W)) → ContinuesBy c.queue ask.IsFull m s t → TryAt c ask.IsFull s ds seen → Went ask.IsFull m s t ds
     goes_full Nothing (trying b) t ds g ev = at_stage ask.IsFull Nothing (trying b) t (read c.queue.accepted) ds g.0 (ev, g.1, inr refl)
     goes_full m s t ds g ev = absurd g
 
-    goes_len : (m : QueueMark) (s t : queue.Stage T) (ds : List (Deed T W)) → ContinuesBy c.queue ask.Len m s t → TryAt c ask.Len s ds seen → Went ask.Len m s t ds
+    goes_len : (m : QueueMark) (s t : queue.Stage T) (ds : List (MarkedMoment T W)) → ContinuesBy c.queue ask.Len m s t → TryAt c ask.Len s ds seen → Went ask.Len m s t ds
     goes_len Nothing (trying b) t ds g ev = at_stage ask.Len Nothing (trying b) t (read c.queue.accepted) ds g ev
     goes_len Nothing (read n) t ds g ev = at_stage ask.Len Nothing (read n) t (measured n (length c.queue.items)) ds g (ev, inl refl)
     goes_len Nothing (measured n k) t ds g ev = at_stage ask.Len Nothing (measured n k) t (trying false) ds g ev.0
     goes_len m s t ds g ev = absurd g
 
-    pub goes : (a : QueueAsk T) (m : QueueMark) (s t : queue.Stage T) (ds : List (Deed T W)) → ContinuesBy c.queue a m s t → IsBalanced c.queue → TryAt c a s ds seen → Went a m s t ds
+    pub goes : (a : QueueAsk T) (m : QueueMark) (s t : queue.Stage T) (ds : List (MarkedMoment T W)) → ContinuesBy c.queue a m s t → IsBalanced c.queue → TryAt c a s ds seen → Went a m s t ds
     goes (ask.Push v) m s t ds g h ev = goes_push v m s t ds g ev
     goes (ask.ForcePush v) m s t ds g h ev = goes_force v m s t ds g ev
     goes ask.Pop m s t ds g h ev = goes_pop m s t ds g ev
@@ -235,48 +235,48 @@ module _ {T W : Type 0} where
 
   -- ---- what a call has taken before
 
-  pub behind_more : (ds : List (Deed T W)) (seen : List (Channel T W)) (d : Channel T W) → AreBehind ds seen → AreBehind ds (d ∷ seen)
+  pub behind_more : (ds : List (MarkedMoment T W)) (seen : List (Channel T W)) (d : Channel T W) → AreBehind ds seen → AreBehind ds (d ∷ seen)
   behind_more [] seen d h = tt
   behind_more (x ∷ ds) seen d h = ((d ∷ h.0.0, ap (λ (cs : List (Channel T W)). d ∷ cs) h.0.1), behind_more ds seen d h.1)
 
-  behind_last : (ds : List (Deed T W)) (x : Deed T W) (d : Channel T W) → AreBehind ds x.seen → AreBehind (ds ++ x ∷ []) (d ∷ x.seen)
+  behind_last : (ds : List (MarkedMoment T W)) (x : MarkedMoment T W) (d : Channel T W) → AreBehind ds x.seen → AreBehind (ds ++ x ∷ []) (d ∷ x.seen)
   behind_last [] x d h = ((d ∷ [], refl), tt)
   behind_last (y ∷ ds) x d h = ((d ∷ h.0.0, ap (λ (cs : List (Channel T W)). d ∷ cs) h.0.1), behind_last ds x d h.1)
 
-  behind_next : (ds : List (Deed T W)) (m : Mark) (c : Channel T W) (seen : List (Channel T W)) (d : Channel T W) → AreBehind ds seen → AreBehind (with_deed ds m c seen) (d ∷ seen)
+  behind_next : (ds : List (MarkedMoment T W)) (m : Mark) (c : Channel T W) (seen : List (Channel T W)) (d : Channel T W) → AreBehind ds seen → AreBehind (with_marked ds m c seen) (d ∷ seen)
   behind_next ds mark.Nothing c seen d h = behind_more ds seen d h
   behind_next ds m c seen d h = behind_last ds (record { mark = m; before = c; seen = seen }) d h
 
-  deed_after : (before mine : List (Deed T W)) (m : Mark) (c : Channel T W) (seen : List (Channel T W)) → with_deed (before ++ mine) m c seen ≡ before ++ with_deed mine m c seen
+  deed_after : (before mine : List (MarkedMoment T W)) (m : Mark) (c : Channel T W) (seen : List (Channel T W)) → with_marked (before ++ mine) m c seen ≡ before ++ with_marked mine m c seen
   deed_after before mine mark.Nothing c seen = refl
   deed_after before mine m c seen = append_assoc before mine (record { mark = m; before = c; seen = seen } ∷ [])
 
-  taken_on : (vs : List T) (ds mine : List (Deed T W)) (m : Mark) (c : Channel T W) (seen : List (Channel T W)) (d : Channel T W) → HasTaken vs ds mine seen
-      → HasTaken vs (with_deed ds m c seen) (with_deed mine m c seen) (d ∷ seen)
+  taken_on : (vs : List T) (ds mine : List (MarkedMoment T W)) (m : Mark) (c : Channel T W) (seen : List (Channel T W)) (d : Channel T W) → HasTaken vs ds mine seen
+      → HasTaken vs (with_marked ds m c seen) (with_marked mine m c seen) (d ∷ seen)
   taken_on vs ds mine m c seen d t =
       record {
         before = t.before;
-        all = ap (λ (xs : List (Deed T W)). with_deed xs m c seen) t.all ∙ deed_after t.before mine m c seen;
+        all = ap (λ (xs : List (MarkedMoment T W)). with_marked xs m c seen) t.all ∙ deed_after t.before mine m c seen;
         took = t.took;
         behind = behind_next ds m c seen d t.behind;
       }
 
-  pub goes_at : (c : Channel T W) (seen : List (Channel T W)) (y : Aim T W) (a : QueueAsk T) (m : QueueMark) (s t : queue.Stage T) (ds : List (Deed T W))
+  pub goes_at : (c : Channel T W) (seen : List (Channel T W)) (y : Aim T W) (a : QueueAsk T) (m : QueueMark) (s t : queue.Stage T) (ds : List (MarkedMoment T W))
       → ContinuesBy c.queue a m s t → IsBalanced c.queue → TriesAt c y a s ds seen
-      → TriesAt (next_channel a s m c) y a t (with_deed ds (mark_of_queue m) c seen) (next_channel a s m c ∷ seen)
+      → TriesAt (next_channel a s m c) y a t (with_marked ds (mark_of_queue m) c seen) (next_channel a s m c ∷ seen)
   goes_at c seen (aim.RecvMany r) a m s t ds g h ev =
-      (with_deed ev.0 (mark_of_queue m) c seen, taken_on r.taken ds ev.0 (mark_of_queue m) c seen (next_channel a s m c) ev.1, goes c seen a m s t ev.0 g h ev.2)
+      (with_marked ev.0 (mark_of_queue m) c seen, taken_on r.taken ds ev.0 (mark_of_queue m) c seen (next_channel a s m c) ev.1, goes c seen a m s t ev.0 g h ev.2)
   goes_at c seen y a m s t ds g h ev = goes c seen a m s t ds g h ev
 
   -- ---- a new moment leaves the queue's call one of this call
 
-  last_left : (side : Side) (c : Channel T W) (ds es : List (Deed T W)) (seen : List (Channel T W)) → es ≡ ds → LeftLast side ds seen → LeftLast side es (c ∷ seen)
+  last_left : (side : Side) (c : Channel T W) (ds es : List (MarkedMoment T W)) (seen : List (Channel T W)) → es ≡ ds → LeftLast side ds seen → LeftLast side es (c ∷ seen)
   last_left side c [] es seen e h = absurd h
   last_left side c (d ∷ []) es seen e h =
-      subst (λ (xs : List (Deed T W)). LeftLast side xs (c ∷ seen)) (sym e) (h.0, h.1, c ∷ h.2, ap (λ (cs : List (Channel T W)). c ∷ cs) h.3)
+      subst (λ (xs : List (MarkedMoment T W)). LeftLast side xs (c ∷ seen)) (sym e) (h.0, h.1, c ∷ h.2, ap (λ (cs : List (Channel T W)). c ∷ cs) h.3)
   last_left side c (d ∷ f ∷ ds) es seen e h = absurd h
 
-  pub tries_more : (c : Channel T W) (ds es : List (Deed T W)) (seen : List (Channel T W)) (x : ChannelAsk T W) (y : Aim T W) (a : QueueAsk T) → (IsClosing a → es ≡ ds) → TriesFor x y a ds seen → TriesFor x y a es (c ∷ seen)
+  pub tries_more : (c : Channel T W) (ds es : List (MarkedMoment T W)) (seen : List (Channel T W)) (x : ChannelAsk T W) (y : Aim T W) (a : QueueAsk T) → (IsClosing a → es ≡ ds) → TriesFor x y a ds seen → TriesFor x y a es (c ∷ seen)
   tries_more c ds es seen (channel.TrySend m) aim.TrySend (ask.Push v) e h = h
   tries_more c ds es seen (channel.ForceSend m) aim.ForceSend (ask.ForcePush v) e h = h
   tries_more c ds es seen channel.TryRecv aim.TryRecv ask.Pop e h = h
@@ -316,7 +316,7 @@ module _ {T W : Type 0} where
     refused_before : Once (Refuses c.queue.capacity) seen → Once (Refuses c'.queue.capacity) (c' ∷ seen)
     refused_before h = inr (subst (λ (cap : Option ℕ). Once (Refuses cap) seen) (sym p.capacity) h)
 
-    pub try_stays : (a : QueueAsk T) (s : queue.Stage T) (ds : List (Deed T W)) → TryAt c a s ds seen → TryAt c' a s ds (c' ∷ seen)
+    pub try_stays : (a : QueueAsk T) (s : queue.Stage T) (ds : List (MarkedMoment T W)) → TryAt c a s ds seen → TryAt c' a s ds (c' ∷ seen)
     try_stays (ask.Push v) (trying b) ds ev = (ev.0, λ e. refused_before (ev.1 e))
     try_stays (ask.Push v) (appended None) ds ev = ev
     try_stays (ask.ForcePush v) (trying b) ds ev = (ev.0, λ e. refused_before (ev.1 e))
@@ -337,7 +337,7 @@ module _ {T W : Type 0} where
     try_stays ask.Capacity (trying b) ds ev = ev
     try_stays a s ds ev = absurd ev
 
-    pub tries_stay : (y : Aim T W) (a : QueueAsk T) (s : queue.Stage T) (ds : List (Deed T W)) → TriesAt c y a s ds seen → TriesAt c' y a s ds (c' ∷ seen)
+    pub tries_stay : (y : Aim T W) (a : QueueAsk T) (s : queue.Stage T) (ds : List (MarkedMoment T W)) → TriesAt c y a s ds seen → TriesAt c' y a s ds (c' ∷ seen)
     tries_stay (aim.RecvMany r) a s ds ev =
         let t = ev.1 in
         (ev.0, record { before = t.before; all = t.all; took = t.took; behind = behind_more ds seen c' t.behind }, try_stays a s ev.0 ev.2)

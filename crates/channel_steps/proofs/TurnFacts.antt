@@ -17,13 +17,13 @@ use Rattle.channel_calls.specs.declared.stage.Waiting.{Waiting}
 use Rattle.channel_calls.specs.declared.stage.Waiting.TheVariants as waiting
 use Rattle.channel_calls.specs.declared.stage.Work.TheVariants.{Leave}
 use Rattle.event_listener.specs.declared.key.Key.{Key}
-use Rattle.channel_steps.specs.Moments.{Deed}
+use Rattle.channel_steps.specs.Moments.{MarkedMoment}
 use Rattle.channel_steps.specs.Answers.{Keeps, Row, Met}
 use Rattle.channel_steps.specs.Known.{TriesFor, TriesAt, IsFor, Answered, WorkAt, StageAt, to_tell, ToldAt}
 use Rattle.channel_steps.specs.Tellings.{Telling, owed}
 
 module _ {T W : Type 0} where
-  module _ (c : Channel T W) (x : ChannelAsk T W) (told : List Telling) (ds : List (Deed T W)) (seen : List (Channel T W)) where
+  module _ (c : Channel T W) (x : ChannelAsk T W) (told : List Telling) (ds : List (MarkedMoment T W)) (seen : List (Channel T W)) where
     -- what is known of a call that takes this turn
     abbrev pub TurnAt : Turn T W → Type 0
     TurnAt (Tries a aim) = (TriesFor x aim a ds seen × TriesAt c aim a (trying false) ds seen) × (told ≡ [])
@@ -58,22 +58,22 @@ module _ {T W : Type 0} where
     ended e h k = held_or_not e e.held h k
 
   -- the row was met by this very moment
-  pub met : (x : ChannelAsk T W) (ds : List (Deed T W)) (seen : List (Channel T W)) (y : Reply T) → Row x ds seen y → Met x ds seen y
+  pub met : (x : ChannelAsk T W) (ds : List (MarkedMoment T W)) (seen : List (Channel T W)) (y : Reply T) → Row x ds seen y → Met x ds seen y
   met x ds seen y h = ([], seen, refl, h)
 
   -- and stays met
-  pub met_more : (c : Channel T W) (x : ChannelAsk T W) (ds : List (Deed T W)) (seen : List (Channel T W)) (y : Reply T) → Met x ds seen y → Met x ds (c ∷ seen) y
+  pub met_more : (c : Channel T W) (x : ChannelAsk T W) (ds : List (MarkedMoment T W)) (seen : List (Channel T W)) (y : Reply T) → Met x ds seen y → Met x ds (c ∷ seen) y
   met_more c x ds seen y h = (c ∷ h.0, h.1, ap (λ (cs : List (Channel T W)). c ∷ cs) h.2, h.3)
 
   -- a call with no marks has told nobody, and owes nothing
-  pub owes_nothing : (ds : List (Deed T W)) → ds ≡ [] → let none : List Telling = [] in none ≡ owed ds
-  owes_nothing ds e = ap (λ (xs : List (Deed T W)). owed xs) (sym e)
+  pub owes_nothing : (ds : List (MarkedMoment T W)) → ds ≡ [] → let none : List Telling = [] in none ≡ owed ds
+  owes_nothing ds e = ap (λ (xs : List (MarkedMoment T W)). owed xs) (sym e)
 
-  pub told_nobody : (told : List Telling) (ds : List (Deed T W)) → told ++ [] ≡ owed ds → ds ≡ [] → told ≡ []
+  pub told_nobody : (told : List Telling) (ds : List (MarkedMoment T W)) → told ++ [] ≡ owed ds → ds ≡ [] → told ≡ []
   told_nobody told ds h e = sym (append-nil told) ∙ h ∙ sym (owes_nothing ds e)
 
   -- a poll tries once more
-  pub tries_again : (c : Channel T W) (told : List Telling) (ds : List (Deed T W)) (seen : List (Channel T W)) (x : ChannelAsk T W) (w : Waiting T) (key : Option Key) (task : W)
+  pub tries_again : (c : Channel T W) (told : List Telling) (ds : List (MarkedMoment T W)) (seen : List (Channel T W)) (x : ChannelAsk T W) (w : Waiting T) (key : Option Key) (task : W)
       → IsFor x w → ds ≡ [] → told ≡ [] → TurnAt c x told ds seen (again w key task)
   tries_again c told ds seen (channel.PollSend m k t) (waiting.Send v) key task h e n = ((h, (e, λ no. absurd (let z : false ≡ true = no in cc))), n)
   tries_again c told ds seen (channel.PollRecv k t) waiting.Receive key task h e n = ((tt, e), n)

@@ -35,7 +35,7 @@ use Rattle.channel_calls.specs.declared.stage.Waiting.{Waiting}
 use Rattle.channel_calls.specs.declared.stage.Waiting.TheVariants as waiting
 use Rattle.channel_calls.specs.declared.stage.Work.{Work}
 use Rattle.channel_calls.specs.declared.stage.Work.TheVariants.{TellReceive, TellStreams, TellSend, TellSends, TakeRoom, TellAll, Insert, Register, Leave, Lower, Count, Load, Raise}
-use Rattle.channel_steps.specs.Moments.{Deed, with_deed, Open, Once, TookAll}
+use Rattle.channel_steps.specs.Moments.{MarkedMoment, with_marked, Open, Once, TookAll}
 use Rattle.channel_steps.specs.Answers.{WaitsFor, asks_first}
 use Rattle.channel_steps.specs.Known.{AreBehind, IsFor, Makes, Drops, MayRaise, Answered, WorkAt, to_tell}
 use Rattle.channel_steps.specs.Tellings.{Telling, one_of, more_of, all_of, owed, telling}
@@ -69,10 +69,10 @@ module _ {T W : Type 0} where
   makes_more (channel.Upgrade s) side making.Upgrade c seen h = (h.0, inr h.1)
   makes_more x side m c seen h = absurd h
 
-  pub answered_more : (x : ChannelAsk T W) (e : Ending T) (c : Channel T W) (ds : List (Deed T W)) (seen : List (Channel T W)) → Answered x e ds seen → Answered x e ds (c ∷ seen)
+  pub answered_more : (x : ChannelAsk T W) (e : Ending T) (c : Channel T W) (ds : List (MarkedMoment T W)) (seen : List (Channel T W)) → Answered x e ds seen → Answered x e ds (c ∷ seen)
   answered_more x e c ds seen h = (met_more c x ds seen e.reply h.0, h.1)
 
-  pub work_more : (x : ChannelAsk T W) (w : Work T W) (c : Channel T W) (ds : List (Deed T W)) (seen : List (Channel T W)) → WorkAt x w ds seen → WorkAt x w ds (c ∷ seen)
+  pub work_more : (x : ChannelAsk T W) (w : Work T W) (c : Channel T W) (ds : List (MarkedMoment T W)) (seen : List (Channel T W)) → WorkAt x w ds seen → WorkAt x w ds (c ∷ seen)
   work_more x (TellReceive e) c ds seen h = answered_more x e c ds seen h
   work_more x (TellStreams e) c ds seen h = answered_more x e c ds seen h
   work_more x (TellSend e) c ds seen h = answered_more x e c ds seen h
@@ -87,7 +87,7 @@ module _ {T W : Type 0} where
   work_more x (Load side making) c ds seen h = (makes_more x side making c seen h.0, h.1)
   work_more x (Raise side n making) c ds seen h = (makes_more x side making c seen h.0, h.1, h.2)
 
-  module _ (d : Channel T W) (ds : List (Deed T W)) (seen : List (Channel T W)) where
+  module _ (d : Channel T W) (ds : List (MarkedMoment T W)) (seen : List (Channel T W)) where
     -- ---- a poll
 
     -- it was not let listen
@@ -117,12 +117,12 @@ module _ {T W : Type 0} where
     -- ---- a handle is dropped
 
     lowered_at : (x : ChannelAsk T W) (side : Side) (key : Option Key) (b : Bool) → (count side c.roster == 1) ≡ b → Drops x side
-        → TurnAt d x [] (with_deed [] (down side) c seen) (d ∷ seen) (if b then Tries ask.Close (aim.Close (dropper side key)) else ends_by (closer_ending (dropper side key) false))
+        → TurnAt d x [] (with_marked [] (down side) c seen) (d ∷ seen) (if b then Tries ask.Close (aim.Close (dropper side key)) else ends_by (closer_ending (dropper side key) false))
     lowered_at channel.DropSender Senders key true e h = (((refl, eq_of (count Senders c.roster) 1 e, d ∷ [], refl), tt), refl)
     lowered_at channel.DropSender Senders key false e h = ((([], d ∷ seen, refl, ((refl, inl (λ k. not_one (count Senders c.roster) e k)), refl)), refl), refl)
     lowered_at (channel.DropReceiver k) Receivers key true e h = (((refl, eq_of (count Receivers c.roster) 1 e, d ∷ [], refl), tt), refl)
     lowered_at (channel.DropReceiver k) Receivers key false e h =
-        ended d (channel.DropReceiver k) [] (with_deed [] (down Receivers) c seen) (d ∷ seen) (closer_ending (dropper Receivers key) false)
+        ended d (channel.DropReceiver k) [] (with_marked [] (down Receivers) c seen) (d ∷ seen) (closer_ending (dropper Receivers key) false)
         (([], d ∷ seen, refl, ((refl, inl (λ j. not_one (count Receivers c.roster) e j)), refl)), refl) refl
     lowered_at x side key b e h = absurd h
 
@@ -132,68 +132,68 @@ module _ {T W : Type 0} where
     same_roster P side s e f h =
         subst (λ (z : Side). P (count z d.roster)) e (subst (λ (a : Roster W). P (count side a)) (sym f) h)
 
-    cloned_at : (ds : List (Deed T W)) (s side : Side) (b : Bool) → nat_lt most (count side c.roster) ≡ b → side ≡ s → d.roster ≡ c.roster → ds ≡ []
+    cloned_at : (ds : List (MarkedMoment T W)) (s side : Side) (b : Bool) → nat_lt most (count side c.roster) ≡ b → side ≡ s → d.roster ≡ c.roster → ds ≡ []
         → TurnAt d (channel.CloneHandle s) [] ds (d ∷ seen) (if b then Ends reply.TooMany nothing_kept else Works (Raise side (count side c.roster) making.Clone))
     cloned_at ds s side true e h f k = ((([], d ∷ seen, refl, (k, inl (same_roster (λ n. most < n) side s h f (past_most (count side c.roster) e)))), refl), owes_nothing ds k)
     cloned_at ds s side false e h f k = ((h, k, most_of (count side c.roster) e), owes_nothing ds k)
 
-    checked_at : (ds : List (Deed T W)) (s side : Side) (b : Bool) → nat_lt most (count side c.roster) ≡ b → side ≡ s → d.roster ≡ c.roster → 0 < count side c.roster → Once Open seen → ds ≡ []
+    checked_at : (ds : List (MarkedMoment T W)) (s side : Side) (b : Bool) → nat_lt most (count side c.roster) ≡ b → side ≡ s → d.roster ≡ c.roster → 0 < count side c.roster → Once Open seen → ds ≡ []
         → TurnAt d (channel.Upgrade s) [] ds (d ∷ seen) (if b then Ends reply.TooMany nothing_kept else Works (Raise side (count side c.roster) making.Upgrade))
     checked_at ds s side true e h f some o k =
         ((([], d ∷ seen, refl, (k, inl (same_roster (λ n. most < n) side s h f (past_most (count side c.roster) e), inr o))), refl), owes_nothing ds k)
     checked_at ds s side false e h f some o k = (((h, inr o), k, (some, most_of (count side c.roster) e)), owes_nothing ds k)
 
-    renewed_at : (ds : List (Deed T W)) (s side : Side) (z : Bool) → (count side c.roster == 0) ≡ z → side ≡ s → d.roster ≡ c.roster → Once Open seen → ds ≡ []
+    renewed_at : (ds : List (MarkedMoment T W)) (s side : Side) (z : Bool) → (count side c.roster == 0) ≡ z → side ≡ s → d.roster ≡ c.roster → Once Open seen → ds ≡ []
         → TurnAt d (channel.Upgrade s) [] ds (d ∷ seen) (if z then Ends reply.NotMade nothing_kept else counted_next side making.Upgrade (count side c.roster))
     renewed_at ds s side true e h f o k = ((([], d ∷ seen, refl, (k, inl (inr (same_roster (λ n. n ≡ 0) side s h f (eq_of (count side c.roster) 0 e))))), refl), owes_nothing ds k)
     renewed_at ds s side false e h f o k = checked_at ds s side (nat_lt most (count side c.roster)) refl h f (some_of (count side c.roster) e) o k
 
-    loaded_at : (ds : List (Deed T W)) (x : ChannelAsk T W) (side : Side) (m : Making) → d.roster ≡ c.roster → Makes x side m seen → ds ≡ []
+    loaded_at : (ds : List (MarkedMoment T W)) (x : ChannelAsk T W) (side : Side) (m : Making) → d.roster ≡ c.roster → Makes x side m seen → ds ≡ []
         → TurnAt d x [] ds (d ∷ seen) (loaded_next side m (count side c.roster))
     loaded_at ds (channel.CloneHandle s) side making.Clone f h k = cloned_at ds s side (nat_lt most (count side c.roster)) refl h f k
     loaded_at ds (channel.Upgrade s) side making.Upgrade f h k = renewed_at ds s side (count side c.roster == 0) refl h.0 f h.1 k
     loaded_at ds x side m f h k = absurd h
 
-    raised_clone : (side : Side) → count side c.roster ≤ most → TurnAt d (channel.CloneHandle side) [] (with_deed [] (up side) c seen) (d ∷ seen) (raised_next side making.Clone true)
+    raised_clone : (side : Side) → count side c.roster ≤ most → TurnAt d (channel.CloneHandle side) [] (with_marked [] (up side) c seen) (d ∷ seen) (raised_next side making.Clone true)
     raised_clone Senders h = ((([], d ∷ seen, refl, (refl, h)), refl), refl)
     raised_clone Receivers h = ((([], d ∷ seen, refl, (refl, h)), refl), refl)
 
     raised_again : (side : Side) → 0 < count side c.roster → count side c.roster ≤ most → Once Open seen
-        → TurnAt d (channel.Upgrade side) [] (with_deed [] (up side) c seen) (d ∷ seen) (raised_next side making.Upgrade true)
+        → TurnAt d (channel.Upgrade side) [] (with_marked [] (up side) c seen) (d ∷ seen) (raised_next side making.Upgrade true)
     raised_again Senders some h o = ((([], d ∷ seen, refl, (refl, some, h, o)), refl), refl)
     raised_again Receivers some h o = ((([], d ∷ seen, refl, (refl, some, h, o)), refl), refl)
 
     raised_at : (x : ChannelAsk T W) (side : Side) (m : Making) (n : ℕ) → count side c.roster ≡ n → Makes x side m seen → MayRaise m n
-        → TurnAt d x [] (with_deed [] (up side) c seen) (d ∷ seen) (raised_next side m true)
+        → TurnAt d x [] (with_marked [] (up side) c seen) (d ∷ seen) (raised_next side m true)
     raised_at (channel.CloneHandle s) side making.Clone n e h k =
-        subst (λ (z : Side). TurnAt d (channel.CloneHandle z) [] (with_deed [] (up side) c seen) (d ∷ seen) (raised_next side making.Clone true)) h
+        subst (λ (z : Side). TurnAt d (channel.CloneHandle z) [] (with_marked [] (up side) c seen) (d ∷ seen) (raised_next side making.Clone true)) h
         (raised_clone side (subst (λ (i : ℕ). i ≤ most) (sym e) k))
     raised_at (channel.Upgrade s) side making.Upgrade n e h k =
-        subst (λ (z : Side). TurnAt d (channel.Upgrade z) [] (with_deed [] (up side) c seen) (d ∷ seen) (raised_next side making.Upgrade true)) h.0
+        subst (λ (z : Side). TurnAt d (channel.Upgrade z) [] (with_marked [] (up side) c seen) (d ∷ seen) (raised_next side making.Upgrade true)) h.0
         (raised_again side (subst (λ (i : ℕ). 0 < i) (sym e) k.0) (subst (λ (i : ℕ). i ≤ most) (sym e) k.1) h.1)
     raised_at x side m n e h k = absurd h
 
   -- ---- any step on a list or on a count
 
-  module _ (c : Channel T W) (x : ChannelAsk T W) (told : List Telling) (ds : List (Deed T W)) (seen : List (Channel T W)) where
+  module _ (c : Channel T W) (x : ChannelAsk T W) (told : List Telling) (ds : List (MarkedMoment T W)) (seen : List (Channel T W)) where
     -- what is known after a step with the effect e, which told these
     abbrev pub AfterWork : List Telling → Effect T W → Option (Reply T) → Stage (Phase T) T W → Type 0
-    AfterWork ts e r s = After e.channel x (told ++ ts) (with_deed ds e.mark c seen) (e.channel ∷ seen) r s
+    AfterWork ts e r s = After e.channel x (told ++ ts) (with_marked ds e.mark c seen) (e.channel ∷ seen) r s
 
     -- a step that told somebody
     telling_step : (ts : List Telling) (e : Effect T W) (r : Option (Reply T)) (s : Stage (Phase T) T W) (turn : Turn T W) → e.mark ≡ Nothing → Turned turn r s
         → TurnAt e.channel x (told ++ ts) ds (e.channel ∷ seen) turn → AfterWork ts e r s
     telling_step ts e r s turn m t h =
-        subst (λ (z : Mark). After e.channel x (told ++ ts) (with_deed ds z c seen) (e.channel ∷ seen) r s) (sym m)
+        subst (λ (z : Mark). After e.channel x (told ++ ts) (with_marked ds z c seen) (e.channel ∷ seen) r s) (sym m)
         (turned_at e.channel x (told ++ ts) ds (e.channel ∷ seen) turn r s t h)
 
     -- a step of a call that has told nobody
     first_step : (m : Mark) (e : Effect T W) (r : Option (Reply T)) (s : Stage (Phase T) T W) (turn : Turn T W) → e.mark ≡ m → told ≡ [] → Turned turn r s
-        → TurnAt e.channel x [] (with_deed ds m c seen) (e.channel ∷ seen) turn → AfterWork [] e r s
+        → TurnAt e.channel x [] (with_marked ds m c seen) (e.channel ∷ seen) turn → AfterWork [] e r s
     first_step m e r s turn same none t h =
-        subst (λ (z : Mark). After e.channel x (told ++ []) (with_deed ds z c seen) (e.channel ∷ seen) r s) (sym same)
-        (subst (λ (ts : List Telling). After e.channel x (ts ++ []) (with_deed ds m c seen) (e.channel ∷ seen) r s) (sym none)
-        (turned_at e.channel x [] (with_deed ds m c seen) (e.channel ∷ seen) turn r s t h))
+        subst (λ (z : Mark). After e.channel x (told ++ []) (with_marked ds z c seen) (e.channel ∷ seen) r s) (sym same)
+        (subst (λ (ts : List Telling). After e.channel x (ts ++ []) (with_marked ds m c seen) (e.channel ∷ seen) r s) (sym none)
+        (turned_at e.channel x [] (with_marked ds m c seen) (e.channel ∷ seen) turn r s t h))
 
     mark_is : (e f : Effect T W) → e ≡ f → e.mark ≡ f.mark
     mark_is e f h = ap (λ (z : Effect T W). z.mark) h
@@ -221,7 +221,7 @@ module _ {T W : Type 0} where
         → Drops x side → ds ≡ [] → told ≡ [] → AfterWork [] e r s
     dropped side key e r s m t h k n =
         first_step (down side) e r s (lowered_next side key (count side c.roster)) m n t
-        (subst (λ (xs : List (Deed T W)). TurnAt e.channel x [] (with_deed xs (down side) c seen) (e.channel ∷ seen) (lowered_next side key (count side c.roster))) (sym k)
+        (subst (λ (xs : List (MarkedMoment T W)). TurnAt e.channel x [] (with_marked xs (down side) c seen) (e.channel ∷ seen) (lowered_next side key (count side c.roster))) (sym k)
         (lowered_at c e.channel seen x side key (count side c.roster == 1) refl h))
 
     counted : (side : Side) (e : Effect T W) → e.channel.roster ≡ c.roster → x ≡ channel.HandleCount side → ds ≡ []
@@ -234,15 +234,15 @@ module _ {T W : Type 0} where
         → e ≡ (if b then on_count side (n + 1) (up side) c else untouched c) → Turned (raised_next side m b) r s → Makes x side m seen → ds ≡ [] → MayRaise m n → told ≡ [] → AfterWork [] e r s
     raising side n m true e r s is f t h k may none =
         first_step (up side) e r s (raised_next side m true) (mark_is e _ f) none t
-        (subst (λ (xs : List (Deed T W)). TurnAt e.channel x [] (with_deed xs (up side) c seen) (e.channel ∷ seen) (raised_next side m true)) (sym k)
+        (subst (λ (xs : List (MarkedMoment T W)). TurnAt e.channel x [] (with_marked xs (up side) c seen) (e.channel ∷ seen) (raised_next side m true)) (sym k)
         (raised_at c e.channel seen x side m n (same_count (count side c.roster) n (nat_lt n (2 ^ 64 - 1)) is) h may))
     raising side n m false e r s is f t h k may none =
         first_step Nothing e r s (Works (Load side m)) (mark_is e _ f) none t ((makes_more x side m e.channel seen h, k), owes_nothing ds k)
 
     room_at : (n : ℕ) (d : Channel T W) → ds ≡ [] → TurnAt d (channel.RecvMany n) [] ds (d ∷ seen) (room_next n)
-    room_at zero d e = ((([], d ∷ seen, refl, (subst (λ (xs : List (Deed T W)). TookAll xs []) (sym e) tt, inl refl)), refl), owes_nothing ds e)
+    room_at zero d e = ((([], d ∷ seen, refl, (subst (λ (xs : List (MarkedMoment T W)). TookAll xs []) (sym e) tt, inl refl)), refl), owes_nothing ds e)
     room_at (suc n) d e =
-        ((omega arith, ([], record { before = []; all = e; took = tt; behind = subst (λ (xs : List (Deed T W)). AreBehind xs (d ∷ seen)) (sym e) tt }, refl)), refl)
+        ((omega arith, ([], record { before = []; all = e; took = tt; behind = subst (λ (xs : List (MarkedMoment T W)). AreBehind xs (d ∷ seen)) (sym e) tt }, refl)), refl)
 
     roomed : (n : ℕ) (e : Effect T W) (r : Option (Reply T)) (s : Stage (Phase T) T W) → e.mark ≡ Nothing → x ≡ channel.RecvMany n → ds ≡ [] → told ≡ [] → TakesRoomFor n r s → AfterWork [] e r s
     roomed n e r s m is k none (inl t) =

@@ -19,7 +19,7 @@ use Rattle.channel_calls.specs.declared.stage.Line.{Line}
 use Rattle.channel_calls.specs.declared.stage.Line.TheVariants.{Sends, Receives, Streams, Closings}
 use Rattle.channel_calls.specs.declared.stage.Side.{Side}
 use Rattle.channel_calls.specs.declared.stage.Side.TheVariants.{Senders, Receivers}
-use Rattle.channel_steps.specs.Moments.{Deed, Open, Shut, Crowded, Bare, Spent, Unbounded, is_empty, TooManyOf, Once, Since, Appended, Took, Replaced, Displaced, TookAll, RanOut, ClosedIt, Raised, Upgraded, Dropped}
+use Rattle.channel_steps.specs.Moments.{MarkedMoment, Open, Shut, Crowded, Bare, Spent, Unbounded, is_empty, TooManyOf, Once, Since, Appended, Took, Replaced, Displaced, TookAll, RanOut, ClosedIt, CountRaised, Upgraded, Dropped}
 
 module _ {T : Type 0} where
   -- what a finished poll leaves to its operation, whose message is m
@@ -49,21 +49,21 @@ module _ {T W : Type 0} where
 
   -- ---- the marks and the moments of a call that gives this reply
 
-  abbrev pub TrySendRow : T → List (Deed T W) → List (Channel T W) → Reply T → Type 0
+  abbrev pub TrySendRow : T → List (MarkedMoment T W) → List (Channel T W) → Reply T → Type 0
   TrySendRow m ds seen (reply.TrySend (Ok u)) = Appended ds
   TrySendRow m ds seen (reply.TrySend (Err (refused.Plain (try_send_error.Full v)))) = (v ≡ m) × (ds ≡ []) × Once Crowded seen
   TrySendRow m ds seen (reply.TrySend (Err (refused.Plain (try_send_error.Closed v)))) = (v ≡ m) × (ds ≡ []) × Once Shut seen
   TrySendRow m ds seen (reply.TrySend (Err (refused.NoMemory v))) = (v ≡ m) × (ds ≡ []) × Once Unbounded seen
   TrySendRow m ds seen _ = ⊥
 
-  abbrev pub ForceSendRow : T → List (Deed T W) → List (Channel T W) → Reply T → Type 0
+  abbrev pub ForceSendRow : T → List (MarkedMoment T W) → List (Channel T W) → Reply T → Type 0
   ForceSendRow m ds seen (reply.ForceSend (Ok None)) = Appended ds
   ForceSendRow m ds seen (reply.ForceSend (Ok (Some d))) = Replaced ds d ⊎ Displaced ds d
   ForceSendRow m ds seen (reply.ForceSend (Err (refused.Plain e))) = (e.0 ≡ m) × (ds ≡ []) × Once Shut seen
   ForceSendRow m ds seen (reply.ForceSend (Err (refused.NoMemory v))) = (v ≡ m) × (ds ≡ []) × Once Unbounded seen
   ForceSendRow m ds seen _ = ⊥
 
-  abbrev pub TryRecvRow : List (Deed T W) → List (Channel T W) → Reply T → Type 0
+  abbrev pub TryRecvRow : List (MarkedMoment T W) → List (Channel T W) → Reply T → Type 0
   TryRecvRow ds seen (reply.TryRecv (Ok v)) = Took ds v
   TryRecvRow ds seen (reply.TryRecv (Err try_recv_error.Empty)) = (ds ≡ []) × Once Bare seen
   TryRecvRow ds seen (reply.TryRecv (Err try_recv_error.Closed)) = (ds ≡ []) × Once Spent seen
@@ -71,7 +71,7 @@ module _ {T W : Type 0} where
 
   -- at most so many messages, each the oldest one when it was taken; fewer only where the channel held no more at a moment after
   -- the last one
-  abbrev pub SeveralRow : ℕ → List (Deed T W) → List (Channel T W) → Reply T → Type 0
+  abbrev pub SeveralRow : ℕ → List (MarkedMoment T W) → List (Channel T W) → Reply T → Type 0
   SeveralRow n ds seen (reply.RecvMany (Ok vs)) = TookAll ds vs × ((length vs ≡ n) ⊎ ((length vs < n) × RanOut ds seen))
   SeveralRow n ds seen (reply.RecvMany (Err (refused.Plain try_recv_error.Empty))) = (ds ≡ []) × (0 < n) × Once Bare seen
   SeveralRow n ds seen (reply.RecvMany (Err (refused.Plain try_recv_error.Closed))) = (ds ≡ []) × (0 < n) × Once Spent seen
@@ -79,7 +79,7 @@ module _ {T W : Type 0} where
   SeveralRow n ds seen _ = ⊥
 
   -- of a poll that waits, and asked its listener first, nothing is said but that it made no mark
-  abbrev pub SendPollRow : T → Loan → List (Deed T W) → List (Channel T W) → Reply T → Type 0
+  abbrev pub SendPollRow : T → Loan → List (MarkedMoment T W) → List (Channel T W) → Reply T → Type 0
   SendPollRow m l ds seen (reply.SendPoll (Ready (Ok u))) = Appended ds
   SendPollRow m l ds seen (reply.SendPoll (Ready (Err (refused.Plain e)))) = (e.0 ≡ m) × (ds ≡ []) × Once Shut seen
   SendPollRow m l ds seen (reply.SendPoll (Ready (Err (refused.NoMemory u)))) = (ds ≡ []) × Once Open seen
@@ -87,7 +87,7 @@ module _ {T W : Type 0} where
   SendPollRow m l ds seen (reply.SendPoll Pending) = (ds ≡ []) × (l.asks_first ≡ false → WaitsFor Sends seen)
   SendPollRow m l ds seen _ = ⊥
 
-  abbrev pub RecvPollRow : Loan → List (Deed T W) → List (Channel T W) → Reply T → Type 0
+  abbrev pub RecvPollRow : Loan → List (MarkedMoment T W) → List (Channel T W) → Reply T → Type 0
   RecvPollRow l ds seen (reply.RecvPoll (Ready (Ok v))) = Took ds v
   RecvPollRow l ds seen (reply.RecvPoll (Ready (Err (refused.Plain e)))) = (ds ≡ []) × Once Spent seen
   RecvPollRow l ds seen (reply.RecvPoll (Ready (Err (refused.NoMemory u)))) = (ds ≡ []) × WaitsFor Receives seen
@@ -95,50 +95,50 @@ module _ {T W : Type 0} where
   RecvPollRow l ds seen (reply.RecvPoll Pending) = (ds ≡ []) × (l.asks_first ≡ false → WaitsFor Receives seen)
   RecvPollRow l ds seen _ = ⊥
 
-  abbrev pub ClosedPollRow : List (Deed T W) → List (Channel T W) → Reply T → Type 0
+  abbrev pub ClosedPollRow : List (MarkedMoment T W) → List (Channel T W) → Reply T → Type 0
   ClosedPollRow ds seen (reply.ClosedPoll (Ready (Ok u))) = (ds ≡ []) × Once Shut seen
   ClosedPollRow ds seen (reply.ClosedPoll (Ready (Err e))) = (ds ≡ []) × WaitsFor Closings seen
   ClosedPollRow ds seen (reply.ClosedPoll Pending) = (ds ≡ []) × WaitsFor Closings seen
   ClosedPollRow ds seen _ = ⊥
 
-  abbrev pub NextRow : List (Deed T W) → List (Channel T W) → Reply T → Type 0
+  abbrev pub NextRow : List (MarkedMoment T W) → List (Channel T W) → Reply T → Type 0
   NextRow ds seen (reply.Next (Ready (Some (Ok v)))) = Took ds v
   NextRow ds seen (reply.Next (Ready (Some (Err e)))) = ds ≡ []
   NextRow ds seen (reply.Next (Ready None)) = (ds ≡ []) × Once Spent seen
   NextRow ds seen (reply.Next Pending) = (ds ≡ []) × WaitsFor Streams seen
   NextRow ds seen _ = ⊥
 
-  abbrev pub CloseRow : List (Deed T W) → List (Channel T W) → Reply T → Type 0
+  abbrev pub CloseRow : List (MarkedMoment T W) → List (Channel T W) → Reply T → Type 0
   CloseRow ds seen (reply.Closed true) = ClosedIt ds
   CloseRow ds seen (reply.Closed false) = (ds ≡ []) × Once Shut seen
   CloseRow ds seen _ = ⊥
 
-  abbrev pub CloneRow : Side → List (Deed T W) → List (Channel T W) → Reply T → Type 0
-  CloneRow side ds seen reply.Made = Raised side ds
+  abbrev pub CloneRow : Side → List (MarkedMoment T W) → List (Channel T W) → Reply T → Type 0
+  CloneRow side ds seen reply.Made = CountRaised side ds
   CloneRow side ds seen reply.TooMany = (ds ≡ []) × Once (TooManyOf side) seen
   CloneRow side ds seen _ = ⊥
 
-  abbrev pub UpgradeRow : Side → List (Deed T W) → List (Channel T W) → Reply T → Type 0
+  abbrev pub UpgradeRow : Side → List (MarkedMoment T W) → List (Channel T W) → Reply T → Type 0
   UpgradeRow side ds seen reply.Made = Upgraded side ds
   UpgradeRow side ds seen reply.NotMade = (ds ≡ []) × Once (λ c. Shut c ⊎ (count side c.roster ≡ 0)) seen
   UpgradeRow side ds seen reply.TooMany = (ds ≡ []) × Since Open (TooManyOf side) seen
   UpgradeRow side ds seen _ = ⊥
 
   -- a question: the answer was so at one moment
-  abbrev pub FlagRow : (Channel T W → Bool) → List (Deed T W) → List (Channel T W) → Reply T → Type 0
+  abbrev pub FlagRow : (Channel T W → Bool) → List (MarkedMoment T W) → List (Channel T W) → Reply T → Type 0
   FlagRow test ds seen (reply.Flag b) = (ds ≡ []) × Once (λ c. test c ≡ b) seen
   FlagRow test ds seen _ = ⊥
 
-  abbrev pub CountRow : (Channel T W → ℕ) → List (Deed T W) → List (Channel T W) → Reply T → Type 0
+  abbrev pub CountRow : (Channel T W → ℕ) → List (MarkedMoment T W) → List (Channel T W) → Reply T → Type 0
   CountRow number ds seen (reply.Count n) = (ds ≡ []) × Once (λ c. number c ≡ n) seen
   CountRow number ds seen _ = ⊥
 
-  abbrev pub CapacityRow : List (Deed T W) → List (Channel T W) → Reply T → Type 0
+  abbrev pub CapacityRow : List (MarkedMoment T W) → List (Channel T W) → Reply T → Type 0
   CapacityRow ds seen (reply.Cap cap) = (ds ≡ []) × Once (λ c. c.queue.capacity ≡ cap) seen
   CapacityRow ds seen _ = ⊥
 
   -- a receiver that got its last message: closed at a moment, and then or later empty
-  abbrev pub TerminatedRow : List (Deed T W) → List (Channel T W) → Reply T → Type 0
+  abbrev pub TerminatedRow : List (MarkedMoment T W) → List (Channel T W) → Reply T → Type 0
   TerminatedRow ds seen (reply.Flag true) = (ds ≡ []) × Since Shut (λ c. is_empty c ≡ true) seen
   TerminatedRow ds seen (reply.Flag false) = (ds ≡ []) × Once (λ c. Open c ⊎ (is_empty c ≡ false)) seen
   TerminatedRow ds seen _ = ⊥
@@ -153,7 +153,7 @@ module _ {T W : Type 0} where
   sole_reply Make = reply.Made
   sole_reply ask = reply.Unit
 
-  abbrev pub Row : ChannelAsk T W → List (Deed T W) → List (Channel T W) → Reply T → Type 0
+  abbrev pub Row : ChannelAsk T W → List (MarkedMoment T W) → List (Channel T W) → Reply T → Type 0
   Row (TrySend m) ds seen r = TrySendRow m ds seen r
   Row (ForceSend m) ds seen r = ForceSendRow m ds seen r
   Row TryRecv ds seen r = TryRecvRow ds seen r
@@ -187,5 +187,5 @@ module _ {T W : Type 0} where
   Keeps ask r k = k ≡ nothing_kept
 
   -- by some moment of the call, its marks and moments were what its reply says
-  abbrev pub Met : ChannelAsk T W → List (Deed T W) → List (Channel T W) → Reply T → Type 0
+  abbrev pub Met : ChannelAsk T W → List (MarkedMoment T W) → List (Channel T W) → Reply T → Type 0
   Met ask ds seen r = (newer older : List (Channel T W)) × (seen ≡ newer ++ older) × Row ask ds older r

@@ -24,7 +24,7 @@ use Rattle.channel_calls.specs.declared.stage.Waiting.{Waiting}
 use Rattle.channel_calls.specs.declared.stage.Waiting.TheVariants as waiting
 use Rattle.channel_calls.specs.declared.stage.Work.{Work}
 use Rattle.channel_calls.specs.declared.stage.Work.TheVariants.{TellReceive, TellStreams, TellSend, TellSends, TakeRoom, TellAll, Insert, Register, Leave, Lower, Count, Load, Raise}
-use Rattle.channel_steps.specs.Moments.{Deed, Open, Shut, HasRoom, Refuses, HasMessage, Once, Appended, Took, TookAll, Replaced, MadeRoom, Displaced, LeftLast}
+use Rattle.channel_steps.specs.Moments.{MarkedMoment, Open, Shut, HasRoom, Refuses, HasMessage, Once, Appended, Took, TookAll, Replaced, MadeRoom, Displaced, LeftLast}
 use Rattle.channel_steps.specs.Answers.{WaitsFor, asks_first, Keeps, Met}
 use Rattle.channel_steps.specs.Tellings.{Telling, one_of, more_of, all_of, owed}
 
@@ -62,7 +62,7 @@ module _ {T W : Type 0} where
   -- ---- while the queue has the next step
 
   -- the queue's call is one of this call, made for this
-  abbrev pub TriesFor : ChannelAsk T W → Aim T W → QueueAsk T → List (Deed T W) → List (Channel T W) → Type 0
+  abbrev pub TriesFor : ChannelAsk T W → Aim T W → QueueAsk T → List (MarkedMoment T W) → List (Channel T W) → Type 0
   TriesFor (TrySend m) aim.TrySend (ask.Push v) ds seen = v ≡ m
   TriesFor (ForceSend m) aim.ForceSend (ask.ForcePush v) ds seen = v ≡ m
   TriesFor TryRecv aim.TryRecv ask.Pop ds seen = Unit {0}
@@ -85,7 +85,7 @@ module _ {T W : Type 0} where
   TriesFor _ _ _ ds seen = ⊥
 
   -- a count that a question read still says something of the moments
-  abbrev pub TryAt : Channel T W → QueueAsk T → queue.Stage T → List (Deed T W) → List (Channel T W) → Type 0
+  abbrev pub TryAt : Channel T W → QueueAsk T → queue.Stage T → List (MarkedMoment T W) → List (Channel T W) → Type 0
   TryAt now (ask.Push v) (trying b) ds seen = (ds ≡ []) × (b ≡ true → Once (Refuses now.queue.capacity) seen)
   TryAt now (ask.Push v) (appended None) ds seen = Appended ds
   TryAt now (ask.ForcePush v) (trying b) ds seen = (ds ≡ []) × (b ≡ true → Once (Refuses now.queue.capacity) seen)
@@ -107,19 +107,19 @@ module _ {T W : Type 0} where
   TryAt now _ _ ds seen = ⊥
 
   -- these marks were made at moments of this call
-  abbrev pub AreBehind : List (Deed T W) → List (Channel T W) → Type 0
+  abbrev pub AreBehind : List (MarkedMoment T W) → List (Channel T W) → Type 0
   AreBehind [] seen = Unit {0}
   AreBehind (d ∷ ds) seen = ((newer : List (Channel T W)) × (seen ≡ newer ++ d.seen)) × AreBehind ds seen
 
   -- a call that takes several messages has those that it took at earlier tries
-  pub record HasTaken (taken : List T) (ds mine : List (Deed T W)) (seen : List (Channel T W)) : Type 0 where
-    pub before : List (Deed T W)
+  pub record HasTaken (taken : List T) (ds mine : List (MarkedMoment T W)) (seen : List (Channel T W)) : Type 0 where
+    pub before : List (MarkedMoment T W)
     pub all : ds ≡ before ++ mine
     pub took : TookAll before taken
     pub behind : AreBehind ds seen
 
-  abbrev pub TriesAt : Channel T W → Aim T W → QueueAsk T → queue.Stage T → List (Deed T W) → List (Channel T W) → Type 0
-  TriesAt now (aim.RecvMany g) a s ds seen = (mine : List (Deed T W)) × HasTaken g.taken ds mine seen × TryAt now a s mine seen
+  abbrev pub TriesAt : Channel T W → Aim T W → QueueAsk T → queue.Stage T → List (MarkedMoment T W) → List (Channel T W) → Type 0
+  TriesAt now (aim.RecvMany g) a s ds seen = (mine : List (MarkedMoment T W)) × HasTaken g.taken ds mine seen × TryAt now a s mine seen
   TriesAt now _ a s ds seen = TryAt now a s ds seen
 
   -- ---- while a list or a count has the next step
@@ -145,10 +145,10 @@ module _ {T W : Type 0} where
   Drops _ _ = ⊥
 
   -- the answer is fixed
-  abbrev pub Answered : ChannelAsk T W → Ending T → List (Deed T W) → List (Channel T W) → Type 0
+  abbrev pub Answered : ChannelAsk T W → Ending T → List (MarkedMoment T W) → List (Channel T W) → Type 0
   Answered ask x ds seen = Met ask ds seen x.reply × Keeps ask x.reply (leaving None x.message)
 
-  abbrev pub WorkAt : ChannelAsk T W → Work T W → List (Deed T W) → List (Channel T W) → Type 0
+  abbrev pub WorkAt : ChannelAsk T W → Work T W → List (MarkedMoment T W) → List (Channel T W) → Type 0
   WorkAt ask (TellReceive x) ds seen = Answered ask x ds seen
   WorkAt ask (TellStreams x) ds seen = Answered ask x ds seen
   WorkAt ask (TellSend x) ds seen = Answered ask x ds seen
@@ -164,7 +164,7 @@ module _ {T W : Type 0} where
   WorkAt ask (Raise side n making) ds seen = Makes ask side making seen × (ds ≡ []) × MayRaise making n
 
   -- by the stage of a call; one that has answered is under way no more
-  abbrev pub StageAt : Channel T W → ChannelAsk T W → Stage (Phase T) T W → List (Deed T W) → List (Channel T W) → Type 0
+  abbrev pub StageAt : Channel T W → ChannelAsk T W → Stage (Phase T) T W → List (MarkedMoment T W) → List (Channel T W) → Type 0
   StageAt now ask (Trying f aim) ds seen = TriesFor ask aim f.ask ds seen × TriesAt now aim f.ask f.stage ds seen
   StageAt now ask (Working w) ds seen = WorkAt ask w ds seen
   StageAt now ask (Finished kept) ds seen = ⊥
@@ -180,7 +180,7 @@ module _ {T W : Type 0} where
   to_tell _ = []
 
   -- what was told and what is left are what its marks owe; nothing is told while the queue has the next step
-  abbrev pub ToldAt : List Telling → Stage (Phase T) T W → List (Deed T W) → Type 0
+  abbrev pub ToldAt : List Telling → Stage (Phase T) T W → List (MarkedMoment T W) → Type 0
   ToldAt told (Trying f aim) ds = told ≡ []
   ToldAt told (Working w) ds = told ++ to_tell w ≡ owed ds
   ToldAt told (Finished kept) ds = ⊥

@@ -1,4 +1,4 @@
--- How many more steps of its own a call under way makes at most, where nobody holds it up.
+-- How many more steps of its own a call under way makes at most, where the others are quiet.
 use Rattle.std.specs.Prelude.{ℕ, ◌+◌, ◌*◌, if◌then◌else◌, List, map, slice_get, unwrap_or, None, Some}
 use Rattle.concurrent_queue.specs.Contents.{Contents}
 use Rattle.concurrent_queue.specs.Step.{rank}
@@ -16,19 +16,39 @@ use Rattle.channel_calls.specs.declared.stage.Work.TheVariants.{TellReceive, Tel
 use Rattle.channel_steps.specs.Known.{left_to_tell}
 use Rattle.channel_steps.specs.declared.party.Party.{Party}
 
+-- ---- how many steps that takes at most
+
+-- a call of the queue: 63, and the one that answers
+abbrev pub one_try : ℕ
+one_try = 63 + 1
+
+-- a listener comes in, its poll tries once more, tells twice, and the listener leaves
+abbrev pub listening_try : ℕ
+listening_try = 1 + one_try + 3
+
+-- a listener that was told is used up, its poll tries without one, and goes on as one that has none
+abbrev pub told_try : ℕ
+told_try = 1 + one_try + listening_try
+
+-- all that a call may have left that takes so many messages more than one: a poll that tries with a listener, which another call
+-- tells by then
+abbrev pub most_left : ℕ → ℕ
+most_left more = one_try + told_try + one_try * more
+
+-- ---- how many are left
+
 -- after a call of the queue, by what that is for: a poll that holds no listener listens and tries once more; one whose listener
 -- waits ends pending; one whose listener was told goes on without it. For each further message there is one more call of the queue.
--- A call of the queue has 64 steps at most
 abbrev pub left_after : {T W : Type 0} → Roster W → Aim T W → ℕ
-left_after a (aim.Poll line None task) = 1 + 64 + 3
-left_after a (aim.Poll line (Some key) task) = if waits key (listeners line a) then 3 else 1 + 64 + (1 + 64 + 3)
+left_after a (aim.Poll line None task) = listening_try
+left_after a (aim.Poll line (Some key) task) = if waits key (listeners line a) then 3 else told_try
 left_after a aim.TrySend = 3
 left_after a aim.ForceSend = 3
 left_after a aim.TryRecv = 2
-left_after a (aim.RecvMany g) = 2 + 64 * g.more
+left_after a (aim.RecvMany g) = 2 + one_try * g.more
 left_after a aim.Ask = 0
 left_after a (aim.Close c) = 5
-left_after a aim.IsTerminated = 64
+left_after a aim.IsTerminated = one_try
 left_after a (aim.Upgrade side) = 2
 
 module _ {T W : Type 0} where
@@ -38,12 +58,12 @@ module _ {T W : Type 0} where
   left_to_work a (TellStreams x) = 2
   left_to_work a (TellSend x) = 2
   left_to_work a (TellSends n x) = 2
-  left_to_work a (TakeRoom n) = 3 + 64 * n
+  left_to_work a (TakeRoom n) = 3 + one_try * n
   left_to_work a (TellAll line c) = left_to_tell line
-  left_to_work a (Insert w task) = 1 + 64 + 3
-  left_to_work a (Register w key task) = if waits key (listeners (line_of w) a) then 1 else 1 + 64 + (1 + 64 + 3)
+  left_to_work a (Insert w task) = listening_try
+  left_to_work a (Register w key task) = if waits key (listeners (line_of w) a) then 1 else told_try
   left_to_work a (Leave x) = 1
-  left_to_work a (Lower side key) = 1 + 64 + 5
+  left_to_work a (Lower side key) = 1 + one_try + 5
   left_to_work a (Count side) = 1
   left_to_work a (Load side m) = 2
   left_to_work a (Raise side n m) = if is_raised side n a then 1 else 3

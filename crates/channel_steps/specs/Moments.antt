@@ -10,16 +10,16 @@ use Rattle.channel_calls.specs.declared.mark.Mark.TheVariants.{Nothing, Append, 
 use Rattle.channel_calls.specs.declared.stage.Side.{Side}
 
 -- one mark of a call, with the moment just before it, and the call's moments up to that one, newest first
-pub record Deed (T W : Type 0) : Type 0 where
+pub record MarkedMoment (T W : Type 0) : Type 0 where
   pub mark : Mark
   pub before : Channel T W
   pub seen : List (Channel T W)
 
 module _ {T W : Type 0} where
   -- the marks of a call after a step over the channel c
-  abbrev pub with_deed : List (Deed T W) → Mark → Channel T W → List (Channel T W) → List (Deed T W)
-  with_deed ds Nothing c seen = ds
-  with_deed ds m c seen = ds ++ record { mark = m; before = c; seen = seen } ∷ []
+  abbrev pub with_marked : List (MarkedMoment T W) → Mark → Channel T W → List (Channel T W) → List (MarkedMoment T W)
+  with_marked ds Nothing c seen = ds
+  with_marked ds m c seen = ds ++ record { mark = m; before = c; seen = seen } ∷ []
 
   -- ---- what may hold at a moment
 
@@ -80,72 +80,72 @@ module _ {T W : Type 0} where
   Since P Q (c ∷ cs) = (Q c × Once P (c ∷ cs)) ⊎ Since P Q cs
 
   -- it held at one of them after this deed
-  abbrev pub OnceBehind : (Channel T W → Type 0) → Deed T W → List (Channel T W) → Type 0
+  abbrev pub OnceBehind : (Channel T W → Type 0) → MarkedMoment T W → List (Channel T W) → Type 0
   OnceBehind P d seen = (newer : List (Channel T W)) × (seen ≡ newer ++ d.seen) × Once P newer
 
   -- ---- all the marks of a call
 
   -- a message was appended to an open channel with room
-  abbrev pub Appended : List (Deed T W) → Type 0
+  abbrev pub Appended : List (MarkedMoment T W) → Type 0
   Appended (d ∷ []) = (d.mark ≡ Append) × Open d.before × HasRoom d.before
   Appended _ = ⊥
 
   -- the oldest message was taken
-  abbrev pub Took : List (Deed T W) → T → Type 0
+  abbrev pub Took : List (MarkedMoment T W) → T → Type 0
   Took (d ∷ []) v = (d.mark ≡ Take) × IsOldest v d.before.queue
   Took _ v = ⊥
 
   -- these were the oldest ones, and were taken one after another
-  abbrev pub TookAll : List (Deed T W) → List T → Type 0
+  abbrev pub TookAll : List (MarkedMoment T W) → List T → Type 0
   TookAll [] [] = Unit {0}
   TookAll (d ∷ ds) (v ∷ vs) = (d.mark ≡ Take) × IsOldest v d.before.queue × TookAll ds vs
   TookAll _ vs = ⊥
 
   -- at a moment after the last of these marks there was nothing, and nothing on its way
-  abbrev pub RanOut : List (Deed T W) → List (Channel T W) → Type 0
+  abbrev pub RanOut : List (MarkedMoment T W) → List (Channel T W) → Type 0
   RanOut [] seen = ⊥
   RanOut (d ∷ []) seen = OnceBehind (λ c. IsDrained c.queue) d seen
   RanOut (d ∷ e ∷ ds) seen = RanOut (e ∷ ds) seen
 
   -- the message of a full open channel of capacity one was replaced
-  abbrev pub Replaced : List (Deed T W) → T → Type 0
+  abbrev pub Replaced : List (MarkedMoment T W) → T → Type 0
   Replaced (d ∷ []) v = (d.mark ≡ Replace) × Crowded d.before × IsOldest v d.before.queue × (d.before.queue.capacity ≡ Some 1)
   Replaced _ v = ⊥
 
   -- the oldest message of a full channel of a capacity above one was taken to make room, when no other was on its way; it was
   -- open not later
-  abbrev pub MadeRoom : List (Deed T W) → T → Type 0
+  abbrev pub MadeRoom : List (MarkedMoment T W) → T → Type 0
   MadeRoom (d ∷ []) v =
       (d.mark ≡ TakeDisplaced) × (is_filled d.before.queue ≡ true) × (d.before.queue.coming ≡ false) × IsOldest v d.before.queue × Once Open (d.before ∷ d.seen) × (d.before.queue.capacity ≡ Some 1 → ⊥)
   MadeRoom _ v = ⊥
 
   -- and at a later step the message was appended: the place that was made was still free, so no other send took it
-  abbrev pub Displaced : List (Deed T W) → T → Type 0
+  abbrev pub Displaced : List (MarkedMoment T W) → T → Type 0
   Displaced (d ∷ e ∷ []) v = MadeRoom (d ∷ []) v × (e.mark ≡ Append) × HasRoom e.before
   Displaced _ v = ⊥
 
   -- an open channel was closed
-  abbrev pub ClosedIt : List (Deed T W) → Type 0
+  abbrev pub ClosedIt : List (MarkedMoment T W) → Type 0
   ClosedIt (d ∷ []) = (d.mark ≡ Close) × Open d.before
   ClosedIt _ = ⊥
 
   -- there is one more handle of this kind, and there were not too many
-  abbrev pub Raised : Side → List (Deed T W) → Type 0
-  Raised side (d ∷ []) = (d.mark ≡ up side) × (count side d.before.roster ≤ most)
-  Raised side _ = ⊥
+  abbrev pub CountRaised : Side → List (MarkedMoment T W) → Type 0
+  CountRaised side (d ∷ []) = (d.mark ≡ up side) × (count side d.before.roster ≤ most)
+  CountRaised side _ = ⊥
 
   -- and at least one, after a moment at which the channel was open
-  abbrev pub Upgraded : Side → List (Deed T W) → Type 0
+  abbrev pub Upgraded : Side → List (MarkedMoment T W) → Type 0
   Upgraded side (d ∷ []) = (d.mark ≡ up side) × (0 < count side d.before.roster) × (count side d.before.roster ≤ most) × Once Open d.seen
   Upgraded side _ = ⊥
 
   -- the last handle of this kind is gone
-  abbrev pub LeftLast : Side → List (Deed T W) → List (Channel T W) → Type 0
+  abbrev pub LeftLast : Side → List (MarkedMoment T W) → List (Channel T W) → Type 0
   LeftLast side (d ∷ []) seen = (d.mark ≡ down side) × (count side d.before.roster ≡ 1) × (newer : List (Channel T W)) × (seen ≡ newer ++ d.seen)
   LeftLast side _ seen = ⊥
 
   -- one handle of this kind is gone; where it was the last one, the channel was closed next, or was closed then
-  abbrev pub Dropped : Side → List (Deed T W) → List (Channel T W) → Type 0
+  abbrev pub Dropped : Side → List (MarkedMoment T W) → List (Channel T W) → Type 0
   Dropped side (d ∷ []) seen = (d.mark ≡ down side) × ((count side d.before.roster ≡ 1 → ⊥) ⊎ OnceBehind Shut d seen)
   Dropped side (d ∷ e ∷ []) seen = (d.mark ≡ down side) × (count side d.before.roster ≡ 1) × (e.mark ≡ Close) × Open e.before
   Dropped side _ seen = ⊥

@@ -1,7 +1,6 @@
 -- Runs: what may follow from steps of many parties in any order.
 use Rattle.std.specs.Prelude.{◌≡◌, ℕ, ◌+◌, ◌<◌, ◌^◌, List, [], ◌∷◌, ◌++◌, Option, None, Some, ◌⊎◌}
 use Rattle.concurrent_queue.specs.Queue.{Queue, Phase}
-use Rattle.event_listener.specs.Notices.{Woken}
 use Rattle.channel_calls.specs.Parts.{Parts}
 use Rattle.channel_calls.specs.Moves.{Channel, Turned, OnePlace, new_channel}
 use Rattle.channel_calls.specs.Asks.{first}
@@ -14,6 +13,8 @@ use Rattle.channel_steps.specs.declared.party.Entry.{Entry}
 use Rattle.channel_steps.specs.declared.run.Step.{Step}
 use Rattle.channel_steps.specs.declared.run.Step.TheVariants as step
 use Rattle.channel_steps.specs.Scene.{Under, Scene, Steps, Represents}
+
+-- ---- what a run is, whatever its moments are
 
 module _ {M X E : Type 0} where
   -- so it is of each of these steps, with its entry, from the moment before it to the one after it
@@ -28,6 +29,15 @@ module _ {M : Type 0} where
   end_of m [] = m
   end_of m (n ∷ ns) = end_of n ns
 
+module _ {M X E : Type 0} where
+  -- a run: steps, one after another, each with its entry, lead from one moment to another, as is said here of one step
+  pub record IsRun (Leads : M → X → E → M → Type 0) (from : M) (steps : List X) (trace : List E) (to : M) : Type 0 where
+    pub moments : List M
+    pub each : EachStep Leads from steps trace moments
+    pub ends : end_of from moments ≡ to
+
+-- ---- runs of a channel's steps
+
 module _ {T : Type 0} where
   -- so many more messages may be accepted within the positions of a queue
   abbrev pub HasRange : ℕ → Queue T → Type 0
@@ -39,8 +49,8 @@ module _ {T W : Type 0} where
   new_scene cap = record { now = new_channel cap; blocks = []; under_way = []; gone = []; came = [] }
 
   -- a call that has made no step
-  abbrev pub begun : ℕ → ChannelAsk T W → Stage (Phase T) T W → Channel T W → Under T W
-  begun p ask at now = record { party = p; ask = ask; at = at; seen = now ∷ []; deeds = []; told = []; made = 0 }
+  abbrev pub call_begun : ℕ → ChannelAsk T W → Stage (Phase T) T W → Channel T W → Under T W
+  call_begun p ask at now = record { party = p; ask = ask; at = at; seen = now ∷ []; marks = []; told = []; made = 0 }
 
   -- a party begins a call, at its first stage; no cell is touched
   pub record Begins (s : Scene T W) (p : ℕ) (ask : ChannelAsk T W) (e : Entry T) (t : Scene T W) : Type 0 where
@@ -50,7 +60,7 @@ module _ {T W : Type 0} where
     pub turned : Turned (first ask) answer at
     pub now : t.now ≡ s.now
     pub blocks : t.blocks ≡ s.blocks
-    pub under_way : t.under_way ≡ s.under_way ++ begun p ask at s.now ∷ []
+    pub under_way : t.under_way ≡ s.under_way ++ call_begun p ask at s.now ∷ []
     pub gone : t.gone ≡ s.gone
     pub came : t.came ≡ s.came
 
@@ -69,6 +79,10 @@ module _ {T W : Type 0} where
   Next s (step.Begin p ask) e names t = Begins s p ask e t × (names ≡ [])
   Next s (step.Step p) e names t = Steps s p e names t
 
+  -- whomever it wakes: so a step of a run leads from scene to scene
+  abbrev pub NextScene : Scene T W → Step T W → Entry T → Scene T W → Type 0
+  NextScene s x e t = (names : List W) × Next s x e names t
+
   -- what left the channel, followed by what it holds, is what it held followed by what came, in order
   pub record Accounts (s t : Scene T W) : Type 0 where
     pub out : List T
@@ -82,11 +96,3 @@ module _ {T W : Type 0} where
   abbrev pub Touches : Step T W → Parts T W → Parts T W → Type 0
   Touches (step.Begin p ask) a b = b ≡ a
   Touches (step.Step p) a b = OnePlace a b
-
-  module _ {S : Type 0} (wakes : S → W → S → Type 0) where
-    -- these steps, one after another, with these entries; those are woken whom the entries name, in order
-    abbrev pub IsRun : Parts T W → Scene T W → S → List (Step T W) → List (Entry T) → Parts T W → Scene T W → S → Type 0
-    IsRun p s a [] [] q t b = (q ≡ p) × (t ≡ s) × (b ≡ a)
-    IsRun p s a (x ∷ xs) (e ∷ es) q t b =
-        (o : Parts T W) × (m : Scene T W) × (c : S) × (names : List W) × Touches x p o × Next s x e names m × Woken wakes a names c × IsRun o m c xs es q t b
-    IsRun p s a _ _ q t b = ⊥

@@ -22,8 +22,8 @@ use Rattle.channel_calls.specs.declared.stage.Stage.TheVariants.{Finished}
 use Rattle.channel_steps.specs.Answers.{Met, Keeps}
 use Rattle.channel_steps.specs.Known.{StageAt, ToldAt, IsQuick, steps_left}
 use Rattle.channel_steps.specs.Left.{all_left, left_at, most_wanted}
-use Rattle.channel_steps.specs.Moments.{Deed, with_deed}
-use Rattle.channel_steps.specs.Tellings.{Telling, owed, telling, dropping, Names}
+use Rattle.channel_steps.specs.Moments.{MarkedMoment, with_marked}
+use Rattle.channel_steps.specs.Tellings.{Telling, owed, telling, dropping, WokenBy}
 use Rattle.channel_steps.specs.declared.party.Party.{Party}
 use Rattle.channel_steps.specs.declared.party.Entry.{Entry}
 
@@ -34,7 +34,7 @@ pub record Under (T W : Type 0) : Type 0 where
   pub ask : ChannelAsk T W
   pub at : Stage (Phase T) T W
   pub seen : List (Channel T W)
-  pub deeds : List (Deed T W)
+  pub marks : List (MarkedMoment T W)
   pub told : List Telling
   pub made : ℕ
 
@@ -53,7 +53,7 @@ pub record Sitting (T W : Type 0) : Type 0 where
   pub inner : Phase T
   pub ask : ChannelAsk T W
   pub seen : List (Channel T W)
-  pub deeds : List (Deed T W)
+  pub marks : List (MarkedMoment T W)
   pub told : List Telling
   pub made : ℕ
 
@@ -98,15 +98,7 @@ module _ {T W : Type 0} where
   -- the call u after a step of its own with this mark, over the channel c, which left d
   abbrev pub does : Under T W → Stage (Phase T) T W → Mark → Channel T W → Channel T W → Under T W
   does u at m c d =
-      record {
-        party = u.party;
-        ask = u.ask;
-        at = at;
-        seen = d ∷ u.seen;
-        deeds = with_deed u.deeds m c u.seen;
-        told = u.told ++ telling u.at;
-        made = u.made + 1;
-      }
+      record u { at = at; seen = d ∷ u.seen; marks = with_marked u.marks m c u.seen; told = u.told ++ telling u.at; made = u.made + 1 }
 
   -- a call that has answered is under way no more
   abbrev pub unless_ended : Under T W → Option (Reply T) → List (Under T W)
@@ -119,9 +111,9 @@ module _ {T W : Type 0} where
     pub kept : Kept T
     pub at_end : u.at ≡ Finished kept
     pub given : left ≡ Some kept
-    pub met : Met u.ask u.deeds u.seen r
+    pub met : Met u.ask u.marks u.seen r
     pub keeps : Keeps u.ask r kept
-    pub all_told : u.told ≡ owed u.deeds
+    pub all_told : u.told ≡ owed u.marks
 
   -- a call that goes on gives nothing yet
   abbrev pub MayFinish : Under T W → Option (Reply T) → Option (Kept T) → Type 0
@@ -151,7 +143,7 @@ module _ {T W : Type 0} where
     pub whose : mine.party ≡ p
     pub moves : Moves s.now mine.at (record { channel = t.now; mark = e.mark; woken = names }) e.reply at_now
     pub left : t.under_way ≡ map (sees t.now) before ++ (unless_ended (does mine at_now e.mark s.now t.now) e.reply ++ map (sees t.now) behind)
-    pub named : Names (telling mine.at) (dropping mine.at) s.now names
+    pub named : WokenBy (telling mine.at) (dropping mine.at) s.now names
     pub finishes : MayFinish (does mine at_now e.mark s.now t.now) e.reply e.kept
     pub quick : IsQuick mine.ask → EndsInTime mine.made e.reply
     pub gone : t.gone ≡ s.gone ++ gone_by e.mark s.now.queue.items
@@ -165,25 +157,25 @@ module _ {T W : Type 0} where
   pub record Known (now : Channel T W) (u : Under T W) : Type 0 where
     pub older : List (Channel T W)
     pub latest : u.seen ≡ now ∷ older
-    pub stands : StageAt now u.ask u.at u.deeds u.seen
-    pub tells : ToldAt u.told u.at u.deeds
+    pub stands : StageAt now u.ask u.at u.marks u.seen
+    pub tells : ToldAt u.told u.at u.marks
     pub quick : IsQuick u.ask → u.made + steps_left u.at ≤ 8
 
   abbrev pub AllKnown : Channel T W → List (Under T W) → Type 0
   AllKnown now [] = Unit {0}
   AllKnown now (u ∷ us) = Known now u × AllKnown now us
 
-  -- ---- calls that hold nobody up
+  -- ---- quiet calls
 
   -- none of these calls has a mark but Nothing
   abbrev pub AreIdle : List (Under T W) → Type 0
   AreIdle [] = Unit {0}
-  AreIdle (u ∷ us) = (u.deeds ≡ []) × AreIdle us
+  AreIdle (u ∷ us) = (u.marks ≡ []) × AreIdle us
 
-  -- these other calls hold nobody up: none has a mark, and an unbounded channel has had its first taking, or there is no other
+  -- these other calls are quiet: none has a mark, and an unbounded channel has had its first taking, or there is no other
   -- call
-  abbrev pub HoldNobodyUp : Channel T W → List (Under T W) → Type 0
-  HoldNobodyUp c others = AreIdle others × (c.queue.capacity ≡ None → (0 < c.queue.removed) ⊎ (others ≡ []))
+  abbrev pub OthersQuiet : Channel T W → List (Under T W) → Type 0
+  OthersQuiet c others = AreIdle others × (c.queue.capacity ≡ None → (0 < c.queue.removed) ⊎ (others ≡ []))
 
   -- how many messages the k-th of these calls may take more than one
   abbrev pub wanted_at : ℕ → List (Under T W) → ℕ
@@ -198,7 +190,7 @@ module _ {T W : Type 0} where
         ask = x.ask;
         at = phase x.inner x.party.call.stage;
         seen = x.seen;
-        deeds = x.deeds;
+        marks = x.marks;
         told = x.told;
         made = x.made;
       }
@@ -242,12 +234,12 @@ module _ {T W : Type 0} where
   left_by p None = None
   left_by p (Some r) = Some (kept_by p.call.stage)
 
-  -- one step of the k-th call, from these cells and parties to those: where the others hold nobody up and it does not answer, it
+  -- one step of the k-th call, from these cells and parties to those: where the others are quiet and it does not answer, it
   -- has fewer steps left
   pub record StepsNearer (k : ℕ) (left left' : List ℕ) (s : Scene T W) (p : ℕ) (e : Entry T) (names : List W) (t : Scene T W) : Type 0 where
     pub step : Steps s p e names t
     pub place : length step.before ≡ k
-    pub nearer : e.reply ≡ None → HoldNobodyUp s.now (step.before ++ step.behind) → left_at k left' < left_at k left
+    pub nearer : e.reply ≡ None → OthersQuiet s.now (step.before ++ step.behind) → left_at k left' < left_at k left
 
   module _ {S : Type 0} (wakes : S → W → S → Type 0) where
     -- the code of one step

@@ -12,7 +12,7 @@ use Rattle.channel_calls.specs.declared.stage.Line.TheVariants.{Sends, Receives,
 use Rattle.channel_calls.specs.declared.stage.Stage.{Stage}
 use Rattle.channel_calls.specs.declared.stage.Stage.TheVariants.{Working}
 use Rattle.channel_calls.specs.declared.stage.Work.TheVariants.{TellReceive, TellStreams, TellSend, TellSends, TellAll, Leave}
-use Rattle.channel_steps.specs.Moments.{Deed}
+use Rattle.channel_steps.specs.Moments.{MarkedMoment}
 
 -- a telling: so many more of a list, or all of it
 pub data Telling : Type 0 where
@@ -41,16 +41,16 @@ with_taking _ n = n
 
 module _ {T W : Type 0} where
   -- how many of these marks are takings
-  abbrev pub takings : List (Deed T W) → ℕ
+  abbrev pub takings : List (MarkedMoment T W) → ℕ
   takings [] = 0
   takings (d ∷ ds) = with_taking d.mark (takings ds)
 
   -- what the others have to be followed by
-  abbrev pub owed_besides : List (Deed T W) → List Telling
+  abbrev pub owed_besides : List (MarkedMoment T W) → List Telling
   owed_besides [] = []
   owed_besides (d ∷ ds) = owed_for d.mark ++ owed_besides ds
 
-  abbrev pub owed : List (Deed T W) → List Telling
+  abbrev pub owed : List (MarkedMoment T W) → List Telling
   owed ds = owed_takings (takings ds) ++ owed_besides ds
 
   -- what the next step of a call tells
@@ -73,8 +73,8 @@ module _ {T W : Type 0} where
 
   -- whom a step wakes: those whom its telling finds waiting, in order, or him to whom the listener that it drops passes its
   -- notice on; any other step wakes nobody
-  abbrev pub Names : List Telling → Option Held → Channel T W → List W → Type 0
-  Names (more_of n line ∷ ts) h c names = names ≡ told_more_wakes n (listeners line c.roster)
-  Names (all_of line ∷ ts) h c names = names ≡ told_all_wakes (listeners line c.roster)
-  Names [] (Some h) c names = names ≡ passed_on_by h c
-  Names [] None c names = names ≡ []
+  abbrev pub WokenBy : List Telling → Option Held → Channel T W → List W → Type 0
+  WokenBy (more_of n line ∷ ts) h c names = names ≡ told_more_wakes n (listeners line c.roster)
+  WokenBy (all_of line ∷ ts) h c names = names ≡ told_all_wakes (listeners line c.roster)
+  WokenBy [] (Some h) c names = names ≡ passed_on_by h c
+  WokenBy [] None c names = names ≡ []

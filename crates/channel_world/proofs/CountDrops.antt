@@ -25,7 +25,7 @@ use Rattle.channel_model.specs.declared.name.Waiter.{Waiter}
 use Rattle.channel_steps.specs.Answers.{Met}
 use Rattle.channel_steps.specs.Known.{TriesFor, WorkAt, StageAt, IsFor, Makes}
 use Rattle.channel_steps.specs.Known as known
-use Rattle.channel_steps.specs.Moments.{Deed, LeftLast, Dropped}
+use Rattle.channel_steps.specs.Moments.{MarkedMoment, LeftLast, Dropped}
 use Rattle.channel_steps.specs.Scene.{Under, AllKnown}
 use Rattle.channel_interleaving.specs.Counted.{same_side, is_last_of, is_lowering, is_closing}
 use Rattle.channel_interleaving.specs.Owners.{All}
@@ -33,7 +33,7 @@ use Rattle.channel_world.specs.Counts.{Drops, IsByDrops}
 
 module _ (T : Type 0) where
   abbrev Deeds : Type 0
-  Deeds = List (Deed T Waiter)
+  Deeds = List (MarkedMoment T Waiter)
 
   abbrev Seen : Type 0
   Seen = List (Channel T Waiter)
@@ -148,9 +148,9 @@ module _ (T : Type 0) where
       let own = k.0 in
       let at = own.stands in (
         record {
-          lowers = lowers side c u.ask u.at u.deeds u.seen at;
-          all = every side c u.ask u.at u.deeds u.seen at;
-          closes = closes side c u.ask u.at u.deeds u.seen at;
+          lowers = lowers side c u.ask u.at u.marks u.seen at;
+          all = every side c u.ask u.at u.marks u.seen at;
+          closes = closes side c u.ask u.at u.marks u.seen at;
         },
         by_drops side c us k.1,
       )

@@ -5,10 +5,10 @@ use Rattle.channel_calls.specs.declared.error.Refused.TheVariants.{NoMemory}
 use Rattle.channel_calls.specs.declared.reply.Reply.TheVariants as reply
 use Rattle.channel_calls.specs.declared.stage.Line.{Line}
 use Rattle.channel_calls.specs.declared.stage.Line.TheVariants.{Sends, Receives, Streams, Closings}
-use Rattle.channel_model.specs.Answer.{Answer, answer, replying, telling, space_of, Found, first, none_yet, none_ever, found, displacing, next_answer, count, dropped, one_more, news_without_one, drop_one, drop_answer, poll_answer, poll_refused_answer, give_up_answer, send_poll_answer, recv_poll_answer, try_send_answer, force_send_answer, try_recv_answer, recv_many_answer, clone_answer, downgrade_answer, upgrade_answer, close_answer, shut, strong_of}
-use Rattle.channel_model.specs.Channel.{Channel}
-use Rattle.channel_model.specs.Lines.{Waiting, untold, told_by, after_news, told_by_rooms, gone, passed_on, told_after, is_among, is_stream, without}
-use Rattle.channel_model.specs.Names.{Operation, send, recv, closing, at}
+use Rattle.channel_model.specs.Answer.{Answer, answer, replying, after_telling, space_of, Found, first, none_yet, none_ever, found, displacing, next_answer, strong_handles, dropped, one_more, news_without_one, drop_one, drop_answer, poll_answer, poll_refused_answer, give_up_answer, send_poll_answer, recv_poll_answer, try_send_answer, force_send_answer, try_recv_answer, recv_many_answer, clone_answer, downgrade_answer, upgrade_answer, close_answer, shut, strong_of}
+use Rattle.channel_model.specs.Channel.{ModelChannel}
+use Rattle.channel_model.specs.Lines.{Waiting, untold, told_by, after_news, told_by_rooms, gone, passed_on, told_after, is_among, is_stream, without_waiter}
+use Rattle.channel_model.specs.Names.{ModelOperation, send, recv, closing, at}
 use Rattle.channel_model.specs.Refused.{Answers, Lack, memory, serials, answer_without, not_held, send_not_polled, recv_not_polled, not_polled, next_not_polled}
 use Rattle.channel_model.specs.State.{State, with_channel, with_waiting}
 use Rattle.channel_model.specs.declared.call.Call.{Call}
@@ -38,7 +38,7 @@ few_first false line w l = omega arith
 few_passed : (line : Line) (w : Waiter) (l m : Waiting) → length (told_by (passed_on line w l) m) ≤ 1
 few_passed Sends w l m = few_first (is_among w l.woken) Sends w m
 few_passed Receives w l m = few_first (is_among w l.woken) Receives w m
-few_passed Streams w l m = few_first (is_among w l.woken && not (list_any is_stream (without w l.woken))) Streams w m
+few_passed Streams w l m = few_first (is_among w l.woken && not (list_any is_stream (without_waiter w l.woken))) Streams w m
 few_passed Closings w l m = omega arith
 
 no_news : (l : Waiting) → length (told_by Nothing l) ≤ 0
@@ -69,14 +69,14 @@ few_left_closing true w l =
     let told = after_news Closing l in
     let joined = length-append (told_by Closing l) (told_by (passed_on Streams w told) (gone w told)) in
     let all = closing_all l in
-    let none = none_after_closing (is_among w told.woken && not (list_any is_stream (without w told.woken))) w l in
+    let none = none_after_closing (is_among w told.woken && not (list_any is_stream (without_waiter w told.woken))) w l in
     omega (arith, joined, all, none)
-few_left_closing false w l = next (is_among w (after_news Nothing l).woken && not (list_any is_stream (without w (after_news Nothing l).woken))) where
-  left : length (take 1 (without w l.streams)) ≤ length l.streams
-  left = let a = first_one (without w l.streams) in shorter l.streams where
-    shorter : (ws : List Waiter) → length (take 1 (without w ws)) ≤ length ws
+few_left_closing false w l = next (is_among w (after_news Nothing l).woken && not (list_any is_stream (without_waiter w (after_news Nothing l).woken))) where
+  left : length (take 1 (without_waiter w l.streams)) ≤ length l.streams
+  left = let a = first_one (without_waiter w l.streams) in shorter l.streams where
+    shorter : (ws : List Waiter) → length (take 1 (without_waiter w ws)) ≤ length ws
     shorter [] = omega arith
-    shorter (v ∷ ws) = let b = first_one (without w (v ∷ ws)) in omega (arith, b)
+    shorter (v ∷ ws) = let b = first_one (without_waiter w (v ∷ ws)) in omega (arith, b)
 
   next : (b : Bool) → length (told_by (if b then NextIn Streams else Nothing) (gone w (after_news Nothing l))) ≤ untold_count l
   next true = let a = left in omega (arith, a)
@@ -178,20 +178,20 @@ module _ {T : Type 0} where
   few_recv s op none_yet = none s
   few_recv s op none_ever = few_leave_nothing Receives (Op op) s
 
-  few_poll : (s : State T) (op : OpId) (o : Option (Operation T)) → Few s (poll_answer s op o)
+  few_poll : (s : State T) (op : OpId) (o : Option (ModelOperation T)) → Few s (poll_answer s op o)
   few_poll s op (Some (send handle (Some m))) = few_send s op handle m (space_of s.channel)
   few_poll s op (Some (send handle None)) = none s
   few_poll s op (Some (recv handle)) = few_recv s op (found s.channel)
   few_poll s op (Some (closing handle)) = few_if s.channel.closed _ _ _ (few_leave_nothing Closings (Op op) s) (none s)
   few_poll s op None = none s
 
-  few_refused : (s : State T) (op : OpId) (o : Option (Operation T)) → Few s (poll_refused_answer s op o)
+  few_refused : (s : State T) (op : OpId) (o : Option (ModelOperation T)) → Few s (poll_refused_answer s op o)
   few_refused s op (Some (send handle msg)) = few_leave_nothing Sends (Op op) s
   few_refused s op (Some (recv handle)) = few_leave_nothing Receives (Op op) s
   few_refused s op (Some (closing handle)) = few_leave_nothing Closings (Op op) s
   few_refused s op None = none s
 
-  few_give_up : (s : State T) (op : OpId) (o : Option (Operation T)) → Few s (give_up_answer s op o)
+  few_give_up : (s : State T) (op : OpId) (o : Option (ModelOperation T)) → Few s (give_up_answer s op o)
   few_give_up s op (Some (send handle msg)) = few_leave_nothing Sends (Op op) s
   few_give_up s op (Some (recv handle)) = few_leave_nothing Receives (Op op) s
   few_give_up s op (Some (closing handle)) = few_leave_nothing Closings (Op op) s
@@ -199,9 +199,9 @@ module _ {T : Type 0} where
 
   few_drop_one : (s t : State T) (handle : HandleId) (kind : HandleKind) → t.waiting ≡ s.waiting → length (drop_one t handle kind).woken ≤ untold_count s.waiting
   few_drop_one s t handle Sender same =
-      subst (λ (l : Waiting). length (told_by (news_without_one Sender t.channel) t.waiting) ≤ untold_count l) same (few_closing ((count Sender t.channel == 1) && not t.channel.closed) t.waiting)
+      subst (λ (l : Waiting). length (told_by (news_without_one Sender t.channel) t.waiting) ≤ untold_count l) same (few_closing ((strong_handles Sender t.channel == 1) && not t.channel.closed) t.waiting)
   few_drop_one s t handle Receiver same =
-      subst (λ (l : Waiting). length (told_after (news_without_one Receiver t.channel) Streams (Stream handle) t.waiting) ≤ untold_count l) same (few_left_closing ((count Receiver t.channel == 1) && not t.channel.closed) (Stream handle) t.waiting)
+      subst (λ (l : Waiting). length (told_after (news_without_one Receiver t.channel) Streams (Stream handle) t.waiting) ≤ untold_count l) same (few_left_closing ((strong_handles Receiver t.channel == 1) && not t.channel.closed) (Stream handle) t.waiting)
   few_drop_one s t handle WeakSender same = omega arith
   few_drop_one s t handle WeakReceiver same = omega arith
 
@@ -210,7 +210,7 @@ module _ {T : Type 0} where
   few_drop s handle None = omega arith
 
   few_more : (s : State T) (new : HandleId) (kind : HandleKind) → Few s (one_more s new kind)
-  few_more s new kind = few_if (nat_lt (2 ^ 63 - 1) (count kind s.channel)) _ _ _ (none s) (none s)
+  few_more s new kind = few_if (nat_lt (2 ^ 63 - 1) (strong_handles kind s.channel)) _ _ _ (none s) (none s)
 
   few_clone : (s : State T) (new : HandleId) (o : Option Handle) → Few s (clone_answer s new o)
   few_clone s new (Some h) = few_more s new h.kind
@@ -221,11 +221,11 @@ module _ {T : Type 0} where
   few_downgrade s new None = none s
 
   few_upgrade : (s : State T) (new : HandleId) (o : Option Handle) → Few s (upgrade_answer s new o)
-  few_upgrade s new (Some h) = few_if (s.channel.closed || (count (strong_of h.kind) s.channel == 0)) _ _ _ (none s) (few_more s new (strong_of h.kind))
+  few_upgrade s new (Some h) = few_if (s.channel.closed || (strong_handles (strong_of h.kind) s.channel == 0)) _ _ _ (none s) (few_more s new (strong_of h.kind))
   few_upgrade s new None = none s
 
   few_close : (s : State T) → length (close_answer s).woken ≤ untold_count s.waiting
-  few_close s = few_if s.channel.closed (untold_count s.waiting) (replying s (reply.Closed false)) (telling Closing (with_channel (shut s.channel) s) (reply.Closed true)) (omega arith) (closing_all s.waiting)
+  few_close s = few_if s.channel.closed (untold_count s.waiting) (replying s (reply.Closed false)) (after_telling Closing (with_channel (shut s.channel) s) (reply.Closed true)) (omega arith) (closing_all s.waiting)
 
   few_ample : (s : State T) (c : Call T) → length (answer s c).woken ≤ most_woken c s.waiting
   few_ample s (call.NewSend op sender msg) = none s
@@ -270,7 +270,7 @@ module _ {T : Type 0} where
   few_where true s a f = f
   few_where false s a f = tt
 
-  few_held : (lack : Lack) (s : State T) (c : Channel T) (space : Space) (a : Answer T) → Few s a → FewOf s (not_held lack c space a)
+  few_held : (lack : Lack) (s : State T) (c : ModelChannel T) (space : Space) (a : Answer T) → Few s a → FewOf s (not_held lack c space a)
   few_held memory s c Open a f = few_where (is_none c.capacity) s a f
   few_held memory s c Filled a f = tt
   few_held memory s c Shut a f = tt
@@ -290,7 +290,7 @@ module _ {T : Type 0} where
   few_closing_lacks true s o f = tt
   few_closing_lacks false s o f = f
 
-  few_poll_lacks : (lack : Lack) (s : State T) (op : OpId) (o : Option (Operation T)) → FewOf s (not_polled lack s op o)
+  few_poll_lacks : (lack : Lack) (s : State T) (op : OpId) (o : Option (ModelOperation T)) → FewOf s (not_polled lack s op o)
   few_poll_lacks lack s op (Some (send handle (Some m))) = few_send_lacks lack s op (space_of s.channel)
   few_poll_lacks lack s op (Some (send handle None)) = tt
   few_poll_lacks lack s op (Some (recv handle)) = few_recv_lacks lack s op (found s.channel)

@@ -4,10 +4,10 @@ use Rattle.std.proofs.lemmas.List.{length-take}
 use Rattle.channel_calls.specs.declared.error.Refused.{Refused}
 use Rattle.channel_calls.specs.declared.error.TryRecvError.{TryRecvError}
 use Rattle.channel_calls.specs.declared.reply.Reply.TheVariants as reply
-use Rattle.channel_model.specs.Answer.{Answer, answer, space_of, Found, first, none_yet, none_ever, found, displacing, next_answer, count, dropped, one_more, drop_one, drop_answer, poll_answer, poll_refused_answer, give_up_answer, send_poll_answer, recv_poll_answer, try_send_answer, force_send_answer, try_recv_answer, recv_many_answer, clone_answer, downgrade_answer, upgrade_answer, close_answer, strong_of}
-use Rattle.channel_model.specs.Channel.{Channel}
+use Rattle.channel_model.specs.Answer.{Answer, answer, space_of, Found, first, none_yet, none_ever, found, displacing, next_answer, strong_handles, dropped, one_more, drop_one, drop_answer, poll_answer, poll_refused_answer, give_up_answer, send_poll_answer, recv_poll_answer, try_send_answer, force_send_answer, try_recv_answer, recv_many_answer, clone_answer, downgrade_answer, upgrade_answer, close_answer, strong_of}
+use Rattle.channel_model.specs.Channel.{ModelChannel}
 use Rattle.channel_model.specs.Lines.{is_among, untold, gone}
-use Rattle.channel_model.specs.Names.{Operation, send, recv, closing, at}
+use Rattle.channel_model.specs.Names.{ModelOperation, send, recv, closing, at}
 use Rattle.channel_model.specs.Refused.{Answers, Lack, memory, serials, answer_without, not_held, not_received, send_not_polled, recv_not_polled, not_polled, next_not_polled}
 use Rattle.channel_model.specs.State.{State, with_waiting}
 use Rattle.channel_calls.specs.declared.stage.Line.TheVariants.{Sends, Receives, Streams, Closings}
@@ -70,20 +70,20 @@ module _ {T : Type 0} where
   bare_recv s op none_yet = omega arith
   bare_recv s op none_ever = omega arith
 
-  bare_poll : (s : State T) (op : OpId) (o : Option (Operation T)) → Bare (poll_answer s op o)
+  bare_poll : (s : State T) (op : OpId) (o : Option (ModelOperation T)) → Bare (poll_answer s op o)
   bare_poll s op (Some (send handle (Some m))) = bare_send s op handle m (space_of s.channel)
   bare_poll s op (Some (send handle None)) = omega arith
   bare_poll s op (Some (recv handle)) = bare_recv s op (found s.channel)
   bare_poll s op (Some (closing handle)) = bare_if s.channel.closed _ _ no_list no_list
   bare_poll s op None = omega arith
 
-  bare_refused : (s : State T) (op : OpId) (o : Option (Operation T)) → Bare (poll_refused_answer s op o)
+  bare_refused : (s : State T) (op : OpId) (o : Option (ModelOperation T)) → Bare (poll_refused_answer s op o)
   bare_refused s op (Some (send handle msg)) = omega arith
   bare_refused s op (Some (recv handle)) = omega arith
   bare_refused s op (Some (closing handle)) = omega arith
   bare_refused s op None = omega arith
 
-  bare_give_up : (s : State T) (op : OpId) (o : Option (Operation T)) → Bare (give_up_answer s op o)
+  bare_give_up : (s : State T) (op : OpId) (o : Option (ModelOperation T)) → Bare (give_up_answer s op o)
   bare_give_up s op (Some (send handle msg)) = omega arith
   bare_give_up s op (Some (recv handle)) = omega arith
   bare_give_up s op (Some (closing handle)) = omega arith
@@ -100,7 +100,7 @@ module _ {T : Type 0} where
   bare_drop s handle None = omega arith
 
   bare_more : (s : State T) (new : HandleId) (kind : HandleKind) → Bare (one_more s new kind)
-  bare_more s new kind = bare_if (nat_lt (2 ^ 63 - 1) (count kind s.channel)) _ _ no_list no_list
+  bare_more s new kind = bare_if (nat_lt (2 ^ 63 - 1) (strong_handles kind s.channel)) _ _ no_list no_list
 
   bare_clone : (s : State T) (new : HandleId) (o : Option Handle) → Bare (clone_answer s new o)
   bare_clone s new (Some h) = bare_more s new h.kind
@@ -111,7 +111,7 @@ module _ {T : Type 0} where
   bare_downgrade s new None = omega arith
 
   bare_upgrade : (s : State T) (new : HandleId) (o : Option Handle) → Bare (upgrade_answer s new o)
-  bare_upgrade s new (Some h) = bare_if (s.channel.closed || (count (strong_of h.kind) s.channel == 0)) _ _ no_list (bare_more s new (strong_of h.kind))
+  bare_upgrade s new (Some h) = bare_if (s.channel.closed || (strong_handles (strong_of h.kind) s.channel == 0)) _ _ no_list (bare_more s new (strong_of h.kind))
   bare_upgrade s new None = omega arith
 
   bare_close : (s : State T) → Bare (close_answer s)
@@ -168,7 +168,7 @@ module _ {T : Type 0} where
   bare_where true a f = f
   bare_where false a f = tt
 
-  bare_held : (lack : Lack) (c : Channel T) (space : Space) (a : Answer T) → Bare a → BareOf (not_held lack c space a)
+  bare_held : (lack : Lack) (c : ModelChannel T) (space : Space) (a : Answer T) → Bare a → BareOf (not_held lack c space a)
   bare_held memory c Open a f = bare_where (is_none c.capacity) a f
   bare_held memory c Filled a f = tt
   bare_held memory c Shut a f = tt
@@ -193,7 +193,7 @@ module _ {T : Type 0} where
   bare_closing_lacks true o f = tt
   bare_closing_lacks false o f = f
 
-  bare_poll_lacks : (lack : Lack) (s : State T) (op : OpId) (o : Option (Operation T)) → BareOf (not_polled lack s op o)
+  bare_poll_lacks : (lack : Lack) (s : State T) (op : OpId) (o : Option (ModelOperation T)) → BareOf (not_polled lack s op o)
   bare_poll_lacks lack s op (Some (send handle (Some m))) = bare_send_lacks lack s op (space_of s.channel)
   bare_poll_lacks lack s op (Some (send handle None)) = tt
   bare_poll_lacks lack s op (Some (recv handle)) = bare_recv_lacks lack s op (found s.channel)

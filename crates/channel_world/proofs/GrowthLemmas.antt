@@ -2,8 +2,8 @@
 use Rattle.std.proofs.Common.{◌≡◌, inl, inr, ℕ, zero, suc, Err, Bool, true, false, cond, Option, Some, None, is_none, refl, subst}
 use Rattle.channel_calls.specs.declared.error.Refused.TheVariants.{NoMemory}
 use Rattle.channel_calls.specs.declared.reply.Reply.TheVariants as reply
-use Rattle.channel_model.specs.Names.{Operation, send, recv, closing, at}
-use Rattle.channel_model.specs.Channel.{Channel}
+use Rattle.channel_model.specs.Names.{ModelOperation, send, recv, closing, at}
+use Rattle.channel_model.specs.Channel.{ModelChannel}
 use Rattle.channel_model.specs.State.{State}
 use Rattle.channel_model.specs.Lines.{is_among}
 use Rattle.channel_model.specs.Answer.{Answer, answer, replying, Found, first, none_yet, none_ever, found, space_of}
@@ -25,7 +25,7 @@ where_true : (b : Bool) (a x : Answer ℕ) → wants_growth a.reply ≡ true →
 where_true false a x w e = cc
 where_true true a x w e = let same : a ≡ x = cc in subst (λ (y : Answer ℕ). wants_growth y.reply ≡ true) same w
 
-held : (lack : Lack) (c : Channel ℕ) (space : Space) (a x : Answer ℕ) → wants_growth a.reply ≡ true → not_held lack c space a ≡ Some x → wants_growth x.reply ≡ true
+held : (lack : Lack) (c : ModelChannel ℕ) (space : Space) (a x : Answer ℕ) → wants_growth a.reply ≡ true → not_held lack c space a ≡ Some x → wants_growth x.reply ≡ true
 held memory c Open a x w e = where_true (is_none c.capacity) a x w e
 held memory c Filled a x w e = cc
 held memory c Shut a x w e = cc
@@ -48,7 +48,7 @@ closing_polled : (b : Bool) (o : Option (Answer ℕ)) (x : Answer ℕ) → (o �
 closing_polled true o x h e = cc
 closing_polled false o x h e = h e
 
-polled : (lack : Lack) (s : State ℕ) (op : OpId) (o : Option (Operation ℕ)) (x : Answer ℕ) → not_polled lack s op o ≡ Some x → wants_growth x.reply ≡ true
+polled : (lack : Lack) (s : State ℕ) (op : OpId) (o : Option (ModelOperation ℕ)) (x : Answer ℕ) → not_polled lack s op o ≡ Some x → wants_growth x.reply ≡ true
 polled lack s op (Some (send handle (Some m))) x e = send_polled lack s op (space_of s.channel) x e
 polled lack s op (Some (send handle None)) x e = cc
 polled lack s op (Some (recv handle)) x e = recv_polled lack s op (found s.channel) x e

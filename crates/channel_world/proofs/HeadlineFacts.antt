@@ -8,13 +8,13 @@ use Rattle.channel_model.specs.declared.run.Stopped.{Stopped}
 use Rattle.channel_laws.specs.Ends.{SaysTheEnd, Replies}
 use Rattle.channel_laws.proofs.Interface.{stays_closed, stays_over, says_over, late_gives}
 use Rattle.channel_steps.specs.Moments.{Spent}
-use Rattle.channel_steps.specs.Run.{EachStep}
 use Rattle.channel_steps.specs.Scene.{Under, Scene, does}
 use Rattle.channel_steps.specs.declared.party.Entry.{Entry as ChannelEntry}
 use Rattle.channel_steps.specs.declared.run.Step.{Step as ChannelStep}
+use Rattle.channel_steps.proofs.Interface.{each_says}
 use Rattle.channel_interleaving.specs.Kept.{AllKept}
 use Rattle.channel_interleaving.specs.Floor.{book_of, parts_in, messages_in, StandsIn, Stands}
-use Rattle.channel_interleaving.specs.Run.{Stops, channel_step}
+use Rattle.channel_interleaving.specs.Run.{StopsAt, channel_step}
 use Rattle.channel_interleaving.specs.Runs.{Moment, Holds, LeadsBy, accepted_in, left_in, moment_of, RanTo}
 use Rattle.channel_interleaving.specs.declared.floor.Floor.{Floor}
 use Rattle.channel_interleaving.specs.declared.step.Entry.{Entry}
@@ -136,39 +136,31 @@ module _ {T : Type 0} where
         after = moment_says n l.holds;
       }
 
-  each_says : (m : Moment T) (xs : List (Step T)) (es : List (Entry T)) (ns : List (Moment T)) → AllKept m.book m.scene
-      → EachStep LeadsBy m xs es ns → EachStep StepSays m xs es ns
-  each_says m [] [] [] k h = tt
-  each_says m (x ∷ xs) (e ∷ es) (n ∷ ns) k h = (step_says m x e n k h.0, each_says n xs es ns h.0.holds.kept h.1)
-  each_says m [] [] (n ∷ ns) k h = absurd h
-  each_says m [] (e ∷ es) ns k h = absurd h
-  each_says m (x ∷ xs) [] ns k h = absurd h
-  each_says m (x ∷ xs) (e ∷ es) [] k h = absurd h
-
   -- ---- a run
 
   pub headline : (steps left : List (Step T)) (old : Floor T) (trace : List (Entry T)) (stopped : Option Stopped) (new : Floor T)
-      → RanTo steps left old trace new → Stops (book_of new) left (length trace) stopped
+      → RanTo steps left old trace new → StopsAt (book_of new) left (length trace) stopped
       → (s : Scene T Waiter) → StandsIn old s → Headline steps left (view_of old) trace stopped (view_of new) s
   headline steps left old trace stopped new ran stops s k =
       let r = ran s k in
       let start : Moment T = moment_of old s in
-      let says = each_says start r.made trace r.moments k.kept r.run in
-      let sums = all_add start r.made trace r.moments k.kept r.run in
+      let run = r.run in
+      let moments = run.moments in
+      let says = each_says LeadsBy (λ (m : Moment T). AllKept m.book m.scene) StepSays
+      (λ m x e n l kept. (step_says m x e n kept l, l.holds.kept)) start r.made trace moments k.kept run.each in
+      let sums = all_add start r.made trace moments k.kept run.each in
       record {
         made = r.made;
-        moments = r.moments;
         to = r.last;
         first = r.first;
-        ends = r.ends;
         stands = r.stands;
         at_first = moment_says start (holds_first old s k);
-        each = says;
-        accounts = subst (λ (n : Moment T). AddUp s (all_taken start trace r.moments) (all_brought start r.made trace r.moments) n.scene) r.ends sums;
-        after_the_end = nothing_comes steps left start r.made trace r.moments r.first k.kept r.run says;
-        ended_before = λ over. ended_before steps left start r.made trace r.moments r.first k.kept r.run says over;
-        ends_soon = all_in_a_row start r.made trace r.moments k.kept (few_in old s k) r.run;
-        in_front = in_front steps left start r.made trace r.moments r.first k.kept (few_in old s k) r.run;
+        run = record { moments = moments; each = says; ends = run.ends };
+        accounts = subst (λ (n : Moment T). AddUp s (all_taken start trace moments) (all_brought start r.made trace moments) n.scene) run.ends sums;
+        after_the_end = nothing_comes steps left start r.made trace moments r.first k.kept run.each says;
+        ended_before = λ over. ended_before steps left start r.made trace moments r.first k.kept run.each says over;
+        ends_soon = all_in_a_row start r.made trace moments k.kept (few_in old s k) run.each;
+        in_front = in_front steps left start r.made trace moments r.first k.kept (few_in old s k) run.each;
         stops = stops;
       }
 

@@ -17,7 +17,7 @@ use Rattle.channel_interleaving.specs.Runs.{Moment, LeadsBy}
 use Rattle.channel_interleaving.specs.declared.step.Entry.{Entry}
 use Rattle.channel_interleaving.specs.declared.step.Step.{Step}
 use Rattle.channel_interleaving.specs.declared.step.Step.TheVariants as step
-use Rattle.channel_world.specs.Marked.{message_of, brought_at, all_brought, all_taken}
+use Rattle.channel_world.specs.Marked.{message_brought, brought_at, all_brought, all_taken}
 
 same_number : (a b : ℕ) → a ≡ b → (a == b) ≡ true
 same_number a b e = grind (arith, nat_tests)
@@ -32,7 +32,7 @@ other_number a b f = by (a == b) refl where
 
 module _ {T : Type 0} where
   message_is : (p : ℕ) (us : List (Under T Waiter)) (mine : Under T Waiter) (vs : List (Under T Waiter))
-      → All (λ (u : Under T Waiter). u.party ≡ p → ⊥) us → mine.party ≡ p → message_of p (us ++ (mine ∷ vs)) ≡ brought mine.ask
+      → All (λ (u : Under T Waiter). u.party ≡ p → ⊥) us → mine.party ≡ p → message_brought p (us ++ (mine ∷ vs)) ≡ brought mine.ask
   message_is p [] mine vs none his = rw (same_number mine.party p his) refl
   message_is p (u ∷ us) mine vs none his = rw (other_number u.party p none.0) (message_is p us mine vs none.1 his)
 
@@ -51,7 +51,7 @@ module _ {T : Type 0} where
   one_adds m (step.Step p) e n k l =
       let s = l.made.next in
       let his = message_is p.0 s.before s.mine s.behind (none_before m p e n k l) s.whose in
-      let there = ap (λ (us : List (Under T Waiter)). message_of p.0 us) s.there in
+      let there = ap (λ (us : List (Under T Waiter)). message_brought p.0 us) s.there in
       let same : came_by e.mark s.mine.ask ≡ brought_at m (step.Step p) e =
       came_is e.mark s.mine.ask ∙ ap (λ (ms : List T). brought_by e.mark ms) (sym (there ∙ his)) in
       subst (λ (ms : List T). AddUp m.scene (gone_by e.mark m.scene.now.queue.items) ms n.scene) same

@@ -6,13 +6,12 @@ use Rattle.channel_steps.specs.Run.{EachStep}
 use Rattle.channel_steps.specs.declared.party.Entry.{Entry}
 use Rattle.channel_steps.specs.declared.run.Step.{Step as ChannelStep}
 use Rattle.channel_steps.specs.declared.run.Step.TheVariants as channel
-use Rattle.channel_laws.specs.BridgeHeadline.{StepSays}
-use Rattle.channel_laws.specs.BridgeMoments.{Moment, opened}
-use Rattle.channel_laws.specs.Bridge.{steps_of}
+use Rattle.channel_laws.specs.BridgeHeadline.{MergeStepSays}
+use Rattle.channel_laws.specs.Bridge.{MergeMoment, just_opened, steps_of}
 use Rattle.channel_interleaving.specs.AskedBy.{IsStepOf}
 use Rattle.channel_interleaving.specs.Kept.{NamesKept}
 use Rattle.channel_interleaving.specs.Refusal.{step_refusal}
-use Rattle.channel_interleaving.specs.Run.{Book, IsBookOf, begun}
+use Rattle.channel_interleaving.specs.Run.{Book, IsBookOf, book_begun}
 use Rattle.channel_interleaving.specs.declared.step.PartyId.{PartyId}
 use Rattle.channel_interleaving.specs.declared.step.Step.{Step}
 use Rattle.channel_interleaving.specs.declared.step.Step.TheVariants as step
@@ -23,8 +22,8 @@ use Rattle.channel_world.specs.MergesByNames.{Page, first_book, BeginByNames, Sa
 
 module _ {T S : Type 0} (wakes : S → Waiter → S → Type 0) where
   -- a step that may be taken says what is said of it, and all is kept
-  says : (b : Book T) (m : Moment T Waiter S) (x : Step T) (y : ChannelStep T Waiter) (e : Entry T) (c : Book T) (n : Moment T Waiter S)
-      → NamesKept b m.scene → (s : StepSays wakes m y e n) → step_refusal b.roll b.agents x ≡ None → IsStepOf b.roll x y
+  says : (b : Book T) (m : MergeMoment T Waiter S) (x : Step T) (y : ChannelStep T Waiter) (e : Entry T) (c : Book T) (n : MergeMoment T Waiter S)
+      → NamesKept b m.scene → (s : MergeStepSays wakes m y e n) → step_refusal b.roll b.agents x ≡ None → IsStepOf b.roll x y
       → IsBookOf x e.reply e.kept s.names b c → SaysByNames wakes b m x y e c n × NamesKept c n.scene
   says b m x y e c n k s accepted is book =
       let kept = names_kept_next b c m.scene n.scene x y e s.names accepted is s.next book k in (
@@ -40,20 +39,20 @@ module _ {T S : Type 0} (wakes : S → Waiter → S → Type 0) where
         kept,
       )
 
-  abbrev Pages : Book T → Moment T Waiter S → List (ChannelStep T Waiter) → List (Entry T) → List (Moment T Waiter S) → Type 0
+  abbrev Pages : Book T → MergeMoment T Waiter S → List (ChannelStep T Waiter) → List (Entry T) → List (MergeMoment T Waiter S) → Type 0
   Pages b m ys es ns = (xs : List (Page T)) × EachByNames wakes b m xs ys es ns
 
-  all_say : (b : Book T) (m : Moment T Waiter S) (ys : List (ChannelStep T Waiter)) (es : List (Entry T)) (ns : List (Moment T Waiter S))
-      → NamesKept b m.scene → EachStep (StepSays wakes) m ys es ns → BeginByNames wakes b m ys es ns → Pages b m ys es ns
+  all_say : (b : Book T) (m : MergeMoment T Waiter S) (ys : List (ChannelStep T Waiter)) (es : List (Entry T)) (ns : List (MergeMoment T Waiter S))
+      → NamesKept b m.scene → EachStep (MergeStepSays wakes) m ys es ns → BeginByNames wakes b m ys es ns → Pages b m ys es ns
   all_say b m [] [] [] k h begins = ([], tt)
   all_say b m (channel.Begin p a ∷ ys) (e ∷ es) (n ∷ ns) k h (c, free, is, more) =
       let q : PartyId = record { 0 = p } in
       let s = h.0 in
       let idle = s.call.idle in
-      let one = says b m (step.Begin q c) (channel.Begin p a) e (begun q c b) n k s (may_begin b m.scene q c k idle free)
+      let one = says b m (step.Begin q c) (channel.Begin p a) e (book_begun q c b) n k s (may_begin b m.scene q c k idle free)
       (a, is, refl) refl in
-      let rest = all_say (begun q c b) n ys es ns one.1 h.1 more in
-      (record { step = step.Begin q c; book = begun q c b } ∷ rest.0, (one.0, rest.1))
+      let rest = all_say (book_begun q c b) n ys es ns one.1 h.1 more in
+      (record { step = step.Begin q c; book = book_begun q c b } ∷ rest.0, (one.0, rest.1))
   all_say b m (channel.Step p ∷ ys) (e ∷ es) (n ∷ ns) k h more =
       let q : PartyId = record { 0 = p } in
       let s = h.0 in
@@ -69,5 +68,5 @@ module _ {T S : Type 0} (wakes : S → Waiter → S → Type 0) where
 pub merges_by_names_are_runs : (T S : Type 0) (wakes : S → Waiter → S → Type 0) → MergesByNamesAreRuns T S wakes
 merges_by_names_are_runs T S wakes form events given sink last woken k begins =
     let kept = names_kept_first {T = T} (capacity_of form) in
-    let all = all_say wakes first_book (opened form sink) (steps_of events) k.is.trace k.moments kept k.each begins in
+    let all = all_say wakes first_book (just_opened form sink) (steps_of events) k.is.trace k.is.run.moments kept k.each begins in
     record { pages = all.0; at_first = names_owed_at first_book _ kept; each = all.1 }

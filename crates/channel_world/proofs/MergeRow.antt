@@ -1,14 +1,13 @@
 -- Two clones of a sender, merged, by names.
 use Rattle.std.proofs.Common.{List, [], ◌∷◌, drop, inl, refl}
-use Rattle.channel_laws.specs.Bridge.{steps_of}
-use Rattle.channel_laws.specs.BridgeMoments.{Moment, opened}
+use Rattle.channel_laws.specs.Bridge.{MergeMoment, just_opened, steps_of}
 use Rattle.channel_laws.specs.BridgeRow.{two_clones}
 use Rattle.channel_model.specs.declared.call.Call.TheVariants.{TryClone}
 use Rattle.channel_model.specs.declared.name.Waiter.{Waiter}
 use Rattle.channel_steps.specs.declared.party.Entry.{Entry}
 use Rattle.channel_steps.specs.declared.run.Step.{Step as ChannelStep}
 use Rattle.channel_steps.specs.declared.run.Step.TheVariants as channel
-use Rattle.channel_interleaving.specs.Run.{Book, begun}
+use Rattle.channel_interleaving.specs.Run.{Book, book_begun}
 use Rattle.channel_world.specs.MergesByNames.{first_book, BeginByNames}
 use Rattle.channel_world.specs.MergesByNamesRow.{TwoClonesByNames}
 
@@ -20,7 +19,7 @@ module _ {T S : Type 0} (wakes : S → Waiter → S → Type 0) where
   AreSteps (channel.Begin p a ∷ ys) = ⊥
   AreSteps (channel.Step p ∷ ys) = AreSteps ys
 
-  only_steps : (ys : List (ChannelStep T Waiter)) → AreSteps ys → (b : Book T) (m : Moment T Waiter S) (es : List (Entry T)) (ns : List (Moment T Waiter S))
+  only_steps : (ys : List (ChannelStep T Waiter)) → AreSteps ys → (b : Book T) (m : MergeMoment T Waiter S) (es : List (Entry T)) (ns : List (MergeMoment T Waiter S))
       → BeginByNames wakes b m ys es ns
   only_steps [] h b m es ns = tt
   only_steps (channel.Begin p a ∷ ys) h b m es ns = absurd h
@@ -31,20 +30,20 @@ module _ {T S : Type 0} (wakes : S → Waiter → S → Type 0) where
   -- ---- the two begins
 
   abbrev book_of_one : Book T
-  book_of_one = begun (record { 0 = 1 }) (TryClone (record { 0 = 0 }) (record { 0 = 2 })) first_book
+  book_of_one = book_begun (record { 0 = 1 }) (TryClone (record { 0 = 0 }) (record { 0 = 2 })) first_book
 
   abbrev book_of_two : Book T
-  book_of_two = begun (record { 0 = 2 }) (TryClone (record { 0 = 0 }) (record { 0 = 3 })) book_of_one
+  book_of_two = book_begun (record { 0 = 2 }) (TryClone (record { 0 = 0 }) (record { 0 = 3 })) book_of_one
 
-  second : (m : Moment T Waiter S) (es : List (Entry T)) (ns : List (Moment T Waiter S)) → BeginByNames wakes book_of_one m (drop 1 (steps_of two_clones)) es ns
+  second : (m : MergeMoment T Waiter S) (es : List (Entry T)) (ns : List (MergeMoment T Waiter S)) → BeginByNames wakes book_of_one m (drop 1 (steps_of two_clones)) es ns
   second m [] ns = tt
   second m (e ∷ es) [] = tt
   second m (e ∷ es) (n ∷ ns) = (TryClone (record { 0 = 0 }) (record { 0 = 3 }), refl, inl refl, only_steps (drop 2 (steps_of two_clones)) tt book_of_two n es ns)
 
-  first : (m : Moment T Waiter S) (es : List (Entry T)) (ns : List (Moment T Waiter S)) → BeginByNames wakes first_book m (steps_of two_clones) es ns
+  first : (m : MergeMoment T Waiter S) (es : List (Entry T)) (ns : List (MergeMoment T Waiter S)) → BeginByNames wakes first_book m (steps_of two_clones) es ns
   first m [] ns = tt
   first m (e ∷ es) [] = tt
   first m (e ∷ es) (n ∷ ns) = (TryClone (record { 0 = 0 }) (record { 0 = 2 }), refl, inl refl, second n es ns)
 
 pub two_clones_by_names : (T S : Type 0) (wakes : S → Waiter → S → Type 0) → TwoClonesByNames T S wakes
-two_clones_by_names T S wakes form given sink last woken k = first wakes (opened form sink) k.is.trace k.moments
+two_clones_by_names T S wakes form given sink last woken k = first wakes (just_opened form sink) k.is.trace k.is.run.moments

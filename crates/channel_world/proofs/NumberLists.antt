@@ -6,13 +6,13 @@ use Rattle.channel_interleaving.proofs.OwedCounts.{one_if, count_first}
 use Rattle.channel_model.proofs.Counting.{among_counts, among_self, count_without_other, or_right}
 use Rattle.channel_model.proofs.WaiterLemmas.{decided, same_number}
 use Rattle.channel_model.specs.Awake.{times}
-use Rattle.channel_model.specs.Lines.{same_waiter, is_among, without}
+use Rattle.channel_model.specs.Lines.{same_waiter, is_among, without_waiter}
 use Rattle.channel_model.specs.Names.{Directory, at}
 use Rattle.channel_model.specs.declared.name.Waiter.{Waiter}
 
 -- ---- two lists
 
-taken_out : (w : Waiter) (ws : List Waiter) → length (without w ws) + times w ws ≡ length ws
+taken_out : (w : Waiter) (ws : List Waiter) → length (without_waiter w ws) + times w ws ≡ length ws
 taken_out w [] = refl
 taken_out w (v ∷ vs) = elim (decided (same_waiter w v)) [
   | inl t ↦ rw t (let h = taken_out w vs in omega (arith, h))
@@ -39,7 +39,7 @@ no_longer [] ws once there = omega arith
 no_longer (v ∷ vs) ws once there =
     let out = taken_out v ws in
     let mine = there v (among_self v vs) in
-    let rest = no_longer vs (without v ws) (λ w. once_less w v vs (once w)) (λ w i.
+    let rest = no_longer vs (without_waiter v ws) (λ w. once_less w v vs (once w)) (λ w i.
     let other = not_behind v w vs (once w) i in
     let kept = count_without_other (same_waiter w) v other ws in
     let was = there w (or_right (same_waiter w v) (is_among w vs) i) in

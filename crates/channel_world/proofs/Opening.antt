@@ -4,7 +4,7 @@ use Rattle.concurrent_queue.specs.Queue.{Queue}
 use Rattle.concurrent_queue.specs.Step.{FitsAt}
 use Rattle.concurrent_queue.proofs.Interface.{shows}
 use Rattle.channel_calls.specs.Moves.{Channel}
-use Rattle.channel_interleaving.specs.Floor.{parts_in, book_of, Shown, IsOpen, IsQuiet}
+use Rattle.channel_interleaving.specs.Floor.{parts_in, book_of, Shown, IsJustOpened, IsQuiet}
 use Rattle.channel_interleaving.specs.Run.{Book}
 use Rattle.channel_interleaving.specs.declared.floor.Floor.{Floor}
 use Rattle.channel_model.specs.State.{start}
@@ -34,7 +34,7 @@ module _ {T : Type 0} where
       nobody [] e = refl
       nobody (x ∷ xs) e = absurd cc
 
-  pub opened_is : (f : Floor T) (capacity : Option ℕ) → IsOpen capacity f → IsQuiet f → at_rest f ≡ start capacity
+  pub opened_is : (f : Floor T) (capacity : Option ℕ) → IsJustOpened capacity f → IsQuiet f → at_rest f ≡ start capacity
   opened_is f capacity o quiet =
       at_rest_is f (new_scene capacity) o.stands.shown quiet
       ∙ ap (λ (b : Book T). state_at b (new_scene capacity)) o.book

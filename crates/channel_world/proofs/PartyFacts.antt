@@ -7,12 +7,12 @@ use Rattle.channel_calls.specs.declared.reply.Reply.{Reply}
 use Rattle.channel_model.specs.declared.name.Waiter.{Waiter}
 use Rattle.channel_model.specs.declared.refusal.WorldRefusal.{WorldRefusal}
 use Rattle.channel_model.specs.declared.run.Stopped.{Stopped}
-use Rattle.channel_steps.specs.Run.{EachStep, end_of}
+use Rattle.channel_steps.specs.Run.{EachStep, IsRun, end_of}
 use Rattle.channel_steps.specs.Scene.{Scene}
-use Rattle.channel_steps.proofs.Interface.{each_on, end_on}
+use Rattle.channel_steps.proofs.Interface.{run_on}
 use Rattle.channel_interleaving.specs.Floor.{book_of, Stands}
 use Rattle.channel_interleaving.specs.Refusal.{step_refusal}
-use Rattle.channel_interleaving.specs.Run.{Book, Made, MayRefuse, Stops, ended, with_woken}
+use Rattle.channel_interleaving.specs.Run.{Book, Made, MayRefuseStep, StopsAt, book_ended, with_woken}
 use Rattle.channel_interleaving.specs.Runs.{Moment, LeadsBy, RanTo, accepted_in, left_in, moment_of}
 use Rattle.channel_interleaving.specs.declared.floor.Floor.{Floor}
 use Rattle.channel_interleaving.specs.declared.names.Agent.{Agent}
@@ -20,8 +20,8 @@ use Rattle.channel_interleaving.specs.declared.step.Entry.{Entry}
 use Rattle.channel_interleaving.specs.declared.step.PartyId.{PartyId}
 use Rattle.channel_interleaving.specs.declared.step.Step.{Step}
 use Rattle.channel_interleaving.specs.declared.step.Step.TheVariants as step
-use Rattle.channel_interleaving.proofs.AccountFacts.{no_accounts, accounts_both}
-use Rattle.channel_world.specs.PartyRun.{asked, refused_of, AreSilent, EndsWithAnswer, StepsOnce}
+use Rattle.channel_interleaving.proofs.AccountFacts.{accounts_both}
+use Rattle.channel_world.specs.PartyRun.{steps_asked, refused_of, AreSilent, EndsWithAnswer, StepsOnce}
 use Rattle.channel_world.specs.View.{view_of}
 
 -- a list of one in two parts, of which the second has its element
@@ -61,17 +61,12 @@ module _ {T : Type 0} where
   ran_on xs ys left f g h trace more a b s k =
       let r = a s k in
       let t = b r.last r.stands in
-      let m : Moment T = moment_of f s in
-      let on : EachStep LeadsBy (end_of m r.moments) t.made more t.moments =
-      subst (λ (o : Moment T). EachStep LeadsBy o t.made more t.moments) (sym r.ends) t.run in
       record {
         made = r.made ++ t.made;
-        moments = r.moments ++ t.moments;
         last = t.last;
         first = ap (λ (l : List (Step T)). l ++ ys) (r.first ∙ append-nil r.made)
             ∙ (ap (λ (l : List (Step T)). r.made ++ l) t.first ∙ sym (append_assoc r.made t.made left));
-        run = each_on LeadsBy m r.made trace r.moments t.made more t.moments r.run on;
-        ends = end_on m r.moments t.moments ∙ (ap (λ (o : Moment T). end_of o t.moments) r.ends ∙ t.ends);
+        run = run_on LeadsBy (moment_of f s) (moment_of g r.last) (moment_of h t.last) r.made t.made trace more r.run t.run;
         stands = t.stands;
         accounts = accounts_both s r.last t.last r.accounts t.accounts;
         numbers = (
@@ -81,20 +76,6 @@ module _ {T : Type 0} where
             );
       }
 
-  -- no step at all, of a list that is left as it is
-  pub ran_nothing : (xs : List (Step T)) (f : Floor T) → RanTo xs xs f [] f
-  ran_nothing xs f s k = record {
-    made = [];
-    moments = [];
-    last = s;
-    first = refl;
-    run = tt;
-    ends = refl;
-    stands = k;
-    accounts = no_accounts s;
-    numbers = refl;
-  }
-
   -- ---- one step
 
   made_all : (x : Step T) (made left : List (Step T)) → x ∷ [] ≡ made ++ left → left ≡ [] → made ≡ x ∷ []
@@ -102,24 +83,23 @@ module _ {T : Type 0} where
       sym (e ∙ (ap (λ (l : List (Step T)). made ++ l) none ∙ append-nil made))
 
   -- a run of one step has one entry
-  record One (m : Moment T) (x : Step T) (es : List (Entry T)) (ns : List (Moment T)) : Type 0 where
+  record One (m : Moment T) (x : Step T) (es : List (Entry T)) (n : Moment T) : Type 0 where
     pub entry : Entry T
-    pub moment : Moment T
     pub entries : es ≡ entry ∷ []
-    pub moments : ns ≡ moment ∷ []
-    pub by : LeadsBy m x entry moment
+    pub by : LeadsBy m x entry n
 
-  only : (m : Moment T) (x : Step T) (es : List (Entry T)) (ns : List (Moment T)) → EachStep LeadsBy m (x ∷ []) es ns → One m x es ns
-  only m x [] ns h = absurd h
-  only m x (e ∷ es) [] h = absurd h
-  only m x (e ∷ []) (n ∷ []) h = record { entry = e; moment = n; entries = refl; moments = refl; by = h.0 }
-  only m x (e ∷ []) (n ∷ o ∷ os) h = absurd h.1
-  only m x (e ∷ f ∷ es) (n ∷ ns) h = absurd h.1
+  only : (m n : Moment T) (x : Step T) (es : List (Entry T)) (ns : List (Moment T)) → EachStep LeadsBy m (x ∷ []) es ns → end_of m ns ≡ n
+      → One m x es n
+  only m n x [] ns h same = absurd h
+  only m n x (e ∷ es) [] h same = absurd h
+  only m n x (e ∷ []) (o ∷ []) h same = record { entry = e; entries = refl; by = subst (λ (k : Moment T). LeadsBy m x e k) same h.0 }
+  only m n x (e ∷ []) (o ∷ p ∷ ps) h same = absurd h.1
+  only m n x (e ∷ f ∷ es) (o ∷ os) h same = absurd h.1
 
   -- and one of none has none
-  none : (m : Moment T) (es : List (Entry T)) (ns : List (Moment T)) → EachStep LeadsBy m [] es ns → es ≡ []
-  none m [] ns h = refl
-  none m (e ∷ es) ns h = absurd h
+  none : (m n : Moment T) (es : List (Entry T)) → IsRun LeadsBy m [] es n → es ≡ []
+  none m n [] run = refl
+  none m n (e ∷ es) run = absurd run.each
 
   -- a party whose step did not answer is at work still
   still_at_work : (b : Book T) (s : Scene T Waiter) (p : PartyId) (e : Entry T) (c : Book T) (t : Scene T Waiter)
@@ -127,8 +107,8 @@ module _ {T : Type 0} where
   still_at_work b s p e c t made silent =
       let k = made.book.0 in
       let a = made.book.1 in
-      let is : c ≡ ended k a None made.kept (with_woken e.woken.items b) =
-      subst (λ (r : Option (Reply T)). c ≡ ended k a r made.kept (with_woken e.woken.items b)) silent made.book.4 in
+      let is : c ≡ book_ended k a None made.kept (with_woken e.woken.items b) =
+      subst (λ (r : Option (Reply T)). c ≡ book_ended k a r made.kept (with_woken e.woken.items b)) silent made.book.4 in
       let same : c.agents ≡ b.agents = ap (λ (d : Book T). d.agents) is in
       subst (λ (agents : List (Agent T)). step_refusal c.roll agents (step.Step p) ≡ None) (sym same) made.not_refused
 
@@ -146,27 +126,25 @@ module _ {T : Type 0} where
       let r = ran s before.stands in
       let m : Moment T = moment_of old s in
       let made : r.made ≡ step.Step p ∷ [] = made_all (step.Step p) r.made left r.first used in
-      let o = only m (step.Step p) trace r.moments (subst (λ (l : List (Step T)). EachStep LeadsBy m l trace r.moments) made r.run) in
-      let ends : o.moment ≡ moment_of new r.last =
-      subst (λ (l : List (Moment T)). end_of m l ≡ moment_of new r.last) o.moments r.ends in
-      let led : LeadsBy m (step.Step p) o.entry (moment_of new r.last) =
-      subst (λ (n : Moment T). LeadsBy m (step.Step p) o.entry n) ends o.by in
+      let run = r.run in
+      let o = only m (moment_of new r.last) (step.Step p) trace run.moments
+      (subst (λ (l : List (Step T)). EachStep LeadsBy m l trace run.moments) made run.each) run.ends in
       let all : RanTo (step.Step p ∷ []) [] old trace new =
       subst (λ (l : List (Step T)). RanTo (step.Step p ∷ []) l old trace new) used ran in
       record {
         entry = o.entry;
         entries = o.entries;
         ran = subst (λ (l : List (Entry T)). RanTo (step.Step p ∷ []) [] old l new) o.entries all;
-        goes_on = λ silent. still_at_work (book_of old) s p o.entry (book_of new) r.last led.made silent;
+        goes_on = λ silent. still_at_work (book_of old) s p o.entry (book_of new) r.last o.by.made silent;
       }
 
   -- one that stopped: nothing was made, and it is refused
   pub record NoneMade (p : PartyId) (old : Floor T) (trace : List (Entry T)) (why : WorldRefusal) (new : Floor T) : Type 0 where
     pub ran : RanTo (step.Step p ∷ []) (step.Step p ∷ []) old [] new
-    pub reason : MayRefuse (book_of new) (step.Step p) why
+    pub reason : MayRefuseStep (book_of new) (step.Step p) why
 
   pub none_made : (p : PartyId) (left : List (Step T)) (old : Floor T) (trace : List (Entry T)) (stopped : Stopped) (new : Floor T)
-      → Stands old → RanTo (step.Step p ∷ []) left old trace new → Stops (book_of new) left (length trace) (Some stopped)
+      → Stands old → RanTo (step.Step p ∷ []) left old trace new → StopsAt (book_of new) left (length trace) (Some stopped)
       → NoneMade p old trace stopped.why new
   none_made p [] old trace stopped new before ran stops = absurd stops
   none_made p (y ∷ ys) old trace stopped new before ran stops =
@@ -174,12 +152,13 @@ module _ {T : Type 0} where
       let r = ran before.scene before.stands in
       let m : Moment T = moment_of old before.scene in
       let f = first_of x y r.made ys r.first in
-      let no : trace ≡ [] = none m trace r.moments (subst (λ (l : List (Step T)). EachStep LeadsBy m l trace r.moments) f.0 r.run) in
+      let last : Moment T = moment_of new r.last in
+      let no : trace ≡ [] = none m last trace (subst (λ (l : List (Step T)). IsRun LeadsBy m l trace last) f.0 r.run) in
       let same : RanTo (x ∷ []) (x ∷ []) old trace new = subst (λ (l : List (Step T)). RanTo (x ∷ []) l old trace new) f.1 ran in
       let it : y ≡ x = cc f.1 in
       record {
         ran = subst (λ (l : List (Entry T)). RanTo (x ∷ []) (x ∷ []) old l new) no same;
-        reason = subst (λ (z : Step T). MayRefuse (book_of new) z stopped.why) it stops.1;
+        reason = subst (λ (z : Step T). MayRefuseStep (book_of new) z stopped.why) it stops.1;
       }
 
   -- ---- the run so far
@@ -222,8 +201,8 @@ module _ {T : Type 0} where
   -- ---- the end of the run
 
   pub record Ended (p : PartyId) (f : Floor T) (trace : List (Entry T)) (stopped : Option Stopped) (h : Floor T) : Type 0 where
-    pub ran : RanTo (replicate (asked trace stopped) (step.Step p)) (refused_of p stopped) f trace h
-    pub stops : Stops (book_of h) (refused_of p stopped) (length trace) stopped
+    pub ran : RanTo (replicate (steps_asked trace stopped) (step.Step p)) (refused_of p stopped) f trace h
+    pub stops : StopsAt (book_of h) (refused_of p stopped) (length trace) stopped
 
   pub ended_well : (p : PartyId) (n : ℕ) (f : Floor T) (trace : List (Entry T)) (h : Floor T) → length trace ≡ n
       → RanTo (replicate n (step.Step p)) [] f trace h → Ended p f trace None h
@@ -235,7 +214,7 @@ module _ {T : Type 0} where
   pub ended_refused : (p : PartyId) (n : ℕ) (f : Floor T) (trace : List (Entry T)) (g h : Floor T) (why : WorldRefusal)
       (made : List (Entry T)) (stopped : Option Stopped) (place : ℕ) → length trace ≡ n
       → RanTo (replicate n (step.Step p)) [] f trace g → RanTo (step.Step p ∷ []) (step.Step p ∷ []) g [] h
-      → MayRefuse (book_of h) (step.Step p) why → made ≡ trace → stopped ≡ Some (record { place = place; why = why })
+      → MayRefuseStep (book_of h) (step.Step p) why → made ≡ trace → stopped ≡ Some (record { place = place; why = why })
       → place ≡ length trace → Ended p f made stopped h
   ended_refused p n f trace g h why made stopped place count so_far one reason same stop at =
       let x : Step T = step.Step p in

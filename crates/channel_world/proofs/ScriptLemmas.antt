@@ -2,7 +2,7 @@
 use Rattle.std.proofs.lemmas.Bool.Decides.{nat_tests}
 use Rattle.std.proofs.Common.{arith, ◌≤◌, ◌^◌, nat_lt, false, Option, None, Some, IfSome, codes, ◌≡◌, ℕ, suc, ◌+◌, List, [], ◌∷◌, ◌++◌, refl, sym, subst, ap, ◌∙◌, append_assoc, append-nil}
 use Rattle.channel_language.specs.Language.{Language}
-use Rattle.channel_world.specs.Script.{Script, Scene, ending, replying_first, readable, obeyed, followed, opened, first_scene}
+use Rattle.channel_world.specs.Script.{Script, ScriptScene, ending, replying_first, readable, obeyed, followed, opened, first_scene}
 use Rattle.channel_language.specs.Command.{Command}
 use Rattle.channel_world.specs.Added.{Adds, Extends}
 use Rattle.channel_world.specs.declared.script.end.ScriptEnd.{ScriptEnd}
@@ -45,7 +45,7 @@ goes_on whole rest first out line out' g e = record {
 }
 
 -- a line that can be read
-pub followed_more : (language : Language) (s t : Scene) (n : ℕ) (lines rest : List (List ℕ)) (line reply : List ℕ) (command : Command) → lines ≡ line ∷ rest → Some command ≡ readable language n line → record { after = t; line = reply } ≡ obeyed s command
+pub followed_more : (language : Language) (s t : ScriptScene) (n : ℕ) (lines rest : List (List ℕ)) (line reply : List ℕ) (command : Command) → lines ≡ line ∷ rest → Some command ≡ readable language n line → record { after = t; line = reply } ≡ obeyed s command
     → followed language s n lines ≡ replying_first reply (followed language t (n + 1) rest)
 followed_more language s t n lines rest line reply command e r o = rw (e, ← r, ← o) refl
 

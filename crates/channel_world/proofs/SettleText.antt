@@ -9,7 +9,7 @@ use Rattle.channel_model.specs.Answer.{Answer, answer}
 use Rattle.channel_model.specs.Settling.{poll_of, Settles, pending_count}
 use Rattle.channel_model.specs.State.{State}
 use Rattle.channel_model.specs.declared.name.Waiter.{Waiter}
-use Rattle.channel_world.specs.Script.{Scene, Obeyed, settled, settles, waiting_count}
+use Rattle.channel_world.specs.Script.{ScriptScene, Obeyed, settled, settles, waiting_count}
 use Rattle.channel_world.specs.Settled.{polls_in}
 use Rattle.channel_language.specs.Table.{Table}
 use Rattle.channel_language.specs.Text.{poll_text, parted, settle_text, part_before, wants_growth}
@@ -101,7 +101,7 @@ ample_settles (suc n) s t (p ∷ ps) h (front, (mid, names, answers, more)) w =
 halved : (n k : ℕ) → 2 * k ≤ n → k ≤ n / 2
 halved n k h = omega (arith, h)
 
-pub scene_settles : (scene : Scene) (t : State ℕ) (polls : List (Settled ℕ))
+pub scene_settles : (scene : ScriptScene) (t : State ℕ) (polls : List (Settled ℕ))
     → 2 * length polls ≤ pending_count scene.state.waiting * (pending_count scene.state.waiting + 1)
     → Settles scene.state (polls_in polls) t → AreAmple polls
     → record { after = record scene { state = t }; line = settle_text scene.table (polls_in polls) } ≡ settles scene

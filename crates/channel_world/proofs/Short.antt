@@ -6,11 +6,11 @@ use Rattle.channel_calls.specs.declared.reply.Reply.{Reply}
 use Rattle.channel_calls.specs.declared.reply.Reply.TheVariants as reply
 use Rattle.channel_calls.specs.declared.stage.Line.{Line}
 use Rattle.channel_calls.specs.declared.stage.Line.TheVariants.{Sends, Receives, Streams, Closings}
-use Rattle.channel_model.specs.Answer.{Answer, answer, replying, leaving, pending, space_of, Found, first, none_yet, none_ever, found, send_poll_answer, recv_poll_answer, next_answer, closed_poll_answer, poll_answer}
+use Rattle.channel_model.specs.Answer.{Answer, answer, replying, after_leaving, pending, space_of, Found, first, none_yet, none_ever, found, send_poll_answer, recv_poll_answer, next_answer, closed_poll_answer, poll_answer}
 use Rattle.channel_model.specs.Awake.{AwakeIn, Kind, Placed}
 use Rattle.channel_model.specs.Laws.{is_line, line_of, line_of_operation}
 use Rattle.channel_model.specs.Lines.{Waiting, is_among, untold, told_by, after_news, gone, passed_on, left_after, told_after, standing}
-use Rattle.channel_model.specs.Names.{Names, Operation, send, recv, closing, at, with_operation_changed}
+use Rattle.channel_model.specs.Names.{Names, ModelOperation, send, recv, closing, at, with_operation_changed}
 use Rattle.channel_model.specs.Refused.{Lack, memory, serials, refused, not_listening, not_standing, not_held, send_not_polled, recv_not_polled, not_polled, next_not_polled, answer_without, Answers}
 use Rattle.channel_model.specs.Settling.{poll_of, SettlesTo}
 use Rattle.channel_model.specs.State.{State, with_waiting}
@@ -179,18 +179,18 @@ module _ {T : Type 0} where
     kept : KeepsLines s.names
     kept line v e = e
 
-    finishes : (op : OpId) (handle : HandleId) (x : Operation T) → at op.0 s.names.operations ≡ Some x
+    finishes : (op : OpId) (handle : HandleId) (x : ModelOperation T) → at op.0 s.names.operations ≡ Some x
         → KeepsLines (with_operation_changed op (send handle None) s.names)
     finishes op handle x there line (Stream r) e = e
     finishes op handle x there line (Op other) e =
         let named = found_name op.0 s.names.operations x there in
         elim (decided (nat_eq op.0 other.0)) [
           | inl t ↦
-              let here = ap (λ (o : Option (Operation T)). is_line line (line_of_operation o))
+              let here = ap (λ (o : Option (ModelOperation T)). is_line line (line_of_operation o))
               (set_here op.0 other.0 (Some (send handle None)) s.names.operations named t) in
               absurd (let no : false ≡ true = sym here ∙ e in cc)
           | inr t ↦
-              sym (ap (λ (o : Option (Operation T)). is_line line (line_of_operation o))
+              sym (ap (λ (o : Option (ModelOperation T)). is_line line (line_of_operation o))
               (set_elsewhere op.0 other.0 (Some (send handle None)) s.names.operations named t)) ∙ e
         ]
 
@@ -241,13 +241,13 @@ module _ {T : Type 0} where
 
       closed_so : Polled Closings (Op op) (closed_poll_answer s op)
       closed_so =
-          either_way (Polled Closings (Op op)) s.channel.closed (leaving Nothing Closings (Op op) s (reply.ClosedPoll (Ready (Ok tt))))
+          either_way (Polled Closings (Op op)) s.channel.closed (after_leaving Nothing Closings (Op op) s (reply.ClosedPoll (Ready (Ok tt))))
           (pending Closings (Op op) s (reply.ClosedPoll Pending)) (leaves (line_of s.names) (Op op) s.waiting awake.placed e Closings, kept, inl refl)
           (stood (line_of s.names) (Op op) s.waiting awake.placed e Closings Closings, kept, inl refl)
 
       send_lacks : (lack : Lack) (x : Space) → AllPolled Sends (Op op) (send_not_polled lack s op x)
       send_lacks lack Open =
-          unheld awake (Op op) e Sends lack Open (leaving Nothing Sends (Op op) s (reply.SendPoll (Ready (Err (refused lack)))))
+          unheld awake (Op op) e Sends lack Open (after_leaving Nothing Sends (Op op) s (reply.SendPoll (Ready (Err (refused lack)))))
           (leaves (line_of s.names) (Op op) s.waiting awake.placed e Sends, kept, inl refl)
       send_lacks lack Filled = out_of_line awake (Op op) e Sends (reply.SendPoll (Ready (Err (refused lack)))) refl
       send_lacks lack Shut = none_polled Sends (Op op)
@@ -271,26 +271,26 @@ module _ {T : Type 0} where
       pub lacking : (lack : Lack) → AllPolled line w (answer_without lack s (poll_of w))
 
     module _ (awake : AwakeIn s) where
-      operation_on : (op : OpId) (o : Option (Operation T)) → at op.0 s.names.operations ≡ o → IsSome (line_of_operation o)
+      operation_on : (op : OpId) (o : Option (ModelOperation T)) → at op.0 s.names.operations ≡ o → IsSome (line_of_operation o)
           → is_among (Op op) s.waiting.woken ≡ true → PolledOn (Op op)
       operation_on op (Some (send handle (Some m))) there some e = record {
         line = Sends;
-        own = ap (λ (o : Option (Operation T)). line_of_operation o) there;
-        ample = subst (λ (o : Option (Operation T)). Polled Sends (Op op) (poll_answer s op o)) (sym there) (send_so awake op e handle m (space_of s.channel) there);
-        lacking = λ lack. subst (λ (o : Option (Operation T)). AllPolled Sends (Op op) (not_polled lack s op o)) (sym there) (send_lacks awake op e lack (space_of s.channel));
+        own = ap (λ (o : Option (ModelOperation T)). line_of_operation o) there;
+        ample = subst (λ (o : Option (ModelOperation T)). Polled Sends (Op op) (poll_answer s op o)) (sym there) (send_so awake op e handle m (space_of s.channel) there);
+        lacking = λ lack. subst (λ (o : Option (ModelOperation T)). AllPolled Sends (Op op) (not_polled lack s op o)) (sym there) (send_lacks awake op e lack (space_of s.channel));
       }
       operation_on op (Some (send handle None)) there some e = cc some
       operation_on op (Some (recv handle)) there some e = record {
         line = Receives;
-        own = ap (λ (o : Option (Operation T)). line_of_operation o) there;
-        ample = subst (λ (o : Option (Operation T)). Polled Receives (Op op) (poll_answer s op o)) (sym there) (recv_so awake op e (found s.channel));
-        lacking = λ lack. subst (λ (o : Option (Operation T)). AllPolled Receives (Op op) (not_polled lack s op o)) (sym there) (recv_lacks awake op e lack (found s.channel));
+        own = ap (λ (o : Option (ModelOperation T)). line_of_operation o) there;
+        ample = subst (λ (o : Option (ModelOperation T)). Polled Receives (Op op) (poll_answer s op o)) (sym there) (recv_so awake op e (found s.channel));
+        lacking = λ lack. subst (λ (o : Option (ModelOperation T)). AllPolled Receives (Op op) (not_polled lack s op o)) (sym there) (recv_lacks awake op e lack (found s.channel));
       }
       operation_on op (Some (closing handle)) there some e = record {
         line = Closings;
-        own = ap (λ (o : Option (Operation T)). line_of_operation o) there;
-        ample = subst (λ (o : Option (Operation T)). Polled Closings (Op op) (poll_answer s op o)) (sym there) (closed_so awake op e);
-        lacking = λ lack. subst (λ (o : Option (Operation T)). AllPolled Closings (Op op) (not_polled lack s op o)) (sym there) (closed_lacks awake op e lack);
+        own = ap (λ (o : Option (ModelOperation T)). line_of_operation o) there;
+        ample = subst (λ (o : Option (ModelOperation T)). Polled Closings (Op op) (poll_answer s op o)) (sym there) (closed_so awake op e);
+        lacking = λ lack. subst (λ (o : Option (ModelOperation T)). AllPolled Closings (Op op) (not_polled lack s op o)) (sym there) (closed_lacks awake op e lack);
       }
       operation_on op None there some e = cc some
 

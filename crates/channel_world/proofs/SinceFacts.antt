@@ -15,18 +15,18 @@ use Rattle.channel_laws.proofs.BoundMoves.{SaysOf, FlagOf}
 use Rattle.channel_laws.proofs.Bounds.{step_bounded, never_full}
 use Rattle.channel_laws.proofs.Closers.{row_closed}
 use Rattle.channel_model.specs.declared.name.Waiter.{Waiter}
-use Rattle.channel_steps.specs.Moments.{Deed, with_deed, ClosedIt}
-use Rattle.channel_steps.specs.Run.{Next, IsRun, Touches, new_scene, begun}
+use Rattle.channel_steps.specs.Moments.{MarkedMoment, with_marked, ClosedIt}
+use Rattle.channel_steps.specs.Run.{Next, NextScene, IsRun, new_scene, call_begun}
 use Rattle.channel_steps.specs.Scene.{Under, Scene, Steps, MayFinish, sees, does, unless_ended}
 use Rattle.channel_steps.specs.declared.party.Entry.{Entry as ChannelEntry}
 use Rattle.channel_steps.specs.declared.run.Step.{Step as ChannelStep}
 use Rattle.channel_steps.specs.declared.run.Step.TheVariants as step
-use Rattle.event_listener.specs.Notices.{Woken}
+use Rattle.channel_steps.proofs.Interface.{run_so}
 use Rattle.channel_interleaving.proofs.Interface.{led_further, none_under_way}
 use Rattle.channel_interleaving.specs.Counted.{tally}
 use Rattle.channel_interleaving.specs.Doing.{any_close, is_close}
 use Rattle.channel_interleaving.specs.Floor.{parts_in, IsQuiet, Stands}
-use Rattle.channel_interleaving.specs.Way.{Pace, IsWay, replies_of}
+use Rattle.channel_interleaving.specs.Way.{replies_of}
 use Rattle.channel_interleaving.specs.declared.floor.Floor.{Floor}
 use Rattle.channel_model.specs.State.{State}
 use Rattle.channel_world.specs.Since.{closings_among, closers_in, closings_left, NoneSaysFull, HasNoBound, ClosesOnce, ClosesOnceToHere, ClosesWhatIsLeft, ClosesOnceFromRest, NoneClosesAgain, IsNeverFull, IsNeverFullToHere, IsNeverFullSince, IsNeverFullFromRest}
@@ -53,7 +53,7 @@ or_nothing false = omega arith
 
 module _ {T : Type 0} where
   abbrev has_closed : Under T Waiter → Bool
-  has_closed u = any_close u.deeds
+  has_closed u = any_close u.marks
 
   closers_join : (us vs : List (Under T Waiter)) → tally has_closed (us ++ vs) ≡ tally has_closed us + tally has_closed vs
   closers_join [] vs = omega arith
@@ -63,29 +63,29 @@ module _ {T : Type 0} where
   closers_see c [] = refl
   closers_see c (u ∷ us) = let h = closers_see c us in omega (arith, h)
 
-  one_more_deed : (ds : List (Deed T Waiter)) (d : Deed T Waiter)
+  one_more_deed : (ds : List (MarkedMoment T Waiter)) (d : MarkedMoment T Waiter)
       → one_if (any_close (ds ++ d ∷ [])) ≤ one_if (any_close ds) + one_if (is_close d.mark)
   one_more_deed [] d = let h = or_nothing (is_close d.mark) in omega (arith, h)
   one_more_deed (e ∷ ds) d =
       or_more (is_close e.mark) (any_close (ds ++ d ∷ [])) (any_close ds) (one_if (is_close d.mark)) (one_more_deed ds d)
 
-  with_mark : (ds : List (Deed T Waiter)) (m : Mark) (c : Channel T Waiter) (seen : List (Channel T Waiter))
-      → one_if (any_close (with_deed ds m c seen)) ≤ one_if (any_close ds) + one_if (is_close m)
+  with_mark : (ds : List (MarkedMoment T Waiter)) (m : Mark) (c : Channel T Waiter) (seen : List (Channel T Waiter))
+      → one_if (any_close (with_marked ds m c seen)) ≤ one_if (any_close ds) + one_if (is_close m)
   with_mark ds Nothing c seen = omega arith
   with_mark ds m c seen = one_more_deed ds (record { mark = m; before = c; seen = seen })
 
-  closed_deeds : (ds : List (Deed T Waiter)) → ClosedIt ds → any_close ds ≡ true
+  closed_deeds : (ds : List (MarkedMoment T Waiter)) → ClosedIt ds → any_close ds ≡ true
   closed_deeds [] h = absurd h
   closed_deeds (d ∷ []) h = ap (λ (m : Mark). is_close m || false) h.0
   closed_deeds (d ∷ e ∷ ds) h = absurd h
 
   -- a call that says that it closed the channel has the mark, and is under way no more
   ended : (u : Under T Waiter) (r : Option (Reply T)) (left : Option (Kept T)) → MayFinish u r left
-      → one_if_closed r + tally has_closed (unless_ended u r) ≤ one_if (any_close u.deeds)
+      → one_if_closed r + tally has_closed (unless_ended u r) ≤ one_if (any_close u.marks)
   ended u None left h = omega arith
   ended u (Some (reply.Closed true)) left h =
       let met = h.met in
-      let one : one_if (any_close u.deeds) ≡ 1 = ap one_if (closed_deeds u.deeds (row_closed u.ask u.deeds met.1 met.3)) in
+      let one : one_if (any_close u.marks) ≡ 1 = ap one_if (closed_deeds u.marks (row_closed u.ask u.marks met.1 met.3)) in
       omega (arith, one)
   ended u (Some r) left h = omega arith
 
@@ -104,7 +104,7 @@ module _ {T : Type 0} where
       let now : Under T Waiter = does st.mine st.at_now e.mark s.now t.now in
       let b = step_bounded s t p e names st in
       let flag = flagged e.mark s.now t.now b.says b.flag in
-      let mine = with_mark st.mine.deeds e.mark s.now st.mine.seen in
+      let mine = with_mark st.mine.marks e.mark s.now st.mine.seen in
       let end = ended now e.reply e.kept st.finishes in
       let others = map (sees t.now) st.behind in
       let all : tally has_closed s.under_way ≡ tally has_closed (st.before ++ (st.mine ∷ st.behind)) = ap (tally has_closed) st.there in
@@ -122,8 +122,8 @@ module _ {T : Type 0} where
   next_closes s (step.Begin p a) e names t n =
       let none : one_if_closed e.reply ≡ 0 = ap (λ (f : ChannelEntry T). one_if_closed f.reply) n.0.entry in
       let flag : while_open t.now.queue.closed ≡ while_open s.now.queue.closed = ap (λ (c : Channel T Waiter). while_open c.queue.closed) n.0.now in
-      let after : tally has_closed t.under_way ≡ tally has_closed (s.under_way ++ begun p a n.0.at s.now ∷ []) = ap (tally has_closed) n.0.under_way in
-      let joined = closers_join s.under_way (begun p a n.0.at s.now ∷ []) in
+      let after : tally has_closed t.under_way ≡ tally has_closed (s.under_way ++ call_begun p a n.0.at s.now ∷ []) = ap (tally has_closed) n.0.under_way in
+      let joined = closers_join s.under_way (call_begun p a n.0.at s.now ∷ []) in
       omega (arith, none, flag, after, joined)
   next_closes s (step.Step p) e names t n = step_closes s t p e names n
 
@@ -131,41 +131,25 @@ module _ {T : Type 0} where
   given_first None rs = omega arith
   given_first (Some r) rs = refl
 
-  way_closes : (s t : Scene T Waiter) (xs : List (Pace T)) → IsWay s xs t → closings_among (replies_of xs) ≤ closings_left s
-  way_closes s t [] w = omega arith
-  way_closes s t (x ∷ xs) w =
-      let now = next_closes s x.step x.entry x.woken w.0 w.1 in
-      let rest = way_closes w.0 t xs w.2 in
-      let first = given_first x.entry.reply (replies_of xs) in
-      omega (arith, now, rest, first)
+  run_closes : (s t : Scene T Waiter) (xs : List (ChannelStep T Waiter)) (es : List (ChannelEntry T)) → IsRun NextScene s xs es t
+      → closings_among (replies_of es) ≤ closings_left s
+  run_closes s t xs es run =
+      run_so NextScene (λ a xs es b. closings_among (replies_of es) ≤ closings_left a) (λ a. omega arith)
+      (λ a x e b xs es c n rest.
+      let now = next_closes a x e n.0 b n.1 in
+      let first = given_first e.reply (replies_of es) in
+      omega (arith, now, rest, first))
+      s xs es t run
 
 -- ---- without a bound
 
--- somebody is woken, whoever it is
-module _ {T : Type 0} (world : Parts T Waiter) where
-  abbrev Anyhow : Unit {0} → Waiter → Unit {0} → Type 0
-  Anyhow a w b = Unit {0}
-
-  anyhow : (ws : List Waiter) → Woken Anyhow tt ws tt
-  anyhow [] = refl
-  anyhow (w ∷ ws) = (tt, tt, anyhow ws)
-
-  untouched : (x : ChannelStep T Waiter) → Touches x world world
-  untouched (step.Begin p a) = refl
-  untouched (step.Step p) = inr (inr (Senders, count Senders world.roster, refl))
-
-  -- a way is a run over whatever parts
-  way_runs : (s t : Scene T Waiter) (xs : List (Pace T)) → IsWay s xs t
-      → IsRun Anyhow world s tt (map (λ (x : Pace T). x.step) xs) (map (λ (x : Pace T). x.entry) xs) world t tt
-  way_runs s t [] w = (refl, w, refl)
-  way_runs s t (x ∷ xs) w = (world, w.0, tt, x.woken, untouched x.step, w.1, anyhow x.woken, way_runs w.0 t xs w.2)
-
-  none_given : (xs : List (Pace T)) → NoneFull (map (λ (x : Pace T). x.entry) xs) → NoneSaysFull (replies_of xs)
+module _ {T : Type 0} where
+  none_given : (es : List (ChannelEntry T)) → NoneFull es → NoneSaysFull (replies_of es)
   none_given [] h = tt
-  none_given (x ∷ xs) h = by x.entry.reply h.0 (none_given xs h.2)
+  none_given (e ∷ es) h = by e.reply h.0 (none_given es h.2)
     where
-      by : (r : Option (Reply T)) → (Replies SaysFull r → ⊥) → NoneSaysFull (replies_of xs)
-          → NoneSaysFull (option_to_list r ++ replies_of xs)
+      by : (r : Option (Reply T)) → (Replies SaysFull r → ⊥) → NoneSaysFull (replies_of es)
+          → NoneSaysFull (option_to_list r ++ replies_of es)
       by None f rest = rest
       by (Some r) f rest = (f, rest)
 
@@ -175,11 +159,9 @@ module _ {T : Type 0} (world : Parts T Waiter) where
     alike = subst (λ (o : Option ℕ). Each (λ (u : Under T Waiter). AllOf o u.seen) s.under_way) (sym h.now) h.seen;
   }
 
-  way_never_full : (s t : Scene T Waiter) (xs : List (Pace T)) → HasNoBound s → IsWay s xs t → NoneSaysFull (replies_of xs)
-  way_never_full s t xs h w =
-      none_given xs
-      (never_full T Waiter (Unit {0}) Anyhow s t (map (λ (x : Pace T). x.step) xs) (map (λ (x : Pace T). x.entry) xs)
-      (bound_sound s h) h.now (world, world, tt, tt, way_runs s t xs w))
+  run_never_full : (s t : Scene T Waiter) (xs : List (ChannelStep T Waiter)) (es : List (ChannelEntry T)) → HasNoBound s
+      → IsRun NextScene s xs es t → NoneSaysFull (replies_of es)
+  run_never_full s t xs es h run = none_given es (never_full T Waiter s t xs es (bound_sound s h) h.now run)
 
 -- ---- the laws
 
@@ -190,7 +172,7 @@ one_at_most false = omega arith
 module _ {T : Type 0} where
   pub closes_what_is_left : (world : Floor T) → ClosesWhatIsLeft (view_of world)
   closes_what_is_left world s replies led =
-      subst (λ (rs : List (Reply T)). closings_among rs ≤ closings_left s) led.way.given (way_closes s led.last led.way.paces led.way.is)
+      subst (λ (rs : List (Reply T)). closings_among rs ≤ closings_left s) led.way.given (run_closes s led.last led.way.steps led.way.trace led.way.run)
 
   pub closes_once : (world : Floor T) → ClosesOnce (view_of world)
   closes_once world capacity replies led =
@@ -227,7 +209,7 @@ module _ {T : Type 0} where
   pub is_never_full_since : (world : Floor T) → IsNeverFullSince (view_of world)
   is_never_full_since world s replies h led =
       subst (λ (rs : List (Reply T)). NoneSaysFull rs) led.way.given
-      (way_never_full (parts_in world) s led.last led.way.paces h led.way.is)
+      (run_never_full s led.last led.way.steps led.way.trace h led.way.run)
 
   pub is_never_full : (world : Floor T) → IsNeverFull (view_of world)
   is_never_full world replies led = is_never_full_since world (new_scene None) replies (record { now = refl; seen = tt }) led

@@ -1,4 +1,4 @@
--- How soon a call ends that nobody holds up.
+-- How soon a call ends where the others are quiet.
 use Rattle.std.proofs.Common.{arith, ◌≡◌, ℕ, suc, ◌≤◌, ◌<◌, ◌==◌, ◌&&◌, Bool, true, false, if◌then◌else◌, is_none, List, [], ◌∷◌, ◌++◌, Option, None, Some, refl, sym, ap, ◌∙◌, subst}
 use Rattle.std.proofs.lemmas.Bool.Decides.{nat_tests}
 use Rattle.channel_calls.specs.declared.reply.Reply.{Reply}
@@ -9,7 +9,7 @@ use Rattle.channel_interleaving.specs.Runs.{Moment, FewLeft, LeadsBy}
 use Rattle.channel_interleaving.specs.declared.step.Entry.{Entry}
 use Rattle.channel_interleaving.specs.declared.step.Step.{Step}
 use Rattle.channel_interleaving.specs.declared.step.Step.TheVariants as step
-use Rattle.channel_world.specs.StepsLeft.{in_a_row, NobodyHoldsUp, EndInARow, EndInFront}
+use Rattle.channel_world.specs.StepsLeft.{in_a_row, OthersQuietOf, EndInARow, EndInFront}
 
 same_number : (a b : ℕ) → (a == b) ≡ true → a ≡ b
 same_number a b e = grind (arith, nat_tests)
@@ -17,21 +17,21 @@ same_number a b e = grind (arith, nat_tests)
 module _ {T : Type 0} where
   -- there are no more in a row than are left
   row_left : (p : ℕ) (m : Moment T) (xs : List (Step T)) (es : List (Entry T)) (ns : List (Moment T)) → AllKept m.book m.scene
-      → EachStep LeadsBy m xs es ns → NobodyHoldsUp p m → in_a_row p xs es ≤ m.left p
+      → EachStep LeadsBy m xs es ns → OthersQuietOf p m → in_a_row p xs es ≤ m.left p
   row_left p m [] [] [] k h free = omega arith
   row_left p m (step.Begin q c ∷ xs) (e ∷ es) (n ∷ ns) k h free = omega arith
   row_left p m (step.Step q ∷ xs) (e ∷ es) (n ∷ ns) k h free =
       by (λ still. row_left p n xs es ns h.0.holds.kept h.1 still) (q.0 == p) refl e.reply refl
     where
-      by : (NobodyHoldsUp p n → in_a_row p xs es ≤ n.left p) → (b : Bool) → (q.0 == p) ≡ b → (r : Option (Reply T)) → e.reply ≡ r
+      by : (OthersQuietOf p n → in_a_row p xs es ≤ n.left p) → (b : Bool) → (q.0 == p) ≡ b → (r : Option (Reply T)) → e.reply ≡ r
           → (if b && is_none r then suc (in_a_row p xs es) else 0) ≤ m.left p
       by more false same r goes_on = omega arith
       by more true same (Some x) goes_on = omega arith
       by more true same None goes_on =
           let his : q.0 ≡ p = same_number q.0 p same in
-          let his_free : NobodyHoldsUp q.0 m = subst (λ (j : ℕ). NobodyHoldsUp j m) (sym his) free in
+          let his_free : OthersQuietOf q.0 m = subst (λ (j : ℕ). OthersQuietOf j m) (sym his) free in
           let less : n.left p < m.left p = subst (λ (j : ℕ). n.left j < m.left j) his (h.0.nearer goes_on his_free) in
-          let still : NobodyHoldsUp p n = subst (λ (j : ℕ). NobodyHoldsUp j n) his (nobody_still m q e n k h.0 goes_on his_free) in
+          let still : OthersQuietOf p n = subst (λ (j : ℕ). OthersQuietOf j n) his (nobody_still m q e n k h.0 goes_on his_free) in
           let rest = more still in
           omega (arith, less, rest)
   row_left p m [] [] (n ∷ ns) k h free = absurd h

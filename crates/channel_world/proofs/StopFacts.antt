@@ -1,9 +1,9 @@
 -- How many steps of a list were made, and where it stopped.
 use Rattle.std.proofs.Common.{arith, ◌≡◌, ◌+◌, ℕ, List, [], ◌∷◌, length, Option, None, Some, IfSome, refl, ap, length-append}
 use Rattle.channel_model.specs.declared.run.Stopped.{Stopped}
-use Rattle.channel_steps.proofs.Interface.{each_entry}
+use Rattle.channel_steps.proofs.Interface.{run_entries}
 use Rattle.channel_interleaving.specs.Floor.{Stands}
-use Rattle.channel_interleaving.specs.Run.{Book, Stops}
+use Rattle.channel_interleaving.specs.Run.{Book, StopsAt}
 use Rattle.channel_interleaving.specs.Runs.{LeadsBy, RanTo}
 use Rattle.channel_interleaving.specs.declared.floor.Floor.{Floor}
 use Rattle.channel_interleaving.specs.declared.step.Entry.{Entry}
@@ -11,12 +11,12 @@ use Rattle.channel_interleaving.specs.declared.step.Step.{Step}
 
 module _ {T : Type 0} where
   -- where it did not stop the list is used up
-  pub all_used_up : (b : Book T) (left : List (Step T)) (made : ℕ) (stopped : Option Stopped) → Stops b left made stopped → stopped ≡ None → left ≡ []
+  pub all_used_up : (b : Book T) (left : List (Step T)) (made : ℕ) (stopped : Option Stopped) → StopsAt b left made stopped → stopped ≡ None → left ≡ []
   all_used_up b left made None stops e = stops
   all_used_up b left made (Some s) stops e = cc e
 
   -- where it did, the place says how many were made
-  pub place_is : (b : Book T) (left : List (Step T)) (made : ℕ) (stopped : Option Stopped) → Stops b left made stopped
+  pub place_is : (b : Book T) (left : List (Step T)) (made : ℕ) (stopped : Option Stopped) → StopsAt b left made stopped
       → IfSome stopped (λ s. s.place ≡ made)
   place_is b left made None stops = tt
   place_is b [] made (Some s) stops = absurd stops
@@ -27,7 +27,7 @@ module _ {T : Type 0} where
       → Stands old → length trace + length left ≡ length steps
   all_made steps left old trace new ran before =
       let r = ran before.scene before.stands in
-      let entries = each_entry LeadsBy _ r.made trace r.moments r.run in
+      let entries = run_entries LeadsBy _ r.made trace _ r.run in
       let all = ap (λ (xs : List (Step T)). length xs) r.first in
       let both = length-append r.made left in
       omega (arith, entries, all, both)

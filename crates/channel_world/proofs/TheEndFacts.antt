@@ -5,7 +5,7 @@ use Rattle.channel_calls.specs.declared.reply.Reply.{Reply}
 use Rattle.channel_laws.specs.Over.{AllSpent}
 use Rattle.channel_model.specs.declared.name.Waiter.{Waiter}
 use Rattle.channel_steps.specs.Moments.{Spent}
-use Rattle.channel_steps.specs.Run.{EachStep, begun as call_begun}
+use Rattle.channel_steps.specs.Run.{EachStep, call_begun}
 use Rattle.channel_steps.specs.Scene.{Under, sees, unless_ended}
 use Rattle.channel_interleaving.proofs.Interface.{none_of}
 use Rattle.channel_interleaving.specs.Bookkeeping.{asks}

@@ -1,4 +1,4 @@
--- What leaves and what comes on a way, step by step; and with no call under way the state that the scene at its end is.
+-- What leaves and what comes in a run, step by step; and with no call under way the state that the scene at its end is.
 use Rattle.std.proofs.Common.{arith, ◌≡◌, ℕ, zero, suc, ◌<◌, List, [], ◌∷◌, ◌++◌, map, length, slice_get, Option, None, Some, Err, refl, sym, ap, ◌∙◌, subst, append-nil, append_assoc}
 use Rattle.std.proofs.lemmas.List.{map-append}
 use Rattle.futures.specs.declared.task.Poll.TheVariants.{Ready, Pending}
@@ -13,16 +13,15 @@ use Rattle.channel_calls.specs.declared.stage.Kept.{Kept}
 use Rattle.channel_model.specs.State.{State}
 use Rattle.channel_model.specs.declared.name.Waiter.{Waiter}
 use Rattle.channel_steps.specs.Answers.{Row, Keeps}
-use Rattle.channel_steps.specs.Moments.{Deed}
-use Rattle.channel_steps.specs.Run.{Next}
+use Rattle.channel_steps.specs.Moments.{MarkedMoment}
+use Rattle.channel_steps.specs.Run.{EachStep, IsRun, Next, NextScene, end_of}
 use Rattle.channel_steps.specs.Scene.{Under, Scene, MayFinish}
 use Rattle.channel_steps.specs.declared.party.Entry.{Entry as ChannelEntry}
 use Rattle.channel_steps.specs.declared.run.Step.{Step as ChannelStep}
 use Rattle.channel_steps.specs.declared.run.Step.TheVariants as step
-use Rattle.channel_interleaving.specs.Way.{Pace, IsWay}
 use Rattle.channel_interleaving.specs.declared.floor.Floor.{Floor}
 use Rattle.channel_interleaving.proofs.Interface.{none_under_way}
-use Rattle.channel_world.specs.InTurn.{KeepsItOut, EndsWithItOut, EachKeepsItOut, StandsAsItsState, HasItsAccounts, LeaveInTurn, LaterLeavesLater, RefusedIsKeptOut, let_in, let_out, brought_on, left_on, accepted_on}
+use Rattle.channel_world.specs.InTurn.{KeepsItOut, EndsWithItOut, StandsAsItsState, HasItsAccounts, LeaveInTurn, LaterLeavesLater, RefusedIsKeptOut, let_in, let_out, all_let_in, all_let_out, AllKeptOut, left_on, accepted_on}
 use Rattle.channel_world.proofs.Opening.{at_rest_is}
 use Rattle.channel_world.specs.View.{view_of}
 
@@ -41,7 +40,7 @@ module _ {T : Type 0} where
   abbrev messages_of : List (ℕ × T) → List T
   messages_of ms = map (λ (m : ℕ × T). m.1) ms
 
-  -- ---- the accounts of a way
+  -- ---- the accounts of a run
 
   step_accounts : (s : Scene T Waiter) (x : ChannelStep T Waiter) (e : ChannelEntry T) (names : List Waiter) (t : Scene T Waiter)
       (n : Next s x e names t)
@@ -50,24 +49,34 @@ module _ {T : Type 0} where
       ap (λ (c : Channel T Waiter). c.queue.items) n.0.now ∙ sym (append-nil s.now.queue.items)
   step_accounts s (step.Step p) e names t n = n.held ∙ ap (λ (ms : List T). s.now.queue.items ++ ms) (sym (unnamed p _))
 
-  pub way_accounts : (s : Scene T Waiter) (xs : List (Pace T)) (t : Scene T Waiter) (w : IsWay s xs t)
-      → left_on s xs t w ++ t.now.queue.items ≡ accepted_on s xs t w
-  way_accounts s [] t w = ap (λ (x : Scene T Waiter). x.now.queue.items) w ∙ sym (append-nil s.now.queue.items)
-  way_accounts s (x ∷ xs) t w =
-      let out = let_out s x.step x.entry x.woken w.0 w.1 in
-      let into = let_in s x.step x.entry x.woken w.0 w.1 in
-      let outs = left_on w.0 xs t w.2 in
-      let ins = brought_on w.0 xs t w.2 in
-      append_assoc out outs t.now.queue.items
-      ∙ (ap (λ (ms : List T). out ++ ms) (way_accounts w.0 xs t w.2)
-      ∙ (sym (append_assoc out w.0.now.queue.items (messages_of ins))
-      ∙ (ap (λ (ms : List T). ms ++ messages_of ins) (step_accounts s x.step x.entry x.woken w.0 w.1)
+  each_accounts : (s : Scene T Waiter) (xs : List (ChannelStep T Waiter)) (es : List (ChannelEntry T)) (ns : List (Scene T Waiter))
+      (h : EachStep NextScene s xs es ns)
+      → all_let_out s xs es ns h ++ (end_of s ns).now.queue.items ≡ s.now.queue.items ++ messages_of (all_let_in s xs es ns h)
+  each_accounts s [] [] [] h = sym (append-nil s.now.queue.items)
+  each_accounts s (x ∷ xs) (e ∷ es) (n ∷ ns) h =
+      let out = let_out s x e h.0.0 n h.0.1 in
+      let into = let_in s x e h.0.0 n h.0.1 in
+      let outs = all_let_out n xs es ns h.1 in
+      let ins = all_let_in n xs es ns h.1 in
+      append_assoc out outs (end_of n ns).now.queue.items
+      ∙ (ap (λ (ms : List T). out ++ ms) (each_accounts n xs es ns h.1)
+      ∙ (sym (append_assoc out n.now.queue.items (messages_of ins))
+      ∙ (ap (λ (ms : List T). ms ++ messages_of ins) (step_accounts s x e h.0.0 n h.0.1)
       ∙ (append_assoc s.now.queue.items (messages_of into) (messages_of ins)
       ∙ ap (λ (ms : List T). s.now.queue.items ++ ms) (sym (map-append (λ (m : ℕ × T). m.1) into ins))))))
+  each_accounts s [] [] (n ∷ ns) h = absurd h
+  each_accounts s [] (e ∷ es) ns h = absurd h
+  each_accounts s (x ∷ xs) [] ns h = absurd h
+  each_accounts s (x ∷ xs) (e ∷ es) [] h = absurd h
+
+  pub run_accounts : {s t : Scene T Waiter} {xs : List (ChannelStep T Waiter)} {es : List (ChannelEntry T)} (run : IsRun NextScene s xs es t)
+      → left_on run ++ t.now.queue.items ≡ accepted_on run
+  run_accounts {s} {t} {xs} {es} run =
+      ap (λ (u : Scene T Waiter). left_on run ++ u.now.queue.items) (sym run.ends) ∙ each_accounts s xs es run.moments run.each
 
   -- ---- a call that refuses its message
 
-  out_of : (a : ChannelAsk T Waiter) (ds : List (Deed T Waiter)) (seen : List (Channel T Waiter)) (r : Reply T) (k : Kept T)
+  out_of : (a : ChannelAsk T Waiter) (ds : List (MarkedMoment T Waiter)) (seen : List (Channel T Waiter)) (r : Reply T) (k : Kept T)
       → Row a ds seen r → Keeps a r k → KeepsItOut a ds r k
   out_of (ask.TrySend m) ds seen (reply.TrySend (Err (refused.Plain (try_send.Full v)))) k h keeps = (h.1, h.0)
   out_of (ask.TrySend m) ds seen (reply.TrySend (Err (refused.Plain (try_send.Closed v)))) k h keeps = (h.1, h.0)
@@ -86,20 +95,25 @@ module _ {T : Type 0} where
   out_of a ds seen r k h keeps = tt
 
   ends_out : (u : Under T Waiter) (o : Option (Reply T)) (left : Option (Kept T)) → MayFinish u o left
-      → (r : Reply T) → o ≡ Some r → (k : Kept T) × (left ≡ Some k) × KeepsItOut u.ask u.deeds r k
+      → (r : Reply T) → o ≡ Some r → (k : Kept T) × (left ≡ Some k) × KeepsItOut u.ask u.marks r k
   ends_out u None left f r e = absurd (let no : None ≡ Some r = e in cc)
   ends_out u (Some x) left f r e =
       let same : x ≡ r = cc e in
-      (f.kept, f.given, subst (λ (y : Reply T). KeepsItOut u.ask u.deeds y f.kept) same (out_of u.ask u.deeds f.met.1 x f.kept f.met.3 f.keeps))
+      (f.kept, f.given, subst (λ (y : Reply T). KeepsItOut u.ask u.marks y f.kept) same (out_of u.ask u.marks f.met.1 x f.kept f.met.3 f.keeps))
 
   step_out : (s : Scene T Waiter) (x : ChannelStep T Waiter) (e : ChannelEntry T) (names : List Waiter) (t : Scene T Waiter)
       (n : Next s x e names t) → EndsWithItOut s x e names t n
   step_out s (step.Begin p a) e names t n = tt
   step_out s (step.Step p) e names t n = ends_out _ e.reply e.kept n.finishes
 
-  way_out : (s : Scene T Waiter) (xs : List (Pace T)) (t : Scene T Waiter) (w : IsWay s xs t) → EachKeepsItOut s xs t w
-  way_out s [] t w = tt
-  way_out s (x ∷ xs) t w = (step_out s x.step x.entry x.woken w.0 w.1, way_out w.0 xs t w.2)
+  each_out : (s : Scene T Waiter) (xs : List (ChannelStep T Waiter)) (es : List (ChannelEntry T)) (ns : List (Scene T Waiter))
+      (h : EachStep NextScene s xs es ns) → AllKeptOut s xs es ns h
+  each_out s [] [] [] h = tt
+  each_out s (x ∷ xs) (e ∷ es) (n ∷ ns) h = (step_out s x e h.0.0 n h.0.1, each_out n xs es ns h.1)
+  each_out s [] [] (n ∷ ns) h = absurd h
+  each_out s [] (e ∷ es) ns h = absurd h
+  each_out s (x ∷ xs) [] ns h = absurd h
+  each_out s (x ∷ xs) (e ∷ es) [] h = absurd h
 
   -- ---- at rest
 
@@ -118,20 +132,18 @@ module _ {T : Type 0} where
   pub has_its_accounts : (w : Floor T) → HasItsAccounts (view_of w)
   has_its_accounts w quiet s replies led =
       let state = stands_as_its_state w quiet led.last led.stands in
-      ap (λ (ms : List T). left_on s led.way.paces led.last led.way.is ++ ms) (sym state.messages)
-      ∙ way_accounts s led.way.paces led.last led.way.is
+      ap (λ (ms : List T). left_on led.way.run ++ ms) (sym state.messages) ∙ run_accounts led.way.run
 
 -- ---- the laws
 
 module _ (T : Type 0) where
   pub leave_in_turn : LeaveInTurn T
-  leave_in_turn s t xs way n h =
-      sym (in_front (left_on s xs t way) t.now.queue.items n h)
-      ∙ ap (λ (ms : List T). slice_get ms n) (way_accounts s xs t way)
+  leave_in_turn s t xs es run n h =
+      sym (in_front (left_on run) t.now.queue.items n h) ∙ ap (λ (ms : List T). slice_get ms n) (run_accounts run)
 
   pub later_leaves_later : LaterLeavesLater T
-  later_leaves_later s t xs way i j first later less a b h =
-      (leave_in_turn s t xs way i (omega (arith, less, h)) ∙ a, leave_in_turn s t xs way j h ∙ b)
+  later_leaves_later s t xs es run i j first later less a b h =
+      (leave_in_turn s t xs es run i (omega (arith, less, h)) ∙ a, leave_in_turn s t xs es run j h ∙ b)
 
   pub refused_is_kept_out : RefusedIsKeptOut T
-  refused_is_kept_out s t xs way = way_out s xs t way
+  refused_is_kept_out s t xs es run = each_out s xs es run.moments run.each

@@ -25,12 +25,6 @@ use Rattle.channel_world.proofs.Few.{few_woken}
 use Rattle.channel_world.proofs.Opening.{at_rest_is}
 
 module _ {T : Type 0} where
-  -- nothing was changed but room
-  pub same_at_rest : (f g : Floor T) → IsSame f g → at_rest g ≡ at_rest f
-  same_at_rest f g same =
-      ap (λ c. at_rest (record g { channel = c })) same.channel
-      ∙ ap (λ (b : Book T). at_rest (record f { roll = b.roll; order = b.order })) same.book
-
   -- where nobody is at work, no handle is used by more than operations were named
   pub can_be_lent : (f : Floor T) → FewUsers (book_of f) → f.agents.items ≡ [] → length f.roll.operations < 2 ^ 63 → CanBeLent f.roll
   can_be_lent f few nobody low handle h e =

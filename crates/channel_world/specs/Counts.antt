@@ -14,7 +14,7 @@ use Rattle.channel_steps.specs.declared.party.Party.{Party}
 use Rattle.channel_interleaving.specs.Counted.{tally, is_lowering, is_closing}
 use Rattle.channel_interleaving.specs.Owners.{All}
 use Rattle.channel_interleaving.specs.Roll.{names_of}
-use Rattle.channel_world.specs.View.{names_in, is_closed, counted, at_rest, parties_in, IsQuiet, StandsIn, WorldView}
+use Rattle.channel_world.specs.View.{names_in, is_closed, counted, at_rest, active_calls, IsQuiet, StandsIn, WorldView}
 
 -- the strong handles of a side
 abbrev pub strong_of : Side → HandleKind
@@ -28,11 +28,11 @@ module _ {T : Type 0} where
 
   -- how many drops of such handles are under way whose next step lowers the count; what they drop lives under no name
   abbrev pub to_lower : Side → WorldView T → ℕ
-  to_lower side w = tally (λ (p : Party T Waiter). is_lowering side p.call.stage) (parties_in w)
+  to_lower side w = tally (λ (p : Party T Waiter). is_lowering side p.call.stage) (active_calls w)
 
   -- how many drops of the last one, which are at closing the channel
   abbrev pub to_close : Side → WorldView T → ℕ
-  to_close side w = tally (λ (p : Party T Waiter). is_closing side p.call.stage) (parties_in w)
+  to_close side w = tally (λ (p : Party T Waiter). is_closing side p.call.stage) (active_calls w)
 
   -- A count is the number of live strong handles of its side, with those whose drops under way are to lower it yet.
   abbrev pub CountsLive : WorldView T → Type 0
@@ -53,9 +53,9 @@ module _ {T : Type 0} where
   -- Of a call under way: it is to lower the count of a side where it drops a handle of that side and has no mark yet, and only
   -- there; and it is at closing only where it drops one and its one mark is that which lowered the count from one.
   pub record IsByDrops (side : Side) (u : Under T Waiter) : Type 0 where
-    pub lowers : is_lowering side u.at ≡ true → Drops side u.ask × (u.deeds ≡ [])
-    pub all : Drops side u.ask → u.deeds ≡ [] → is_lowering side u.at ≡ true
-    pub closes : is_closing side u.at ≡ true → Drops side u.ask × LeftLast side u.deeds u.seen
+    pub lowers : is_lowering side u.at ≡ true → Drops side u.ask × (u.marks ≡ [])
+    pub all : Drops side u.ask → u.marks ≡ [] → is_lowering side u.at ≡ true
+    pub closes : is_closing side u.at ≡ true → Drops side u.ask × LeftLast side u.marks u.seen
 
   -- so it is of each, in each scene in which the world stands
   abbrev pub AreByDrops : WorldView T → Type 0

@@ -1,13 +1,12 @@
 -- The headline: what every run of steps promises, of every list of steps, from any world, wherever the list ends.
 use Rattle.std.specs.Prelude.{◌≡◌, List, [], ◌++◌, length, Option}
-use Rattle.channel_interleaving.specs.Run.{Stops}
-use Rattle.channel_interleaving.specs.Runs.{Moment}
+use Rattle.channel_interleaving.specs.Run.{StopsAt}
 use Rattle.channel_interleaving.specs.declared.step.Entry.{Entry}
 use Rattle.channel_interleaving.specs.declared.step.Step.{Step}
 use Rattle.channel_model.specs.declared.name.Waiter.{Waiter}
 use Rattle.channel_model.specs.declared.run.Stopped.{Stopped}
 use Rattle.channel_steps.specs.Moments.{Spent}
-use Rattle.channel_steps.specs.Run.{EachStep, end_of}
+use Rattle.channel_steps.specs.Run.{IsRun}
 use Rattle.channel_steps.specs.Scene.{Scene}
 use Rattle.channel_laws.specs.Marked.{AddUp}
 use Rattle.channel_world.specs.Marked.{all_taken, all_brought}
@@ -22,25 +21,24 @@ module _ {T : Type 0} where
   -- is its invariant: whoever uses this record hands it on and need not open it.
   pub record Headline (steps left : List (Step T)) (old : WorldView T) (trace : List (Entry T)) (stopped : Option Stopped)
       (new : WorldView T) (from : Scene T Waiter) : Type 0 where
-    -- the steps that were made, the moments after each, and the scene at the end
+    -- the steps that were made, and the scene at the end
     pub made : List (Step T)
-    pub moments : List (Moment T)
     pub to : Scene T Waiter
     pub first : steps ≡ made ++ left
-    pub ends : end_of (moment_of old from) moments ≡ moment_of new to
     pub stands : StandsIn new to
-    -- what is said of a moment is said of the first one; and what is said of a step, and of the moment after it, of each step made
+    -- what is said of a moment is said of the first one; and what is said of a step, and of the moment after it, of each step of the
+    -- run that they are
     pub at_first : MomentSays (moment_of old from)
-    pub each : EachStep StepSays (moment_of old from) made trace moments
+    pub run : IsRun StepSays (moment_of old from) made trace (moment_of new to)
     -- what left the channel, followed by what it holds, is what it held followed by what it accepted, in order
-    pub accounts : AddUp from (all_taken (moment_of old from) trace moments) (all_brought (moment_of old from) made trace moments) to
+    pub accounts : AddUp from (all_taken (moment_of old from) trace run.moments) (all_brought (moment_of old from) made trace run.moments) to
     -- once a receive answered closed, or a stream ended, in these steps or before them, no call that begins later gives a message
     pub after_the_end : NothingComesAfter steps trace
     pub ended_before : Spent from.now → GiveNothing [] steps trace
-    -- where no other call under way has a mark but Nothing, and an unbounded channel has had its first taking or there is no other
-    -- call, a call ends among its next 198 steps, and 64 more for each message that a receive of several may take, if these are next:
+    -- where the others are quiet (no other call under way has a mark but Nothing, and an unbounded channel has had its first taking or
+    -- there is no other call), a call makes no more steps than it has left at most before the one that ends it, if its are the next:
     -- from each moment on, and so in front of the list
-    pub ends_soon : EndInARow (moment_of old from) made trace moments
+    pub ends_soon : EndInARow (moment_of old from) made trace run.moments
     pub in_front : EndInFront (moment_of old from) steps trace
     -- the run stops at the first step that is refused, which stays in front, for the first reason that there is
-    pub stops : Stops (book_of new) left (length trace) stopped
+    pub stops : StopsAt (book_of new) left (length trace) stopped

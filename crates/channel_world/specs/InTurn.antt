@@ -1,4 +1,4 @@
--- What leaves and what comes on any way from one scene to another, by runs of steps, lists of calls and settlings in turn: message by
+-- What leaves and what comes in any run from one scene to another, by lists of steps, lists of calls and settlings in turn: message by
 -- message, each with the party whose call brought it; in which order they leave, and what becomes of a refused one.
 use Rattle.std.specs.Prelude.{◌≡◌, ℕ, ◌<◌, List, [], ◌∷◌, ◌++◌, map, length, slice_get, Some, Err}
 use Rattle.futures.specs.declared.task.Poll.TheVariants.{Ready, Pending}
@@ -11,13 +11,12 @@ use Rattle.channel_calls.specs.declared.reply.Reply.TheVariants as reply
 use Rattle.channel_calls.specs.declared.stage.Kept.{Kept}
 use Rattle.channel_model.specs.State.{State}
 use Rattle.channel_model.specs.declared.name.Waiter.{Waiter}
-use Rattle.channel_steps.specs.Moments.{Deed, with_deed}
-use Rattle.channel_steps.specs.Run.{Next}
+use Rattle.channel_steps.specs.Moments.{MarkedMoment, with_marked}
+use Rattle.channel_steps.specs.Run.{EachStep, IsRun, Next, NextScene}
 use Rattle.channel_steps.specs.Scene.{Scene, came_by, gone_by}
 use Rattle.channel_steps.specs.declared.party.Entry.{Entry as ChannelEntry}
 use Rattle.channel_steps.specs.declared.run.Step.{Step as ChannelStep}
 use Rattle.channel_steps.specs.declared.run.Step.TheVariants as step
-use Rattle.channel_interleaving.specs.Way.{Pace, IsWay}
 use Rattle.channel_world.specs.View.{at_rest, IsQuiet, StandsIn, Led, WorldView}
 
 module _ {T : Type 0} where
@@ -37,7 +36,7 @@ module _ {T : Type 0} where
 
   -- A call that asks this and refuses its message with this reply, or goes on waiting with it, has made no mark, so it let nothing
   -- in; and the message is handed back, or left to its operation.
-  abbrev pub KeepsItOut : ChannelAsk T Waiter → List (Deed T Waiter) → Reply T → Kept T → Type 0
+  abbrev pub KeepsItOut : ChannelAsk T Waiter → List (MarkedMoment T Waiter) → Reply T → Kept T → Type 0
   KeepsItOut (ask.TrySend m) ds (reply.TrySend (Err e)) k = (ds ≡ []) × (try_handed_back e ≡ m)
   KeepsItOut (ask.ForceSend m) ds (reply.ForceSend (Err e)) k = (ds ≡ []) × (handed_back e ≡ m)
   KeepsItOut (ask.PollSend m key task) ds (reply.SendPoll (Ready (Err (refused.Plain e)))) k = (ds ≡ []) × (unsent e ≡ m)
@@ -53,28 +52,41 @@ module _ {T : Type 0} where
   EndsWithItOut s (step.Begin p a) e names t n = Unit {0}
   EndsWithItOut s (step.Step p) e names t n =
       (r : Reply T) → e.reply ≡ Some r
-      → (k : Kept T) × (e.kept ≡ Some k) × KeepsItOut n.mine.ask (with_deed n.mine.deeds e.mark s.now n.mine.seen) r k
+      → (k : Kept T) × (e.kept ≡ Some k) × KeepsItOut n.mine.ask (with_marked n.mine.marks e.mark s.now n.mine.seen) r k
 
-  -- ---- a way
+  -- ---- a run: what all of its steps let in, what they take out, and that each refused send is kept out
 
-  -- what came on it, in order
-  abbrev pub brought_on : (s : Scene T Waiter) (xs : List (Pace T)) (t : Scene T Waiter) → IsWay s xs t → List (ℕ × T)
-  brought_on s [] t w = []
-  brought_on s (x ∷ xs) t w = let_in s x.step x.entry x.woken w.0 w.1 ++ brought_on w.0 xs t w.2
+  abbrev pub all_let_in : (s : Scene T Waiter) (xs : List (ChannelStep T Waiter)) (es : List (ChannelEntry T)) (ns : List (Scene T Waiter))
+      → EachStep NextScene s xs es ns → List (ℕ × T)
+  all_let_in s (x ∷ xs) (e ∷ es) (n ∷ ns) h = let_in s x e h.0.0 n h.0.1 ++ all_let_in n xs es ns h.1
+  all_let_in s xs es ns h = []
 
-  -- what left, in order
-  abbrev pub left_on : (s : Scene T Waiter) (xs : List (Pace T)) (t : Scene T Waiter) → IsWay s xs t → List T
-  left_on s [] t w = []
-  left_on s (x ∷ xs) t w = let_out s x.step x.entry x.woken w.0 w.1 ++ left_on w.0 xs t w.2
+  abbrev pub all_let_out : (s : Scene T Waiter) (xs : List (ChannelStep T Waiter)) (es : List (ChannelEntry T)) (ns : List (Scene T Waiter))
+      → EachStep NextScene s xs es ns → List T
+  all_let_out s (x ∷ xs) (e ∷ es) (n ∷ ns) h = let_out s x e h.0.0 n h.0.1 ++ all_let_out n xs es ns h.1
+  all_let_out s xs es ns h = []
 
-  -- what was held at first, and after it what came
-  abbrev pub accepted_on : (s : Scene T Waiter) (xs : List (Pace T)) (t : Scene T Waiter) → IsWay s xs t → List T
-  accepted_on s xs t w = s.now.queue.items ++ map (λ (m : ℕ × T). m.1) (brought_on s xs t w)
+  abbrev pub AllKeptOut : (s : Scene T Waiter) (xs : List (ChannelStep T Waiter)) (es : List (ChannelEntry T)) (ns : List (Scene T Waiter))
+      → EachStep NextScene s xs es ns → Type 0
+  AllKeptOut s (x ∷ xs) (e ∷ es) (n ∷ ns) h = EndsWithItOut s x e h.0.0 n h.0.1 × AllKeptOut n xs es ns h.1
+  AllKeptOut s xs es ns h = Unit {0}
 
-  -- each refused send of it
-  abbrev pub EachKeepsItOut : (s : Scene T Waiter) (xs : List (Pace T)) (t : Scene T Waiter) → IsWay s xs t → Type 0
-  EachKeepsItOut s [] t w = Unit {0}
-  EachKeepsItOut s (x ∷ xs) t w = EndsWithItOut s x.step x.entry x.woken w.0 w.1 × EachKeepsItOut w.0 xs t w.2
+  module _ {s t : Scene T Waiter} {xs : List (ChannelStep T Waiter)} {es : List (ChannelEntry T)} where
+    -- what came on it, in order
+    abbrev pub brought_on : IsRun NextScene s xs es t → List (ℕ × T)
+    brought_on run = all_let_in s xs es run.moments run.each
+
+    -- what left, in order
+    abbrev pub left_on : IsRun NextScene s xs es t → List T
+    left_on run = all_let_out s xs es run.moments run.each
+
+    -- what was held at first, and after it what came
+    abbrev pub accepted_on : IsRun NextScene s xs es t → List T
+    accepted_on run = s.now.queue.items ++ map (λ (m : ℕ × T). m.1) (brought_on run)
+
+    -- each refused send of it
+    abbrev pub EachKeepsItOut : IsRun NextScene s xs es t → Type 0
+    EachKeepsItOut run = AllKeptOut s xs es run.moments run.each
 
   -- ---- at rest
 
@@ -95,23 +107,24 @@ module _ {T : Type 0} where
   abbrev pub HasItsAccounts : WorldView T → Type 0
   HasItsAccounts w =
       IsQuiet w → (s : Scene T Waiter) (replies : List (Reply T)) (led : Led s replies w)
-      → left_on s led.way.paces led.last led.way.is ++ (at_rest w).channel.messages ≡ accepted_on s led.way.paces led.last led.way.is
+      → left_on led.way.run ++ (at_rest w).channel.messages ≡ accepted_on led.way.run
 
 -- What leaves as the n-th is what was held or came as the n-th.
 abbrev pub LeaveInTurn : Type 0 → Type 0
 LeaveInTurn T =
-    (s t : Scene T Waiter) (xs : List (Pace T)) (way : IsWay s xs t) (n : ℕ) → n < length (left_on s xs t way)
-    → slice_get (left_on s xs t way) n ≡ slice_get (accepted_on s xs t way) n
+    (s t : Scene T Waiter) (steps : List (ChannelStep T Waiter)) (trace : List (ChannelEntry T)) (run : IsRun NextScene s steps trace t)
+    (n : ℕ) → n < length (left_on run) → slice_get (left_on run) n ≡ slice_get (accepted_on run) n
 
 -- So of two messages of which one came later, as of successive calls of one party, it has left only where the other one has, and
 -- as an earlier one.
 abbrev pub LaterLeavesLater : Type 0 → Type 0
 LaterLeavesLater T =
-    (s t : Scene T Waiter) (xs : List (Pace T)) (way : IsWay s xs t) (i j : ℕ) (first later : T) → i < j
-    → slice_get (accepted_on s xs t way) i ≡ Some first → slice_get (accepted_on s xs t way) j ≡ Some later
-    → j < length (left_on s xs t way)
-    → (slice_get (left_on s xs t way) i ≡ Some first) × (slice_get (left_on s xs t way) j ≡ Some later)
+    (s t : Scene T Waiter) (steps : List (ChannelStep T Waiter)) (trace : List (ChannelEntry T)) (run : IsRun NextScene s steps trace t)
+    (i j : ℕ) (first later : T) → i < j → slice_get (accepted_on run) i ≡ Some first → slice_get (accepted_on run) j ≡ Some later
+    → j < length (left_on run) → (slice_get (left_on run) i ≡ Some first) × (slice_get (left_on run) j ≡ Some later)
 
 -- No refused send lets its message in.
 abbrev pub RefusedIsKeptOut : Type 0 → Type 0
-RefusedIsKeptOut T = (s t : Scene T Waiter) (xs : List (Pace T)) (way : IsWay s xs t) → EachKeepsItOut s xs t way
+RefusedIsKeptOut T =
+    (s t : Scene T Waiter) (steps : List (ChannelStep T Waiter)) (trace : List (ChannelEntry T)) (run : IsRun NextScene s steps trace t)
+    → EachKeepsItOut run

@@ -10,13 +10,13 @@ use Rattle.channel_interleaving.specs.declared.step.Step.TheVariants as step
 
 module _ {T : Type 0} where
   -- the message that the call of this party brings, if it is one that brings one
-  abbrev pub message_of : ℕ → List (Under T Waiter) → List T
-  message_of party [] = []
-  message_of party (u ∷ us) = if u.party == party then brought u.ask else message_of party us
+  abbrev pub message_brought : ℕ → List (Under T Waiter) → List T
+  message_brought party [] = []
+  message_brought party (u ∷ us) = if u.party == party then brought u.ask else message_brought party us
 
   abbrev pub brought_at : Moment T → Step T → Entry T → List T
   brought_at m (step.Begin p c) e = []
-  brought_at m (step.Step p) e = brought_by e.mark (message_of p.0 m.scene.under_way)
+  brought_at m (step.Step p) e = brought_by e.mark (message_brought p.0 m.scene.under_way)
 
   -- all that came in by the steps made, in order
   abbrev pub all_brought : Moment T → List (Step T) → List (Entry T) → List (Moment T) → List T

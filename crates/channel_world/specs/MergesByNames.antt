@@ -11,15 +11,14 @@ use Rattle.channel_steps.specs.Run.{Next, new_scene}
 use Rattle.channel_steps.specs.declared.party.Entry.{Entry}
 use Rattle.channel_steps.specs.declared.run.Step.{Step as ChannelStep}
 use Rattle.channel_steps.specs.declared.run.Step.TheVariants as channel
-use Rattle.channel_laws.specs.Bridge.{Happening, Given, steps_of}
+use Rattle.channel_laws.specs.Bridge.{MergeMoment, just_opened, Happening, Given, steps_of}
 use Rattle.channel_laws.specs.BridgeHeadline.{KeepsTheHeadline}
-use Rattle.channel_laws.specs.BridgeMoments.{Moment, opened}
 use Rattle.channel_interleaving.specs.AskedBy.{IsOrListens, IsStepOf}
 use Rattle.channel_interleaving.specs.Bookkeeping.{asks}
 use Rattle.channel_interleaving.specs.Owed.{Owed}
 use Rattle.channel_interleaving.specs.Refusal.{refusal, step_refusal}
 use Rattle.channel_interleaving.specs.Roll.{first_roll}
-use Rattle.channel_interleaving.specs.Run.{Book, IsBookOf, begun}
+use Rattle.channel_interleaving.specs.Run.{Book, IsBookOf, book_begun}
 use Rattle.channel_interleaving.specs.SightAt.{sight_at}
 use Rattle.channel_interleaving.specs.declared.step.Step.{Step}
 use Rattle.channel_interleaving.specs.declared.step.Step.TheVariants as step
@@ -40,9 +39,9 @@ module _ {T S : Type 0} (wakes : S → Waiter → S → Type 0) where
   -- Of these steps, from this moment and this book on, each begin is that of a call by names, which nothing refuses. It asks what this
   -- call asks, but that a poll may ask its listener first. Its book is what the steps before it, with their entries, have made of this
   -- one: whatever book that is, and whomever they woke.
-  abbrev pub BeginByNames : Book T → Moment T Waiter S → List (ChannelStep T Waiter) → List (Entry T) → List (Moment T Waiter S) → Type 0
+  abbrev pub BeginByNames : Book T → MergeMoment T Waiter S → List (ChannelStep T Waiter) → List (Entry T) → List (MergeMoment T Waiter S) → Type 0
   BeginByNames b m (channel.Begin p a ∷ ys) (e ∷ es) (n ∷ ns) =
-      (c : Call T) × (refusal b.roll c ≡ None) × IsOrListens (asks b.roll c) a × BeginByNames (begun (record { 0 = p }) c b) n ys es ns
+      (c : Call T) × (refusal b.roll c ≡ None) × IsOrListens (asks b.roll c) a × BeginByNames (book_begun (record { 0 = p }) c b) n ys es ns
   BeginByNames b m (channel.Step p ∷ ys) (e ∷ es) (n ∷ ns) =
       (names : List Waiter) (after : Book T) → Next m.scene (channel.Step p) e names n.scene → Woken wakes m.sink names n.sink
       → IsBookOf (step.Step (record { 0 = p })) e.reply e.kept names b after → BeginByNames after n ys es ns
@@ -51,7 +50,7 @@ module _ {T S : Type 0} (wakes : S → Waiter → S → Type 0) where
   -- ---- what is said
 
   -- a step of the channel, from the moment m to the moment n, is this step by names, from the book b to the book c
-  pub record SaysByNames (b : Book T) (m : Moment T Waiter S) (x : Step T) (y : ChannelStep T Waiter) (e : Entry T) (c : Book T) (n : Moment T Waiter S) : Type 0 where
+  pub record SaysByNames (b : Book T) (m : MergeMoment T Waiter S) (x : Step T) (y : ChannelStep T Waiter) (e : Entry T) (c : Book T) (n : MergeMoment T Waiter S) : Type 0 where
     -- none of the seven reasons refuses it
     pub accepted : step_refusal b.roll b.agents x ≡ None
     -- it is what this step by names is to the channel; a poll may ask its listener first
@@ -68,7 +67,7 @@ module _ {T S : Type 0} (wakes : S → Waiter → S → Type 0) where
     pub owed : Owed (sight_at c.roll n.scene)
 
   -- so it is of each step, with its entry and its page
-  abbrev pub EachByNames : Book T → Moment T Waiter S → List (Page T) → List (ChannelStep T Waiter) → List (Entry T) → List (Moment T Waiter S) → Type 0
+  abbrev pub EachByNames : Book T → MergeMoment T Waiter S → List (Page T) → List (ChannelStep T Waiter) → List (Entry T) → List (MergeMoment T Waiter S) → Type 0
   EachByNames b m [] [] [] [] = Unit {0}
   EachByNames b m (x ∷ xs) (y ∷ ys) (e ∷ es) (n ∷ ns) = SaysByNames b m x.step y e x.book n × EachByNames x.book n xs ys es ns
   EachByNames b m xs ys es ns = ⊥
@@ -78,11 +77,11 @@ module _ {T S : Type 0} (wakes : S → Waiter → S → Type 0) where
       {last : Parts T Waiter} {woken : S} (k : KeepsTheHeadline wakes form events given sink last woken) : Type 0 where
     pub pages : List (Page T)
     pub at_first : Owed {T = T} (sight_at first_roll (new_scene (capacity_of form)))
-    pub each : EachByNames first_book (opened form sink) pages (steps_of events) k.is.trace k.moments
+    pub each : EachByNames first_book (just_opened form sink) pages (steps_of events) k.is.trace k.is.run.moments
 
 -- a merge that keeps the headline, and whose begins are those of calls by names
 abbrev pub MergesByNamesAreRuns : (T S : Type 0) → (S → Waiter → S → Type 0) → Type 0
 MergesByNamesAreRuns T S wakes =
     (form : QueueForm) (events : List (Happening T Waiter)) (given : ℕ → List (Given T)) (sink : S) (last : Parts T Waiter) (woken : S)
     (k : KeepsTheHeadline wakes form events given sink last woken)
-    → BeginByNames wakes first_book (opened form sink) (steps_of events) k.is.trace k.moments → IsByNames wakes k
+    → BeginByNames wakes first_book (just_opened form sink) (steps_of events) k.is.trace k.is.run.moments → IsByNames wakes k

@@ -1,7 +1,7 @@
 -- What steps of one party promise: they are a run of so many of its steps, which ends with the one that answers.
 use Rattle.std.specs.Prelude.{◌≡◌, ℕ, ◌+◌, Bool, List, [], ◌∷◌, ◌++◌, length, Option, None, Some, is_some, IfSome}
 use Rattle.channel_interleaving.specs.Refusal.{step_refusal}
-use Rattle.channel_interleaving.specs.Run.{MayRefuse}
+use Rattle.channel_interleaving.specs.Run.{MayRefuseStep}
 use Rattle.channel_interleaving.specs.declared.step.Entry.{Entry}
 use Rattle.channel_interleaving.specs.declared.step.PartyId.{PartyId}
 use Rattle.channel_interleaving.specs.declared.step.Step.{Step}
@@ -12,9 +12,9 @@ use Rattle.channel_world.specs.View.{book_of, RanTo, WorldView}
 
 module _ {T : Type 0} where
   -- how many steps were asked for: those that were made, and the one that was refused
-  abbrev pub asked : List (Entry T) → Option Stopped → ℕ
-  asked trace None = length trace
-  asked trace (Some stopped) = length trace + 1
+  abbrev pub steps_asked : List (Entry T) → Option Stopped → ℕ
+  steps_asked trace None = length trace
+  steps_asked trace (Some stopped) = length trace + 1
 
   -- the one that was refused stays in front, and it is the last that was asked for
   abbrev pub refused_of : PartyId → Option Stopped → List (Step T)
@@ -47,4 +47,4 @@ module _ {T : Type 0} where
       (new : WorldView T) : Type 0 where
     pub unwritten : after ≡ before
     pub ran : RanTo (step.Step p ∷ []) (step.Step p ∷ []) old [] new
-    pub reason : MayRefuse (book_of new) (step.Step p) why
+    pub reason : MayRefuseStep (book_of new) (step.Step p) why

@@ -24,21 +24,21 @@ use Rattle.channel_model.specs.declared.refusal.WorldRefusal.TheVariants as why
 -- ---- one command
 
 -- the channel, and the names of the script
-pub record Scene : Type 0 where
+pub record ScriptScene : Type 0 where
   pub state : State ℕ
   pub table : Table
 
 -- what a command leaves, and its reply line
 pub record Obeyed : Type 0 where
-  pub after : Scene
+  pub after : ScriptScene
   pub line : List ℕ
 
 -- why this call of a command is refused whose names live and are of the right sort
-abbrev pub why_refused : Scene → Command → Call ℕ → Option WorldRefusal
+abbrev pub why_refused : ScriptScene → Command → Call ℕ → Option WorldRefusal
 why_refused scene command c =
     option_or (refusal scene.state c) (if is_given_before scene.table command then Some why.NameTaken else None)
 
-abbrev pub answered : Scene → Command → Call ℕ → Obeyed
+abbrev pub answered : ScriptScene → Command → Call ℕ → Obeyed
 answered scene command c =
     let a = answer scene.state c in
     record {
@@ -59,7 +59,7 @@ abbrev pub waiting_count : State ℕ → ℕ
 waiting_count s = length s.waiting.sends + length s.waiting.receives + length s.waiting.streams + length s.waiting.closings + length s.waiting.woken
 
 -- settling is at rest after at most w(w+1)/2 polls, for w that wait
-abbrev pub settles : Scene → Obeyed
+abbrev pub settles : ScriptScene → Obeyed
 settles scene =
     let w = waiting_count scene.state in
     let done = settled (w * (w + 1) / 2) scene.state in
@@ -69,17 +69,17 @@ settles scene =
 
 -- The call of a command that is not refused; or the first of these reasons why it is: a used name that nothing living has;
 -- one of the wrong sort; what the world refuses; a new name that was given before.
-abbrev pub checked : Scene → Command → Result (Call ℕ) WorldRefusal
+abbrev pub checked : ScriptScene → Command → Result (Call ℕ) WorldRefusal
 checked scene command =
     if not (list_all (is_known scene.state.names scene.table) (used command)) then Err why.UnknownName
     else option_map_or (λ c. option_map_or (λ w. Err w) (why_refused scene command c) (Ok c)) (call_of scene.table command) (Err why.WrongKind)
 
 -- a refused command changes nothing, and gives no name
-abbrev pub obeyed_as : Scene → Command → Result (Call ℕ) WorldRefusal → Obeyed
+abbrev pub obeyed_as : ScriptScene → Command → Result (Call ℕ) WorldRefusal → Obeyed
 obeyed_as scene command (Ok c) = answered scene command c
 obeyed_as scene command (Err w) = record { after = scene; line = refused_text w }
 
-abbrev pub obeyed : Scene → Command → Obeyed
+abbrev pub obeyed : ScriptScene → Command → Obeyed
 obeyed scene settle = settles scene
 obeyed scene command = obeyed_as scene command (checked scene command)
 
@@ -99,7 +99,7 @@ abbrev pub readable : Language → ℕ → List ℕ → Option Command
 readable language n line = if nat_lt 1000000 n then None else parse language line
 
 -- the rest of a script, whose next line has this number
-abbrev pub followed : Language → Scene → ℕ → List (List ℕ) → Script
+abbrev pub followed : Language → ScriptScene → ℕ → List (List ℕ) → Script
 followed language scene n [] = ending Done
 followed language scene n (line ∷ lines) =
     option_map_or (λ command. let o = obeyed scene command in replying_first o.line (followed language o.after (n + 1) lines))
@@ -110,7 +110,7 @@ abbrev pub first_names : Table
 first_names = (codes "s", sort.Handle) ∷ (codes "r", sort.Handle) ∷ []
 
 -- a channel of this capacity, or of any number of messages, as a script begins
-abbrev pub first_scene : Option ℕ → Scene
+abbrev pub first_scene : Option ℕ → ScriptScene
 first_scene size = record { state = start size; table = first_names }
 
 -- past 2^58 there is never memory

@@ -12,11 +12,13 @@ use Rattle.channel_model.specs.declared.call.Call.{Call}
 use Rattle.channel_model.specs.declared.name.Waiter.{Waiter}
 use Rattle.channel_steps.specs.Answers.{asks_first}
 use Rattle.channel_steps.specs.Known.{IsQuick}
+use Rattle.channel_steps.specs.Left.{most_left}
 use Rattle.channel_steps.specs.Moments.{Shut, Spent}
-use Rattle.channel_steps.specs.Run.{begun as call_begun}
+use Rattle.channel_steps.specs.Run.{call_begun}
 use Rattle.channel_steps.specs.Scene.{Under, blocks_after, EndsInTime, brought, does, sees, unless_ended}
-use Rattle.channel_steps.specs.Tellings.{telling, dropping, Names}
+use Rattle.channel_steps.specs.Tellings.{telling, dropping, WokenBy}
 use Rattle.channel_interleaving.specs.Bookkeeping.{asks}
+use Rattle.channel_interleaving.specs.Left.{wanted_of}
 use Rattle.channel_interleaving.specs.Owed.{Owed}
 use Rattle.channel_interleaving.specs.Refusal.{step_refusal}
 use Rattle.channel_interleaving.specs.Run.{IsBookAfter}
@@ -29,9 +31,9 @@ use Rattle.channel_interleaving.specs.declared.step.Step.TheVariants as step
 use Rattle.channel_laws.specs.EndSays.{EndSays}
 use Rattle.channel_laws.specs.Marked.{plain, marked}
 use Rattle.channel_laws.specs.Marks.{BeginsItsMarks}
-use Rattle.channel_world.specs.StepsLeft.{NobodyHoldsUp, most_left}
+use Rattle.channel_world.specs.StepsLeft.{OthersQuietOf}
 use Rattle.channel_laws.specs.Words.{WordsSay}
-use Rattle.channel_world.specs.View.{parties_in, moment_of, StandsIn, WorldView}
+use Rattle.channel_world.specs.View.{active_calls, moment_of, StandsIn, WorldView}
 
 module _ {T : Type 0} where
   -- ---- a moment
@@ -48,9 +50,9 @@ module _ {T : Type 0} where
     pub owed : Owed (sight_at m.book.roll m.scene)
     -- the channel is closed or not and holds so many messages as its queue's words say; and each message lies in the slot that
     -- they name for it alone, without a bound by the blocks that the queue has used, or is with the call that is yet to put it there
-    pub words : WordsSay m.parts.cells (parties_in world) m.scene
-    -- no call has more steps left than 197, and 64 for each message that a receive of several may take, where none holds it up
-    pub few : (party : ℕ) → m.left party ≤ most_left party m
+    pub words : WordsSay m.parts.cells (active_calls world) m.scene
+    -- no call has more steps left than these, by how many messages a receive of several may take, where the others are quiet
+    pub few : (party : ℕ) → m.left party ≤ most_left (wanted_of party m.scene.under_way)
 
   -- ---- the beginning of a call
 
@@ -77,7 +79,7 @@ module _ {T : Type 0} where
     pub touches : OnePlace m.parts n.parts
     -- it wakes those whom its one telling finds waiting, in order, or him to whom a listener of its own that it drops passes its
     -- notice on, and nobody else
-    pub wakes : Names (telling call.at) (dropping call.at) m.scene.now e.woken.items
+    pub wakes : WokenBy (telling call.at) (dropping call.at) m.scene.now e.woken.items
 
   pub record WorkSays (m : Moment T) (p : PartyId) (e : Entry T) (n : Moment T) : Type 0 where
     -- the party's call, among those under way
@@ -99,8 +101,8 @@ module _ {T : Type 0} where
     pub book : IsBookAfter (step.Step p) e left m.book n.book
     -- a short call ends within eight steps of its own, whatever others do
     pub in_time : IsQuick call.ask → EndsInTime call.made e.reply
-    -- where no other call holds it up, a step that does not end its call leaves it fewer steps
-    pub nearer : e.reply ≡ None → NobodyHoldsUp p.0 m → n.left p.0 < m.left p.0
+    -- where the others are quiet, a step that does not end its call leaves it fewer steps
+    pub nearer : e.reply ≡ None → OthersQuietOf p.0 m → n.left p.0 < m.left p.0
     -- a call that began when the end was said gives no message
     pub late : AllSpent call.seen → Replies GivesMessage e.reply → ⊥
 

@@ -19,7 +19,7 @@ module _ {T : Type 0} where
 
   -- how many of the calls under way have closed it, and are yet to say so or to end otherwise
   abbrev pub closers_in : Scene T Waiter → ℕ
-  closers_in s = tally (λ (u : Under T Waiter). any_close u.deeds) s.under_way
+  closers_in s = tally (λ (u : Under T Waiter). any_close u.marks) s.under_way
 
   -- how many replies may yet say so: one for each of those, and one more while it is open
   abbrev pub closings_left : Scene T Waiter → ℕ

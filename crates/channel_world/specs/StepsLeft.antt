@@ -1,8 +1,9 @@
--- How soon a call ends that nobody holds up: the number of steps of its own that are left to it at each moment of a run.
-use Rattle.std.specs.Prelude.{ℕ, suc, ◌+◌, ◌*◌, ◌≤◌, ◌==◌, ◌&&◌, if◌then◌else◌, is_none, List, [], ◌∷◌}
+-- How soon a call ends where the others are quiet: the number of steps of its own that are left to it at each moment of a run.
+use Rattle.std.specs.Prelude.{ℕ, suc, ◌≤◌, ◌==◌, ◌&&◌, if◌then◌else◌, is_none, List, [], ◌∷◌}
 use Rattle.channel_model.specs.declared.name.Waiter.{Waiter}
-use Rattle.channel_steps.specs.Scene.{Scene, HoldNobodyUp}
-use Rattle.channel_interleaving.specs.Left.{others_of, wanted_of}
+use Rattle.channel_steps.specs.Left.{most_left}
+use Rattle.channel_steps.specs.Scene.{Scene, OthersQuiet}
+use Rattle.channel_interleaving.specs.Left.{calls_of_others, wanted_of}
 use Rattle.channel_interleaving.specs.Runs.{Moment}
 use Rattle.channel_interleaving.specs.declared.step.Entry.{Entry}
 use Rattle.channel_interleaving.specs.declared.step.Step.{Step}
@@ -15,19 +16,15 @@ module _ {T : Type 0} where
   in_a_row p (step.Step q ∷ xs) (e ∷ es) = if (q.0 == p) && is_none e.reply then suc (in_a_row p xs es) else 0
   in_a_row p xs es = 0
 
-  -- the other calls under way hold the call of this party up no more: none has a mark but Nothing, and an unbounded channel has
-  -- had its first taking, or there is no other call
-  abbrev pub NobodyHoldsUp : ℕ → Moment T → Type 0
-  NobodyHoldsUp p m = HoldNobodyUp m.scene.now (others_of p m.scene.under_way)
+  -- the calls under way but this party's are quiet: none has a mark but Nothing, and an unbounded channel has had its first taking,
+  -- or there is no other call
+  abbrev pub OthersQuietOf : ℕ → Moment T → Type 0
+  OthersQuietOf p m = OthersQuiet m.scene.now (calls_of_others p m.scene.under_way)
 
-  -- how many steps at most a party's call has left: 197, and 64 more for each message that a receive of several may take
-  abbrev pub most_left : ℕ → Moment T → ℕ
-  most_left p m = 197 + 64 * wanted_of p m.scene.under_way
-
-  -- where the others hold a party's call up no more at this moment, it makes no more steps than these before it ends, if its are the
+  -- where the others of a party's call are quiet at this moment, it makes no more steps than these before it ends, if its are the
   -- next: those in front of a list, also where not all of them are made
   abbrev pub EndInFront : Moment T → List (Step T) → List (Entry T) → Type 0
-  EndInFront m steps trace = (party : ℕ) → NobodyHoldsUp party m → in_a_row party steps trace ≤ most_left party m
+  EndInFront m steps trace = (party : ℕ) → OthersQuietOf party m → in_a_row party steps trace ≤ most_left (wanted_of party m.scene.under_way)
 
   -- so it is at each moment
   abbrev pub EndInARow : Moment T → List (Step T) → List (Entry T) → List (Moment T) → Type 0
@@ -35,8 +32,7 @@ module _ {T : Type 0} where
   EndInARow m (x ∷ xs) (e ∷ es) (n ∷ ns) = EndInFront m (x ∷ xs) (e ∷ es) × EndInARow n xs es ns
   EndInARow m _ _ _ = ⊥
 
-  -- from whatever scene the world stood in: a call that the others hold up no more makes no more steps than these in front of the
-  -- list
+  -- from whatever scene the world stood in: a call whose others are quiet makes no more steps than these in front of the list
   abbrev pub EndsInFront : WorldView T → List (Step T) → List (Entry T) → Type 0
   EndsInFront old steps trace =
       (s : Scene T Waiter) → StandsIn old s → EndInFront (moment_of old s) steps trace

@@ -76,8 +76,8 @@ module _ {T : Type 0} where
   abbrev pub HasPositions : ℕ → WorldView T → Type 0
   HasPositions n w = floor.HasPositions n w.inside
 
-  abbrev pub IsOpen : Option ℕ → WorldView T → Type 0
-  IsOpen capacity w = floor.IsOpen capacity w.inside
+  abbrev pub IsJustOpened : Option ℕ → WorldView T → Type 0
+  IsJustOpened capacity w = floor.IsJustOpened capacity w.inside
 
   -- it stands in this scene, which is its invariant, or in some
   abbrev pub StandsIn : WorldView T → Scene T Waiter → Type 0
@@ -100,13 +100,13 @@ module _ {T : Type 0} where
   book_of w = record { roll = w.inside.roll; order = w.inside.order; agents = w.inside.agents.items }
 
   -- the calls under way, each at its stage
-  abbrev pub parties_in : WorldView T → List (Party T Waiter)
-  parties_in w = w.inside.parties.items
+  abbrev pub active_calls : WorldView T → List (Party T Waiter)
+  active_calls w = w.inside.parties.items
 
   abbrev pub moment_of : WorldView T → Scene T Waiter → Moment T
   moment_of w s =
       let parts : Parts T Waiter = parts_of w.inside.channel in
-      record { parts = parts; scene = s; book = book_of w; left = λ party. left_of party parts (parties_in w) }
+      record { parts = parts; scene = s; book = book_of w; left = λ party. left_of party parts (active_calls w) }
 
   abbrev pub RanTo : List (Step T) → List (Step T) → WorldView T → List (Entry T) → WorldView T → Type 0
   RanTo steps left old trace new = runs.RanTo steps left old.inside trace new.inside

@@ -4,7 +4,7 @@ use Rattle.concurrent_queue.specs.Capacity.{capacity_of}
 use Rattle.concurrent_queue.specs.Step.{items_in, closed_in}
 use Rattle.event_listener.specs.Lists.{tasks_of}
 use Rattle.channel_calls.specs.Parts.{Parts, Roster}
-use Rattle.channel_model.specs.Channel.{Channel}
+use Rattle.channel_model.specs.Channel.{ModelChannel}
 use Rattle.channel_model.specs.Lines.{Waiting}
 use Rattle.channel_model.specs.State.{State}
 use Rattle.channel_model.specs.declared.call.Call.{Call}
@@ -31,7 +31,7 @@ untold_count l = length l.sends + length l.receives + length l.streams + length 
 
 module _ {T : Type 0} where
   -- what the cells, the lists and the counts of a channel say
-  abbrev pub channel_of : Parts T Waiter → Channel T
+  abbrev pub channel_of : Parts T Waiter → ModelChannel T
   channel_of p = record {
     messages = items_in p.cells;
     capacity = capacity_of p.cells.form;

@@ -39,7 +39,7 @@ impl<T: Drop> World<T> {
     ghost use Rattle.channel_interleaving.specs.Way.{replies_in};
     ghost use Rattle.channel_world.specs.Carried.{LeadsTo};
     ghost use Rattle.channel_world.specs.Headline.{Headline};
-    ghost use Rattle.channel_world.specs.PartyRun.{asked, refused_of, AreSilent, EndsWithAnswer, IsRefused, StepsOnce};
+    ghost use Rattle.channel_world.specs.PartyRun.{steps_asked, refused_of, AreSilent, EndsWithAnswer, IsRefused, StepsOnce};
     ghost use Rattle.channel_world.specs.View.{messages_in, StandsIn, Stands};
 
     /// Makes one step of this party in the room that was taken, and says whether its call answered; or why the step is refused.
@@ -92,9 +92,9 @@ impl<T: Drop> World<T> {
     /// waits. Own to this project.
     pub fn run_party(&mut self, party: PartyId, most: usize) -> Result<Run<T>, NoMemory>
         ensures headline { IfOk result (λ run. (s : Scene T Waiter) → StandsIn self.old s → Headline
-            (replicate (asked run.trace.items run.stopped) (Step.Step party)) (refused_of party run.stopped)
+            (replicate (steps_asked run.trace.items run.stopped) (Step.Step party)) (refused_of party run.stopped)
             self.old run.trace.items run.stopped self.new s) }
-        ensures within { IfOk result (λ run. asked run.trace.items run.stopped ≤ most) }
+        ensures within { IfOk result (λ run. steps_asked run.trace.items run.stopped ≤ most) }
         ensures answered { IfOk result (λ run. EndsWithAnswer run.trace.items run.stopped) }
         ensures short { IfOk result (λ run. run.stopped ≡ None → AreSilent run.trace.items → vec_len run.trace ≡ most) }
         ensures leads { IfOk result (λ run. LeadsTo self.old (replies_in run.trace.items) self.new) }

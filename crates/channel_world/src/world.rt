@@ -41,13 +41,13 @@ impl<T: Drop> World<T> {
     ghost use Rattle.concurrent_queue.specs.Capacity.{capacity_of};
     ghost use Rattle.concurrent_queue.specs.Made.{CanBeMade};
     ghost use Rattle.channel_model.specs.State.{start};
-    ghost use Rattle.channel_world.specs.View.{at_rest, IsQuiet, IsOpen};
+    ghost use Rattle.channel_world.specs.View.{at_rest, IsQuiet, IsJustOpened};
 
     /// An open channel over a queue of this form. Memory is taken first, and then four identities together or none.
     fn open(alloc: Global, form: QueueForm, ids: &mut EventIds) -> Result<World<T>, OpenError>
         requires form { CanBeMade form }
         ensures open { IfOk result (λ world. at_rest world ≡ start (capacity_of form)) }
-        ensures shown { IfOk result (λ world. IsOpen (capacity_of form) world) }
+        ensures shown { IfOk result (λ world. IsJustOpened (capacity_of form) world) }
         ensures quiet { IfOk result (λ world. IsQuiet world) }
         ensures ids { OnOk result (ids.new ≡ ids.old + 4) }
         ensures unchanged { OnErr result (ids.new ≡ ids.old) }
@@ -75,7 +75,7 @@ impl<T: Drop> World<T> {
     ) -> Result<World<T>, OpenError>
         requires { 0 < capacity }
         ensures open { IfOk result (λ world. at_rest world ≡ start (Some capacity)) }
-        ensures shown { IfOk result (λ world. IsOpen (Some capacity) world) }
+        ensures shown { IfOk result (λ world. IsJustOpened (Some capacity) world) }
         ensures quiet { IfOk result (λ world. IsQuiet world) }
         ensures ids { OnOk result (ids.new ≡ ids.old + 4) }
         ensures unchanged { OnErr result (ids.new ≡ ids.old) }
@@ -94,7 +94,7 @@ impl<T: Drop> World<T> {
     /// which takes no source of identities.
     pub fn unbounded(alloc: Global, ids: &mut EventIds) -> Result<World<T>, OpenError>
         ensures open { IfOk result (λ world. at_rest world ≡ start None) }
-        ensures shown { IfOk result (λ world. IsOpen None world) }
+        ensures shown { IfOk result (λ world. IsJustOpened None world) }
         ensures quiet { IfOk result (λ world. IsQuiet world) }
         ensures ids { OnOk result (ids.new ≡ ids.old + 4) }
         ensures unchanged { OnErr result (ids.new ≡ ids.old) }
@@ -111,7 +111,7 @@ impl<T: Drop> World<T> {
     ghost use Rattle.channel_interleaving.specs.Apart.{AreApart};
     ghost use Rattle.channel_interleaving.specs.Roll.{is_woken};
     ghost use Rattle.channel_interleaving.specs.Pending.{is_pending, how_many};
-    ghost use Rattle.channel_interleaving.specs.Run.{Stops};
+    ghost use Rattle.channel_interleaving.specs.Run.{StopsAt};
     ghost use Rattle.channel_interleaving.specs.Runs.{accepted_in, left_in};
     ghost use Rattle.channel_interleaving.specs.Way.{replies_in};
     ghost use Rattle.channel_world.specs.Carried.{LeadsTo};
@@ -160,7 +160,7 @@ impl<T: Drop> World<T> {
     /// Makes steps of any parties from the front, up to the first that is refused: they are a run of the channel's steps by names.
     pub(crate) fn make_steps(&mut self, steps: &mut VecDeque<Step<T>>) -> Run<T>
         ensures ran { RanTo steps.old.items steps.new.items self.old result.trace.items self.new }
-        ensures stopped { Stops (book_of self.new) steps.new.items (vec_len result.trace) result.stopped }
+        ensures stopped { StopsAt (book_of self.new) steps.new.items (vec_len result.trace) result.stopped }
         ensures stands { Stands self.new }
     {
         self.floor.run_steps(steps)

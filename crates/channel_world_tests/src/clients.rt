@@ -51,7 +51,7 @@ pub fn count<T: Drop>(world: &mut World<T>, steps: &mut VecDeque<Step<T>>) -> Co
     Counted { before, after, run }
 }
 
-/// Makes steps in whatever world, calls begun before included: no party whose call the others hold up no more makes 198 steps in
+/// Makes steps in whatever world, calls begun before included: no party beside whose call the others are quiet makes 198 steps in
 /// front of the list with no reply among them, or, for a receive of several, 64 more for each message that it may take.
 pub fn ends_soon<T: Drop>(world: &mut World<T>, steps: &mut VecDeque<Step<T>>) -> Run<T>
     ensures { EndsInFront world.old steps.old.items result.trace.items }
@@ -204,8 +204,8 @@ pub fn is_idle<T: Drop>(world: &World<T>) -> bool
 /// Looks at whatever world: what has left since a scene that it came from, as the n-th, was held there or came as the n-th.
 pub fn leaves_in_turn<T: Drop>(world: &World<T>)
     ensures { (s : Scene T Waiter) (replies : List (Reply T)) (led : Led s replies world.now) (n : ℕ)
-        → n < length (left_on s led.way.paces led.last led.way.is)
-        → slice_get (left_on s led.way.paces led.last led.way.is) n ≡ slice_get (accepted_on s led.way.paces led.last led.way.is) n }
+        → n < length (left_on led.way.run)
+        → slice_get (left_on led.way.run) n ≡ slice_get (accepted_on led.way.run) n }
 {
     by_steps_messages_leave_in_turn::<T>();
     world.keeps();

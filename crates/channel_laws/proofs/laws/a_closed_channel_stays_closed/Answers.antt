@@ -3,4 +3,4 @@ use Rattle.channel_laws.proofs.Closed.{closing_is_for_good}
 use Rattle.channel_laws.proofs.laws.a_closed_channel_stays_closed.Goals as goal
 
 pub returns : goal.returns
-returns g c = record { closed = closing_is_for_good _ _ _ _ }
+returns g c = record { closed = closing_is_for_good _ _ }

@@ -3,4 +3,4 @@ use Rattle.channel_laws.proofs.Notices.{tellings_stay_fit, tellings_always_fit}
 use Rattle.channel_laws.proofs.laws.each_list_is_told_its_way.Goals as goal
 
 pub returns : goal.returns
-returns g c = record { kept = tellings_stay_fit _ _ _ _; fit = tellings_always_fit _ _ _ _ }
+returns g c = record { kept = tellings_stay_fit _ _; fit = tellings_always_fit _ _ }

@@ -3,4 +3,4 @@ use Rattle.channel_laws.proofs.Bounds.{bounds_stay, never_overfull, never_full}
 use Rattle.channel_laws.proofs.laws.no_more_than_fit.Goals as goal
 
 pub returns : goal.returns
-returns g c = record { kept = bounds_stay _ _ _ _; within = never_overfull _ _ _ _; never_full = never_full _ _ _ _ }
+returns g c = record { kept = bounds_stay _ _; within = never_overfull _ _; never_full = never_full _ _ }

@@ -3,4 +3,4 @@ use Rattle.channel_laws.proofs.Receives.{receives_stay_owed, no_receive_is_forgo
 use Rattle.channel_laws.proofs.laws.no_receive_is_forgotten.Goals as goal
 
 pub returns : goal.returns
-returns g c = record { kept = receives_stay_owed _ _ _ _; owed = no_receive_is_forgotten _ _ _ _ }
+returns g c = record { kept = receives_stay_owed _ _; owed = no_receive_is_forgotten _ _ }

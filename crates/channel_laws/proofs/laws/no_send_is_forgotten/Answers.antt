@@ -3,4 +3,4 @@ use Rattle.channel_laws.proofs.Sends.{sends_stay_owed, no_send_is_forgotten}
 use Rattle.channel_laws.proofs.laws.no_send_is_forgotten.Goals as goal
 
 pub returns : goal.returns
-returns g c = record { kept = sends_stay_owed _ _ _ _; owed = no_send_is_forgotten _ _ _ _ }
+returns g c = record { kept = sends_stay_owed _ _; owed = no_send_is_forgotten _ _ }

@@ -3,4 +3,4 @@ use Rattle.channel_laws.proofs.Streams.{streams_stay_owed, no_stream_is_forgotte
 use Rattle.channel_laws.proofs.laws.no_stream_is_forgotten.Goals as goal
 
 pub returns : goal.returns
-returns g c = record { kept = streams_stay_owed _ _ _ _; owed = no_stream_is_forgotten _ _ _ _ }
+returns g c = record { kept = streams_stay_owed _ _; owed = no_stream_is_forgotten _ _ }

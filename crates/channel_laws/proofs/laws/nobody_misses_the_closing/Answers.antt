@@ -3,4 +3,4 @@ use Rattle.channel_laws.proofs.Closings.{closing_stays_owed, nobody_misses_the_c
 use Rattle.channel_laws.proofs.laws.nobody_misses_the_closing.Goals as goal
 
 pub returns : goal.returns
-returns g c = record { kept = closing_stays_owed _ _ _ _; owed = nobody_misses_the_closing _ _ _ _ }
+returns g c = record { kept = closing_stays_owed _ _; owed = nobody_misses_the_closing _ _ }

@@ -3,4 +3,4 @@ use Rattle.channel_laws.proofs.Ends.{end_is_known, nothing_comes}
 use Rattle.channel_laws.proofs.laws.nothing_comes_after_the_end.Goals as goal
 
 pub returns : goal.returns
-returns g c = record { known = end_is_known _ _ _ _; nothing = nothing_comes _ _ _ _ }
+returns g c = record { known = end_is_known _ _; nothing = nothing_comes _ _ }

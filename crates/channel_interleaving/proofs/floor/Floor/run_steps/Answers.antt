@@ -2,7 +2,7 @@ use Rattle.std.proofs.Common.{◌≡◌, ◌∷◌, ◌++◌, ◌∙◌, None, v
 use Rattle.std.specs.Option.{option_to_list}
 use Rattle.channel_interleaving.specs.Floor.{book_of}
 use Rattle.channel_interleaving.specs.Refusal.{step_refusal}
-use Rattle.channel_interleaving.specs.Run.{MayStop}
+use Rattle.channel_interleaving.specs.Run.{MayStopAt}
 use Rattle.channel_interleaving.proofs.FloorFacts.{ran_none, ran_more, ran_same, stops_here, stops_back, stops_at_end, first_is}
 use Rattle.channel_interleaving.proofs.floor.Floor.run_steps.Goals as goal
 
@@ -49,8 +49,8 @@ pub returns-in-Err-clause-stopped : goal.returns-in-Err-clause-stopped
 returns-in-Err-clause-stopped g c =
     let in_front : c.loop-step.steps.items ≡ c.unwrap-step.result ∷ c.pop_front.new.self.items =
     c.pop_front.ensures.items ∙ ap (λ o. option_to_list o ++ c.pop_front.new.self.items) c.unwrap-step.ensures in
-    let why : MayStop (book_of c.loop-step.self) c.in-Some.step.now None =
-    subst (λ o. MayStop (book_of c.loop-step.self) c.in-Some.step.now o) c.in_default-stop.is c.stop.ensures.why in
+    let why : MayStopAt (book_of c.loop-step.self) c.in-Some.step.now None =
+    subst (λ o. MayStopAt (book_of c.loop-step.self) c.in-Some.step.now o) c.in_default-stop.is c.stop.ensures.why in
     let free : step_refusal c.loop-step.self.roll c.loop-step.self.agents.items c.unwrap-step.result ≡ None =
     subst (λ x. step_refusal c.loop-step.self.roll c.loop-step.self.agents.items x ≡ None)
     (first_is c.loop-step.steps.items c.in-Some.step.now c.unwrap-step.result c.pop_front.new.self.items

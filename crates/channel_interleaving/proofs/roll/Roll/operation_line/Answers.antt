@@ -7,4 +7,4 @@ use Rattle.channel_interleaving.proofs.roll.Roll.operation_line.Goals as goal
 pub returns : goal.returns
 returns g c =
     c.kept_line.ensures
-    ∙ sym (ap (λ (o : Option (model.Operation g.row.T.Denot)). line_of_operation o) (operation_at c.args.self.now c.args.op.0))
+    ∙ sym (ap (λ (o : Option (model.ModelOperation g.row.T.Denot)). line_of_operation o) (operation_at c.args.self.now c.args.op.0))

@@ -2,7 +2,7 @@ use Rattle.std.proofs.Common.{◌≡◌, ◌++◌, ◌∷◌, [], List, ℕ, cod
 use Rattle.channel_language.specs.Words.{lines_of}
 use Rattle.channel_language.specs.Language.{today}
 use Rattle.channel_world.specs.Staged.{scene_of}
-use Rattle.channel_world.specs.Script.{Script, Scene, opened, followed, first_scene}
+use Rattle.channel_world.specs.Script.{Script, ScriptScene, opened, followed, first_scene}
 use Rattle.channel_world.specs.Added.{Extends}
 use Rattle.channel_world.proofs.ScriptLemmas.{stays_by, extends_line, opened_fits}
 use Rattle.channel_world.proofs.script.compose.run_opened.Goals as goal
@@ -17,6 +17,6 @@ returns c =
     let scene : scene_of (record { world = c.in-Ok.world; table = c.in-Ok-first_names.table }) ≡ first_scene c.args.capacity = rw (c.in-Ok.ensures.world, c.in-Ok-first_names.ensures) refl in
     let added : c.add_line.new.out.items ≡ c.args.out.now.items ++ (codes "ok" ++ 10 ∷ []) = simp append_assoc at c.in-Ok-add_line.ensures.ok in
     let follows : Extends rest c.follow.result c.add_line.new.out.items c.follow.new.out.items =
-    subst (λ (s : Scene). Extends (followed today s 2 lines) c.follow.result c.add_line.new.out.items c.follow.new.out.items) scene c.follow.ensures in
+    subst (λ (s : ScriptScene). Extends (followed today s 2 lines) c.follow.result c.add_line.new.out.items c.follow.new.out.items) scene c.follow.ensures in
     subst (λ (s : Script). Extends s c.follow.result c.args.out.now.items c.follow.new.out.items) (sym (opened_fits today c.args.capacity lines c.in-Ok.ensures.fits))
     (extends_line rest c.follow.result (codes "ok") c.args.out.now.items c.follow.new.out.items (subst (λ (o : List ℕ). Extends rest c.follow.result o c.follow.new.out.items) added follows))

@@ -7,7 +7,8 @@ use Rattle.channel_interleaving.specs.declared.step.Step.TheVariants as step
 use Rattle.channel_interleaving.proofs.Interface.{ran_leads}
 use Rattle.channel_world.specs.PartyRun.{refused_of, AreSilent, EndsWithAnswer, IsRefused, StepsOnce}
 use Rattle.channel_world.proofs.HeadlineFacts.{headline, counted}
-use Rattle.channel_world.proofs.PartyFacts.{Ended, ended_refused, ended_well, not_silent, answer_ends, once_silent, none_written, party_more, ran_nothing, silent_ends, silent_more, some_written}
+use Rattle.channel_interleaving.proofs.FloorFacts.{ran_none}
+use Rattle.channel_world.proofs.PartyFacts.{Ended, ended_refused, ended_well, not_silent, answer_ends, once_silent, none_written, party_more, silent_ends, silent_more, some_written}
 use Rattle.channel_world.proofs.Inside.{floor_of}
 use Rattle.channel_world.proofs.world.World.run_party.Goals as goal
 
@@ -16,7 +17,7 @@ loop-made-init g c =
     let none = c.new-trace.ensures.items in
     record {
       count = ap (λ (t : List (Entry g.row.T.Denot)). length t) none;
-      ran = subst (λ (t : List (Entry g.row.T.Denot)). RanTo [] [] (floor_of c.args.self.now) t (floor_of c.args.self.now)) (sym none) (ran_nothing []
+      ran = subst (λ (t : List (Entry g.row.T.Denot)). RanTo [] [] (floor_of c.args.self.now) t (floor_of c.args.self.now)) (sym none) (ran_none []
           (floor_of c.args.self.now));
       silent = subst (λ (t : List (Entry g.row.T.Denot)). AreSilent t) (sym none) tt;
       at_work = λ some. absurd (let long = ap (λ (t : List (Entry g.row.T.Denot)). length t) none in omega (arith, long, some));
@@ -33,7 +34,7 @@ returns-then-not-have_room-clause-headline g c =
     (sym c.is_empty.ensures ∙ c.if-is_empty.false) c.have_room.new.trace.ok.0 c.have_room.ensures.trace in
     ended_refused c.args.party c.loop-made._made (floor_of c.args.self.now) trace (floor_of c.loop-made.self) (floor_of c.loop-made.self) NoMemory
     c.stopped.result.trace.items c.stopped.result.stopped (vec_len c.have_room.new.trace) c.loop-made.invariant.count
-    c.loop-made.invariant.ran (ran_nothing (step.Step c.args.party ∷ []) (floor_of c.loop-made.self)) (inr (
+    c.loop-made.invariant.ran (ran_none (step.Step c.args.party ∷ []) (floor_of c.loop-made.self)) (inr (
       c.loop-made.invariant.at_work
           some,
       refl,
@@ -57,7 +58,7 @@ returns-then-not-have_room-clause-leads g c =
     (sym c.is_empty.ensures ∙ c.if-is_empty.false) c.have_room.new.trace.ok.0 c.have_room.ensures.trace in
     ended_refused c.args.party c.loop-made._made (floor_of c.args.self.now) trace (floor_of c.loop-made.self) (floor_of c.loop-made.self) NoMemory
     c.stopped.result.trace.items c.stopped.result.stopped (vec_len c.have_room.new.trace) c.loop-made.invariant.count
-    c.loop-made.invariant.ran (ran_nothing (step.Step c.args.party ∷ []) (floor_of c.loop-made.self)) (inr (
+    c.loop-made.invariant.ran (ran_none (step.Step c.args.party ∷ []) (floor_of c.loop-made.self)) (inr (
       c.loop-made.invariant.at_work
           some,
       refl,
@@ -77,7 +78,7 @@ returns-then-not-have_room-clause-messages g c =
     (sym c.is_empty.ensures ∙ c.if-is_empty.false) c.have_room.new.trace.ok.0 c.have_room.ensures.trace in
     ended_refused c.args.party c.loop-made._made (floor_of c.args.self.now) trace (floor_of c.loop-made.self) (floor_of c.loop-made.self) NoMemory
     c.stopped.result.trace.items c.stopped.result.stopped (vec_len c.have_room.new.trace) c.loop-made.invariant.count
-    c.loop-made.invariant.ran (ran_nothing (step.Step c.args.party ∷ []) (floor_of c.loop-made.self)) (inr (
+    c.loop-made.invariant.ran (ran_none (step.Step c.args.party ∷ []) (floor_of c.loop-made.self)) (inr (
       c.loop-made.invariant.at_work
           some,
       refl,

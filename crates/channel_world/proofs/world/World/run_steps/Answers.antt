@@ -1,6 +1,6 @@
 use Rattle.std.proofs.Common.{arith, subst}
 use Rattle.channel_interleaving.specs.Floor.{book_of}
-use Rattle.channel_interleaving.specs.Run.{Stops}
+use Rattle.channel_interleaving.specs.Run.{StopsAt}
 use Rattle.channel_interleaving.proofs.Interface.{ran_leads}
 use Rattle.channel_world.proofs.HeadlineFacts.{headline, counted}
 use Rattle.channel_world.proofs.StopFacts.{all_used_up, place_is, all_made}
@@ -11,7 +11,7 @@ pub returns-clause-headline : goal.returns-clause-headline
 returns-clause-headline g c =
     headline c.args.steps.now.items c.make_steps.new.steps.items (floor_of c.args.self.now) c.make_steps.result.trace.items c.make_steps.result.stopped
     (floor_of c.make_steps.new.self) c.make_steps.ensures.ran
-    (subst (λ n. Stops (book_of (floor_of c.make_steps.new.self)) c.make_steps.new.steps.items n c.make_steps.result.stopped)
+    (subst (λ n. StopsAt (book_of (floor_of c.make_steps.new.self)) c.make_steps.new.steps.items n c.make_steps.result.stopped)
     c.make_steps.result.trace.ok.0 c.make_steps.ensures.stopped)
 
 pub returns-clause-soon : goal.returns-clause-soon

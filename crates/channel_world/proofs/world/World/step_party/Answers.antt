@@ -1,6 +1,6 @@
 use Rattle.std.proofs.Common.{arith, ◌≡◌, List, [], ◌∷◌, ◌++◌, ◌∙◌, length, vec_len, None, Some, refl, sym, ap, subst}
 use Rattle.channel_interleaving.specs.Floor.{book_of, Stands}
-use Rattle.channel_interleaving.specs.Run.{Stops}
+use Rattle.channel_interleaving.specs.Run.{StopsAt}
 use Rattle.channel_interleaving.specs.Runs.{RanTo}
 use Rattle.channel_interleaving.specs.declared.step.Entry.{Entry}
 use Rattle.channel_interleaving.specs.declared.step.Step.{Step}
@@ -20,9 +20,9 @@ returns-in-Some-clause-refused g c =
     c.push_back_reserved.ensures.items ∙ ap (λ (l : List (Step g.row.T.Denot)). l ++ x ∷ []) c.requires.empty in
     let ran : RanTo (x ∷ []) left (floor_of c.args.self.now) trace (floor_of run.new.self) =
     subst (λ (l : List (Step g.row.T.Denot)). RanTo l left (floor_of c.args.self.now) trace (floor_of run.new.self)) pushed run.ensures.ran in
-    let stops : Stops (book_of (floor_of run.new.self)) left (length trace) (Some c.in-Some.field-0) =
-    subst (λ n. Stops (book_of (floor_of run.new.self)) left n (Some c.in-Some.field-0)) run.result.trace.ok.0
-    (subst (λ o. Stops (book_of (floor_of run.new.self)) left (vec_len run.result.trace) o) c.in-Some.is run.ensures.stopped) in
+    let stops : StopsAt (book_of (floor_of run.new.self)) left (length trace) (Some c.in-Some.field-0) =
+    subst (λ n. StopsAt (book_of (floor_of run.new.self)) left n (Some c.in-Some.field-0)) run.result.trace.ok.0
+    (subst (λ o. StopsAt (book_of (floor_of run.new.self)) left (vec_len run.result.trace) o) c.in-Some.is run.ensures.stopped) in
     let none = none_made c.args.party left (floor_of c.args.self.now) trace c.in-Some.field-0 (floor_of run.new.self) before ran stops in
     record { unwritten = refl; ran = none.ran; reason = none.reason }
 
@@ -37,7 +37,7 @@ returns-clause-made g c =
     c.push_back_reserved.ensures.items ∙ ap (λ (l : List (Step g.row.T.Denot)). l ++ x ∷ []) c.requires.empty in
     let ran : RanTo (x ∷ []) left (floor_of c.args.self.now) trace (floor_of run.new.self) =
     subst (λ (l : List (Step g.row.T.Denot)). RanTo l left (floor_of c.args.self.now) trace (floor_of run.new.self)) pushed run.ensures.ran in
-    let used : left ≡ [] = subst (λ o. Stops (book_of (floor_of run.new.self)) left (vec_len run.result.trace) o) c.in_default.is
+    let used : left ≡ [] = subst (λ o. StopsAt (book_of (floor_of run.new.self)) left (vec_len run.result.trace) o) c.in_default.is
     run.ensures.stopped in
     let one = one_made c.args.party left (floor_of c.args.self.now) trace (floor_of run.new.self) before ran used in
     let entry : Entry g.row.T.Denot = c.in-Some-pop.entry in
@@ -62,7 +62,7 @@ unreachable-requires g c =
     c.push_back_reserved.ensures.items ∙ ap (λ (l : List (Step g.row.T.Denot)). l ++ x ∷ []) c.requires.empty in
     let ran : RanTo (x ∷ []) left (floor_of c.args.self.now) trace (floor_of run.new.self) =
     subst (λ (l : List (Step g.row.T.Denot)). RanTo l left (floor_of c.args.self.now) trace (floor_of run.new.self)) pushed run.ensures.ran in
-    let used : left ≡ [] = subst (λ o. Stops (book_of (floor_of run.new.self)) left (vec_len run.result.trace) o) c.in_default.is
+    let used : left ≡ [] = subst (λ o. StopsAt (book_of (floor_of run.new.self)) left (vec_len run.result.trace) o) c.in_default.is
     run.ensures.stopped in
     let one = one_made c.args.party left (floor_of c.args.self.now) trace (floor_of run.new.self) before ran used in
     let written : length trace ≡ 1 = ap (λ (t : List (Entry g.row.T.Denot)). length t) one.entries in
