@@ -1,5 +1,5 @@
 -- Records that grow, the one call of a run, the calls of seats, and the two laws of every record.
-use Rattle.std.proofs.Common.{arith, ◌≡◌, ◌+◌, ℕ, List, [], ◌∷◌, ◌++◌, length, Option, None, Some, IfSome, refl, sym, subst, ap, ◌∙◌, append_assoc, append-nil}
+use Rattle.std.proofs.Common.{arith, ◌≡◌, ◌+◌, ◌-◌, ◌*◌, ◌^◌, ◌≤◌, ℕ, zero, suc, List, [], ◌∷◌, ◌++◌, length, Option, None, Some, IfSome, refl, sym, subst, ap, ◌∙◌, add-one, append_assoc, append-nil}
 use Rattle.std.specs.Option.{option_map}
 use Rattle.channel_model.specs.Awake.{AwakeIn}
 use Rattle.channel_model.specs.Laws.{removed_by, accepted_by, sends_after, NobodyIsLeft}
@@ -12,7 +12,7 @@ use Rattle.channel_model.specs.declared.run.Stopped.{Stopped}
 use Rattle.channel_model.proofs.LawSteps.{Kept, step_good, opened_kept}
 use Rattle.channel_world.specs.RecordLaws.{removed, accepted, accepted_after}
 use Rattle.channel_world.specs.RecordReplay.{Made, Replays, IsHistory}
-use Rattle.channel_world.specs.RecordSeat.{SeatView, calls_of}
+use Rattle.channel_world.specs.RecordSeat.{SeatView, amount_of, call_weight, calls_of, numbers_of, sum_below}
 use Rattle.channel_world.specs.Recording.{RecordingView, IsRecording}
 use Rattle.channel_world.specs.declared.recorded.receipt.Receipt.{Receipt}
 
@@ -22,9 +22,30 @@ pub calls_snoc : (ss : List SeatView) (s : SeatView) → calls_of (ss ++ s ∷ [
 calls_snoc [] s = omega arith
 calls_snoc (x ∷ ss) s = let h = calls_snoc ss s in omega (arith, h)
 
-pub no_calls : (ss : List SeatView) → length ss ≡ 0 → calls_of ss ≡ 0
-no_calls [] e = refl
-no_calls (x ∷ ss) e = absurd (omega (arith, e))
+pub numbers_snoc : (ss : List SeatView) (s : SeatView) → numbers_of (ss ++ s ∷ []) ≡ numbers_of ss + s.number
+numbers_snoc [] s = omega arith
+numbers_snoc (x ∷ ss) s = let h = numbers_snoc ss s in omega (arith, h)
+
+pub none_counted : (ss : List SeatView) → length ss ≡ 0 → amount_of (numbers_of ss) (calls_of ss) ≡ 0
+none_counted [] e = refl
+none_counted (x ∷ ss) e = absurd (omega (arith, e))
+
+-- one seat more has the next number
+pub sum_next : (n : ℕ) → sum_below (n + 1) ≡ n + sum_below n
+sum_next n = ap (λ (m : ℕ). sum_below m) (add-one n)
+
+-- the numbers of so many seats are less than a call weighs
+pub sum_is_small : (n : ℕ) → n ≤ 2 ^ 32 → sum_below n ≤ (2 ^ 32 - 1) * n
+sum_is_small zero few = omega arith
+sum_is_small (suc n) few = let h = sum_is_small n (omega (arith, few)) in omega (arith, few, h)
+
+-- so a total tells both: the numbers of as many seats as were made, none of more than a word of 32 bits, and their calls
+pub told_apart : (made numbers calls count : ℕ) → made ≤ 2 ^ 32 → numbers ≤ (2 ^ 32 - 1) * made
+    → amount_of numbers calls ≡ amount_of (sum_below made) count → (numbers ≡ sum_below made) × (count ≡ calls)
+told_apart made numbers calls count most small e =
+    let sum = sum_is_small made most in
+    let same : count ≡ calls = omega (arith, most, small, sum, e) in
+    (omega (arith, e, same), same)
 
 -- ---- lists of one
 
@@ -57,7 +78,7 @@ module _ {T : Type 0} where
       (subst (λ (x : RecordingView T). IsRecording x count total parts amount all) (sym (same_view v t rs same kept)) i)
 
   pub one_recorded : (v : RecordingView T) (t : State T) (r : Receipt T) (count count' total total' parts amount all : ℕ) → IsRecording v count total parts amount all
-      → r.place ≡ length v.entries → Made v.state r t → count' ≡ count + 1 → total' ≡ total + 1
+      → r.place ≡ length v.entries → Made v.state r t → count' ≡ count + 1 → total' ≡ total + call_weight
       → IsRecording (record v { state = t; entries = v.entries ++ r ∷ [] }) count' total' parts amount all
   one_recorded v t r count count' total total' parts amount all i at made longer counted =
       let before = i.counted in

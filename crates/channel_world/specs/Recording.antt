@@ -4,6 +4,7 @@ use Rattle.channel_model.specs.Run.{MayStop}
 use Rattle.channel_model.specs.State.{State, start}
 use Rattle.channel_model.specs.declared.call.Call.{Call}
 use Rattle.channel_world.specs.RecordReplay.{Replays}
+use Rattle.channel_world.specs.RecordSeat.{amount_of, sum_below}
 use Rattle.channel_world.specs.declared.recorded.error.RecordError.{RecordError}
 use Rattle.channel_world.specs.declared.recorded.error.RecordError.TheVariants.{World, NoRoom}
 use Rattle.channel_world.specs.declared.recorded.receipt.Receipt.{Receipt}
@@ -22,11 +23,11 @@ abbrev pub with_seat : {T : Type 0} → RecordingView T → RecordingView T
 with_seat v = record v { seats = v.seats + 1; parts = v.parts - 1 }
 
 module _ {T : Type 0} where
-  -- The record leads from a channel opened with the capacity to the world as it stands, and the ledger counts its entries: all of them are the
-  -- seats', of which each has one part.
+  -- The record leads from a channel opened with the capacity to the world as it stands. The ledger counts its entries, and the numbers of
+  -- the seats that were made, from 0 on: all of it is the seats', of which each has one part.
   pub record IsRecording (v : RecordingView T) (count total parts amount all : ℕ) : Type 0 where
     pub replays : Replays 0 (start v.capacity) v.entries v.state
-    pub counted : total ≡ count
+    pub counted : total ≡ amount_of (sum_below v.seats) count
     pub idle : amount ≡ 0
     pub parts_left : parts ≡ v.parts
     pub one_each : v.parts + v.seats ≡ all

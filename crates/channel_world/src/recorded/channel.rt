@@ -3,7 +3,7 @@
 ghost use Rattle.std.specs.Prelude.{◌≡◌, ◌<◌, ◌≤◌, ◌+◌, ◌-◌, ◌^◌, Err, IsOk, IfOk, IfErr, OnOk, OnErr, length};
 ghost use Rattle.channel_model.specs.State.{start};
 ghost use Rattle.channel_world.specs.RecordReplay.{EndsHistory};
-ghost use Rattle.channel_world.specs.RecordSeat.{calls_of, one_more};
+ghost use Rattle.channel_world.specs.RecordSeat.{calls_of, numbers_of, one_more, sum_below};
 ghost use Rattle.channel_world.specs.Recording.{call_in};
 ghost use Rattle.channel_world.specs.View.{at_rest, IsQuiet};
 
@@ -106,11 +106,13 @@ impl<T: Copy, L: Ledger> RecordedChannel<T, L> {
         }
     }
 
-    /// One more seat, which made no call yet. Seats are numbered from 0 in the order of making.
+    /// One more seat, which made no call yet. Seats are numbered from 0 in the order of making. Who has gathered them all knows of
+    /// their numbers what `finish` says.
     ///
     /// Refused where no part of the ledger but the last is left, or where 2^32 seats were made. It may wait for the lock.
     pub fn seat<R: Wait>(&self, rt: &R) -> Result<RecordSeat<L>, SeatsUsedUp>
-        ensures { IfOk result (λ s. s.calls ≡ 0) }
+        ensures idle { IfOk result (λ s. s.calls ≡ 0) }
+        ensures below { IfOk result (λ s. s.number + 1 < L.parts) }
     {
         self.inner.lock(rt).seat()
     }
@@ -136,13 +138,14 @@ impl<T: Copy, L: Ledger> RecordedChannel<T, L> {
         self.inner.lock(rt).call(seat, call)
     }
 
-    /// The record, where all seats that were made are gathered: it has as many entries as they made accepted calls. A channel
-    /// of which no seat was made is finished with the empty list. Where the seats have all parts of the ledger but the channel's own,
-    /// none is missing.
+    /// The record, where all seats that were made are gathered: it has as many entries as they made accepted calls. The sum of
+    /// their numbers is that of the numbers from 0 on, one for each seat. A channel of which no seat was made is finished with the
+    /// empty list. Where the seats have all parts of the ledger but the channel's own, none is missing.
     ///
     /// Where a seat is missing the channel and the seats come back.
     pub fn finish(self, seats: Vec<RecordSeat<L>>) -> Result<Record<T>, MissingSeat<T, L>>
         ensures counted { IfOk result (λ r. length r.entries ≡ calls_of seats.items) }
+        ensures numbered { OnOk result (numbers_of seats.items ≡ sum_below (length seats.items)) }
         ensures gathered { L.parts ≤ length seats.items + 1 → IsOk result }
         ensures back { IfErr result (λ m. m.seats.items ≡ seats.items) }
     {

@@ -23,7 +23,11 @@ use std::sync::ledger::{Blank, Book, Ledger, Share};
 /// How many seats there are at most: so many numbers does a seat's have.
 const MOST_SEATS: u64 = 1 << 32;
 
-/// A world with the record of its calls, the book of the ledger, and those of its parts that no seat has.
+/// What a call counts for in the ledger. That is more than the numbers of so many seats come to, so its total tells both.
+const CALL_WEIGHT: u64 = u64::MAX;
+
+/// A world with the record of its calls, the book of the ledger, and those of its parts that no seat has. The book counts the entries,
+/// and the numbers of the seats that were made.
 #[derive(Drop)]
 pub(crate) struct Recording<T: Copy, L: Ledger> {
     alloc: Global,
@@ -56,7 +60,7 @@ impl<T: Copy, L: Ledger> Model for Recording<T, L> {
 impl<T: Copy, L: Ledger> Recording<T, L> {
     ghost use Rattle.channel_model.specs.State.{start};
     ghost use Rattle.channel_world.specs.RecordReplay.{EndsHistory, Made};
-    ghost use Rattle.channel_world.specs.RecordSeat.{calls_of, new_seat, one_more};
+    ghost use Rattle.channel_world.specs.RecordSeat.{calls_of, new_seat, numbers_of, one_more, sum_below};
     ghost use Rattle.channel_world.specs.Recording.{with_seat, call_in, MayRefuseRecorded};
     ghost use Rattle.channel_world.specs.View.{at_rest, IsQuiet};
 
@@ -88,9 +92,10 @@ impl<T: Copy, L: Ledger> Recording<T, L> {
         }
     }
 
-    /// One more seat, with one part of the ledger; the last part stays here.
+    /// One more seat, with one part of the ledger, in which its number is counted; the last part stays here.
     pub(crate) fn seat(&mut self) -> Result<RecordSeat<L>, SeatsUsedUp>
         ensures seat { IfOk result (λ s. s ≡ new_seat self.old.seats) }
+        ensures below { IfOk result (λ s. s.number + 1 < L.parts) }
         ensures made { OnOk result (self.new ≡ with_seat self.old) }
         ensures used_up { OnErr result ((self.old.parts ≤ 1) ⊎ (self.old.seats ≡ 2 ^ 32)) }
         ensures unchanged { OnErr result (self.new ≡ self.old) }
@@ -98,8 +103,9 @@ impl<T: Copy, L: Ledger> Recording<T, L> {
         if self.left <= 1 || self.made >= MOST_SEATS {
             return Err(SeatsUsedUp);
         }
-        let mine = self.rest.split_off(1, 0);
         let number = self.made as u32;
+        let mut mine = self.rest.split_off(1, 0);
+        self.book.add(&mut mine, self.made);
         self.left -= 1;
         self.made += 1;
         Ok(RecordSeat { number, mine })
@@ -141,7 +147,7 @@ impl<T: Copy, L: Ledger> Recording<T, L> {
                 self.book.audit(&mut seat.mine);
                 let (entry, receipt) = twice(place, seat.number, call, done, lists);
                 self.entries.push_reserved(entry);
-                self.book.add(&mut seat.mine, 1);
+                self.book.add(&mut seat.mine, CALL_WEIGHT);
                 Ok(receipt)
             }
             None => Err(RecordError::World {
@@ -158,7 +164,8 @@ impl<T: Copy, L: Ledger> Recording<T, L> {
     ) -> Result<Record<T>, (Self, Vec<RecordSeat<L>>)>
         ensures all { OnOk result (length seats.items ≡ self.seats) }
         ensures record { IfOk result (λ r. r ≡ record { capacity = self.capacity; entries = self.entries }) }
-        ensures counted { IfOk result (λ r. length r.entries ≡ calls_of seats.items) }
+        ensures counted { IfOk result (λ r. (numbers_of seats.items ≡ sum_below (length seats.items))
+            × (length r.entries ≡ calls_of seats.items)) }
         ensures missing { OnErr result (length seats.items < self.seats) }
         ensures gathered { L.parts ≤ length seats.items + 1 → IsOk result }
         ensures back { IfErr result (λ b. (b.0 ≡ self) × (b.1.items ≡ seats.items)) }

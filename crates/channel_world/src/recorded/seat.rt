@@ -9,19 +9,19 @@ use std::sync::ledger::{Ledger, Share};
 #[derive(Drop)]
 pub struct RecordSeat<L: Ledger> {
     pub(crate) number: u32,
-    /// One part of the ledger, with the seat's accepted calls.
+    /// One part of the ledger, whose amount counts the seat's number and its accepted calls.
     pub(crate) mine: Share<L>,
 }
 
 impl<L: Ledger> Model for RecordSeat<L> {
-    ghost use Rattle.std.specs.Prelude.{◌≡◌};
-    ghost use Rattle.channel_world.specs.RecordSeat.{SeatView};
+    ghost use Rattle.std.specs.Prelude.{◌≡◌, ◌<◌, ◌^◌};
+    ghost use Rattle.channel_world.specs.RecordSeat.{SeatView, amount_of, calls_in};
 
     ghost Value = { SeatView };
 
-    ghost view = { λ s. record { number = s.number; calls = s.mine.amount } };
+    ghost view = { λ s. record { number = s.number; calls = calls_in s.mine.amount } };
 
-    ghost invariant = { λ s. s.mine.parts ≡ 1 };
+    ghost invariant = { λ s. (s.mine.parts ≡ 1) × (s.number < 2 ^ 32) × (s.mine.amount ≡ amount_of s.number (calls_in s.mine.amount)) };
 }
 
 impl<L: Ledger> RecordSeat<L> {

@@ -3,7 +3,7 @@ use Rattle.channel_model.specs.Answer.{Answer}
 use Rattle.channel_model.specs.Run.{Does, MayStop}
 use Rattle.channel_world.proofs.Few.{few_woken}
 use Rattle.channel_world.proofs.FewListed.{few_listed}
-use Rattle.channel_world.proofs.RecordLemmas.{one_done, made_so, none_done, one_recorded, still_recording}
+use Rattle.channel_world.proofs.RecordLemmas.{one_done, made_so, none_done, one_recorded, still_recording, sum_is_small}
 use Rattle.channel_world.specs.RecordReplay.{Made}
 use Rattle.channel_world.specs.RecordSeat.{SeatView}
 use Rattle.channel_world.specs.Recording.{RecordingView, IsRecording}
@@ -149,8 +149,11 @@ returns-in-Some-pop-clause-behind g c =
     let still = c.in-Some.ensures.entries.1 in
     let bound = c.audit.ensures.bound in
     let counted = c.self.invariant.2.counted in
+    let most = c.self.invariant.2.numbered in
+    let sum = sum_is_small c.self.inside.made most in
+    let mine = c.seat.invariant.2 in
     let calls = ap (λ (s : SeatView). s.calls) c.seat.view_is in
-    omega (arith, place, len, still, bound, counted, calls)
+    omega (arith, place, len, still, bound, counted, most, sum, mine, calls)
 
 pub returns-in-Some-pop-clause-recorded : goal.returns-in-Some-pop-clause-recorded
 returns-in-Some-pop-clause-recorded g c =

@@ -1,13 +1,15 @@
-use Rattle.std.proofs.Common.{◌≡◌, ◌+◌, ◌≤◌, vec_len}
-use Rattle.channel_world.specs.RecordSeat.{calls_of}
+use Rattle.std.proofs.Common.{◌≡◌, ◌+◌, ◌-◌, ◌*◌, ◌^◌, ◌≤◌, vec_len}
+use Rattle.channel_world.specs.RecordSeat.{amount_of, calls_of, numbers_of}
 use Rattle.channel_world.proofs.recorded.recording.Recording.finish.Given as goal
 
--- the parts and the calls of the seats that are left, with those that were gathered
+-- the parts and the amounts of the seats that are left, with those that were gathered; and each of these has a number of 32 bits
 abbrev pub invariant-loop-seat : goal.invariant-loop-seat
 invariant-loop-seat g l = record {
   parts : l.all.parts + vec_len l.seats ≡ l.self-inside.left + vec_len l.fn.seats;
   within : l.all.parts ≤ g.L.Ledger.parts;
-  calls : l.all.amount + calls_of l.seats.items ≡ calls_of l.fn.seats.items;
+  amounts : l.all.amount + amount_of (numbers_of l.seats.items) (calls_of l.seats.items)
+      ≡ amount_of (numbers_of l.fn.seats.items) (calls_of l.fn.seats.items);
+  small : numbers_of l.fn.seats.items + (2 ^ 32 - 1) * vec_len l.seats ≤ numbers_of l.seats.items + (2 ^ 32 - 1) * vec_len l.fn.seats;
   total : l.book.total ≡ l.self-inside.book.total;
   entries : l.entries ≡ l.self-inside.entries;
 }

@@ -1,4 +1,5 @@
 use Rattle.std.proofs.Common.{arith, ap, inl, inr}
+use Rattle.channel_world.proofs.RecordLemmas.{sum_next}
 use Rattle.channel_world.specs.Recording.{RecordingView}
 use Rattle.channel_world.proofs.recorded.recording.Recording.seat.Goals as goal
 use Rattle.channel_world.proofs.recorded.recording.Recording.seat.Goals.{then-self-le1-via-then-self-le1, then-self-le1-via-else-self-le1+then-self-ge-MOST_SEATS}
@@ -16,6 +17,9 @@ returns-then-self-le1-clause-used_up g c =
 pub invariant_of-self : goal.invariant_of-self
 invariant_of-self g c =
     let i = c.self.invariant.2 in
+    let counted = i.counted in
+    let added = c.add.ensures.total in
+    let next = sum_next c.self.inside.made in
     let idle = i.idle in
     let left = i.parts_left in
     let each = i.one_each in
@@ -27,7 +31,7 @@ invariant_of-self g c =
       c.self.invariant.1,
       record {
         replays = i.replays;
-        counted = i.counted;
+        counted = omega (arith, counted, added, next);
         idle = omega (arith, idle, amount);
         parts_left = omega (arith, left, parts, more);
         one_each = omega (arith, each, more);
