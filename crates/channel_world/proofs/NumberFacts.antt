@@ -20,7 +20,7 @@ use Rattle.channel_model.proofs.WaiterLemmas.{decided, or_true, same_refl, same_
 use Rattle.channel_interleaving.specs.Apart.{AreApart}
 use Rattle.channel_interleaving.specs.Floor.{book_of, IsQuiet, Stands}
 use Rattle.channel_interleaving.specs.OwnerOrder.{was_woken}
-use Rattle.channel_interleaving.specs.Owners.{IsAmong, Post, amiss, rests, post_on, no_stream_post, stream_post, posted, send_post, operation_post, post}
+use Rattle.channel_interleaving.specs.Owners.{IsAmong, Post, amiss, post_on, no_stream_post, stream_post, posted, send_post, operation_post, post}
 use Rattle.channel_interleaving.specs.Pending.{is_pending, how_many, operation_stands, stream_stands}
 use Rattle.channel_interleaving.specs.Roll.{key_of, held_of, is_woken}
 use Rattle.channel_interleaving.specs.Kept.{AllKept}

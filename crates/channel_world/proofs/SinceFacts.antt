@@ -1,14 +1,12 @@
 -- What all replies have in common that were given on the way from a scene: of each step, and so of all.
-use Rattle.std.proofs.Common.{arith, ◌≡◌, ℕ, ◌+◌, ◌≤◌, Bool, true, false, ◌||◌, cond, List, [], ◌∷◌, ◌++◌, map, Option, None, Some, inr, refl, sym, ap, ◌∙◌, subst}
+use Rattle.std.proofs.Common.{arith, ◌≡◌, ℕ, ◌+◌, ◌≤◌, Bool, true, false, ◌||◌, cond, List, [], ◌∷◌, ◌++◌, map, Option, None, Some, refl, sym, ap, ◌∙◌, subst}
 use Rattle.std.specs.Option.{option_to_list}
 use Rattle.channel_calls.specs.Moves.{Channel}
-use Rattle.channel_calls.specs.Parts.{Parts, count}
 use Rattle.channel_calls.specs.declared.mark.Mark.{Mark}
 use Rattle.channel_calls.specs.declared.mark.Mark.TheVariants.{Nothing, Close}
 use Rattle.channel_calls.specs.declared.reply.Reply.{Reply}
 use Rattle.channel_calls.specs.declared.reply.Reply.TheVariants as reply
 use Rattle.channel_calls.specs.declared.stage.Kept.{Kept}
-use Rattle.channel_calls.specs.declared.stage.Side.TheVariants.{Senders}
 use Rattle.channel_laws.specs.Bounds.{SaysFull, NoneFull, AllOf, BoundSound, one_if_closed}
 use Rattle.channel_laws.specs.Ends.{Each, Replies}
 use Rattle.channel_laws.proofs.BoundMoves.{SaysOf, FlagOf}
@@ -25,7 +23,7 @@ use Rattle.channel_steps.proofs.Interface.{run_so}
 use Rattle.channel_interleaving.proofs.Interface.{led_further, none_under_way}
 use Rattle.channel_interleaving.specs.Counted.{tally}
 use Rattle.channel_interleaving.specs.Doing.{any_close, is_close}
-use Rattle.channel_interleaving.specs.Floor.{parts_in, IsQuiet, Stands}
+use Rattle.channel_interleaving.specs.Floor.{IsQuiet, Stands}
 use Rattle.channel_interleaving.specs.Way.{replies_of}
 use Rattle.channel_interleaving.specs.declared.floor.Floor.{Floor}
 use Rattle.channel_model.specs.State.{State}

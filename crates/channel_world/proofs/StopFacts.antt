@@ -1,5 +1,5 @@
 -- How many steps of a list were made, and where it stopped.
-use Rattle.std.proofs.Common.{arith, ◌≡◌, ◌+◌, ℕ, List, [], ◌∷◌, length, Option, None, Some, IfSome, refl, ap, length-append}
+use Rattle.std.proofs.Common.{arith, ◌≡◌, ◌+◌, ℕ, List, [], ◌∷◌, length, Option, None, Some, IfSome, ap, length-append}
 use Rattle.channel_model.specs.declared.run.Stopped.{Stopped}
 use Rattle.channel_steps.proofs.Interface.{run_entries}
 use Rattle.channel_interleaving.specs.Floor.{Stands}

@@ -4,7 +4,7 @@ use Rattle.channel_calls.specs.declared.reply.Reply.{Reply}
 use Rattle.channel_alone.specs.Alone.{Outcome, Alone}
 use Rattle.channel_interleaving.proofs.Interface.{none_under_way, no_agents}
 use Rattle.channel_interleaving.specs.Bookkeeping.{asks}
-use Rattle.channel_interleaving.specs.Floor.{book_of, Shown, IsKept, IsQuiet, IsSame}
+use Rattle.channel_interleaving.specs.Floor.{book_of, Shown, IsKept, IsQuiet}
 use Rattle.channel_interleaving.specs.Kept.{AllKept}
 use Rattle.channel_interleaving.specs.Lone.{book_alone, CallsAlone, WakesAtMost}
 use Rattle.channel_interleaving.specs.Refusal as names

@@ -1,12 +1,7 @@
 -- From the law that a call made alone is the model's.
-use Rattle.std.proofs.Common.{◌≡◌, None, ◌∙◌, ap, subst, sym}
-use Rattle.channel_interleaving.specs.Floor.{IsKept, IsQuiet}
-use Rattle.channel_interleaving.specs.Refusal as names
-use Rattle.channel_interleaving.specs.declared.floor.Floor.{Floor}
+use Rattle.std.proofs.Common.{◌∙◌, sym}
 use Rattle.channel_interleaving.proofs.Interface.{leads_nowhere}
 use Rattle.channel_interleaving.proofs.LoneFacts.{kept_whatever, leads_whatever}
-use Rattle.channel_model.specs.Refusal.{refusal}
-use Rattle.channel_world.specs.World.{at_rest}
 use Rattle.channel_world.proofs.Whole.{refused_alike, wakes_few, answers_whatever}
 use Rattle.channel_world.proofs.Inside.{floor_of, inside_is}
 use Rattle.channel_world.proofs.world.World.answer.Goals as goal

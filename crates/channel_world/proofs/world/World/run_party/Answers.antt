@@ -1,4 +1,4 @@
-use Rattle.std.proofs.Common.{arith, ◌≡◌, Bool, ◌<◌, ◌+◌, false, true, List, [], ◌∷◌, ◌∙◌, length, vec_len, None, inr, refl, sym, ap, subst}
+use Rattle.std.proofs.Common.{arith, ◌≡◌, Bool, ◌<◌, ◌+◌, false, List, [], ◌∷◌, ◌∙◌, length, vec_len, None, inr, refl, sym, ap, subst}
 use Rattle.std.proofs.lemmas.Grind.{common_steps}
 use Rattle.channel_model.specs.declared.refusal.WorldRefusal.TheVariants.{NoMemory}
 use Rattle.channel_interleaving.specs.Runs.{RanTo}
