@@ -1,5 +1,5 @@
 //! What a program can rely on, proved of it here with no word of how a recorded channel is made.
-ghost use Rattle.std.specs.Prelude.{◌≡◌, ◌≤◌, ◌+◌, IfSome, length};
+ghost use Rattle.std.specs.Prelude.{◌≡◌, ◌≤◌, ◌+◌, IfSome, OnSome, length};
 ghost use Rattle.channel_world.specs.RecordLaws.{KeepsItsLaws};
 ghost use Rattle.channel_world.specs.RecordReplay.{EndsHistory};
 
@@ -41,16 +41,17 @@ fn work<L: Ledger, R: Wait>(
     (seat, made)
 }
 
-/// The record of two seats, which has as many entries as they made accepted calls. With the channel's own they have all parts of the
-/// ledger, so none is missing.
-fn gather<L: Ledger>(
-    channel: RecordedChannel<u64, L>,
+/// The record of two seats, which has as many entries as they made accepted calls; and the seats have the numbers 0 and 1, the one or
+/// the other. With the channel's own they have all parts of the ledger, so none is missing.
+fn gather<T: Copy, L: Ledger>(
+    channel: RecordedChannel<T, L>,
     first: RecordSeat<L>,
     second: RecordSeat<L>,
     alloc: Global,
-) -> Option<Record<u64>>
+) -> Option<Record<T>>
     requires { L.parts ≡ 3 }
-    ensures { IfSome result (λ r. length r.entries ≡ first.calls + second.calls) }
+    ensures calls { IfSome result (λ r. length r.entries ≡ first.calls + second.calls) }
+    ensures numbers { OnSome result (first.number + second.number ≡ 1) }
 {
     let mut seats = Vec::new(alloc);
     seats.push(first).ok()?;
