@@ -10,7 +10,7 @@ use channel_calls::stage::Side;
 /// A handle of this kind was dropped: the last one closes an open channel.
 fn drop_marks(side: Side, count: &Count) -> (Mark, Mark) {
     let is_last = count.handles(side) == 1;
-    let then = if is_last && !count.is_closed() {
+    let then = if is_last && !count.closed {
         Mark::Close
     } else {
         Mark::Nothing

@@ -5,6 +5,7 @@ use crate::answer::{Answer, form_of, read};
 use crate::count::Count;
 use crate::differs::Differs;
 use crate::due::is_due;
+use crate::named::{find, find_mut, remove};
 use crate::names::{Names, is_fit};
 use crate::numbers::Numbers;
 use crate::plan::{Kind, LARGE, Plan, Target};
@@ -36,9 +37,10 @@ pub struct Book {
 impl Book {
     /// Of a channel of this capacity that was just opened.
     pub fn new(capacity: Option<usize>, alloc: Global) -> Result<Self, Differs> {
+        let names = Names::first(alloc)?;
         Ok(Book {
             count: Count::new(capacity, alloc),
-            names: Names::first(alloc)?,
+            names,
             waiting: Waiting::nobody(alloc),
             calls: Vec::new(alloc),
             takings: Takings::nothing(alloc),
@@ -49,10 +51,10 @@ impl Book {
 
     /// The numbers that the channel has to tell.
     pub fn numbers(&self) -> Numbers {
-        let woken = self.waiting.all(true);
+        let woken = self.waiting.number(None, true);
         Numbers {
             messages: self.count.messages() as u64,
-            pending: self.waiting.all(false).saturating_add(woken),
+            pending: self.waiting.number(None, false).saturating_add(woken),
             woken,
             under_way: self.calls.len(),
             is_quiet: self.calls.is_empty(),
@@ -61,18 +63,16 @@ impl Book {
 
     /// The call that this party has under way.
     pub fn call_of(&self, party: u32) -> Option<UnderWay> {
-        for call in &self.calls {
-            if call.party == party {
-                return Some(*call);
-            }
-        }
-        None
+        find(self.calls.as_slice(), party)
     }
 
     /// Whether a live operation or a call under way uses the handle.
     fn is_used(&self, handle: u32) -> bool {
-        let calls = self.calls.iter();
-        self.names.borrowers(handle) > 0 || calls.filter(|call| call.uses(handle)).count() > 0
+        let mut is_used = self.names.is_borrowed(handle);
+        for call in &self.calls {
+            is_used = is_used || call.uses(handle);
+        }
+        is_used
     }
 
     /// Why a call upon an operation is refused.
@@ -140,57 +140,50 @@ impl Book {
         if let Some(name) = subject.waiter {
             self.waiting.take_in_hand(name);
         }
-        self.names.begin(plan);
+        self.names.begin(plan, &subject);
         for call in &mut self.calls {
-            call.is_joined();
+            call.in_a_row = 0;
         }
         let mut call = UnderWay::new(party, plan, subject);
         call.begun = self.moment;
+        call.taken_before = self.takings.len();
         match self.calls.push(call) {
             Ok(()) => Ok(()),
             Err(_) => Err(Differs::NoMemory),
         }
     }
 
-    /// The party's call takes the oldest message, where it is a receive of several.
-    fn note_taking(&mut self, party: u32) -> Result<(), Differs> {
-        let kind = self.call_of(party).map(|call| call.plan.kind);
-        match self.count.oldest() {
-            Some(message) if kind == Some(Kind::RecvMany) => self.takings.add(party, message),
+    /// The party's call made a step with this mark.
+    pub fn step(&mut self, party: u32, mark: Mark) -> Result<(), Differs> {
+        let is_alone = self.calls.len() == 1;
+        let oldest = self.count.oldest();
+        let Some(call) = find_mut(self.calls.as_mut_slice(), party) else {
+            return Err(Differs::Refusal);
+        };
+        call.go_on(is_alone)?;
+        call.step(mark, &mut self.count)?;
+        match oldest {
+            Some(message) if mark == Mark::Take && call.plan.kind == Kind::RecvMany => {
+                self.takings.add(party, message)
+            }
             _ => Ok(()),
         }
     }
 
-    /// The party's call made a step with this mark.
-    pub fn step(&mut self, party: u32, mark: Mark) -> Result<(), Differs> {
-        if mark == Mark::Take {
-            self.note_taking(party)?;
-        }
-        let is_alone = self.calls.len() == 1;
-        for call in &mut self.calls {
-            if call.party == party {
-                call.go_on(is_alone)?;
-                return call.step(mark, &mut self.count);
-            }
-        }
-        Err(Differs::Refusal)
-    }
-
-    /// The party's call woke a send.
-    fn note_telling(&mut self, party: u32) {
-        for call in &mut self.calls {
-            if call.party == party {
+    /// This one was woken, by a step of the party's call.
+    pub fn wake_one(&mut self, party: u32, name: Waiter) -> Result<(), Differs> {
+        if self.waiting.wake(name)? == Line::Sends {
+            if let Some(call) = find_mut(self.calls.as_mut_slice(), party) {
                 call.has_told = call.received > 0;
             }
         }
+        Ok(())
     }
 
-    /// These were woken, by a step of the party's call.
+    /// These were.
     pub fn wake(&mut self, party: u32, woken: &Vec<Waiter>) -> Result<(), Differs> {
         for name in woken {
-            if self.waiting.wake(*name)? == Line::Sends {
-                self.note_telling(party);
-            }
+            self.wake_one(party, *name)?;
         }
         Ok(())
     }
@@ -203,21 +196,23 @@ impl Book {
         let (form, answer) = read(reply);
         if form != form_of(call.plan.kind, call.subject.line)
             || !is_due(&call, answer, &self.count)
-            || !self.hands_out(party, reply)
+            || !self.hands_out(&call, reply)
         {
             return Err(Differs::Reply);
         }
-        self.takings.hand_out(party);
-        self.calls.retain(|call| call.party != party);
+        remove(&mut self.calls, party);
         self.names.end(call.plan, &call.subject, answer)?;
         self.handed = self.handed.saturating_add(call.takings());
         self.leave(&call, answer)
     }
 
-    /// Whether the party's call hands out what it took, in order, where it is a receive of several.
-    fn hands_out(&self, party: u32, reply: &Reply<u64>) -> bool {
+    /// Whether the call hands out what it took, in order, where it is a receive of several.
+    fn hands_out(&self, call: &UnderWay, reply: &Reply<u64>) -> bool {
         match reply {
-            Reply::RecvMany(Ok(messages)) => self.takings.are(party, messages.as_slice()),
+            Reply::RecvMany(Ok(messages)) => {
+                let messages = messages.as_slice();
+                self.takings.are(call.taken_before, call.party, messages)
+            }
             _ => true,
         }
     }
@@ -299,6 +294,6 @@ impl Book {
 
     /// Whether each message that left was handed out, and none is held.
     pub fn is_drained(&self) -> bool {
-        self.count.messages() == 0 && self.handed == self.count.gone()
+        self.count.messages() == 0 && self.handed == self.count.gone
     }
 }

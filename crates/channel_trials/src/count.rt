@@ -8,12 +8,14 @@ use std::alloc::Global;
 /// The messages that came, how many of them have left, whether it is closed, and how many strong handles live.
 #[derive(Drop)]
 pub struct Count {
-    capacity: Option<usize>,
+    /// How many it can hold at most.
+    pub capacity: Option<usize>,
     came: Vec<u64>,
-    gone: usize,
+    /// How many messages have left.
+    pub gone: usize,
     /// How many messages were taken out to make room for one that is not in yet.
-    on_way: usize,
-    closed: bool,
+    pub on_way: usize,
+    pub closed: bool,
     senders: usize,
     receivers: usize,
 }
@@ -32,29 +34,9 @@ impl Count {
         }
     }
 
-    /// How many it can hold at most.
-    pub fn capacity(&self) -> Option<usize> {
-        self.capacity
-    }
-
-    /// Whether the channel is closed.
-    pub fn is_closed(&self) -> bool {
-        self.closed
-    }
-
-    /// Whether a message is on its way that is to take the place of one that left.
-    pub fn has_one_on_way(&self) -> bool {
-        self.on_way > 0
-    }
-
     /// How many messages are held.
     pub fn messages(&self) -> usize {
         self.came.len().saturating_sub(self.gone)
-    }
-
-    /// How many messages have left.
-    pub fn gone(&self) -> usize {
-        self.gone
     }
 
     /// The oldest message that is held.
@@ -114,15 +96,6 @@ impl Count {
         self.take()
     }
 
-    /// The open channel was closed.
-    fn close(&mut self) -> Result<(), Differs> {
-        if self.closed {
-            return Err(Differs::Mark);
-        }
-        self.closed = true;
-        Ok(())
-    }
-
     /// There is one handle of this kind more, beside another one, or one fewer.
     fn recount(&mut self, side: Side, more: bool) -> Result<(), Differs> {
         let before = self.handles(side);
@@ -166,7 +139,11 @@ impl Count {
                 self.take_displaced()?;
                 self.append(message)
             }
-            Mark::Close => self.close(),
+            Mark::Close if self.closed => Err(Differs::Mark),
+            Mark::Close => {
+                self.closed = true;
+                Ok(())
+            }
             Mark::SenderUp => self.recount(Side::Senders, true),
             Mark::SenderDown => self.recount(Side::Senders, false),
             Mark::ReceiverUp => self.recount(Side::Receivers, true),

@@ -4,6 +4,7 @@ use crate::book::Book;
 use crate::names::Names;
 use crate::plan::{Kind, LARGE, Plan, TOO_LARGE, Target};
 use crate::random::Random;
+use crate::weights::fall_on;
 
 /// How often each kind of call is drawn, of all drawn.
 static WEIGHTS: [(Kind, usize); 26] = [
@@ -42,14 +43,7 @@ const ALL: usize = 270;
 const TRIES: usize = 8;
 
 fn draw_kind(random: &mut Random) -> Kind {
-    let mut left = random.below(ALL);
-    for (kind, weight) in &WEIGHTS {
-        if left < *weight {
-            return *kind;
-        }
-        left = left.saturating_sub(*weight);
-    }
-    Kind::TryRecv
+    fall_on(&WEIGHTS, random.below(ALL)).unwrap_or(Kind::TryRecv)
 }
 
 /// What sends in the place of what receives one message.

@@ -66,7 +66,7 @@ fn quietly_due(call: &UnderWay, answer: Answer, count: &Count) -> bool {
         Answer::NoMemory => true,
         Answer::Flag(flag) => flag_is_due(call, flag),
         Answer::Count(number) => number_is_due(call, number),
-        Answer::Capacity(capacity) => capacity == count.capacity(),
+        Answer::Capacity(capacity) => capacity == count.capacity,
         Answer::Made | Answer::Unit => call.subject.side.is_none(),
         Answer::NotMade => not_made_is_due(call),
         Answer::GivenUp(message) => message == call.subject.message,

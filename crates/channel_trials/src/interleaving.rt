@@ -1,5 +1,6 @@
 //! One random interleaving over a world of a form.
 
+use crate::book::Book;
 use crate::differs::Differs;
 use crate::form::Form;
 use crate::made::Made;
@@ -7,8 +8,9 @@ use crate::trial::Trial;
 use std::alloc::Global;
 
 fn trial_of(form: Form, seed: u64, alloc: Global) -> Result<Trial, Differs> {
+    let book = Book::new(form.capacity(), alloc)?;
     match form.open(alloc) {
-        Ok(world) => Trial::new(world, form.capacity(), seed, alloc),
+        Ok(world) => Ok(Trial::new(world, book, seed, alloc)),
         Err(_) => Err(Differs::NoMemory),
     }
 }
@@ -28,7 +30,7 @@ pub fn interleave(form: Form, seed: u64, alloc: Global) -> Shown {
         Ok(mut trial) => {
             let differs = trial.interleave().err();
             Shown {
-                made: trial.made(),
+                made: trial.made,
                 differs,
             }
         }

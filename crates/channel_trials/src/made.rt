@@ -25,38 +25,6 @@ impl Made {
         }
     }
 
-    /// One more step.
-    pub fn with_step(self) -> Self {
-        Made {
-            steps: self.steps.wrapping_add(1),
-            ..self
-        }
-    }
-
-    /// One more call that began by a step.
-    pub fn with_begun(self) -> Self {
-        Made {
-            begun: self.begun.wrapping_add(1),
-            ..self
-        }
-    }
-
-    /// One more call made alone.
-    pub fn with_alone(self) -> Self {
-        Made {
-            alone: self.alone.wrapping_add(1),
-            ..self
-        }
-    }
-
-    /// With such a moment in this interleaving.
-    pub fn with_several_free(self) -> Self {
-        Made {
-            several_free: 1,
-            ..self
-        }
-    }
-
     /// These and those.
     pub fn with(self, more: Self) -> Self {
         Made {

@@ -22,6 +22,7 @@ mod form;
 mod inputs;
 mod interleaving;
 mod made;
+mod named;
 mod names;
 mod numbers;
 mod owed;
@@ -36,6 +37,7 @@ mod takings;
 mod trial;
 mod under_way;
 mod waiting;
+mod weights;
 
 use crate::agreement::agree;
 use crate::inputs::{Amount, find_nothing};
@@ -81,27 +83,28 @@ fn read_amount(count: Option<u64>, seed: Option<u64>, for_seconds: bool) -> Amou
 }
 
 /// The number that a word says, if it says one.
-fn number(word: Option<String>) -> Option<u64> {
-    word?.as_str().parse::<u64>().ok()
+fn number(word: &Option<String>) -> Option<u64> {
+    word.as_ref()?.as_str().parse::<u64>().ok()
 }
 
-/// What the words ask for.
+/// What these words ask for.
+fn read(first: Option<String>, second: Option<String>, third: Option<String>) -> Asked {
+    let Some(word) = &first else {
+        return Asked::All;
+    };
+    match word.as_str() {
+        "interleavings" => Asked::Interleavings,
+        "for" => Asked::Inputs(read_amount(number(&second), number(&third), true)),
+        _ => Asked::Inputs(read_amount(number(&first), number(&second), false)),
+    }
+}
+
+/// What the words of the command line ask for.
 fn read_words<R: Env + Alloc<A = Global>>(rt: &R) -> io::Result<Asked> {
     let mut words = env::args(rt)?.skip(1);
-    let Some(first) = words.next() else {
-        return Ok(Asked::All);
-    };
-    if first.as_str() == "interleavings" {
-        return Ok(Asked::Interleavings);
-    }
-    let for_seconds = first.as_str() == "for";
-    let count = if for_seconds {
-        words.next()
-    } else {
-        Some(first)
-    };
-    let (count, seed) = (number(count), number(words.next()));
-    Ok(Asked::Inputs(read_amount(count, seed, for_seconds)))
+    let (first, second, third) = (words.next(), words.next(), words.next());
+    drop(words);
+    Ok(read(first, second, third))
 }
 
 /// Makes all that the gate makes. Whether nothing is wrong.

@@ -2,6 +2,7 @@
 
 use crate::answer::Answer;
 use crate::differs::Differs;
+use crate::named::{Named, find, find_mut, remove};
 use crate::plan::{Kind, Plan, Target, made_kind};
 use crate::under_way::Subject;
 use channel_calls::stage::{Line, Side};
@@ -28,6 +29,18 @@ pub struct Operation {
     pub message: Option<u64>,
     /// Whether a poll of it is under way.
     pub is_polled: bool,
+}
+
+impl Named for Handle {
+    fn number(&self) -> u32 {
+        self.name
+    }
+}
+
+impl Named for Operation {
+    fn number(&self) -> u32 {
+        self.name
+    }
 }
 
 /// All that lives. The names below the next ones were taken.
@@ -111,22 +124,12 @@ impl Names {
 
     /// The live handle of this name.
     pub fn handle(&self, name: u32) -> Option<Handle> {
-        for handle in &self.handles {
-            if handle.name == name {
-                return Some(*handle);
-            }
-        }
-        None
+        find(self.handles.as_slice(), name)
     }
 
     /// The live operation of this name.
     pub fn operation(&self, name: u32) -> Option<Operation> {
-        for operation in &self.operations {
-            if operation.name == name {
-                return Some(*operation);
-            }
-        }
-        None
+        find(self.operations.as_slice(), name)
     }
 
     /// Whether the name of what this makes was taken before.
@@ -136,12 +139,13 @@ impl Names {
         operation || handle
     }
 
-    /// How many live operations borrow this handle.
-    pub fn borrowers(&self, handle: u32) -> usize {
-        self.operations
-            .iter()
-            .filter(|operation| operation.handle == handle)
-            .count()
+    /// Whether a live operation borrows this handle.
+    pub fn is_borrowed(&self, handle: u32) -> bool {
+        let mut is_borrowed = false;
+        for operation in &self.operations {
+            is_borrowed = is_borrowed || operation.handle == handle;
+        }
+        is_borrowed
     }
 
     /// What a call has to do with that is made upon an operation.
@@ -185,31 +189,18 @@ impl Names {
         Some(self.handle_subject(plan, handle))
     }
 
-    /// Whether a poll of the operation is under way.
-    fn set_polled(&mut self, name: u32, is_polled: bool) {
-        for operation in &mut self.operations {
-            if operation.name == name {
-                operation.is_polled = is_polled;
-            }
-        }
-    }
-
     /// Whether a poll of the receiver as a stream is under way.
     fn set_streamed(&mut self, name: u32, is_polled: bool) {
-        for handle in &mut self.handles {
-            if handle.name == name {
-                handle.is_polled = is_polled;
-            }
+        if let Some(handle) = find_mut(self.handles.as_mut_slice(), name) {
+            handle.is_polled = is_polled;
         }
     }
 
-    /// A poll of the operation has ended; the message of a send that it finished is gone.
-    fn end_poll(&mut self, name: u32, message: Option<u64>) {
-        for operation in &mut self.operations {
-            if operation.name == name {
-                operation.is_polled = false;
-                operation.message = message;
-            }
+    /// Whether a poll of the operation is under way, and the message that a send has.
+    fn set_polled(&mut self, name: u32, is_polled: bool, message: Option<u64>) {
+        if let Some(operation) = find_mut(self.operations.as_mut_slice(), name) {
+            operation.is_polled = is_polled;
+            operation.message = message;
         }
     }
 
@@ -222,7 +213,7 @@ impl Names {
     }
 
     /// A call that isn't refused begins: what it makes has its name, and what it gives up or drops lives no more.
-    pub fn begin(&mut self, plan: Plan) {
+    pub fn begin(&mut self, plan: Plan, subject: &Subject) {
         let name = plan.name;
         match plan.kind {
             Kind::NewSend | Kind::NewRecv | Kind::NewClosed => {
@@ -231,10 +222,12 @@ impl Names {
             Kind::TryClone | Kind::Downgrade | Kind::Upgrade => {
                 self.next_handle = name.saturating_add(1);
             }
-            Kind::Poll | Kind::PollRefused => self.set_polled(name, true),
+            Kind::Poll | Kind::PollRefused => {
+                self.set_polled(name, true, subject.message);
+            }
             Kind::PollNext => self.set_streamed(plan.handle, true),
-            Kind::GiveUp => self.operations.retain(|operation| operation.name != name),
-            Kind::Drop => self.handles.retain(|handle| handle.name != plan.handle),
+            Kind::GiveUp => remove(&mut self.operations, name),
+            Kind::Drop => remove(&mut self.handles, plan.handle),
             _ => {}
         }
     }
@@ -249,11 +242,11 @@ impl Names {
                 self.add_made(plan)
             }
             (Kind::Poll, Answer::Sent | Answer::SendClosed(_)) => {
-                self.end_poll(plan.name, None);
+                self.set_polled(plan.name, false, None);
                 Ok(())
             }
             (Kind::Poll | Kind::PollRefused, _) => {
-                self.end_poll(plan.name, subject.message);
+                self.set_polled(plan.name, false, subject.message);
                 Ok(())
             }
             (Kind::PollNext, _) => {

@@ -57,7 +57,10 @@ impl Plain {
 
     /// Whose wake is the oldest.
     pub fn first_woken(&self) -> Option<Waiter> {
-        self.woken.first().map(|sleeper| sleeper.name)
+        match self.woken.first() {
+            Some(sleeper) => Some(sleeper.name),
+            None => None,
+        }
     }
 
     /// Whether the messages that it may hold are there.
@@ -68,16 +71,26 @@ impl Plain {
         }
     }
 
+    /// The place of the first one on a line; past all where there is none.
+    fn first_on(&self, line: Line) -> usize {
+        let mut place = 0usize;
+        for sleeper in &self.untold {
+            if sleeper.line == line {
+                return place;
+            }
+            place = place.saturating_add(1);
+        }
+        place
+    }
+
     /// Tells the first one on a line.
     fn tell_one(&mut self, line: Line) -> Result<(), Differs> {
-        let place = self.untold.iter().position(|sleeper| sleeper.line == line);
-        match place {
-            Some(place) if place < self.untold.len() => {
-                let sleeper = self.untold.remove(place);
-                add(&mut self.woken, sleeper)
-            }
-            _ => Ok(()),
+        let place = self.first_on(line);
+        if place >= self.untold.len() {
+            return Ok(());
         }
+        let sleeper = self.untold.remove(place);
+        add(&mut self.woken, sleeper)
     }
 
     /// Tells all on a line.

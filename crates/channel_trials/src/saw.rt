@@ -81,10 +81,10 @@ impl Saw {
 
     /// One more moment.
     pub fn with(self, count: &Count) -> Self {
-        let closed = count.is_closed();
+        let closed = count.closed;
         let empty = count.messages() == 0;
         let full = count.free_places() == 0;
-        let over = empty && !count.has_one_on_way();
+        let over = empty && count.on_way == 0;
         Saw {
             open: self.open || !closed,
             shut: self.shut || closed,
@@ -97,14 +97,6 @@ impl Saw {
             places: self.places.with(count.free_places()),
             senders: self.senders.with(count.handles(Side::Senders)),
             receivers: self.receivers.with(count.handles(Side::Receivers)),
-        }
-    }
-
-    /// The call takes a message.
-    pub fn at_taking(self) -> Self {
-        Saw {
-            over: false,
-            ..self
         }
     }
 

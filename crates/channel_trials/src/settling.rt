@@ -4,6 +4,7 @@ use crate::answer::{Answer, read};
 use crate::differs::Differs;
 use crate::form::Form;
 use crate::plain::Plain;
+use crate::plan::{Kind, Plan};
 use crate::random::Random;
 use channel_calls::stage::Line;
 use channel_world::call::{Call, Reply};
@@ -36,7 +37,14 @@ struct Twin {
     next: u32,
     handle: u32,
     message: u64,
+    /// How many messages a receive of several takes at most.
+    limit: usize,
 }
+
+/// The first handles: a sender and a receiver.
+const SENDER: u32 = 0;
+
+const RECEIVER: u32 = 1;
 
 impl Twin {
     /// Whether the call answered so, with what the plain channel gave, where it received several.
@@ -50,18 +58,30 @@ impl Twin {
         }
     }
 
-    /// Makes a call, which answers so.
-    fn call(&mut self, call: Call<u64>, want: Answer) -> Result<(), Differs> {
-        if self.calls.push_back(call).is_err() {
+    /// Makes a call of this kind on this handle, which answers so. The name is that of the operation, or of what is made.
+    fn call(&mut self, kind: Kind, handle: u32, name: u32, want: Answer) -> Result<(), Differs> {
+        let plan = Plan {
+            kind,
+            handle,
+            name,
+            message: self.message,
+            limit: self.limit,
+        };
+        if self.calls.push_back(plan.call()).is_err() {
             return Err(Differs::NoMemory);
         }
         if !self.world.is_quiet() {
             return Err(Differs::Numbers);
         }
-        let mut run = self.world.run_calls(&mut self.calls);
-        match run.done.pop() {
-            Some(done) if self.is_answer(&done.reply, want) => Ok(()),
-            Some(_) => Err(Differs::Reply),
+        let run = self.world.run_calls(&mut self.calls);
+        let is_right = match run.done.last() {
+            Some(done) => Some(self.is_answer(&done.reply, want)),
+            None => None,
+        };
+        drop(run);
+        match is_right {
+            Some(true) => Ok(()),
+            Some(false) => Err(Differs::Reply),
             None => Err(Differs::Refusal),
         }
     }
@@ -69,79 +89,42 @@ impl Twin {
     /// A new operation, or the stream of a new receiver, is polled.
     fn poll(&mut self, line: Line) -> Result<(), Differs> {
         self.message = self.message.wrapping_add(1);
-        let op = OpId(self.next);
-        let new = HandleId(self.handle);
-        let sender = HandleId(0);
-        let receiver = HandleId(1);
-        let msg = self.message;
-        let (made, poll, name) = match line {
-            Line::Sends => (
-                Call::NewSend { op, sender, msg },
-                Call::Poll { op },
-                Waiter::Op(op),
-            ),
-            Line::Receives => (
-                Call::NewRecv { op, receiver },
-                Call::Poll { op },
-                Waiter::Op(op),
-            ),
-            Line::Closings => (
-                Call::NewClosed { op, sender },
-                Call::Poll { op },
-                Waiter::Op(op),
-            ),
-            Line::Streams => (
-                Call::TryClone {
-                    handle: receiver,
-                    new,
-                },
-                Call::PollNext { receiver: new },
-                Waiter::Stream(new),
-            ),
+        let (op, new) = (self.next, self.handle);
+        self.next = op.wrapping_add(1);
+        self.handle = new.wrapping_add(1);
+        match line {
+            Line::Sends => self.call(Kind::NewSend, SENDER, op, Answer::Made),
+            Line::Receives => self.call(Kind::NewRecv, RECEIVER, op, Answer::Made),
+            Line::Closings => self.call(Kind::NewClosed, SENDER, op, Answer::Made),
+            Line::Streams => self.call(Kind::TryClone, RECEIVER, new, Answer::Made),
+        }?;
+        let (kind, name) = match line {
+            Line::Streams => (Kind::PollNext, Waiter::Stream(HandleId(new))),
+            _ => (Kind::Poll, Waiter::Op(OpId(op))),
         };
-        self.next = self.next.wrapping_add(1);
-        self.handle = self.handle.wrapping_add(1);
-        self.call(made, Answer::Made)?;
-        let want = self.plain.poll_new(name, line, msg)?;
-        self.call(poll, want)
+        let want = self.plain.poll_new(name, line, self.message)?;
+        self.call(kind, new, op, want)
     }
 
-    /// A message is sent or received without waiting, or now and then the channel is closed.
+    /// A message is sent, one or several are received without waiting, or now and then the channel is closed.
     fn act(&mut self) -> Result<(), Differs> {
         self.message = self.message.wrapping_add(1);
-        let msg = self.message;
-        match self.random.below(40) {
-            0 => {
-                let want = self.plain.close()?;
-                self.call(
-                    Call::Close {
-                        handle: HandleId(0),
-                    },
-                    want,
-                )
-            }
-            1..20 => {
-                let want = self.plain.send(msg)?;
-                let sender = HandleId(0);
-                self.call(Call::TrySend { sender, msg }, want)
-            }
-            20..32 => {
-                let want = self.plain.receive()?;
-                let receiver = HandleId(1);
-                self.call(Call::TryRecv { receiver }, want)
-            }
+        let (kind, handle) = match self.random.below(40) {
+            0 => (Kind::Close, SENDER),
+            1..20 => (Kind::TrySend, SENDER),
+            20..32 => (Kind::TryRecv, RECEIVER),
+            _ => (Kind::RecvMany, RECEIVER),
+        };
+        let want = match kind {
+            Kind::Close => self.plain.close(),
+            Kind::TrySend => self.plain.send(self.message),
+            Kind::TryRecv => self.plain.receive(),
             _ => {
-                let limit = self.random.below(5);
-                self.receive_several(limit)
+                self.limit = self.random.below(5);
+                self.plain.receive_several(self.limit)
             }
-        }
-    }
-
-    /// At most so many messages are received at once.
-    fn receive_several(&mut self, limit: usize) -> Result<(), Differs> {
-        let want = self.plain.receive_several(limit)?;
-        let receiver = HandleId(1);
-        self.call(Call::RecvMany { receiver, limit }, want)
+        }?;
+        self.call(kind, handle, 0, want)
     }
 
     /// A poll or a call without waiting.
@@ -191,44 +174,43 @@ impl Twin {
             most,
         })
     }
+
+    /// Makes so many random calls one at a time.
+    fn turns(&mut self) -> Result<(), Differs> {
+        for _ in 0..self.random.below(MOST).saturating_add(1) {
+            self.turn()?;
+        }
+        Ok(())
+    }
+
+    /// Makes random calls, and settles it now and then. How many polls that made.
+    fn run(&mut self) -> Result<Polls, Differs> {
+        self.turns()?;
+        let mut all = Polls { polls: 0, most: 0 };
+        for _ in 0..3 {
+            let Polls { polls, most } = self.settle()?;
+            all.polls = all.polls.wrapping_add(polls);
+            all.most = all.most.max(most);
+            self.act()?;
+        }
+        Ok(all)
+    }
 }
 
-/// Makes so many random calls one at a time in a new world, and settles it now and then. How many polls that made.
-fn settle_random(
-    world: World<u64>,
-    capacity: Option<usize>,
-    seed: u64,
-    alloc: Global,
-) -> Result<Polls, Differs> {
+/// Settles the random world of this seed and form, beside a plain channel. How many polls that made, or what differs.
+pub fn settle(form: Form, seed: u64, alloc: Global) -> Result<Polls, Differs> {
+    let Ok(world) = form.open(alloc) else {
+        return Err(Differs::NoMemory);
+    };
     let mut twin = Twin {
         world,
-        plain: Plain::new(capacity, alloc),
+        plain: Plain::new(form.capacity(), alloc),
         calls: VecDeque::new(alloc),
         random: Random::new(seed, 0),
         next: 0,
         handle: 2,
         message: 0,
+        limit: 0,
     };
-    let mut all = Polls { polls: 0, most: 0 };
-    let turns = twin.random.below(MOST).saturating_add(1);
-    for _ in 0..turns {
-        twin.turn()?;
-    }
-    for _ in 0..3 {
-        let polls = twin.settle()?;
-        all = Polls {
-            polls: all.polls.wrapping_add(polls.polls),
-            most: all.most.max(polls.most),
-        };
-        twin.act()?;
-    }
-    Ok(all)
-}
-
-/// Settles the random world of this seed and form, beside a plain channel. How many polls that made, or what differs.
-pub fn settle(form: Form, seed: u64, alloc: Global) -> Result<Polls, Differs> {
-    match form.open(alloc) {
-        Ok(world) => settle_random(world, form.capacity(), seed, alloc),
-        Err(_) => Err(Differs::NoMemory),
-    }
+    twin.run()
 }

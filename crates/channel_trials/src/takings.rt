@@ -1,4 +1,4 @@
-//! What receives of several took and have not handed out yet.
+//! What receives of several have taken.
 
 use crate::differs::Differs;
 use std::alloc::Global;
@@ -24,6 +24,11 @@ impl Takings {
         }
     }
 
+    /// How many there are.
+    pub fn len(&self) -> usize {
+        self.taken.len()
+    }
+
     /// The party's call took this message.
     pub fn add(&mut self, party: u32, message: u64) -> Result<(), Differs> {
         match self.taken.push(Taken { party, message }) {
@@ -32,10 +37,10 @@ impl Takings {
         }
     }
 
-    /// Whether just these are the messages that the party's call took, in this order.
-    pub fn are(&self, party: u32, messages: &[u64]) -> bool {
+    /// Whether just these are the messages that the party took since there were so many, in this order.
+    pub fn are(&self, since: usize, party: u32, messages: &[u64]) -> bool {
         let mut place = 0usize;
-        for taken in &self.taken {
+        for taken in self.taken.get(since..).unwrap_or(&[]) {
             if taken.party == party {
                 if messages.get(place) != Some(&taken.message) {
                     return false;
@@ -44,10 +49,5 @@ impl Takings {
             }
         }
         place == messages.len()
-    }
-
-    /// The party's call has handed out what it took.
-    pub fn hand_out(&mut self, party: u32) {
-        self.taken.retain(|taken| taken.party != party);
     }
 }

@@ -55,35 +55,26 @@ pub struct Trial {
     is_flood: bool,
     /// The last new message.
     message: u64,
-    made: Made,
+    /// How much was made.
+    pub made: Made,
 }
 
 impl Trial {
-    /// An open world with nobody at work, which has room for so many messages.
-    pub fn new(
-        world: World<u64>,
-        capacity: Option<usize>,
-        seed: u64,
-        alloc: Global,
-    ) -> Result<Self, Differs> {
+    /// An open world with nobody at work, and the plain count of it.
+    pub fn new(world: World<u64>, book: Book, seed: u64, alloc: Global) -> Self {
         let mut random = Random::new(seed, 0);
         let is_flood = random.once_in(FLOODS);
-        Ok(Trial {
+        Trial {
             world,
             steps: VecDeque::new(alloc),
             calls: VecDeque::new(alloc),
-            book: Book::new(capacity, alloc)?,
+            book,
             random,
             parties: 1,
             is_flood,
             message: 0,
             made: Made::nothing(),
-        })
-    }
-
-    /// How much was made.
-    pub fn made(&self) -> Made {
-        self.made
+        }
     }
 
     /// One more moment: the numbers agree, and nothing is owed.
@@ -95,105 +86,104 @@ impl Trial {
             return Err(Differs::Owed);
         }
         if !one_place_each_is_enough(&self.book) {
-            self.made = self.made.with_several_free();
+            self.made.several_free = 1;
         }
         self.book.see();
         Ok(())
     }
 
-    /// Runs one step, which is to be refused for this reason or to be made.
-    fn run(
-        &mut self,
-        step: Step<u64>,
-        refusal: Option<WorldRefusal>,
-    ) -> Result<Option<Entry<u64>>, Differs> {
+    /// Counts what a step of a party did, or that it was refused.
+    fn count_entry(&mut self, party: u32, entry: &Entry<u64>) -> Result<(), Differs> {
+        self.book.wake(party, &entry.woken)?;
+        self.book.step(party, entry.mark)?;
+        match &entry.reply {
+            Some(reply) => self.book.end(party, reply),
+            None => Ok(()),
+        }
+    }
+
+    /// Counts a run of one step, by which a party began this call, or went on.
+    fn count(&mut self, party: u32, begun: Option<Plan>, run: &Run<u64>) -> Result<(), Differs> {
+        let refusal = match begun {
+            Some(plan) => self.book.refusal(party, plan),
+            None if self.book.call_of(party).is_none() => Some(WorldRefusal::Idle),
+            None => None,
+        };
+        is_stopped_as_due(run.stopped, refusal, self.steps.len())?;
+        self.steps.clear();
+        let Some(entry) = run.trace.last() else {
+            return is_due(refusal.is_some());
+        };
+        is_due(refusal.is_none())?;
+        self.made.steps = self.made.steps.wrapping_add(1);
+        let Some(plan) = begun else {
+            return self.count_entry(party, entry);
+        };
+        if !is_empty(entry) {
+            return Err(Differs::Begin);
+        }
+        self.made.begun = self.made.begun.wrapping_add(1);
+        self.book.begin(party, plan)
+    }
+
+    /// A party begins a call, or goes on, or is refused it: a begin that may not be, or a step where it has no call under way.
+    pub fn advance(&mut self, party: u32, begun: Option<Plan>) -> Result<(), Differs> {
+        let id = PartyId(party);
+        let step = match begun {
+            Some(plan) => Step::Begin {
+                party: id,
+                call: plan.call(),
+            },
+            None => Step::Step { party: id },
+        };
         if self.steps.push_back(step).is_err() {
             return Err(Differs::NoMemory);
         }
-        let Run { mut trace, stopped } = self.world.run_steps(&mut self.steps);
-        is_stopped_as_due(stopped, refusal, self.steps.len())?;
-        self.steps.clear();
-        if refusal.is_none() {
-            self.made = self.made.with_step();
-        }
-        Ok(trace.pop())
+        let run = self.world.run_steps(&mut self.steps);
+        let counted = self.count(party, begun, &run);
+        drop(run);
+        counted?;
+        self.observe()
     }
 
-    /// Makes a call alone, from its begin to its end, where no call is under way.
-    pub fn run_alone(&mut self, plan: Plan) -> Result<Option<CallRun<u64>>, Differs> {
+    /// Counts a run of one call that a party made alone, or was refused.
+    fn count_alone(&mut self, party: u32, plan: Plan, run: &CallRun<u64>) -> Result<(), Differs> {
+        let refusal = self.book.refusal(party, plan);
+        is_stopped_as_due(run.stopped, refusal, self.calls.len())?;
+        self.calls.clear();
+        let Some(done) = run.done.last() else {
+            return is_due(refusal.is_some());
+        };
+        is_due(refusal.is_none())?;
+        self.made.alone = self.made.alone.wrapping_add(1);
+        self.book.make(party, plan, done)
+    }
+
+    /// A party makes a call alone, from its begin to its end, or is refused it. None where another one is under way.
+    pub fn call_alone(&mut self, party: u32, plan: Plan) -> Option<Result<(), Differs>> {
         if !self.world.is_quiet() {
-            return Ok(None);
+            return None;
         }
         if self.calls.push_back(plan.call()).is_err() {
-            return Err(Differs::NoMemory);
+            return Some(Err(Differs::NoMemory));
         }
-        Ok(Some(self.world.run_calls(&mut self.calls)))
-    }
-
-    /// Counts a party's call that was made alone, or refused.
-    pub fn count_alone(
-        &mut self,
-        party: u32,
-        plan: Plan,
-        run: CallRun<u64>,
-    ) -> Result<(), Differs> {
-        let CallRun { mut done, stopped } = run;
-        let refusal = self.book.refusal(party, plan);
-        is_stopped_as_due(stopped, refusal, self.calls.len())?;
-        self.calls.clear();
-        match done.pop() {
-            None if refusal.is_some() => {}
-            Some(answer) if refusal.is_none() => {
-                self.made = self.made.with_alone();
-                self.book.make(party, plan, &answer)?;
-            }
-            _ => return Err(Differs::Refusal),
-        }
-        self.observe()
-    }
-
-    /// A party begins a call, or is refused it.
-    pub fn begin(&mut self, party: u32, plan: Plan) -> Result<(), Differs> {
-        let refusal = self.book.refusal(party, plan);
-        let step = Step::Begin {
-            party: PartyId(party),
-            call: plan.call(),
-        };
-        match self.run(step, refusal)? {
-            None if refusal.is_some() => {}
-            Some(entry) if is_empty(&entry) => {
-                self.made = self.made.with_begun();
-                self.book.begin(party, plan)?;
-            }
-            _ => return Err(Differs::Begin),
-        }
-        self.observe()
+        let run = self.world.run_calls(&mut self.calls);
+        let counted = self.count_alone(party, plan, &run);
+        drop(run);
+        Some(match counted {
+            Ok(()) => self.observe(),
+            differs => differs,
+        })
     }
 
     /// A party makes a call alone, every other time that none is under way; else it begins it.
     fn call(&mut self, party: u32, plan: Plan) -> Result<(), Differs> {
         if self.random.once_in(2) {
-            if let Some(run) = self.run_alone(plan)? {
-                return self.count_alone(party, plan, run);
+            if let Some(made) = self.call_alone(party, plan) {
+                return made;
             }
         }
-        self.begin(party, plan)
-    }
-
-    /// The call of a party makes a step, or is refused it where there is none.
-    fn step(&mut self, party: u32) -> Result<(), Differs> {
-        let idle = self.book.call_of(party).is_none();
-        let step = Step::Step {
-            party: PartyId(party),
-        };
-        if let Some(entry) = self.run(step, idle.then_some(WorldRefusal::Idle))? {
-            self.book.wake(party, &entry.woken)?;
-            self.book.step(party, entry.mark)?;
-            if let Some(reply) = &entry.reply {
-                self.book.end(party, reply)?;
-            }
-        }
-        self.observe()
+        self.advance(party, Some(plan))
     }
 
     /// A party taken at random goes on, or begins a call. Now and then it tries the other.
@@ -204,7 +194,7 @@ impl Trial {
         };
         let is_busy = self.book.call_of(*party).is_some();
         if is_busy != self.random.once_in(40) {
-            return self.step(*party);
+            return self.advance(*party, None);
         }
         self.message = self.message.wrapping_add(1);
         let plan = draw(
@@ -221,7 +211,7 @@ impl Trial {
     fn round(&mut self) -> Result<(), Differs> {
         for party in &PARTIES {
             if self.book.call_of(*party).is_some() {
-                self.step(*party)?;
+                self.advance(*party, None)?;
             }
         }
         Ok(())
@@ -292,6 +282,11 @@ impl Trial {
     }
 }
 
+/// A refusal, or what was made in its place, is as it is to be.
+fn is_due(is_so: bool) -> Result<(), Differs> {
+    if is_so { Ok(()) } else { Err(Differs::Refusal) }
+}
+
 /// A list of one step or one call was to be stopped for this reason, or not at all; so many of it are left.
 fn is_stopped_as_due(
     stopped: Option<Stopped>,
@@ -301,13 +296,11 @@ fn is_stopped_as_due(
     if stopped == Some(NO_MEMORY) {
         return Err(Differs::NoMemory);
     }
-    let want = refusal.map(|why| Stopped { place: 0, why });
-    let is_left = left == 1;
-    if stopped == want && is_left == want.is_some() {
-        Ok(())
-    } else {
-        Err(Differs::Refusal)
-    }
+    let want = match refusal {
+        Some(why) => Some(Stopped { place: 0, why }),
+        None => None,
+    };
+    is_due(stopped == want && (left == 1) == want.is_some())
 }
 
 /// Whether nothing was done, nobody woken and nothing answered.

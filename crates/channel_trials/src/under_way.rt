@@ -2,6 +2,7 @@
 
 use crate::count::Count;
 use crate::differs::Differs;
+use crate::named::Named;
 use crate::plan::{Kind, Plan};
 use crate::saw::Saw;
 use channel_calls::mark::Mark;
@@ -53,7 +54,15 @@ pub struct UnderWay {
     pub has_told: bool,
     steps: u32,
     /// How many of its steps it has made while no other call was under way, one after another.
-    in_a_row: usize,
+    pub in_a_row: usize,
+    /// How many messages receives of several had taken in all when it began.
+    pub taken_before: usize,
+}
+
+impl Named for UnderWay {
+    fn number(&self) -> u32 {
+        self.party
+    }
 }
 
 impl UnderWay {
@@ -73,6 +82,7 @@ impl UnderWay {
             has_told: false,
             steps: 0,
             in_a_row: 0,
+            taken_before: 0,
         }
     }
 
@@ -100,25 +110,15 @@ impl UnderWay {
         if self.has_told { 0 } else { self.received }
     }
 
-    /// How many steps it makes at most, one after another, while no other call is under way.
-    fn most_in_a_row(&self) -> usize {
-        let more = self.plan.limit.saturating_mul(64);
-        more.saturating_add(197)
-    }
-
-    /// Another call begins.
-    pub fn is_joined(&mut self) {
-        self.in_a_row = 0;
-    }
-
-    /// One more step of it, while no other call is under way or while one is.
+    /// One more step of it, while no other call is under way or while one is. It makes so many at most, one after another, while none is.
     pub fn go_on(&mut self, is_alone: bool) -> Result<(), Differs> {
         if is_alone {
             self.in_a_row = self.in_a_row.saturating_add(1);
         } else {
             self.in_a_row = 0;
         }
-        if self.in_a_row > self.most_in_a_row() {
+        let more = self.plan.limit.saturating_mul(64);
+        if self.in_a_row > more.saturating_add(197) {
             Err(Differs::Endless)
         } else {
             Ok(())
@@ -152,7 +152,7 @@ impl UnderWay {
             return Err(Differs::Mark);
         }
         self.received = self.received.saturating_add(1);
-        self.saw = self.saw.at_taking();
+        self.saw.over = false;
         count.apply(mark, None, false)
     }
 
@@ -176,7 +176,7 @@ impl UnderWay {
         }
         let made_room = self.first == Mark::TakeDisplaced;
         if !made_room {
-            self.place = count.gone();
+            self.place = count.gone;
         }
         count.apply(mark, self.subject.message, made_room)?;
         if let Some(side) = self.subject.side {

@@ -24,18 +24,6 @@ struct Sleeper {
     is_in_hand: bool,
 }
 
-impl Sleeper {
-    /// Whether it is pending on this line, woken or not.
-    fn is_on(&self, line: Line, is_woken: bool) -> bool {
-        !self.is_in_hand && self.line == line && self.is_woken == is_woken
-    }
-
-    /// Whether it waits unwoken, and came to this one's line before it.
-    fn is_before(&self, other: Sleeper) -> bool {
-        self.is_on(other.line, false) && self.came.to < other.came.from
-    }
-}
-
 /// All who wait.
 #[derive(Drop)]
 pub struct Waiting {
@@ -65,65 +53,75 @@ impl Waiting {
         }
     }
 
+    /// The place of the one of this name.
+    fn place_of(&self, name: Waiter) -> Option<usize> {
+        let mut place = 0usize;
+        for sleeper in &self.sleepers {
+            if sleeper.name == name {
+                return Some(place);
+            }
+            place = place.saturating_add(1);
+        }
+        None
+    }
+
+    /// Whether one waits unwoken who came to this one's line before it.
+    fn has_before(&self, one: Sleeper) -> bool {
+        let mut has = false;
+        for sleeper in &self.sleepers {
+            let is_free = !sleeper.is_in_hand && !sleeper.is_woken;
+            let is_before = sleeper.line == one.line && sleeper.came.to < one.came.from;
+            has = has || (is_free && is_before);
+        }
+        has
+    }
+
     /// A call begins that has it in hand.
     pub fn take_in_hand(&mut self, name: Waiter) {
-        for sleeper in &mut self.sleepers {
-            if sleeper.name == name {
+        if let Some(place) = self.place_of(name) {
+            if let Some(sleeper) = self.sleepers.get_mut(place) {
                 sleeper.is_in_hand = true;
             }
         }
     }
 
-    /// The one of this name, if it waits and was not woken.
-    fn unwoken(&self, name: Waiter) -> Option<Sleeper> {
-        for sleeper in &self.sleepers {
-            if sleeper.name == name && !sleeper.is_woken {
-                return Some(*sleeper);
-            }
-        }
-        None
-    }
-
     /// The call that had it in hand has answered. When it came, if it waited and was not woken: it has its place still where it
     /// goes on to wait.
     pub fn remove(&mut self, name: Waiter) -> Option<Came> {
-        let unwoken = self.unwoken(name);
-        self.sleepers.retain(|sleeper| sleeper.name != name);
-        unwoken.map(|sleeper| sleeper.came)
+        match self.place_of(name) {
+            Some(place) if place < self.sleepers.len() => {
+                let sleeper = self.sleepers.remove(place);
+                (!sleeper.is_woken).then_some(sleeper.came)
+            }
+            _ => None,
+        }
     }
 
     /// It was woken, as nobody is who doesn't wait, was woken before, or came to its line after one who waits there unwoken. The
     /// line on which it waits.
     pub fn wake(&mut self, name: Waiter) -> Result<Line, Differs> {
-        let Some(woken) = self.unwoken(name) else {
+        let place = self.place_of(name).unwrap_or(usize::MAX);
+        let Some(woken) = self.sleepers.get(place).copied() else {
             return Err(Differs::Woken);
         };
-        let sleepers = self.sleepers.iter();
-        let is_free = !woken.is_in_hand;
-        if is_free && sleepers.filter(|sleeper| sleeper.is_before(woken)).count() > 0 {
+        if woken.is_woken || (!woken.is_in_hand && self.has_before(woken)) {
             return Err(Differs::Woken);
         }
-        for sleeper in &mut self.sleepers {
-            if sleeper.name == name {
-                sleeper.is_woken = true;
-            }
+        if let Some(sleeper) = self.sleepers.get_mut(place) {
+            sleeper.is_woken = true;
         }
         Ok(woken.line)
     }
 
-    /// How many are pending on this line that were woken, or that were not.
-    pub fn number(&self, line: Line, is_woken: bool) -> usize {
-        self.sleepers
-            .iter()
-            .filter(|sleeper| sleeper.is_on(line, is_woken))
-            .count()
-    }
-
-    /// How many are pending on all lines that were woken, or that were not.
-    pub fn all(&self, is_woken: bool) -> usize {
-        self.sleepers
-            .iter()
-            .filter(|sleeper| !sleeper.is_in_hand && sleeper.is_woken == is_woken)
-            .count()
+    /// How many are pending on this line, or on all lines, that were woken, or that were not.
+    pub fn number(&self, line: Option<Line>, is_woken: bool) -> usize {
+        let mut number = 0usize;
+        for sleeper in &self.sleepers {
+            let is_on = line.is_none() || line == Some(sleeper.line);
+            if is_on && !sleeper.is_in_hand && sleeper.is_woken == is_woken {
+                number = number.saturating_add(1);
+            }
+        }
+        number
     }
 }

@@ -1,11 +1,44 @@
 //! Steps of a world, from bytes: four bytes a step.
 
-use channel_world::call::Call;
-use channel_world::name::{HandleId, OpId};
+use crate::plan::{Kind, Plan, Target};
+use crate::weights::fall_on;
 use channel_world::step::{PartyId, Step};
 
 /// How many parties there are.
 pub const PARTIES: u8 = 4;
+
+/// How many numbers of a byte say each kind of call.
+static WIDTHS: [(Kind, usize); 26] = [
+    (Kind::NewSend, 8),
+    (Kind::NewRecv, 8),
+    (Kind::NewClosed, 2),
+    (Kind::TryClone, 3),
+    (Kind::Downgrade, 3),
+    (Kind::Upgrade, 3),
+    (Kind::Poll, 21),
+    (Kind::PollRefused, 3),
+    (Kind::GiveUp, 7),
+    (Kind::SendIsTerminated, 1),
+    (Kind::TrySend, 12),
+    (Kind::ForceSend, 6),
+    (Kind::TryRecv, 10),
+    (Kind::RecvMany, 5),
+    (Kind::PollNext, 9),
+    (Kind::Close, 1),
+    (Kind::Drop, 4),
+    (Kind::StreamIsTerminated, 1),
+    (Kind::SameChannel, 1),
+    (Kind::IsClosed, 1),
+    (Kind::IsEmpty, 1),
+    (Kind::IsFull, 1),
+    (Kind::Capacity, 1),
+    (Kind::SenderCount, 1),
+    (Kind::ReceiverCount, 1),
+    (Kind::Len, 2),
+];
+
+/// The sum of all widths.
+const ALL: u8 = 116;
 
 /// The next names: those below them were drawn.
 #[derive(Clone, Copy)]
@@ -32,108 +65,29 @@ fn new_name(next: &mut u32, drawn: u8) -> u32 {
 }
 
 impl Names {
-    fn new_operation(&mut self, drawn: u8) -> OpId {
-        OpId(new_name(&mut self.operations, drawn))
-    }
-
-    fn new_handle(&mut self, drawn: u8) -> HandleId {
-        HandleId(new_name(&mut self.handles, drawn))
-    }
-
-    fn operation(self, drawn: u8) -> OpId {
-        OpId(any_below(self.operations, drawn))
-    }
-
-    fn handle(self, drawn: u8) -> HandleId {
-        HandleId(any_below(self.handles, drawn))
-    }
-
-    /// Mostly the first handle of a side.
-    fn mostly(self, first: u32, drawn: u8) -> HandleId {
+    /// The handle that is called upon: mostly the first one of its side, where one brings or takes a message.
+    fn handle(self, kind: Kind, drawn: u8) -> u32 {
+        let first = match kind {
+            Kind::NewSend | Kind::NewClosed | Kind::TrySend | Kind::ForceSend => 0,
+            Kind::NewRecv | Kind::TryRecv | Kind::RecvMany => 1,
+            Kind::PollNext | Kind::Downgrade => 1,
+            _ => return any_below(self.handles, drawn),
+        };
         if drawn % 4 == 0 {
-            self.handle(drawn / 4)
+            any_below(self.handles, drawn / 4)
         } else {
-            HandleId(first)
+            first
         }
     }
 
-    /// A call that makes an operation or a handle.
-    fn making(&mut self, kind: u8, name: u8, drawn: u8, msg: u64) -> Call<u64> {
-        let (sender, receiver) = (self.mostly(0, drawn), self.mostly(1, drawn));
-        let weak = self.handle(drawn);
-        match kind {
-            0..=7 => Call::NewSend {
-                op: self.new_operation(name),
-                sender,
-                msg,
-            },
-            8..=15 => Call::NewRecv {
-                op: self.new_operation(name),
-                receiver,
-            },
-            16..=17 => Call::NewClosed {
-                op: self.new_operation(name),
-                sender,
-            },
-            18..=20 => Call::TryClone {
-                handle: weak,
-                new: self.new_handle(name),
-            },
-            21..=23 => Call::Downgrade {
-                handle: receiver,
-                new: self.new_handle(name),
-            },
-            _ => Call::Upgrade {
-                weak,
-                new: self.new_handle(name),
-            },
-        }
-    }
-
-    /// A call on an operation.
-    fn of_operation(self, kind: u8, name: u8) -> Call<u64> {
-        let op = self.operation(name);
-        match kind {
-            27..=47 => Call::Poll { op },
-            48..=50 => Call::PollRefused { op },
-            51..=57 => Call::GiveUp { op },
-            _ => Call::SendIsTerminated { op },
-        }
-    }
-
-    /// A call that brings or takes a message without an operation.
-    fn of_message(self, kind: u8, limit: u8, drawn: u8, msg: u64) -> Call<u64> {
-        let (sender, receiver) = (self.mostly(0, drawn), self.mostly(1, drawn));
-        match kind {
-            59..=70 => Call::TrySend { sender, msg },
-            71..=76 => Call::ForceSend { sender, msg },
-            77..=86 => Call::TryRecv { receiver },
-            87..=91 => Call::RecvMany {
-                receiver,
-                limit: usize::from(limit % 5),
-            },
-            _ => Call::PollNext { receiver },
-        }
-    }
-
-    /// A question, or a call that lets a handle go or closes the channel.
-    fn of_handle(self, kind: u8, name: u8, drawn: u8) -> Call<u64> {
-        let handle = self.handle(drawn);
-        match kind {
-            101 => Call::Close { handle },
-            102..=105 => Call::Drop { handle },
-            106 => Call::StreamIsTerminated { receiver: handle },
-            107 => Call::SameChannel {
-                a: handle,
-                b: self.handle(name),
-            },
-            108 => Call::IsClosed { handle },
-            109 => Call::IsEmpty { handle },
-            110 => Call::IsFull { handle },
-            111 => Call::Capacity { handle },
-            112 => Call::SenderCount { handle },
-            113 => Call::ReceiverCount { handle },
-            _ => Call::Len { handle },
+    /// The operation that is called upon, the name of what is made, or the second of two handles.
+    fn name(&mut self, kind: Kind, drawn: u8) -> u32 {
+        match kind.target() {
+            Target::Operation => any_below(self.operations, drawn),
+            Target::Two => any_below(self.handles, drawn),
+            _ if kind.makes_operation() => new_name(&mut self.operations, drawn),
+            _ if kind.makes_handle() => new_name(&mut self.handles, drawn),
+            _ => 0,
         }
     }
 
@@ -144,13 +98,17 @@ impl Names {
         if who / PARTIES % 4 != 0 {
             return Step::Step { party };
         }
-        let kind = what % 116;
-        let call = match kind {
-            0..=26 => self.making(kind, name, handle, message),
-            27..=58 => self.of_operation(kind, name),
-            59..=100 => self.of_message(kind, name, handle, message),
-            _ => self.of_handle(kind, name, handle),
+        let kind = fall_on(&WIDTHS, usize::from(what % ALL)).unwrap_or(Kind::Len);
+        let plan = Plan {
+            kind,
+            handle: self.handle(kind, handle),
+            name: self.name(kind, name),
+            message,
+            limit: usize::from(name % 5),
         };
-        Step::Begin { party, call }
+        Step::Begin {
+            party,
+            call: plan.call(),
+        }
     }
 }

@@ -1,40 +1,43 @@
 //! Scripts that can be read: commands of the language, of names that were given and of some that weren't.
 
 use crate::random::Random;
+use crate::weights::fall_on;
 use std::alloc::{AllocError, Global};
 
 /// How many commands a script has at most.
 const MOST: usize = 60;
 
-/// A command, what stands after it, and how often it is drawn: a new name, an operation, a sender, a receiver, any handle or a
-/// number.
-static COMMANDS: [(&str, &[u8], usize); 26] = [
-    ("try_send", b"sm", 9),
-    ("force_send", b"sm", 4),
-    ("try_recv", b"r", 7),
-    ("recv_many", b"rm", 4),
-    ("send", b"nsm", 8),
-    ("recv", b"nr", 8),
-    ("closed", b"ns", 2),
-    ("poll", b"o", 22),
-    ("next", b"r", 6),
-    ("drop", b"o", 4),
-    ("drop", b"h", 1),
-    ("close", b"h", 1),
-    ("clone", b"nh", 3),
-    ("downgrade", b"nh", 2),
-    ("upgrade", b"no", 3),
-    ("is_closed", b"h", 1),
-    ("is_empty", b"h", 1),
-    ("is_full", b"h", 1),
-    ("same_channel", b"hh", 1),
-    ("is_terminated", b"o", 1),
-    ("is_terminated", b"r", 1),
-    ("len", b"h", 1),
-    ("sender_count", b"h", 1),
-    ("receiver_count", b"h", 1),
-    ("capacity", b"h", 1),
-    ("settle", b"", 6),
+/// A command, and what stands after it: a new name, an operation, a sender, a receiver, any handle or a number.
+type Command = (&'static str, &'static [u8]);
+
+/// How often each command is drawn.
+static COMMANDS: [(Command, usize); 26] = [
+    (("try_send", b"sm"), 9),
+    (("force_send", b"sm"), 4),
+    (("try_recv", b"r"), 7),
+    (("recv_many", b"rm"), 4),
+    (("send", b"nsm"), 8),
+    (("recv", b"nr"), 8),
+    (("closed", b"ns"), 2),
+    (("poll", b"o"), 22),
+    (("next", b"r"), 6),
+    (("drop", b"o"), 4),
+    (("drop", b"h"), 1),
+    (("close", b"h"), 1),
+    (("clone", b"nh"), 3),
+    (("downgrade", b"nh"), 2),
+    (("upgrade", b"no"), 3),
+    (("is_closed", b"h"), 1),
+    (("is_empty", b"h"), 1),
+    (("is_full", b"h"), 1),
+    (("same_channel", b"hh"), 1),
+    (("is_terminated", b"o"), 1),
+    (("is_terminated", b"r"), 1),
+    (("len", b"h"), 1),
+    (("sender_count", b"h"), 1),
+    (("receiver_count", b"h"), 1),
+    (("capacity", b"h"), 1),
+    (("settle", b""), 6),
 ];
 
 /// The sum of all weights.
@@ -57,17 +60,6 @@ static OPENINGS: [&str; 8] = [
 struct Draft {
     text: String,
     names: usize,
-}
-
-fn draw_command(random: &mut Random) -> (&'static str, &'static [u8]) {
-    let mut left = random.below(ALL);
-    for (word, after, weight) in &COMMANDS {
-        if left < *weight {
-            return (word, after);
-        }
-        left = left.saturating_sub(*weight);
-    }
-    ("settle", b"")
 }
 
 impl Draft {
@@ -99,7 +91,8 @@ impl Draft {
     }
 
     fn add_line(&mut self, random: &mut Random) -> Result<(), AllocError> {
-        let (word, after) = draw_command(random);
+        let drawn = fall_on(&COMMANDS, random.below(ALL));
+        let (word, after) = drawn.unwrap_or(("settle", b""));
         self.text.push_str(word)?;
         for sort in after {
             self.add_word(*sort, random)?;

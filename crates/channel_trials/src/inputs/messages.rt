@@ -1,8 +1,7 @@
 //! The messages that a world hands out.
 
-use channel_calls::error::{Refused, SendError, TrySendError};
+use crate::answer::{Answer, read};
 use channel_world::call::Reply;
-use futures::task::Poll;
 
 /// Which messages were handed out, by their numbers.
 #[derive(Drop)]
@@ -14,29 +13,6 @@ pub struct HandedOut {
     pub left: u64,
 }
 
-/// The message that this reply hands to its caller out of the channel: received or displaced.
-fn left_by(reply: &Reply<u64>) -> Option<u64> {
-    match reply {
-        Reply::TryRecv(Ok(message)) => Some(*message),
-        Reply::RecvPoll(Poll::Ready(Ok(message))) => Some(*message),
-        Reply::Next(Poll::Ready(Some(Ok(message)))) => Some(*message),
-        Reply::ForceSend(Ok(displaced)) => *displaced,
-        _ => None,
-    }
-}
-
-/// The message that it gives back, which wasn't in the channel.
-fn back_by(reply: &Reply<u64>) -> Option<u64> {
-    match reply {
-        Reply::ForceSend(Err(Refused::Plain(SendError(message)))) => Some(*message),
-        Reply::TrySend(Err(Refused::Plain(TrySendError::Full(message)))) => Some(*message),
-        Reply::TrySend(Err(Refused::Plain(TrySendError::Closed(message)))) => Some(*message),
-        Reply::SendPoll(Poll::Ready(Err(Refused::Plain(SendError(message))))) => Some(*message),
-        Reply::GivenUp(message) => *message,
-        _ => None,
-    }
-}
-
 impl HandedOut {
     /// Whether this message had come, and wasn't handed out before.
     fn is_first(&mut self, message: u64) -> bool {
@@ -45,26 +21,26 @@ impl HandedOut {
         is_first
     }
 
-    /// The same of one that had been in the channel.
-    fn is_first_left(&mut self, message: u64) -> bool {
-        self.left = self.left.wrapping_add(1);
-        self.is_first(message)
+    /// The same of those that had been in the channel.
+    fn are_first(&mut self, messages: &[u64]) -> bool {
+        let mut all = true;
+        for message in messages {
+            self.left = self.left.wrapping_add(1);
+            all = self.is_first(*message) && all;
+        }
+        all
     }
 
     /// Whether each message of this reply had come, and wasn't handed out before.
     pub fn add(&mut self, reply: &Reply<u64>) -> bool {
-        let mut all = true;
         if let Reply::RecvMany(Ok(messages)) = reply {
-            for message in messages.as_slice() {
-                all = self.is_first_left(*message) && all;
-            }
+            return self.are_first(messages.as_slice());
         }
-        if let Some(message) = left_by(reply) {
-            all = self.is_first_left(message) && all;
-        }
-        match back_by(reply) {
-            Some(message) => self.is_first(message) && all,
-            None => all,
+        match read(reply).1 {
+            Answer::Received(message) | Answer::Displaced(message) => self.are_first(&[message]),
+            Answer::Full(message) | Answer::SendClosed(message) => self.is_first(message),
+            Answer::GivenUp(Some(message)) => self.is_first(message),
+            _ => true,
         }
     }
 }

@@ -31,11 +31,14 @@ pub fn draw_bytes(random: &mut Random, alloc: Global) -> Result<Vec<u8>, AllocEr
 
 /// The place after the line in which this place is.
 pub fn after_line(text: &[u8], at: usize) -> usize {
-    let rest = text.get(at..).unwrap_or(&[]);
-    match rest.iter().position(|byte| *byte == b'\n') {
-        Some(k) => at.saturating_add(k).saturating_add(1),
-        None => text.len(),
+    let mut place = at;
+    for byte in text.get(at..).unwrap_or(&[]) {
+        place = place.saturating_add(1);
+        if *byte == b'\n' {
+            return place;
+        }
     }
+    text.len()
 }
 
 /// A part of a text: some bytes, or a line.
@@ -54,29 +57,32 @@ pub fn between(text: &[u8], from: usize, to: usize) -> &[u8] {
     front.get(from..).unwrap_or(&[])
 }
 
+/// These pieces one after the other.
+pub fn join(pieces: &[&[u8]], alloc: Global) -> Result<Vec<u8>, AllocError> {
+    let mut joined = Vec::new(alloc);
+    for piece in pieces {
+        joined.extend_from_slice(piece)?;
+    }
+    Ok(joined)
+}
+
 /// The text with one part of it left out, doubled, exchanged with what comes after it, or changed.
 fn mutate_once(text: &[u8], random: &mut Random, alloc: Global) -> Result<Vec<u8>, AllocError> {
     let (from, to) = draw_part(text, random);
     let next = to.saturating_add(to.saturating_sub(from));
+    let front = between(text, 0, from);
     let part = between(text, from, to);
-    let mut changed = Vec::new(alloc);
-    changed.extend_from_slice(between(text, 0, from))?;
+    let back = between(text, to, text.len());
     match random.below(4) {
-        0 => {}
-        1 => {
-            changed.extend_from_slice(part)?;
-            changed.extend_from_slice(part)?;
-        }
+        0 => join(&[front, back], alloc),
+        1 => join(&[front, part, part, back], alloc),
         2 => {
-            changed.extend_from_slice(between(text, to, next))?;
-            changed.extend_from_slice(part)?;
-            changed.extend_from_slice(between(text, next, text.len()))?;
-            return Ok(changed);
+            let after = between(text, to, next);
+            let rest = between(text, next, text.len());
+            join(&[front, after, part, rest], alloc)
         }
-        _ => changed.push(any_byte(random))?,
+        _ => join(&[front, &[any_byte(random)], back], alloc),
     }
-    changed.extend_from_slice(between(text, to, text.len()))?;
-    Ok(changed)
 }
 
 /// The text with up to three such changes.

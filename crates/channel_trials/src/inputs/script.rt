@@ -40,7 +40,13 @@ fn run_in_pieces(script: &[u8], seed: u64, limit: usize, alloc: Global) -> Ran {
 }
 
 fn line_ends(text: &[u8]) -> usize {
-    text.iter().filter(|byte| **byte == b'\n').count()
+    let mut ends = 0usize;
+    for byte in text {
+        if *byte == b'\n' {
+            ends = ends.saturating_add(1);
+        }
+    }
+    ends
 }
 
 /// How many lines a script has.
@@ -53,8 +59,9 @@ fn lines_of(script: &[u8]) -> usize {
     }
 }
 
-/// Whether a line says why a script ended early.
-fn is_reason(line: &[u8]) -> bool {
+/// Whether a line, with its end or without, says why a script ended early.
+fn is_reason(whole: &[u8]) -> bool {
+    let line = whole.strip_suffix(b"\n").unwrap_or(whole);
     line.starts_with(b"line ")
         || line == b"capacity must be positive".as_slice()
         || line == b"want of memory".as_slice()
@@ -63,9 +70,13 @@ fn is_reason(line: &[u8]) -> bool {
 
 /// How many lines say so.
 fn reasons(text: &[u8]) -> usize {
-    text.split(|byte| *byte == b'\n')
-        .filter(|line| is_reason(line))
-        .count()
+    let (mut reasons, mut from) = (0usize, 0usize);
+    for _ in 0..=line_ends(text) {
+        let to = after_line(text, from);
+        reasons = reasons.saturating_add(usize::from(is_reason(between(text, from, to))));
+        from = to;
+    }
+    reasons
 }
 
 /// The line by which such an end is told. None of a read fault.
@@ -115,9 +126,17 @@ fn first_lines(text: &[u8], count: usize) -> &[u8] {
 
 /// Whether a number of so many digits stands in a script.
 fn has_number(script: &[u8], least: usize, most: usize) -> bool {
-    script
-        .split(|byte| !byte.is_ascii_digit())
-        .any(|digits| least <= digits.len() && digits.len() <= most)
+    let mut digits = 0usize;
+    for byte in script {
+        if byte.is_ascii_digit() {
+            digits = digits.saturating_add(1);
+        } else if least <= digits && digits <= most {
+            return true;
+        } else {
+            digits = 0;
+        }
+    }
+    least <= digits && digits <= most
 }
 
 /// Whether a front of the script's lines gives the front of the text.

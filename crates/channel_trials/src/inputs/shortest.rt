@@ -2,15 +2,8 @@
 
 use crate::inputs::Fault;
 use crate::inputs::kind::Kind;
-use std::alloc::{AllocError, Global};
-
-/// The input without some bytes from this place on.
-fn without(input: &[u8], at: usize, count: usize, alloc: Global) -> Result<Vec<u8>, AllocError> {
-    let mut rest = Vec::new(alloc);
-    rest.extend_from_slice(input.get(..at).unwrap_or(input))?;
-    rest.extend_from_slice(input.get(at.saturating_add(count)..).unwrap_or(&[]))?;
-    Ok(rest)
-}
+use crate::inputs::mutate::{between, join};
+use std::alloc::Global;
 
 /// The input without each part of so many bytes that isn't needed for a fault.
 fn leave_out(kind: Kind, input: Vec<u8>, part: usize, seed: u64, alloc: Global) -> Vec<u8> {
@@ -20,7 +13,9 @@ fn leave_out(kind: Kind, input: Vec<u8>, part: usize, seed: u64, alloc: Global) 
         if at >= kept.len() {
             return kept;
         }
-        match without(kept.as_slice(), at, part, alloc) {
+        let front = between(kept.as_slice(), 0, at);
+        let back = between(kept.as_slice(), at.saturating_add(part), kept.len());
+        match join(&[front, back], alloc) {
             Ok(rest) if kind.check(rest.as_slice(), seed, alloc).is_err() => kept = rest,
             _ => at = at.saturating_add(part),
         }

@@ -1,6 +1,7 @@
 //! What can be seen of a world's steps with no second account of the channel.
 
-use crate::form::Form;
+use crate::answer::{Answer, read};
+use crate::form::{FORMS, Form};
 use crate::inputs::Fault;
 use crate::inputs::decode::{Names, PARTIES};
 use crate::inputs::messages::HandedOut;
@@ -10,9 +11,8 @@ use channel_calls::reply::Reply;
 use channel_world::call::{Call, WorldRefusal};
 use channel_world::name::{HandleId, OpId};
 use channel_world::settle::Settled;
-use channel_world::step::{Entry, PartyId, Run, Step};
+use channel_world::step::{Entry, PartyId, Step};
 use channel_world::world::World;
-use futures::task::Poll;
 use std::alloc::Global;
 use std::collections::VecDeque;
 
@@ -23,7 +23,7 @@ const ROUNDS: usize = 400;
 
 const NO_MEMORY: Fault = "want of memory";
 
-/// A world, the steps that are left of a list, what was handed out, and how many steps were made.
+/// A world, the steps that are left of a list, what was handed out, and the numbers of what was made.
 #[derive(Drop)]
 struct Stepped {
     alloc: Global,
@@ -31,265 +31,246 @@ struct Stepped {
     names: Names,
     steps: VecDeque<Step<u64>>,
     handed: HandedOut,
-    /// How many messages left the channel.
+    /// How many messages came into the channel, and how many left it.
+    came: u64,
     left: u64,
+    /// How many steps were made, how many of them began a call, and how many ended one.
     made: u64,
-}
-
-/// The form that this byte says.
-fn form_of(byte: u8) -> Form {
-    match byte % 3 {
-        0 => Form::OneSlot,
-        1 => Form::RingOfThree,
-        _ => Form::Unbounded,
-    }
+    begun: usize,
+    ended: usize,
+    /// The first fault.
+    fault: Option<Fault>,
 }
 
 /// How many of these steps begin a call.
 fn begins(steps: &VecDeque<Step<u64>>) -> usize {
-    steps
-        .iter()
-        .filter(|step| matches!(step, Step::Begin { .. }))
-        .count()
-}
-
-/// How many of these entries have one of these marks.
-fn marked(trace: &[Entry<u64>], marks: &[Mark]) -> u64 {
-    trace
-        .iter()
-        .filter(|entry| marks.contains(&entry.mark))
-        .count() as u64
-}
-
-fn ended(trace: &[Entry<u64>]) -> usize {
-    trace.iter().filter(|entry| entry.reply.is_some()).count()
-}
-
-/// Whether a poll with this reply sent a message, or received one.
-fn passes(reply: &Reply<u64>, is_sent: bool) -> bool {
-    match reply {
-        Reply::SendPoll(Poll::Ready(Ok(()))) => is_sent,
-        Reply::RecvPoll(Poll::Ready(Ok(_))) => !is_sent,
-        Reply::Next(Poll::Ready(Some(Ok(_)))) => !is_sent,
-        _ => false,
+    let mut begins = 0usize;
+    for step in steps.iter() {
+        if matches!(step, Step::Begin { .. }) {
+            begins = begins.saturating_add(1);
+        }
     }
-}
-
-/// How many of these polls did.
-fn passed(polls: &[Settled<u64>], is_sent: bool) -> u64 {
-    polls
-        .iter()
-        .filter(|poll| passes(&poll.reply, is_sent))
-        .count() as u64
-}
-
-/// This fault, if it isn't so.
-fn so(is_so: bool, fault: Fault) -> Result<(), Fault> {
-    if is_so { Ok(()) } else { Err(fault) }
+    begins
 }
 
 impl Stepped {
-    /// The numbers fit one another, and those before with what was done since.
-    fn fits(&self, before: Numbers, came: u64, left: u64) -> Result<(), Fault> {
-        let now = Numbers::of(&self.world);
-        let names = self.names.handles.saturating_add(self.names.operations);
-        so(
-            now.messages.wrapping_add(left) == before.messages.wrapping_add(came),
-            "the messages are not those that came less those that left",
-        )?;
-        so(
-            now.woken <= now.pending && now.pending <= names as usize,
-            "more are woken than pending, or more pending than there are",
-        )?;
-        so(
-            now.under_way <= usize::from(PARTIES) && self.world.is_quiet() == (now.under_way == 0),
-            "more calls are under way than there are parties, or none and it isn't quiet",
-        )
+    /// Notes this fault, if it isn't so and there was none before.
+    fn so(&mut self, is_so: bool, fault: Fault) {
+        if !is_so && self.fault.is_none() {
+            self.fault = Some(fault);
+        }
     }
 
-    /// Compares what a run did, which began so many calls and left so many steps.
-    fn compare(&mut self, before: Numbers, run: &Run<u64>, begun: usize) -> Result<(), Fault> {
-        let trace = run.trace.as_slice();
-        let came = marked(trace, &[Mark::Append, Mark::Replace]);
-        let left = marked(trace, &[Mark::Take, Mark::TakeDisplaced, Mark::Replace]);
-        self.fits(before, came, left)?;
+    /// Notes what a call answered, and compares the messages that it hands out.
+    fn hand_out(&mut self, reply: &Reply<u64>) {
+        let is_first = self.handed.add(reply);
+        self.so(is_first, "a message left twice, or never came");
+    }
+
+    /// Notes what a step did.
+    fn note(&mut self, entry: &Entry<u64>) {
+        let (came, left) = match entry.mark {
+            Mark::Append => (1, 0),
+            Mark::Take | Mark::TakeDisplaced => (0, 1),
+            Mark::Replace => (1, 1),
+            _ => (0, 0),
+        };
+        self.came = self.came.wrapping_add(came);
         self.left = self.left.wrapping_add(left);
-        let under_way = before.under_way.wrapping_add(begun);
-        so(
-            self.world.under_way().wrapping_add(ended(trace)) == under_way,
-            "the calls under way are not those that began less those that ended",
-        )?;
-        let mut right = true;
-        for entry in trace {
-            if let Some(reply) = &entry.reply {
-                right = self.handed.add(reply) && right;
-            }
+        if let Some(reply) = &entry.reply {
+            self.ended = self.ended.wrapping_add(1);
+            self.hand_out(reply);
         }
-        so(right, "a message left twice, or never came")
+    }
+
+    /// Notes what a poll made alone did, as its reply says.
+    fn note_poll(&mut self, reply: &Reply<u64>) {
+        match read(reply).1 {
+            Answer::Sent => self.came = self.came.wrapping_add(1),
+            Answer::Received(_) => self.left = self.left.wrapping_add(1),
+            _ => {}
+        }
+        self.hand_out(reply);
+    }
+
+    /// The numbers fit one another, and what was done.
+    fn compare(&mut self) {
+        let now = Numbers::of(&self.world);
+        let names = self.names.handles.saturating_add(self.names.operations);
+        self.so(
+            now.messages.wrapping_add(self.left) == self.came,
+            "the messages are not those that came less those that left",
+        );
+        self.so(
+            now.woken <= now.pending && now.pending <= names as usize,
+            "more are woken than pending, or more pending than there are",
+        );
+        self.so(
+            now.under_way <= usize::from(PARTIES) && now.is_quiet == (now.under_way == 0),
+            "more calls are under way than there are parties, or none and it isn't quiet",
+        );
+        self.so(
+            now.under_way.wrapping_add(self.ended) == self.begun,
+            "the calls under way are not those that began less those that ended",
+        );
     }
 
     /// Runs the steps that are left, up to the first that is refused: why it is.
-    fn run(&mut self) -> Result<Option<WorldRefusal>, Fault> {
-        let before = Numbers::of(&self.world);
+    fn run(&mut self) -> Option<WorldRefusal> {
         let (given, beginning) = (self.steps.len(), begins(&self.steps));
         let run = self.world.run_steps(&mut self.steps);
         let made = run.trace.len();
+        for entry in run.trace.as_slice() {
+            self.note(entry);
+        }
+        let stopped = run.stopped;
+        drop(run);
         self.made = self.made.wrapping_add(made as u64);
         let begun = beginning.saturating_sub(begins(&self.steps));
-        self.compare(before, &run, begun)?;
+        self.begun = self.begun.wrapping_add(begun);
+        self.compare();
         let stands = self.steps.len() == given.saturating_sub(made);
-        let (due, why) = match run.stopped {
+        let (due, why) = match stopped {
             Some(stopped) => (made < given && stopped.place == made, Some(stopped.why)),
             None => (made >= given, None),
         };
-        so(due && stands, "a refused step doesn't stay in front")?;
-        Ok(why)
+        self.so(due && stands, "a refused step doesn't stay in front");
+        why
     }
 
     /// A step that was refused is refused again for the same reason, nothing changes, and it is left out.
-    fn leave_out(&mut self, why: WorldRefusal) -> Result<(), Fault> {
-        so(why != WorldRefusal::NoMemory, NO_MEMORY)?;
+    fn leave_out(&mut self, why: WorldRefusal) {
+        self.so(why != WorldRefusal::NoMemory, NO_MEMORY);
         let before = Numbers::of(&self.world);
-        let again = self.run()?;
-        so(
-            again == Some(why) && Numbers::of(&self.world) == before,
-            "a refused step changed something",
-        )?;
-        let _ = self.steps.pop_front();
-        Ok(())
+        let again = self.run();
+        let is_same = again == Some(why) && Numbers::of(&self.world) == before;
+        self.so(is_same, "a refused step changed something");
+        drop(self.steps.pop_front());
     }
 
     /// Runs the list, each step of it that is refused left out.
-    fn run_list(&mut self) -> Result<(), Fault> {
+    fn run_list(&mut self) {
         for _ in 0..LIST {
-            if let Some(why) = self.run()? {
-                self.leave_out(why)?;
+            if self.fault.is_none() {
+                if let Some(why) = self.run() {
+                    self.leave_out(why);
+                }
             }
         }
-        so(self.steps.is_empty(), "a list doesn't end")
+        let is_empty = self.steps.is_empty();
+        self.so(is_empty, "a list doesn't end");
+    }
+
+    /// One more step of the list.
+    fn push(&mut self, step: Step<u64>) {
+        let is_in = self.steps.push_back(step).is_ok();
+        self.so(is_in, NO_MEMORY);
     }
 
     /// Runs the list that these bytes say.
-    fn run_bytes(&mut self, bytes: &[u8]) -> Result<(), Fault> {
+    fn run_bytes(&mut self, bytes: &[u8]) {
         for four in bytes.chunks_exact(4) {
             if let [who, what, name, handle] = four {
                 let message = self.handed.next;
                 self.handed.next = message.wrapping_add(1);
                 let step = self.names.step([*who, *what, *name, *handle], message);
-                so(self.steps.push_back(step).is_ok(), NO_MEMORY)?;
+                self.push(step);
             }
         }
-        self.run_list()
+        self.run_list();
     }
 
     /// Settles where no call is under way: nobody is woken then, and of w pending ones at most w(w+1)/2 were polled.
-    fn settle(&mut self) -> Result<(), Fault> {
+    fn settle(&mut self) {
         if !self.world.is_quiet() {
-            return Ok(());
+            return;
         }
         let before = Numbers::of(&self.world);
         match self.world.settle() {
-            Ok(polls) => self.settled(before, polls.as_slice()),
-            Err(_) => Err(NO_MEMORY),
+            Ok(polls) => self.compare_settled(before, polls.as_slice()),
+            Err(_) => self.so(false, NO_MEMORY),
         }
     }
 
     /// Compares what a settling did by these polls.
-    fn settled(&mut self, before: Numbers, polls: &[Settled<u64>]) -> Result<(), Fault> {
-        let (came, left) = (passed(polls, true), passed(polls, false));
-        self.fits(before, came, left)?;
-        let most = before
-            .pending
-            .saturating_mul(before.pending.saturating_add(1))
-            / 2;
-        so(
-            self.world.woken() == 0 && before.woken <= polls.len() && polls.len() <= most,
-            "settling left somebody woken, or polled too often",
-        )?;
-        let mut right = true;
+    fn compare_settled(&mut self, before: Numbers, polls: &[Settled<u64>]) {
         for poll in polls {
-            right = self.handed.add(&poll.reply) && right;
+            self.note_poll(&poll.reply);
         }
-        so(right, "a message left twice, or never came")?;
-        self.left = self.left.wrapping_add(left);
-        so(
+        self.compare();
+        let pairs = before
+            .pending
+            .saturating_mul(before.pending.saturating_add(1));
+        let is_settled = self.world.woken() == 0
+            && before.woken <= polls.len()
+            && polls.len() <= pairs / 2;
+        self.so(
+            is_settled,
+            "settling left somebody woken, or polled too often",
+        );
+        self.so(
             self.handed.left == self.left,
             "a message left and was not handed out",
-        )
+        );
     }
 
     /// Polls somebody alone who wasn't woken, after a settling: whoever is pending stays so. What doesn't live is refused.
-    fn poll_sleeper(&mut self, poll: Call<u64>) -> Result<(), Fault> {
-        self.settle()?;
-        if !self.world.is_quiet() {
-            return Ok(());
-        }
-        let before = Numbers::of(&self.world);
+    fn poll_sleeper(&mut self, poll: Call<u64>) {
+        self.settle();
         let mut calls = VecDeque::new(self.alloc);
-        so(calls.push_back(poll).is_ok(), NO_MEMORY)?;
-        let run = self.world.run_calls(&mut calls);
-        match run.done.first() {
-            Some(done) => self.polled_alone(before, &done.reply),
-            None => Ok(()),
+        let is_in = calls.push_back(poll).is_ok();
+        self.so(is_in, NO_MEMORY);
+        if !self.world.is_quiet() {
+            return;
         }
-    }
-
-    /// Compares what a poll did that was made alone.
-    fn polled_alone(&mut self, before: Numbers, reply: &Reply<u64>) -> Result<(), Fault> {
-        let (came, left) = (
-            u64::from(passes(reply, true)),
-            u64::from(passes(reply, false)),
-        );
-        self.fits(before, came, left)?;
-        self.left = self.left.wrapping_add(left);
-        let is_first = self.handed.add(reply);
-        so(is_first, "a message left twice, or never came")?;
-        so(
-            before.pending <= self.world.pending(),
-            "somebody slept who could go on",
-        )
+        let pending = self.world.pending();
+        let run = self.world.run_calls(&mut calls);
+        if let Some(done) = run.done.first() {
+            self.note_poll(&done.reply);
+            self.compare();
+            let is_same = pending <= self.world.pending();
+            self.so(is_same, "somebody slept who could go on");
+        }
     }
 
     /// Polls every operation and every receiver.
-    fn poll_sleepers(&mut self) -> Result<(), Fault> {
+    fn poll_sleepers(&mut self) {
         for number in 0..self.names.operations {
-            self.poll_sleeper(Call::Poll { op: OpId(number) })?;
+            self.poll_sleeper(Call::Poll { op: OpId(number) });
         }
         for number in 0..self.names.handles {
-            self.poll_sleeper(Call::PollNext {
-                receiver: HandleId(number),
-            })?;
+            let receiver = HandleId(number);
+            self.poll_sleeper(Call::PollNext { receiver });
         }
-        Ok(())
     }
 
     /// Lets all calls end.
-    fn finish(&mut self) -> Result<(), Fault> {
+    fn finish(&mut self) {
         for round in 0..ROUNDS {
             if self.world.is_quiet() {
-                return Ok(());
+                return;
             }
             let party = PartyId((round % 4) as u32);
-            so(
-                self.steps.push_back(Step::Step { party }).is_ok(),
-                NO_MEMORY,
-            )?;
-            self.run_list()?;
+            self.push(Step::Step { party });
+            self.run_list();
         }
-        Err("a call doesn't end")
+        self.so(false, "a call doesn't end");
     }
 
     /// Runs lists of steps, settling where no call is under way after one; then lets all calls end, settles, and polls everybody who wasn't
     /// woken.
-    fn check(&mut self, lists: &[u8], most: u64) -> Result<(), Fault> {
+    fn check(&mut self, lists: &[u8], most: u64) {
         for list in lists.chunks(LIST) {
-            self.run_bytes(list)?;
-            so(self.world.messages() <= most, "more messages than fit")?;
-            self.settle()?;
+            if self.fault.is_none() {
+                self.run_bytes(list);
+                let is_within = self.world.messages() <= most;
+                self.so(is_within, "more messages than fit");
+                self.settle();
+            }
         }
-        self.finish()?;
-        self.poll_sleepers()?;
-        self.settle()
+        self.finish();
+        self.poll_sleepers();
+        self.settle();
     }
 }
 
@@ -308,8 +289,12 @@ fn nothing_made(world: World<u64>, alloc: Global) -> Stepped {
             next: 0,
             left: 0,
         },
+        came: 0,
         left: 0,
         made: 0,
+        begun: 0,
+        ended: 0,
+        fault: None,
     }
 }
 
@@ -318,12 +303,15 @@ pub fn check_steps(bytes: &[u8], alloc: Global) -> Result<u64, Fault> {
     let Some((byte, rest)) = bytes.split_first() else {
         return Ok(0);
     };
-    let form = form_of(*byte);
+    let form = FORMS[usize::from(*byte % 3)];
     let Ok(world) = form.open(alloc) else {
         return Err(NO_MEMORY);
     };
     let mut trial = nothing_made(world, alloc);
     let most = form.capacity().unwrap_or(usize::MAX) as u64;
-    trial.check(rest, most)?;
-    Ok(trial.made)
+    trial.check(rest, most);
+    match trial.fault {
+        Some(fault) => Err(fault),
+        None => Ok(trial.made),
+    }
 }

@@ -29,9 +29,9 @@ fn plan(limit: usize) -> Plan {
 /// A plain count of two places that hold 1 and 2.
 fn full_book(alloc: Global) -> Option<Book> {
     let mut book = Book::new(Some(2), alloc).ok()?;
-    book.count.apply(Mark::Append, Some(1), false).ok()?;
-    book.count.apply(Mark::Append, Some(2), false).ok()?;
-    Some(book)
+    let first = book.count.apply(Mark::Append, Some(1), false);
+    let second = book.count.apply(Mark::Append, Some(2), false);
+    (first.is_ok() && second.is_ok()).then_some(book)
 }
 
 /// The call of a party that began over this count and has made so many takings, with a moment after each.
@@ -48,140 +48,139 @@ fn after_takings(book: &mut Book, limit: usize, takings: usize) -> Result<UnderW
     }
 }
 
-/// Whether a receive of at most so many, which took so many of two, may answer so.
-fn may_answer(limit: usize, takings: usize, answer: Answer, alloc: Global) -> Option<bool> {
-    let mut book = full_book(alloc)?;
-    let call = after_takings(&mut book, limit, takings).ok()?;
+/// Of a receive of at most so many, which took so many of two: an answer, and whether it may answer so.
+static TAKEN: [(usize, usize, Answer, bool); 15] = [
+    (2, 2, Answer::Several(2), true),
+    (2, 2, Answer::Several(1), false),
+    (1, 1, Answer::Several(1), true),
+    (0, 0, Answer::Several(0), true),
+    (1, 0, Answer::Several(0), false),
+    (2, 1, Answer::Several(1), false),
+    (3, 2, Answer::Several(2), true),
+    (3, 1, Answer::Several(1), false),
+    (2, 0, Answer::Empty, false),
+    (0, 0, Answer::Empty, false),
+    (2, 2, Answer::Empty, false),
+    (2, 0, Answer::NoMemory, false),
+    (TOO_LARGE, 0, Answer::NoMemory, true),
+    (TOO_LARGE, 1, Answer::NoMemory, false),
+    (TOO_LARGE, 2, Answer::Several(2), false),
+];
+
+/// Whether a receive that began over this count and took so many may answer so.
+fn may_answer(book: &mut Book, limit: usize, takings: usize, answer: Answer) -> Option<bool> {
+    let call = after_takings(book, limit, takings).ok()?;
     Some(is_due(&call, answer, &book.count))
 }
 
 fn several_are_as_many_as_were_taken(tally: &mut Tally, alloc: Global) {
     tally.begin("several are as many as were taken");
-    let rows = [
-        (2, 2, Answer::Several(2), true),
-        (2, 2, Answer::Several(1), false),
-        (1, 1, Answer::Several(1), true),
-        (0, 0, Answer::Several(0), true),
-        (1, 0, Answer::Several(0), false),
-        (2, 1, Answer::Several(1), false),
-        (3, 2, Answer::Several(2), true),
-        (3, 1, Answer::Several(1), false),
-        (2, 0, Answer::Empty, false),
-        (0, 0, Answer::Empty, false),
-        (2, 2, Answer::Empty, false),
-        (2, 0, Answer::NoMemory, false),
-        (TOO_LARGE, 0, Answer::NoMemory, true),
-        (TOO_LARGE, 1, Answer::NoMemory, false),
-        (TOO_LARGE, 2, Answer::Several(2), false),
-    ];
-    for (limit, takings, answer, want) in rows {
-        let found = may_answer(limit, takings, answer, alloc);
-        tally.row(found == Some(want));
+    for (limit, takings, answer, want) in &TAKEN {
+        if let Some(mut book) = full_book(alloc) {
+            let found = may_answer(&mut book, *limit, *takings, *answer);
+            tally.row(found == Some(*want));
+        } else {
+            tally.row(false);
+        }
     }
 }
 
-/// Whether a receive of at most two of an empty channel, which is closed or not, may answer so.
-fn may_find_nothing(is_closed: bool, answer: Answer, alloc: Global) -> Option<bool> {
-    let mut book = Book::new(Some(2), alloc).ok()?;
-    if is_closed {
-        book.count.apply(Mark::Close, None, false).ok()?;
-    }
-    let call = after_takings(&mut book, 2, 0).ok()?;
-    Some(is_due(&call, answer, &book.count))
-}
+/// Of a receive of at most two of an empty channel, which is closed or not: an answer, and whether it may answer so.
+static NONE: [(bool, Answer, bool); 6] = [
+    (false, Answer::Empty, true),
+    (false, Answer::ReceiveClosed, false),
+    (false, Answer::Several(0), false),
+    (true, Answer::Empty, false),
+    (true, Answer::ReceiveClosed, true),
+    (true, Answer::Several(0), false),
+];
 
 fn none_are_for_a_reason(tally: &mut Tally, alloc: Global) {
     tally.begin("none are for a reason");
-    let rows = [
-        (false, Answer::Empty, true),
-        (false, Answer::ReceiveClosed, false),
-        (false, Answer::Several(0), false),
-        (true, Answer::Empty, false),
-        (true, Answer::ReceiveClosed, true),
-        (true, Answer::Several(0), false),
-    ];
-    for (is_closed, answer, want) in rows {
-        let found = may_find_nothing(is_closed, answer, alloc);
-        tally.row(found == Some(want));
+    for (is_closed, answer, want) in &NONE {
+        if let Ok(mut book) = Book::new(Some(2), alloc) {
+            book.count.closed = *is_closed;
+            let found = may_answer(&mut book, 2, 0, *answer);
+            tally.row(found == Some(*want));
+        } else {
+            tally.row(false);
+        }
     }
 }
+
+/// A mark of a receive of at most so many, and what comes of it.
+static LIMITS: [(usize, Mark, Result<(), Differs>); 4] = [
+    (1, Mark::Take, Ok(())),
+    (0, Mark::Take, Err(Differs::Mark)),
+    (1, Mark::Append, Err(Differs::Mark)),
+    (1, Mark::Close, Err(Differs::Mark)),
+];
 
 fn none_is_taken_past_the_limit(tally: &mut Tally, alloc: Global) {
     tally.begin("none is taken past the limit");
-    let rows = [
-        (1, Mark::Take, Ok(())),
-        (0, Mark::Take, Err(Differs::Mark)),
-        (1, Mark::Append, Err(Differs::Mark)),
-        (1, Mark::Close, Err(Differs::Mark)),
-    ];
-    for (limit, mark, want) in rows {
-        let found = match full_book(alloc) {
-            Some(mut book) => match after_takings(&mut book, limit, 0) {
-                Ok(_) => book.step(3, mark),
-                Err(differs) => Err(differs),
-            },
-            None => Err(Differs::NoMemory),
-        };
-        tally.row(found == want);
+    for (limit, mark, want) in &LIMITS {
+        if let Some(mut book) = full_book(alloc) {
+            let begun = after_takings(&mut book, *limit, 0);
+            tally.row(begun.is_ok() && book.step(3, *mark) == *want);
+        } else {
+            tally.row(false);
+        }
     }
 }
 
-/// Whether of what two parties' calls took in turns these are the ones of the first.
-fn are(messages: &[u64], alloc: Global) -> Option<bool> {
-    let mut takings = Takings::nothing(alloc);
-    takings.add(3, 1).ok()?;
-    takings.add(4, 2).ok()?;
-    takings.add(3, 5).ok()?;
-    Some(takings.are(3, messages))
-}
+/// Messages, and whether just these are the ones of the first of two parties who took some in turns.
+static HANDED: [(&[u64], bool); 5] = [
+    (&[1, 5], true),
+    (&[5, 1], false),
+    (&[1], false),
+    (&[1, 2, 5], false),
+    (&[], false),
+];
 
 fn messages_are_handed_out_in_order(tally: &mut Tally, alloc: Global) {
     tally.begin("messages are handed out in order");
-    tally.row(are(&[1, 5], alloc) == Some(true));
-    tally.row(are(&[5, 1], alloc) == Some(false));
-    tally.row(are(&[1], alloc) == Some(false));
-    tally.row(are(&[1, 2, 5], alloc) == Some(false));
-    tally.row(are(&[], alloc) == Some(false));
+    let mut takings = Takings::nothing(alloc);
+    let mut all = true;
+    for (party, message) in &[(3, 7), (3, 1), (4, 2), (3, 5)] {
+        all = takings.add(*party, *message).is_ok() && all;
+    }
+    for (messages, want) in &HANDED {
+        tally.row(all && takings.are(1, 3, messages) == *want);
+    }
 }
 
-/// Two sends come to sleep.
-fn two_sleep(book: &mut Book) -> Result<(), Differs> {
+/// Of a receive of two, how many it has taken, and whether it has woken the first of two sends that sleep; whether nothing is owed to
+/// these, and whether one place for each call were enough.
+static PLACES: [(usize, bool, (bool, bool)); 5] = [
+    (0, false, (true, true)),
+    (1, false, (true, true)),
+    (2, false, (true, false)),
+    (1, true, (true, true)),
+    (2, true, (false, true)),
+];
+
+/// Two sends come to sleep, the call takes so many, and wakes the first of them or not.
+fn take_beside_two(book: &mut Book, takings: usize, wakes: bool) -> Result<(), Differs> {
     let came = Came { from: 0, to: 0 };
     book.waiting.add(Waiter::Op(OpId(0)), Line::Sends, came)?;
-    book.waiting.add(Waiter::Op(OpId(1)), Line::Sends, came)
-}
-
-/// The party's call wakes the first of them.
-fn wake_first(book: &mut Book, alloc: Global) -> Option<()> {
-    let mut woken = Vec::new(alloc);
-    woken.push(Waiter::Op(OpId(0))).ok()?;
-    book.wake(3, &woken).ok()
-}
-
-/// Whether nothing is owed to two sends that sleep, where a receive of two has taken so many, and whether one place for each call
-/// were enough; the same once it has woken the first of them.
-fn owes(takings: usize, wakes: bool, alloc: Global) -> Option<(bool, bool)> {
-    let mut book = full_book(alloc)?;
-    two_sleep(&mut book).ok()?;
-    after_takings(&mut book, 2, takings).ok()?;
+    book.waiting.add(Waiter::Op(OpId(1)), Line::Sends, came)?;
+    let _ = after_takings(book, 2, takings)?;
     if wakes {
-        wake_first(&mut book, alloc)?;
+        book.wake_one(3, Waiter::Op(OpId(0)))?;
     }
-    Some((is_nothing_owed(&book), one_place_each_is_enough(&book)))
+    Ok(())
 }
 
 fn several_places_are_answered_for_until_they_are_told(tally: &mut Tally, alloc: Global) {
     tally.begin("several places are answered for until they are told");
-    let rows = [
-        (0, false, Some((true, true))),
-        (1, false, Some((true, true))),
-        (2, false, Some((true, false))),
-        (1, true, Some((true, true))),
-        (2, true, Some((false, true))),
-    ];
-    for (takings, wakes, want) in rows {
-        let found = owes(takings, wakes, alloc);
-        tally.row(found == want);
+    for (takings, wakes, want) in &PLACES {
+        if let Some(mut book) = full_book(alloc) {
+            let made = take_beside_two(&mut book, *takings, *wakes);
+            let found = (is_nothing_owed(&book), one_place_each_is_enough(&book));
+            tally.row(made.is_ok() && found == *want);
+        } else {
+            tally.row(false);
+        }
     }
 }
 

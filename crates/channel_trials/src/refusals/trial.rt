@@ -1,7 +1,10 @@
 //! What a trial refuses whose plain count is wrong.
 
+ghost use Rattle.std.specs.Prelude.{◌<◌};
+
 use crate::book::Book;
 use crate::differs::Differs;
+use crate::named::remove;
 use crate::plan::{Kind, Plan};
 use crate::refusals::tally::Tally;
 use crate::trial::Trial;
@@ -45,11 +48,11 @@ fn spoil(book: &mut Book, wrong: Wrong) {
         }
         Wrong::CallMore => book.begin(7, plan(Kind::Len, 0)),
         Wrong::HandleFewer => {
-            book.names.begin(plan(Kind::Drop, 0));
+            remove(&mut book.names.handles, 0);
             Ok(())
         }
         Wrong::NameMore => {
-            book.names.begin(plan(Kind::TryClone, 0));
+            book.names.next_handle = 3;
             Ok(())
         }
         Wrong::AnotherMessage => {
@@ -59,96 +62,128 @@ fn spoil(book: &mut Book, wrong: Wrong) {
     };
 }
 
-/// What differs where a call begins over a count that is spoilt before it or at once after it, and is made to its end.
-fn differs(before: Wrong, kind: Kind, after: Wrong, alloc: Global) -> Option<Differs> {
-    let mut ids = EventIds::new();
-    let world = World::bounded(alloc, 1, &mut ids).ok()?;
-    let mut trial = Trial::new(world, Some(1), 0, alloc).ok()?;
-    spoil(&mut trial.book, before);
-    if let Err(differs) = trial.begin(11, plan(kind, 0)) {
-        return Some(differs);
+/// A trial over a world of so many places; none for want of memory.
+fn open(capacity: usize, alloc: Global) -> Option<Trial>
+    requires { 0 < capacity }
+{
+    let book = Book::new(Some(capacity), alloc).ok()?;
+    match World::bounded(alloc, capacity, &mut EventIds::new()) {
+        Ok(world) => Some(Trial::new(world, book, 0, alloc)),
+        Err(_) => None,
     }
+}
+
+/// A call that begins over a count that is spoilt before it or at once after it, and is made to its end: what differs.
+static BEGUN: [(Wrong, Kind, Wrong, Option<Differs>); 9] = [
+    (Wrong::Nothing, Kind::TrySend, Wrong::Nothing, None),
+    (
+        Wrong::MessageMore,
+        Kind::TrySend,
+        Wrong::Nothing,
+        Some(Differs::Numbers),
+    ),
+    (
+        Wrong::SleeperMore,
+        Kind::TrySend,
+        Wrong::Nothing,
+        Some(Differs::Numbers),
+    ),
+    (
+        Wrong::CallMore,
+        Kind::TrySend,
+        Wrong::Nothing,
+        Some(Differs::Numbers),
+    ),
+    (
+        Wrong::HandleFewer,
+        Kind::TrySend,
+        Wrong::Nothing,
+        Some(Differs::Refusal),
+    ),
+    (
+        Wrong::NameMore,
+        Kind::TryClone,
+        Wrong::Nothing,
+        Some(Differs::Refusal),
+    ),
+    (
+        Wrong::Nothing,
+        Kind::TrySend,
+        Wrong::MessageMore,
+        Some(Differs::Mark),
+    ),
+    (
+        Wrong::Nothing,
+        Kind::Len,
+        Wrong::MessageMore,
+        Some(Differs::Numbers),
+    ),
+    (
+        Wrong::Nothing,
+        Kind::TrySend,
+        Wrong::AnotherMessage,
+        Some(Differs::Reply),
+    ),
+];
+
+/// What such a row finds.
+fn differs(trial: &mut Trial, before: Wrong, kind: Kind, after: Wrong) -> Result<(), Differs> {
+    spoil(&mut trial.book, before);
+    trial.advance(11, Some(plan(kind, 0)))?;
     spoil(&mut trial.book, after);
-    trial.settle().err()
+    trial.settle()
 }
 
 fn a_wrong_count_is_refused(tally: &mut Tally, alloc: Global) {
     tally.begin("a wrong count is refused");
-    let numbers = Some(Differs::Numbers);
-    let refusal = Some(Differs::Refusal);
-    let rows = [
-        (Wrong::Nothing, Kind::TrySend, Wrong::Nothing, None),
-        (Wrong::MessageMore, Kind::TrySend, Wrong::Nothing, numbers),
-        (Wrong::SleeperMore, Kind::TrySend, Wrong::Nothing, numbers),
-        (Wrong::CallMore, Kind::TrySend, Wrong::Nothing, numbers),
-        (Wrong::HandleFewer, Kind::TrySend, Wrong::Nothing, refusal),
-        (Wrong::NameMore, Kind::TryClone, Wrong::Nothing, refusal),
-        (
-            Wrong::Nothing,
-            Kind::TrySend,
-            Wrong::MessageMore,
-            Some(Differs::Mark),
-        ),
-        (Wrong::Nothing, Kind::Len, Wrong::MessageMore, numbers),
-        (
-            Wrong::Nothing,
-            Kind::TrySend,
-            Wrong::AnotherMessage,
-            Some(Differs::Reply),
-        ),
-    ];
-    for (before, kind, after, want) in rows {
-        let found = differs(before, kind, after, alloc);
-        tally.row(found == want);
+    for (before, kind, after, want) in &BEGUN {
+        if let Some(mut trial) = open(1, alloc) {
+            let found = differs(&mut trial, *before, *kind, *after);
+            tally.row(found.err() == *want);
+        } else {
+            tally.row(false);
+        }
     }
 }
 
-/// What differs where this call is made alone. `None` where it could not be made.
-fn alone(trial: &mut Trial, plan: Plan) -> Option<Result<(), Differs>> {
-    let run = trial.run_alone(plan).ok()?;
-    Some(trial.count_alone(11, plan, run?))
-}
+/// A call made alone over a count that is spoilt, in a world with one message: what differs.
+static ALONE: [(Wrong, Kind, Option<Differs>); 11] = [
+    (Wrong::Nothing, Kind::TryRecv, None),
+    (Wrong::Nothing, Kind::RecvMany, None),
+    (Wrong::Nothing, Kind::Drop, None),
+    (Wrong::MessageMore, Kind::TrySend, Some(Differs::Mark)),
+    (Wrong::MessageMore, Kind::Len, Some(Differs::Reply)),
+    (Wrong::MessageMore, Kind::TryRecv, Some(Differs::Numbers)),
+    (Wrong::MessageMore, Kind::RecvMany, Some(Differs::Reply)),
+    (Wrong::SleeperMore, Kind::TryRecv, Some(Differs::Numbers)),
+    (Wrong::CallMore, Kind::Capacity, Some(Differs::Numbers)),
+    (Wrong::HandleFewer, Kind::TrySend, Some(Differs::Refusal)),
+    (Wrong::NameMore, Kind::TryClone, Some(Differs::Refusal)),
+];
 
-/// What differs where a call is made alone over a count that is spoilt, in a world with one message.
-fn differs_alone(wrong: Wrong, kind: Kind, alloc: Global) -> Option<Result<(), Differs>> {
-    let mut ids = EventIds::new();
-    let world = World::bounded(alloc, 2, &mut ids).ok()?;
-    let mut trial = Trial::new(world, Some(2), 0, alloc).ok()?;
-    if alone(&mut trial, plan(Kind::TrySend, 0)) != Some(Ok(())) {
-        return None;
-    }
+/// What such a row finds. None where a call under way keeps it from being made alone.
+fn differs_alone(trial: &mut Trial, wrong: Wrong, kind: Kind) -> Option<Result<(), Differs>> {
+    let sent = trial.call_alone(11, plan(Kind::TrySend, 0));
     spoil(&mut trial.book, wrong);
     let handle = match kind {
         Kind::TryRecv | Kind::RecvMany => 1,
         _ => 0,
     };
-    alone(&mut trial, plan(kind, handle))
+    match sent {
+        Some(Ok(())) => trial.call_alone(11, plan(kind, handle)),
+        _ => None,
+    }
 }
 
 fn a_wrong_count_is_refused_of_a_call_made_alone(tally: &mut Tally, alloc: Global) {
     tally.begin("a wrong count is refused of a call made alone");
-    let numbers = Some(Err(Differs::Numbers));
-    let refusal = Some(Err(Differs::Refusal));
-    let rows = [
-        (Wrong::Nothing, Kind::TryRecv, Some(Ok(()))),
-        (Wrong::Nothing, Kind::RecvMany, Some(Ok(()))),
-        (Wrong::Nothing, Kind::Drop, Some(Ok(()))),
-        (Wrong::MessageMore, Kind::TrySend, Some(Err(Differs::Mark))),
-        (Wrong::MessageMore, Kind::Len, Some(Err(Differs::Reply))),
-        (Wrong::MessageMore, Kind::TryRecv, numbers),
-        (
-            Wrong::MessageMore,
-            Kind::RecvMany,
-            Some(Err(Differs::Reply)),
-        ),
-        (Wrong::SleeperMore, Kind::TryRecv, numbers),
-        (Wrong::CallMore, Kind::Capacity, numbers),
-        (Wrong::HandleFewer, Kind::TrySend, refusal),
-        (Wrong::NameMore, Kind::TryClone, refusal),
-    ];
-    for (wrong, kind, want) in rows {
-        let found = differs_alone(wrong, kind, alloc);
-        tally.row(found == want);
+    for (wrong, kind, want) in &ALONE {
+        if let Some(mut trial) = open(2, alloc) {
+            match differs_alone(&mut trial, *wrong, *kind) {
+                Some(found) => tally.row(found.err() == *want),
+                None => tally.row(false),
+            }
+        }
     }
 }
 
