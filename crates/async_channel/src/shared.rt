@@ -1,12 +1,18 @@
 //! What the handles of one channel share.
 
-ghost use Rattle.std.specs.Prelude.{◌≡◌};
+ghost use Rattle.std.specs.Prelude.{◌≡◌, None, false};
+ghost use Rattle.concurrent_queue.specs.Replies.{room_of};
+ghost use Rattle.channel_calls.specs.Asks.{first};
+ghost use Rattle.channel_calls.specs.Walks.{WalkedTo};
+ghost use Rattle.channel_calls.specs.declared.ask.ChannelAsk.TheVariants as ask;
+ghost use Rattle.channel_calls.specs.declared.reply.Reply.TheVariants as reply;
 ghost use Rattle.async_channel.specs.Handles.{form_of};
 
 use crate::bed::Bed;
 use crate::cells::{SharedCells, SharedWords};
-use crate::seen::Seen;
+use crate::seen::{Seen, Trace};
 use crate::waiters::{Turn, Waiters};
+use channel_calls::questions;
 use channel_calls::raised::Counters;
 use channel_calls::stage::{Line, Side};
 use concurrent_queue::shared::queue::ConcurrentQueue;
@@ -112,14 +118,74 @@ impl<T: Drop> Shared<T> {
         };
         Seen { cells, trace }
     }
+}
 
-    /// Its words, for questions that wait for nobody: none of them takes the runtime or a lock.
+// Questions that wait for nobody, with whatever trace: none of them takes the runtime or a lock. They are those of `channel_calls`, on
+// the shared words.
+impl<T: Drop> Shared<T> {
+    /// The words of the channel, seen by this trace.
     #[inline(always)]
-    pub(crate) fn words<S>(&self, trace: S) -> Seen<SharedWords<'_, T>, S>
+    fn words<S>(&self, trace: S) -> Seen<SharedWords<'_, T>, S>
         ensures form { form_of result.cells.shared.now ≡ form_of self.now }
         ensures trace { result.trace ≡ trace }
     {
         let cells = SharedWords { shared: self };
         Seen { cells, trace }
+    }
+
+    #[inline(always)]
+    pub(crate) fn handle_count<S: Trace<T>>(&self, side: Side, trace: S) -> (usize, S)
+        ensures walked { WalkedTo S.did (first (ask.HandleCount side)) trace (reply.Count (result.0)) (result.1) }
+    {
+        let mut seen = self.words(trace);
+        let count = questions::handle_count(side, &mut seen);
+        (count, seen.into_trace())
+    }
+
+    #[inline(always)]
+    pub(crate) fn is_closed<S: Trace<T>>(&self, trace: S) -> (bool, S)
+        ensures walked { WalkedTo S.did (first ask.IsClosed) trace (reply.Flag (result.0)) (result.1) }
+    {
+        let mut seen = self.words(trace);
+        let closed = questions::is_closed(&mut seen);
+        (closed, seen.into_trace())
+    }
+
+    #[inline(always)]
+    pub(crate) fn is_empty<S: Trace<T>>(&self, trace: S) -> (bool, S)
+        ensures walked { WalkedTo S.did (first ask.IsEmpty) trace (reply.Flag (result.0)) (result.1) }
+    {
+        let mut seen = self.words(trace);
+        let empty = questions::is_empty(&mut seen);
+        (empty, seen.into_trace())
+    }
+
+    #[inline(always)]
+    pub(crate) fn is_full<S: Trace<T>>(&self, trace: S) -> (bool, S)
+        ensures walked { WalkedTo S.did (first ask.IsFull) trace (reply.Flag (result.0)) (result.1) }
+        ensures bound { room_of (form_of self.now) ≡ None → result.0 ≡ false }
+    {
+        let mut seen = self.words(trace);
+        let full = questions::is_full(&mut seen);
+        (full, seen.into_trace())
+    }
+
+    #[inline(always)]
+    pub(crate) fn capacity<S: Trace<T>>(&self, trace: S) -> (Option<usize>, S)
+        ensures walked { WalkedTo S.did (first ask.Capacity) trace (reply.Cap (result.0)) (result.1) }
+        ensures room { result.0 ≡ room_of (form_of self.now) }
+    {
+        let mut seen = self.words(trace);
+        let capacity = questions::capacity(&mut seen);
+        (capacity, seen.into_trace())
+    }
+
+    #[inline(always)]
+    pub(crate) fn is_terminated<S: Trace<T>>(&self, trace: S) -> (bool, S)
+        ensures walked { WalkedTo S.did (first ask.IsTerminated) trace (reply.Flag (result.0)) (result.1) }
+    {
+        let mut seen = self.words(trace);
+        let ended = questions::is_terminated(&mut seen);
+        (ended, seen.into_trace())
     }
 }

@@ -18,12 +18,12 @@ ghost use Rattle.channel_calls.specs.declared.reply.Reply.TheVariants as reply;
 ghost use Rattle.channel_calls.specs.declared.stage.Side.TheVariants as side;
 ghost use Rattle.async_channel.specs.Handles.{handle_of, form_of};
 
-use crate::cells::{SharedCells, SharedWords};
+use crate::cells::SharedCells;
 use crate::counted::Counted;
 use crate::seen::{Seen, Trace};
+use channel_calls::calls;
 use channel_calls::kind::Kind;
 use channel_calls::stage::Side;
-use channel_calls::{calls, questions};
 use event_listener::waking::WakeNow;
 use std::marker::Model;
 use std::sync::Wait;
@@ -67,15 +67,6 @@ impl<'a, T: Drop, R: Wait + Copy, K: Kind> Traced<'a, T, R, K> {
         self.counted.link.shared.cells(self.rt, trace)
     }
 
-    /// Its words, for the questions that wait for nobody.
-    #[inline(always)]
-    fn words<S>(&self, trace: S) -> Seen<SharedWords<'a, T>, S>
-        ensures form { form_of result.cells.shared.now ≡ self.now.form }
-        ensures trace { result.trace ≡ trace }
-    {
-        self.counted.link.shared.words(trace)
-    }
-
     /// Closes the channel.
     #[inline(always)]
     pub fn close<S: Trace<T>>(&self, trace: S) -> (bool, S)
@@ -97,16 +88,14 @@ impl<'a, T: Drop, R: Wait + Copy, K: Kind> Traced<'a, T, R, K> {
     }
 }
 
-// Questions that wait for nobody.
+// Questions that wait for nobody: those of the shared part, which has no runtime.
 impl<'a, T: Drop, R: Wait + Copy, K: Kind> Traced<'a, T, R, K> {
     /// Whether the channel is closed.
     #[inline(always)]
     pub fn is_closed<S: Trace<T>>(&self, trace: S) -> (bool, S)
         ensures walked { WalkedTo S.did (first ask.IsClosed) trace (reply.Flag (result.0)) (result.1) }
     {
-        let mut seen = self.words(trace);
-        let shut = questions::is_closed(&mut seen);
-        (shut, seen.into_trace())
+        self.counted.link.shared.is_closed(trace)
     }
 
     /// Whether it holds no message.
@@ -114,9 +103,7 @@ impl<'a, T: Drop, R: Wait + Copy, K: Kind> Traced<'a, T, R, K> {
     pub fn is_empty<S: Trace<T>>(&self, trace: S) -> (bool, S)
         ensures walked { WalkedTo S.did (first ask.IsEmpty) trace (reply.Flag (result.0)) (result.1) }
     {
-        let mut seen = self.words(trace);
-        let empty = questions::is_empty(&mut seen);
-        (empty, seen.into_trace())
+        self.counted.link.shared.is_empty(trace)
     }
 
     /// Whether it holds as many messages as it can; one without a bound never does.
@@ -125,9 +112,7 @@ impl<'a, T: Drop, R: Wait + Copy, K: Kind> Traced<'a, T, R, K> {
         ensures walked { WalkedTo S.did (first ask.IsFull) trace (reply.Flag (result.0)) (result.1) }
         ensures bound { room_of self.now.form ≡ None → result.0 ≡ false }
     {
-        let mut seen = self.words(trace);
-        let full = questions::is_full(&mut seen);
-        (full, seen.into_trace())
+        self.counted.link.shared.is_full(trace)
     }
 
     /// How many messages it can hold, if there is a bound.
@@ -136,9 +121,7 @@ impl<'a, T: Drop, R: Wait + Copy, K: Kind> Traced<'a, T, R, K> {
         ensures walked { WalkedTo S.did (first ask.Capacity) trace (reply.Cap (result.0)) (result.1) }
         ensures room { result.0 ≡ room_of self.now.form }
     {
-        let mut seen = self.words(trace);
-        let capacity = questions::capacity(&mut seen);
-        (capacity, seen.into_trace())
+        self.counted.link.shared.capacity(trace)
     }
 
     /// How many senders live.
@@ -146,9 +129,7 @@ impl<'a, T: Drop, R: Wait + Copy, K: Kind> Traced<'a, T, R, K> {
     pub fn sender_count<S: Trace<T>>(&self, trace: S) -> (usize, S)
         ensures walked { WalkedTo S.did (first (ask.HandleCount side.Senders)) trace (reply.Count (result.0)) (result.1) }
     {
-        let mut seen = self.words(trace);
-        let count = questions::handle_count(Side::Senders, &mut seen);
-        (count, seen.into_trace())
+        self.counted.link.shared.handle_count(Side::Senders, trace)
     }
 
     /// How many receivers live.
@@ -156,8 +137,9 @@ impl<'a, T: Drop, R: Wait + Copy, K: Kind> Traced<'a, T, R, K> {
     pub fn receiver_count<S: Trace<T>>(&self, trace: S) -> (usize, S)
         ensures walked { WalkedTo S.did (first (ask.HandleCount side.Receivers)) trace (reply.Count (result.0)) (result.1) }
     {
-        let mut seen = self.words(trace);
-        let count = questions::handle_count(Side::Receivers, &mut seen);
-        (count, seen.into_trace())
+        self.counted
+            .link
+            .shared
+            .handle_count(Side::Receivers, trace)
     }
 }

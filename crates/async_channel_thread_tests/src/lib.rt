@@ -17,6 +17,8 @@ mod forgotten;
 #[cfg(test)]
 mod gates;
 #[cfg(test)]
+mod logged;
+#[cfg(test)]
 mod pair_rows;
 #[cfg(test)]
 mod pairs;

@@ -2,6 +2,7 @@
 #![tactic(auto)]
 
 pub mod calls;
+pub mod log;
 
 ghost use Rattle.std.specs.Prelude.{◌<◌};
 

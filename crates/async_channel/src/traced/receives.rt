@@ -17,7 +17,7 @@ use crate::seen::Trace;
 use crate::traced::Traced;
 use channel_calls::error::{RecvError, Refused, TryRecvError};
 use channel_calls::kind::OfReceivers;
-use channel_calls::{blocking, calls, filling, questions, taking};
+use channel_calls::{blocking, calls, filling, taking};
 use event_listener::error::ListenError;
 use event_listener::waking::WakeNow;
 use std::sync::Wait;
@@ -90,9 +90,7 @@ impl<'a, T: Drop, R: Wait + Copy> Traced<'a, T, R, OfReceivers> {
     pub fn is_terminated<S: Trace<T>>(&self, trace: S) -> (bool, S)
         ensures walked { WalkedTo S.did (first ask.IsTerminated) trace (reply.Flag (result.0)) (result.1) }
     {
-        let mut seen = self.words(trace);
-        let ended = questions::is_terminated(&mut seen);
-        (ended, seen.into_trace())
+        self.counted.link.shared.is_terminated(trace)
     }
 }
 

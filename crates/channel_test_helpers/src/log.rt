@@ -1,0 +1,186 @@
+//! A trace that writes down what a call did to its channel, and calls with it. By contract the lines that came are those of the deeds of
+//! the call's machine up to this answer, whatever other threads do.
+
+ghost use Rattle.std.specs.Prelude.{◌≡◌};
+ghost use Rattle.channel_calls.specs.Asks.{first};
+ghost use Rattle.channel_calls.specs.Blocks.{Blocks};
+ghost use Rattle.channel_calls.specs.Turns.{nothing_kept};
+ghost use Rattle.channel_calls.specs.Walks.{WalkedTo};
+ghost use Rattle.channel_calls.specs.declared.ask.ChannelAsk.TheVariants as ask;
+ghost use Rattle.channel_calls.specs.declared.blocked.Blocked.TheVariants as blocking;
+ghost use Rattle.channel_calls.specs.declared.reply.Reply.TheVariants as reply;
+ghost use Rattle.futures.specs.declared.task.Poll.TheVariants as poll;
+ghost use Rattle.channel_test_helpers.specs.Logs.{Logs, Notes};
+ghost use Rattle.channel_test_helpers.specs.declared.log.Did.TheVariants as did;
+
+use async_channel::{
+    Key, Line, ListenError, QueueCall, QueueReply, Receiver, RecvError, Refused, Sender, Side,
+    Task, Trace, TryRecvError, TrySendError,
+};
+use std::alloc::Global;
+use std::sync::Wait;
+
+/// One thing that a call did.
+#[derive(Clone, Copy, PartialEq, Eq, Debug)]
+pub enum Did {
+    /// The queue was asked, and has answered or is to be asked on.
+    Asked,
+    /// A listener was added, or refused.
+    Inserted(Line),
+    /// A listener was asked, and has its task or was told.
+    Registered(Line),
+    /// A listener was taken off.
+    TakenOff(Line),
+    /// One more was told.
+    OneTold(Line),
+    /// So many more were told.
+    MoreTold(Line, usize),
+    /// All were told.
+    AllTold(Line),
+    /// A count was read.
+    Counted(Side),
+    /// A count was lowered.
+    Lowered(Side),
+    /// A count was raised, or was another one.
+    Raised(Side, bool),
+    /// A task of the thread's own was asked for.
+    Parked,
+    /// The thread slept.
+    Slept,
+}
+
+/// What a call did, in order. Where there was no memory for a line, it says so.
+#[derive(Drop)]
+pub struct Log {
+    /// Its lines.
+    pub lines: Vec<Did>,
+    /// Whether one is missing.
+    pub is_short: bool,
+}
+
+impl Log {
+    /// Without a line.
+    pub fn new(alloc: Global) -> Log {
+        Log {
+            lines: Vec::new(alloc),
+            is_short: false,
+        }
+    }
+
+    /// Whether it has these lines, if it has them all.
+    pub fn has(&self, lines: &[Did]) -> bool {
+        self.is_short || self.lines.as_slice() == lines
+    }
+
+    fn note(&mut self, it: Did)
+        ensures { Notes it self.old self.new }
+    {
+        if self.lines.push(it).is_err() {
+            self.is_short = true;
+        }
+    }
+}
+
+impl Trace<u64> for Log {
+    ghost use Rattle.std.specs.Prelude.{◌≡◌};
+
+    ghost did = { λ d a b. Logs d a b };
+
+    ghost asking = { λ _ a b. b ≡ a };
+
+    ghost offering = { λ _ _ _ a b. b ≡ a };
+
+    ghost parked = { λ _ a b. Notes did.Parked a b };
+
+    ghost slept = { λ a b. Notes did.Slept a b };
+
+    fn asks(&mut self, _call: &QueueCall<u64>) {}
+
+    fn answered(&mut self, _call: &QueueCall<u64>, _answer: &Option<QueueReply<u64>>) {
+        self.note(Did::Asked);
+    }
+
+    fn inserted(&mut self, line: Line, _answer: Result<Key, ListenError>) {
+        self.note(Did::Inserted(line));
+    }
+
+    fn offers(&mut self, _line: Line, _key: Key, _task: &Task) {}
+
+    fn registered(&mut self, line: Line, _key: Key, _answer: &Option<Task>) {
+        self.note(Did::Registered(line));
+    }
+
+    fn taken_off(&mut self, line: Line, _key: Key) {
+        self.note(Did::TakenOff(line));
+    }
+
+    fn one_told(&mut self, line: Line) {
+        self.note(Did::OneTold(line));
+    }
+
+    fn more_told(&mut self, line: Line, count: usize) {
+        self.note(Did::MoreTold(line, count));
+    }
+
+    fn all_told(&mut self, line: Line) {
+        self.note(Did::AllTold(line));
+    }
+
+    fn counted(&mut self, side: Side, _found: usize) {
+        self.note(Did::Counted(side));
+    }
+
+    fn lowered(&mut self, side: Side, _found: usize) {
+        self.note(Did::Lowered(side));
+    }
+
+    fn raised(&mut self, side: Side, _from: usize, done: bool) {
+        self.note(Did::Raised(side, done));
+    }
+
+    fn parks(&mut self, _answer: &Option<Task>) {
+        self.note(Did::Parked);
+    }
+
+    fn sleeps(&mut self) {
+        self.note(Did::Slept);
+    }
+}
+
+/// A send that doesn't wait, written down.
+pub fn try_send_logged<R: Wait + Copy>(
+    sender: &Sender<u64, R>,
+    message: u64,
+    log: Log,
+) -> (Result<(), Refused<TrySendError<u64>, u64>>, Log)
+    ensures { WalkedTo Logs (first (ask.TrySend message)) log (reply.TrySend (result.0)) (result.1) }
+{
+    sender.traced().try_send(message, log)
+}
+
+/// A receive that doesn't wait, written down.
+pub fn try_recv_logged<R: Wait + Copy>(
+    receiver: &Receiver<u64, R>,
+    log: Log,
+) -> (Result<u64, TryRecvError>, Log)
+    ensures { WalkedTo Logs (first ask.TryRecv) log (reply.TryRecv (result.0)) (result.1) }
+{
+    receiver.traced().try_recv(log)
+}
+
+/// A closing, written down.
+pub fn close_logged<R: Wait + Copy>(sender: &Sender<u64, R>, log: Log) -> (bool, Log)
+    ensures { WalkedTo Logs (first ask.Close) log (reply.Closed (result.0)) (result.1) }
+{
+    sender.traced().close(log)
+}
+
+/// A receive that blocks its thread, written down.
+pub fn recv_blocking_logged<R: Wait + Copy>(
+    receiver: &Receiver<u64, R>,
+    log: Log,
+) -> (Result<u64, Refused<RecvError>>, Log)
+    ensures { Blocks Logs (λ _ a b. Notes did.Parked a b) (λ a b. Notes did.Slept a b) blocking.Receive log (reply.RecvPoll (poll.Ready (result.0))) nothing_kept (result.1) }
+{
+    receiver.traced().recv_blocking(log)
+}
