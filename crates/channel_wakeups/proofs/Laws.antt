@@ -44,6 +44,17 @@ wins_place T W x p l i m lg mg some_part k o free (full y e d c) =
     out refl (omega arith) (omega arith) (inl refl)
 wins_place T W x p l i m lg mg some_part k o free (out d c e w) = absurd (no_home (Some x) d)
 
+pub displaced_place : (T W : Type 0) (x : T) (p : ℕ) (l i : Lines) (m : Rolls W) (lg mg : List (Transfer T)) → 0 < p → Places {T = T} 2 3 (some (Some x)) none (pass {W = W} p 0 l m lg) (pass p 3 i m mg)
+displaced_place T W x p l i m lg mg some_part k o free (empty e d c) = absurd (omega arith)
+displaced_place T W x p l i m lg mg some_part k o free (full y e d c) =
+    let q = only_zero p in
+    let r = only_some p 1 some_part in
+    let s = only_some p 3 some_part in
+    let none_else : k ≡ 0 = omega arith in
+    let none_known : o ≡ 0 = free none_else in
+    out refl (omega arith) (omega arith) (inr refl)
+displaced_place T W x p l i m lg mg some_part k o free (out d c e w) = absurd (no_home (Some x) d)
+
 pub filled_place : (T W : Type 0) (x : T) (p : ℕ) (l : Lines) (m : Rolls W) (lg mg : List (Transfer T)) → 0 < p → Places {T = T} 3 2 none (some (Some x)) (pass {W = W} p 3 l m lg) (pass p 0 l m mg)
 filled_place T W x p l m lg mg some_part k o free (empty e d c) = absurd (omega arith)
 filled_place T W x p l m lg mg some_part k o free (full y e d c) = absurd (omega arith)
@@ -117,6 +128,17 @@ fills_turns c to_all of_receives = inl refl
 fills_turns c to_all of_sends = inl refl
 fills_turns c to_all of_streams = inr (inl (omega arith))
 fills_turns c to_all of_closings = inl refl
+
+-- a displacing push won the slot: it answers for its message, and no place came free
+pub displaces_turns : (c : Lines) (d : Duty) (s : Side) → Turns d s 2 3 false false c (won_place c)
+displaces_turns c to_one of_receives = inr (inl (omega arith))
+displaces_turns c to_one of_sends = inl refl
+displaces_turns c to_one of_streams = inl refl
+displaces_turns c to_one of_closings = inl refl
+displaces_turns c to_all of_receives = inl refl
+displaces_turns c to_all of_sends = inl refl
+displaces_turns c to_all of_streams = inr (inl (omega arith))
+displaces_turns c to_all of_closings = inl refl
 
 -- a push found no place
 pub refused_turns : (w : ℕ) (c : Lines) → places w ≡ 0 → (d : Duty) (s : Side) → Turns d s w w false false c (no_place c)

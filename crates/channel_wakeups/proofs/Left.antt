@@ -15,16 +15,17 @@ use Rattle.channel_wakeups.specs.declared.rule.Transfer.{Transfer}
 use Rattle.channel_wakeups.specs.declared.rule.Transfer.TheVariants.{In, Out, Saw}
 use Rattle.channel_wakeups.specs.declared.rule.Sight.TheVariants.{Shut, Seen, Drained}
 use Rattle.concurrent_queue.specs.declared.error.PushError.TheVariants as push_error
+use Rattle.concurrent_queue.specs.declared.error.ForcePushError.TheVariants as force_error
 use Rattle.concurrent_queue.specs.declared.error.PopError.TheVariants as pop_error
 use Rattle.channel_wakeups.specs.declared.stage.Stage.{Stage}
 use Rattle.channel_wakeups.specs.declared.stage.Stage.TheVariants.{Free}
-use Rattle.channel_wakeups.specs.Calls.{PushLeaves, PopLeaves, CloseLeaves, AskLeaves}
-use Rattle.channel_wakeups.specs.Cells.{Did, IsOver, Pushed, Popped, HasClosed, HasAsked}
+use Rattle.channel_wakeups.specs.Calls.{PushLeaves, ForceLeaves, PopLeaves, CloseLeaves, AskLeaves}
+use Rattle.channel_wakeups.specs.Cells.{Did, IsOver, Pushed, Forced, Popped, HasClosed, HasAsked}
 use Rattle.channel_wakeups.specs.Seats.{IsCall, IsPass, IsIdle}
 use Rattle.channel_wakeups.specs.Stages.{IsAt}
 use Rattle.channel_wakeups.specs.Views.{Side, of_receives, of_sends, of_streams, of_closings, of, besides, with_line, only_on, calling, idle, idle_lines, won_place, all_owing}
 use Rattle.channel_wakeups.proofs.Sides.{of_with, only_besides, takes_so, view_of}
-use Rattle.channel_wakeups.proofs.Machine.{pushes, pops, closes, asks}
+use Rattle.channel_wakeups.proofs.Machine.{pushes, forces, pops, closes, asks}
 
 module _ {T W : Type 0} (table : TableId) where
   -- a pass that has nothing of the slot, in the words of clauses, from whichever side
@@ -53,6 +54,18 @@ module _ {T W : Type 0} (table : TableId) where
   leaves_push p a h log x (reply.Flag y) c some_part left at = elim left [ ]
   leaves_push p a h log x (reply.Count y) c some_part left at = elim left [ ]
   leaves_push p a h log x (reply.Cap y) c some_part left at = elim left [ ]
+
+  leaves_force : (p : ℕ) (log : List (Transfer T)) (x : T) (r : QueueReply T) (c : SlotCells T W) → 0 < p → Forced table p log x r c → IsAt c.stage c.seat.me → ForceLeaves table p log x r c.seat
+  leaves_force p log x (reply.Force (Ok old)) c some_part (unshut, (between, k, took_old, put, took, left)) at =
+      (over of_receives p (won_place idle_lines) (between ++ In k x ∷ []) c some_part left at, unshut, (between, took_old, (k, put, took, logged p (won_place idle_lines) (between ++ In k x ∷ []) c left)))
+  leaves_force p log x (reply.Force (Err (force_error.Closed y))) c some_part left at = (over of_receives p idle_lines (log ++ Saw Seen ∷ []) c some_part left at, logged p idle_lines (log ++ Saw Seen ∷ []) c left)
+  leaves_force p log x (reply.Force (Err (force_error.NoMemory y))) c some_part left at = elim left [ ]
+  leaves_force p log x (reply.Push y) c some_part left at = elim left [ ]
+  leaves_force p log x (reply.Pop y) c some_part left at = elim left [ ]
+  leaves_force p log x (reply.Close y) c some_part left at = elim left [ ]
+  leaves_force p log x (reply.Flag y) c some_part left at = elim left [ ]
+  leaves_force p log x (reply.Count y) c some_part left at = elim left [ ]
+  leaves_force p log x (reply.Cap y) c some_part left at = elim left [ ]
 
   leaves_pop : (s : Side) → (s ≡ of_receives) ⊎ (s ≡ of_streams) → (p a h : ℕ) (log : List (Transfer T)) (r : QueueReply T) (c : SlotCells T W) → 0 < p → Popped table p (only_on s (calling a h 0)) log r c → IsAt c.stage c.seat.me → PopLeaves s table p h log r c.seat
   leaves_pop s which p a h log (reply.Pop (Ok x)) c some_part (there, (k, took, left)) at =
@@ -100,6 +113,12 @@ module _ {T W : Type 0} (table : TableId) where
   push_leaves p a h v at b c r (i, none_out, calls) free_stage asks_so walked held =
       let is = view_of of_sends b.seat.me.0 p (calling a h 0) idle_lines calls in
       leaves_push p a h b.seat.me.0.log v r c calls.5 (pushes table p (only_on of_sends (calling a h 0)) b.seat.me.0.log v b c r (i, free_stage, is) (subst (λ (s : CallState T). WalkedFrom Did (Bounded 1) s b r c) asks_so walked)) held
+
+  pub force_leaves : (p : ℕ) (v : T) (at : CallState T) (b c : SlotCells T W) (r : QueueReply T) → IsIdle table b.seat p → b.stage ≡ Free → at ≡ Asked (ask.ForcePush v) → WalkedFrom Did (Bounded 1) at b r c
+      → IsAt c.stage c.seat.me → ForceLeaves table p b.seat.me.0.log v r c.seat
+  force_leaves p v at b c r (i, none_out, calls) free_stage asks_so walked held =
+      let is = view_of of_receives b.seat.me.0 p idle idle_lines calls in
+      leaves_force p b.seat.me.0.log v r c calls.5 (forces table p b.seat.me.0.log v b c r (i, free_stage, is) (subst (λ (s : CallState T). WalkedFrom Did (Bounded 1) s b r c) asks_so walked)) held
 
   pub pop_leaves : (side : Side) → (side ≡ of_receives) ⊎ (side ≡ of_streams) → (p a h : ℕ) (at : CallState T) (b c : SlotCells T W) (r : QueueReply T) → IsCall side table b.seat p a h 0 → b.stage ≡ Free → at ≡ Asked ask.Pop → WalkedFrom Did (Bounded 1) at b r c → IsAt c.stage c.seat.me
       → PopLeaves side table p h b.seat.me.0.log r c.seat

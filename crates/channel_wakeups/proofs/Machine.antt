@@ -4,7 +4,7 @@ use Rattle.std.proofs.Common.{◌⊎◌, inl, inr, ◌≡◌, ℕ, zero, suc, Li
 use Rattle.std.specs.Prelude.{bit_and, bit_or, not, if◌then◌else◌}
 use Rattle.concurrent_queue.specs.Deeds.{exchanged, bits_kept, did_put, did_take}
 use Rattle.concurrent_queue.specs.machine.Ahead.{Leads}
-use Rattle.concurrent_queue.specs.machine.Single.{clear, finishes as ends, stays as goes, after_push, after_pop, after_close, after_put, after_take}
+use Rattle.concurrent_queue.specs.machine.Single.{clear, finishes as ends, stays as goes, after_push, after_force, after_pop, after_close, after_put, after_take}
 use Rattle.concurrent_queue.specs.Walked.{StateMakes, WalkedFrom}
 use Rattle.concurrent_queue.specs.declared.call.QueueAsk.{QueueAsk}
 use Rattle.concurrent_queue.specs.declared.call.QueueAsk.TheVariants as ask
@@ -21,7 +21,7 @@ use Rattle.concurrent_queue.specs.declared.single.SingleAction.TheVariants as on
 use Rattle.atomic_table.specs.Seated.{TableId}
 use Rattle.channel_wakeups.specs.declared.cells.SlotCells.{SlotCells}
 use Rattle.channel_wakeups.specs.declared.stage.Stage.{Stage}
-use Rattle.channel_wakeups.specs.declared.stage.Stage.TheVariants.{Free, Won, Filled, Caught, Emptied}
+use Rattle.channel_wakeups.specs.declared.stage.Stage.TheVariants.{Free, Won, Filled, Caught, Emptied, Seized}
 use Rattle.channel_wakeups.specs.declared.rule.Lines.{Lines}
 use Rattle.channel_wakeups.specs.declared.rule.View.{View}
 use Rattle.channel_wakeups.specs.declared.rule.Transfer.{Transfer}
@@ -29,11 +29,12 @@ use Rattle.channel_wakeups.specs.declared.rule.Transfer.TheVariants.{Out, Saw}
 use Rattle.channel_wakeups.specs.declared.rule.Sight.TheVariants.{Seen}
 use Rattle.concurrent_queue.specs.declared.call.QueueMark.TheVariants as mark
 use Rattle.concurrent_queue.specs.declared.error.PushError.TheVariants as push_error
+use Rattle.concurrent_queue.specs.declared.error.ForcePushError.TheVariants as force_error
 use Rattle.concurrent_queue.specs.declared.error.PopError.TheVariants as pop_error
-use Rattle.channel_wakeups.specs.Log.{PutBefore, TookBefore, NotSeen, NotDrained}
-use Rattle.channel_wakeups.specs.Views.{pass, no_rolls, won_place, no_send, won_message, noted, closer, saw_open, saw_closed}
-use Rattle.channel_wakeups.specs.Stages.{filling, refused, shut_out, taking, resting, draining, giving}
-use Rattle.channel_wakeups.specs.Cells.{IsLeft, IsSame, HasCaught, Did, PushMissed, PopMissed, ShutBy, SeenBy, Pushed, Popped, HasClosed, HasAsked}
+use Rattle.channel_wakeups.specs.Log.{PutBefore, TookBefore, MayTake, NotSeen, NotDrained}
+use Rattle.channel_wakeups.specs.Views.{AtHome, idle_lines, pass, no_rolls, won_place, no_send, won_message, noted, closer, saw_open, saw_closed}
+use Rattle.channel_wakeups.specs.Stages.{filling, displacing, taken_from, refused, shut_out, taking, resting, draining, giving}
+use Rattle.channel_wakeups.specs.Cells.{IsLeft, IsSame, HasCaught, Did, PushMissed, PopMissed, ShutBy, SeenBy, Pushed, Popped, HasClosed, HasAsked, Forced}
 
 -- what follows a push, a pop and a closing, by the bits of the word that was found
 module _ {T : Type 0} where
@@ -102,9 +103,9 @@ module _ {T W : Type 0} (table : TableId) (p : ℕ) (l : Lines) (log : List (Tra
 
   misses : (v : T) (w : ℕ) (a b : SlotCells T W) (c : CallState T) (r : Option (QueueReply T)) → v ≡ x → Has Free begun a → b.seat.table_id ≡ a.seat.table_id → PushMissed w a b → c ≡ Single (after_push v (Err w)).action → r ≡ (after_push v (Err w)).reply → After b c r
   misses v w a b c r same (i, g, e) j (inl (shut, s, u)) is gives = push_shut v w (clear w 2) b c r shut refl is gives (j ∙ i, s ∙ g, u ∙ ap (λ (y : View T W). shut_out y) e)
-  misses v w a b c r same (i, g, e) j (inr (inl (unshut, full, unseen, s, u))) is gives =
+  misses v w a b c r same (i, g, e) j (inr (inl (unshut, full, home, unseen, s, u))) is gives =
       push_found v w true false b c r unshut full is gives (subst (λ (y : List (Transfer T)). NotSeen y) (ap (λ (y : View T W). y.log) e) unseen, (j ∙ i, s ∙ g, u ∙ ap (λ (y : View T W). refused y) e))
-  misses v w a b c r same (i, g, e) j (inr (inr (unshut, empty, (s, u)))) is gives = push_found v w true true b c r unshut empty is gives (same, (j ∙ i, s ∙ g, u ∙ e))
+  misses v w a b c r same (i, g, e) j (inr (inr (unshut, empty, home, (s, u)))) is gives = push_found v w true true b c r unshut empty is gives (same, (j ∙ i, s ∙ g, u ∙ e))
 
   tries : (v : T) (a b : SlotCells T W) (o : Result ℕ ℕ) (c : CallState T) (r : Option (QueueReply T)) → v ≡ x → Has Free begun a → Did (exchanged State 0 3 o) a b
       → c ≡ Single (after_push v o).action → r ≡ (after_push v o).reply → After b c r
@@ -187,6 +188,161 @@ first d _ = d
 only_one : {T : Type 0} (x y : T) → ◌≡◌ {A = List (ℕ × Option T)} ((0, Some x) ∷ []) ((0, Some y) ∷ []) → x ≡ y
 only_one x y e = ap (first x) e
 
+-- a displacing push of this message, of an idle pass with this log
+module _ {T : Type 0} where
+  abbrev force_goes : T → ℕ → ℕ → Bool → Bool → SingleAction T
+  force_goes v n w unshut home = (if not unshut then ends (reply.Force (Err (force_error.Closed v))) else goes (one.Force v (if home then w else n))).action
+
+  abbrev force_says : T → ℕ → ℕ → Bool → Bool → Option (QueueReply T)
+  force_says v n w unshut home = (if not unshut then ends (reply.Force (Err (force_error.Closed v))) else goes (one.Force v (if home then w else n))).reply
+
+module _ {T W : Type 0} (table : TableId) (p : ℕ) (log : List (Transfer T)) (x : T) where
+  abbrev Knows : Stage → Lines → ℕ → List (Transfer T) → SlotCells T W → Type 0
+  Knows g l n lg c = IsLeft table g (pass p n l no_rolls lg) c
+
+  -- it has nothing yet; it won the slot, with this log
+  abbrev Idle : SlotCells T W → Type 0
+  Idle c = Knows Free idle_lines 0 log c
+
+  abbrev Seizes : SlotCells T W → Type 0
+  Seizes c = NotSeen log × ((d : T) × (k : ℕ) × TookBefore k log × (c.seat.me.1 ≡ (0, Some d) ∷ []) × Knows Seized (won_place idle_lines) 3 (log ++ Out k d ∷ []) c)
+
+  abbrev Owns : Stage → Option T → SlotCells T W → Type 0
+  Owns g old c = NotSeen log × ((between : List (Transfer T)) × MayTake old log between × Knows g (won_place idle_lines) 3 between c)
+
+  -- where a displacing push stands at each action
+  abbrev ForceAsks : QueueAsk T → SlotCells T W → Type 0
+  ForceAsks (ask.ForcePush v) c = (v ≡ x) × Idle c
+  ForceAsks _ c = ⊥
+
+  abbrev ForceActs : SingleAction T → SlotCells T W → Type 0
+  ForceActs (one.Force v n) c = ((n ≡ 0) ⊎ (n ≡ 2)) × (v ≡ x) × Idle c
+  ForceActs (one.ForceTake v) c = (v ≡ x) × Seizes c
+  ForceActs (one.ForcePut v old) c = (v ≡ x) × Owns Won old c
+  ForceActs (one.ForceUnlock old) c = (c.seat.me.1 ≡ (0, Some x) ∷ []) × Owns Filled old c
+  ForceActs _ c = ⊥
+
+  abbrev Forces : CallState T → SlotCells T W → Type 0
+  Forces (Asked q) c = ForceAsks q c
+  Forces (Single a) c = ForceActs a c
+  Forces _ c = ⊥
+
+  abbrev Ensues : SlotCells T W → CallState T → Option (QueueReply T) → Type 0
+  Ensues b at r = MatchOption r (Forces at b) (λ y. Forced table p log x y b)
+
+  ensues : (b : SlotCells T W) (c d : CallState T) (r s : Option (QueueReply T)) → c ≡ d → r ≡ s → Ensues b d s → Ensues b c r
+  ensues b c d r s e f k = subst (λ (y : CallState T). Ensues b y r) (sym e) (subst (λ (y : Option (QueueReply T)). Ensues b d y) (sym f) k)
+
+  same_log : (v : View T W) (l : Lines) (n : ℕ) (lg : List (Transfer T)) → v ≡ pass p n l no_rolls lg → v.log ≡ lg
+  same_log v l n lg e = λ k. (e k).log
+
+  -- a displacing push that won nothing, by the bits of the word that it found
+  force_found : (v : T) (n w : ℕ) (i j : Bool) (b : SlotCells T W) (c : CallState T) (r : Option (QueueReply T)) → clear w 4 ≡ i → clear w 1 ≡ j → c ≡ Single (after_force v n (Err w)).action → r ≡ (after_force v n (Err w)).reply
+      → Ensues b (Single (force_goes v n w i j)) (force_says v n w i j) → Ensues b c r
+  force_found v n w i j b c r e f is gives k = ensues b c _ r _ (is ∙ (λ m. Single (force_goes v n w (e m) (f m)))) (gives ∙ (λ m. force_says v n w (e m) (f m))) k
+
+  -- the channel was closed, whoever had the slot
+  force_shut : (v : T) (n w : ℕ) (j : Bool) (b : SlotCells T W) (c : CallState T) (r : Option (QueueReply T)) → clear w 4 ≡ false → clear w 1 ≡ j → c ≡ Single (after_force v n (Err w)).action → r ≡ (after_force v n (Err w)).reply
+      → Knows Free idle_lines 0 (log ++ Saw Seen ∷ []) b → Ensues b c r
+  force_shut v n w j b c r e f is gives ends_so = force_found v n w false j b c r e f is gives ends_so
+
+  -- it was open, and the call tries again, from the word that it found or from the same one
+  force_again : (v : T) (n w : ℕ) (j : Bool) (b : SlotCells T W) (c : CallState T) (r : Option (QueueReply T)) → (n ≡ 0) ⊎ (n ≡ 2) → v ≡ x → AtHome w → clear w 4 ≡ true → clear w 1 ≡ j → c ≡ Single (after_force v n (Err w)).action → r ≡ (after_force v n (Err w)).reply
+      → Idle b → Ensues b c r
+  force_again v n w true b c r from same home e f is gives at = force_found v n w true true b c r e f is gives (home f, same, at)
+  force_again v n w false b c r from same home e f is gives at = force_found v n w true false b c r e f is gives (from, same, at)
+
+  force_misses : (v : T) (n w : ℕ) (a b : SlotCells T W) (c : CallState T) (r : Option (QueueReply T)) → (n ≡ 0) ⊎ (n ≡ 2) → v ≡ x → Idle a → b.seat.table_id ≡ a.seat.table_id → PushMissed w a b → c ≡ Single (after_force v n (Err w)).action → r ≡ (after_force v n (Err w)).reply → Ensues b c r
+  force_misses v n w a b c r from same (i, g, e) j (inl (shut, s, u)) is gives = force_shut v n w (clear w 1) b c r shut refl is gives (j ∙ i, s ∙ g, u ∙ ap (λ (y : View T W). shut_out y) e)
+  force_misses v n w a b c r from same (i, g, e) j (inr (inl (unshut, full, home, unseen, s, u))) is gives =
+      force_again v n w (clear w 1) b c r from same home unshut refl is gives (j ∙ i, s ∙ g, u ∙ ap (λ (y : View T W). refused y) e)
+  force_misses v n w a b c r from same (i, g, e) j (inr (inr (unshut, empty, home, (s, u)))) is gives = force_again v n w (clear w 1) b c r from same home unshut refl is gives (j ∙ i, s ∙ g, u ∙ e)
+
+  force_empty : (v : T) (a b : SlotCells T W) (o : Result ℕ ℕ) (c : CallState T) (r : Option (QueueReply T)) → v ≡ x → Idle a → Did (exchanged State 0 3 o) a b → c ≡ Single (after_force v 0 o).action → r ≡ (after_force v 0 o).reply → Ensues b c r
+  force_empty v a b (Ok w) c r same (i, g, e) (j, did) is gives =
+      let d = did.0 refl refl in
+      ensues b c _ r _ is gives (same, (subst (λ (y : List (Transfer T)). NotSeen y) (same_log a.seat.me.0 idle_lines 0 log e) d.0, (log, refl, (j ∙ i, d.1.0, d.1.1 ∙ ap (λ (y : View T W). filling y) e))))
+  force_empty v a b (Err w) c r same at (j, did) is gives = force_misses v 0 w a b c r (inl refl) same at j (did.0 refl refl) is gives
+
+  force_full : (v : T) (a b : SlotCells T W) (o : Result ℕ ℕ) (c : CallState T) (r : Option (QueueReply T)) → v ≡ x → Idle a → Did (exchanged State 2 3 o) a b → c ≡ Single (after_force v 2 o).action → r ≡ (after_force v 2 o).reply → Ensues b c r
+  force_full v a b (Ok w) c r same (i, g, e) (j, did) is gives =
+      let d = did.3 refl refl in
+      let logs = same_log a.seat.me.0 idle_lines 0 log e in
+      let y = d.1 in
+      ensues b c _ r _ is gives (same, (subst (λ (l : List (Transfer T)). NotSeen l) logs d.0, (y.0, y.1, subst (λ (l : List (Transfer T)). TookBefore y.1 l) logs y.2, y.3, (j ∙ i, y.4.0, y.4.1 ∙ ap (λ (z : View T W). displacing y.1 y.0 z) e))))
+  force_full v a b (Err w) c r same at (j, did) is gives = force_misses v 2 w a b c r (inr refl) same at j (did.3 refl refl) is gives
+
+  force_tries : (n : ℕ) (v : T) (a b : SlotCells T W) (o : Result ℕ ℕ) (c : CallState T) (r : Option (QueueReply T)) → (n ≡ 0) ⊎ (n ≡ 2) → v ≡ x → Idle a → Did (exchanged State n 3 o) a b → c ≡ Single (after_force v n o).action → r ≡ (after_force v n o).reply → Ensues b c r
+  force_tries n v a b o c r (inl is) same at did goes_so gives =
+      force_empty v a b o c r same at (subst (λ (m : ℕ). Did (exchanged State m 3 o) a b) is did) (goes_so ∙ ap (λ (m : ℕ). Single (after_force v m o).action) is) (gives ∙ ap (λ (m : ℕ). (after_force v m o).reply) is)
+  force_tries n v a b o c r (inr is) same at did goes_so gives =
+      force_full v a b o c r same at (subst (λ (m : ℕ). Did (exchanged State m 3 o) a b) is did) (goes_so ∙ ap (λ (m : ℕ). Single (after_force v m o).action) is) (gives ∙ ap (λ (m : ℕ). (after_force v m o).reply) is)
+
+  force_takes : (v : T) (a b : SlotCells T W) (o : Option T) (c : CallState T) (r : Option (QueueReply T)) → v ≡ x → Seizes a → Did (did_take (At 0) o) a b
+      → c ≡ Single (after_take (λ d. one.ForcePut v (Some d)) (one.ForceTake v) o).action → r ≡ (after_take (λ d. one.ForcePut v (Some d)) (one.ForceTake v) o).reply → Ensues b c r
+  force_takes v a b (Some d) c r same (unseen, (y, k, before, there, (i, g, e))) (j, (was, none_there, (u, w))) is gives =
+      let one_message : y ≡ d = only_one y d (sym there ∙ was) in
+      ensues b c _ r _ is gives (same, (unseen, (log ++ Out k d ∷ [], (k, before, refl), (j ∙ i, u ∙ ap taken_from g, w ∙ e ∙ (λ z. pass p 3 (won_place idle_lines) no_rolls (log ++ Out k (one_message z) ∷ []))))))
+  force_takes v a b None c r same (unseen, (y, k, before, there, (i, g, e))) (j, (stays_there, (u, w))) is gives =
+      ensues b c _ r _ is gives (same, (unseen, (y, k, before, stays_there ∙ there, (j ∙ i, u ∙ g, w ∙ e))))
+
+  force_puts : (v : T) (old : Option T) (a b : SlotCells T W) (o : Result Unit T) (c : CallState T) (r : Option (QueueReply T)) → v ≡ x → Owns Won old a → Did (did_put (At 0) v o) a b
+      → c ≡ Single (after_put (one.ForceUnlock old) (λ w. one.ForcePut w old) o).action → r ≡ (after_put (one.ForceUnlock old) (λ w. one.ForcePut w old) o).reply → Ensues b c r
+  force_puts v old a b (Ok u) c r same (unseen, (between, took, (i, g, e))) (j, (there, (s, w))) is gives =
+      ensues b c _ r _ is gives (there ∙ (λ k. (0, Some (same k)) ∷ []), (unseen, (between, took, (j ∙ i, s, w ∙ e))))
+  force_puts v old a b (Err w) c r same (unseen, (between, took, (i, g, e))) (j, (back, (s, u))) is gives =
+      ensues b c _ r _ is gives (back ∙ same, (unseen, (between, took, (j ∙ i, s ∙ g, u ∙ e))))
+
+  force_unlocks : (old : Option T) (a b : SlotCells T W) (w : ℕ) → a.seat.me.1 ≡ (0, Some x) ∷ [] → Owns Filled old a → Did (bits_kept State 18446744073709551614 w) a b → Forced table p log x (reply.Force (Ok old)) b
+  force_unlocks old a b w there (unseen, (between, took, (i, g, e))) (j, did) =
+      let d = did refl (inl g) in
+      let logs = same_log a.seat.me.0 (won_place idle_lines) 3 between e in
+      (unseen, (between, d.0, took, subst (λ (l : List (Transfer T)). PutBefore d.0 l) logs d.1, subst (λ (l : List (Transfer T)). TookBefore d.0 l) logs d.2, (j ∙ i, d.3.0, d.3.1 ∙ (λ k. giving d.0 (there k) (e k)))))
+
+  force_asked : (q : QueueAsk T) → (a b : SlotCells T W) (c : CallState T) (k : QueueMark) (r : Option (QueueReply T)) → Forces (Asked q) a → StateMakes Did (Bounded 1) a (Asked q) b (record { action = c; mark = k; reply = r }) → Ensues b c r
+  force_asked (ask.ForcePush v) a b c k r (eq, at) (y, (o, did, e), f) = force_tries 0 v a b o c r (inl refl) eq at did ((λ k. (f k).action) ∙ (λ k. Single (e k).action)) ((λ k. (f k).reply) ∙ (λ k. (e k).reply))
+  force_asked (ask.Push v) a b c k r st made = elim st [ ]
+  force_asked ask.Pop a b c k r st made = elim st [ ]
+  force_asked ask.Close a b c k r st made = elim st [ ]
+  force_asked ask.IsClosed a b c k r st made = elim st [ ]
+  force_asked ask.IsEmpty a b c k r st made = elim st [ ]
+  force_asked ask.IsFull a b c k r st made = elim st [ ]
+  force_asked ask.Len a b c k r st made = elim st [ ]
+  force_asked ask.Capacity a b c k r st made = elim st [ ]
+
+  force_acted : (act : SingleAction T) → (a b : SlotCells T W) (c : CallState T) (k : QueueMark) (r : Option (QueueReply T)) → Forces (Single act) a → StateMakes Did (Bounded 1) a (Single act) b (record { action = c; mark = k; reply = r }) → Ensues b c r
+  force_acted (one.Force v n) a b c k r (from, eq, at) (y, (o, did, e), f) = force_tries n v a b o c r from eq at did ((λ k. (f k).action) ∙ (λ k. Single (e k).action)) ((λ k. (f k).reply) ∙ (λ k. (e k).reply))
+  force_acted (one.ForceTake v) a b c k r (eq, at) (y, (o, did, e), f) = force_takes v a b o c r eq at did ((λ k. (f k).action) ∙ (λ k. Single (e k).action)) ((λ k. (f k).reply) ∙ (λ k. (e k).reply))
+  force_acted (one.ForcePut v old) a b c k r (eq, at) (y, (o, did, e), f) = force_puts v old a b o c r eq at did ((λ k. (f k).action) ∙ (λ k. Single (e k).action)) ((λ k. (f k).reply) ∙ (λ k. (e k).reply))
+  force_acted (one.ForceUnlock old) a b c k r (there, at) (y, (o, did, e), f) = ensues b c _ r _ ((λ k. (f k).action) ∙ (λ k. Single (e k).action)) ((λ k. (f k).reply) ∙ (λ k. (e k).reply)) (force_unlocks old a b o there at did)
+  force_acted (one.Push v) a b c k r st made = elim st [ ]
+  force_acted (one.PushPut v) a b c k r st made = elim st [ ]
+  force_acted one.PushUnlock a b c k r st made = elim st [ ]
+  force_acted (one.Pop w) a b c k r st made = elim st [ ]
+  force_acted one.PopTake a b c k r st made = elim st [ ]
+  force_acted (one.PopUnlock v) a b c k r st made = elim st [ ]
+  force_acted one.Close a b c k r st made = elim st [ ]
+  force_acted one.IsClosed a b c k r st made = elim st [ ]
+  force_acted one.IsEmpty a b c k r st made = elim st [ ]
+  force_acted one.IsFull a b c k r st made = elim st [ ]
+  force_acted one.Len a b c k r st made = elim st [ ]
+  force_acted one.Capacity a b c k r st made = elim st [ ]
+  force_acted one.Finished a b c k r st made = elim st [ ]
+
+  force_step : (at : CallState T) → (a b : SlotCells T W) (c : CallState T) (k : QueueMark) (r : Option (QueueReply T)) → Forces at a → StateMakes Did (Bounded 1) a at b (record { action = c; mark = k; reply = r }) → Ensues b c r
+  force_step (Asked q) a b c k r st made = force_asked q a b c k r st made
+  force_step (Single act) a b c k r st made = force_acted act a b c k r st made
+  force_step (Ring act) a b c k r st made = elim st [ ]
+  force_step (Blocks act) a b c k r st made = elim st [ ]
+  force_step Finished a b c k r st made = elim st [ ]
+
+  force_walk : (n : ℕ) (a : SlotCells T W) (at : CallState T) (b : SlotCells T W) (to : CallState T) → Leads (StateMakes Did (Bounded 1)) n a at b to → Forces at a → Forces to b
+  force_walk zero a at b to (e, f) st = subst (λ (c : SlotCells T W). Forces to c) (sym e) (subst (λ (s : CallState T). Forces s a) (sym f) st)
+  force_walk (suc n) a at b to (y, c, (k, h), path) st = force_walk n y c b to path (force_step at a y c k None st h)
+
+  pub forces : (a b : SlotCells T W) (r : QueueReply T) → Idle a → WalkedFrom Did (Bounded 1) (Asked (ask.ForcePush x)) a r b → Forced table p log x r b
+  forces a b r st (n, (d, y, z, k, path, h)) = force_step y d b z k (Some r) (force_walk n a (Asked (ask.ForcePush x)) d y path (refl, st)) h
+
 -- a pop whose pass has these lines and this log
 module _ {T W : Type 0} (table : TableId) (p : ℕ) (l : Lines) (log : List (Transfer T)) where
   abbrev Holds : Stage → View T W → SlotCells T W → Type 0
@@ -254,7 +410,7 @@ module _ {T W : Type 0} (table : TableId) (p : ℕ) (l : Lines) (log : List (Tra
       → s ≡ Single (after_take one.PopUnlock one.PopTake o).action → r ≡ (after_take one.PopUnlock one.PopTake o).reply → Then c s r
   takes b c (Some v) s r (more, (x, k, before, there, (i, g, e))) (j, (was, none_there, (u, w))) is gives =
       let same : x ≡ v = only_one x v (sym there ∙ was) in
-      lands c s _ r _ is gives (more, (k, before, none_there, (j ∙ i, u, w ∙ e ∙ (λ z. pass p 1 (won_message l) no_rolls (log ++ Out k (same z) ∷ [])))))
+      lands c s _ r _ is gives (more, (k, before, none_there, (j ∙ i, u ∙ ap taken_from g, w ∙ e ∙ (λ z. pass p 1 (won_message l) no_rolls (log ++ Out k (same z) ∷ [])))))
   takes b c None s r (more, (x, k, before, there, (i, g, e))) (j, (stays_there, (u, w))) is gives = lands c s _ r _ is gives (more, (x, k, before, stays_there ∙ there, (j ∙ i, u ∙ g, w ∙ e)))
 
   gives_back : (x : T) (b c : SlotCells T W) (w : ℕ) → HasTakenOut x b → Did (bits_kept State 18446744073709551614 w) b c → Popped table p l log (reply.Pop (Ok x)) c

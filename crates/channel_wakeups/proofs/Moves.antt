@@ -19,12 +19,12 @@ use Rattle.channel_wakeups.specs.declared.rule.Sight.{Sight}
 use Rattle.channel_wakeups.specs.declared.rule.Sight.TheVariants.{Shut, Seen, Drained}
 use Rattle.channel_wakeups.specs.Lists.{total, listed}
 use Rattle.channel_wakeups.specs.Log.{Weight, puts, each, held}
-use Rattle.channel_wakeups.specs.Views.{Side, Duty, to_one, to_all, of, roll, listing, with_line, with_roll, pass, changed, won_place, no_place, no_send, won_message, no_message, no_more, all_owing, still_open, found_closed, closer, saw_open, only, is_key, here_of, listed_of, tickets_of, locks_of, owns_of, puts_of, word_of, wanted, messages, places, IsSlot, empty, full, out, Ordered, Kept, Woken, Known, fills, wins, unlocks, shuts, sees, Fair}
+use Rattle.channel_wakeups.specs.Views.{Side, Duty, to_one, to_all, of, roll, listing, with_line, with_roll, pass, changed, won_place, no_place, no_send, won_message, no_message, no_more, all_owing, still_open, found_closed, closer, saw_open, only, is_key, here_of, listed_of, tickets_of, locks_of, owns_of, puts_of, word_of, wanted, messages, places, IsSlot, empty, full, out, Ordered, Kept, Woken, Known, MissesPlace, AtHome, fills, displaces, wins, unlocks, shuts, sees, Fair}
 use Rattle.channel_wakeups.proofs.Sums.{only_some, others, others_free, was, turned, Goes, Tickets, Logs, put_else, took_else}
 use Rattle.channel_wakeups.proofs.Logs.{puts_append, same_logs, saw_logs, put_logs, take_logs, comes_next, goes_next, not_seen, not_drained, sights_stay, sights_same, moved, sights_seen, sights_drained, sights_shut}
 use Rattle.channel_wakeups.proofs.History.{agrees_append, agrees_saw, order_stays, order_grows}
 use Rattle.channel_wakeups.proofs.Sides.{of_with, roll_with, which, Untouched}
-use Rattle.channel_wakeups.proofs.Laws.{no_home, no_true, no_empty, fills_place, wins_place, filled_place, emptied_place, fills_turns, refused_turns, shut_out_turns, wins_turns, rests_turns, drains_turns, shuts_turns, open_turns, closed_turns, gives_turns, Turns, SameTickets, turned_kept, lasts_by, fair_lasts, fair_tickets}
+use Rattle.channel_wakeups.proofs.Laws.{no_home, no_true, no_empty, fills_place, displaced_place, wins_place, filled_place, emptied_place, fills_turns, displaces_turns, refused_turns, shut_out_turns, wins_turns, rests_turns, drains_turns, shuts_turns, open_turns, closed_turns, gives_turns, Turns, SameTickets, turned_kept, lasts_by, fair_lasts, fair_tickets}
 
 -- what the operations make of the word
 abbrev swap : ℕ → ℕ → ℕ → ℕ
@@ -109,15 +109,14 @@ module _ {T W : Type 0} where
   -- ---- a push wins the empty slot, or finds none
 
   module _ (slots id p : ℕ) (l : Lines) (m : Rolls W) (lg : List (Transfer T)) (some_part : 0 < p) where
-    abbrev Filled : ℕ → Known T W → Type 0
-    Filled = fills {T = T} (step slots 0 0 3 none) (pass p 0 l m lg, [])
-
-    abbrev Fill : List (View T W) → ℕ → home.Option (Option T) → Type 0
-    Fill views word slot = Outcome fill Filled (pass p 0 l m lg, []) id views word slot
+    -- what a push, displacing or not, knows where it won nothing
+    abbrev Missed : (ℕ → Known T W → Type 0) → ℕ → Type 0
+    Missed then n = (k : Known T W) → MissesPlace (pass p 0 l m lg, []) n k → then n k
 
     -- it found no place
-    fills_none : (n : ℕ) (slot : home.Option (Option T)) (views : List (View T W)) → get_elem? views id ≡ some (pass p 0 l m lg) → fill n ≡ n → places n ≡ 0 → (n ≡ 0 → ⊥) → clear n 4 ≡ true → clear n 2 ≡ false → Kept n false slot views → Fill views n slot
-    fills_none n slot views at same none_left other is_open is_full k = (
+    push_none : (f : ℕ → ℕ) (then : ℕ → Known T W → Type 0) (n : ℕ) (slot : home.Option (Option T)) (views : List (View T W)) → get_elem? views id ≡ some (pass p 0 l m lg) → f n ≡ n → places n ≡ 0 → clear n 4 ≡ true → clear n 2 ≡ false → AtHome n → Missed then n
+        → Kept n false slot views → Outcome f then (pass p 0 l m lg, []) id views n slot
+    push_none f then n slot views at same none_left is_open is_full home missed k = (
       pass p 0 (no_place l) m lg,
       keeps,
       slot,
@@ -129,12 +128,13 @@ module _ {T W : Type 0} where
       turned_kept n n false false views id p 0 0 l (no_place l) m lg lg some_part at slot slot (refl, refl, refl, refl) (λ a o z i. i) (refused_turns n l none_left)
           (logs_stay p 0 0 l (no_place l) m lg slot slot id views (λ n f. refl)) (order_same p 0 0 l (no_place l) m lg slot slot id views at (λ x e. e))
           (sights_stay n n false (pass p 0 l m lg) (pass p 0 (no_place l) m lg) (λ f. refl) (λ z. z.1)) k,
-      inr (other, inr (inl (is_open, is_full, not_seen views id (pass p 0 l m lg) at some_part (messages n) k.closings, refl))),
+      missed (pass p 0 (no_place l) m lg, []) (inr (inl (is_open, is_full, home, not_seen views id (pass p 0 l m lg) at some_part (messages n) k.closings, refl))),
     )
 
     -- it found the channel closed
-    fills_closed : (n : ℕ) (slot : home.Option (Option T)) (views : List (View T W)) → get_elem? views id ≡ some (pass p 0 l m lg) → fill (n + 4) ≡ n + 4 → (n + 4 ≡ 0 → ⊥) → clear (n + 4) 4 ≡ false → Kept n true slot views → Fill views (n + 4) slot
-    fills_closed n slot views at same other is_closed k = (
+    push_closed : (f : ℕ → ℕ) (then : ℕ → Known T W → Type 0) (n : ℕ) (slot : home.Option (Option T)) (views : List (View T W)) → get_elem? views id ≡ some (pass p 0 l m lg) → f (n + 4) ≡ n + 4 → clear (n + 4) 4 ≡ false → Missed then (n + 4)
+        → Kept n true slot views → Outcome f then (pass p 0 l m lg, []) id views (n + 4) slot
+    push_closed f then n slot views at same is_closed missed k = (
       pass p 0 (no_send l) m (lg ++ Saw Seen ∷ []),
       keeps,
       slot,
@@ -146,8 +146,27 @@ module _ {T W : Type 0} where
       turned_kept n n true true views id p 0 0 l (no_send l) m lg (lg ++ Saw Seen ∷ []) some_part at slot slot (refl, refl, refl, refl) (λ a o z i. i) (shut_out_turns n l)
           (saw_logs W (put_else views id) (took_else views id) slot slot Seen p 0 0 l (no_send l) m lg (λ n f. refl)) (order_saw p 0 0 l (no_send l) m lg Seen slot id views at)
           (sights_seen n p 0 0 l (no_send l) m lg some_part) k,
-      inr (other, inl (is_closed, refl)),
+      missed (pass p 0 (no_send l) m (lg ++ Saw Seen ∷ []), []) (inl (is_closed, refl)),
     )
+
+    -- it will try again: no message is there
+    push_later : (f : ℕ → ℕ) (then : ℕ → Known T W → Type 0) (n : ℕ) (slot : home.Option (Option T)) (views : List (View T W)) → get_elem? views id ≡ some (pass p 0 l m lg) → f n ≡ n → clear n 4 ≡ true → clear n 2 ≡ true → AtHome n → Missed then n
+        → Kept n false slot views → Outcome f then (pass p 0 l m lg, []) id views n slot
+    push_later f then n slot views at same is_open is_empty home missed k =
+        unchanged then f (pass p 0 l m lg, []) id views n false slot at same (missed (pass p 0 l m lg, []) (inr (inr (is_open, is_empty, home, refl)))) k
+
+    -- a word with the first bit is nobody's home
+    not_home : {n : ℕ} → clear n 1 ≡ false → AtHome n
+    not_home locked e = absurd (no_true (sym locked ∙ e))
+
+    abbrev Filled : ℕ → Known T W → Type 0
+    Filled = fills {T = T} (step slots 0 0 3 none) (pass p 0 l m lg, [])
+
+    abbrev Fill : List (View T W) → ℕ → home.Option (Option T) → Type 0
+    Fill views word slot = Outcome fill Filled (pass p 0 l m lg, []) id views word slot
+
+    not_filled : (n : ℕ) → (n ≡ 0 → ⊥) → Missed Filled n
+    not_filled n other k missed = inr (other, missed)
 
     fills_at : (base : ℕ) (shut : Bool) (slot : home.Option (Option T)) (views : List (View T W)) → Kept base shut slot views → get_elem? views id ≡ some (pass p 0 l m lg) → IsSlot base slot (total locks_of views) (total owns_of views) → Fill views (word_of base shut) slot
     fills_at base false slot views k at (empty e d c) =
@@ -166,22 +185,73 @@ module _ {T W : Type 0} where
           inl (refl, not_seen views id (pass p 0 l m lg) at some_part 0 kn.closings, refl),
         )) k
     fills_at base true slot views k at (empty e d c) =
-        as_is fill Filled (pass p 0 l m lg, []) id views base 0 true slot slot e refl (λ kn. fills_closed 0 slot views at refl (λ e. absurd (omega arith)) refl kn) k
+        as_is fill Filled (pass p 0 l m lg, []) id views base 0 true slot slot e refl (λ kn. push_closed fill Filled 0 slot views at refl refl (not_filled 4 (λ e. absurd (omega arith))) kn) k
     fills_at base false slot views k at (full x e d c) =
-        as_is fill Filled (pass p 0 l m lg, []) id views base 2 false slot slot e refl (λ kn. fills_none 2 slot views at refl refl (λ e. absurd (omega arith)) refl refl kn) k
+        as_is fill Filled (pass p 0 l m lg, []) id views base 2 false slot slot e refl (λ kn. push_none fill Filled 2 slot views at refl refl refl refl (λ e. inr refl) (not_filled 2 (λ e. absurd (omega arith))) kn) k
     fills_at base true slot views k at (full x e d c) =
-        as_is fill Filled (pass p 0 l m lg, []) id views base 2 true slot slot e refl (λ kn. fills_closed 2 slot views at refl (λ e. absurd (omega arith)) refl kn) k
+        as_is fill Filled (pass p 0 l m lg, []) id views base 2 true slot slot e refl (λ kn. push_closed fill Filled 2 slot views at refl refl (not_filled 6 (λ e. absurd (omega arith))) kn) k
     fills_at base false slot views k at (out d c e (inl w)) =
-        as_is fill Filled (pass p 0 l m lg, []) id views base 1 false slot slot w refl (λ kn. unchanged Filled fill (pass p 0 l m lg, []) id views 1 false slot at refl (inr ((λ e. absurd (omega arith)), inr (inr (refl, refl, refl)))) kn) k
+        as_is fill Filled (pass p 0 l m lg, []) id views base 1 false slot slot w refl (λ kn. push_later fill Filled 1 slot views at refl refl refl (not_home refl) (not_filled 1 (λ e. absurd (omega arith))) kn) k
     fills_at base true slot views k at (out d c e (inl w)) =
-        as_is fill Filled (pass p 0 l m lg, []) id views base 1 true slot slot w refl (λ kn. fills_closed 1 slot views at refl (λ e. absurd (omega arith)) refl kn) k
+        as_is fill Filled (pass p 0 l m lg, []) id views base 1 true slot slot w refl (λ kn. push_closed fill Filled 1 slot views at refl refl (not_filled 5 (λ e. absurd (omega arith))) kn) k
     fills_at base false slot views k at (out d c e (inr w)) =
-        as_is fill Filled (pass p 0 l m lg, []) id views base 3 false slot slot w refl (λ kn. fills_none 3 slot views at refl refl (λ e. absurd (omega arith)) refl refl kn) k
+        as_is fill Filled (pass p 0 l m lg, []) id views base 3 false slot slot w refl (λ kn. push_none fill Filled 3 slot views at refl refl refl refl (not_home refl) (not_filled 3 (λ e. absurd (omega arith))) kn) k
     fills_at base true slot views k at (out d c e (inr w)) =
-        as_is fill Filled (pass p 0 l m lg, []) id views base 3 true slot slot w refl (λ kn. fills_closed 3 slot views at refl (λ e. absurd (omega arith)) refl kn) k
+        as_is fill Filled (pass p 0 l m lg, []) id views base 3 true slot slot w refl (λ kn. push_closed fill Filled 3 slot views at refl refl (not_filled 7 (λ e. absurd (omega arith))) kn) k
 
     pub fills_so : Allows Woken slots id (pass p 0 l m lg, []) 0 fill Filled
     fills_so = by_rule fill Filled slots id (pass p 0 l m lg, []) (λ base shut slot views k at. fills_at base shut slot views k at k.place)
+
+    -- ---- a displacing push wins the full slot, or finds none
+
+    abbrev DidDisplace : ℕ → Known T W → Type 0
+    DidDisplace = displaces {T = T} (step slots 0 2 3 none) (pass p 0 l m lg, [])
+
+    abbrev Displace : List (View T W) → ℕ → home.Option (Option T) → Type 0
+    Displace views word slot = Outcome (swap 2 3) DidDisplace (pass p 0 l m lg, []) id views word slot
+
+    not_displaced : (n : ℕ) → (n ≡ 2 → ⊥) → Missed DidDisplace n
+    not_displaced n other k missed = inr (other, missed)
+
+    displaces_message : (x : T) (views : List (View T W)) → get_elem? views id ≡ some (pass p 0 l m lg) → Kept 2 false (some (Some x)) views → Displace views 2 (some (Some x))
+    displaces_message x views at kn = (
+      pass p 3 (won_place l) m (lg ++ Out (total (puts_of each) views - 1) x ∷ []),
+      takes 0 (Some x),
+      none,
+      3,
+      false,
+      refl,
+      refl,
+      refl,
+      turned_kept 2 3 false false views id p 0 3 l (won_place l) m lg (lg ++ Out (total (puts_of each) views - 1) x ∷ []) some_part at (some (Some x)) none (refl, refl, refl, refl)
+          (displaced_place T W x p l (won_place l) m lg (lg ++ Out (total (puts_of each) views - 1) x ∷ []) some_part) (displaces_turns l)
+          (take_logs W (put_else views id) (took_else views id) (total (puts_of each) views) p 0 3 l (won_place l) m x lg some_part (was (puts_of each) refl views id (pass p 0 l m lg) at))
+          (takes_order p 3 l (won_place l) m lg x id views some_part at)
+          (sights_stay 2 3 false (pass p 0 l m lg) (pass p 3 (won_place l) m (lg ++ Out (total (puts_of each) views - 1) x ∷ []))
+          (sights_same p 0 3 l (won_place l) m lg (lg ++ Out (total (puts_of each) views - 1) x ∷ []) (moved lg (Out (total (puts_of each) views - 1) x) (λ f. refl))) (λ z. z.1)) kn,
+      inl (refl, not_seen views id (pass p 0 l m lg) at some_part 1 kn.closings, (x, total (puts_of each) views - 1, goes_next views id (pass p 0 l m lg) at some_part x kn.balance, refl)),
+    )
+
+    displaces_at : (base : ℕ) (shut : Bool) (slot : home.Option (Option T)) (views : List (View T W)) → Kept base shut slot views → get_elem? views id ≡ some (pass p 0 l m lg) → IsSlot base slot (total locks_of views) (total owns_of views) → Displace views (word_of base shut) slot
+    displaces_at base false slot views k at (empty e d c) =
+        as_is (swap 2 3) DidDisplace (pass p 0 l m lg, []) id views base 0 false slot slot e refl (λ kn. push_later (swap 2 3) DidDisplace 0 slot views at refl refl refl (λ e. inl refl) (not_displaced 0 (λ e. absurd (omega arith))) kn) k
+    displaces_at base true slot views k at (empty e d c) =
+        as_is (swap 2 3) DidDisplace (pass p 0 l m lg, []) id views base 0 true slot slot e refl (λ kn. push_closed (swap 2 3) DidDisplace 0 slot views at refl refl (not_displaced 4 (λ e. absurd (omega arith))) kn) k
+    displaces_at base false slot views k at (full x e d c) =
+        as_is (swap 2 3) DidDisplace (pass p 0 l m lg, []) id views base 2 false slot (some (Some x)) e d (λ kn. displaces_message x views at kn) k
+    displaces_at base true slot views k at (full x e d c) =
+        as_is (swap 2 3) DidDisplace (pass p 0 l m lg, []) id views base 2 true slot slot e refl (λ kn. push_closed (swap 2 3) DidDisplace 2 slot views at refl refl (not_displaced 6 (λ e. absurd (omega arith))) kn) k
+    displaces_at base false slot views k at (out d c e (inl w)) =
+        as_is (swap 2 3) DidDisplace (pass p 0 l m lg, []) id views base 1 false slot slot w refl (λ kn. push_later (swap 2 3) DidDisplace 1 slot views at refl refl refl (not_home refl) (not_displaced 1 (λ e. absurd (omega arith))) kn) k
+    displaces_at base true slot views k at (out d c e (inl w)) =
+        as_is (swap 2 3) DidDisplace (pass p 0 l m lg, []) id views base 1 true slot slot w refl (λ kn. push_closed (swap 2 3) DidDisplace 1 slot views at refl refl (not_displaced 5 (λ e. absurd (omega arith))) kn) k
+    displaces_at base false slot views k at (out d c e (inr w)) =
+        as_is (swap 2 3) DidDisplace (pass p 0 l m lg, []) id views base 3 false slot slot w refl (λ kn. push_none (swap 2 3) DidDisplace 3 slot views at refl refl refl refl (not_home refl) (not_displaced 3 (λ e. absurd (omega arith))) kn) k
+    displaces_at base true slot views k at (out d c e (inr w)) =
+        as_is (swap 2 3) DidDisplace (pass p 0 l m lg, []) id views base 3 true slot slot w refl (λ kn. push_closed (swap 2 3) DidDisplace 3 slot views at refl refl (not_displaced 7 (λ e. absurd (omega arith))) kn) k
+
+    pub displaces_so : Allows Woken slots id (pass p 0 l m lg, []) 0 (λ n. either (n == 2) 3 n) (displaces {T = T} (step slots 0 2 3 none) (pass p 0 l m lg, []))
+    displaces_so = by_rule (λ n. either (n == 2) 3 n) (displaces {T = T} (step slots 0 2 3 none) (pass p 0 l m lg, [])) slots id (pass p 0 l m lg, []) (λ base shut slot views k at. displaces_at base shut slot views k at k.place)
 
   -- ---- a pop wins the message, or finds none: of an open channel, from 2 to 1, or of a closed one, from 6 to 5
 

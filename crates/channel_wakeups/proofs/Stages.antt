@@ -6,10 +6,10 @@ use prog.Atomic.{either}
 use Rattle.atomic_table.specs.Table.{step, rest, Allows}
 use Rattle.channel_wakeups.specs.declared.rule.View.{View}
 use Rattle.channel_wakeups.specs.declared.stage.Stage.{Stage}
-use Rattle.channel_wakeups.specs.declared.stage.Stage.TheVariants.{Free, Filled, Caught, Emptied}
+use Rattle.channel_wakeups.specs.declared.stage.Stage.TheVariants.{Free, Filled, Caught, Emptied, Seized}
 use Rattle.channel_wakeups.specs.Stages.{having, with_message, IsAt}
-use Rattle.channel_wakeups.specs.Views.{Woken, Known, fills, wins, unlocks, shuts, sees}
-use Rattle.channel_wakeups.proofs.Moves.{fills_so, wins_so, last_so, shuts_so, sees_so, unlocks_filled, unlocks_emptied}
+use Rattle.channel_wakeups.specs.Views.{Woken, Known, fills, displaces, wins, unlocks, shuts, sees}
+use Rattle.channel_wakeups.proofs.Moves.{fills_so, displaces_so, wins_so, last_so, shuts_so, sees_so, unlocks_filled, unlocks_emptied}
 
 -- the slot at hand has a message
 some_message : {T : Type 0} (c : List (ℕ × Option T)) → c ≡ with_message c → (x : T) × (c ≡ (0, Some x) ∷ [])
@@ -31,6 +31,14 @@ module _ {T W : Type 0} where
 
   pub fills_from : (slots id : ℕ) (m : Known T W) (s : Stage) → s ≡ Free → IsAt s m → Allows Woken slots id m 0 (λ n. either (n == 0) 3 n) (fills (step slots 0 0 3 none) m)
   fills_from slots id m s e i = fills_free slots id m (at_stage m s Free e i)
+
+  displaces_free : (slots id : ℕ) (m : Known T W) → IsAt Free m → Allows Woken slots id m 0 (λ n. either (n == 2) 3 n) (displaces (step slots 0 2 3 none) m)
+  displaces_free slots id m (some_part, e, f) =
+      subst (λ (x : Known T W). Allows Woken slots id x 0 (λ n. either (n == 2) 3 n) (displaces (step slots 0 2 3 none) x)) (sym (both m (having 0 m.0) [] e f))
+      (displaces_so slots id m.0.parts m.0.calls m.0.rolls m.0.log some_part)
+
+  pub displaces_from : (slots id : ℕ) (m : Known T W) (s : Stage) → s ≡ Free → IsAt s m → Allows Woken slots id m 0 (λ n. either (n == 2) 3 n) (displaces (step slots 0 2 3 none) m)
+  displaces_from slots id m s e i = displaces_free slots id m (at_stage m s Free e i)
 
   wins_free : (slots id : ℕ) (m : Known T W) → IsAt Free m → Allows Woken slots id m 0 (λ n. either (n == 2) 1 n) (wins 2 (step slots 0 2 1 none) m)
   wins_free slots id m (some_part, e, f) =
@@ -79,9 +87,15 @@ module _ {T W : Type 0} where
   pub unlocks_from : (slots id : ℕ) (m : Known T W) (s : Stage) → (s ≡ Filled) ⊎ (s ≡ Emptied) → IsAt s m → MayUnlock slots id m
   unlocks_from slots id m s which i = ⊎_elim (λ (e : s ≡ Filled). unlocks_full slots id m (at_stage m s Filled e i)) (λ (e : s ≡ Emptied). unlocks_empty slots id m (at_stage m s Emptied e i)) which
 
-  -- a call that won a message has the slot at hand
-  pub caught_held : (m : Known T W) (s : Stage) → s ≡ Caught → IsAt s m → (old : Option T) × (m.1 ≡ (0, old) ∷ rest m.1)
-  caught_held m s e i =
-      let at = at_stage m s Caught e i in
-      let y = some_message m.1 at.2 in
-      (Some y.0, y.1 ∙ (λ k. (0, Some y.0) ∷ rest (sym y.1 k)))
+  -- a call that won a message has the slot at hand, whether it takes it or puts its own there
+  abbrev HasSlot : Known T W → Type 0
+  HasSlot m = (old : Option T) × (m.1 ≡ (0, old) ∷ rest m.1)
+
+  with_slot : (m : Known T W) → m.1 ≡ with_message m.1 → HasSlot m
+  with_slot m e = let y = some_message m.1 e in (Some y.0, y.1 ∙ (λ k. (0, Some y.0) ∷ rest (sym y.1 k)))
+
+  pub caught_held : (m : Known T W) (s : Stage) → s ≡ Caught → IsAt s m → HasSlot m
+  caught_held m s e i = with_slot m (at_stage m s Caught e i).2
+
+  pub seized_held : (m : Known T W) (s : Stage) → s ≡ Seized → IsAt s m → HasSlot m
+  seized_held m s e i = with_slot m (at_stage m s Seized e i).2

@@ -15,7 +15,9 @@ use Rattle.concurrent_queue.specs.declared.error.PopError.{PopError}
 use Rattle.concurrent_queue.specs.declared.error.PopError.TheVariants as pop_error
 use Rattle.concurrent_queue.specs.declared.error.PushError.{PushError}
 use Rattle.concurrent_queue.specs.declared.error.PushError.TheVariants as push_error
-use Rattle.channel_wakeups.specs.Log.{Accounts, Closings, sights, HasPut, HasTaken, HasSeen, NotSeen, NotDrained}
+use Rattle.concurrent_queue.specs.declared.error.ForcePushError.{ForcePushError}
+use Rattle.concurrent_queue.specs.declared.error.ForcePushError.TheVariants as force_error
+use Rattle.channel_wakeups.specs.Log.{Accounts, Closings, sights, HasPut, HasTaken, Replaces, HasSeen, NotSeen, NotDrained}
 use Rattle.channel_wakeups.specs.Seats.{IsCall, IsPass, IsIdle}
 use Rattle.channel_wakeups.specs.declared.polled.Watched.{Watched}
 use Rattle.channel_wakeups.specs.declared.polled.Watched.TheVariants as watched
@@ -62,6 +64,12 @@ module _ {T W : Type 0} where
   PushLeaves table parts holds log x (reply.Push (Err (push_error.Full y))) s = IsIdle table s parts × NotSeen log × (s.me.0.log ≡ log)
   PushLeaves table parts holds log x (reply.Push (Err (push_error.Closed y))) s = IsCall of_sends table s parts 0 holds 0 × HasSeen Seen log s.me.0.log
   PushLeaves table parts holds log x _ s = ⊥
+
+  -- a displacing push that is in answers for its message, and has to tell all streams; one that found the channel closed for nothing
+  abbrev pub ForceLeaves : TableId → ℕ → List (Transfer T) → T → QueueReply T → Seat (Option T) (View T W) → Type 0
+  ForceLeaves table parts log x (reply.Force (Ok old)) s = IsPass of_receives table s parts (calling 1 0 0) to_streams × NotSeen log × Replaces old x log s.me.0.log
+  ForceLeaves table parts log x (reply.Force (Err (force_error.Closed y))) s = IsIdle table s parts × HasSeen Seen log s.me.0.log
+  ForceLeaves table parts log x _ s = ⊥
 
   -- a pop answers for the place of the message that it took, which its log has, and still has this listener of its side in hand. One that
   -- found none answers for nothing; where the channel was closed, it still has the listener in hand
@@ -121,6 +129,12 @@ module _ {T : Type 0} where
   Sent x (Err (push_error.Full y)) log after = (y ≡ x) × NotSeen log × (after ≡ log)
   Sent x (Err (push_error.Closed y)) log after = (y ≡ x) × HasSeen Seen log after
   Sent x (Err (push_error.NoMemory y)) log after = ⊥
+
+  -- what a displacing send put in, with the message that it took out to make room; what the closed channel refused is handed back
+  abbrev pub Displaced : T → Result (Option T) (ForcePushError T) → List (Transfer T) → List (Transfer T) → Type 0
+  Displaced x (Ok old) log after = NotSeen log × Replaces old x log after
+  Displaced x (Err (force_error.Closed y)) log after = (y ≡ x) × HasSeen Seen log after
+  Displaced x (Err (force_error.NoMemory y)) log after = ⊥
 
   -- the first who closes the channel is told so; nobody before had seen it closed
   abbrev pub Closes : Bool → List (Transfer T) → List (Transfer T) → Type 0

@@ -8,17 +8,18 @@ use Rattle.concurrent_queue.specs.declared.call.QueueReply.TheVariants as reply
 use Rattle.concurrent_queue.specs.declared.cells.Word.TheVariants.{State}
 use Rattle.channel_wakeups.specs.declared.cells.SlotCells.{SlotCells}
 use Rattle.channel_wakeups.specs.declared.stage.Stage.{Stage}
-use Rattle.channel_wakeups.specs.declared.stage.Stage.TheVariants.{Free, Won, Filled, Caught, Emptied}
+use Rattle.channel_wakeups.specs.declared.stage.Stage.TheVariants.{Free, Won, Filled, Caught, Emptied, Seized}
 use Rattle.channel_wakeups.specs.declared.rule.Lines.{Lines}
 use Rattle.channel_wakeups.specs.declared.rule.View.{View}
 use Rattle.channel_wakeups.specs.declared.rule.Transfer.{Transfer}
 use Rattle.channel_wakeups.specs.declared.rule.Transfer.TheVariants.{In, Out, Saw}
 use Rattle.channel_wakeups.specs.declared.rule.Sight.TheVariants.{Seen, Drained, Shut}
 use Rattle.concurrent_queue.specs.declared.error.PushError.TheVariants as push_error
+use Rattle.concurrent_queue.specs.declared.error.ForcePushError.TheVariants as force_error
 use Rattle.concurrent_queue.specs.declared.error.PopError.TheVariants as pop_error
-use Rattle.channel_wakeups.specs.Log.{PutBefore, TookBefore, NotSeen, NotDrained}
-use Rattle.channel_wakeups.specs.Views.{pass, no_rolls, won_place, no_place, no_send, won_message, no_message, no_more, all_owing, still_open, found_closed, closer, noted, saw_open, saw_closed}
-use Rattle.channel_wakeups.specs.Stages.{filling, refused, shut_out, taking, resting, draining, giving}
+use Rattle.channel_wakeups.specs.Log.{PutBefore, TookBefore, MayTake, NotSeen, NotDrained}
+use Rattle.channel_wakeups.specs.Views.{pass, AtHome, idle_lines, no_rolls, won_place, no_place, no_send, won_message, no_message, no_more, all_owing, still_open, found_closed, closer, noted, saw_open, saw_closed}
+use Rattle.channel_wakeups.specs.Stages.{filling, displacing, taken_from, refused, shut_out, taking, resting, draining, giving}
 
 module _ {T W : Type 0} where
   -- the call has this of the slot, and its seat knows this
@@ -32,12 +33,16 @@ module _ {T W : Type 0} where
   abbrev pub HasCaught : View T W → SlotCells T W → Type 0
   HasCaught v c = NotDrained v.log × ((m : T) × (k : ℕ) × TookBefore k v.log × (c.seat.me.1 ≡ (0, Some m) ∷ []) × Stands Caught (taking k m v) c)
 
+  -- a displacing push won the slot, with the message that leaves at hand, and in the log
+  abbrev pub HasSeized : View T W → SlotCells T W → Type 0
+  HasSeized v c = NotSeen v.log × ((m : T) × (k : ℕ) × TookBefore k v.log × (c.seat.me.1 ≡ (0, Some m) ∷ []) × Stands Seized (displacing k m v) c)
+
   -- a push that won nothing, and found this word; and a pop
   abbrev pub PushMissed : ℕ → SlotCells T W → SlotCells T W → Type 0
   PushMissed w a b =
       ((clear w 4 ≡ false) × (b.stage ≡ a.stage) × (b.seat.me.0 ≡ shut_out a.seat.me.0))
-      ⊎ (((clear w 4 ≡ true) × (clear w 2 ≡ false) × NotSeen a.seat.me.0.log × (b.stage ≡ a.stage) × (b.seat.me.0 ≡ refused a.seat.me.0))
-      ⊎ ((clear w 4 ≡ true) × (clear w 2 ≡ true) × IsSame a b))
+      ⊎ (((clear w 4 ≡ true) × (clear w 2 ≡ false) × AtHome w × NotSeen a.seat.me.0.log × (b.stage ≡ a.stage) × (b.seat.me.0 ≡ refused a.seat.me.0))
+      ⊎ ((clear w 4 ≡ true) × (clear w 2 ≡ true) × AtHome w × IsSame a b))
 
   abbrev pub PopMissed : ℕ → SlotCells T W → SlotCells T W → Type 0
   PopMissed w a b =
@@ -45,11 +50,13 @@ module _ {T W : Type 0} where
       ⊎ (((clear w 2 ≡ true) × (clear w 4 ≡ true) × NotSeen a.seat.me.0.log × (b.stage ≡ a.stage) × (b.seat.me.0 ≡ resting a.seat.me.0))
       ⊎ ((clear w 2 ≡ true) × (clear w 4 ≡ false) × (b.stage ≡ a.stage) × (b.seat.me.0 ≡ draining a.seat.me.0)))
 
-  -- an exchange of the word: that of a push, from 0 to 3, and that of a pop, from 2 to 1, or of a closed channel from 6 to 5
+  -- an exchange of the word: that of a push, from 0 to 3, and that of a pop, from 2 to 1, or of a closed channel from 6 to 5; and that
+  -- of a displacing push, from 2 to 3
   abbrev pub Exchanged : ℕ → ℕ → Result ℕ ℕ → SlotCells T W → SlotCells T W → Type 0
   Exchanged x y (Ok w) a b =
       (x ≡ 0 → y ≡ 3 → NotSeen a.seat.me.0.log × Stands Won (filling a.seat.me.0) b) × (x ≡ 2 → y ≡ 1 → HasCaught a.seat.me.0 b) × (x ≡ 6 → y ≡ 5 → HasCaught a.seat.me.0 b)
-  Exchanged x y (Err w) a b = (x ≡ 0 → y ≡ 3 → PushMissed w a b) × (x ≡ 2 → y ≡ 1 → PopMissed w a b) × (x ≡ 6 → y ≡ 5 → PopMissed w a b)
+      × (x ≡ 2 → y ≡ 3 → HasSeized a.seat.me.0 b)
+  Exchanged x y (Err w) a b = (x ≡ 0 → y ≡ 3 → PushMissed w a b) × (x ≡ 2 → y ≡ 1 → PopMissed w a b) × (x ≡ 6 → y ≡ 5 → PopMissed w a b) × (x ≡ 2 → y ≡ 3 → PushMissed w a b)
 
   -- the closed bit was set, of a call that has nothing of the slot; and it was looked at
   abbrev pub ShutBy : ℕ → SlotCells T W → SlotCells T W → Type 0
@@ -67,7 +74,7 @@ module _ {T W : Type 0} where
   Put m (Err v) a b = (v ≡ m) × IsSame a b
 
   abbrev pub Taken : Option T → SlotCells T W → SlotCells T W → Type 0
-  Taken (Some m) a b = (a.seat.me.1 ≡ (0, Some m) ∷ []) × (b.seat.me.1 ≡ (0, None) ∷ []) × Stands Emptied a.seat.me.0 b
+  Taken (Some m) a b = (a.seat.me.1 ≡ (0, Some m) ∷ []) × (b.seat.me.1 ≡ (0, None) ∷ []) × Stands (taken_from a.stage) a.seat.me.0 b
   Taken None a b = (b.seat.me.1 ≡ a.seat.me.1) × IsSame a b
 
   -- the slot was given back, with what was at hand
@@ -101,6 +108,14 @@ module _ {T W : Type 0} where
   Pushed table p l log x (reply.Push (Err (push_error.Full y))) c = NotSeen log × IsOver table p (no_place l) log c
   Pushed table p l log x (reply.Push (Err (push_error.Closed y))) c = IsOver table p (no_send l) (log ++ Saw Seen ∷ []) c
   Pushed table p l log x _ c = ⊥
+
+  -- a displacing push of an idle pass has answered: it answers for its message, which it put in, and has taken out the one that stood in
+  -- its way; or found the channel closed
+  abbrev pub Forced : TableId → ℕ → List (Transfer T) → T → QueueReply T → SlotCells T W → Type 0
+  Forced table p log x (reply.Force (Ok old)) c =
+      NotSeen log × ((between : List (Transfer T)) × (k : ℕ) × MayTake old log between × PutBefore k between × TookBefore k between × IsOver table p (won_place idle_lines) (between ++ In k x ∷ []) c)
+  Forced table p log x (reply.Force (Err (force_error.Closed y))) c = IsOver table p idle_lines (log ++ Saw Seen ∷ []) c
+  Forced table p log x _ c = ⊥
 
   -- a pop has answered: it answers for the place of the message that it took; or there was a moment without a message; or there will be
   -- none

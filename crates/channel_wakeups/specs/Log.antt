@@ -112,6 +112,15 @@ module _ {T : Type 0} where
   abbrev pub HasTaken : T → List (Transfer T) → List (Transfer T) → Type 0
   HasTaken x log after = (k : ℕ) × TookBefore k log × (after ≡ log ++ Out k x ∷ [])
 
+  -- the message was taken out, if there was one
+  abbrev pub MayTake : Option T → List (Transfer T) → List (Transfer T) → Type 0
+  MayTake None log after = after ≡ log
+  MayTake (Some x) log after = HasTaken x log after
+
+  -- a message was put in, and the one that stood in its way, if there was one, was taken out before
+  abbrev pub Replaces : Option T → T → List (Transfer T) → List (Transfer T) → Type 0
+  Replaces old x log after = (between : List (Transfer T)) × MayTake old log between × HasPut x between after
+
   -- no call of this pass found the channel closed; and none found it closed without a message
   abbrev pub NotSeen : List (Transfer T) → Type 0
   NotSeen log = sights each_sight log ≡ 0

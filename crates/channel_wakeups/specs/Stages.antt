@@ -4,7 +4,7 @@ use Rattle.channel_wakeups.specs.declared.rule.View.{View}
 use Rattle.channel_wakeups.specs.declared.rule.Transfer.TheVariants.{Out, Saw}
 use Rattle.channel_wakeups.specs.declared.rule.Sight.TheVariants.{Seen, Drained}
 use Rattle.channel_wakeups.specs.declared.stage.Stage.{Stage}
-use Rattle.channel_wakeups.specs.declared.stage.Stage.TheVariants.{Free, Won, Filled, Caught, Emptied}
+use Rattle.channel_wakeups.specs.declared.stage.Stage.TheVariants.{Free, Won, Filled, Caught, Emptied, Seized}
 use Rattle.channel_wakeups.specs.Views.{won_place, no_place, no_send, won_message, no_message, no_more, stepped, Known, given}
 
 module _ {T W : Type 0} where
@@ -22,6 +22,10 @@ module _ {T W : Type 0} where
   -- or found the channel closed, and has its listener in hand still
   abbrev pub shut_out : View T W → View T W
   shut_out v = stepped 0 (no_send v.calls) (v.log ++ Saw Seen ∷ []) v
+
+  -- a displacing push won the slot with this message, which leaves
+  abbrev pub displacing : ℕ → T → View T W → View T W
+  displacing k x v = stepped 3 (won_place v.calls) (v.log ++ Out k x ∷ []) v
 
   -- a pop won this message, and answers for one place more; or found none, and answers for no message any more
   abbrev pub taking : ℕ → T → View T W → View T W
@@ -45,6 +49,12 @@ word_at Won = 3
 word_at Filled = 3
 word_at Caught = 1
 word_at Emptied = 1
+word_at Seized = 3
+
+-- where a call stands once the message is out of the slot
+abbrev pub taken_from : Stage → Stage
+taken_from Seized = Won
+taken_from _ = Emptied
 
 module _ {T : Type 0} where
   -- the slot with its message, of which it is so that it is the slot with its message
@@ -60,6 +70,7 @@ module _ {T : Type 0} where
   slot_at Filled c = with_message c
   slot_at Caught c = with_message c
   slot_at Emptied c = (0, None) ∷ []
+  slot_at Seized c = with_message c
 
 -- what a seat knows and has at hand at each stage
 abbrev pub IsAt : {T W : Type 0} → Stage → Known T W → Type 0

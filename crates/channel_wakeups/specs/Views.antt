@@ -323,6 +323,10 @@ has_message word = not (clear word 2)
 abbrev pub is_shut : ℕ → Bool
 is_shut word = not (clear word 4)
 
+-- an open word that nobody has is that of an empty slot, or of a full one
+abbrev pub AtHome : ℕ → Type 0
+AtHome word = clear word 1 ≡ true → (word ≡ 0) ⊎ (word ≡ 2)
+
 -- THE LAW: where a listener waits untold, no more are owed than are answered for; or a call under way has that listener in hand
 abbrev pub Owed : ℕ → ℕ → ℕ → ℕ → Type 0
 Owed count waiting answering holding = 0 < waiting → (count ≤ answering) ⊎ (0 < holding)
@@ -369,8 +373,8 @@ module _ {T W : Type 0} where
   abbrev pub MissesPlace : Known T W → ℕ → Known T W → Type 0
   MissesPlace m found m' =
       ((clear found 4 ≡ false) × (m' ≡ (stepped 0 (no_send m.0.calls) (m.0.log ++ Saw Seen ∷ []) m.0, [])))
-      ⊎ (((clear found 4 ≡ true) × (clear found 2 ≡ false) × NotSeen m.0.log × (m' ≡ (stepped 0 (no_place m.0.calls) m.0.log m.0, [])))
-      ⊎ ((clear found 4 ≡ true) × (clear found 2 ≡ true) × (m' ≡ m)))
+      ⊎ (((clear found 4 ≡ true) × (clear found 2 ≡ false) × AtHome found × NotSeen m.0.log × (m' ≡ (stepped 0 (no_place m.0.calls) m.0.log m.0, [])))
+      ⊎ ((clear found 4 ≡ true) × (clear found 2 ≡ true) × AtHome found × (m' ≡ m)))
 
   -- what the steps on the word tell: a push won the empty slot, and answers for a message; where there was none to win, the call may
   -- end, and leave its listener behind; where the channel was closed it still has its listener in hand
@@ -378,6 +382,13 @@ module _ {T W : Type 0} where
   fills st m found m' =
       ((found ≡ 0) × NotSeen m.0.log × (m' ≡ (stepped 3 (won_place m.0.calls) m.0.log m.0, (0, None) ∷ [])))
       ⊎ ((found ≡ 0 → ⊥) × MissesPlace m found m')
+
+  -- a displacing push won the full slot: the message that is in it leaves, and the call answers for its own
+  abbrev pub displaces : Step (Option T) → Known T W → ℕ → Known T W → Type 0
+  displaces st m found m' =
+      ((found ≡ 2) × NotSeen m.0.log
+      × ((x : T) × (k : ℕ) × TookBefore k m.0.log × (m' ≡ (stepped 3 (won_place m.0.calls) (m.0.log ++ Out k x ∷ []) m.0, (0, Some x) ∷ []))))
+      ⊎ ((found ≡ 2 → ⊥) × MissesPlace m found m')
 
   -- a pop won nothing: there is a message, at another word or on its way in; or the channel was empty, or closed and empty
   abbrev pub MissesMessage : Known T W → ℕ → Known T W → Type 0

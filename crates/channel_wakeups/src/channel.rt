@@ -2,7 +2,7 @@
 
 ghost use Rattle.std.specs.Prelude.{◌≡◌, ◌⊎◌, ℕ, ◌+◌, ◌-◌, ◌/◌, ◌<◌, [], ◌++◌, true, false, is_some};
 ghost use Rattle.atomic_table.specs.Seated.{TableId};
-ghost use Rattle.channel_wakeups.specs.Calls.{held, is_pending, is_waiting, is_watching, Closes, Hand, IsClosed, Looked, Offers, Received, Sent, Watches};
+ghost use Rattle.channel_wakeups.specs.Calls.{held, is_pending, is_waiting, is_watching, Closes, Displaced, Hand, IsClosed, Looked, Offers, Received, Sent, Watches};
 ghost use Rattle.channel_wakeups.specs.Seats.{IsIdle, IsTicket};
 ghost use Rattle.channel_wakeups.specs.Views.{everything};
 
@@ -14,9 +14,9 @@ use crate::polled::{Offered, Polled, Watched};
 use crate::rule::{Closings, Receives, Room, Sends, Streams, Waiting};
 use crate::telling::Desks;
 use crate::wake::Wake;
-use crate::{at_rest, offers, shutting, takes, waits};
+use crate::{at_rest, displacing, offers, shutting, takes, waits};
 use atomic_table::Table;
-use concurrent_queue::PushError;
+use concurrent_queue::{ForcePushError, PushError};
 use std::alloc::{AllocError, Global};
 use std::marker::{Model, PhantomData};
 use std::sync::{Mutex, Wait};
@@ -200,6 +200,21 @@ impl<T: Drop, W: Wake, B: Room> SlotChannel<T, W, B> {
         ensures sent { Sent message result pass.old.log pass.new.log }
     {
         offers::send(rt, &self.table, &self.desks(), &mut pass.seat, message)
+    }
+
+    /// Puts the message into the slot, in place of the one that is there, if there is one, and wakes the first receive and all streams that
+    /// wait untold. The message that left is answered. It tells no send, since no place came free. `Err` hands the message back: the
+    /// channel is closed. It may wait, as `try_send` may.
+    pub fn force_send<R: Wait>(
+        &self,
+        rt: &R,
+        pass: &mut Pass<T, W, B>,
+        message: T,
+    ) -> Result<Option<T>, ForcePushError<T>>
+        ensures pass { pass.new.parts ≡ pass.old.parts }
+        ensures displaced { Displaced message result pass.old.log pass.new.log }
+    {
+        displacing::displace(rt, &self.table, &self.desks(), &mut pass.seat, message)
     }
 
     /// Polls a send: it puts the message in, and wakes the first receive and all streams that wait untold, or waits with this task. The

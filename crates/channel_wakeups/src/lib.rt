@@ -6,6 +6,7 @@ pub mod at_rest;
 mod cells;
 pub mod channel;
 mod desk;
+mod displacing;
 pub mod listeners;
 mod made;
 mod offers;

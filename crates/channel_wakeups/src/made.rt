@@ -4,7 +4,7 @@ ghost use Rattle.std.specs.Prelude.{◌≡◌, ◌<◌, true, false, IfErr, IfOk
 ghost use Rattle.concurrent_queue.specs.Replies.{MayAnswer};
 ghost use Rattle.concurrent_queue.specs.declared.call.QueueAsk.TheVariants as ask;
 ghost use Rattle.concurrent_queue.specs.declared.cells.QueueForm.TheVariants.{Bounded};
-ghost use Rattle.channel_wakeups.specs.Calls.{PushLeaves, PopLeaves, CloseLeaves, AskLeaves, PushRefused, PopRefused, Sent, Found, Closes, IsClosed, to_streams, to_others};
+ghost use Rattle.channel_wakeups.specs.Calls.{PushLeaves, ForceLeaves, PopLeaves, CloseLeaves, AskLeaves, PushRefused, PopRefused, Sent, Displaced, Found, Closes, IsClosed, to_streams, to_others};
 ghost use Rattle.channel_wakeups.specs.Seats.{IsCall, IsPass, IsIdle};
 ghost use Rattle.channel_wakeups.specs.Views.{of, of_receives, of_sends, of_closings, only_on, calling, telling};
 
@@ -12,7 +12,7 @@ use crate::cells::{Place, SlotCells, SlotTable};
 use crate::rule::Taking;
 use crate::stage::Stage;
 use concurrent_queue::queue_call::whole::complete;
-use concurrent_queue::{PopError, PushError, QueueCall, QueueReply};
+use concurrent_queue::{ForcePushError, PopError, PushError, QueueCall, QueueReply};
 use std::sync::Wait;
 
 /// Every step of the queue's push on the slot.
@@ -34,6 +34,28 @@ fn make_push<T: Drop, W: Drop, R: Wait>(
         stage: Stage::Free,
     };
     let reply = complete(rt, QueueCall::push(message), &mut cells);
+    (reply, cells.into_seat())
+}
+
+/// Every step of the queue's displacing push on the slot.
+#[inline(always)]
+fn make_force<T: Drop, W: Drop, R: Wait>(
+    rt: &R,
+    table: &SlotTable<T, W>,
+    seat: Place<T, W>,
+    message: T,
+) -> (QueueReply<T>, Place<T, W>)
+    requires table { 0 < table.now.shared.table_id.words }
+    requires idle { IsIdle table.now.shared.table_id seat seat.me.0.parts }
+    ensures leaves { ForceLeaves table.now.shared.table_id seat.me.0.parts seat.me.0.log message result.0 result.1 }
+    ensures answers { MayAnswer (Bounded 1) (ask.ForcePush message) result.0 }
+{
+    let mut cells = SlotCells {
+        table,
+        seat,
+        stage: Stage::Free,
+    };
+    let reply = complete(rt, QueueCall::force_push(message), &mut cells);
     (reply, cells.into_seat())
 }
 
@@ -120,6 +142,30 @@ pub(crate) fn push<T: Drop, W: Drop, R: Wait>(
             Err(PushError::Closed(refused)),
             call,
         ),
+        _ => unreachable!(),
+    }
+}
+
+/// Pushes the message, for which the call answers then, in place of the one that is there, if there is one: that one is answered. `Err`
+/// hands the message back: the channel is closed.
+pub(crate) fn force<T: Drop, W: Drop, R: Wait>(
+    rt: &R,
+    table: &SlotTable<T, W>,
+    call: Place<T, W>,
+    message: T,
+) -> (Result<Option<T>, ForcePushError<T>>, Place<T, W>)
+    requires table { 0 < table.now.shared.table_id.words }
+    requires call { IsIdle table.now.shared.table_id call call.me.0.parts }
+    ensures ok { IfOk result.0 (λ _. IsPass of_receives table.now.shared.table_id result.1 call.me.0.parts (calling 1 0 0) to_streams) }
+    ensures err { IfErr result.0 (λ _. IsIdle table.now.shared.table_id result.1 call.me.0.parts) }
+    ensures log { Displaced message result.0 call.me.0.log result.1.me.0.log }
+{
+    let (reply, call) = make_force(rt, table, call, message);
+    match reply {
+        QueueReply::Force(Ok(old)) => (Ok(old), call),
+        QueueReply::Force(Err(ForcePushError::Closed(refused))) => {
+            (Err(ForcePushError::Closed(refused)), call)
+        }
         _ => unreachable!(),
     }
 }

@@ -277,6 +277,15 @@ impl<T, W> Play<Option<T>, View<T, W>> for Fills {
     ghost then = { fills };
 }
 
+/// A displacing push wins the full slot, or finds none.
+pub(crate) struct Displaces;
+
+impl<T, W> Play<Option<T>, View<T, W>> for Displaces {
+    ghost use Rattle.channel_wakeups.specs.Views.{displaces};
+
+    ghost then = { displaces };
+}
+
 /// A pop wins the message of an open channel, or finds none.
 pub(crate) struct Wins;
 

@@ -7,7 +7,7 @@ ghost use Rattle.concurrent_queue.specs.declared.cells.Word.TheVariants.{State};
 ghost use Rattle.channel_wakeups.specs.Cells.{Did};
 
 use crate::cells::SlotCells;
-use crate::rule::{Fills, Sees, Shuts, Unlocks, Wins, WinsLast};
+use crate::rule::{Displaces, Fills, Sees, Shuts, Unlocks, Wins, WinsLast};
 use crate::stage::Stage;
 use concurrent_queue::NoMemory;
 use concurrent_queue::cells::{Cells, QueueForm, Slot, Word};
@@ -43,6 +43,24 @@ impl<'a, T: Drop, W: Drop> SlotCells<'a, T, W> {
             .compare_exchange::<Fills>(&mut self.seat, 0, EMPTY, FILLING);
         if found == EMPTY {
             self.stage = Stage::Won;
+            Ok(found)
+        } else {
+            Err(found)
+        }
+    }
+
+    /// A displacing push wins the full slot, with the message that leaves.
+    #[inline(always)]
+    fn displace(&mut self) -> Result<u64, u64>
+        requires { self.old.stage ≡ Stage.Free }
+        ensures { Did (exchanged State 2 3 result) self.old self.new }
+    {
+        let found = self
+            .table
+            .shared
+            .compare_exchange::<Displaces>(&mut self.seat, 0, FULL, FILLING);
+        if found == FULL {
+            self.stage = Stage::Seized;
             Ok(found)
         } else {
             Err(found)
@@ -162,6 +180,9 @@ impl<'a, T: Drop, W: Drop> Cells<T> for SlotCells<'a, T, W> {
             if expected == EMPTY && next == FILLING {
                 return self.fill();
             }
+            if expected == FULL && next == FILLING {
+                return self.displace();
+            }
             if expected == FULL && next == TAKING {
                 return self.catch();
             }
@@ -211,6 +232,11 @@ impl<'a, T: Drop, W: Drop> Cells<T> for SlotCells<'a, T, W> {
             Stage::Caught => {
                 let found = self.table.shared.exchange(&mut self.seat, 0, None);
                 self.stage = Stage::Emptied;
+                found
+            }
+            Stage::Seized => {
+                let found = self.table.shared.exchange(&mut self.seat, 0, None);
+                self.stage = Stage::Won;
                 found
             }
             _ => None,

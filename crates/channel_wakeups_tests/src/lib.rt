@@ -7,7 +7,7 @@ use channel_wakeups::{
     Closing, Offered, Opened, Pass, Polled, Receive, Rest, Room, Sending, SlotChannel, Streaming,
     Watched,
 };
-use concurrent_queue::PushError;
+use concurrent_queue::{ForcePushError, PushError};
 use std::alloc::Global;
 use std::marker::Brand;
 use std::sync::Wait;
@@ -685,6 +685,49 @@ pub fn close_beside_a_stream<R: Wait>(rt: &R, alloc: Global) -> Option<(bool, Re
 {
     let opened = Opened::new(alloc).ok()?;
     Some(close_beside_a_stream_in::<Brand, R>(rt, opened))
+}
+
+/// A message is put in and displaced by another, which is received. A receive and a stream wait then, and a third is put in, which stays
+/// there when the channel is closed. What left each time, whether both waited, and how the channel was then. Whether a fourth was refused.
+fn displace_in<B: Room, R: Wait>(rt: &R, opened: Opened<u64, ()>) -> ([bool; 5], Rest)
+    requires { opened ≡ B.table }
+{
+    let (channel, mut all) = opened.enter::<B>();
+    let mut receive = Receive::new();
+    let mut send = Sending::new();
+    let mut stream = Streaming::new();
+    let mut closing = Closing::new();
+    let left = channel.force_send(rt, &mut all, 1);
+    let none = matches!(left, Ok(None));
+    let left = channel.force_send(rt, &mut all, 2);
+    let first = matches!(left, Ok(Some(1)));
+    let polled = channel.poll_recv(rt, &mut all, &mut receive, ());
+    let second = matches!(polled, Polled::Ready(2));
+    let polled = channel.poll_recv(rt, &mut all, &mut receive, ());
+    let one = matches!(polled, Polled::Pending);
+    let polled = channel.poll_next(rt, &mut all, &mut stream, ());
+    let two = matches!(polled, Polled::Pending);
+    let _ = channel.force_send(rt, &mut all, 3);
+    let rest = channel.look(
+        rt,
+        &mut all,
+        &mut receive,
+        &mut send,
+        &mut stream,
+        &mut closing,
+    );
+    let _ = channel.close(rt, &mut all);
+    let left = channel.force_send(rt, &mut all, 4);
+    let refused = matches!(left, Err(ForcePushError::Closed(4)));
+    channel.give_up_recv(rt, &mut all, receive);
+    channel.give_up_stream(rt, &mut all, stream);
+    ([none, first, second, one && two, refused], rest)
+}
+
+/// The same, from nothing.
+pub fn displace<R: Wait>(rt: &R, alloc: Global) -> Option<([bool; 5], Rest)> {
+    let opened = Opened::new(alloc).ok()?;
+    Some(displace_in::<Brand, R>(rt, opened))
 }
 
 #[cfg(test)]

@@ -132,3 +132,18 @@ fn a_close_ends_a_stream(rt: HostRuntime) {
     };
     assert_eq!(rt; found, Some((true, rest, true)));
 }
+
+// A displacing send gives back what it displaced, wakes a receive and a stream that wait, and is refused by a closed channel.
+#[test]
+fn a_displacing_send_wakes(rt: HostRuntime) {
+    let found = displace(&rt, rt.alloc());
+    let rest = Rest {
+        message: true,
+        closed: false,
+        receive_told: true,
+        send_told: false,
+        stream_told: true,
+        closing_told: false,
+    };
+    assert_eq!(rt; found, Some(([true; 5], rest)));
+}
