@@ -59,3 +59,17 @@ fn a_message_for_a_crowd_of_streams_is_settled(rt: HostRuntime) -> Result<(), Fa
     expect_equal(&rt, &world.messages(), &0);
     Ok(())
 }
+
+/// A closing wakes thirty thousand streams, each of which ends. Room is asked for as many polls and as many more, which is little; room for
+/// a poll of each by each would be more than most machines have.
+#[test]
+fn a_closing_for_a_crowd_of_streams_is_settled(rt: HostRuntime) -> Result<(), Fail> {
+    let mut world = crowd(rt.alloc(), 30_000).expect(&rt, "memory");
+    let handle = HandleId(0);
+    let closed = make(&mut world, rt.alloc(), Call::Close { handle });
+    expect_equal(&rt, &closed, &Some(()));
+    expect_equal(&rt, &(world.pending(), world.woken()), &(30_000, 30_000));
+    expect_equal(&rt, &settle(&mut world), &Some(30_000));
+    expect_equal(&rt, &(world.pending(), world.woken()), &(0, 0));
+    Ok(())
+}

@@ -1,10 +1,16 @@
 //! Clients of a world whose promises follow from its own clauses and laws, in the numbers that it tells, with no file of proofs
 //! here. They are proved; nothing runs them.
+//!
+//! Seven promises are found so, of any type of messages. After any steps who sleeps is answered for: `step_and_look`. A run that
+//! did not stop has used its list up: `use_up`. Beside a message that is held after settling nobody receives: `settle_and_look`.
+//! Where one is pending, settling makes one poll at most: `settle_one`. Where nobody is under way and nobody is woken, nobody sleeps
+//! beside a message: `nobody_sleeps`. Accounts are carried through calls, steps and calls: `carry` of `clients`. And a record has as many
+//! entries as the gathered seats made calls: `gather` of `recorded_channel_tests`, in `uses`.
 
-ghost use Rattle.std.specs.Prelude.{◌≡◌, ◌+◌, ◌≤◌, [], length, None, Some, true, IfOk, IfSome, vec_len};
+ghost use Rattle.std.specs.Prelude.{◌≡◌, ◌+◌, ◌<◌, ◌≤◌, [], length, None, Some, true, IfOk, IfSome, vec_len};
 ghost use Rattle.channel_calls.specs.declared.stage.Line.TheVariants.{Receives, Streams};
-ghost use Rattle.channel_world.specs.Asleep.{NobodySleeps};
-ghost use Rattle.channel_world.specs.View.{at_rest, IsQuiet};
+ghost use Rattle.channel_world.specs.Asleep.{woken_among, ClosingIsAnswered, NobodySleeps, ReceivesAreAnswered, SendsAreAnswered, StreamsAreAnswered};
+ghost use Rattle.channel_world.specs.View.{at_rest, calls_in, messages_in, IsQuiet};
 
 use crate::clients::Settling;
 use channel_world::laws::who_sleeps_is_answered_for;
@@ -27,6 +33,45 @@ pub fn make<T: Drop>(world: &mut World<T>, steps: &mut VecDeque<Step<T>>) -> usi
 {
     let run = world.run_steps(steps);
     run.trace.len()
+}
+
+/// What a world tells after some steps.
+#[derive(Drop)]
+pub struct Told<T> {
+    /// What was done.
+    pub run: Run<T>,
+    /// How many messages it holds.
+    pub messages: u64,
+    /// How many of those who are pending were woken.
+    pub woken: usize,
+    /// How many calls are under way.
+    pub under_way: usize,
+}
+
+/// Makes steps in whatever world, calls begun before included, wherever the list ends: then who sleeps is answered for, in the numbers
+/// that the world tells. Beside a receive that sleeps there are no more messages than woken ones and calls under way. Beside a send, on
+/// an open channel, there are no more places than messages, woken ones, calls under way, and places that such calls have freed and not
+/// announced yet. Beside a stream and a message a call is under way, and beside anybody on a closed channel. So where the world tells
+/// that no call is under way no stream sleeps beside a message, and no receive where it tells that nobody is woken.
+pub fn step_and_look<T: Drop>(world: &mut World<T>, steps: &mut VecDeque<Step<T>>) -> Told<T>
+    ensures messages { result.messages ≡ messages_in world.new }
+    ensures woken { result.woken ≡ woken_among world.new }
+    ensures under_way { result.under_way ≡ calls_in world.new }
+    ensures receives { ReceivesAreAnswered world.new }
+    ensures sends { SendsAreAnswered world.new }
+    ensures streams { StreamsAreAnswered world.new }
+    ensures closing { ClosingIsAnswered world.new }
+    ensures no_stream { result.under_way ≡ 0 → 0 < result.messages → NobodySleeps Streams world.new }
+    ensures no_receive { result.under_way ≡ 0 → result.woken ≡ 0 → 0 < result.messages → NobodySleeps Receives world.new }
+{
+    let run = world.run_steps(steps);
+    who_sleeps_is_answered_for(world);
+    Told {
+        run,
+        messages: world.messages(),
+        woken: world.woken(),
+        under_way: world.under_way(),
+    }
 }
 
 /// Settles whatever world has no call under way, and says whether a message is held after it: then nobody receives in vain.
