@@ -103,7 +103,7 @@ fn alone(
 }
 
 /// What steps of others did to the list, in their order.
-#[derive(Clone, Copy, Debug)]
+#[derive(Clone, Copy)]
 struct Events {
     events: [Option<Event>; 6],
     count: usize,

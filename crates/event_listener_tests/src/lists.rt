@@ -6,9 +6,11 @@
 //! |---|---|---|
 //! | `listens N` | N times an insertion, whose listener registers under its number | how many wait |
 //! | `tells N TAG` | N additional notices, each for one, with this tag | how many told one |
-//! | `each CALL FROM TO` | this call of every second listener from one number on and before the other; `replace` is a discard, an insertion, and a registration by the old key, which is refused and visits its place alone | what the last one answers, and how many answer the same |
+//! | `each CALL FROM TO` | this call of every second listener from one number on and before the other | the last one's answer, and of how many |
 //! | `most_visits` | | the most visits of one of these calls since it was asked before |
 //! | `woken_by FIRST STEP` | | how many were woken, where they are these in turn |
+//!
+//! A call `replace` is a discard, an insertion, and a registration by the old key, which is refused and visits its place alone.
 
 use crate::notices::{Counted, Names, count_steps, write_numbers};
 use crate::units::notified;

@@ -8,22 +8,29 @@ use crate::beside::woken::{LINES, Woken, place_of, task_of};
 use crate::beside::{ALL, Events, Other, is_owed};
 use crate::checks::expect_none;
 use crate::said::Said;
+use channel_calls::ask::ChannelAsk;
 use channel_calls::plain::PlainChannel;
+use channel_calls::several::Limit;
 use channel_calls::stage::Line;
 use concurrent_queue::cells::QueueForm;
+use event_listener::key::Key;
 use std::alloc::{AllocError, Global};
 use std::process::Abort;
 use std::sync::Wait;
-use std::test::Fail;
 
-/// The calls that come between.
-const OTHERS: [Kind; 6] = [
+/// The calls that come between. One that leaves has the first listener of its list.
+const OTHERS: [Kind; 11] = [
     Kind::TrySend,
     Kind::ForceSend,
     Kind::TryRecv,
+    Kind::RecvMany,
     Kind::Close,
     Kind::PollSend,
+    Kind::SendLeaves,
     Kind::PollRecv,
+    Kind::RecvLeaves,
+    Kind::PollNext,
+    Kind::PollClosed,
 ];
 
 /// A call that blocks its thread tries some times before it listens, each time alike. The others come at the last so many of its
@@ -41,7 +48,7 @@ const CHANGES: [Kind; 4] = [Kind::TrySend, Kind::ForceSend, Kind::TryRecv, Kind:
 
 /// What is made of a channel: the call, the others, the operation before which they come, and how many steps the first of them
 /// makes there.
-#[derive(Clone, Copy, Debug)]
+#[derive(Clone, Copy)]
 struct Case {
     kind: Kind,
     first: Kind,
@@ -50,7 +57,53 @@ struct Case {
     steps: u32,
 }
 
+/// What no list explains: the calls, the operation and the steps of the case, what they said, and whether nobody was left asleep and each
+/// list has those who wait there.
+type Wrong = ([&'static str; 3], [u32; 2], [Said; 3], [bool; 2]);
+
 impl Case {
+    /// That this came of it is explained by no list.
+    fn wrong(self, outcome: &Outcome) -> Wrong {
+        let names = [self.kind.name(), self.first.name(), self.second.name()];
+        let [first, second] = outcome.others;
+        let waits = [!outcome.is_lost, outcome.is_counted];
+        (
+            names,
+            [self.turn, self.steps],
+            [outcome.said, first, second],
+            waits,
+        )
+    }
+
+    /// Whether the call and the first other one are for different listeners, and the other's is there.
+    fn is_apart(self, start: Start) -> bool {
+        match self.first.line() {
+            Some(line) if self.first.is_again() => {
+                let is_same = self.kind.is_again() && self.kind.line() == Some(line);
+                start.has_waiting(line) && !is_same
+            }
+            _ => true,
+        }
+    }
+
+    /// What the first other one asks.
+    fn first_ask(self, keys: [Option<Key>; 4], alloc: Global) -> ChannelAsk<u64, u32> {
+        match self.first {
+            Kind::RecvMany => ChannelAsk::RecvMany(Limit::new(2, alloc)),
+            Kind::SendLeaves => ChannelAsk::GiveUp(Line::Sends, Some(WAITING), keys[0]),
+            Kind::RecvLeaves => ChannelAsk::GiveUp(Line::Receives, None, keys[1]),
+            first => first.ask(8, 3),
+        }
+    }
+
+    /// The task of the listener by which the first other one leaves.
+    fn leaving(self) -> Option<u32> {
+        match self.first.line() {
+            Some(line) if self.first.is_again() => Some(task_of(line, 0)),
+            _ => None,
+        }
+    }
+
     /// The call. One that waits in the start has its listener there.
     fn called(self, begun: &Begun) -> Called {
         let line = self.kind.line().unwrap_or(Line::Closings);
@@ -75,8 +128,10 @@ impl Case {
     fn waiting(self, begun: [usize; 4], said: [Said; 3], line: Line) -> usize {
         let place = place_of(line);
         let mut waiting: usize = if place < 4 { begun[place] } else { 0 };
-        if self.kind.is_again() && self.kind.line() == Some(line) {
-            waiting = waiting.saturating_sub(1);
+        for kind in [self.kind, self.first] {
+            if kind.is_again() && kind.line() == Some(line) {
+                waiting = waiting.saturating_sub(1);
+            }
         }
         for (kind, said) in [
             (self.kind, said[0]),
@@ -113,12 +168,13 @@ fn looked_after(
     (is_lost, is_counted && cells.most_listeners() == most)
 }
 
-/// The cells on which the others come as this case says, for a call with this task.
+/// The cells on which the others come as this case says, of which the first asks this, for a call with this task.
 fn laid<'a, R: Wait>(
     rt: &'a R,
     cells: PlainChannel<u64, u32>,
     bound: usize,
     case: Case,
+    first: ChannelAsk<u64, u32>,
     task: u32,
 ) -> Beside<'a, R> {
     Beside {
@@ -128,7 +184,7 @@ fn laid<'a, R: Wait>(
         made: 0,
         turn: case.turn,
         steps: case.steps,
-        first: Other::new(case.first.ask(8, 3), 8),
+        first: Other::new(first, 8),
         second: Other::new(case.second.ask(9, 4), 9),
         events: Events::new(),
         came_whole: false,
@@ -145,7 +201,8 @@ fn laid<'a, R: Wait>(
 fn make<R: Wait>(rt: &R, alloc: Global, start: Start, begun: Begun, case: Case) -> Outcome {
     let called = case.called(&begun);
     let waiting = begun.waiting;
-    let mut beside = laid(rt, begun.cells, start.bound, case, called.task);
+    let first = case.first_ask(begun.keys, alloc);
+    let mut beside = laid(rt, begun.cells, start.bound, case, first, called.task);
     let mut sink = Woken::new();
     let said = said_at_once(rt, alloc, called, &mut beside, &mut sink);
     let ended = beside.events.count;
@@ -154,6 +211,10 @@ fn make<R: Wait>(rt: &R, alloc: Global, start: Start, begun: Begun, case: Case) 
         sink.clear(called.task);
     }
     beside.let_on(ALL, ALL);
+    if let Some(task) = case.leaving() {
+        beside.woken.clear(task);
+        sink.clear(task);
+    }
     let others = [
         beside.first.said.unwrap_or(Said::GoesOn),
         beside.second.said.unwrap_or(Said::GoesOn),
@@ -182,14 +243,14 @@ fn wrong_at<R: Wait>(
     alloc: Global,
     start: Start,
     mut case: Case,
-) -> Result<(Option<(Case, Outcome)>, bool), AllocError> {
+) -> Result<(Option<Wrong>, bool), AllocError> {
     for steps in case.steps..ALL {
         case.steps = steps;
         let begun = start.begin(alloc)?;
         let (plain, message) = (begun.plain, case.called(&begun).message);
         let outcome = make(rt, alloc, start, begun, case);
         if !outcome.is_explained(case.kind, message, plain) {
-            return Ok((Some((case, outcome)), true));
+            return Ok((Some(case.wrong(&outcome)), true));
         }
         if !outcome.came {
             return Ok((None, false));
@@ -208,7 +269,7 @@ fn wrong_beside<R: Wait>(
     start: Start,
     kinds: [Kind; 3],
     steps: u32,
-) -> Result<Option<(Case, Outcome)>, AllocError> {
+) -> Result<Option<Wrong>, AllocError> {
     let [kind, first, second] = kinds;
     let mut case = Case {
         kind,
@@ -217,6 +278,9 @@ fn wrong_beside<R: Wait>(
         turn: NEVER,
         steps,
     };
+    if !case.is_apart(start) {
+        return Ok(None);
+    }
     let alone = make(rt, alloc, start, start.begin(alloc)?, case);
     let from = alone.listened.saturating_sub(BEFORE).max(1);
     for turn in from..NEVER {
@@ -238,7 +302,7 @@ fn wrong_of<R: Wait>(
     alloc: Global,
     start: Start,
     kind: Kind,
-) -> Result<Option<(Case, Outcome)>, AllocError> {
+) -> Result<Option<Wrong>, AllocError> {
     for first in OTHERS {
         let wrong = wrong_beside(rt, alloc, start, [kind, first, Kind::IsClosed], 1)?;
         if wrong.is_some() {
@@ -287,6 +351,9 @@ const UNBOUNDED: Starts = [
     (0, 1, true, false),
 ];
 
+/// A channel: whether it has a bound, how many messages have passed and are in it, and whether it is closed and somebody waits.
+type Place = (usize, [u64; 2], [bool; 2]);
+
 /// The first of these channels and what no list explains of this call there.
 fn wrong_in<R: Wait>(
     rt: &R,
@@ -294,7 +361,7 @@ fn wrong_in<R: Wait>(
     form: QueueForm,
     starts: Starts,
     kind: Kind,
-) -> Result<Option<(Start, Case, Outcome)>, AllocError> {
+) -> Result<Option<(Place, Wrong)>, AllocError> {
     for (passed, messages, closed, waited) in starts {
         let start = Start {
             form,
@@ -310,15 +377,16 @@ fn wrong_in<R: Wait>(
         if kind.is_again() && !waited {
             continue;
         }
-        if let Some((case, outcome)) = wrong_of(rt, alloc, start, kind)? {
-            return Ok(Some((start, case, outcome)));
+        if let Some(wrong) = wrong_of(rt, alloc, start, kind)? {
+            let place = (start.bound, [passed, messages], [closed, waited]);
+            return Ok(Some((place, wrong)));
         }
     }
     Ok(None)
 }
 
 /// These calls, each on each channel of each form, beside others.
-fn check<R: Wait + Abort>(rt: &R, alloc: Global, kinds: &[Kind]) -> Result<(), Fail> {
+fn check<R: Wait + Abort>(rt: &R, alloc: Global, kinds: &[Kind]) {
     let forms = [
         (QueueForm::Bounded(1), ONE_SLOT),
         (QueueForm::Bounded(2), RING_OF_TWO),
@@ -326,67 +394,66 @@ fn check<R: Wait + Abort>(rt: &R, alloc: Global, kinds: &[Kind]) -> Result<(), F
     ];
     for (form, starts) in forms {
         for kind in kinds {
-            let wrong = wrong_in(rt, alloc, form, starts, *kind)?;
-            expect_none(rt, kind, &wrong);
+            let wrong = wrong_in(rt, alloc, form, starts, *kind).expect(rt, "memory");
+            expect_none(rt, &kind.name(), &wrong);
         }
     }
-    Ok(())
 }
 
 #[test]
-fn a_send_beside_others(rt: HostRuntime) -> Result<(), Fail> {
-    check(&rt, rt.alloc(), &[Kind::TrySend])
+fn a_send_beside_others(rt: HostRuntime) {
+    check(&rt, rt.alloc(), &[Kind::TrySend]);
 }
 
 #[test]
-fn a_displacing_send_beside_others(rt: HostRuntime) -> Result<(), Fail> {
-    check(&rt, rt.alloc(), &[Kind::ForceSend])
+fn a_displacing_send_beside_others(rt: HostRuntime) {
+    check(&rt, rt.alloc(), &[Kind::ForceSend]);
 }
 
 #[test]
-fn a_receive_beside_others(rt: HostRuntime) -> Result<(), Fail> {
-    check(&rt, rt.alloc(), &[Kind::TryRecv])
+fn a_receive_beside_others(rt: HostRuntime) {
+    check(&rt, rt.alloc(), &[Kind::TryRecv]);
 }
 
 #[test]
-fn a_receive_of_two_beside_others(rt: HostRuntime) -> Result<(), Fail> {
-    check(&rt, rt.alloc(), &[Kind::RecvMany])
+fn a_receive_of_two_beside_others(rt: HostRuntime) {
+    check(&rt, rt.alloc(), &[Kind::RecvMany]);
 }
 
 #[test]
-fn a_closing_beside_others(rt: HostRuntime) -> Result<(), Fail> {
-    check(&rt, rt.alloc(), &[Kind::Close, Kind::PollClosed])
+fn a_closing_beside_others(rt: HostRuntime) {
+    check(&rt, rt.alloc(), &[Kind::Close, Kind::PollClosed]);
 }
 
 #[test]
-fn a_polled_send_beside_others(rt: HostRuntime) -> Result<(), Fail> {
+fn a_polled_send_beside_others(rt: HostRuntime) {
     let kinds = [Kind::PollSend, Kind::SendAgain, Kind::SendLeaves];
-    check(&rt, rt.alloc(), &kinds)
+    check(&rt, rt.alloc(), &kinds);
 }
 
 #[test]
-fn a_polled_receive_beside_others(rt: HostRuntime) -> Result<(), Fail> {
+fn a_polled_receive_beside_others(rt: HostRuntime) {
     let kinds = [Kind::PollRecv, Kind::RecvAgain, Kind::RecvLeaves];
-    check(&rt, rt.alloc(), &kinds)
+    check(&rt, rt.alloc(), &kinds);
 }
 
 #[test]
-fn a_stream_beside_others(rt: HostRuntime) -> Result<(), Fail> {
-    check(&rt, rt.alloc(), &[Kind::PollNext, Kind::NextAgain])
+fn a_stream_beside_others(rt: HostRuntime) {
+    check(&rt, rt.alloc(), &[Kind::PollNext, Kind::NextAgain]);
 }
 
 #[test]
-fn a_send_that_blocks_beside_others(rt: HostRuntime) -> Result<(), Fail> {
-    check(&rt, rt.alloc(), &[Kind::SendBlocking])
+fn a_send_that_blocks_beside_others(rt: HostRuntime) {
+    check(&rt, rt.alloc(), &[Kind::SendBlocking]);
 }
 
 #[test]
-fn a_receive_that_blocks_beside_others(rt: HostRuntime) -> Result<(), Fail> {
-    check(&rt, rt.alloc(), &[Kind::RecvBlocking])
+fn a_receive_that_blocks_beside_others(rt: HostRuntime) {
+    check(&rt, rt.alloc(), &[Kind::RecvBlocking]);
 }
 
 #[test]
-fn questions_beside_others(rt: HostRuntime) -> Result<(), Fail> {
+fn questions_beside_others(rt: HostRuntime) {
     let kinds = [
         Kind::IsClosed,
         Kind::IsEmpty,
@@ -394,5 +461,5 @@ fn questions_beside_others(rt: HostRuntime) -> Result<(), Fail> {
         Kind::IsTerminated,
         Kind::Len,
     ];
-    check(&rt, rt.alloc(), &kinds)
+    check(&rt, rt.alloc(), &kinds);
 }

@@ -16,7 +16,7 @@ use std::sync::Wait;
 
 /// What is called. Of a poll that is made again, and of an operation that is given up, the listener is the first that the queue's
 /// start has on its list.
-#[derive(Clone, Copy, Debug, PartialEq, Eq)]
+#[derive(Clone, Copy, PartialEq, Eq)]
 pub(crate) enum Kind {
     TrySend,
     ForceSend,
@@ -42,6 +42,33 @@ pub(crate) enum Kind {
 }
 
 impl Kind {
+    /// What the call is called.
+    pub(crate) fn name(self) -> &'static str {
+        match self {
+            Kind::TrySend => "try_send",
+            Kind::ForceSend => "force_send",
+            Kind::TryRecv => "try_recv",
+            Kind::RecvMany => "recv_many",
+            Kind::Close => "close",
+            Kind::PollSend => "poll of a send",
+            Kind::SendAgain => "poll of a send that waits",
+            Kind::SendLeaves => "send that leaves",
+            Kind::PollRecv => "poll of a receive",
+            Kind::RecvAgain => "poll of a receive that waits",
+            Kind::RecvLeaves => "receive that leaves",
+            Kind::PollNext => "poll of a stream",
+            Kind::NextAgain => "poll of a stream that waits",
+            Kind::PollClosed => "poll for the closing",
+            Kind::SendBlocking => "send_blocking",
+            Kind::RecvBlocking => "recv_blocking",
+            Kind::IsClosed => "is_closed",
+            Kind::IsEmpty => "is_empty",
+            Kind::IsFull => "is_full",
+            Kind::IsTerminated => "is_terminated",
+            Kind::Len => "len",
+        }
+    }
+
     /// The list on which it may wait.
     pub(crate) fn line(self) -> Option<Line> {
         match self {
@@ -89,7 +116,7 @@ impl Kind {
 }
 
 /// The call, with its message, and with the listener and the task of the operation where it has them.
-#[derive(Clone, Copy, Debug)]
+#[derive(Clone, Copy)]
 pub(crate) struct Called {
     pub(crate) kind: Kind,
     pub(crate) message: u64,

@@ -6,7 +6,7 @@ use crate::beside::plain::{Later, Plain};
 use crate::said::Said;
 
 /// What came of it.
-#[derive(Clone, Copy, Debug)]
+#[derive(Clone, Copy)]
 pub(crate) struct Outcome {
     /// What the call said.
     pub(crate) said: Said,
@@ -28,10 +28,11 @@ pub(crate) struct Outcome {
     pub(crate) came_whole: bool,
 }
 
-/// The message that a call says it took, or 0.
+/// The message that a call says it took, the last one of several, or 0.
 fn taken(said: Said) -> u64 {
     match said {
         Said::Received(message) | Said::Sent(Some(message)) => message,
+        Said::Several(_, last) => last,
         _ => 0,
     }
 }

@@ -5,7 +5,7 @@ use crate::said::Said;
 use channel_calls::mark::Mark;
 
 /// What a step of a call did to the list, with the call's message, and which call it was.
-#[derive(Clone, Copy, Debug)]
+#[derive(Clone, Copy)]
 pub(crate) struct Event {
     pub(crate) mark: Mark,
     pub(crate) message: u64,
@@ -13,7 +13,7 @@ pub(crate) struct Event {
 }
 
 /// What a call still does to the list at a later moment.
-#[derive(Clone, Copy, Debug, PartialEq, Eq)]
+#[derive(Clone, Copy)]
 pub(crate) enum Later {
     /// Nothing.
     Nothing,
@@ -27,7 +27,7 @@ pub(crate) enum Later {
 const ROOM: usize = 8;
 
 /// A list of messages, oldest first, with a bound or without one.
-#[derive(Clone, Copy, Debug, PartialEq, Eq)]
+#[derive(Clone, Copy, PartialEq, Eq)]
 pub(crate) struct Plain {
     messages: [u64; ROOM],
     count: usize,

@@ -14,7 +14,7 @@ use std::alloc::{AllocError, Global};
 
 /// A channel, and what is in it when the calls begin. Where somebody waits, two sends wait on a full one, two receives and a stream
 /// on an empty one, and on each somebody waits for the closing.
-#[derive(Clone, Copy, Debug)]
+#[derive(Clone, Copy)]
 pub(crate) struct Start {
     pub(crate) form: QueueForm,
     pub(crate) bound: usize,
@@ -37,6 +37,15 @@ pub(crate) struct Begun {
 pub(crate) const WAITING: u64 = 5;
 
 impl Start {
+    /// Whether somebody waits on this list who may leave it.
+    pub(crate) fn has_waiting(self, line: Line) -> bool {
+        match line {
+            Line::Sends => self.waited && self.messages > 0,
+            Line::Receives => self.waited && self.messages == 0,
+            _ => false,
+        }
+    }
+
     /// The channel. So many messages have passed through it before.
     pub(crate) fn begin(self, alloc: Global) -> Result<Begun, AllocError> {
         let cells = match self.form {

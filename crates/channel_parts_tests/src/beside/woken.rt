@@ -34,7 +34,7 @@ pub(crate) fn task_of(line: Line, who: u32) -> u32 {
 }
 
 /// A sink that notes of each task whether it was woken.
-#[derive(Clone, Copy, Debug)]
+#[derive(Clone, Copy)]
 pub(crate) struct Woken {
     tasks: [bool; TASKS],
 }
