@@ -81,3 +81,76 @@ fn settlings(rt: HostRuntime) {
     expect_true(&rt, refused > 0);
     expect_equal(&rt, &numbers, &AFTER);
 }
+
+/// A settling of a world in which a closing woke a hundred streams.
+#[derive(Drop)]
+struct SettlesMany {
+    calls: Calls,
+}
+
+/// All of them are woken.
+const MANY: Numbers = Numbers {
+    messages: 0,
+    under_way: 0,
+    pending: 100,
+    woken: 100,
+};
+
+/// Each has ended.
+const NOBODY: Numbers = Numbers {
+    messages: 0,
+    under_way: 0,
+    pending: 0,
+    woken: 0,
+};
+
+impl Attempt for SettlesMany {
+    fn make(&mut self) -> Tried {
+        if !self.calls.world.is_quiet() {
+            return Tried::Wrong;
+        }
+        match self.calls.world.settle() {
+            Ok(polls) => {
+                let count = polls.len();
+                drop(polls);
+                made(count == 100 && numbers_of(&self.calls.world) == NOBODY)
+            }
+            Err(NoMemory) => refused(numbers_of(&self.calls.world) == MANY),
+        }
+    }
+}
+
+/// A world without a bound in which a hundred streams wait and are woken by its closing; none where a call was refused.
+fn many(alloc: Global) -> Option<Calls> {
+    let mut calls = Calls::open(alloc, false)?;
+    for number in 2..102u32 {
+        let is_made = calls.make_at_once(Ask::CloneReceiver(number), Said::Made);
+        if !is_made || !calls.make_at_once(Ask::Next(number), Said::Pending) {
+            return None;
+        }
+    }
+    if calls.make_at_once(Ask::Close, Said::Shut) {
+        Some(calls)
+    } else {
+        None
+    }
+}
+
+/// Settles them; then how often that was refused.
+fn settle_many(alloc: Global) -> Option<(Seen, u32)> {
+    let mut settles = SettlesMany {
+        calls: many(alloc)?,
+    };
+    let mut scarcity = Scarcity::new(alloc);
+    let refused = scarcity.refuse_each(&mut settles);
+    Some((scarcity.end(), refused))
+}
+
+/// A settling asks for room for as many polls as it may make and no more: here for two hundred, for which there is at last room. A poll
+/// of each by each would need more than is ever left.
+#[test]
+fn settlings_of_many(rt: HostRuntime) {
+    let (seen, refused) = settle_many(rt.alloc()).expect(&rt, "memory");
+    expect_seen(&rt, &seen, 1, 8);
+    expect_true(&rt, refused > 0);
+}

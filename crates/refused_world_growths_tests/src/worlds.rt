@@ -292,6 +292,13 @@ impl Calls {
         })
     }
 
+    /// Makes a call with what memory there is. Whether it was made.
+    pub fn make_at_once(&mut self, ask: Ask, said: Said) -> bool {
+        self.ask = ask;
+        self.said = said;
+        self.make() == Tried::Made
+    }
+
     /// Makes a call until it isn't refused.
     pub fn make_call(&mut self, scarcity: &mut Scarcity, ask: Ask, said: Said) {
         self.ask = ask;
