@@ -61,7 +61,7 @@ fn a_message_for_a_crowd_of_streams_is_settled(rt: HostRuntime) -> Result<(), Fa
 }
 
 /// A closing wakes thirty thousand streams, each of which ends. Room is asked for as many polls and as many more, which is little; room for
-/// a poll of each by each would be more than most machines have.
+/// a poll of each by each would be tens of gigabytes, which many machines refuse.
 #[test]
 fn a_closing_for_a_crowd_of_streams_is_settled(rt: HostRuntime) -> Result<(), Fail> {
     let mut world = crowd(rt.alloc(), 30_000).expect(&rt, "memory");

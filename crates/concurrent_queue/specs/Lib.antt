@@ -1,6 +1,6 @@
 -- What is promised of a queue. `Queue` is a queue with calls under way, and what each call's next step may do; `Rows` what
 -- a call may answer, by its steps and by the moments that it saw; `Scene` one entry of a run, and `Run` whole runs. Their
--- laws: `Accounts` (nothing is lost), `Bounds` (never more than fit, closed once), `Lone` (a call that nobody holds up ends)
+-- laws: `Accounts` (nothing is lost), `Bounds` (never more than fit, closed once), `Lone` (a call whose others are quiet ends)
 -- and `Whole` (no push is whole at its first step). A queue of one owner is said in `Alone`, `Room` and `Walk`, one that
 -- threads share in `SharedQueue`, `Replies` and `Turns`, and what a refusal says in `Errors`. `Step` is the promise of one
 -- step of one call among any others, over the cells of `Contents`; `Capacity` and `Made` say which queues there are.

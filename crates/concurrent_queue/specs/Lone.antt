@@ -26,7 +26,7 @@ module _ {T : Type 0} where
   OthersQuietOf p s =
       (before behind : List (CallUnderWay T)) (mine : CallUnderWay T) → s.under_way ≡ before ++ mine ∷ behind → mine.party ≡ p → OthersQuiet s.now (before ++ behind)
 
--- from wherever a run has come, a call that nobody holds up replies within its next 64 steps, where these are the next ones
+-- from wherever a run has come, a call whose others are quiet replies within its next 64 steps, where these are the next ones
 abbrev pub LoneCallsEnd : Type 0 → Type 0
 LoneCallsEnd T =
     (form : QueueForm) (start : Contents T) (made : List (QueueStep T)) (trace : List (QueueEntry T)) (f : Config T) → IsRun (opened_config start form) made trace f

@@ -11,7 +11,7 @@ use Rattle.concurrent_queue.specs.declared.call.QueueReply.{QueueReply}
 use Rattle.concurrent_queue.specs.declared.call.QueueEntry.{QueueEntry}
 
 -- a call under way: whose it is, what it asks, its marks, oldest first, the moments since it began, newest first, and how
--- many silent steps it has left at most, if nothing else is done and nobody holds it up
+-- many silent steps it has left at most, if nothing else is done and the others are quiet
 pub record CallUnderWay (T : Type 0) : Type 0 where
   pub party : ℕ
   pub ask : QueueAsk T

@@ -2,7 +2,7 @@
 ghost use Rattle.std.specs.Prelude.{◌≡◌};
 
 use crate::checks::expect_equal;
-use crate::seats::{finish, two_seats};
+use crate::seats::{finish, finish_two, two_seats};
 use channel_world::call::Call;
 use channel_world::name::HandleId;
 use channel_world::{MissingSeat, RecordSeat, RecordedChannel, SeatsUsedUp};
@@ -114,4 +114,26 @@ fn no_seat_is_made_of_one_part(rt: HostRuntime) {
     expect_equal(&rt, &none, &(true, 0));
     let one = nobody::<Brand, HostRuntime>(&rt, Blank::new(1), 1);
     expect_equal(&rt, &one, &(true, 0));
+}
+
+/// How many entries the record has of a channel of a blank of five parts, of which two became seats: each made a call, and both are
+/// gathered.
+fn two_of_four<L: Ledger, R: Wait + Abort + AllocGlobal>(rt: &R, blank: Blank) -> usize
+    requires name { blank.name ≡ L.name }
+    requires parts { (blank.parts ≡ L.parts) × (blank.parts ≡ 5) }
+{
+    let mut ids = EventIds::new();
+    let opened = RecordedChannel::<u64, L>::bounded(rt.alloc(), 1, &mut ids, blank, 5);
+    let channel = opened.ok().expect(rt, "memory");
+    let (mut first, mut second) = two_seats(rt, &channel);
+    let _ = channel.call(rt, &mut first, LEN);
+    let _ = channel.call(rt, &mut second, LEN);
+    finish_two(rt, channel, first, second).len()
+}
+
+/// All seats are gathered where all that were made are, however many the ledger has parts for.
+#[test]
+fn fewer_seats_than_parts_are_gathered(rt: HostRuntime) {
+    let entries = two_of_four::<Brand, HostRuntime>(&rt, Blank::new(5));
+    expect_equal(&rt, &entries, &2);
 }
