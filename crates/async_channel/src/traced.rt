@@ -1,8 +1,8 @@
 //! The calls of a channel with a trace of the caller's, which sees each deed that a call does to its channel, and no other.
 //!
-//! Each is one body for whatever trace, and has no other way to the cells of a channel than by the trace that it was given. So its
-//! clause `walked` says of the trace, before and after, what was done: the deeds of the call's machine, from its first turn to the very
-//! answer that came out. The calls of handles and operations are these with a trace of no size, which can't be made here.
+//! Each is one body for whatever trace, and makes its call on cells that show each deed to the trace that it was given. So its clause
+//! `walked` says of the trace, before and after, what was done: the deeds of the call's machine, from its first turn to the very answer
+//! that came out. That it touches nothing else, and tells the trace nothing itself, is to be read here. The calls of handles and operations are these with a trace of no size, which can't be made here.
 
 mod counts;
 mod operations;
