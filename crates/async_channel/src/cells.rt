@@ -2,6 +2,7 @@
 
 use crate::shared::Shared;
 use channel_calls::cells::ChannelCells;
+use channel_calls::raised::Counters;
 use channel_calls::stage::{Line, Side};
 use channel_calls::words::ChannelWords;
 use concurrent_queue::call::QueueReply;
@@ -11,8 +12,32 @@ use event_listener::key::Key;
 use event_listener::wakes::Wakes;
 use event_listener::waking::Task;
 use std::sync::Wait;
-use std::sync::atomic::Ordering;
+use std::sync::atomic::{AtomicUsize, Ordering};
 use std::{mem, thread};
+
+/// The counts of a channel's handles. The cells of this file alone reach them: so no other body can count, or lower what is counted,
+/// but by a deed.
+#[derive(Drop)]
+pub(crate) struct Counts {
+    counters: Counters,
+}
+
+impl Counts {
+    /// These counts, for the cells alone.
+    pub(crate) fn new(counters: Counters) -> Counts {
+        Counts { counters }
+    }
+
+    /// The count of this kind of handles.
+    fn of(&self, side: Side) -> &AtomicUsize {
+        self.counters.of(side)
+    }
+
+    /// How many handles of this kind are counted.
+    fn now(&self, side: Side) -> usize {
+        self.of(side).load(Ordering::SeqCst)
+    }
+}
 
 /// A shared queue's cells, four locked lists and two shared counts. Nothing is known of what they hold, since any thread
 /// may step on them at any time. A call that blocks its thread has a bed beside them.
@@ -71,11 +96,11 @@ impl<'a, T: Drop, R: Wait, B: Drop> ChannelCells<T, Task> for SharedCells<'a, T,
     }
 
     fn count(&mut self, side: Side) -> usize {
-        self.shared.count(side)
+        self.shared.counts.now(side)
     }
 
     fn lower(&mut self, side: Side) -> usize {
-        self.shared.counter(side).fetch_sub(1, Ordering::SeqCst)
+        self.shared.counts.of(side).fetch_sub(1, Ordering::SeqCst)
     }
 
     // Where another handle came between, the call reads the count again, and lets others run first.
@@ -83,7 +108,7 @@ impl<'a, T: Drop, R: Wait, B: Drop> ChannelCells<T, Task> for SharedCells<'a, T,
         let Some(next) = from.checked_add(1) else {
             return false;
         };
-        let counter = self.shared.counter(side);
+        let counter = self.shared.counts.of(side);
         let raised = counter.compare_exchange(from, next, Ordering::SeqCst, Ordering::SeqCst);
         if raised.is_err() {
             thread::yield_now();
@@ -110,6 +135,6 @@ impl<'a, T: Drop> ChannelWords<T, Task> for SharedWords<'a, T> {
     }
 
     fn count(&mut self, side: Side) -> usize {
-        self.shared.count(side)
+        self.shared.counts.now(side)
     }
 }

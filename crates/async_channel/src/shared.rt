@@ -9,7 +9,7 @@ ghost use Rattle.channel_calls.specs.declared.reply.Reply.TheVariants as reply;
 ghost use Rattle.async_channel.specs.Handles.{form_of};
 
 use crate::bed::Bed;
-use crate::cells::{SharedCells, SharedWords};
+use crate::cells::{Counts, SharedCells, SharedWords};
 use crate::seen::{Seen, Trace};
 use crate::waiters::{Turn, Waiters};
 use channel_calls::questions;
@@ -19,7 +19,6 @@ use concurrent_queue::shared::queue::ConcurrentQueue;
 use futures::task::Source;
 use std::alloc::Global;
 use std::sync::Wait;
-use std::sync::atomic::{AtomicUsize, Ordering};
 
 /// A queue, four lists of listeners and two counts of handles.
 ///
@@ -35,7 +34,7 @@ pub(crate) struct Shared<T: Drop> {
     receives: Waiters,
     streams: Waiters,
     closings: Waiters,
-    counters: Counters,
+    pub(crate) counts: Counts,
 }
 
 impl<T: Drop> Shared<T> {
@@ -58,7 +57,7 @@ impl<T: Drop> Shared<T> {
             receives: Waiters::new(alloc),
             streams: Waiters::new(alloc),
             closings: Waiters::new(alloc),
-            counters,
+            counts: Counts::new(counters),
         }
     }
 
@@ -71,16 +70,6 @@ impl<T: Drop> Shared<T> {
             Line::Streams => self.streams.turn(),
             Line::Closings => self.closings.turn(),
         }
-    }
-
-    /// The count of this kind of handles.
-    pub(crate) fn counter(&self, side: Side) -> &AtomicUsize {
-        self.counters.of(side)
-    }
-
-    /// How many handles of this kind are counted.
-    pub(crate) fn count(&self, side: Side) -> usize {
-        self.counter(side).load(Ordering::SeqCst)
     }
 
     /// The cells of the channel, for a thread that may wait, seen by this trace.
