@@ -27,9 +27,9 @@ use Rattle.channel_interleaving.specs.Counted.{tally, is_strong, strong_lives, l
 use Rattle.channel_interleaving.specs.Floor.{parts_in, Shown, IsQuiet, Stands}
 use Rattle.channel_interleaving.specs.declared.floor.Floor.{Floor}
 use Rattle.channel_interleaving.specs.declared.names.Hold.{Hold}
-use Rattle.channel_world.specs.Counts.{strong_of, live, to_lower, to_close, CountsLive, OpenHasBoth, AreByDrops, CountsAtRest}
+use Rattle.channel_world.specs.Counts.{strong_of, live, CountsLive, OpenHasBoth, AreByDrops, CountsAtRest}
 use Rattle.channel_world.proofs.CountDrops.{by_drops}
-use Rattle.channel_world.specs.View.{counted, view_of}
+use Rattle.channel_world.specs.View.{counted, to_lower, to_close, view_of}
 
 -- ---- handles
 

@@ -10,11 +10,10 @@ use Rattle.channel_model.specs.declared.name.HandleKind.TheVariants.{Sender, Rec
 use Rattle.channel_model.specs.declared.name.Waiter.{Waiter}
 use Rattle.channel_steps.specs.Moments.{LeftLast}
 use Rattle.channel_steps.specs.Scene.{Under, Scene}
-use Rattle.channel_steps.specs.declared.party.Party.{Party}
-use Rattle.channel_interleaving.specs.Counted.{tally, is_lowering, is_closing}
+use Rattle.channel_interleaving.specs.Counted.{is_lowering, is_closing}
 use Rattle.channel_interleaving.specs.Owners.{All}
 use Rattle.channel_interleaving.specs.Roll.{names_of}
-use Rattle.channel_world.specs.View.{names_in, is_closed, counted, at_rest, active_calls, IsQuiet, StandsIn, WorldView}
+use Rattle.channel_world.specs.View.{names_in, is_closed, counted, to_lower, to_close, at_rest, IsQuiet, StandsIn, WorldView}
 
 -- the strong handles of a side
 abbrev pub strong_of : Side → HandleKind
@@ -25,14 +24,6 @@ module _ {T : Type 0} where
   -- how many strong handles of this side live under the names of the world
   abbrev pub live : Side → WorldView T → ℕ
   live side w = live_of (strong_of side) (names_of (names_in w)).handles
-
-  -- how many drops of such handles are under way whose next step lowers the count; what they drop lives under no name
-  abbrev pub to_lower : Side → WorldView T → ℕ
-  to_lower side w = tally (λ (p : Party T Waiter). is_lowering side p.call.stage) (active_calls w)
-
-  -- how many drops of the last one, which are at closing the channel
-  abbrev pub to_close : Side → WorldView T → ℕ
-  to_close side w = tally (λ (p : Party T Waiter). is_closing side p.call.stage) (active_calls w)
 
   -- A count is the number of live strong handles of its side, with those whose drops under way are to lower it yet.
   abbrev pub CountsLive : WorldView T → Type 0

@@ -1,5 +1,5 @@
--- What settling answers, and whom it leaves pending.
-use Rattle.std.specs.Prelude.{◌≡◌, ◌⊎◌, ◌+◌, ◌*◌, ◌≤◌, ◌++◌, ℕ, List, [], length, map, true, false, None}
+-- What settling answers, and the room that it takes.
+use Rattle.std.specs.Prelude.{◌≡◌, ◌+◌, ◌*◌, ◌≤◌, ◌++◌, ℕ, List, length, map, false}
 use Rattle.std.specs.List.{list_any}
 use Rattle.channel_alone.specs.Ample.{lacks_memory}
 use Rattle.channel_language.specs.Text.{wants_growth}
@@ -7,7 +7,7 @@ use Rattle.channel_calls.specs.declared.reply.Reply.{Reply}
 use Rattle.channel_calls.specs.declared.stage.Line.{Line}
 use Rattle.channel_calls.specs.declared.stage.Line.TheVariants.{Sends, Receives, Streams}
 use Rattle.channel_model.specs.Awake.{AwakeIn}
-use Rattle.channel_model.specs.Laws.{free_places, woken_of_line}
+use Rattle.channel_model.specs.Laws.{woken_of_line}
 use Rattle.channel_model.specs.Lines.{untold}
 use Rattle.channel_model.specs.Refused.{Answers}
 use Rattle.channel_model.specs.Settling.{poll_of, SettlesTo}
@@ -23,25 +23,6 @@ module _ {T : Type 0} where
   -- no poll of these was refused memory
   abbrev pub NoneLackedMemory : List (Settled T) → Type 0
   NoneLackedMemory polls = list_any (λ (p : Settled T). lacks_memory p.reply) polls ≡ false
-
-  -- ---- whom a message, a free place or a closing lets go on
-
-  -- no receive is pending beside a message
-  abbrev pub NoReceiveGoesOn : State T → Type 0
-  NoReceiveGoesOn s = (s.waiting.receives ≡ []) ⊎ (length s.channel.messages ≡ 0)
-
-  -- no send is pending on an open channel beside a free place; an unbounded channel has one always
-  pub record NoSendGoesOn (s : State T) : Type 0 where
-    pub bounded : s.channel.closed ≡ false → (s.waiting.sends ≡ []) ⊎ (free_places s.channel.capacity (length s.channel.messages) ≡ 0)
-    pub unbounded : s.channel.capacity ≡ None → s.waiting.sends ≡ []
-
-  -- no stream is pending beside a message
-  abbrev pub NoStreamGoesOn : State T → Type 0
-  NoStreamGoesOn s = (s.waiting.streams ≡ []) ⊎ (length s.channel.messages ≡ 0)
-
-  -- nobody is pending on a closed channel
-  abbrev pub NobodyMissesTheClosing : State T → Type 0
-  NobodyMissesTheClosing s = s.channel.closed ≡ true → (line : Line) → untold line s.waiting ≡ []
 
   -- ---- room
 

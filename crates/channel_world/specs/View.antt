@@ -11,6 +11,7 @@ use Rattle.channel_model.specs.declared.call.Call.{Call}
 use Rattle.channel_model.specs.declared.name.Waiter.{Waiter}
 use Rattle.channel_steps.specs.Scene.{Scene}
 use Rattle.channel_steps.specs.declared.party.Party.{Party}
+use Rattle.channel_interleaving.specs.Counted.{tally, is_lowering, is_closing}
 use Rattle.channel_interleaving.specs.Floor as floor
 use Rattle.channel_interleaving.specs.Left.{left_of}
 use Rattle.channel_interleaving.specs.Owed.{Sight}
@@ -60,6 +61,14 @@ module _ {T : Type 0} where
   -- the count of senders or of receivers
   abbrev pub counted : Side → WorldView T → ℕ
   counted side w = count side (floor.parts_in w.inside).roster
+
+  -- how many drops of strong handles of this side are under way whose next step lowers the count; what they drop lives under no name
+  abbrev pub to_lower : Side → WorldView T → ℕ
+  to_lower side w = tally (λ (p : Party T Waiter). is_lowering side p.call.stage) w.inside.parties.items
+
+  -- how many drops of the last one are under way that are at closing the channel
+  abbrev pub to_close : Side → WorldView T → ℕ
+  to_close side w = tally (λ (p : Party T Waiter). is_closing side p.call.stage) w.inside.parties.items
 
   -- with no call under way: the state of the model. While calls are made one at a time this is all that a world is
   abbrev pub at_rest : WorldView T → State T

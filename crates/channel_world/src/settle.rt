@@ -163,12 +163,13 @@ impl<T: Drop> World<T> {
 }
 
 impl<T: Drop> World<T> {
-    ghost use Rattle.std.specs.Prelude.{◌≡◌, ◌≤◌, ◌<◌, ◌+◌, ◌*◌, [], vec_len, IfOk, OnOk, OnErr};
+    ghost use Rattle.std.specs.Prelude.{◌≡◌, ◌≤◌, ◌+◌, ◌*◌, [], vec_len, IfOk, OnOk, OnErr};
     ghost use Rattle.channel_interleaving.specs.Pending.{is_pending, how_many};
     ghost use Rattle.channel_model.specs.Settling.{Settles, pending_count};
     ghost use Rattle.channel_world.specs.Carried.{polls_replied, LeadsTo};
-    ghost use Rattle.channel_world.specs.Settled.{polls_in, most_polls, NoneLackedMemory, NoReceiveGoesOn, NoSendGoesOn, NoStreamGoesOn, NobodyMissesTheClosing};
-    ghost use Rattle.channel_world.specs.View.{names_in, messages_in, at_rest, IsQuiet, Stands};
+    ghost use Rattle.channel_world.specs.Asleep.{NoReceiveGoesOn, NoSendGoesOn, NoStreamGoesOn, NobodyMissesTheClosing};
+    ghost use Rattle.channel_world.specs.Settled.{polls_in, most_polls, NoneLackedMemory};
+    ghost use Rattle.channel_world.specs.View.{names_in, at_rest, IsQuiet, Stands};
 
     /// Polls those who are pending and were woken, the one whose wake is oldest first, again and again until nobody is woken;
     /// and says whom it polled, in order, and what each poll answered.
@@ -177,7 +178,8 @@ impl<T: Drop> World<T> {
     /// borrows its receiver. Where w operations and streams are pending, there are w(w+1)/2 polls at most. Where k of them are woken,
     /// s are sends, r receives and n streams, there are k + s(n + 2) + 2r + n at most: only a send whose message is accepted wakes
     /// streams. After them nobody is woken, and nobody is pending whom a message, a free place or a closing lets go on. So where
-    /// `pending()` was 1 there is one poll at most; and where `messages()` is above 0 after it no receive and no stream is pending.
+    /// `pending()` was 1 there is one poll at most. Where `messages()` is above 0 after it no receive and no stream is pending, and no send
+    /// where the channel is open and one more message fits.
     ///
     /// Room for that many answers, and for as many names, is taken before the first poll. Where it is refused, it is `NoMemory`, and
     /// nothing is changed. So it is, where the channel has more than one place, if the messages that were accepted and those of
@@ -200,12 +202,10 @@ impl<T: Drop> World<T> {
         ensures one_pending { IfOk result (λ polls. how_many is_pending (names_in self.old) ≡ 1 → vec_len polls ≤ 1) }
         ensures ample { IfOk result (λ polls. NoneLackedMemory polls.items) }
         ensures nobody_woken { OnOk result ((at_rest self.new).waiting.woken ≡ []) }
-        ensures receives { OnOk result (NoReceiveGoesOn (at_rest self.new)) }
-        ensures sends { OnOk result (NoSendGoesOn (at_rest self.new)) }
-        ensures streams { OnOk result (NoStreamGoesOn (at_rest self.new)) }
-        ensures closing { OnOk result (NobodyMissesTheClosing (at_rest self.new)) }
-        ensures no_receive { OnOk result (0 < messages_in self.new → (at_rest self.new).waiting.receives ≡ []) }
-        ensures no_stream { OnOk result (0 < messages_in self.new → (at_rest self.new).waiting.streams ≡ []) }
+        ensures receives { OnOk result (NoReceiveGoesOn self.new) }
+        ensures sends { OnOk result (NoSendGoesOn self.new) }
+        ensures streams { OnOk result (NoStreamGoesOn self.new) }
+        ensures closing { OnOk result (NobodyMissesTheClosing self.new) }
         ensures unchanged { OnErr result (self.new ≡ self.old) }
         ensures quiet { IsQuiet self.new }
         ensures leads { IfOk result (λ polls. LeadsTo self.old (polls_replied polls.items) self.new) }

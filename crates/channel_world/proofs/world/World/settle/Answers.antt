@@ -5,7 +5,7 @@ use Rattle.channel_interleaving.proofs.Interface.{leads_nowhere, stands_led}
 use Rattle.channel_interleaving.proofs.FloorFacts.{stands}
 use Rattle.channel_world.specs.Settled.{polls_in}
 use Rattle.channel_world.specs.World.{at_rest}
-use Rattle.channel_world.proofs.AsleepFacts.{no_receive_goes_on, no_stream_goes_on}
+use Rattle.channel_world.proofs.AsleepFacts.{no_receive_goes_on, no_send_goes_on, no_stream_goes_on}
 use Rattle.channel_world.proofs.Leading.{leads_polled}
 use Rattle.channel_world.proofs.NumberFacts.{messages_at_rest, pending_at_rest}
 use Rattle.channel_world.proofs.Polls.{awake_at_rest}
@@ -170,30 +170,6 @@ returns-clause-nobody_woken g c =
     (let a = names.ok.0 in let b = polls.ok.0 in omega (arith, a, b, c.loop-names-test.false)) in
     end.rests.0
 
-pub returns-clause-receives : goal.returns-clause-receives
-returns-clause-receives g c =
-    let names = c.loop-names.names in
-    let polls = c.loop-names.polls in
-    let end = goes_end (at_rest (floor_of c.args.self.now)) (at_rest (floor_of c.loop-names.self)) polls.items names.items c.loop-names.invariant.goes
-    (let a = names.ok.0 in let b = polls.ok.0 in omega (arith, a, b, c.loop-names-test.false)) in
-    let n = end.rests.1 in n.receives
-
-pub returns-clause-sends : goal.returns-clause-sends
-returns-clause-sends g c =
-    let names = c.loop-names.names in
-    let polls = c.loop-names.polls in
-    let end = goes_end (at_rest (floor_of c.args.self.now)) (at_rest (floor_of c.loop-names.self)) polls.items names.items c.loop-names.invariant.goes
-    (let a = names.ok.0 in let b = polls.ok.0 in omega (arith, a, b, c.loop-names-test.false)) in
-    let n = end.rests.1 in record { bounded = n.sends; unbounded = n.unbounded }
-
-pub returns-clause-streams : goal.returns-clause-streams
-returns-clause-streams g c =
-    let names = c.loop-names.names in
-    let polls = c.loop-names.polls in
-    let end = goes_end (at_rest (floor_of c.args.self.now)) (at_rest (floor_of c.loop-names.self)) polls.items names.items c.loop-names.invariant.goes
-    (let a = names.ok.0 in let b = polls.ok.0 in omega (arith, a, b, c.loop-names-test.false)) in
-    let n = end.rests.1 in n.streams
-
 pub returns-clause-closing : goal.returns-clause-closing
 returns-clause-closing g c =
     let names = c.loop-names.names in
@@ -231,21 +207,29 @@ pub returns-clause-one_pending : goal.returns-clause-one_pending
 returns-clause-one_pending g c =
     λ one. one_poll _ _ one (returns-clause-few_pending g c)
 
-pub returns-clause-no_receive : goal.returns-clause-no_receive
-returns-clause-no_receive g c =
+pub returns-clause-receives : goal.returns-clause-receives
+returns-clause-receives g c =
     let names = c.loop-names.names in
     let polls = c.loop-names.polls in
     let end = goes_end (at_rest (floor_of c.args.self.now)) (at_rest (floor_of c.loop-names.self)) polls.items names.items c.loop-names.invariant.goes
     (let a = names.ok.0 in let b = polls.ok.0 in omega (arith, a, b, c.loop-names-test.false)) in
     no_receive_goes_on (floor_of c.loop-names.self) (messages_at_rest (floor_of c.loop-names.self) (returns-clause-stands g c) c.loop-names.invariant.quiet) end.rests.1
 
-pub returns-clause-no_stream : goal.returns-clause-no_stream
-returns-clause-no_stream g c =
+pub returns-clause-streams : goal.returns-clause-streams
+returns-clause-streams g c =
     let names = c.loop-names.names in
     let polls = c.loop-names.polls in
     let end = goes_end (at_rest (floor_of c.args.self.now)) (at_rest (floor_of c.loop-names.self)) polls.items names.items c.loop-names.invariant.goes
     (let a = names.ok.0 in let b = polls.ok.0 in omega (arith, a, b, c.loop-names-test.false)) in
     no_stream_goes_on (floor_of c.loop-names.self) (messages_at_rest (floor_of c.loop-names.self) (returns-clause-stands g c) c.loop-names.invariant.quiet) end.rests.1
+
+pub returns-clause-sends : goal.returns-clause-sends
+returns-clause-sends g c =
+    let names = c.loop-names.names in
+    let polls = c.loop-names.polls in
+    let end = goes_end (at_rest (floor_of c.args.self.now)) (at_rest (floor_of c.loop-names.self)) polls.items names.items c.loop-names.invariant.goes
+    (let a = names.ok.0 in let b = polls.ok.0 in omega (arith, a, b, c.loop-names-test.false)) in
+    no_send_goes_on (floor_of c.loop-names.self) (messages_at_rest (floor_of c.loop-names.self) (returns-clause-stands g c) c.loop-names.invariant.quiet) end.rests.1
 
 pub returns-in_default-clause-stands : goal.returns-in_default-clause-stands
 returns-in_default-clause-stands g c = stands (floor_of c.args.self.now) c.keeps_names.ensures.kept.listeners
