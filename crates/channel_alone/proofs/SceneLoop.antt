@@ -24,7 +24,7 @@ use Rattle.channel_steps.specs.Run as steps
 use Rattle.channel_steps.specs.Scene.{Under, Scene, Sitting, blocks_after, does, under_of, all_seats, Known, AllKnown, IsBalanced, Steps, Represents}
 use Rattle.channel_steps.proofs.Interface.{end_on, run_none, known_next, fits_after, none_after, after_lone, lone_goes, lone_ends, messages_counted, messages_moved}
 use Rattle.channel_alone.specs.Alone.{Outcome, Alone, after_waking, answers}
-use Rattle.channel_alone.specs.Run.{HasPosition}
+use Rattle.channel_alone.specs.Run.{HasNextPosition}
 use Rattle.channel_alone.specs.Scenes.{steps_by, woken_in, EndsWith, RanInScenes, RunsInScenes}
 use Rattle.channel_alone.specs.declared.run.Done.{Done}
 use Rattle.channel_alone.proofs.FirstFacts.{first_goes_on, Begun, begun}
@@ -175,14 +175,14 @@ module _ {T W : Type 0} where
           counts = λ h. h ∙ ap (λ (c : Channel T W). length c.queue.items) (sym sh.now);
         }
 
-    begins_so : HasPosition s.now.queue → (call : ChannelCall T W) → IsNewCall call (first a)
+    begins_so : HasNextPosition s.now.queue → (call : ChannelCall T W) → IsNewCall call (first a)
         → Between a s p start messages0 parts0 call.stage [] messages0
     begins_so position call begins =
         let fits = at_rest parts0 s sh in
         let none : begins.0 ≡ None = first_goes_on a begins.0 call.stage begins.1 in
         let t : Begun (first a) parts0.cells sh.queue call.stage =
         begun parts0.cells sh.queue fits (first a) begins.0 call.stage none begins.1 in
-        let place : HasPosition sh.queue = subst (λ (c : Channel T W). HasPosition c.queue) sh.now position in
+        let place : HasNextPosition sh.queue = subst (λ (c : Channel T W). HasNextPosition c.queue) sh.now position in
         begins_between call.stage t (starts_over a parts0 sh.queue place call.stage t fits)
 
     -- ---- it makes a step
@@ -219,7 +219,7 @@ module _ {T W : Type 0} where
         balanced : IsBalanced t.now.queue
         balanced = let k = follows e t n in k.1
 
-        by : HasPosition start.queue → counted (length x.mid.now.queue.items) e.mark ≡ length t.now.queue.items
+        by : HasNextPosition start.queue → counted (length x.mid.now.queue.items) e.mark ≡ length t.now.queue.items
         by (inl one) = counted_few (length x.mid.now.queue.items) (length t.now.queue.items) e.mark
             (messages_moved x.mid p e names t n x.balanced balanced) (short one)
         by (inr low) =
@@ -365,7 +365,7 @@ module _ {T W S : Type 0} (wakes : S → W → S → Type 0) where
   -- in every scene with nobody at work that the cells showed where it began
   abbrev pub IsBetween : ChannelAsk T W → Parts T W → S → ℕ → Parts T W → Stage (QueueCall T) T W → S → ℕ → Type 0
   IsBetween a parts0 sink0 messages0 parts stage sink messages =
-      (s : Scene T W) (p : ℕ) → HasPosition s.now.queue → (sh : Represents parts0 [] s)
+      (s : Scene T W) (p : ℕ) → HasNextPosition s.now.queue → (sh : Represents parts0 [] s)
       → ReachedBetween a s p (channel sh.queue parts0) sink0 messages0 parts stage sink messages
 
   module _ (a : ChannelAsk T W) (parts0 : Parts T W) (sink0 : S) (messages0 : ℕ) where

@@ -140,34 +140,34 @@ module _ {T W : Type 0} where
   -- ---- polls
 
   -- where a poll finds nothing, a listener comes in and keeps the task, under a key that is not listed; or it is refused
-  abbrev pub Listens : Waiting T → W → Channel T W → Outcome T W → Type 0
-  Listens w task c o =
+  abbrev pub ListensOrIsRefused : Waiting T → W → Channel T W → Outcome T W → Type 0
+  ListensOrIsRefused w task c o =
       ((key : Key) × (kind_of (listeners (line_of w) c.roster) key ≡ None)
       × (o ≡ answers (pending_reply (line_of w)) (leaving (Some key) (message_of w)) (registers (line_of w) key task (listens (line_of w) key c).channel).channel))
       ⊎ ((error : ListenError) × (o ≡ answers (refused_reply (line_of w) error) (leaving None (message_of w)) c))
 
   -- a listener that it holds and that waits keeps the task; one that was told is used up
-  abbrev pub Registers : Waiting T → Key → W → Channel T W → Outcome T W → (Channel T W → Type 0) → Type 0
-  Registers w key task c o told =
+  abbrev pub RegistersOrGoesOn : Waiting T → Key → W → Channel T W → Outcome T W → (Channel T W → Type 0) → Type 0
+  RegistersOrGoesOn w key task c o told =
       Where (waits key (listeners (line_of w) c.roster))
       (o ≡ answers (pending_reply (line_of w)) (leaving (Some key) (message_of w)) (registers (line_of w) key task c).channel)
       (told (registers (line_of w) key task c).channel)
 
-  abbrev pub Waits : Waiting T → Option Key → W → Channel T W → Outcome T W → Type 0
-  Waits w None task c o = Listens w task c o
-  Waits w (Some key) task c o = Registers w key task c o (λ d. Listens w task d o)
+  abbrev pub WaitsOrGoesOn : Waiting T → Option Key → W → Channel T W → Outcome T W → Type 0
+  WaitsOrGoesOn w None task c o = ListensOrIsRefused w task c o
+  WaitsOrGoesOn w (Some key) task c o = RegistersOrGoesOn w key task c o (λ d. ListensOrIsRefused w task d o)
 
   abbrev pub PollsSend : T → Option Key → W → Channel T W → Outcome T W → Type 0
   PollsSend m key task c o =
       MayLackRoom (over (reply.SendPoll (poll.Ready (Err (refused.NoMemory tt)))) (Some m) Sends key) c o
       ⊎ Where c.queue.closed (o ≡ ends [] (over (reply.SendPoll (poll.Ready (Err (refused.Plain (record { 0 = m }))))) None Sends key) c)
-      (Where (is_filled c.queue) (Waits (waiting.Send m) key task c o)
+      (Where (is_filled c.queue) (WaitsOrGoesOn (waiting.Send m) key task c o)
       (o ≡ ends of_message (over (reply.SendPoll (poll.Ready (Ok tt))) None Sends key) (over_queue (appended m) c)))
 
   -- a message where there is one; none will come to a closed channel; else the poll waits
   abbrev pub PollsFor : List T → Waiting T → (T → Reply T) → Reply T → Option Key → W → Channel T W → Outcome T W → Type 0
   PollsFor (m ∷ ms) w got closed key task c o = o ≡ ends of_room (over (got m) None (line_of w) key) (over_queue taken c)
-  PollsFor [] w got closed key task c o = Where c.queue.closed (o ≡ ends [] (over closed None (line_of w) key) c) (Waits w key task c o)
+  PollsFor [] w got closed key task c o = Where c.queue.closed (o ≡ ends [] (over closed None (line_of w) key) c) (WaitsOrGoesOn w key task c o)
 
   abbrev pub PollsReceive : Option Key → W → Channel T W → Outcome T W → Type 0
   PollsReceive key task c o =
@@ -179,7 +179,7 @@ module _ {T W : Type 0} where
 
   abbrev pub PollsClosing : Option Key → W → Channel T W → Outcome T W → Type 0
   PollsClosing key task c o =
-      Where c.queue.closed (o ≡ ends [] (over (reply.ClosedPoll (poll.Ready (Ok tt))) None Closings key) c) (Waits waiting.Closing key task c o)
+      Where c.queue.closed (o ≡ ends [] (over (reply.ClosedPoll (poll.Ready (Ok tt))) None Closings key) c) (WaitsOrGoesOn waiting.Closing key task c o)
 
   -- ---- handles
 
@@ -206,7 +206,7 @@ module _ {T W : Type 0} where
   -- a poll that asks its listener before it tries: this comes of its try over no listener
   abbrev pub AsksListener : Waiting T → Option Key → W → Channel T W → Outcome T W → (Channel T W → Type 0) → Type 0
   AsksListener w None task c o tries = tries c
-  AsksListener w (Some key) task c o tries = Registers w key task c o tries
+  AsksListener w (Some key) task c o tries = RegistersOrGoesOn w key task c o tries
 
   abbrev pub Alone : ChannelAsk T W → Channel T W → Outcome T W → Type 0
   Alone (TrySend m) c o = MayLackRoom (says (reply.TrySend (Err (refused.NoMemory m)))) c o ⊎ (o ≡ sends m c)

@@ -12,7 +12,7 @@ use Rattle.channel_steps.specs.declared.run.Step.TheVariants as step
 use Rattle.channel_steps.specs.Run.{EachStep, IsRun, NextScene, Begins}
 use Rattle.channel_steps.specs.Scene.{Scene, Represents}
 use Rattle.channel_alone.specs.Alone.{Outcome, Alone}
-use Rattle.channel_alone.specs.Run.{HasPosition}
+use Rattle.channel_alone.specs.Run.{HasNextPosition}
 use Rattle.channel_alone.specs.declared.run.Done.{Done}
 
 module _ {T : Type 0} where
@@ -63,5 +63,5 @@ module _ {T W : Type 0} where
     -- in every scene with nobody at work that the cells show, whatever party the call is said to be of
     abbrev pub RunsInScenes : ChannelAsk T W → Parts T W → S → ℕ → Done T → Parts T W → S → ℕ → Type 0
     RunsInScenes ask parts sink messages done parts' sink' messages' =
-        (s : Scene T W) (p : ℕ) → HasPosition s.now.queue → Represents parts [] s
+        (s : Scene T W) (p : ℕ) → HasNextPosition s.now.queue → Represents parts [] s
         → RanInScenes ask sink messages done parts' sink' messages' s p

@@ -22,7 +22,7 @@ use Rattle.channel_interleaving.specs.Lone.{book_alone}
 use Rattle.channel_interleaving.specs.Order.{all_moved_last}
 use Rattle.channel_interleaving.specs.Roll.{first_roll, is_at_work}
 use Rattle.channel_interleaving.specs.Refusal.{step_refusal}
-use Rattle.channel_interleaving.specs.Run.{Book, Made, IsBookOf, book_begun, book_ended, with_woken}
+use Rattle.channel_interleaving.specs.Run.{Book, StepIsMade, IsBookOf, book_begun, book_ended, with_woken}
 use Rattle.channel_interleaving.specs.Users.{FewUsers}
 use Rattle.channel_interleaving.specs.declared.names.Agent.{Agent}
 use Rattle.channel_interleaving.specs.declared.roll.Roll.{Roll}
@@ -181,7 +181,7 @@ module _ {T : Type 0} where
       with_tries c t (names_kept_step b c s t q e names st after (names_of b s k)) (tries_step s t q.0 e names st k.tries)
 
   -- a step that was made
-  pub kept_next : (b c : Book T) (s t : Scene T Waiter) (x : Step T) (e : Entry T) → Made b s x e c t → AllKept b s → AllKept c t
+  pub kept_next : (b c : Book T) (s t : Scene T Waiter) (x : Step T) (e : Entry T) → StepIsMade b s x e c t → AllKept b s → AllKept c t
   kept_next b c s t (step.Begin q call) e made k =
       let ok = idle_and_free q call b made.not_refused in
       subst (λ (d : Book T). AllKept d t) (sym made.book) (kept_begun q call b s t _ made.next.0 ok.0 (admitted b.roll call ok.1) k)

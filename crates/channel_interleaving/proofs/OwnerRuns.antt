@@ -17,7 +17,7 @@ use Rattle.event_listener.specs.declared.key.Key.{Key}
 use Rattle.channel_steps.specs.Scene.{Under, Scene, Steps, Known, AllKnown, sees, does, unless_ended}
 use Rattle.channel_interleaving.specs.Bookkeeping.{settled, all_woken}
 use Rattle.channel_interleaving.specs.Order.{all_moved_last, order_settled}
-use Rattle.channel_interleaving.specs.Owners.{IsAmong, All, AnyOf, Post, free, vacant, amiss, rests, waits, polled, post, holding, task_at, wait_of, line_asked, Bears, subject, Suits, Fits, Together, Differ, AllDiffer, WaitsToWake, Holder, named, calling, HoldsIn, Owned}
+use Rattle.channel_interleaving.specs.Owners.{IsAmong, All, AnyOf, Post, free, vacant, amiss, rests, waits, polled, post, holding, task_at, wait_of, line_asked, Bears, subject, Suits, AgentFits, Together, Differ, AllDiffer, WaitsToWake, Holder, named, calling, HoldsIn, Owned}
 use Rattle.channel_interleaving.specs.Refusal.{refusal, step_refusal}
 use Rattle.channel_interleaving.specs.Roll.{is_at_work}
 use Rattle.channel_interleaving.specs.Run.{Book, book_ended, with_woken}
@@ -266,7 +266,7 @@ module _ {T : Type 0} where
         let a = accounted s.now t.now names (holding st.mine.at) on_out.has (HoldsIn (post b.roll) s.under_way)
         (HoldsIn on_posts on_after) (calling p) (calling p) on_out.lists on_out.how goes_pass
         (accounts b s t p m None kp names o known st) in
-        let own : Fits on_posts pt.agent (does st.mine st.at_now m s.now t.now) =
+        let own : AgentFits on_posts pt.agent (does st.mine st.at_now m s.now t.now) =
         record {
           party = pt.own.party;
           suits = suits_on (post b.roll) on_posts pt.agent.errand _

@@ -170,7 +170,7 @@ module _ {T : Type 0} where
   IsLent op (Some o) old got new = (got ≡ Some (o.kind, o.message, key_of o.standing)) × (new ≡ with_operation lent_to_poll op old)
 
   -- a call has begun
-  pub record Begins (old : Roll T) (c : Call T) (begun : Begun T) (new : Roll T) : Type 0 where
+  pub record BeginsByName (old : Roll T) (c : Call T) (begun : Begun T) (new : Roll T) : Type 0 where
     pub ask : begun.ask ≡ asks old c
     pub errand : begun.errand ≡ errand_of old c
     pub names : new ≡ names_begun old c

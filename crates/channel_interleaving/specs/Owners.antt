@@ -227,7 +227,7 @@ module _ {T : Type 0} where
   Suits p (errand.LeaveBoth a b) wait = wait ≡ None
 
   -- an agent and the call of the same party under way
-  pub record Fits (p : Waiter → Post) (a : Agent T) (u : Under T Waiter) : Type 0 where
+  pub record AgentFits (p : Waiter → Post) (a : Agent T) (u : Under T Waiter) : Type 0 where
     pub party : a.party ≡ u.party
     pub suits : Suits p a.errand (wait_of u.ask)
     pub bears : Bears (task_at u.at) (wait_of u.ask)
@@ -238,7 +238,7 @@ module _ {T : Type 0} where
   Together p [] [] = Unit {0}
   Together p [] (u ∷ us) = ⊥
   Together p (a ∷ more) [] = ⊥
-  Together p (a ∷ more) (u ∷ us) = Fits p a u × Together p more us
+  Together p (a ∷ more) (u ∷ us) = AgentFits p a u × Together p more us
 
   -- two agents are of different parties, and don't work at the same name
   pub record Differ (a b : Agent T) : Type 0 where

@@ -73,7 +73,7 @@ module _ {T : Type 0} where
 
   -- a step that was made: nothing refuses it, the channel's step of it has this entry's mark, woken names and reply, and the
   -- book is as it is to be
-  pub record Made (b : Book T) (s : Scene T Waiter) (x : Step T) (e : Entry T) (c : Book T) (t : Scene T Waiter) : Type 0 where
+  pub record StepIsMade (b : Book T) (s : Scene T Waiter) (x : Step T) (e : Entry T) (c : Book T) (t : Scene T Waiter) : Type 0 where
     pub not_refused : step_refusal b.roll b.agents x ≡ None
     pub kept : Option (Kept T)
     pub next : Next s (channel_step b.roll x) (record { mark = e.mark; reply = e.reply; kept = kept }) e.woken.items t

@@ -9,7 +9,7 @@ use Rattle.channel_calls.specs.Turns.{refused_reply}
 use Rattle.channel_calls.specs.declared.reply.Reply.TheVariants as reply
 use Rattle.channel_calls.specs.declared.stage.Line.TheVariants as list
 use Rattle.channel_calls.specs.declared.stage.Waiting.TheVariants as waiting
-use Rattle.channel_alone.specs.Alone.{Outcome, Waits, PollsClosing}
+use Rattle.channel_alone.specs.Alone.{Outcome, WaitsOrGoesOn, PollsClosing}
 use Rattle.channel_model.specs.Answer.{replying, after_leaving, pending, closed_poll_answer, poll_answer}
 use Rattle.channel_model.specs.Awake.{AwakeIn}
 use Rattle.channel_model.specs.Laws.{line_of, line_of_operation}
@@ -37,7 +37,7 @@ module _ {T : Type 0} (held : KeysHeld) (c : Channel T Waiter) (s : State T) (h 
   closing_kind : line_of s.names (Op op) ≡ Some Closings
   closing_kind = ap (λ (o : Option (ModelOperation T)). line_of_operation o) there
 
-  closing_waits : (key : Option Key) (o : Outcome T Waiter) → Waits waiting.Closing key (Op op) c o
+  closing_waits : (key : Option Key) (o : Outcome T Waiter) → WaitsOrGoesOn waiting.Closing key (Op op) c o
       → WaitsAs Closings (reply.ClosedPoll poll.Pending) (λ e. refused_reply list.Closings e) None (Op op) key c o
   closing_waits None o x = x
   closing_waits (Some key) o x = x

@@ -13,7 +13,7 @@ use Rattle.channel_calls.specs.declared.reply.Reply.TheVariants as reply
 use Rattle.channel_calls.specs.declared.stage.Line.TheVariants as list
 use Rattle.channel_calls.specs.declared.stage.Waiting.TheVariants as waiting
 use Rattle.channel_alone.specs.Alone as alone
-use Rattle.channel_alone.specs.Alone.{Outcome, ends, of_room, over_queue, Waits, PollsFor, PollsReceive}
+use Rattle.channel_alone.specs.Alone.{Outcome, ends, of_room, over_queue, WaitsOrGoesOn, PollsFor, PollsReceive}
 use Rattle.channel_model.specs.Answer.{Found, first, none_yet, none_ever, found, replying, recv_poll_answer, poll_answer}
 use Rattle.channel_model.specs.Awake.{AwakeIn}
 use Rattle.channel_model.specs.Laws.{line_of, line_of_operation}
@@ -85,7 +85,7 @@ module _ {T : Type 0} (held : KeysHeld) (c : Channel T Waiter) (s : State T) (h 
 
   -- ---- none is
 
-  recv_waits : (key : Option Key) (o : Outcome T Waiter) → Waits waiting.Receive key (Op op) c o
+  recv_waits : (key : Option Key) (o : Outcome T Waiter) → WaitsOrGoesOn waiting.Receive key (Op op) c o
       → WaitsAs Receives (reply.RecvPoll poll.Pending) (λ e. refused_reply list.Receives e) None (Op op) key c o
   recv_waits None o x = x
   recv_waits (Some key) o x = x

@@ -13,7 +13,7 @@ use Rattle.channel_calls.specs.declared.reply.Reply.TheVariants as reply
 use Rattle.channel_calls.specs.declared.stage.Line.TheVariants as list
 use Rattle.channel_calls.specs.declared.stage.Waiting.TheVariants as waiting
 use Rattle.channel_alone.specs.Alone as alone
-use Rattle.channel_alone.specs.Alone.{Outcome, ends, of_message, over_queue, Waits, PollsSend, MayLackRoom}
+use Rattle.channel_alone.specs.Alone.{Outcome, ends, of_message, over_queue, WaitsOrGoesOn, PollsSend, MayLackRoom}
 use Rattle.channel_model.specs.Answer.{replying, after_leaving, send_poll_answer, poll_answer, finished, space_of}
 use Rattle.channel_model.specs.declared.call.Call.TheVariants as call
 use Rattle.channel_model.specs.Refused.{memory, refused, not_polled, send_not_polled}
@@ -48,7 +48,7 @@ module _ {T : Type 0} (held : KeysHeld) (c : Channel T Waiter) (s : State T) (h 
   send_is : line_of s.names (Op op) ≡ Some Sends
   send_is = ap (λ (o : Option (ModelOperation T)). line_of_operation o) there
 
-  send_waits : (key : Option Key) (o : Outcome T Waiter) → Waits (waiting.Send msg) key (Op op) c o
+  send_waits : (key : Option Key) (o : Outcome T Waiter) → WaitsOrGoesOn (waiting.Send msg) key (Op op) c o
       → WaitsAs Sends (reply.SendPoll poll.Pending) (λ e. refused_reply list.Sends e) (Some msg) (Op op) key c o
   send_waits None o x = x
   send_waits (Some key) o x = x
