@@ -25,7 +25,7 @@ use Rattle.channel_steps.specs.Scene.{Under, Scene, Sitting, blocks_after, does,
 use Rattle.channel_steps.proofs.Interface.{end_on, run_none, known_next, fits_after, none_after, after_lone, lone_goes, lone_ends, messages_counted, messages_moved}
 use Rattle.channel_alone.specs.Alone.{Outcome, Alone, after_waking, answers}
 use Rattle.channel_alone.specs.Run.{HasNextPosition}
-use Rattle.channel_alone.specs.Scenes.{steps_by, woken_in, EndsWith, RanInScenes, RunsInScenes}
+use Rattle.channel_alone.specs.Scenes.{steps_by, woken_by_steps, EndsWith, RanInScenes, RunsInScenes}
 use Rattle.channel_alone.specs.declared.run.Done.{Done}
 use Rattle.channel_alone.proofs.FirstFacts.{first_goes_on, Begun, begun}
 use Rattle.channel_alone.proofs.AloneFacts.{IsAlone, Advances, Answered, StepsTo, woken_on, answered, finished_kept, goes_on_so, capacity_now, accepts_one, made_by, next}
@@ -63,20 +63,20 @@ module _ {T W : Type 0} where
 
     woken_more : (s : Scene T W) (es : List (Entry T)) (ns : List (Scene T W)) (h : EachStep NextScene s (steps_by p es) es ns)
         (e : Entry T) (names : List W) (t : Scene T W) (x : Steps (end_of s ns) p e names t)
-        → woken_in s (steps_by p (es ++ e ∷ [])) (es ++ e ∷ []) (ns ++ t ∷ []) (each_more s es ns h e names t x)
-        ≡ woken_in s (steps_by p es) es ns h ++ names
+        → woken_by_steps s (steps_by p (es ++ e ∷ [])) (es ++ e ∷ []) (ns ++ t ∷ []) (each_more s es ns h e names t x)
+        ≡ woken_by_steps s (steps_by p es) es ns h ++ names
     unfolding each_more
     woken_more s [] [] h e names t x = append-nil names
     woken_more s (f ∷ es) (n ∷ ns) h e names t x =
         ap (λ (ws : List W). h.0.0 ++ ws) (woken_more n es ns h.1 e names t x)
-        ∙ sym (append_assoc h.0.0 (woken_in n (steps_by p es) es ns h.1) names)
+        ∙ sym (append_assoc h.0.0 (woken_by_steps n (steps_by p es) es ns h.1) names)
     woken_more s [] (n ∷ ns) h e names t x = absurd h
     woken_more s (f ∷ es) [] h e names t x = absurd h
 
     -- the run so far, and those whom it woke
     pub record WentSo (s : Scene T W) (es : List (Entry T)) (woken : List W) (t : Scene T W) : Type 0 where
       pub run : IsRun NextScene s (steps_by p es) es t
-      pub named : woken_in s (steps_by p es) es run.moments run.each ≡ woken
+      pub named : woken_by_steps s (steps_by p es) es run.moments run.each ≡ woken
 
     went_more : (s m t : Scene T W) (es : List (Entry T)) (so_far names : List W) (e : Entry T) → WentSo s es so_far m → Steps m p e names t
         → WentSo s (es ++ e ∷ []) (so_far ++ names) t

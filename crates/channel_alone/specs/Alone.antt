@@ -43,8 +43,8 @@ Where false A B = B
 module _ {T : Type 0} where
   -- ---- the queue
 
-  abbrev pub appended : T → Queue T → Queue T
-  appended m q = record q { items = q.items ++ m ∷ []; accepted = q.accepted + 1 }
+  abbrev pub with_appended : T → Queue T → Queue T
+  with_appended m q = record q { items = q.items ++ m ∷ []; accepted = q.accepted + 1 }
 
   abbrev pub replaced : T → Queue T → Queue T
   replaced m q = record q { items = drop 1 q.items ++ m ∷ []; accepted = q.accepted + 1; removed = q.removed + 1 }
@@ -56,8 +56,8 @@ module _ {T : Type 0} where
   abbrev pub taken_some : ℕ → Queue T → Queue T
   taken_some n q = record q { items = drop n q.items; removed = q.removed + length (take n q.items) }
 
-  abbrev pub shut : Queue T → Queue T
-  shut q = record q { closed = true }
+  abbrev pub with_closed : Queue T → Queue T
+  with_closed q = record q { closed = true }
 
 module _ {T W : Type 0} where
   abbrev pub over_queue : (Queue T → Queue T) → Channel T W → Channel T W
@@ -102,14 +102,14 @@ module _ {T W : Type 0} where
   sends m c =
       if c.queue.closed then ends [] (says (reply.TrySend (Err (refused.Plain (try_send_error.Closed m))))) c
       else (if is_filled c.queue then ends [] (says (reply.TrySend (Err (refused.Plain (try_send_error.Full m))))) c
-      else ends of_message (says (reply.TrySend (Ok tt))) (over_queue (appended m) c))
+      else ends of_message (says (reply.TrySend (Ok tt))) (over_queue (with_appended m) c))
 
   -- the oldest message of a full channel is displaced; no send is told
   abbrev pub force_sends : T → Channel T W → Outcome T W
   force_sends m c =
       if c.queue.closed then ends [] (says (reply.ForceSend (Err (refused.Plain (record { 0 = m }))))) c
       else (if is_filled c.queue then ends of_message (says (reply.ForceSend (Ok (slice_get c.queue.items 0)))) (over_queue (replaced m) c)
-      else ends of_message (says (reply.ForceSend (Ok None))) (over_queue (appended m) c))
+      else ends of_message (says (reply.ForceSend (Ok None))) (over_queue (with_appended m) c))
 
   -- a message where there is one
   abbrev pub receives_by : List T → Channel T W → Outcome T W
@@ -121,7 +121,7 @@ module _ {T W : Type 0} where
 
   -- only the call that closes tells
   abbrev pub closes : Closer → Channel T W → Outcome T W
-  closes by c = if c.queue.closed then ends [] (closer_ending by false) c else ends of_closing (closer_ending by true) (over_queue shut c)
+  closes by c = if c.queue.closed then ends [] (closer_ending by false) c else ends of_closing (closer_ending by true) (over_queue with_closed c)
 
   -- several messages at most: as many as there are, which these are
   abbrev pub receives_these : ℕ → List T → Channel T W → Outcome T W
@@ -162,7 +162,7 @@ module _ {T W : Type 0} where
       MayLackRoom (over (reply.SendPoll (poll.Ready (Err (refused.NoMemory tt)))) (Some m) Sends key) c o
       ⊎ Where c.queue.closed (o ≡ ends [] (over (reply.SendPoll (poll.Ready (Err (refused.Plain (record { 0 = m }))))) None Sends key) c)
       (Where (is_filled c.queue) (WaitsOrGoesOn (waiting.Send m) key task c o)
-      (o ≡ ends of_message (over (reply.SendPoll (poll.Ready (Ok tt))) None Sends key) (over_queue (appended m) c)))
+      (o ≡ ends of_message (over (reply.SendPoll (poll.Ready (Ok tt))) None Sends key) (over_queue (with_appended m) c)))
 
   -- a message where there is one; none will come to a closed channel; else the poll waits
   abbrev pub PollsFor : List T → Waiting T → (T → Reply T) → Reply T → Option Key → W → Channel T W → Outcome T W → Type 0

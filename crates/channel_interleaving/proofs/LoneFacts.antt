@@ -21,7 +21,7 @@ use Rattle.channel_interleaving.specs.Kept.{AllKept}
 use Rattle.channel_interleaving.specs.Owners.{All}
 use Rattle.channel_interleaving.specs.Lone.{names_alone, order_alone, CallsAlone, WakesAtMost}
 use Rattle.channel_interleaving.specs.Positions.{brings, accepted_by, is_one_place, yet_in}
-use Rattle.channel_interleaving.specs.Refusal.{refusal}
+use Rattle.channel_interleaving.specs.Refusal.{begin_refusal}
 use Rattle.channel_interleaving.specs.Run.{Book}
 use Rattle.channel_interleaving.specs.Way.{Way, reply_of}
 use Rattle.channel_interleaving.specs.Woken.{Hears}
@@ -174,7 +174,7 @@ module _ {T : Type 0} where
       record { last = s; way = no_way s; stands = stands_same old new s same k; accounts = no_accounts s }
 
   pub leads_whatever : (c : Call T) (old new : Floor T) (result : Result (Answered T) (Call T)) → AreAtWork old → IsQuiet old
-      → refusal old.roll c ≡ None
+      → begin_refusal old.roll c ≡ None
       → IfOk result (λ (d : Answered T). CallsAlone c old d.reply d.woken.items new)
       → OnErr result (IsSame old new) → LeadsOn old (reply_of result) new
   leads_whatever c old new (Ok d) at_work quiet fine called same =
@@ -194,7 +194,7 @@ module _ {T : Type 0} where
 
   -- and so where it was handed back
   pub kept_whatever : (c : Call T) (old new : Floor T) (result : Result (Answered T) (Call T)) → IsKept old → IsQuiet old
-      → AreAtWork new → refusal old.roll c ≡ None
+      → AreAtWork new → begin_refusal old.roll c ≡ None
       → IfOk result (λ (d : Answered T). CallsAlone c old d.reply d.woken.items new)
       → OnErr result (IsSame old new) → IsKept new
   kept_whatever c old new (Ok d) k quiet at_work fine called same =

@@ -13,7 +13,7 @@ use Rattle.channel_steps.specs.Run.{Next}
 use Rattle.channel_steps.specs.Scene.{Scene}
 use Rattle.channel_steps.specs.declared.run.Step.{Step as ChannelStep}
 use Rattle.channel_steps.specs.declared.run.Step.TheVariants as channel
-use Rattle.channel_interleaving.specs.Bookkeeping.{asks, errand_of, names_begun, settled, all_woken}
+use Rattle.channel_interleaving.specs.Bookkeeping.{asks, errand_of, names_begun, written_back, all_woken}
 use Rattle.channel_interleaving.specs.Order.{order_begun, all_moved_last, order_settled}
 use Rattle.channel_interleaving.specs.Refusal.{step_refusal}
 use Rattle.channel_interleaving.specs.declared.names.Agent.{Agent}
@@ -55,7 +55,7 @@ module _ {T : Type 0} where
   book_ended k a (Some r) kept b =
       let left : Kept T = unwrap_or kept nothing_kept in
       record {
-        roll = settled a.errand r left b.roll;
+        roll = written_back a.errand r left b.roll;
         order = order_settled a.errand left.key b.order;
         agents = remove b.agents k;
       }

@@ -109,7 +109,7 @@ impl<T: Drop> Roll<T> {
     ghost use Rattle.channel_model.specs.Names.{at, is_taken};
     ghost use Rattle.channel_model.specs.declared.name.Waiter.{Waiter};
     ghost use Rattle.channel_interleaving.specs.Order.{order_begun};
-    ghost use Rattle.channel_interleaving.specs.Refusal.{names_taken};
+    ghost use Rattle.channel_interleaving.specs.Refusal.{takes_again};
     ghost use Rattle.channel_interleaving.specs.Roll.{key_of, with_lent};
     ghost use Rattle.channel_interleaving.specs.Bookkeeping.{BeginsByName, Starts, IsLent, unpolled, operation_named, handle_named};
 
@@ -332,7 +332,7 @@ impl<T: Drop> Roll<T> {
     /// A call that is not refused begins; or it comes back where its new name found no room, with nothing changed. One that
     /// comes back gives and takes no place. A receive of several messages takes its room from `alloc`, at its first step.
     pub(crate) fn begin(&mut self, call: Call<T>, alloc: Global) -> Result<Begun<T>, Call<T>>
-        requires { names_taken self.old call ≡ false }
+        requires { takes_again self.old call ≡ false }
         ensures ok { IfOk result (λ b. BeginsByName self.old call b self.new) }
         ensures err { OnErr result (self.new ≡ self.old) }
         ensures back { IfErr result (λ c. c ≡ call) }

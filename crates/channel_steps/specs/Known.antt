@@ -207,16 +207,16 @@ module _ {T W : Type 0} where
   IsQuick Make = Unit {0}
   IsQuick ask = ⊥
 
-  abbrev pub left_to_work : Work T W → ℕ
-  left_to_work (TellReceive x) = 3
-  left_to_work (TellStreams x) = 2
-  left_to_work (TellSend x) = 2
-  left_to_work (TellSends n x) = 2
-  left_to_work (TellAll line closer) = left_to_tell line
-  left_to_work (Lower side key) = 7
-  left_to_work _ = 1
+  abbrev pub quick_left_to_work : Work T W → ℕ
+  quick_left_to_work (TellReceive x) = 3
+  quick_left_to_work (TellStreams x) = 2
+  quick_left_to_work (TellSend x) = 2
+  quick_left_to_work (TellSends n x) = 2
+  quick_left_to_work (TellAll line closer) = left_to_tell line
+  quick_left_to_work (Lower side key) = 7
+  quick_left_to_work _ = 1
 
-  abbrev pub steps_left : Stage (Phase T) T W → ℕ
-  steps_left (Trying f aim) = left_to_try f.ask f.stage
-  steps_left (Working w) = left_to_work w
-  steps_left (Finished kept) = 0
+  abbrev pub quick_steps_left : Stage (Phase T) T W → ℕ
+  quick_steps_left (Trying f aim) = left_to_try f.ask f.stage
+  quick_steps_left (Working w) = quick_left_to_work w
+  quick_steps_left (Finished kept) = 0

@@ -2,7 +2,7 @@
 use Rattle.std.proofs.Common.{arith, ◌≡◌, ◌+◌, ◌-◌, ◌*◌, ◌^◌, ◌≤◌, ℕ, zero, suc, List, [], ◌∷◌, ◌++◌, length, Option, None, Some, IfSome, refl, sym, subst, ap, ◌∙◌, add-one, append_assoc, append-nil}
 use Rattle.std.specs.Option.{option_map}
 use Rattle.channel_model.specs.Awake.{AwakeIn}
-use Rattle.channel_model.specs.Laws.{removed_by, accepted_by, sends_after, NobodyIsLeft}
+use Rattle.channel_model.specs.Laws.{removed_by, brought_by_call, sends_after, NobodyIsLeft}
 use Rattle.channel_model.specs.Run.{Runs, Stops, MayBeDone, MayStop}
 use Rattle.channel_model.specs.State.{State, start}
 use Rattle.channel_model.specs.declared.call.Call.{Call}
@@ -10,7 +10,7 @@ use Rattle.channel_model.specs.declared.refusal.WorldRefusal.{WorldRefusal}
 use Rattle.channel_model.specs.declared.run.Done.{Done}
 use Rattle.channel_model.specs.declared.run.Stopped.{Stopped}
 use Rattle.channel_model.proofs.LawSteps.{Kept, step_good, opened_kept}
-use Rattle.channel_world.specs.RecordLaws.{removed, accepted, accepted_after}
+use Rattle.channel_world.specs.RecordLaws.{removed_in_record, accepted_in_record, accepted_after}
 use Rattle.channel_world.specs.RecordReplay.{MadeAsSaid, Replays, IsHistory}
 use Rattle.channel_world.specs.RecordSeat.{SeatView, amount_of, call_weight, calls_of, numbers_of, sum_below}
 use Rattle.channel_world.specs.Recording.{RecordingView, IsRecording}
@@ -130,7 +130,7 @@ module _ {T : Type 0} where
 
   pub record RecordKept (sends : List (ℕ × T)) (s : State T) (rs : List (Receipt T)) (t : State T) : Type 0 where
     pub awake : AwakeIn t
-    pub account : removed rs ++ t.channel.messages ≡ s.channel.messages ++ accepted_after sends rs
+    pub account : removed_in_record rs ++ t.channel.messages ≡ s.channel.messages ++ accepted_after sends rs
 
   pub record_kept : (place : ℕ) (sends : List (ℕ × T)) (s : State T) (rs : List (Receipt T)) (t : State T) → Kept sends s → Replays place s rs t → RecordKept sends s rs t
   record_kept place sends s [] t kept same = record {
@@ -143,17 +143,17 @@ module _ {T : Type 0} where
       record {
         awake = on.awake;
         account =
-            append_assoc (removed_by r.reply) (removed rs) t.channel.messages
+            append_assoc (removed_by r.reply) (removed_in_record rs) t.channel.messages
             ∙ (ap (λ (ms : List T). removed_by r.reply ++ ms) on.account
             ∙ (sym (append_assoc (removed_by r.reply) mid.channel.messages (accepted_after (sends_after sends r.call) rs))
             ∙ (ap (λ (ms : List T). ms ++ accepted_after (sends_after sends r.call) rs) g.account
-            ∙ append_assoc s.channel.messages (accepted_by sends r.call r.reply) (accepted_after (sends_after sends r.call) rs))));
+            ∙ append_assoc s.channel.messages (brought_by_call sends r.call r.reply) (accepted_after (sends_after sends r.call) rs))));
       }
 
   history_kept : (capacity : Option ℕ) (rs : List (Receipt T)) (h : IsHistory capacity rs) → RecordKept [] (start capacity) rs h.last
   history_kept capacity rs h = record_kept 0 [] (start capacity) rs h.last (opened_kept capacity) h.replays
 
-  pub in_order : (capacity : Option ℕ) (rs : List (Receipt T)) (h : IsHistory capacity rs) → removed rs ++ h.last.channel.messages ≡ accepted rs
+  pub in_order : (capacity : Option ℕ) (rs : List (Receipt T)) (h : IsHistory capacity rs) → removed_in_record rs ++ h.last.channel.messages ≡ accepted_in_record rs
   in_order capacity rs h = (history_kept capacity rs h).account
 
   pub nobody_left : (capacity : Option ℕ) (rs : List (Receipt T)) (h : IsHistory capacity rs) → NobodyIsLeft h.last

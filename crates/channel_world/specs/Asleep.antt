@@ -7,7 +7,7 @@ use Rattle.channel_model.specs.Laws.{NobodyIsLeft}
 use Rattle.channel_model.specs.Lines.{untold}
 use Rattle.channel_model.specs.declared.name.Waiter.{Waiter}
 use Rattle.channel_interleaving.specs.Owed.{IsUnwoken}
-use Rattle.channel_interleaving.specs.Pending.{is_pending, how_many}
+use Rattle.channel_interleaving.specs.Pending.{stands_pending, how_many}
 use Rattle.channel_interleaving.specs.Roll.{is_woken}
 use Rattle.channel_world.specs.View.{names_in, messages_in, capacity_in, is_closed, calls_in, at_rest, sight_of, IsQuiet, WorldView}
 
@@ -19,7 +19,7 @@ HasAPlace (Some capacity) held = held < capacity
 module _ {T : Type 0} where
   -- how many are pending, and how many of these were woken
   abbrev pub pending_in : WorldView T → ℕ
-  pending_in w = how_many is_pending (names_in w)
+  pending_in w = how_many stands_pending (names_in w)
 
   abbrev pub woken_among : WorldView T → ℕ
   woken_among w = how_many is_woken (names_in w)

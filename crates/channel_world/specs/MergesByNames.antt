@@ -16,7 +16,7 @@ use Rattle.channel_laws.specs.BridgeHeadline.{KeepsTheHeadline}
 use Rattle.channel_interleaving.specs.AskedBy.{IsOrListens, IsStepOf}
 use Rattle.channel_interleaving.specs.Bookkeeping.{asks}
 use Rattle.channel_interleaving.specs.Owed.{Owed}
-use Rattle.channel_interleaving.specs.Refusal.{refusal, step_refusal}
+use Rattle.channel_interleaving.specs.Refusal.{begin_refusal, step_refusal}
 use Rattle.channel_interleaving.specs.Roll.{first_roll}
 use Rattle.channel_interleaving.specs.Run.{Book, IsBookOf, book_begun}
 use Rattle.channel_interleaving.specs.SightAt.{sight_at}
@@ -41,7 +41,7 @@ module _ {T S : Type 0} (wakes : S → Waiter → S → Type 0) where
   -- one: whatever book that is, and whomever they woke.
   abbrev pub BeginByNames : Book T → MergeMoment T Waiter S → List (ChannelStep T Waiter) → List (Entry T) → List (MergeMoment T Waiter S) → Type 0
   BeginByNames b m (channel.Begin p a ∷ ys) (e ∷ es) (n ∷ ns) =
-      (c : Call T) × (refusal b.roll c ≡ None) × IsOrListens (asks b.roll c) a × BeginByNames (book_begun (record { 0 = p }) c b) n ys es ns
+      (c : Call T) × (begin_refusal b.roll c ≡ None) × IsOrListens (asks b.roll c) a × BeginByNames (book_begun (record { 0 = p }) c b) n ys es ns
   BeginByNames b m (channel.Step p ∷ ys) (e ∷ es) (n ∷ ns) =
       (names : List Waiter) (after : Book T) → Next m.scene (channel.Step p) e names n.scene → Woken wakes m.sink names n.sink
       → IsBookOf (step.Step (record { 0 = p })) e.reply e.kept names b after → BeginByNames after n ys es ns

@@ -58,8 +58,8 @@ module _ {T : Type 0} where
   calls_in w = floor.calls_in w.inside
 
   -- the count of senders or of receivers
-  abbrev pub counted : Side → WorldView T → ℕ
-  counted side w = count side (floor.parts_in w.inside).roster
+  abbrev pub count_in : Side → WorldView T → ℕ
+  count_in side w = count side (floor.parts_in w.inside).roster
 
   -- with no call under way: the state of the model. While calls are made one at a time this is all that a world is
   abbrev pub at_rest : WorldView T → State T
