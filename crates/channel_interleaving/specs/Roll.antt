@@ -27,7 +27,7 @@ use Rattle.channel_interleaving.specs.declared.roll.Roll.{Roll}
 
 -- the listener of one that is pending
 abbrev pub key_of : Standing → Option Key
-key_of (Waits key is_woken) = Some key
+key_of (Waits key since) = Some key
 key_of s = None
 
 -- after a poll that left this listener, or none
