@@ -9,7 +9,7 @@ use Rattle.async_channel.specs.Sections.{Answers}
 use Rattle.async_channel.specs.declared.seen.Seen.{Seen}
 use Rattle.channel_calls.proofs.Interface.{carried}
 use Rattle.channel_calls.specs.Asks.{first}
-use Rattle.channel_calls.specs.Blocks.{waiting_of, poll_woken, Asked, Slept, Looks, Begins, Listens, Round, Rounds, Wakens, Blocks}
+use Rattle.channel_calls.specs.Blocks.{waiting_of, poll_woken, Asked, Slept, Looks, AnswersAtFirst, Listens, Round, Rounds, Wakens, Blocks}
 use Rattle.channel_calls.specs.Deeds.{Deed, Done}
 use Rattle.channel_calls.specs.Filling.{Fills}
 use Rattle.channel_calls.specs.Taking.{WaitsForNext, TakesNext}
@@ -51,7 +51,7 @@ module _ {T W X Y : Type 0} (did : Deed T W → X → X → Type 0) (seen : Deed
   looks_seen zero b s t e = ap view e
   looks_seen (suc n) b s t (x, looks, walked) = (view x, looks_seen n b s x looks, to_seen _ x _ t walked)
 
-  begins_seen : (b : Blocked T) (s : X) (r : Reply T) (kept : Kept T) (t : X) → Begins did b s r kept t → Begins seen b (view s) r kept (view t)
+  begins_seen : (b : Blocked T) (s : X) (r : Reply T) (kept : Kept T) (t : X) → AnswersAtFirst did b s r kept t → AnswersAtFirst seen b (view s) r kept (view t)
   begins_seen b s r kept t h task = from_seen (again (waiting_of b) None task) s r kept t (h task)
 
   listens_seen : (b : Blocked T) (s : X) (key : Key) (t : X) → Listens did b s key t → Listens seen b (view s) key (view t)

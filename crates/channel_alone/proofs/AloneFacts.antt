@@ -23,7 +23,7 @@ use Rattle.channel_calls.specs.Answered.{answered_next}
 use Rattle.channel_calls.specs.Asks.{kept_by}
 use Rattle.channel_calls.specs.Moves.{Channel, Effect, channel, Turned, Tried, seats, phase, IsTaken, Hastens, Made, IsStepOver}
 use Rattle.channel_alone.specs.Alone.{Outcome, Alone, after_waking, answers}
-use Rattle.channel_alone.specs.Run.{HasPosition}
+use Rattle.channel_alone.specs.Run.{HasNextPosition}
 use Rattle.channel_alone.proofs.TryFacts.{brought_by, brought_by_is, left_by, Found, tries_start, tries_on, tries_end}
 use Rattle.channel_alone.proofs.Order.{order, order_turn, order_try, near, measure, measure_falls, try_is_late, answered_order, telling_order}
 use Rattle.channel_alone.proofs.Rest.{RestTry, RestWork, RestTurn, RestStage, turn_rests}
@@ -42,7 +42,7 @@ most_one n (inl e) = omega (arith, e)
 most_one n (inr e) = omega (arith, e)
 
 module _ {T : Type 0} where
-  pub still_in_range : (q p : Queue T) → HasPosition q → p.capacity ≡ q.capacity → p.accepted ≤ q.accepted + 1 → IsInRange p
+  pub still_in_range : (q p : Queue T) → HasNextPosition q → p.capacity ≡ q.capacity → p.accepted ≤ q.accepted + 1 → IsInRange p
   still_in_range q p (inl h) c e = inl (c ∙ h)
   still_in_range q p (inr h) c e = inr (omega (arith, h, e))
 
@@ -124,7 +124,7 @@ module _ {T W : Type 0} where
     pub idle : IsIdle from
     pub fits : Fits parts.cells now (seats at stage ++ [])
     pub known : At from at stage now
-    pub place : HasPosition c0.queue
+    pub place : HasNextPosition c0.queue
     pub capacity : from.capacity ≡ c0.queue.capacity
     pub accepted : from.accepted ≤ c0.queue.accepted + 1
     pub unspent : 5 < order parts.roster stage → from.accepted ≡ c0.queue.accepted
@@ -139,7 +139,7 @@ module _ {T W : Type 0} where
     pub turned : Turned turn r (phase at stage')
     pub idle : IsIdle queue
     pub fits : Fits parts'.cells queue (seats at stage' ++ [])
-    pub place : HasPosition c0.queue
+    pub place : HasNextPosition c0.queue
     pub capacity : queue.capacity ≡ c0.queue.capacity
     pub accepted : queue.accepted ≤ c0.queue.accepted + 1
     pub unspent : 5 < order_turn parts'.roster turn → queue.accepted ≡ c0.queue.accepted

@@ -47,7 +47,7 @@ use Rattle.channel_calls.specs.declared.stage.Waiting.{Waiting}
 use Rattle.channel_calls.specs.declared.stage.Waiting.TheVariants as waiting
 use Rattle.channel_calls.specs.declared.stage.Work.{Work}
 use Rattle.channel_calls.specs.declared.stage.Work.TheVariants.{TellReceive, TellStreams, TellSend, Insert, Register, Leave}
-use Rattle.channel_alone.specs.Ample.{lacks_memory, IsListed, HasNode}
+use Rattle.channel_alone.specs.Ample.{lacks_memory, IsOnList, HasNode}
 use Rattle.channel_alone.specs.Run.{IsAtRest}
 use Rattle.channel_alone.proofs.AloneFacts.{IsAlone, in_range}
 use Rattle.channel_alone.proofs.LoopFacts.{IsOnItsWay}
@@ -130,7 +130,7 @@ module _ {T W : Type 0} (cap : Option ℕ) where
 
   abbrev pub ReadyAim : Roster W → Rooms → Aim T W → Type 0
   ReadyAim a m (aim.Poll line None task) = (0 < room_on line m) × HasBound cap line
-  ReadyAim a m (aim.Poll line (Some key) task) = IsListed line (Some key) a × HasBound cap line
+  ReadyAim a m (aim.Poll line (Some key) task) = IsOnList line (Some key) a × HasBound cap line
   ReadyAim a m _ = ⊥
 
   abbrev pub ReadyWork : Roster W → Rooms → Work T W → Type 0
@@ -138,7 +138,7 @@ module _ {T W : Type 0} (cap : Option ℕ) where
   ReadyWork a m (TellStreams e) = lacks_memory e.reply ≡ false
   ReadyWork a m (TellSend e) = lacks_memory e.reply ≡ false
   ReadyWork a m (Insert w task) = (0 < room_on (line_of w) m) × HasBound cap (line_of w)
-  ReadyWork a m (Register w key task) = IsListed (line_of w) (Some key) a × HasBound cap (line_of w)
+  ReadyWork a m (Register w key task) = IsOnList (line_of w) (Some key) a × HasBound cap (line_of w)
   ReadyWork a m (Leave e) = lacks_memory e.reply ≡ false
   ReadyWork a m _ = ⊥
 
@@ -311,17 +311,17 @@ module _ {T W : Type 0} where
       HasNode a (parts_of c0) → ReadyStage (capacity_of (parts_of c0).cells.form) (parts_of c).roster (rooms_of c) stage
 
   module _ (cap : Option ℕ) (b : Roster W) (m : Rooms) where
-    first_again : (w : Waiting T) (key : Option Key) (task : W) → IsListed (line_of w) key b → HasBound cap (line_of w)
+    first_again : (w : Waiting T) (key : Option Key) (task : W) → IsOnList (line_of w) key b → HasBound cap (line_of w)
         → ReadyTurn cap b m (again w key task)
     first_again w None task h bound = absurd h
     first_again w (Some key) task h bound = (h, bound)
 
-    first_asks : (w : Waiting T) (key : Option Key) (task : W) → IsListed (line_of w) key b → HasBound cap (line_of w)
+    first_asks : (w : Waiting T) (key : Option Key) (task : W) → IsOnList (line_of w) key b → HasBound cap (line_of w)
         → ReadyTurn cap b m (asks_listener w key task)
     first_asks w None task h bound = absurd h
     first_asks w (Some key) task h bound = (h, bound)
 
-    first_polls : (w : Waiting T) (asks : Bool) (key : Option Key) (task : W) → IsListed (line_of w) key b → HasBound cap (line_of w)
+    first_polls : (w : Waiting T) (asks : Bool) (key : Option Key) (task : W) → IsOnList (line_of w) key b → HasBound cap (line_of w)
         → ReadyTurn cap b m (if asks then asks_listener w key task else again w key task)
     first_polls w true key task h bound = first_asks w key task h bound
     first_polls w false key task h bound = first_again w key task h bound

@@ -33,7 +33,7 @@ use Rattle.channel_calls.specs.Answered.{over, sent_next, forced_next, received_
 use Rattle.channel_calls.specs.Several.{Gathered, with_last}
 use Rattle.channel_calls.specs.Moves.{Channel, listens, registers}
 use Rattle.channel_alone.specs.Alone as alone
-use Rattle.channel_alone.specs.Alone.{Outcome, Where, ends, receives_by, says_only, Waits, Listens, PollsFor}
+use Rattle.channel_alone.specs.Alone.{Outcome, Where, ends, receives_by, says_only, WaitsOrGoesOn, ListensOrIsRefused, PollsFor}
 use Rattle.channel_alone.proofs.TryFacts.{left_by}
 use Rattle.channel_steps.proofs.Interface.{fresh_waits, same_line}
 use Rattle.channel_alone.proofs.Rest.{gathers, RestTry, RestTurn, RestWork, ends_rest}
@@ -84,13 +84,13 @@ module _ {T W : Type 0} where
   -- ---- a poll that the channel refused
 
   module _ (c : Channel T W) (w : Waiting T) (fresh : (key : Key) → kind_of (listeners (line_of w) c.roster) key ≡ None → waits key (listeners (line_of w) (listens (line_of w) key c).channel.roster) ≡ true)
-      (stuck : (d : Channel T W) (key : Option Key) (task : W) (o : Outcome T W) → d.queue ≡ c.queue → RestTry (ask_of w) (aim.Poll (line_of w) key task) d o → Waits w key task d o) (task : W) (o : Outcome T W) where
-    inserts : RestWork (Insert w task) c o → Listens w task c o
+      (stuck : (d : Channel T W) (key : Option Key) (task : W) (o : Outcome T W) → d.queue ≡ c.queue → RestTry (ask_of w) (aim.Poll (line_of w) key task) d o → WaitsOrGoesOn w key task d o) (task : W) (o : Outcome T W) where
+    inserts : RestWork (Insert w task) c o → ListensOrIsRefused w task c o
     inserts (inl (key, none, k)) =
         inl (key, none, given_then (waits key (listeners (line_of w) (listens (line_of w) key c).channel.roster)) _ _ (fresh key none) (stuck (listens (line_of w) key c).channel (Some key) task o refl k))
     inserts (inr h) = inr h
 
-    pub refused_rest : (key : Option Key) → RestTurn (refused_next w key task) c o → Waits w key task c o
+    pub refused_rest : (key : Option Key) → RestTurn (refused_next w key task) c o → WaitsOrGoesOn w key task c o
     refused_rest None k = inserts k
     refused_rest (Some key) k =
         where_map (waits key (listeners (line_of w) c.roster)) _ _ _ (λ h. stuck (registers (line_of w) key task c).channel None task o refl h) k
@@ -189,14 +189,14 @@ module _ {T W : Type 0} where
     -- ---- polls
 
     stuck_send : (m : T) → c.queue.closed ≡ false → is_filled c.queue ≡ true → (d : Channel T W) (key : Option Key) (task : W) (p : Outcome T W) → d.queue ≡ c.queue
-        → RestTry (ask.Push m) (aim.Poll Sends key task) d p → Waits (waiting.Send m) key task d p
+        → RestTry (ask.Push m) (aim.Poll Sends key task) d p → WaitsOrGoesOn (waiting.Send m) key task d p
     stuck_send m opened full d key task p e (inl h) =
         absurd (bounded d.queue.capacity d.queue.items h.1 (ap (λ (q : Queue T). is_filled q) e ∙ full))
     stuck_send m opened full d key task p e (inr h) =
         given_then (is_filled d.queue) _ _ (ap (λ (q : Queue T). is_filled q) e ∙ full) (given_else d.queue.closed _ _ (ap (λ (q : Queue T). q.closed) e ∙ opened) h)
 
     stuck_for : (w : Waiting T) (got : T → Reply T) (closed : Reply T) → c.queue.closed ≡ false → c.queue.items ≡ [] → (d : Channel T W) (key : Option Key) (task : W) (p : Outcome T W) → d.queue ≡ c.queue
-        → PollsFor d.queue.items w got closed key task d p → Waits w key task d p
+        → PollsFor d.queue.items w got closed key task d p → WaitsOrGoesOn w key task d p
     stuck_for w got closed opened empty d key task p e h =
         let h' = subst (λ (xs : List T). PollsFor xs w got closed key task d p) (ap (λ (q : Queue T). q.items) e ∙ empty) h in
         given_else d.queue.closed _ _ (ap (λ (q : Queue T). q.closed) e ∙ opened) h'
@@ -231,7 +231,7 @@ module _ {T W : Type 0} where
           subst (λ (xs : List T). ForReceive key task xs) (sym g.1)
           (where_else c.queue.closed _ _ g.0 (refused_rest c waiting.Receive (fresh_on Receives) (stuck_for waiting.Receive (λ m. reply.RecvPoll (poll.Ready (Ok m))) (reply.RecvPoll (poll.Ready (Err (refused.Plain (record {}))))) g.0 g.1) task o key k))
       receive_rest (answer.Pop (Err pop_error.Closed)) g k =
-          subst (λ (xs : List T). ForReceive key task xs) (sym g.1) (where_then c.queue.closed _ (Waits waiting.Receive key task c o) g.0 (ends_rest c o _ k))
+          subst (λ (xs : List T). ForReceive key task xs) (sym g.1) (where_then c.queue.closed _ (WaitsOrGoesOn waiting.Receive key task c o) g.0 (ends_rest c o _ k))
       receive_rest y g k = absurd g
 
       stream_rest : (y : QueueReply T) → Finds ask.Pop c.queue y → RestTurn (stream_next y key task) (now_is c (left_by ask.Pop y c.queue)) o → RestTry ask.Pop (aim.Poll Streams key task) c o
@@ -240,11 +240,11 @@ module _ {T W : Type 0} where
           subst (λ (xs : List T). ForStream key task xs) (sym g.1)
           (where_else c.queue.closed _ _ g.0 (refused_rest c waiting.Stream (fresh_on Streams) (stuck_for waiting.Stream (λ m. reply.Next (poll.Ready (Some (Ok m)))) (reply.Next (poll.Ready None)) g.0 g.1) task o key k))
       stream_rest (answer.Pop (Err pop_error.Closed)) g k =
-          subst (λ (xs : List T). ForStream key task xs) (sym g.1) (where_then c.queue.closed _ (Waits waiting.Stream key task c o) g.0 (ends_rest c o _ k))
+          subst (λ (xs : List T). ForStream key task xs) (sym g.1) (where_then c.queue.closed _ (WaitsOrGoesOn waiting.Stream key task c o) g.0 (ends_rest c o _ k))
       stream_rest y g k = absurd g
 
       stuck_closing : c.queue.closed ≡ false → (d : Channel T W) (key : Option Key) (task : W) (p : Outcome T W) → d.queue ≡ c.queue
-          → RestTry ask.IsClosed (aim.Poll Closings key task) d p → Waits waiting.Closing key task d p
+          → RestTry ask.IsClosed (aim.Poll Closings key task) d p → WaitsOrGoesOn waiting.Closing key task d p
       stuck_closing opened d key task p e h = given_else d.queue.closed _ _ (ap (λ (q : Queue T). q.closed) e ∙ opened) h
 
       closing_rest : (y : QueueReply T) → Finds ask.IsClosed c.queue y → RestTurn (closing_next y key task) (now_is c (left_by ask.IsClosed y c.queue)) o → RestTry ask.IsClosed (aim.Poll Closings key task) c o

@@ -19,7 +19,7 @@ use Rattle.channel_calls.specs.Plain.{parts_of, DoesPlain}
 use Rattle.channel_calls.specs.Walks.{ChannelMakes}
 use Rattle.channel_calls.proofs.Interface.{exact_step}
 use Rattle.channel_alone.specs.Alone.{Outcome, after_waking, answers}
-use Rattle.channel_alone.specs.Run.{HasPosition, IsAtRest, AnsweredAlone, AnswersAlone}
+use Rattle.channel_alone.specs.Run.{HasNextPosition, IsAtRest, AnsweredAlone, AnswersAlone}
 use Rattle.channel_alone.proofs.TryFacts.{idle}
 use Rattle.channel_alone.proofs.Order.{measure}
 use Rattle.channel_alone.proofs.FirstFacts.{first_rest, first_goes_on, Begun, begun}
@@ -27,7 +27,7 @@ use Rattle.channel_alone.proofs.AloneFacts.{IsAlone, Advances, Answered, woken_o
 
 module _ {T W : Type 0} (a : ChannelAsk T W) (parts0 : Parts T W) where
   -- where a call begins, it has reached its first stage, over the queue that the cells mean
-  pub starts_over : (q : Queue T) → HasPosition q → (stage : Stage (QueueCall T) T W) (t : Begun (first a) parts0.cells q stage)
+  pub starts_over : (q : Queue T) → HasNextPosition q → (stage : Stage (QueueCall T) T W) (t : Begun (first a) parts0.cells q stage)
       → Fits parts0.cells q []
       → (y : IsAlone a (channel q parts0) parts0 stage []) × (y.now ≡ q) × (y.at ≡ t.at)
   starts_over q position stage t fits =
@@ -63,7 +63,7 @@ module _ {T W S : Type 0} (wakes : S → W → S → Type 0) where
 
   abbrev pub IsOnItsWay : ChannelAsk T W → Parts T W → S → Parts T W → Stage (QueueCall T) T W → S → Type 0
   IsOnItsWay a parts0 sink0 parts stage sink =
-      (q : Queue T) → HasPosition q → Fits parts0.cells q [] → Reached a (channel q parts0) sink0 parts stage sink
+      (q : Queue T) → HasNextPosition q → Fits parts0.cells q [] → Reached a (channel q parts0) sink0 parts stage sink
 
   module _ (a : ChannelAsk T W) (parts0 : Parts T W) (sink0 : S) where
     pub way_starts : (call : ChannelCall T W) → IsNewCall call (first a) → IsOnItsWay a parts0 sink0 parts0 call.stage sink0

@@ -29,7 +29,7 @@ use Rattle.event_listener.specs.declared.error.ListenError.{ListenError}
 use Rattle.channel_calls.specs.Parts.{listeners, count, is_raised}
 use Rattle.channel_calls.specs.Turns.{says, line_of, message_of, ask_of, leaving, nothing_kept, ends_by, refused_reply, closer_ending}
 use Rattle.channel_calls.specs.Moves.{Channel, Effect, Turned, tells_all, listens, raises}
-use Rattle.channel_alone.specs.Alone.{Outcome, Where, answers, ends, over_queue, taken, of_message, of_room, of_rooms, of_closing, says_only, receives_these, receives_several, ReceivesSeveral, closes, Registers, PollsSend, PollsReceive, PollsStream, PollsClosing, drops, clones, Alone}
+use Rattle.channel_alone.specs.Alone.{Outcome, Where, answers, ends, over_queue, taken, of_message, of_room, of_rooms, of_closing, says_only, receives_these, receives_several, ReceivesSeveral, closes, RegistersOrGoesOn, PollsSend, PollsReceive, PollsStream, PollsClosing, drops, clones, Alone}
 
 module _ {T W : Type 0} where
   -- several messages, some of which were taken: the others out of those that are there
@@ -111,7 +111,7 @@ module _ {T W : Type 0} where
   RestWork (Insert w task) c o =
       ((key : Key) × (kind_of (listeners (line_of w) c.roster) key ≡ None) × RestTry (ask_of w) (aim.Poll (line_of w) (Some key) task) (listens (line_of w) key c).channel o)
       ⊎ ((error : ListenError) × (o ≡ answers (refused_reply (line_of w) error) (leaving None (message_of w)) c))
-  RestWork (Register w key task) c o = Registers w key task c o (λ d. RestTry (ask_of w) (aim.Poll (line_of w) None task) d o)
+  RestWork (Register w key task) c o = RegistersOrGoesOn w key task c o (λ d. RestTry (ask_of w) (aim.Poll (line_of w) None task) d o)
   RestWork (Leave x) c o = o ≡ ends [] x c
   RestWork (Lower side key) c o = o ≡ drops side key c
   RestWork (Count side) c o = o ≡ says_only (reply.Count (count side c.roster)) c

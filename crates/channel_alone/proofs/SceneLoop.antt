@@ -24,8 +24,8 @@ use Rattle.channel_steps.specs.Run as steps
 use Rattle.channel_steps.specs.Scene.{Under, Scene, Sitting, blocks_after, does, under_of, all_seats, Known, AllKnown, IsBalanced, Steps, Represents}
 use Rattle.channel_steps.proofs.Interface.{end_on, run_none, known_next, fits_after, none_after, after_lone, lone_goes, lone_ends, messages_counted, messages_moved}
 use Rattle.channel_alone.specs.Alone.{Outcome, Alone, after_waking, answers}
-use Rattle.channel_alone.specs.Run.{HasPosition}
-use Rattle.channel_alone.specs.Scenes.{steps_by, woken_in, EndsWith, RanInScenes, RunsInScenes}
+use Rattle.channel_alone.specs.Run.{HasNextPosition}
+use Rattle.channel_alone.specs.Scenes.{steps_by, woken_by_steps, EndsWith, RanInScenes, RunsInScenes}
 use Rattle.channel_alone.specs.declared.run.Done.{Done}
 use Rattle.channel_alone.proofs.FirstFacts.{first_goes_on, Begun, begun}
 use Rattle.channel_alone.proofs.AloneFacts.{IsAlone, Advances, Answered, StepsTo, woken_on, answered, finished_kept, goes_on_so, capacity_now, accepts_one, made_by, next}
@@ -63,20 +63,20 @@ module _ {T W : Type 0} where
 
     woken_more : (s : Scene T W) (es : List (Entry T)) (ns : List (Scene T W)) (h : EachStep NextScene s (steps_by p es) es ns)
         (e : Entry T) (names : List W) (t : Scene T W) (x : Steps (end_of s ns) p e names t)
-        → woken_in s (steps_by p (es ++ e ∷ [])) (es ++ e ∷ []) (ns ++ t ∷ []) (each_more s es ns h e names t x)
-        ≡ woken_in s (steps_by p es) es ns h ++ names
+        → woken_by_steps s (steps_by p (es ++ e ∷ [])) (es ++ e ∷ []) (ns ++ t ∷ []) (each_more s es ns h e names t x)
+        ≡ woken_by_steps s (steps_by p es) es ns h ++ names
     unfolding each_more
     woken_more s [] [] h e names t x = append-nil names
     woken_more s (f ∷ es) (n ∷ ns) h e names t x =
         ap (λ (ws : List W). h.0.0 ++ ws) (woken_more n es ns h.1 e names t x)
-        ∙ sym (append_assoc h.0.0 (woken_in n (steps_by p es) es ns h.1) names)
+        ∙ sym (append_assoc h.0.0 (woken_by_steps n (steps_by p es) es ns h.1) names)
     woken_more s [] (n ∷ ns) h e names t x = absurd h
     woken_more s (f ∷ es) [] h e names t x = absurd h
 
     -- the run so far, and those whom it woke
     pub record WentSo (s : Scene T W) (es : List (Entry T)) (woken : List W) (t : Scene T W) : Type 0 where
       pub run : IsRun NextScene s (steps_by p es) es t
-      pub named : woken_in s (steps_by p es) es run.moments run.each ≡ woken
+      pub named : woken_by_steps s (steps_by p es) es run.moments run.each ≡ woken
 
     went_more : (s m t : Scene T W) (es : List (Entry T)) (so_far names : List W) (e : Entry T) → WentSo s es so_far m → Steps m p e names t
         → WentSo s (es ++ e ∷ []) (so_far ++ names) t
@@ -175,14 +175,14 @@ module _ {T W : Type 0} where
           counts = λ h. h ∙ ap (λ (c : Channel T W). length c.queue.items) (sym sh.now);
         }
 
-    begins_so : HasPosition s.now.queue → (call : ChannelCall T W) → IsNewCall call (first a)
+    begins_so : HasNextPosition s.now.queue → (call : ChannelCall T W) → IsNewCall call (first a)
         → Between a s p start messages0 parts0 call.stage [] messages0
     begins_so position call begins =
         let fits = at_rest parts0 s sh in
         let none : begins.0 ≡ None = first_goes_on a begins.0 call.stage begins.1 in
         let t : Begun (first a) parts0.cells sh.queue call.stage =
         begun parts0.cells sh.queue fits (first a) begins.0 call.stage none begins.1 in
-        let place : HasPosition sh.queue = subst (λ (c : Channel T W). HasPosition c.queue) sh.now position in
+        let place : HasNextPosition sh.queue = subst (λ (c : Channel T W). HasNextPosition c.queue) sh.now position in
         begins_between call.stage t (starts_over a parts0 sh.queue place call.stage t fits)
 
     -- ---- it makes a step
@@ -219,7 +219,7 @@ module _ {T W : Type 0} where
         balanced : IsBalanced t.now.queue
         balanced = let k = follows e t n in k.1
 
-        by : HasPosition start.queue → counted (length x.mid.now.queue.items) e.mark ≡ length t.now.queue.items
+        by : HasNextPosition start.queue → counted (length x.mid.now.queue.items) e.mark ≡ length t.now.queue.items
         by (inl one) = counted_few (length x.mid.now.queue.items) (length t.now.queue.items) e.mark
             (messages_moved x.mid p e names t n x.balanced balanced) (short one)
         by (inr low) =
@@ -365,7 +365,7 @@ module _ {T W S : Type 0} (wakes : S → W → S → Type 0) where
   -- in every scene with nobody at work that the cells showed where it began
   abbrev pub IsBetween : ChannelAsk T W → Parts T W → S → ℕ → Parts T W → Stage (QueueCall T) T W → S → ℕ → Type 0
   IsBetween a parts0 sink0 messages0 parts stage sink messages =
-      (s : Scene T W) (p : ℕ) → HasPosition s.now.queue → (sh : Represents parts0 [] s)
+      (s : Scene T W) (p : ℕ) → HasNextPosition s.now.queue → (sh : Represents parts0 [] s)
       → ReachedBetween a s p (channel sh.queue parts0) sink0 messages0 parts stage sink messages
 
   module _ (a : ChannelAsk T W) (parts0 : Parts T W) (sink0 : S) (messages0 : ℕ) where

@@ -43,8 +43,8 @@ Where false A B = B
 module _ {T : Type 0} where
   -- ---- the queue
 
-  abbrev pub appended : T → Queue T → Queue T
-  appended m q = record q { items = q.items ++ m ∷ []; accepted = q.accepted + 1 }
+  abbrev pub with_appended : T → Queue T → Queue T
+  with_appended m q = record q { items = q.items ++ m ∷ []; accepted = q.accepted + 1 }
 
   abbrev pub replaced : T → Queue T → Queue T
   replaced m q = record q { items = drop 1 q.items ++ m ∷ []; accepted = q.accepted + 1; removed = q.removed + 1 }
@@ -56,8 +56,8 @@ module _ {T : Type 0} where
   abbrev pub taken_some : ℕ → Queue T → Queue T
   taken_some n q = record q { items = drop n q.items; removed = q.removed + length (take n q.items) }
 
-  abbrev pub shut : Queue T → Queue T
-  shut q = record q { closed = true }
+  abbrev pub with_closed : Queue T → Queue T
+  with_closed q = record q { closed = true }
 
 module _ {T W : Type 0} where
   abbrev pub over_queue : (Queue T → Queue T) → Channel T W → Channel T W
@@ -102,14 +102,14 @@ module _ {T W : Type 0} where
   sends m c =
       if c.queue.closed then ends [] (says (reply.TrySend (Err (refused.Plain (try_send_error.Closed m))))) c
       else (if is_filled c.queue then ends [] (says (reply.TrySend (Err (refused.Plain (try_send_error.Full m))))) c
-      else ends of_message (says (reply.TrySend (Ok tt))) (over_queue (appended m) c))
+      else ends of_message (says (reply.TrySend (Ok tt))) (over_queue (with_appended m) c))
 
   -- the oldest message of a full channel is displaced; no send is told
   abbrev pub force_sends : T → Channel T W → Outcome T W
   force_sends m c =
       if c.queue.closed then ends [] (says (reply.ForceSend (Err (refused.Plain (record { 0 = m }))))) c
       else (if is_filled c.queue then ends of_message (says (reply.ForceSend (Ok (slice_get c.queue.items 0)))) (over_queue (replaced m) c)
-      else ends of_message (says (reply.ForceSend (Ok None))) (over_queue (appended m) c))
+      else ends of_message (says (reply.ForceSend (Ok None))) (over_queue (with_appended m) c))
 
   -- a message where there is one
   abbrev pub receives_by : List T → Channel T W → Outcome T W
@@ -121,7 +121,7 @@ module _ {T W : Type 0} where
 
   -- only the call that closes tells
   abbrev pub closes : Closer → Channel T W → Outcome T W
-  closes by c = if c.queue.closed then ends [] (closer_ending by false) c else ends of_closing (closer_ending by true) (over_queue shut c)
+  closes by c = if c.queue.closed then ends [] (closer_ending by false) c else ends of_closing (closer_ending by true) (over_queue with_closed c)
 
   -- several messages at most: as many as there are, which these are
   abbrev pub receives_these : ℕ → List T → Channel T W → Outcome T W
@@ -140,34 +140,34 @@ module _ {T W : Type 0} where
   -- ---- polls
 
   -- where a poll finds nothing, a listener comes in and keeps the task, under a key that is not listed; or it is refused
-  abbrev pub Listens : Waiting T → W → Channel T W → Outcome T W → Type 0
-  Listens w task c o =
+  abbrev pub ListensOrIsRefused : Waiting T → W → Channel T W → Outcome T W → Type 0
+  ListensOrIsRefused w task c o =
       ((key : Key) × (kind_of (listeners (line_of w) c.roster) key ≡ None)
       × (o ≡ answers (pending_reply (line_of w)) (leaving (Some key) (message_of w)) (registers (line_of w) key task (listens (line_of w) key c).channel).channel))
       ⊎ ((error : ListenError) × (o ≡ answers (refused_reply (line_of w) error) (leaving None (message_of w)) c))
 
   -- a listener that it holds and that waits keeps the task; one that was told is used up
-  abbrev pub Registers : Waiting T → Key → W → Channel T W → Outcome T W → (Channel T W → Type 0) → Type 0
-  Registers w key task c o told =
+  abbrev pub RegistersOrGoesOn : Waiting T → Key → W → Channel T W → Outcome T W → (Channel T W → Type 0) → Type 0
+  RegistersOrGoesOn w key task c o told =
       Where (waits key (listeners (line_of w) c.roster))
       (o ≡ answers (pending_reply (line_of w)) (leaving (Some key) (message_of w)) (registers (line_of w) key task c).channel)
       (told (registers (line_of w) key task c).channel)
 
-  abbrev pub Waits : Waiting T → Option Key → W → Channel T W → Outcome T W → Type 0
-  Waits w None task c o = Listens w task c o
-  Waits w (Some key) task c o = Registers w key task c o (λ d. Listens w task d o)
+  abbrev pub WaitsOrGoesOn : Waiting T → Option Key → W → Channel T W → Outcome T W → Type 0
+  WaitsOrGoesOn w None task c o = ListensOrIsRefused w task c o
+  WaitsOrGoesOn w (Some key) task c o = RegistersOrGoesOn w key task c o (λ d. ListensOrIsRefused w task d o)
 
   abbrev pub PollsSend : T → Option Key → W → Channel T W → Outcome T W → Type 0
   PollsSend m key task c o =
       MayLackRoom (over (reply.SendPoll (poll.Ready (Err (refused.NoMemory tt)))) (Some m) Sends key) c o
       ⊎ Where c.queue.closed (o ≡ ends [] (over (reply.SendPoll (poll.Ready (Err (refused.Plain (record { 0 = m }))))) None Sends key) c)
-      (Where (is_filled c.queue) (Waits (waiting.Send m) key task c o)
-      (o ≡ ends of_message (over (reply.SendPoll (poll.Ready (Ok tt))) None Sends key) (over_queue (appended m) c)))
+      (Where (is_filled c.queue) (WaitsOrGoesOn (waiting.Send m) key task c o)
+      (o ≡ ends of_message (over (reply.SendPoll (poll.Ready (Ok tt))) None Sends key) (over_queue (with_appended m) c)))
 
   -- a message where there is one; none will come to a closed channel; else the poll waits
   abbrev pub PollsFor : List T → Waiting T → (T → Reply T) → Reply T → Option Key → W → Channel T W → Outcome T W → Type 0
   PollsFor (m ∷ ms) w got closed key task c o = o ≡ ends of_room (over (got m) None (line_of w) key) (over_queue taken c)
-  PollsFor [] w got closed key task c o = Where c.queue.closed (o ≡ ends [] (over closed None (line_of w) key) c) (Waits w key task c o)
+  PollsFor [] w got closed key task c o = Where c.queue.closed (o ≡ ends [] (over closed None (line_of w) key) c) (WaitsOrGoesOn w key task c o)
 
   abbrev pub PollsReceive : Option Key → W → Channel T W → Outcome T W → Type 0
   PollsReceive key task c o =
@@ -179,7 +179,7 @@ module _ {T W : Type 0} where
 
   abbrev pub PollsClosing : Option Key → W → Channel T W → Outcome T W → Type 0
   PollsClosing key task c o =
-      Where c.queue.closed (o ≡ ends [] (over (reply.ClosedPoll (poll.Ready (Ok tt))) None Closings key) c) (Waits waiting.Closing key task c o)
+      Where c.queue.closed (o ≡ ends [] (over (reply.ClosedPoll (poll.Ready (Ok tt))) None Closings key) c) (WaitsOrGoesOn waiting.Closing key task c o)
 
   -- ---- handles
 
@@ -206,7 +206,7 @@ module _ {T W : Type 0} where
   -- a poll that asks its listener before it tries: this comes of its try over no listener
   abbrev pub AsksListener : Waiting T → Option Key → W → Channel T W → Outcome T W → (Channel T W → Type 0) → Type 0
   AsksListener w None task c o tries = tries c
-  AsksListener w (Some key) task c o tries = Registers w key task c o tries
+  AsksListener w (Some key) task c o tries = RegistersOrGoesOn w key task c o tries
 
   abbrev pub Alone : ChannelAsk T W → Channel T W → Outcome T W → Type 0
   Alone (TrySend m) c o = MayLackRoom (says (reply.TrySend (Err (refused.NoMemory m)))) c o ⊎ (o ≡ sends m c)

@@ -27,16 +27,16 @@ lacks_memory _ = false
 
 module _ {W : Type 0} where
   -- this listener is held, and is on this list
-  abbrev pub IsListed : Line → Option Key → Roster W → Type 0
-  IsListed line None a = ⊥
-  IsListed line (Some key) a = is_some (kind_of (listeners line a) key) ≡ true
+  abbrev pub IsOnList : Line → Option Key → Roster W → Type 0
+  IsOnList line None a = ⊥
+  IsOnList line (Some key) a = is_some (kind_of (listeners line a) key) ≡ true
 
 module _ {T W : Type 0} where
   -- A poll that holds a listener which is on its list. Of a send it is one on a channel with a bound: without one no send waits, and
   -- a message may want a block.
   abbrev pub HasNode : ChannelAsk T W → Parts T W → Type 0
-  HasNode (PollSend m l task) p = IsListed Sends l.key p.roster × (is_some (capacity_of p.cells.form) ≡ true)
-  HasNode (PollRecv l task) p = IsListed Receives l.key p.roster
-  HasNode (PollClosed key task) p = IsListed Closings key p.roster
-  HasNode (PollNext key task) p = IsListed Streams key p.roster
+  HasNode (PollSend m l task) p = IsOnList Sends l.key p.roster × (is_some (capacity_of p.cells.form) ≡ true)
+  HasNode (PollRecv l task) p = IsOnList Receives l.key p.roster
+  HasNode (PollClosed key task) p = IsOnList Closings key p.roster
+  HasNode (PollNext key task) p = IsOnList Streams key p.roster
   HasNode _ p = ⊥

@@ -11,13 +11,13 @@ use Rattle.channel_alone.specs.declared.run.Done.{Done}
 
 module _ {T : Type 0} where
   -- one more message may be accepted within the positions of a queue; a queue of one slot counts none
-  abbrev pub HasPosition : Queue T → Type 0
-  HasPosition q = (q.capacity ≡ Some 1) ⊎ (q.accepted < 2 ^ 61)
+  abbrev pub HasNextPosition : Queue T → Type 0
+  HasNextPosition q = (q.capacity ≡ Some 1) ⊎ (q.accepted < 2 ^ 61)
 
 module _ {T W : Type 0} where
   -- the cells mean a queue, and no call is under way
   abbrev pub IsAtRest : Parts T W → Type 0
-  IsAtRest parts = (q : Queue T) × HasPosition q × Fits parts.cells q []
+  IsAtRest parts = (q : Queue T) × HasNextPosition q × Fits parts.cells q []
 
   -- what a call left, from a channel with this queue
   pub record AnsweredAlone {S : Type 0} (wakes : S → W → S → Type 0) (ask : ChannelAsk T W) (q : Queue T) (parts : Parts T W) (sink : S) (done : Done T) (parts' : Parts T W) (sink' : S) : Type 0 where
@@ -34,7 +34,7 @@ module _ {T W : Type 0} where
   -- whatever queue the cells mean
   abbrev pub AnswersAlone : {S : Type 0} → (S → W → S → Type 0) → ChannelAsk T W → Parts T W → S → Done T → Parts T W → S → Type 0
   AnswersAlone wakes ask parts sink done parts' sink' =
-      (q : Queue T) → HasPosition q → Fits parts.cells q [] → AnsweredAlone wakes ask q parts sink done parts' sink'
+      (q : Queue T) → HasNextPosition q → Fits parts.cells q [] → AnsweredAlone wakes ask q parts sink done parts' sink'
 
   -- a channel of one slot, which counts no positions, with no call under way
   abbrev pub IsOneSlot : Parts T W → Type 0

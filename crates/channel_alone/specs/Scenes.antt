@@ -12,7 +12,7 @@ use Rattle.channel_steps.specs.declared.run.Step.TheVariants as step
 use Rattle.channel_steps.specs.Run.{EachStep, IsRun, NextScene, Begins}
 use Rattle.channel_steps.specs.Scene.{Scene, Represents}
 use Rattle.channel_alone.specs.Alone.{Outcome, Alone}
-use Rattle.channel_alone.specs.Run.{HasPosition}
+use Rattle.channel_alone.specs.Run.{HasNextPosition}
 use Rattle.channel_alone.specs.declared.run.Done.{Done}
 
 module _ {T : Type 0} where
@@ -28,9 +28,9 @@ module _ {T W : Type 0} where
   steps_by p entries = map (λ (e : Entry T). step.Step p) entries
 
   -- all whom these steps wake, in order
-  abbrev pub woken_in : (s : Scene T W) (xs : List (Step T W)) (es : List (Entry T)) (ns : List (Scene T W)) → EachStep NextScene s xs es ns → List W
-  woken_in s (x ∷ xs) (e ∷ es) (n ∷ ns) h = h.0.0 ++ woken_in n xs es ns h.1
-  woken_in s xs es ns h = []
+  abbrev pub woken_by_steps : (s : Scene T W) (xs : List (Step T W)) (es : List (Entry T)) (ns : List (Scene T W)) → EachStep NextScene s xs es ns → List W
+  woken_by_steps s (x ∷ xs) (e ∷ es) (n ∷ ns) h = h.0.0 ++ woken_by_steps n xs es ns h.1
+  woken_by_steps s xs es ns h = []
 
   -- a call of the party p begins in the scene s, makes its steps and ends with this outcome, after which nobody is at work
   pub record LoneRun (s : Scene T W) (p : ℕ) (ask : ChannelAsk T W) (o : Outcome T W) (t : Scene T W) : Type 0 where
@@ -39,7 +39,7 @@ module _ {T W : Type 0} where
     pub entries : List (Entry T)
     pub run : IsRun NextScene begun (steps_by p entries) entries t
     pub ends : EndsWith o.reply o.kept entries
-    pub woken : woken_in begun (steps_by p entries) entries run.moments run.each ≡ o.woken
+    pub woken : woken_by_steps begun (steps_by p entries) entries run.moments run.each ≡ o.woken
     pub over : t.under_way ≡ []
 
   module _ {S : Type 0} (wakes : S → W → S → Type 0) where
@@ -63,5 +63,5 @@ module _ {T W : Type 0} where
     -- in every scene with nobody at work that the cells show, whatever party the call is said to be of
     abbrev pub RunsInScenes : ChannelAsk T W → Parts T W → S → ℕ → Done T → Parts T W → S → ℕ → Type 0
     RunsInScenes ask parts sink messages done parts' sink' messages' =
-        (s : Scene T W) (p : ℕ) → HasPosition s.now.queue → Represents parts [] s
+        (s : Scene T W) (p : ℕ) → HasNextPosition s.now.queue → Represents parts [] s
         → RanInScenes ask sink messages done parts' sink' messages' s p

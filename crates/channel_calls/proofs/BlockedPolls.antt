@@ -15,7 +15,7 @@ use Rattle.futures.specs.declared.task.Poll.{Poll}
 use Rattle.futures.specs.declared.task.Poll.TheVariants.{Ready}
 use Rattle.channel_calls.specs.Answered.{sent_next, received_next, polled_next, over}
 use Rattle.channel_calls.specs.Asks.{first}
-use Rattle.channel_calls.specs.Blocks.{waiting_of, at_once, not_yet, poll_woken, still_waits, Begins, Listens}
+use Rattle.channel_calls.specs.Blocks.{waiting_of, at_once, not_yet, poll_woken, still_waits, AnswersAtFirst, Listens}
 use Rattle.channel_calls.specs.Deeds.{Deed, stepped, inserted, taken_off}
 use Rattle.channel_calls.specs.Listed.{pends}
 use Rattle.channel_calls.specs.Marks.{mark_of_queue}
@@ -334,7 +334,7 @@ module _ {T W X : Type 0} (did : Deed T W → X → X → Type 0) (b : Blocked T
   with_kept : (turn : Turn T W) (s : X) (given : Given T) (t : X) → given.kept.key ≡ None → WalkedFrom did turn s given.reply (leaving None given.kept.message) t → WalkedFrom did turn s given.reply given.kept t
   with_kept turn s given t none walk = subst (λ (k : Option Key). WalkedFrom did turn s given.reply (leaving k given.kept.message) t) (sym none) walk
 
-  pub begun_over : (s : X) (given : Given T) (t : X) → IsOver b given → TriesSo s (Ok given) t → Begins did b s given.reply given.kept t
+  pub begun_over : (s : X) (given : Given T) (t : X) → IsOver b given → TriesSo s (Ok given) t → AnswersAtFirst did b s given.reply given.kept t
   begun_over s given t is tried task =
       let turn = again (waiting_of b) None task in
       with_kept turn s given t is.2 (comes_ends did turn s given.reply (leaving None given.kept.message) t (tried None task))
@@ -360,7 +360,7 @@ module _ {T W X : Type 0} (did : Deed T W → X → X → Type 0) (b : Blocked T
       both task =
           comes_then did (again (waiting_of b) None task) s y _ _ (tried_turn (line_of (waiting_of b)) o (Some key) task) z (listed key y deed task) (again_tried (Some key) task)
 
-      pub begun_left : (given : Given T) (names : List W) (t : X) → o ≡ Ok given → IsOver b given → did (taken_off (line_of (waiting_of b)) key names) z t → Begins did b s given.reply given.kept t
+      pub begun_left : (given : Given T) (names : List W) (t : X) → o ≡ Ok given → IsOver b given → did (taken_off (line_of (waiting_of b)) key names) z t → AnswersAtFirst did b s given.reply given.kept t
       begun_left given names t is done off task =
           let turn = again (waiting_of b) None task in
           let ended = over given.reply given.kept.message (line_of (waiting_of b)) (Some key) in

@@ -62,8 +62,8 @@ module _ {T W X : Type 0} (did : Deed T W → X → X → Type 0) where
   Looks (suc n) b s t = (x : X) × Looks n b s x × WalkedTo did (first (at_once b)) x (not_yet b) t
 
   -- a first poll of it, whichever its task, comes to this answer
-  abbrev pub Begins : Blocked T → X → Reply T → Kept T → X → Type 0
-  Begins b s r kept t = (task : W) → WalkedFrom did (again (waiting_of b) None task) s r kept t
+  abbrev pub AnswersAtFirst : Blocked T → X → Reply T → Kept T → X → Type 0
+  AnswersAtFirst b s r kept t = (task : W) → WalkedFrom did (again (waiting_of b) None task) s r kept t
 
   -- or comes to where it is next to register this listener
   abbrev pub Listens : Blocked T → X → Key → X → Type 0
@@ -96,4 +96,4 @@ module _ {T W X : Type 0} (did : Deed T W → X → X → Type 0) (asked : Optio
   abbrev pub Blocks : Blocked T → X → Reply T → Kept T → X → Type 0
   Blocks b s r kept t =
       (n : ℕ) × (x : X) × Looks did n b s x
-      × (Begins did b x r kept t ⊎ ((key : Key) × (y : X) × Listens did b x key y × SleepsOn b key y r kept t))
+      × (AnswersAtFirst did b x r kept t ⊎ ((key : Key) × (y : X) × Listens did b x key y × SleepsOn b key y r kept t))

@@ -25,16 +25,16 @@ popped_as (Err try_recv_error.Empty) = Pop (Err pop_error.Empty)
 popped_as (Err try_recv_error.Closed) = Pop (Err pop_error.Closed)
 
 -- what was taken stands behind what was there, and their number is the answer; or nothing was
-abbrev pub Stands : {T : Type 0} → List T → Result ℕ TryRecvError → List T → Type 0
-Stands {T} before (Ok n) after = (taken : List T) × (after ≡ before ++ taken) × (n ≡ length taken)
-Stands before (Err e) after = after ≡ before
+abbrev pub StandsBehind : {T : Type 0} → List T → Result ℕ TryRecvError → List T → Type 0
+StandsBehind {T} before (Ok n) after = (taken : List T) × (after ≡ before ++ taken) × (n ≡ length taken)
+StandsBehind before (Err e) after = after ≡ before
 
 module _ {T W X : Type 0} (did : Deed T W → X → X → Type 0) where
   -- a receive of at most so many took these, their number being the answer; or none, and this is why
-  abbrev pub Took : ℕ → X → Result ℕ TryRecvError → List T → X → Type 0
-  Took room s (Ok n) taken t = (n ≡ length taken) × WalkedTo did (first (ask.RecvMany room)) s (reply.RecvMany (Ok taken)) t
-  Took room s (Err e) taken t = (taken ≡ []) × WalkedTo did (first (ask.RecvMany room)) s (reply.RecvMany (Err (Plain e))) t
+  abbrev pub TookAtMost : ℕ → X → Result ℕ TryRecvError → List T → X → Type 0
+  TookAtMost room s (Ok n) taken t = (n ≡ length taken) × WalkedTo did (first (ask.RecvMany room)) s (reply.RecvMany (Ok taken)) t
+  TookAtMost room s (Err e) taken t = (taken ≡ []) × WalkedTo did (first (ask.RecvMany room)) s (reply.RecvMany (Err (Plain e))) t
 
   -- what it took stands behind what was there
   abbrev pub Fills : ℕ → List T → X → Result ℕ TryRecvError → List T → X → Type 0
-  Fills room before s r after t = (taken : List T) × (after ≡ before ++ taken) × Took room s r taken t
+  Fills room before s r after t = (taken : List T) × (after ≡ before ++ taken) × TookAtMost room s r taken t

@@ -9,7 +9,7 @@ ghost use Rattle.concurrent_queue.specs.declared.cells.QueueForm.{QueueForm};
 ghost use Rattle.event_listener.specs.declared.key.Key.{Key as Name};
 ghost use Rattle.futures.specs.declared.task.Poll.TheVariants as poll;
 ghost use Rattle.channel_calls.specs.Asks.{first};
-ghost use Rattle.channel_calls.specs.Blocks.{waiting_of, at_once, not_yet, poll_woken, still_waits, Asked, Slept, Looks, Begins, Listens, SleepsOn, Blocks};
+ghost use Rattle.channel_calls.specs.Blocks.{waiting_of, at_once, not_yet, poll_woken, still_waits, Asked, Slept, Looks, AnswersAtFirst, Listens, SleepsOn, Blocks};
 ghost use Rattle.channel_calls.specs.Deeds.{Done};
 ghost use Rattle.channel_calls.specs.Errors.{handed_back};
 ghost use Rattle.channel_calls.specs.Listed.{pends};
@@ -106,7 +106,7 @@ fn looks<T: Drop, W: Drop, R: Wait, C: Sleeps<T, W>, S: Wakes<W>>(
 ) -> Result<Given<T>, Blocked<T>>
     requires form { (f : QueueForm) × C.has_form cells.old f }
     ensures looks { (n : ℕ) × (x : C × S) × Looks (Done C.did S.wakes) n call (cells.old, sink.old) x
-        × MatchResult result (λ given. Begins (Done C.did S.wakes) call x given.reply given.kept (cells.new, sink.new)) (λ left. (cells.new, sink.new) ≡ x) }
+        × MatchResult result (λ given. AnswersAtFirst (Done C.did S.wakes) call x given.reply given.kept (cells.new, sink.new)) (λ left. (cells.new, sink.new) ≡ x) }
     ensures same { IfErr result (λ left. left ≡ call) }
     ensures over { IfOk result (λ given. IsOver call given) }
     ensures form { (f : QueueForm) → C.has_form cells.old f → C.has_form cells.new f }
@@ -134,7 +134,7 @@ fn begins<T: Drop, W: Drop, R: Wait, C: Sleeps<T, W>, S: Wakes<W>>(
     sink: &mut S,
 ) -> Result<Given<T>, (Blocked<T>, Key)>
     requires form { (f : QueueForm) × C.has_form cells.old f }
-    ensures begins { MatchResult result (λ given. Begins (Done C.did S.wakes) call (cells.old, sink.old) given.reply given.kept (cells.new, sink.new))
+    ensures begins { MatchResult result (λ given. AnswersAtFirst (Done C.did S.wakes) call (cells.old, sink.old) given.reply given.kept (cells.new, sink.new))
         (λ left. Listens (Done C.did S.wakes) call (cells.old, sink.old) left.1 (cells.new, sink.new)) }
     ensures same { IfErr result (λ left. left.0 ≡ call) }
     ensures over { IfOk result (λ given. IsOver call given) }

@@ -5,7 +5,7 @@ use Rattle.channel_calls.specs.declared.ask.ChannelAsk.{ChannelAsk}
 use Rattle.channel_calls.specs.declared.reply.Reply.{Reply}
 use Rattle.channel_calls.specs.declared.stage.Kept.{Kept}
 use Rattle.channel_alone.specs.Alone.{Outcome}
-use Rattle.channel_alone.specs.Scenes.{EndsWith, LoneRun, steps_by, woken_in}
+use Rattle.channel_alone.specs.Scenes.{EndsWith, LoneRun, steps_by, woken_by_steps}
 use Rattle.channel_laws.proofs.Interface.{all_sound_new, all_sound_next, stays_closed}
 use Rattle.channel_model.specs.declared.call.Call.{Call}
 use Rattle.channel_model.specs.declared.name.Waiter.{Waiter}
@@ -22,7 +22,7 @@ use Rattle.channel_interleaving.specs.Lone.{book_alone}
 use Rattle.channel_interleaving.specs.Order.{all_moved_last}
 use Rattle.channel_interleaving.specs.Roll.{first_roll, is_at_work}
 use Rattle.channel_interleaving.specs.Refusal.{step_refusal}
-use Rattle.channel_interleaving.specs.Run.{Book, Made, IsBookOf, book_begun, book_ended, with_woken}
+use Rattle.channel_interleaving.specs.Run.{Book, StepIsMade, IsBookOf, book_begun, book_ended, with_woken}
 use Rattle.channel_interleaving.specs.Users.{FewUsers}
 use Rattle.channel_interleaving.specs.declared.names.Agent.{Agent}
 use Rattle.channel_interleaving.specs.declared.roll.Roll.{Roll}
@@ -181,7 +181,7 @@ module _ {T : Type 0} where
       with_tries c t (names_kept_step b c s t q e names st after (names_of b s k)) (tries_step s t q.0 e names st k.tries)
 
   -- a step that was made
-  pub kept_next : (b c : Book T) (s t : Scene T Waiter) (x : Step T) (e : Entry T) → Made b s x e c t → AllKept b s → AllKept c t
+  pub kept_next : (b c : Book T) (s t : Scene T Waiter) (x : Step T) (e : Entry T) → StepIsMade b s x e c t → AllKept b s → AllKept c t
   kept_next b c s t (step.Begin q call) e made k =
       let ok = idle_and_free q call b made.not_refused in
       subst (λ (d : Book T). AllKept d t) (sym made.book) (kept_begun q call b s t _ made.next.0 ok.0 (admitted b.roll call ok.1) k)
@@ -206,7 +206,7 @@ module _ {T : Type 0} where
   kept_over : (q : PartyId) (a : Agent T) (r : Reply T) (kept : Kept T) (es : List (ChannelEntry T)) (ns : List (Scene T Waiter))
       (b : Book T) (s : Scene T Waiter) → b.agents ≡ a ∷ [] → a.party ≡ q.0 → EndsWith r kept es
       → (h : EachStep NextScene s (steps_by q.0 es) es ns) → AllKept b s
-      → AllKept (book_ended 0 a (Some r) (Some kept) (with_woken (woken_in s (steps_by q.0 es) es ns h) b)) (end_of s ns)
+      → AllKept (book_ended 0 a (Some r) (Some kept) (with_woken (woken_by_steps s (steps_by q.0 es) es ns h) b)) (end_of s ns)
   kept_over q a r kept (e ∷ []) (n ∷ []) b s only his last h k =
       let woken : Book T = with_woken h.0.0 b in
       let after : book_ended 0 a (Some r) (Some kept) (with_woken (h.0.0 ++ []) b) ≡ book_ended 0 a e.reply e.kept woken =
@@ -220,7 +220,7 @@ module _ {T : Type 0} where
       ap (λ (x : Option (Reply T)). book_ended 0 a x e.kept woken) (sym last.0) in
       let next = kept_step b woken s n q e h.0.0 h.0.1 (0, a, first_agent b.agents a only, his, after) k in
       subst (λ (d : Book T). AllKept (book_ended 0 a (Some r) (Some kept) d) (end_of n ns))
-      (sym (woken_append h.0.0 (woken_in n (steps_by q.0 (f ∷ es)) (f ∷ es) ns h.1) b))
+      (sym (woken_append h.0.0 (woken_by_steps n (steps_by q.0 (f ∷ es)) (f ∷ es) ns h.1) b))
       (kept_over q a r kept (f ∷ es) ns woken n only his last.2 h.1 next)
   kept_over q a r kept [] ns b s only his last h k = absurd last
   kept_over q a r kept (e ∷ []) (n ∷ m ∷ ns) b s only his last h k = absurd h.1
@@ -240,5 +240,5 @@ module _ {T : Type 0} where
       let same = ap (λ (ws : List Waiter). book_ended 0 a (Some o.reply) (Some o.kept) (with_woken ws (book_begun q c b))) run.woken
       ∙ ap (λ (l : List (Agent T)). book_ended 0 a (Some o.reply) (Some o.kept) (record whole { agents = l })) only in
       let last : Book T = book_ended 0 a (Some o.reply) (Some o.kept)
-      (with_woken (woken_in run.begun (steps_by q.0 run.entries) run.entries run.run.moments run.run.each) (book_begun q c b)) in
+      (with_woken (woken_by_steps run.begun (steps_by q.0 run.entries) run.entries run.run.moments run.run.each) (book_begun q c b)) in
       subst (λ (d : Book T). AllKept d t) same (subst (λ (u : Scene T Waiter). AllKept last u) run.run.ends over)

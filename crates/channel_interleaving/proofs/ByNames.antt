@@ -10,7 +10,7 @@ use Rattle.channel_steps.specs.Scene.{Under, Scene, Steps}
 use Rattle.channel_steps.specs.declared.party.Entry.{Entry as ChannelEntry}
 use Rattle.channel_interleaving.specs.Kept.{NamesKept}
 use Rattle.channel_interleaving.specs.Owners.{Post, post, Together}
-use Rattle.channel_interleaving.specs.Refusal.{refusal, step_refusal}
+use Rattle.channel_interleaving.specs.Refusal.{begin_refusal, step_refusal}
 use Rattle.channel_interleaving.specs.Roll.{is_at_work}
 use Rattle.channel_interleaving.specs.Run.{Book, IsBookOf, book_ended, with_woken}
 use Rattle.channel_interleaving.specs.declared.names.Agent.{Agent}
@@ -45,10 +45,10 @@ module _ {T : Type 0} where
   not_at_work posts p (a ∷ more) [] t idle = absurd t
 
   -- it may begin a call that nothing refuses
-  pub may_begin : (b : Book T) (s : Scene T Waiter) (q : PartyId) (c : Call T) → NamesKept b s → IsIdle q.0 s → refusal b.roll c ≡ None
+  pub may_begin : (b : Book T) (s : Scene T Waiter) (q : PartyId) (c : Call T) → NamesKept b s → IsIdle q.0 s → begin_refusal b.roll c ≡ None
       → step_refusal b.roll b.agents (step.Begin q c) ≡ None
   may_begin b s q c k idle free =
-      ap (λ (x : Bool). if x then Some Busy else refusal b.roll c) (not_at_work (post b.roll) q.0 b.agents s.under_way k.owned.together idle)
+      ap (λ (x : Bool). if x then Some Busy else begin_refusal b.roll c) (not_at_work (post b.roll) q.0 b.agents s.under_way k.owned.together idle)
       ∙ free
 
   -- ---- a step

@@ -20,7 +20,7 @@ use Rattle.channel_steps.specs.Run as start
 use Rattle.channel_steps.specs.Scene.{Under, Scene, Steps, Known, AllKnown, sees, does, unless_ended}
 use Rattle.channel_steps.specs.declared.party.Entry.{Entry}
 use Rattle.channel_interleaving.specs.AskedBy.{IsOrListens}
-use Rattle.channel_interleaving.specs.Bookkeeping.{asks, errand_of, settled, all_woken}
+use Rattle.channel_interleaving.specs.Bookkeeping.{asks, errand_of, written_back, all_woken}
 use Rattle.channel_interleaving.specs.Counted.{tally, is_lowering, is_closing, is_raising, makes_strong, CountsSide, Counted}
 use Rattle.channel_interleaving.specs.Owners.{Post, post, wait_of, Suits, Together, AllDiffer, Owned}
 use Rattle.channel_interleaving.specs.Roll.{first_roll}
@@ -305,7 +305,7 @@ module _ {T : Type 0} where
       (o : Owned b s) (known : AllKnown s.now s.under_way) (st : Steps s p (record { mark = m; reply = Some y; kept = kp }) names t)
       (kept : Kept T) (order : List Waiter) → (Shut s.now → Shut t.now) → Counted b s
       → (let pt = parts b s t p m (Some y) kp names o known st in
-      Counted (record { roll = settled pt.agent.errand y kept (all_woken names b.roll); order = order; agents = pt.front ++ pt.back }) t)
+      Counted (record { roll = written_back pt.agent.errand y kept (all_woken names b.roll); order = order; agents = pt.front ++ pt.back }) t)
   counted_ends b s t p m y kp names o known st kept order stays counted side =
       let c = (counted side).counts in
       let step = turned b s t p m (Some y) kp names o known st stays counted side in

@@ -14,7 +14,7 @@ use Rattle.channel_model.specs.declared.name.HandleKind.{HandleKind}
 use Rattle.channel_model.specs.declared.name.HandleKind.TheVariants as handle_kind
 use Rattle.channel_model.specs.declared.name.Waiter.{Waiter}
 use Rattle.channel_model.specs.declared.name.Waiter.TheVariants.{Op, Stream}
-use Rattle.channel_interleaving.specs.Bookkeeping.{settled, installed, woken, all_woken}
+use Rattle.channel_interleaving.specs.Bookkeeping.{written_back, installed, with_one_woken, all_woken}
 use Rattle.channel_interleaving.specs.Counted.{is_strong, strong_lives, live_on, makes_strong}
 use Rattle.channel_interleaving.specs.Owners.{Post, free, vacant, no_stream_post, stream_post, post, posted, Suits}
 use Rattle.channel_interleaving.specs.Roll.{standing_with, used_more, used_less, with_handle, with_lent, with_given_back, with_standing}
@@ -141,9 +141,9 @@ module _ {T : Type 0} where
 
   pub woken_live : (side : Side) (names : List Waiter) (r : Roll T) → live_on side (all_woken names r).handles ≡ live_on side r.handles
   woken_live side [] r = refl
-  woken_live side (Op op ∷ names) r = woken_live side names (woken (Op op) r)
+  woken_live side (Op op ∷ names) r = woken_live side names (with_one_woken (Op op) r)
   woken_live side (Stream handle ∷ names) r =
-      woken_live side names (woken (Stream handle) r) ∙ handle_live side _ handle r (λ h. refl)
+      woken_live side names (with_one_woken (Stream handle) r) ∙ handle_live side _ handle r (λ h. refl)
 
   -- ---- the end of a call
 
@@ -161,7 +161,7 @@ module _ {T : Type 0} where
 
   pub settled_live : (side : Side) (e : Errand T) (y : Reply T) (kept : Kept T) (wait : Option (Line × Waiter)) (r : Roll T)
       → Suits (post r) e wait
-      → live_on side (settled e y kept r).handles ≡ live_on side r.handles + bit (makes_strong side e && is_made (Some y))
+      → live_on side (written_back e y kept r).handles ≡ live_on side r.handles + bit (makes_strong side e && is_made (Some y))
   settled_live side errand.Nothing y kept wait r f = omega arith
   settled_live side (errand.Leave handle) y kept wait r f = let same = back_live side handle r in omega (arith, same)
   settled_live side (errand.LeaveBoth a b) y kept wait r f =

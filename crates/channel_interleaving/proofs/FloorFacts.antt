@@ -28,14 +28,14 @@ use Rattle.channel_interleaving.specs.Bookkeeping.{asks}
 use Rattle.channel_interleaving.specs.Doing.{doing_begun, doing_of, noted}
 use Rattle.channel_interleaving.specs.Left.{left_of}
 use Rattle.channel_interleaving.specs.Owed.{Sight, Owed}
-use Rattle.channel_interleaving.specs.Floor.{parts_in, book_of, lefts_in, AreCounted, HasOnePlace, Shown, StandsIn, Stands, AreAtWork, AreOwned, IsSame, Stepped, Steps, HasPositions, HasPosition}
+use Rattle.channel_interleaving.specs.Floor.{parts_in, book_of, lefts_in, AreCounted, HasOnePlace, Shown, StandsIn, Stands, AreAtWork, AreOwned, IsSame, LedByStep, LeadsByStep, HasPositions, HasPosition}
 use Rattle.channel_interleaving.specs.Positions.{brings, is_one_place, yet_in}
 use Rattle.channel_model.specs.declared.refusal.WorldRefusal.{WorldRefusal}
 use Rattle.channel_model.specs.declared.run.Stopped.{Stopped}
 use Rattle.std.proofs.lemmas.Bool.Decides.{nat_tests}
 use Rattle.channel_interleaving.specs.Refusal.{step_refusal}
 use Rattle.channel_interleaving.specs.Roll.{first_roll, IsAgent}
-use Rattle.channel_interleaving.specs.Run.{Book, Made, MayRefuseStep, StopsAt, book_begun, book_ended, with_woken, channel_step}
+use Rattle.channel_interleaving.specs.Run.{Book, StepIsMade, MayRefuseStep, StopsAt, book_begun, book_ended, with_woken, channel_step}
 use Rattle.channel_interleaving.specs.Runs.{Moment, FewLeft, LeadsBy, accepted_in, left_in, moment_of, RanTo}
 use Rattle.channel_interleaving.specs.Woken.{Hears}
 use Rattle.channel_interleaving.specs.declared.doing.Doing.{Doing}
@@ -165,7 +165,7 @@ module _ {T : Type 0} where
       → new.has_one_place ≡ old.has_one_place
       → new.doings.items ≡ old.doings.items ++ (doing_begun (asks old.roll c) ∷ [])
       → HasPosition c old → step_refusal old.roll old.agents.items (step.Begin p c) ≡ None
-      → Steps (step.Begin p c) old e new
+      → LeadsByStep (step.Begin p c) old e new
   has_begun p c old new e entry h mark reply woken same book messages counts place doings room fine s sh =
       let b = h (parts_in old) s sh.shows in
       let parts : parts_in new ≡ parts_in old = ap parts_of same in
@@ -226,7 +226,7 @@ module _ {T : Type 0} where
   -- the messages after a step are counted by its mark: one slot holds one at most
   counted_now : (new : Floor T) (s : Scene T Waiter) (p : ℕ) (e : ChannelEntry T) (names : List Waiter) (t : Scene T Waiter)
       → ChannelSteps s p e names t → IsBalanced s.now.queue → Represents (parts_in new) new.parties.items t
-      → queue.HasPosition s.now.queue → counted (length s.now.queue.items) e.mark ≡ length t.now.queue.items
+      → queue.HasNextPosition s.now.queue → counted (length s.now.queue.items) e.mark ≡ length t.now.queue.items
   counted_now new s p e names t n balanced sh (inr low) =
       messages_counted s p e names t n balanced (balanced_in _ _ t sh) (omega (arith, low))
   counted_now new s p e names t n balanced sh (inl one) =
@@ -283,7 +283,7 @@ module _ {T : Type 0} where
       → ((d : Doing) → slice_get old.doings.items k ≡ Some d
       → new.doings.items ≡ noted k d entry.mark entry.reply old.doings.items)
       → step_refusal old.roll old.agents.items (step.Step p) ≡ None
-      → Steps (step.Step p) old e new
+      → LeadsByStep (step.Step p) old e new
   has_stepped p k n came a x old new empty full e entry there whose agent own steps none most room mark reply woken book messages
       brought counts place doings fine s sh =
       let position = has_position old s sh in
@@ -343,12 +343,12 @@ module _ {T : Type 0} where
       (few_left (parts_in f) f.parties.items s k.shown.shows)
 
   -- a step that was made leads from a scene in which it stood to one in which it stands
-  pub step_stands : (x : Step T) (f g : Floor T) (e : Entry T) (s : Scene T Waiter) (k : StandsIn f s) (t : Stepped x f e g s)
+  pub step_stands : (x : Step T) (f g : Floor T) (e : Entry T) (s : Scene T Waiter) (k : StandsIn f s) (t : LedByStep x f e g s)
       → StandsIn g t.after
   step_stands x f g e s k t =
       stands_in g t.after t.shown (kept_next (book_of f) (book_of g) s t.after x e t.made k.kept)
 
-  leads_by : (x : Step T) (f g : Floor T) (e : Entry T) (s : Scene T Waiter) (k : StandsIn f s) (t : Stepped x f e g s)
+  leads_by : (x : Step T) (f g : Floor T) (e : Entry T) (s : Scene T Waiter) (k : StandsIn f s) (t : LedByStep x f e g s)
       → LeadsBy (moment_of f s) x e (moment_of g t.after)
   leads_by x f g e s k t =
       let after = step_stands x f g e s k t in
@@ -376,7 +376,7 @@ module _ {T : Type 0} where
   left_more (f ∷ es) e = let h = left_more es e in omega (arith, h)
 
   -- those that are there after a step, and went out, are those that were there, and came in
-  next_numbers : (x : Step T) (b c : Book T) (s t : Scene T Waiter) (e : Entry T) → Made b s x e c t → IsBalanced s.now.queue
+  next_numbers : (x : Step T) (b c : Book T) (s t : Scene T Waiter) (e : Entry T) → StepIsMade b s x e c t → IsBalanced s.now.queue
       → IsBalanced t.now.queue
       → length t.now.queue.items + taken_out e.mark ≡ length s.now.queue.items + brought_in e.mark
   next_numbers (step.Begin p call) b c s t e made before after =
@@ -404,7 +404,7 @@ module _ {T : Type 0} where
 
   pub ran_more : (steps left : List (Step T)) (x : Step T) (f : Floor T) (trace : List (Entry T)) (g : Floor T)
       (e : Entry T) (h : Floor T)
-      → RanTo steps (x ∷ left) f trace g → Steps x g e h → RanTo steps left f (trace ++ e ∷ []) h
+      → RanTo steps (x ∷ left) f trace g → LeadsByStep x g e h → RanTo steps left f (trace ++ e ∷ []) h
   ran_more steps left x f trace g e h ran stepped s k =
       let r = ran s k in
       let t = stepped r.last r.stands.shown in

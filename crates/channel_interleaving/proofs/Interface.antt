@@ -4,7 +4,7 @@
 use Rattle.std.proofs.Common.{◌≡◌, false, true, List, [], ◌∷◌, ◌++◌, None, subst}
 use Rattle.channel_calls.specs.declared.reply.Reply.{Reply}
 use Rattle.channel_calls.specs.declared.stage.Line.TheVariants.{Sends}
-use Rattle.channel_model.specs.Laws.{is_line, line_of}
+use Rattle.channel_model.specs.Laws.{is_line, line_at}
 use Rattle.channel_model.specs.Settling.{poll_of}
 use Rattle.channel_model.specs.declared.call.Call.{Call}
 use Rattle.channel_model.specs.declared.name.Waiter.{Waiter}
@@ -55,7 +55,7 @@ module _ {T : Type 0} where
       (all_right (λ (v : Under T Waiter). asks_first v.ask ≡ false) before (u ∷ behind) (subst AllTry there kept.tries)).0
 
   -- a poll that may bring a message is that of a send
-  pub only_sends_bring : (r : Roll T) (w : Waiter) → brings r (poll_of w) ≡ true → is_line Sends (line_of (names_of r) w) ≡ true
+  pub only_sends_bring : (r : Roll T) (w : Waiter) → brings r (poll_of w) ≡ true → is_line Sends (line_at (names_of r) w) ≡ true
   only_sends_bring r w e = place_facts.only_sends_bring r w e
 
   -- nothing done leads on

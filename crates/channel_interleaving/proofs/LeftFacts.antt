@@ -11,7 +11,7 @@ use Rattle.channel_steps.proofs.Interface.{hold_still}
 use Rattle.channel_steps.specs.Scene.{Under, Scene, Sitting, OthersQuiet, Represents, Steps, sees, does, under_of, unless_ended, wanted_at, parties_in}
 use Rattle.channel_steps.specs.declared.party.Entry.{Entry as ChannelEntry}
 use Rattle.channel_steps.specs.declared.party.Party.{Party}
-use Rattle.channel_interleaving.specs.Floor.{book_of, parts_in, lefts_in, StandsIn, Stepped}
+use Rattle.channel_interleaving.specs.Floor.{book_of, parts_in, lefts_in, StandsIn, LedByStep}
 use Rattle.channel_interleaving.specs.Kept.{AllKept}
 use Rattle.channel_interleaving.specs.Left.{calls_of_others, wanted_of, left_of}
 use Rattle.channel_interleaving.specs.Owners.{Post, post, All, AllDiffer, Differ, Owned, Together}
@@ -155,7 +155,7 @@ module _ {T : Type 0} where
       → e.reply ≡ None → OthersQuiet m.scene.now (calls_of_others p.0 m.scene.under_way) → OthersQuiet n.scene.now (calls_of_others p.0 n.scene.under_way)
   nobody_still m p e n k l goes_on hold = still_free m.book m.scene k.owned p.0 _ e.woken.items n.scene l.made.next goes_on hold
 
-  pub comes_nearer : (x : Step T) (f g : Floor T) (e : Entry T) (s : Scene T Waiter) → StandsIn f s → (t : Stepped x f e g s)
+  pub comes_nearer : (x : Step T) (f g : Floor T) (e : Entry T) (s : Scene T Waiter) → StandsIn f s → (t : LedByStep x f e g s)
       → ComesNearer (moment_of f s) x e (moment_of g t.after)
   comes_nearer (step.Begin p c) f g e s k t = tt
   comes_nearer (step.Step p) f g e s k t = λ goes_on hold.

@@ -4,7 +4,7 @@ use Rattle.channel_calls.specs.Moves.{Channel}
 use Rattle.channel_calls.specs.declared.ask.ChannelAsk.{ChannelAsk}
 use Rattle.channel_calls.specs.declared.reply.Reply.{Reply}
 use Rattle.channel_alone.specs.Alone.{Alone}
-use Rattle.channel_alone.specs.Run.{HasPosition, IsAtRest}
+use Rattle.channel_alone.specs.Run.{HasNextPosition, IsAtRest}
 use Rattle.channel_alone.specs.Scenes.{LoneRun, RunsInScenes}
 use Rattle.channel_alone.specs.declared.run.Done.{Done}
 use Rattle.channel_model.specs.declared.call.Call.{Call}
@@ -12,7 +12,7 @@ use Rattle.channel_model.specs.declared.name.Waiter.{Waiter}
 use Rattle.channel_model.specs.declared.run.Done.{Done as Answered}
 use Rattle.concurrent_queue.specs.Step.{FitsAt}
 use Rattle.channel_steps.specs.Scene.{Under, Scene, Sitting, under_of, all_seats, Represents, parties_in}
-use Rattle.channel_steps.specs.Start.{TellsQuiet as Tells}
+use Rattle.channel_steps.specs.Start.{EachSceneTellsQuiet as Tells}
 use Rattle.channel_interleaving.specs.Bookkeeping.{asks}
 use Rattle.channel_interleaving.specs.Floor.{parts_in, book_of, AreCounted, HasOnePlace, Shown, AreAtWork, AreOwned, IsKept, IsQuiet, IsSame, LeadsOn, TellsQuiet}
 use Rattle.channel_interleaving.specs.Floor as place
@@ -21,7 +21,7 @@ use Rattle.channel_interleaving.specs.Kept.{AllKept}
 use Rattle.channel_interleaving.specs.Owners.{All}
 use Rattle.channel_interleaving.specs.Lone.{names_alone, order_alone, CallsAlone, WakesAtMost}
 use Rattle.channel_interleaving.specs.Positions.{brings, accepted_by, is_one_place, yet_in}
-use Rattle.channel_interleaving.specs.Refusal.{refusal}
+use Rattle.channel_interleaving.specs.Refusal.{begin_refusal}
 use Rattle.channel_interleaving.specs.Run.{Book}
 use Rattle.channel_interleaving.specs.Way.{Way, reply_of}
 use Rattle.channel_interleaving.specs.Woken.{Hears}
@@ -71,7 +71,7 @@ module _ {T : Type 0} where
       let q = sh.shows.queue in
       let none = nobody sh.shows.sittings (sym sh.shows.parties_are ∙ quiet) in (
         q,
-        subst (λ (x : Channel T Waiter). HasPosition x.queue) sh.shows.now (has_position f s sh),
+        subst (λ (x : Channel T Waiter). HasNextPosition x.queue) sh.shows.now (has_position f s sh),
         (s.blocks, subst (λ (xs : List (Sitting T Waiter)). FitsAt s.blocks (parts_in f).cells q (all_seats xs)) none sh.shows.fits),
       )
     where
@@ -174,7 +174,7 @@ module _ {T : Type 0} where
       record { last = s; way = no_way s; stands = stands_same old new s same k; accounts = no_accounts s }
 
   pub leads_whatever : (c : Call T) (old new : Floor T) (result : Result (Answered T) (Call T)) → AreAtWork old → IsQuiet old
-      → refusal old.roll c ≡ None
+      → begin_refusal old.roll c ≡ None
       → IfOk result (λ (d : Answered T). CallsAlone c old d.reply d.woken.items new)
       → OnErr result (IsSame old new) → LeadsOn old (reply_of result) new
   leads_whatever c old new (Ok d) at_work quiet fine called same =
@@ -194,7 +194,7 @@ module _ {T : Type 0} where
 
   -- and so where it was handed back
   pub kept_whatever : (c : Call T) (old new : Floor T) (result : Result (Answered T) (Call T)) → IsKept old → IsQuiet old
-      → AreAtWork new → refusal old.roll c ≡ None
+      → AreAtWork new → begin_refusal old.roll c ≡ None
       → IfOk result (λ (d : Answered T). CallsAlone c old d.reply d.woken.items new)
       → OnErr result (IsSame old new) → IsKept new
   kept_whatever c old new (Ok d) k quiet at_work fine called same =

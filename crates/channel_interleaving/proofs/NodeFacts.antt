@@ -13,7 +13,7 @@ use Rattle.channel_calls.specs.declared.reply.Reply.{Reply}
 use Rattle.channel_calls.specs.declared.stage.Held.{Held}
 use Rattle.channel_calls.specs.declared.stage.Line.{Line}
 use Rattle.channel_calls.specs.declared.stage.Line.TheVariants.{Sends, Receives, Streams, Closings}
-use Rattle.channel_alone.specs.Ample.{lacks_memory, IsListed, HasNode}
+use Rattle.channel_alone.specs.Ample.{lacks_memory, IsOnList, HasNode}
 use Rattle.channel_laws.specs.Unlisted.{NoSendListens}
 use Rattle.channel_model.specs.Asked.{poll_asked}
 use Rattle.channel_model.specs.Asked as model
@@ -116,7 +116,7 @@ module _ {T : Type 0} where
 
     -- a receiver that is pending as a stream
     by_stream : (k : HandleKind) (s : Standing) (key : Option Key) → key ≡ key_of s → stream_post k s ≡ waits h true
-        → IsListed Streams key p.roster
+        → IsOnList Streams key p.roster
     by_stream handle_kind.Receiver Rests key e f = absurd (let no : rests Streams ≡ waits h true = f in cc)
     by_stream handle_kind.Receiver (IsPolled z) key e f = absurd (let no : polled Streams ≡ waits h true = f in cc)
     by_stream handle_kind.Receiver (Waits own z) key e f =

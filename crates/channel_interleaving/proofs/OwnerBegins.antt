@@ -33,8 +33,8 @@ use Rattle.channel_model.specs.declared.name.Waiter.TheVariants.{Op}
 use Rattle.channel_interleaving.specs.AskedBy.{listening_first, IsOrListens}
 use Rattle.channel_interleaving.specs.Bookkeeping.{asks, names_begun, lent_to_poll, polled_ask, with_operation}
 use Rattle.channel_interleaving.specs.Owners.{Post, free, vacant, amiss, rests, waits, polled, post_on, posted, operation_post, post, holding, task_at, wait_of, line_asked, Bears, subject, Suits}
-use Rattle.channel_interleaving.specs.Refusal.{refusal, meets_poll, names_taken}
-use Rattle.channel_interleaving.specs.Roll.{key_of, is_polled, line_of, operation_of, names_of, held_of}
+use Rattle.channel_interleaving.specs.Refusal.{begin_refusal, meets_poll, takes_again}
+use Rattle.channel_interleaving.specs.Roll.{key_of, is_polled, line_of_kind, operation_of, names_of, held_of}
 use Rattle.channel_interleaving.specs.declared.names.Errand.{Errand}
 use Rattle.channel_interleaving.specs.declared.names.Errand.TheVariants as errand
 use Rattle.channel_interleaving.specs.declared.names.Hold.{Hold}
@@ -202,7 +202,7 @@ on_line line Rests e = (refl, tt)
 on_line line (Waits key is_woken) e = (refl, tt)
 on_line line (IsPolled b) e = absurd (let no : true ≡ false = e in cc)
 
-lent_polled : (T : Type 0) (k : OperationKind) (b : Bool) → operation_post {T = T} k None (IsPolled b) ≡ polled (line_of k)
+lent_polled : (T : Type 0) (k : OperationKind) (b : Bool) → operation_post {T = T} k None (IsPolled b) ≡ polled (line_of_kind k)
 lent_polled T kind.Send b = refl
 lent_polled T kind.Receive b = refl
 lent_polled T kind.Closing b = refl
@@ -240,15 +240,15 @@ module _ {T : Type 0} where
     pub live : list_all (is_live (names_of r)) (uses c) ≡ true
     pub fit : are_fit (names_of r) c ≡ true
     pub free_of_polls : meets_poll r c ≡ false
-    pub new : names_taken r c ≡ false
+    pub new : takes_again r c ≡ false
 
-  pub admitted : (r : Roll T) (c : Call T) → refusal r c ≡ None → Admitted r c
+  pub admitted : (r : Roll T) (c : Call T) → begin_refusal r c ≡ None → Admitted r c
   admitted r c h =
       let a = if_none (not (list_all (is_live (names_of r)) (uses c))) _ _ h in
       let b = if_none (not (are_fit (names_of r) c)) _ _ a.1 in
       let d = if_none (meets_poll r c) _ _ b.1 in
       let e = if_none (takes_borrowed (names_of r) c) _ _ d.1 in
-      let f = if_none (names_taken r c) _ None e.1 in
+      let f = if_none (takes_again r c) _ None e.1 in
       record { live = not_false _ a.0; fit = not_false _ b.0; free_of_polls = d.0; new = f.0 }
 
   pub lives_as : (r : Roll T) (op : OpId) → (is_some (at op.0 (names_of r).operations) && true) ≡ true
@@ -281,7 +281,7 @@ module _ {T : Type 0} where
   Free k m s = (is_polled s ≡ false) × (operation_post k m s ≡ amiss → ⊥)
 
   pub op_held : (k : OperationKind) (m : Option T) (s : Standing) → Free k m s
-      → (held_on (line_of k) (key_of s) ≡ held_in (operation_post k m s)) × IsLoose (operation_post k m s)
+      → (held_on (line_of_kind k) (key_of s) ≡ held_in (operation_post k m s)) × IsLoose (operation_post k m s)
   op_held kind.Send None Rests f = (refl, tt)
   op_held kind.Send None (Waits key is_woken) f = absurd (f.1 refl)
   op_held kind.Send None (IsPolled b) f = absurd (let no : true ≡ false = f.0 in cc)
@@ -290,7 +290,7 @@ module _ {T : Type 0} where
   op_held kind.Closing m s f = on_line Closings s f.0
 
   poll_holds : (op : OpId) (k : OperationKind) (m : Option T) (s : Standing) → Free k m s
-      → ask_holds (polled_ask k m (key_of s) op) ≡ held_on (line_of k) (key_of s)
+      → ask_holds (polled_ask k m (key_of s) op) ≡ held_on (line_of_kind k) (key_of s)
   poll_holds op kind.Send None Rests f = refl
   poll_holds op kind.Send None (Waits key is_woken) f = absurd (f.1 refl)
   poll_holds op kind.Send None (IsPolled b) f = absurd (let no : true ≡ false = f.0 in cc)
@@ -299,7 +299,7 @@ module _ {T : Type 0} where
   poll_holds op kind.Closing m s f = refl
 
   poll_waits : (op : OpId) (k : OperationKind) (m : Option T) (key : Option Key)
-      → (wait_of (polled_ask k m key op) ≡ None) ⊎ (wait_of (polled_ask k m key op) ≡ Some (line_of k, Op op))
+      → (wait_of (polled_ask k m key op) ≡ None) ⊎ (wait_of (polled_ask k m key op) ≡ Some (line_of_kind k, Op op))
   poll_waits op kind.Send None key = inl refl
   poll_waits op kind.Send (Some m) key = inr refl
   poll_waits op kind.Receive m key = inr refl
@@ -334,7 +334,7 @@ module _ {T : Type 0} where
   key_is r op o e = ap (λ x. option_map_or (λ (o : Operation T). key_of o.standing) x None) e
 
   pub held_is : (r : Roll T) (op : OpId) (f : Found r op)
-      → held_on (line_of f.operation.kind) (key_of f.operation.standing) ≡ held_in (post r (Op op))
+      → held_on (line_of_kind f.operation.kind) (key_of f.operation.standing) ≡ held_in (post r (Op op))
   held_is r op f = (op_held f.operation.kind f.operation.message f.operation.standing f.loose).0
       ∙ ap held_in (sym (op_is r op f.operation f.is))
 
@@ -343,7 +343,7 @@ module _ {T : Type 0} where
       (op_held f.operation.kind f.operation.message f.operation.standing f.loose).1
 
   pub now_polled : (r : Roll T) (op : OpId) (f : Found r op)
-      → Sets (post r) (post (with_operation lent_to_poll op r)) (Op op) (polled (line_of f.operation.kind))
+      → Sets (post r) (post (with_operation lent_to_poll op r)) (Op op) (polled (line_of_kind f.operation.kind))
   now_polled r op f =
       let s = op_changed r op lent_to_poll f.operation f.is in
       record { there = s.there ∙ lent_polled T f.operation.kind (is_some f.operation.message); others = s.others }
@@ -358,15 +358,15 @@ module _ {T : Type 0} where
       let s = now_polled r op f in
       record {
         name = Op op;
-        now = polled (line_of o.kind);
+        now = polled (line_of_kind o.kind);
         sets = s;
         busy = tt;
         loose = loose_is r op f;
         takes = ap ask_holds same ∙ (poll_holds op o.kind o.message o.standing f.loose ∙ held_is r op f);
         suits = (
-          line_of o.kind,
+          line_of_kind o.kind,
           s.there,
-          subst (λ (a : ChannelAsk T Waiter). (wait_of a ≡ None) ⊎ (wait_of a ≡ Some (line_of o.kind, Op op))) (sym same)
+          subst (λ (a : ChannelAsk T Waiter). (wait_of a ≡ None) ⊎ (wait_of a ≡ Some (line_of_kind o.kind, Op op))) (sym same)
               (poll_waits op o.kind o.message (key_of o.standing)),
         );
         whose = inr refl;

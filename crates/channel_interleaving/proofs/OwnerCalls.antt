@@ -26,7 +26,7 @@ use Rattle.channel_model.specs.declared.name.Waiter.TheVariants.{Op, Stream}
 use Rattle.channel_interleaving.specs.Bookkeeping.{asks, errand_of, names_begun, lent_by, leave_handle_of, new_from, operation_named, handle_named}
 use Rattle.channel_interleaving.specs.Owners.{Post, free, vacant, amiss, polled, post_on, no_stream_post, stream_post, posted, post, wait_of, subject, Suits}
 use Rattle.channel_interleaving.specs.Refusal.{is_stream_polled}
-use Rattle.channel_interleaving.specs.Roll.{key_of, is_polled, line_of, operation_of, names_of, handle_at, held_of, with_lent, with_standing}
+use Rattle.channel_interleaving.specs.Roll.{key_of, is_polled, line_of_kind, operation_of, names_of, handle_at, held_of, with_lent, with_standing}
 use Rattle.channel_interleaving.specs.declared.names.Errand.TheVariants as errand
 use Rattle.channel_interleaving.specs.declared.names.Hold.{Hold}
 use Rattle.channel_interleaving.specs.declared.names.Operation.{Operation}
@@ -122,14 +122,14 @@ module _ (T : Type 0) where
 module _ {T : Type 0} where
   refusal_is : (held : HeldBy) (op : OpId) (k : OperationKind) (h : HandleId) (m : Option T) (key : Option Key)
       → held (Op op) ≡ key
-      → (n : Option T) × (refusal_asked held op (Some (as_model k h m)) ≡ ask.RefusePoll (line_of k) n key)
+      → (n : Option T) × (refusal_asked held op (Some (as_model k h m)) ≡ ask.RefusePoll (line_of_kind k) n key)
   refusal_is held op kind.Send h m key e = (m, ap (λ x. ask.RefusePoll Sends m x) e)
   refusal_is held op kind.Receive h m key e = (None, ap (λ x. ask.RefusePoll Receives None x) e)
   refusal_is held op kind.Closing h m key e = (None, ap (λ x. ask.RefusePoll Closings None x) e)
 
   giving_up_is : (held : HeldBy) (op : OpId) (k : OperationKind) (h : HandleId) (m : Option T) (key : Option Key)
       → held (Op op) ≡ key
-      → (n : Option T) × (giving_up_asked held op (Some (as_model k h m)) ≡ ask.GiveUp (line_of k) n key)
+      → (n : Option T) × (giving_up_asked held op (Some (as_model k h m)) ≡ ask.GiveUp (line_of_kind k) n key)
   giving_up_is held op kind.Send h m key e = (m, ap (λ x. ask.GiveUp Sends m x) e)
   giving_up_is held op kind.Receive h m key e = (None, ap (λ x. ask.GiveUp Receives None x) e)
   giving_up_is held op kind.Closing h m key e = (None, ap (λ x. ask.GiveUp Closings None x) e)
@@ -150,17 +150,17 @@ module _ {T : Type 0} where
   refuses r op f =
       let o = f.operation in
       let is = refusal_is (held_of r) op o.kind o.handle o.message (key_of o.standing) (key_is r op o f.is) in
-      let same : asks r (call.PollRefused op) ≡ ask.RefusePoll (line_of o.kind) is.0 (key_of o.standing) =
+      let same : asks r (call.PollRefused op) ≡ ask.RefusePoll (line_of_kind o.kind) is.0 (key_of o.standing) =
       ap (λ x. refusal_asked (held_of r) op (option_map operation_of x)) f.is ∙ is.1 in
       let s = now_polled r op f in
       record {
         name = Op op;
-        now = polled (line_of o.kind);
+        now = polled (line_of_kind o.kind);
         sets = s;
         busy = tt;
         loose = loose_is r op f;
         takes = ap ask_holds same ∙ held_is r op f;
-        suits = (line_of o.kind, s.there, inl (ap wait_of same));
+        suits = (line_of_kind o.kind, s.there, inl (ap wait_of same));
         whose = inr refl;
         works = λ line i. refl;
       }
@@ -170,7 +170,7 @@ module _ {T : Type 0} where
   gives_up r op f =
       let o = f.operation in
       let is = giving_up_is (held_of r) op o.kind o.handle o.message (key_of o.standing) (key_is r op o f.is) in
-      let same : asks r (call.GiveUp op) ≡ ask.GiveUp (line_of o.kind) is.0 (key_of o.standing) =
+      let same : asks r (call.GiveUp op) ≡ ask.GiveUp (line_of_kind o.kind) is.0 (key_of o.standing) =
       ap (λ x. giving_up_asked (held_of r) op (option_map operation_of x)) f.is ∙ is.1 in
       let looked : is_some (lookup (nat_eq op.0) r.operations) ≡ true = ap (λ x. is_some x) (found op.0 r.operations o f.is) in
       record {

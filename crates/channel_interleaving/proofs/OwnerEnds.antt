@@ -21,9 +21,9 @@ use Rattle.channel_model.specs.declared.name.HandleKind.TheVariants as handle_ki
 use Rattle.channel_model.specs.declared.name.OpId.{OpId}
 use Rattle.channel_model.specs.declared.name.Waiter.{Waiter}
 use Rattle.channel_model.specs.declared.name.Waiter.TheVariants.{Op, Stream}
-use Rattle.channel_interleaving.specs.Bookkeeping.{restored, installed, settled}
+use Rattle.channel_interleaving.specs.Bookkeeping.{restored, installed, written_back}
 use Rattle.channel_interleaving.specs.Owners.{Post, free, vacant, amiss, rests, waits, polled, post_on, no_stream_post, stream_post, posted, operation_post, post, wait_of, subject, Suits}
-use Rattle.channel_interleaving.specs.Roll.{standing_with, line_of, with_given_back, with_standing}
+use Rattle.channel_interleaving.specs.Roll.{standing_with, line_of_kind, with_given_back, with_standing}
 use Rattle.channel_interleaving.specs.declared.names.Errand.{Errand}
 use Rattle.channel_interleaving.specs.declared.names.Errand.TheVariants as errand
 use Rattle.channel_interleaving.specs.declared.names.Hold.{Hold}
@@ -110,7 +110,7 @@ own_wait wait line l w task (inr some) e =
     (ap (λ (x : Line × Waiter). x.0) same, ap (λ (x : Line × Waiter). x.1) same)
 
 module _ {T : Type 0} where
-  op_line : (k : OperationKind) (m : Option T) (l : Line) (s : Standing) → operation_post k m s ≡ polled l → line_of k ≡ l
+  op_line : (k : OperationKind) (m : Option T) (l : Line) (s : Standing) → operation_post k m s ≡ polled l → line_of_kind k ≡ l
   op_line kind.Send None l Rests e = absurd (no_busy (rests Sends) l e)
   op_line kind.Send None l (Waits key w) e = absurd (no_busy amiss l e)
   op_line kind.Send None l (IsPolled b) e = polled_is Sends l e
@@ -128,8 +128,8 @@ module _ {T : Type 0} where
   abbrev pub Carries : Line → Option T → Type 0
   Carries line m = line ≡ Sends → (v : T) × (m ≡ Some v)
 
-  waiting_op : (k : OperationKind) (m : Option T) (key : Key) → Carries (line_of k) m
-      → operation_post k m (Waits key false) ≡ waits (record { line = line_of k; key = key }) false
+  waiting_op : (k : OperationKind) (m : Option T) (key : Key) → Carries (line_of_kind k) m
+      → operation_post k m (Waits key false) ≡ waits (record { line = line_of_kind k; key = key }) false
   waiting_op kind.Send None key c = absurd (let f = c refl in let no : None ≡ Some f.0 = f.1 in cc)
   waiting_op kind.Send (Some m) key c = refl
   waiting_op kind.Receive m key c = refl
@@ -181,29 +181,29 @@ module _ {T : Type 0} where
 
   makes : (r : Roll T) (op : OpId) (o : Operation T) (y : Reply T) (kept : Kept T) (wait : Option (Line × Waiter))
       → IsLeft kept wait → Suits {T = T} (post r) (errand.Make op o) wait
-      → Settles (post r) (post (settled (errand.Make op o) y kept r)) (errand.Make op o) kept wait
+      → Settles (post r) (post (written_back (errand.Make op o) y kept r)) (errand.Make op o) kept wait
   makes r op o y kept wait l f =
       let s = op_set r op (Some o) (vacant_taken op_post (lookup (nat_eq op.0) r.operations) f.0) in
       let calm : IsCalm (op_post o) =
       subst (λ (z : Standing). IsCalm (operation_post o.kind o.message z)) (sym f.1) (calm_op o.kind o.message) in
-      set (post r) (post (settled (errand.Make op o) y kept r)) (errand.Make op o) kept wait (Op op) (op_post o) refl s
-      (no_wait (post (settled (errand.Make op o) y kept r)) (errand.Make op o) kept wait l f.2
-      (calm_at (post (settled (errand.Make op o) y kept r)) (errand.Make op o) (Op op) (op_post o) refl s.there calm))
+      set (post r) (post (written_back (errand.Make op o) y kept r)) (errand.Make op o) kept wait (Op op) (op_post o) refl s
+      (no_wait (post (written_back (errand.Make op o) y kept r)) (errand.Make op o) kept wait l f.2
+      (calm_at (post (written_back (errand.Make op o) y kept r)) (errand.Make op o) (Op op) (op_post o) refl s.there calm))
 
   polls : (r : Roll T) (op : OpId) (y : Reply T) (kept : Kept T) (wait : Option (Line × Waiter)) → IsLeft kept wait
       → Suits {T = T} (post r) (errand.Poll op) wait
-      → Settles (post r) (post (settled (errand.Poll op) y kept r)) (errand.Poll op) kept wait
+      → Settles (post r) (post (written_back (errand.Poll op) y kept r)) (errand.Poll op) kept wait
   polls r op y kept wait l f =
       let there = polled_there op_post op.0 r.operations f.0 f.1 in
       let o = there.0 in
       let s = op_changed r op (restored kept) o there.1 in
       let line = op_line o.kind o.message f.0 o.standing there.2 in
-      set (post r) (post (settled (errand.Poll op) y kept r)) (errand.Poll op) kept wait (Op op) _ refl s (by o s.there line l)
+      set (post r) (post (written_back (errand.Poll op) y kept r)) (errand.Poll op) kept wait (Op op) _ refl s (by o s.there line l)
     where
       after : Waiter → Post
-      after = post (settled (errand.Poll op) y kept r)
+      after = post (written_back (errand.Poll op) y kept r)
 
-      by : (o : Operation T) → after (Op op) ≡ operation_post o.kind kept.message (standing_with kept.key) → line_of o.kind ≡ f.0
+      by : (o : Operation T) → after (Op op) ≡ operation_post o.kind kept.message (standing_with kept.key) → line_of_kind o.kind ≡ f.0
           → IsLeft kept wait → Comes after (errand.Poll op) kept wait
       by o e line (inl none) =
           inl (
@@ -213,7 +213,7 @@ module _ {T : Type 0} where
           )
       by o e line (inr (l, key, task, k, w, m)) =
           let own = own_wait wait f.0 l (Op op) task f.2 w in
-          let same : line_of o.kind ≡ l = line ∙ sym own.0 in
+          let same : line_of_kind o.kind ≡ l = line ∙ sym own.0 in
           let waiting = waiting_op o.kind kept.message key (λ sends. m (sym same ∙ sends)) in
           inr (
             l,
@@ -229,7 +229,7 @@ module _ {T : Type 0} where
 
   nexts : (r : Roll T) (receiver : HandleId) (y : Reply T) (kept : Kept T) (wait : Option (Line × Waiter)) → IsLeft kept wait
       → Suits {T = T} (post r) (errand.PollNext receiver) wait
-      → Settles (post r) (post (settled (errand.PollNext receiver) y kept r)) (errand.PollNext receiver) kept wait
+      → Settles (post r) (post (written_back (errand.PollNext receiver) y kept r)) (errand.PollNext receiver) kept wait
   nexts r receiver y kept wait l f =
       let there = polled_there hold_post receiver.0 r.handles f.0 f.1 in
       let h = there.0 in
@@ -238,11 +238,11 @@ module _ {T : Type 0} where
       let s = handle_changed r receiver (λ (x : Hold). record x { standing = standing_with kept.key }) h there.1 in
       let all = sets_same (post r) (post put) (post (with_given_back receiver put)) (Stream receiver) _ s
       (given_back_same put receiver) in
-      set (post r) (post (settled (errand.PollNext receiver) y kept r)) (errand.PollNext receiver) kept wait (Stream receiver) _
+      set (post r) (post (written_back (errand.PollNext receiver) y kept r)) (errand.PollNext receiver) kept wait (Stream receiver) _
       refl all (by (all.there ∙ ap (λ k. stream_post k (standing_with kept.key)) is.0) is.1 l)
     where
       after : Waiter → Post
-      after = post (settled (errand.PollNext receiver) y kept r)
+      after = post (written_back (errand.PollNext receiver) y kept r)
 
       by : after (Stream receiver) ≡ post_on Streams (standing_with kept.key) → Streams ≡ f.0 → IsLeft kept wait
           → Comes after (errand.PollNext receiver) kept wait
@@ -280,18 +280,18 @@ module _ {T : Type 0} where
 
   news : (r : Roll T) (from new : HandleId) (k : HandleKind) (y : Reply T) (kept : Kept T) (wait : Option (Line × Waiter))
       → IsLeft kept wait → Suits {T = T} (post r) (errand.New from new k) wait
-      → Settles (post r) (post (settled (errand.New from new k) y kept r)) (errand.New from new k) kept wait
+      → Settles (post r) (post (written_back (errand.New from new k) y kept r)) (errand.New from new k) kept wait
   news r from new k y kept wait l f =
       let back = with_given_back from r in
       let back_same = given_back_same r from in
       let i = installs back new k y (back_same (Stream new) ∙ f.0) in
       let all = same_sets (post r) (post back) (post (installed new k y back)) (Stream new) i.0 back_same i.2 in
-      set (post r) (post (settled (errand.New from new k) y kept r)) (errand.New from new k) kept wait (Stream new) i.0 refl all
-      (no_wait (post (settled (errand.New from new k) y kept r)) (errand.New from new k) kept wait l f.1
-      (calm_at (post (settled (errand.New from new k) y kept r)) (errand.New from new k) (Stream new) i.0 refl all.there i.1))
+      set (post r) (post (written_back (errand.New from new k) y kept r)) (errand.New from new k) kept wait (Stream new) i.0 refl all
+      (no_wait (post (written_back (errand.New from new k) y kept r)) (errand.New from new k) kept wait l f.1
+      (calm_at (post (written_back (errand.New from new k) y kept r)) (errand.New from new k) (Stream new) i.0 refl all.there i.1))
 
   pub settles : (r : Roll T) (e : Errand T) (y : Reply T) (kept : Kept T) (wait : Option (Line × Waiter)) → IsLeft kept wait
-      → Suits {T = T} (post r) e wait → Settles (post r) (post (settled e y kept r)) e kept wait
+      → Suits {T = T} (post r) e wait → Settles (post r) (post (written_back e y kept r)) e kept wait
   settles r errand.Nothing y kept wait l f = plain (post r) (post r) errand.Nothing kept wait l f refl (λ v. refl)
   settles r (errand.Leave handle) y kept wait l f =
       plain (post r) (post (with_given_back handle r)) (errand.Leave handle) kept wait l f refl (given_back_same r handle)

@@ -12,7 +12,7 @@ use Rattle.channel_model.specs.declared.name.HandleKind.TheVariants as handle_ki
 use Rattle.channel_model.specs.declared.name.OpId.{OpId}
 use Rattle.channel_model.specs.declared.name.Waiter.{Waiter}
 use Rattle.channel_model.specs.declared.name.Waiter.TheVariants.{Op, Stream}
-use Rattle.channel_interleaving.specs.Bookkeeping.{with_operation, operation_named, handle_named, woken, all_woken}
+use Rattle.channel_interleaving.specs.Bookkeeping.{with_operation, operation_named, handle_named, with_one_woken, all_woken}
 use Rattle.channel_interleaving.specs.Owners.{IsAmong, Post, free, vacant, amiss, rests, waits, polled, post_on, no_stream_post, stream_post, posted, send_post, operation_post, post}
 use Rattle.channel_interleaving.specs.Roll.{told, used_more, used_less, with_handle, with_lent, with_given_back}
 use Rattle.channel_interleaving.specs.declared.names.Hold.{Hold}
@@ -282,13 +282,13 @@ module _ {T : Type 0} where
   op_none r op change e =
       ap (λ (d : Directory (Operation T)). record r { operations = d }) (ap (λ (x : Option (Operation T)). option_map_or (λ (y : Operation T). with_changed op.0 (change y) r.operations) x r.operations) e)
 
-  pub one_woken : (w : Waiter) (r : Roll T) → Sets (post r) (post (woken w r)) w (told_post (post r w))
+  pub one_woken : (w : Waiter) (r : Roll T) → Sets (post r) (post (with_one_woken w r)) w (told_post (post r w))
   one_woken (Op op) r = by (at op.0 r.operations) refl
     where
       change : Operation T → Operation T
       change o = record o { standing = told o.standing }
 
-      by : (o : Option (Operation T)) → at op.0 r.operations ≡ o → Sets (post r) (post (woken (Op op) r)) (Op op) (told_post (post r (Op op)))
+      by : (o : Option (Operation T)) → at op.0 r.operations ≡ o → Sets (post r) (post (with_one_woken (Op op) r)) (Op op) (told_post (post r (Op op)))
       by None e =
           subst (λ (x : Roll T). Sets (post r) (post x) (Op op) (told_post (post r (Op op)))) (sym (op_none r op change e))
           (record { there = sym (not_there op_post op.0 r.operations e); others = λ v other. refl })
@@ -300,7 +300,7 @@ module _ {T : Type 0} where
       change : Hold → Hold
       change h = record h { standing = told h.standing }
 
-      by : (o : Option Hold) → at handle.0 r.handles ≡ o → Sets (post r) (post (woken (Stream handle) r)) (Stream handle) (told_post (post r (Stream handle)))
+      by : (o : Option Hold) → at handle.0 r.handles ≡ o → Sets (post r) (post (with_one_woken (Stream handle) r)) (Stream handle) (told_post (post r (Stream handle)))
       by None e =
           subst (λ (x : Roll T). Sets (post r) (post x) (Stream handle) (told_post (post r (Stream handle)))) (sym (handle_none r handle change e))
           (record { there = sym (not_there hold_post handle.0 r.handles e); others = λ v other. refl })
@@ -310,27 +310,27 @@ module _ {T : Type 0} where
 
   pub all_told : (ws : List Waiter) (r : Roll T) (v : Waiter) → MayBeTold (post r) (post (all_woken ws r)) v
   all_told [] r v = inl refl
-  all_told (w ∷ ws) r v = by (waiter_or v w) (all_told ws (woken w r) v)
+  all_told (w ∷ ws) r v = by (waiter_or v w) (all_told ws (with_one_woken w r) v)
     where
-      s : Sets (post r) (post (woken w r)) w (told_post (post r w))
+      s : Sets (post r) (post (with_one_woken w r)) w (told_post (post r w))
       s = one_woken w r
 
-      by : (v ≡ w) ⊎ (v ≡ w → ⊥) → MayBeTold (post (woken w r)) (post (all_woken ws (woken w r))) v → MayBeTold (post r) (post (all_woken ws (woken w r))) v
-      by (inl same) (inl e) = inr (e ∙ (ap (λ x. post (woken w r) x) same ∙ (s.there ∙ ap (λ x. told_post (post r x)) (sym same))))
-      by (inl same) (inr e) = inr (e ∙ (ap (λ x. told_post (post (woken w r) x)) same ∙ (ap told_post s.there ∙ (twice (post r w) ∙ ap (λ x. told_post (post r x)) (sym same)))))
+      by : (v ≡ w) ⊎ (v ≡ w → ⊥) → MayBeTold (post (with_one_woken w r)) (post (all_woken ws (with_one_woken w r))) v → MayBeTold (post r) (post (all_woken ws (with_one_woken w r))) v
+      by (inl same) (inl e) = inr (e ∙ (ap (λ x. post (with_one_woken w r) x) same ∙ (s.there ∙ ap (λ x. told_post (post r x)) (sym same))))
+      by (inl same) (inr e) = inr (e ∙ (ap (λ x. told_post (post (with_one_woken w r) x)) same ∙ (ap told_post s.there ∙ (twice (post r w) ∙ ap (λ x. told_post (post r x)) (sym same)))))
       by (inr other) (inl e) = inl (e ∙ s.others v other)
       by (inr other) (inr e) = inr (e ∙ ap told_post (s.others v other))
 
   -- those who are named
   pub named_told : (ws : List Waiter) (r : Roll T) (v : Waiter) → IsAmong v ws → post (all_woken ws r) v ≡ told_post (post r v)
   named_told [] r v h = absurd h
-  named_told (w ∷ ws) r v (inl same) = by (all_told ws (woken w r) v) (one_woken w r)
+  named_told (w ∷ ws) r v (inl same) = by (all_told ws (with_one_woken w r) v) (one_woken w r)
     where
-      by : MayBeTold (post (woken w r)) (post (all_woken ws (woken w r))) v → Sets (post r) (post (woken w r)) w (told_post (post r w)) → post (all_woken ws (woken w r)) v ≡ told_post (post r v)
-      by (inl e) s = e ∙ (ap (λ x. post (woken w r) x) (sym same) ∙ (s.there ∙ ap (λ x. told_post (post r x)) same))
-      by (inr e) s = e ∙ (ap (λ x. told_post (post (woken w r) x)) (sym same) ∙ (ap told_post s.there ∙ (twice (post r w) ∙ ap (λ x. told_post (post r x)) same)))
-  named_told (w ∷ ws) r v (inr h) = by (waiter_or v w) (one_woken w r) (named_told ws (woken w r) v h)
+      by : MayBeTold (post (with_one_woken w r)) (post (all_woken ws (with_one_woken w r))) v → Sets (post r) (post (with_one_woken w r)) w (told_post (post r w)) → post (all_woken ws (with_one_woken w r)) v ≡ told_post (post r v)
+      by (inl e) s = e ∙ (ap (λ x. post (with_one_woken w r) x) (sym same) ∙ (s.there ∙ ap (λ x. told_post (post r x)) same))
+      by (inr e) s = e ∙ (ap (λ x. told_post (post (with_one_woken w r) x)) (sym same) ∙ (ap told_post s.there ∙ (twice (post r w) ∙ ap (λ x. told_post (post r x)) same)))
+  named_told (w ∷ ws) r v (inr h) = by (waiter_or v w) (one_woken w r) (named_told ws (with_one_woken w r) v h)
     where
-      by : (v ≡ w) ⊎ (v ≡ w → ⊥) → Sets (post r) (post (woken w r)) w (told_post (post r w)) → post (all_woken ws (woken w r)) v ≡ told_post (post (woken w r) v) → post (all_woken ws (woken w r)) v ≡ told_post (post r v)
-      by (inl same) s e = e ∙ (ap (λ x. told_post (post (woken w r) x)) same ∙ (ap told_post s.there ∙ (twice (post r w) ∙ ap (λ x. told_post (post r x)) (sym same))))
+      by : (v ≡ w) ⊎ (v ≡ w → ⊥) → Sets (post r) (post (with_one_woken w r)) w (told_post (post r w)) → post (all_woken ws (with_one_woken w r)) v ≡ told_post (post (with_one_woken w r) v) → post (all_woken ws (with_one_woken w r)) v ≡ told_post (post r v)
+      by (inl same) s e = e ∙ (ap (λ x. told_post (post (with_one_woken w r) x)) same ∙ (ap told_post s.there ∙ (twice (post r w) ∙ ap (λ x. told_post (post r x)) (sym same))))
       by (inr other) s e = e ∙ ap told_post (s.others v other)

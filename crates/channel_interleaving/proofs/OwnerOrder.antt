@@ -13,7 +13,7 @@ use Rattle.channel_calls.specs.declared.stage.Line.{Line}
 use Rattle.channel_model.specs.declared.name.Waiter.{Waiter}
 use Rattle.channel_model.specs.declared.name.Waiter.TheVariants.{Op, Stream}
 use Rattle.channel_steps.specs.Scene.{Scene, Steps, AllKnown}
-use Rattle.channel_interleaving.specs.Bookkeeping.{settled, all_woken}
+use Rattle.channel_interleaving.specs.Bookkeeping.{written_back, all_woken}
 use Rattle.channel_interleaving.specs.Order.{all_moved_last, order_settled}
 use Rattle.channel_interleaving.specs.Owners.{IsAmong, NoneTwice, Post, free, vacant, amiss, rests, waits, polled, post, holding, wait_of, subject, Suits, AllDiffer, named, calling, Owned}
 use Rattle.channel_interleaving.specs.OwnerOrder.{woken_key, Within, NeedsPlace, InOrder}
@@ -264,7 +264,7 @@ module _ {T : Type 0} where
     roll1 = all_woken names b.roll
 
     abbrev roll2 : Roll T
-    roll2 = settled pt.agent.errand y kept roll1
+    roll2 = written_back pt.agent.errand y kept roll1
 
     abbrev order1 : List Waiter
     order1 = all_moved_last names b.order

@@ -9,7 +9,7 @@ use Rattle.channel_model.proofs.Awake.{line_sound, line_refl}
 use Rattle.channel_model.specs.Laws.{same_line}
 use Rattle.channel_model.specs.Lines.{is_among, without_waiter}
 use Rattle.channel_model.specs.declared.name.Waiter.{Waiter}
-use Rattle.channel_interleaving.specs.Bookkeeping.{woken, all_woken}
+use Rattle.channel_interleaving.specs.Bookkeeping.{with_one_woken, all_woken}
 use Rattle.channel_interleaving.specs.Order.{moved_last, all_moved_last}
 use Rattle.channel_interleaving.specs.Owners.{IsAmong, NoneTwice, Post, free, vacant, amiss, rests, waits, polled, post}
 use Rattle.channel_interleaving.specs.OwnerOrder.{woken_key, woken_keys, Within}
@@ -112,34 +112,34 @@ module _ {T : Type 0} where
       by (inl j) on = (w, key_held line key (post r w) j)
       by (inr j) on = on j
 
-  was_waiting : (w v : Waiter) (r : Roll T) (h : Held) (c : Bool) → post (woken w r) v ≡ waits h c
+  was_waiting : (w v : Waiter) (r : Roll T) (h : Held) (c : Bool) → post (with_one_woken w r) v ≡ waits h c
       → (d : Bool) × (post r v ≡ waits h d)
   was_waiting w v r h c e = by (waiter_or v w)
     where
       by : (v ≡ w) ⊎ (v ≡ w → ⊥) → (d : Bool) × (post r v ≡ waits h d)
       by (inl same) =
-          let told : told_post (post r w) ≡ waits h c = sym (one_woken w r).there ∙ (ap (post (woken w r)) (sym same) ∙ e) in
+          let told : told_post (post r w) ≡ waits h c = sym (one_woken w r).there ∙ (ap (post (with_one_woken w r)) (sym same) ∙ e) in
           let was = told_was (post r w) h c told in
           (was.0, ap (post r) same ∙ was.1)
       by (inr other) = (c, sym ((one_woken w r).others v other) ∙ e)
 
-  told_not_on : (line : Line) (w : Waiter) (r : Roll T) → NotOn line (post r w) → NotOn line (post (woken w r) w)
+  told_not_on : (line : Line) (w : Waiter) (r : Roll T) → NotOn line (post r w) → NotOn line (post (with_one_woken w r) w)
   told_not_on line w r other h c e same = let was = was_waiting w w r h c e in other h was.0 was.1 same
 
   -- one is woken that isn't pending on this line
   other_keys : (line : Line) (w : Waiter) (r : Roll T) → NotOn line (post r w) → (v : Waiter)
-      → key_on line (woken w r) v ≡ key_on line r v
+      → key_on line (with_one_woken w r) v ≡ key_on line r v
   other_keys line w r other v = by (waiter_or v w)
     where
-      by : (v ≡ w) ⊎ (v ≡ w → ⊥) → key_on line (woken w r) v ≡ key_on line r v
-      by (inl same) = ap (key_on line (woken w r)) same ∙ (keyless line (post (woken w r) w) (told_not_on line w r other)
+      by : (v ≡ w) ⊎ (v ≡ w → ⊥) → key_on line (with_one_woken w r) v ≡ key_on line r v
+      by (inl same) = ap (key_on line (with_one_woken w r)) same ∙ (keyless line (post (with_one_woken w r) w) (told_not_on line w r other)
           ∙ (sym (keyless line (post r w) other) ∙ ap (key_on line r) (sym same)))
       by (inr apart) = ap (woken_key line) ((one_woken w r).others v apart)
 
   moved_elsewhere : (line : Line) (w : Waiter) (r : Roll T) (ws : List Waiter) → NotOn line (post r w)
-      → gathered (key_on line (woken w r)) (moved_last w ws) ≡ gathered (key_on line r) ws
+      → gathered (key_on line (with_one_woken w r)) (moved_last w ws) ≡ gathered (key_on line r) ws
   moved_elsewhere line w r ws other =
-      gathered_same (key_on line (woken w r)) (key_on line r) (moved_last w ws) (other_keys line w r other)
+      gathered_same (key_on line (with_one_woken w r)) (key_on line r) (moved_last w ws) (other_keys line w r other)
       ∙ moved_keyless (is_among w ws) (key_on line r) w ws (keyless line (post r w) other)
 
   -- these are woken, and none of them is pending on this line
@@ -148,7 +148,7 @@ module _ {T : Type 0} where
       → gathered (key_on line (all_woken names r)) (all_moved_last names ws) ≡ gathered (key_on line r) ws
   woken_elsewhere line [] r ws other = refl
   woken_elsewhere line (n ∷ names) r ws other =
-      woken_elsewhere line names (woken n r) (moved_last n ws) (λ w i h c e same.
+      woken_elsewhere line names (with_one_woken n r) (moved_last n ws) (λ w i h c e same.
       let was = was_waiting n w r h c e in other w (inr i) h was.0 was.1 same)
       ∙ moved_elsewhere line n r ws (other n (inl refl))
 
@@ -166,11 +166,11 @@ module _ {T : Type 0} where
   moved_here : (b : Bool) (line : Line) (key : Key) (w : Waiter) (r : Roll T) (ws : List Waiter) (told : List Key)
       → is_among w ws ≡ b → IsAmong w ws → post r w ≡ waits (at_line line key) false
       → Within (gathered (key_on line r) ws) told
-      → Within (gathered (key_on line (woken w r)) (if b then without_waiter w ws ++ w ∷ [] else ws)) (told ++ key ∷ [])
+      → Within (gathered (key_on line (with_one_woken w r)) (if b then without_waiter w ws ++ w ∷ [] else ws)) (told ++ key ∷ [])
   moved_here false line key w r ws told e i is h = absurd (let no : true ≡ false = sym (is_there w ws i) ∙ e in cc)
   moved_here true line key w r ws told e i is h =
       let f = key_on line r in
-      let g = key_on line (woken w r) in
+      let g = key_on line (with_one_woken w r) in
       let none : f w ≡ [] = ap (woken_key line) is in
       let one : g w ≡ key ∷ [] =
       ap (woken_key line) ((one_woken w r).there ∙ ap told_post is) ∙ own_key line key in
@@ -185,11 +185,11 @@ module _ {T : Type 0} where
   -- one is woken for whom a listener waited
   moved_one : (line : Line) (key : Key) (w : Waiter) (es : List (Key × Option Waiter)) (r : Roll T) (ws : List Waiter)
       (told : List Key) → AreOwn line r ((key, Some w) ∷ es) → HavePlaces r ws → Within (gathered (key_on line r) ws) told
-      → Within (gathered (key_on line (woken w r)) (moved_last w ws)) (told ++ key ∷ [])
+      → Within (gathered (key_on line (with_one_woken w r)) (moved_last w ws)) (told ++ key ∷ [])
   moved_one line key w es r ws told own places h = by (waiting_or (post r w))
     where
       by : Waiting (post r w) ⊎ (Waiting (post r w) → ⊥)
-          → Within (gathered (key_on line (woken w r)) (moved_last w ws)) (told ++ key ∷ [])
+          → Within (gathered (key_on line (with_one_woken w r)) (moved_last w ws)) (told ++ key ∷ [])
       by (inl x) =
           let its = own key w (inl refl) x.0 x.1 x.2 in
           let is : post r w ≡ waits (at_line line key) false =
@@ -201,7 +201,7 @@ module _ {T : Type 0} where
           (within_more (gathered (key_on line r) ws) told (key ∷ []) h)
 
   own_still : (line : Line) (key : Key) (w : Waiter) (es : List (Key × Option Waiter)) (r : Roll T)
-      → (IsAmong key (keys_of es) → ⊥) → AreOwn line r ((key, Some w) ∷ es) → AreOwn line (woken w r) es
+      → (IsAmong key (keys_of es) → ⊥) → AreOwn line r ((key, Some w) ∷ es) → AreOwn line (with_one_woken w r) es
   own_still line key w es r new own k v i h c e = by (waiter_or v w)
     where
       by : (v ≡ w) ⊎ (v ≡ w → ⊥) → (h ≡ at_line line k) × (c ≡ false)
@@ -213,7 +213,7 @@ module _ {T : Type 0} where
           absurd (new (subst (λ (x : Key). IsAmong x (keys_of es)) keys (key_of_entry (k, Some v) es i)))
       by (inr other) = own k v (inr i) h c (sym ((one_woken w r).others v other) ∙ e)
 
-  places_still : (w : Waiter) (r : Roll T) (ws : List Waiter) → HavePlaces r ws → HavePlaces (woken w r) (moved_last w ws)
+  places_still : (w : Waiter) (r : Roll T) (ws : List Waiter) → HavePlaces r ws → HavePlaces (with_one_woken w r) (moved_last w ws)
   places_still w r ws places v h c e = let was = was_waiting w v r h c e in stays_last w v ws (places v h was.0 was.1)
 
   pub woken_here : (line : Line) (es : List (Key × Option Waiter)) (r : Roll T) (ws : List Waiter) (told : List Key)
@@ -228,7 +228,7 @@ module _ {T : Type 0} where
       (woken_here line es r ws (told ++ key ∷ []) once.1 (λ k w i. own k w (inr i)) places more)
   woken_here line ((key, Some w) ∷ es) r ws told once own places h =
       subst (λ (ks : List Key). Within
-      (gathered (key_on line (all_woken (tasks_of es) (woken w r))) (all_moved_last (tasks_of es) (moved_last w ws))) ks)
+      (gathered (key_on line (all_woken (tasks_of es) (with_one_woken w r))) (all_moved_last (tasks_of es) (moved_last w ws))) ks)
       (append_assoc told (key ∷ []) (keys_of es))
-      (woken_here line es (woken w r) (moved_last w ws) (told ++ key ∷ []) once.1 (own_still line key w es r once.0 own)
+      (woken_here line es (with_one_woken w r) (moved_last w ws) (told ++ key ∷ []) once.1 (own_still line key w es r once.0 own)
       (places_still w r ws places) (moved_one line key w es r ws told own places h))

@@ -9,7 +9,7 @@ use Rattle.channel_calls.specs.declared.stage.Line.{Line}
 use Rattle.channel_model.specs.declared.call.Call.{Call}
 use Rattle.channel_model.specs.declared.name.Waiter.{Waiter}
 use Rattle.channel_steps.specs.Scene.{Scene, Steps, AllKnown}
-use Rattle.channel_interleaving.specs.Bookkeeping.{names_begun, errand_of, asks, settled, all_woken}
+use Rattle.channel_interleaving.specs.Bookkeeping.{names_begun, errand_of, asks, written_back, all_woken}
 use Rattle.channel_interleaving.specs.OwnerPolled.{IsWorkedAt, PolledAtWork}
 use Rattle.channel_interleaving.specs.Owners.{IsAmong, Post, free, vacant, amiss, rests, waits, polled, post, subject, AllDiffer, Owned}
 use Rattle.channel_interleaving.specs.Roll.{first_roll}
@@ -103,16 +103,16 @@ module _ {T : Type 0} where
       let is = is_agent pt.front pt.agent pt.back k a (subst (λ (l : List (Agent T)). AllDiffer l) pt.are o.differ)
       (ap (λ (l : List (Agent T)). slice_get l k) (sym pt.are) ∙ there) (his ∙ sym whose) in
       let rest : remove b.agents k ≡ pt.front ++ pt.back = ap (λ (l : List (Agent T)). remove l k) pt.are ∙ is.without in
-      let roll : c.roll ≡ settled pt.agent.errand y f.kept (all_woken names b.roll) =
+      let roll : c.roll ≡ written_back pt.agent.errand y f.kept (all_woken names b.roll) =
       ap (λ (d : Book T). d.roll) after
-      ∙ (ap (λ (x : Agent T). settled x.errand y (unwrap_or kp nothing_kept) (all_woken names b.roll)) is.same
-      ∙ ap (λ (x : Option (Kept T)). settled pt.agent.errand y (unwrap_or x nothing_kept) (all_woken names b.roll)) f.given) in
+      ∙ (ap (λ (x : Agent T). written_back x.errand y (unwrap_or kp nothing_kept) (all_woken names b.roll)) is.same
+      ∙ ap (λ (x : Option (Kept T)). written_back pt.agent.errand y (unwrap_or x nothing_kept) (all_woken names b.roll)) f.given) in
       let agents : c.agents ≡ pt.front ++ pt.back = ap (λ (d : Book T). d.agents) after ∙ rest in
       let settle = set b s t q.0 m y kp names o known st in
-      let now : post (settled pt.agent.errand y f.kept (all_woken names b.roll)) w ≡ polled line =
+      let now : post (written_back pt.agent.errand y f.kept (all_woken names b.roll)) w ≡ polled line =
       ap (λ x. post x w) (sym roll) ∙ e in
       let other : (subject pt.agent.errand ≡ Some w → ⊥) =
-      own_not pt.agent (post (settled pt.agent.errand y f.kept (all_woken names b.roll))) f.kept _ settle.own now in
+      own_not pt.agent (post (written_back pt.agent.errand y f.kept (all_woken names b.roll))) f.kept _ settle.own now in
       let h = at w line (mid_polled names b w line (sym (settle.others w other) ∙ now)) in (
         h.0,
         subst (λ (l : List (Agent T)). IsAmong h.0 l) (sym agents)

@@ -15,10 +15,10 @@ use Rattle.channel_model.specs.declared.name.Waiter.{Waiter}
 use Rattle.channel_model.specs.declared.refusal.WorldRefusal.TheVariants.{Busy}
 use Rattle.event_listener.specs.declared.key.Key.{Key}
 use Rattle.channel_steps.specs.Scene.{Under, Scene, Steps, Known, AllKnown, sees, does, unless_ended}
-use Rattle.channel_interleaving.specs.Bookkeeping.{settled, all_woken}
+use Rattle.channel_interleaving.specs.Bookkeeping.{written_back, all_woken}
 use Rattle.channel_interleaving.specs.Order.{all_moved_last, order_settled}
-use Rattle.channel_interleaving.specs.Owners.{IsAmong, All, AnyOf, Post, free, vacant, amiss, rests, waits, polled, post, holding, task_at, wait_of, line_asked, Bears, subject, Suits, Fits, Together, Differ, AllDiffer, WaitsToWake, Holder, named, calling, HoldsIn, Owned}
-use Rattle.channel_interleaving.specs.Refusal.{refusal, step_refusal}
+use Rattle.channel_interleaving.specs.Owners.{IsAmong, All, AnyOf, Post, free, vacant, amiss, rests, waits, polled, post, holding, task_at, wait_of, line_asked, Bears, subject, Suits, AgentFits, Together, Differ, AllDiffer, WaitsToWake, Holder, named, calling, HoldsIn, Owned}
+use Rattle.channel_interleaving.specs.Refusal.{begin_refusal, step_refusal}
 use Rattle.channel_interleaving.specs.Roll.{is_at_work}
 use Rattle.channel_interleaving.specs.Run.{Book, book_ended, with_woken}
 use Rattle.channel_interleaving.specs.declared.names.Agent.{Agent}
@@ -266,7 +266,7 @@ module _ {T : Type 0} where
         let a = accounted s.now t.now names (holding st.mine.at) on_out.has (HoldsIn (post b.roll) s.under_way)
         (HoldsIn on_posts on_after) (calling p) (calling p) on_out.lists on_out.how goes_pass
         (accounts b s t p m None kp names o known st) in
-        let own : Fits on_posts pt.agent (does st.mine st.at_now m s.now t.now) =
+        let own : AgentFits on_posts pt.agent (does st.mine st.at_now m s.now t.now) =
         record {
           party = pt.own.party;
           suits = suits_on (post b.roll) on_posts pt.agent.errand _
@@ -348,7 +348,7 @@ module _ {T : Type 0} where
     kept = let f = st.finishes in f.kept
 
     abbrev E2 : Waiter → Post
-    E2 = post (settled pt.agent.errand y kept (all_woken names b.roll))
+    E2 = post (written_back pt.agent.errand y kept (all_woken names b.roll))
 
     pub leaves : LeavesIt T Waiter st.mine.ask kept end_out.has t.now
     leaves = let f = st.finishes in
@@ -380,7 +380,7 @@ module _ {T : Type 0} where
 
     abbrev end_book : Book T
     end_book = record {
-      roll = settled pt.agent.errand y kept (all_woken names b.roll);
+      roll = written_back pt.agent.errand y kept (all_woken names b.roll);
       order = order_settled pt.agent.errand kept.key (all_moved_last names b.order);
       agents = pt.front ++ pt.back;
     }
@@ -542,12 +542,12 @@ module _ {T : Type 0} where
   pub ended_is : (k : ℕ) (a a' : Agent T) (y : Reply T) (kp : Option (Kept T)) (kept : Kept T) (b : Book T)
       (rest : List (Agent T)) → a ≡ a' → kp ≡ Some kept → remove b.agents k ≡ rest
       → book_ended k a (Some y) kp b
-      ≡ record { roll = settled a'.errand y kept b.roll; order = order_settled a'.errand kept.key b.order; agents = rest }
+      ≡ record { roll = written_back a'.errand y kept b.roll; order = order_settled a'.errand kept.key b.order; agents = rest }
   ended_is k a a' y kp kept b rest same given left =
       ap (λ (x : Agent T). book_ended k x (Some y) kp b) same
       ∙ (ap (λ (x : Option (Kept T)). book_ended k a' (Some y) x b) given
       ∙ ap (λ (l : List (Agent T)).
-      record { roll = settled a'.errand y kept b.roll; order = order_settled a'.errand kept.key b.order; agents = l }) left)
+      record { roll = written_back a'.errand y kept b.roll; order = order_settled a'.errand kept.key b.order; agents = l }) left)
 
   abbrev IsAfter : Book T → PartyId → Option (Reply T) → Option (Kept T) → List Waiter → Book T → Type 0
   IsAfter b q r kp names c = (k : ℕ) × (a : Agent T) × (slice_get b.agents k ≡ Some a) × (a.party ≡ q.0)
@@ -571,10 +571,10 @@ module _ {T : Type 0} where
       subst (λ (d : Book T). Owned d t) (sym same) (ends_owned b s t q.0 m y kp names o known st)
 
   pub idle_and_free : (q : PartyId) (c : Call T) (b : Book T) → step_refusal b.roll b.agents (step.Begin q c) ≡ None
-      → (is_at_work q.0 b.agents ≡ false) × (refusal b.roll c ≡ None)
+      → (is_at_work q.0 b.agents ≡ false) × (begin_refusal b.roll c ≡ None)
   idle_and_free q c b h = by (is_at_work q.0 b.agents) refl h
     where
-      by : (x : Bool) → is_at_work q.0 b.agents ≡ x → (if x then Some Busy else refusal b.roll c) ≡ None
-          → (is_at_work q.0 b.agents ≡ false) × (refusal b.roll c ≡ None)
+      by : (x : Bool) → is_at_work q.0 b.agents ≡ x → (if x then Some Busy else begin_refusal b.roll c) ≡ None
+          → (is_at_work q.0 b.agents ≡ false) × (begin_refusal b.roll c ≡ None)
       by true e g = absurd (let no : Some Busy ≡ None = g in cc)
       by false e g = (e, g)

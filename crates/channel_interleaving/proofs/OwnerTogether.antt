@@ -7,7 +7,7 @@ use Rattle.channel_calls.specs.declared.stage.Line.{Line}
 use Rattle.channel_model.specs.declared.name.Waiter.{Waiter}
 use Rattle.channel_model.specs.declared.name.Waiter.TheVariants.{Op, Stream}
 use Rattle.channel_steps.specs.Scene.{Under, sees}
-use Rattle.channel_interleaving.specs.Owners.{All, AnyOf, Post, holding, subject, Suits, Fits, Together, Differ, AllDiffer}
+use Rattle.channel_interleaving.specs.Owners.{All, AnyOf, Post, holding, subject, Suits, AgentFits, Together, Differ, AllDiffer}
 use Rattle.channel_interleaving.specs.declared.names.Agent.{Agent}
 use Rattle.channel_interleaving.specs.declared.names.Errand.{Errand}
 use Rattle.channel_interleaving.specs.declared.names.Errand.TheVariants as errand
@@ -125,7 +125,7 @@ module _ {T : Type 0} where
     pub back : List (Agent T)
     pub are : agents ≡ front ++ agent ∷ back
     pub first : Together p front before
-    pub own : Fits p agent mine
+    pub own : AgentFits p agent mine
     pub last : Together p back behind
 
   pub parted : (p : Waiter → Post) (agents : List (Agent T)) (before : List (Under T Waiter)) (mine : Under T Waiter) (behind : List (Under T Waiter)) → Together p agents (before ++ mine ∷ behind) → Parted p agents before mine behind

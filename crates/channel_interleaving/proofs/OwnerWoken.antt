@@ -13,7 +13,7 @@ use Rattle.channel_calls.specs.declared.stage.Line.{Line}
 use Rattle.channel_model.specs.declared.name.Waiter.{Waiter}
 use Rattle.channel_model.specs.declared.name.Waiter.TheVariants.{Op, Stream}
 use Rattle.channel_steps.specs.Scene.{Under, Scene, Steps, AllKnown, sees, does}
-use Rattle.channel_interleaving.specs.Bookkeeping.{settled, woken, all_woken}
+use Rattle.channel_interleaving.specs.Bookkeeping.{written_back, with_one_woken, all_woken}
 use Rattle.channel_interleaving.specs.Order.{all_moved_last, order_settled}
 use Rattle.channel_interleaving.specs.Owners.{IsAmong, All, AnyOf, Post, free, vacant, amiss, rests, waits, polled, post, holding, task_at, wait_of, Bears, subject, Suits, Together, Differ, AllDiffer, IsListed, WaitsToWake, named, calling, HoldsIn, Owned}
 use Rattle.channel_interleaving.specs.OwnerWoken.{IsAway, IsTold, NoneWorks, IsOwn, WokenSound}
@@ -71,7 +71,7 @@ woken_or h k e = absurd (let never : true ≡ false = ap
 module _ {T : Type 0} where
   unnamed : (ws : List Waiter) (r : Roll T) (v : Waiter) → (IsAmong v ws → ⊥) → post (all_woken ws r) v ≡ post r v
   unnamed [] r v f = refl
-  unnamed (w ∷ ws) r v f = unnamed ws (woken w r) v (λ i. f (inr i)) ∙ (one_woken w r).others v (λ e. f (inl (sym e)))
+  unnamed (w ∷ ws) r v f = unnamed ws (with_one_woken w r) v (λ i. f (inr i)) ∙ (one_woken w r).others v (λ e. f (inl (sym e)))
 
   -- one that is woken then was woken before, or is named
   told_or_named : (ws : List Waiter) (r : Roll T) (v : Waiter) (h : Held) → post (all_woken ws r) v ≡ waits h true
@@ -247,14 +247,14 @@ module _ {T : Type 0} where
     kept = let f = st.finishes in f.kept
 
     abbrev E2 : Waiter → Post
-    E2 = post (settled pt.agent.errand y kept (all_woken names b.roll))
+    E2 = post (written_back pt.agent.errand y kept (all_woken names b.roll))
 
     abbrev Left : List (Under T Waiter)
     Left = map (sees t.now) st.before ++ map (sees t.now) st.behind
 
     abbrev end_book : Book T
     end_book = record {
-      roll = settled pt.agent.errand y kept (all_woken names b.roll);
+      roll = written_back pt.agent.errand y kept (all_woken names b.roll);
       order = order_settled pt.agent.errand kept.key (all_moved_last names b.order);
       agents = pt.front ++ pt.back;
     }

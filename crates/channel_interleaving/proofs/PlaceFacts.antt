@@ -4,7 +4,7 @@ use Rattle.std.specs.Option.{option_map, option_map_or}
 use Rattle.futures.specs.declared.task.Poll.TheVariants as poll
 use Rattle.concurrent_queue.specs.Queue.{Queue, is_filled}
 use Rattle.event_listener.specs.declared.key.Key.{Key}
-use Rattle.channel_alone.specs.Alone.{Outcome, Alone, AsksListener, PollsSend, Where, over_queue, appended, replaced, answers, ends, of_message, Waits, Listens}
+use Rattle.channel_alone.specs.Alone.{Outcome, Alone, AsksListener, PollsSend, Where, over_queue, with_appended, replaced, answers, ends, of_message, WaitsOrGoesOn, ListensOrIsRefused}
 use Rattle.channel_alone.specs.Scenes.{LoneRun, steps_by}
 use Rattle.channel_calls.specs.Answered.{over}
 use Rattle.channel_calls.specs.Moves.{Channel, tells_one, tells_all, registers}
@@ -142,7 +142,7 @@ module _ {T : Type 0} where
   no_message r c e = refl
 
   -- a poll that may bring one is that of a send
-  pub only_sends_bring : (r : Roll T) (w : Waiter) → brings r (poll_of w) ≡ true → is_line Sends (laws.line_of (names_of r) w) ≡ true
+  pub only_sends_bring : (r : Roll T) (w : Waiter) → brings r (poll_of w) ≡ true → is_line Sends (laws.line_at (names_of r) w) ≡ true
   only_sends_bring r (Stream receiver) e = absurd (let no : false ≡ true = e in cc)
   only_sends_bring r (Op op) e =
       ap (λ (o : Option (model.ModelOperation T)). is_line Sends (line_of_operation o)) (refusals.operation_at r op.0)
@@ -183,46 +183,46 @@ module _ {T : Type 0} where
   sends_by : (b f : Bool) (m : T) (c : Channel T Waiter) (o : Outcome T Waiter)
       → o ≡ (if b then ends [] (says (reply.TrySend (Err (refused.Plain (try_send_error.Closed m))))) c
       else (if f then ends [] (says (reply.TrySend (Err (refused.Plain (try_send_error.Full m))))) c
-      else ends of_message (says (reply.TrySend (Ok tt))) (over_queue (appended m) c)))
+      else ends of_message (says (reply.TrySend (Ok tt))) (over_queue (with_appended m) c)))
       → Accepts c o
   sends_by true f m c o e = kept_out (says (reply.TrySend (Err (refused.Plain (try_send_error.Closed m))))) c o e
   sends_by false true m c o e = kept_out (says (reply.TrySend (Err (refused.Plain (try_send_error.Full m))))) c o e
-  sends_by false false m c o e = let_in (says (reply.TrySend (Ok tt))) c (over_queue (appended m) c) o e refl refl
+  sends_by false false m c o e = let_in (says (reply.TrySend (Ok tt))) c (over_queue (with_appended m) c) o e refl refl
 
   forces_by : (b f : Bool) (m : T) (c : Channel T Waiter) (o : Outcome T Waiter)
       → o ≡ (if b then ends [] (says (reply.ForceSend (Err (refused.Plain (record { 0 = m }))))) c
       else (if f then ends of_message (says (reply.ForceSend (Ok (slice_get c.queue.items 0)))) (over_queue (replaced m) c)
-      else ends of_message (says (reply.ForceSend (Ok None))) (over_queue (appended m) c)))
+      else ends of_message (says (reply.ForceSend (Ok None))) (over_queue (with_appended m) c)))
       → Accepts c o
   forces_by true f m c o e = kept_out (says (reply.ForceSend (Err (refused.Plain (record { 0 = m }))))) c o e
   forces_by false true m c o e = let_in (says (reply.ForceSend (Ok (slice_get c.queue.items 0)))) c (over_queue (replaced m) c) o e refl refl
-  forces_by false false m c o e = let_in (says (reply.ForceSend (Ok None))) c (over_queue (appended m) c) o e refl refl
+  forces_by false false m c o e = let_in (says (reply.ForceSend (Ok None))) c (over_queue (with_appended m) c) o e refl refl
 
   -- a poll that waits brings none
-  listens_out : (w : Waiting T) (task : Waiter) (c : Channel T Waiter) (o : Outcome T Waiter) → Listens w task c o → Accepts c o
+  listens_out : (w : Waiting T) (task : Waiter) (c : Channel T Waiter) (o : Outcome T Waiter) → ListensOrIsRefused w task c o → Accepts c o
   listens_out w task c o (inl h) = subst (λ (y : Outcome T Waiter). Accepts c y) (sym h.2) (omega arith)
   listens_out w task c o (inr h) = subst (λ (y : Outcome T Waiter). Accepts c y) (sym h.1) (omega arith)
 
   registers_out : (b : Bool) (w : Waiting T) (key : Key) (task : Waiter) (c : Channel T Waiter) (o : Outcome T Waiter)
       → Where b (o ≡ answers (pending_reply (line_of w)) (leaving (Some key) (message_of w)) (registers (line_of w) key task c).channel)
-      (Listens w task (registers (line_of w) key task c).channel o) → Accepts c o
+      (ListensOrIsRefused w task (registers (line_of w) key task c).channel o) → Accepts c o
   registers_out true w key task c o e = subst (λ (y : Outcome T Waiter). Accepts c y) (sym e) (omega arith)
   registers_out false w key task c o h = listens_out w task (registers (line_of w) key task c).channel o h
 
-  waits_out : (w : Waiting T) (key : Option Key) (task : Waiter) (c : Channel T Waiter) (o : Outcome T Waiter) → Waits w key task c o
+  waits_out : (w : Waiting T) (key : Option Key) (task : Waiter) (c : Channel T Waiter) (o : Outcome T Waiter) → WaitsOrGoesOn w key task c o
       → Accepts c o
   waits_out w None task c o h = listens_out w task c o h
   waits_out w (Some key) task c o h = registers_out (waits key (listeners (line_of w) c.roster)) w key task c o h
 
   polls_by : (b f : Bool) (m : T) (key : Option Key) (task : Waiter) (c : Channel T Waiter) (o : Outcome T Waiter)
       → Where b (o ≡ ends [] (over (reply.SendPoll (poll.Ready (Err (refused.Plain (record { 0 = m }))))) None Sends key) c)
-      (Where f (Waits (waiting.Send m) key task c o)
-      (o ≡ ends of_message (over (reply.SendPoll (poll.Ready (Ok tt))) None Sends key) (over_queue (appended m) c)))
+      (Where f (WaitsOrGoesOn (waiting.Send m) key task c o)
+      (o ≡ ends of_message (over (reply.SendPoll (poll.Ready (Ok tt))) None Sends key) (over_queue (with_appended m) c)))
       → Accepts c o
   polls_by true f m key task c o e =
       kept_out (over (reply.SendPoll (poll.Ready (Err (refused.Plain (record { 0 = m }))))) None Sends key) c o e
   polls_by false true m key task c o h = waits_out (waiting.Send m) key task c o h
-  polls_by false false m key task c o e = let_in (over (reply.SendPoll (poll.Ready (Ok tt))) None Sends key) c (over_queue (appended m) c) o e refl refl
+  polls_by false false m key task c o e = let_in (over (reply.SendPoll (poll.Ready (Ok tt))) None Sends key) c (over_queue (with_appended m) c) o e refl refl
 
   tries_out : (m : T) (key : Option Key) (task : Waiter) (c : Channel T Waiter) (o : Outcome T Waiter) → PollsSend m key task c o → Accepts c o
   tries_out m key task c o (inl h) = kept_out (over (reply.SendPoll (poll.Ready (Err (refused.NoMemory tt)))) (Some m) Sends key) c o h.2

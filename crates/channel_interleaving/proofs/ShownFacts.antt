@@ -41,12 +41,12 @@ module _ {T : Type 0} where
     by (Some n) e = let same : n ≡ 1 = is_same n 1 e in ap (λ (k : ℕ). Some k) same
 
   -- a queue that is shown has a position more
-  pub has_position : (f : Floor T) (s : Scene T Waiter) → Shown f s → queue.HasPosition s.now.queue
+  pub has_position : (f : Floor T) (s : Scene T Waiter) → Shown f s → queue.HasNextPosition s.now.queue
   has_position f s sh = by sh.positions where
-    by : HasOnePlace f ⊎ AreCounted f s → queue.HasPosition s.now.queue
+    by : HasOnePlace f ⊎ AreCounted f s → queue.HasNextPosition s.now.queue
     by (inl one) = inl (one_slot f s sh one)
     by (inr k) = let accepted = k.accepted in let within = k.within in inr (omega (arith, accepted, within))
 
-  pub in_range : (q : Queue T) → queue.HasPosition q → IsInRange q
+  pub in_range : (q : Queue T) → queue.HasNextPosition q → IsInRange q
   in_range q (inl one) = inl one
   in_range q (inr low) = inr (omega (arith, low))

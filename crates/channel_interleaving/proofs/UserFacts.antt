@@ -19,10 +19,10 @@ use Rattle.channel_model.specs.declared.name.HandleKind.TheVariants as handle_ki
 use Rattle.channel_model.specs.declared.name.OpId.{OpId}
 use Rattle.channel_model.specs.declared.name.Waiter.{Waiter}
 use Rattle.channel_model.specs.declared.name.Waiter.TheVariants.{Op, Stream}
-use Rattle.channel_interleaving.specs.Bookkeeping.{names_begun, settled, installed, woken, all_woken, lent_by, lent_to_poll, with_operation, operation_named, handle_named, errand_of, leave_handle_of, new_from}
+use Rattle.channel_interleaving.specs.Bookkeeping.{names_begun, written_back, installed, with_one_woken, all_woken, lent_by, lent_to_poll, with_operation, operation_named, handle_named, errand_of, leave_handle_of, new_from}
 use Rattle.channel_interleaving.specs.Roll.{standing_with, used_more, used_less, with_handle, with_lent, with_given_back, with_standing, unused, first_roll, handle_at}
 use Rattle.channel_interleaving.specs.Run.{Book, book_begun, book_ended, with_woken}
-use Rattle.channel_interleaving.specs.Users.{one, uses, all_uses, FewUsers}
+use Rattle.channel_interleaving.specs.Users.{one, times_used, all_uses, FewUsers}
 use Rattle.channel_interleaving.specs.declared.names.Agent.{Agent}
 use Rattle.channel_interleaving.specs.declared.names.Errand.{Errand}
 use Rattle.channel_interleaving.specs.declared.names.Errand.TheVariants as errand
@@ -186,7 +186,7 @@ module _ {T : Type 0} where
 
   -- so many are allowed then
   abbrev allowed : (ℕ → ℕ) → Call T → Roll T → ℕ → ℕ
-  allowed n c r name = length (names_begun r c).operations + (n name + uses name (errand_of r c))
+  allowed n c r name = length (names_begun r c).operations + (n name + times_used name (errand_of r c))
 
   module _ (n : ℕ → ℕ) (r : Roll T) (few : AreFew (λ name. length r.operations + n name) r.handles) where
     abbrev now : ℕ → ℕ
@@ -208,14 +208,14 @@ module _ {T : Type 0} where
 
     -- a handle is made from one that lives, or that doesn't
     named : (handle new : HandleId) (kind : HandleKind → HandleKind)
-        → AreFew (λ name. length r.operations + (n name + uses name (let e : Errand T = new_from handle new kind (handle_at handle r) in e)))
+        → AreFew (λ name. length r.operations + (n name + times_used name (let e : Errand T = new_from handle new kind (handle_at handle r) in e)))
         (with_lent handle (handle_named new r)).handles
     named handle new kind = by (at handle.0 r.handles) refl where
       spent : AreFew now (handle_named new r).handles
       spent = spent_few now new.0 r.handles few
 
       by : (o : Option Hold) → at handle.0 r.handles ≡ o
-          → AreFew (λ name. length r.operations + (n name + uses name (let e : Errand T = new_from handle new kind (let f : Option Handle = option_map (λ (h : Hold). h.handle) o in f) in e)))
+          → AreFew (λ name. length r.operations + (n name + times_used name (let e : Errand T = new_from handle new kind (let f : Option Handle = option_map (λ (h : Hold). h.handle) o in f) in e)))
           (with_lent handle (handle_named new r)).handles
       by None e =
           subst (λ (x : Roll T). AreFew (λ name. length r.operations + (n name + 0)) x.handles)
@@ -229,7 +229,7 @@ module _ {T : Type 0} where
     same l m e = more_few now (λ name. l + (n name + m name)) r.handles (λ name. omega (arith, e)) few
 
     lent_by_few : (o : Option (Operation T))
-        → AreFew (λ name. length (lent_by o r).operations + (n name + uses name (let e : Errand T = leave_handle_of o in e))) (lent_by o r).handles
+        → AreFew (λ name. length (lent_by o r).operations + (n name + times_used name (let e : Errand T = leave_handle_of o in e))) (lent_by o r).handles
     lent_by_few None = same (length r.operations) (λ name. 0) refl
     lent_by_few (Some o) = once o.handle
 
@@ -239,7 +239,7 @@ module _ {T : Type 0} where
     begun_few (call.NewClosed op sender) = made op sender
     begun_few (call.Poll op) = same _ (λ name. 0) (operation_length lent_to_poll op r)
     begun_few (call.PollRefused op) = same _ (λ name. 0) (operation_length lent_to_poll op r)
-    begun_few (call.GiveUp op) = same _ (λ name. uses name (errand_of r (call.GiveUp op))) (set_length op.0 r.operations None)
+    begun_few (call.GiveUp op) = same _ (λ name. times_used name (errand_of r (call.GiveUp op))) (set_length op.0 r.operations None)
     begun_few (call.SendIsTerminated op) = lent_by_few (at op.0 r.operations)
     begun_few (call.PollNext receiver) =
         let stands : Roll T = with_standing (IsPolled false) receiver r in
@@ -280,7 +280,7 @@ module _ {T : Type 0} where
 
   -- a handle that it gives back is used by one fewer
   settled_few : (n : ℕ → ℕ) (e : Errand T) (y : Reply T) (left : Kept T) (r : Roll T)
-      → AreFew (λ name. n name + uses name e) r.handles → AreFew n (settled e y left r).handles
+      → AreFew (λ name. n name + times_used name e) r.handles → AreFew n (written_back e y left r).handles
   settled_few n errand.Nothing y left r few = more_few (λ name. n name + 0) n r.handles (λ name. omega arith) few
   settled_few n (errand.Leave handle) y left r few = given_back_few n handle r few
   settled_few n (errand.LeaveBoth a b) y left r few =
@@ -302,7 +302,7 @@ module _ {T : Type 0} where
   installed_length new kind y r = refl
 
   settled_length : (e : Errand T) (y : Reply T) (left : Kept T) (r : Roll T)
-      → length (settled e y left r).operations ≡ length r.operations
+      → length (written_back e y left r).operations ≡ length r.operations
   settled_length errand.Nothing y left r = refl
   settled_length (errand.Leave handle) y left r = refl
   settled_length (errand.LeaveBoth a b) y left r = refl
@@ -315,28 +315,28 @@ module _ {T : Type 0} where
 
   all_woken_few : (n : ℕ → ℕ) (names : List Waiter) (r : Roll T) → AreFew n r.handles → AreFew n (all_woken names r).handles
   all_woken_few n [] r few = few
-  all_woken_few n (Op op ∷ names) r few = all_woken_few n names (woken (Op op) r) few
+  all_woken_few n (Op op ∷ names) r few = all_woken_few n names (with_one_woken (Op op) r) few
   all_woken_few n (Stream handle ∷ names) r few =
-      all_woken_few n names (woken (Stream handle) r)
+      all_woken_few n names (with_one_woken (Stream handle) r)
       (handle_few n n _ handle r (λ name other. omega arith) (λ h f. f) few)
 
   all_woken_length : (names : List Waiter) (r : Roll T) → length (all_woken names r).operations ≡ length r.operations
   all_woken_length [] r = refl
-  all_woken_length (Op op ∷ names) r = all_woken_length names (woken (Op op) r) ∙ operation_length _ op r
-  all_woken_length (Stream handle ∷ names) r = all_woken_length names (woken (Stream handle) r)
+  all_woken_length (Op op ∷ names) r = all_woken_length names (with_one_woken (Op op) r) ∙ operation_length _ op r
+  all_woken_length (Stream handle ∷ names) r = all_woken_length names (with_one_woken (Stream handle) r)
 
   -- ---- the calls under way
 
   uses_more : (name : ℕ) (agents : List (Agent T)) (a : Agent T)
-      → all_uses name (agents ++ a ∷ []) ≡ all_uses name agents + uses name a.errand
+      → all_uses name (agents ++ a ∷ []) ≡ all_uses name agents + times_used name a.errand
   uses_more name [] a = omega arith
   uses_more name (b ∷ agents) a = let rest = uses_more name agents a in omega (arith, rest)
 
   uses_fewer : (name k : ℕ) (agents : List (Agent T)) (a : Agent T) → slice_get agents k ≡ Some a
-      → all_uses name agents ≡ all_uses name (remove agents k) + uses name a.errand
+      → all_uses name agents ≡ all_uses name (remove agents k) + times_used name a.errand
   uses_fewer name k [] a e = absurd cc
   uses_fewer name zero (b ∷ agents) a e =
-      let same : uses name b.errand ≡ uses name a.errand = ap (λ (x : Agent T). uses name x.errand) (agent_is b a e) in
+      let same : times_used name b.errand ≡ times_used name a.errand = ap (λ (x : Agent T). times_used name x.errand) (agent_is b a e) in
       omega (arith, same)
     where
       agent_is : (x y : Agent T) → Some x ≡ Some y → x ≡ y
@@ -360,11 +360,11 @@ module _ {T : Type 0} where
   users_ended k a (Some y) left names b there few name h i =
       let woken_now : Roll T = all_woken names b.roll in
       let n : ℕ → ℕ = λ x. length b.roll.operations + all_uses x (remove b.agents k) in
-      let start : AreFew (λ x. n x + uses x a.errand) b.roll.handles =
-      more_few (λ x. length b.roll.operations + all_uses x b.agents) (λ x. n x + uses x a.errand) b.roll.handles
+      let start : AreFew (λ x. n x + times_used x a.errand) b.roll.handles =
+      more_few (λ x. length b.roll.operations + all_uses x b.agents) (λ x. n x + times_used x a.errand) b.roll.handles
       (λ x. let fewer = uses_fewer x k b.agents a there in omega (arith, fewer)) few in
       let kept : Kept T = unwrap_or left nothing_kept in
-      let most = settled_few n a.errand y kept woken_now (all_woken_few (λ x. n x + uses x a.errand) names b.roll start) name h i in
+      let most = settled_few n a.errand y kept woken_now (all_woken_few (λ x. n x + times_used x a.errand) names b.roll start) name h i in
       let same = all_woken_length names b.roll in
       let also = settled_length a.errand y kept woken_now in
       omega (arith, most, same, also)

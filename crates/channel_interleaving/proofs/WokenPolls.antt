@@ -23,7 +23,7 @@ use Rattle.channel_model.specs.declared.name.Waiter.TheVariants.{Op, Stream}
 use Rattle.channel_interleaving.specs.Order.{order_begun}
 use Rattle.channel_interleaving.specs.OwnerOrder.{was_woken, woken_in}
 use Rattle.channel_interleaving.specs.Owners.{Post, free, vacant, amiss, rests, waits, polled, no_stream_post, stream_post, operation_post, posted, post}
-use Rattle.channel_interleaving.specs.Refusal.{refusal}
+use Rattle.channel_interleaving.specs.Refusal.{begin_refusal}
 use Rattle.channel_interleaving.specs.Roll.{is_polled, operation_of, names_of}
 use Rattle.channel_interleaving.specs.declared.names.Hold.{Hold}
 use Rattle.channel_interleaving.specs.declared.names.Operation.{Operation}
@@ -167,5 +167,5 @@ module _ {T : Type 0} where
       by (Stream receiver) there = rw there refl
 
   -- an operation that may be polled is not refused
-  pub poll_accepted : (r : Roll T) (op : OpId) → Admitted r (call.Poll op) → refusal r (call.Poll op) ≡ None
+  pub poll_accepted : (r : Roll T) (op : OpId) → Admitted r (call.Poll op) → begin_refusal r (call.Poll op) ≡ None
   poll_accepted r op a = rw (a.live, a.fit, a.free_of_polls) refl

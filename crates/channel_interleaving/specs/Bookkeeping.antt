@@ -170,7 +170,7 @@ module _ {T : Type 0} where
   IsLent op (Some o) old got new = (got ≡ Some (o.kind, o.message, key_of o.standing)) × (new ≡ with_operation lent_to_poll op old)
 
   -- a call has begun
-  pub record Begins (old : Roll T) (c : Call T) (begun : Begun T) (new : Roll T) : Type 0 where
+  pub record BeginsByName (old : Roll T) (c : Call T) (begun : Begun T) (new : Roll T) : Type 0 where
     pub ask : begun.ask ≡ asks old c
     pub errand : begun.errand ≡ errand_of old c
     pub names : new ≡ names_begun old c
@@ -187,22 +187,22 @@ module _ {T : Type 0} where
   installed new kind x r = r
 
   -- the names after a call that gave this reply and left this
-  abbrev pub settled : Errand T → Reply T → Kept T → Roll T → Roll T
-  settled Nothing x kept r = r
-  settled (Leave handle) x kept r = with_given_back handle r
-  settled (LeaveBoth a b) x kept r = with_given_back b (with_given_back a r)
-  settled (Make op operation) x kept r = record r { operations = with_changed op.0 operation r.operations }
-  settled (Poll op) x kept r = with_operation (restored kept) op r
-  settled (PollNext receiver) x kept r = with_given_back receiver (with_standing (standing_with kept.key) receiver r)
-  settled (New from new kind) x kept r = installed new kind x (with_given_back from r)
+  abbrev pub written_back : Errand T → Reply T → Kept T → Roll T → Roll T
+  written_back Nothing x kept r = r
+  written_back (Leave handle) x kept r = with_given_back handle r
+  written_back (LeaveBoth a b) x kept r = with_given_back b (with_given_back a r)
+  written_back (Make op operation) x kept r = record r { operations = with_changed op.0 operation r.operations }
+  written_back (Poll op) x kept r = with_operation (restored kept) op r
+  written_back (PollNext receiver) x kept r = with_given_back receiver (with_standing (standing_with kept.key) receiver r)
+  written_back (New from new kind) x kept r = installed new kind x (with_given_back from r)
 
   -- ---- wakes
 
   -- one that is pending is woken
-  abbrev pub woken : Waiter → Roll T → Roll T
-  woken (waiter.Op op) r = with_operation (λ (o : Operation T). record o { standing = told o.standing }) op r
-  woken (waiter.Stream handle) r = with_handle (λ (h : Hold). record h { standing = told h.standing }) handle r
+  abbrev pub with_one_woken : Waiter → Roll T → Roll T
+  with_one_woken (waiter.Op op) r = with_operation (λ (o : Operation T). record o { standing = told o.standing }) op r
+  with_one_woken (waiter.Stream handle) r = with_handle (λ (h : Hold). record h { standing = told h.standing }) handle r
 
   abbrev pub all_woken : List Waiter → Roll T → Roll T
   all_woken [] r = r
-  all_woken (w ∷ ws) r = all_woken ws (woken w r)
+  all_woken (w ∷ ws) r = all_woken ws (with_one_woken w r)

@@ -18,7 +18,7 @@ use Rattle.channel_interleaving.specs.Owners.{All}
 use Rattle.channel_interleaving.specs.Kept.{AllKept}
 use Rattle.channel_interleaving.specs.Positions.{brings, is_one_place, yet_in}
 use Rattle.channel_interleaving.specs.Roll.{first_roll}
-use Rattle.channel_interleaving.specs.Run.{Book, Made, channel_step}
+use Rattle.channel_interleaving.specs.Run.{Book, StepIsMade, channel_step}
 use Rattle.channel_interleaving.specs.Way.{Way}
 use Rattle.channel_interleaving.specs.declared.doing.Doing.{Doing}
 use Rattle.channel_interleaving.specs.declared.floor.Floor.{Floor}
@@ -141,23 +141,23 @@ module _ {T : Type 0} where
   lefts_in f = all_left (parts_in f) f.parties.items
 
   -- where the others are quiet, a step that does not end its call leaves it fewer
-  abbrev pub Nearer : (x : Step T) (old : Floor T) (e : Entry T) (new : Floor T) (s t : Scene T Waiter) → Made (book_of old) s x e (book_of new) t → Type 0
+  abbrev pub Nearer : (x : Step T) (old : Floor T) (e : Entry T) (new : Floor T) (s t : Scene T Waiter) → StepIsMade (book_of old) s x e (book_of new) t → Type 0
   Nearer (step.Begin p c) old e new s t made = Unit {0}
   Nearer (step.Step p) old e new s t made =
       e.reply ≡ None → OthersQuiet s.now (made.next.before ++ made.next.behind)
       → left_at (length made.next.before) (lefts_in new) < left_at (length made.next.before) (lefts_in old)
 
   -- a step that was made, from any scene that was shown
-  pub record Stepped (x : Step T) (old : Floor T) (e : Entry T) (new : Floor T) (s : Scene T Waiter) : Type 0 where
+  pub record LedByStep (x : Step T) (old : Floor T) (e : Entry T) (new : Floor T) (s : Scene T Waiter) : Type 0 where
     pub after : Scene T Waiter
     pub touches : Touches (channel_step old.roll x) (parts_in old) (parts_in new)
     pub blocks : after.blocks ≡ blocks_after (parts_in new).cells.form s.blocks (parts_in old).cells (parts_in new).cells
-    pub made : Made (book_of old) s x e (book_of new) after
+    pub made : StepIsMade (book_of old) s x e (book_of new) after
     pub nearer : Nearer x old e new s after made
     pub shown : Shown new after
 
-  abbrev pub Steps : Step T → Floor T → Entry T → Floor T → Type 0
-  Steps x old e new = (s : Scene T Waiter) → Shown old s → Stepped x old e new s
+  abbrev pub LeadsByStep : Step T → Floor T → Entry T → Floor T → Type 0
+  LeadsByStep x old e new = (s : Scene T Waiter) → Shown old s → LedByStep x old e new s
 
   -- From a scene in which it stood steps of parties, on which just these replies were given, led to one in which it stands; what
   -- left it, followed by what it holds, is what it held followed by what came, in order.

@@ -7,7 +7,7 @@ use Rattle.channel_alone.specs.Scenes.{LoneRun}
 use Rattle.channel_model.specs.declared.call.Call.{Call}
 use Rattle.channel_model.specs.declared.name.Waiter.{Waiter}
 use Rattle.channel_steps.specs.Scene.{Scene}
-use Rattle.channel_interleaving.specs.Bookkeeping.{asks, errand_of, names_begun, settled, all_woken}
+use Rattle.channel_interleaving.specs.Bookkeeping.{asks, errand_of, names_begun, written_back, all_woken}
 use Rattle.channel_interleaving.specs.Floor.{book_of, Shown}
 use Rattle.channel_interleaving.specs.Kept.{AllKept}
 use Rattle.channel_interleaving.specs.Order.{order_begun, all_moved_last, order_settled}
@@ -18,7 +18,7 @@ use Rattle.channel_interleaving.specs.declared.roll.Roll.{Roll}
 module _ {T : Type 0} where
   -- the names after a call that woke these, gave this reply and left this
   abbrev pub names_alone : Roll T → Call T → Reply T → Kept T → List Waiter → Roll T
-  names_alone r c x kept names = settled (errand_of r c) x kept (all_woken names (names_begun r c))
+  names_alone r c x kept names = written_back (errand_of r c) x kept (all_woken names (names_begun r c))
 
   -- and the order of waking
   abbrev pub order_alone : Roll T → Call T → Kept T → List Waiter → List Waiter → List Waiter

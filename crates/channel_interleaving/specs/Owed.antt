@@ -14,7 +14,7 @@ use Rattle.channel_model.specs.declared.name.Waiter.{Waiter}
 use Rattle.channel_model.specs.declared.name.Waiter.TheVariants.{Op, Stream}
 use Rattle.channel_steps.specs.declared.party.Party.{Party}
 use Rattle.channel_laws.specs.Sends.{HasPlaces}
-use Rattle.channel_interleaving.specs.Owners.{Post, waits, waits_unwoken, post}
+use Rattle.channel_interleaving.specs.Owners.{Post, waits, not_woken, post}
 use Rattle.channel_interleaving.specs.declared.doing.Doing.{Doing}
 use Rattle.channel_interleaving.specs.declared.doing.Role.{Role}
 use Rattle.channel_interleaving.specs.declared.doing.Role.TheVariants.{Sending, Receiving}
@@ -71,7 +71,7 @@ module _ {T : Type 0} where
 
   -- it is pending on this line, and was not woken since its last poll
   abbrev pub IsUnwoken : Line → Waiter → Roll T → Type 0
-  IsUnwoken line name r = (key : Key) × (post r name ≡ waits_unwoken (record { line = line; key = key }))
+  IsUnwoken line name r = (key : Key) × (post r name ≡ waits (record { line = line; key = key }) not_woken)
 
   -- Where one is pending that was not woken since its last poll: of a receive, there are no more messages than woken pending
   -- receives, and sending and receiving calls under way; of a send, where the channel is open, it has a bound, and no more places
@@ -80,8 +80,7 @@ module _ {T : Type 0} where
   -- way.
   pub record Owed (w : Sight T) : Type 0 where
     pub receives : (name : Waiter) → IsUnwoken Receives name w.roll → w.messages ≤ woken_on Receives w.roll + (w.sending + w.receiving)
-    pub sends :
-        (name : Waiter) → IsUnwoken Sends name w.roll → w.closed ≡ false
+    pub sends : (name : Waiter) → IsUnwoken Sends name w.roll → w.closed ≡ false
         → HasPlaces w.capacity (w.messages + (woken_on Sends w.roll + (w.sending + w.freed)))
     pub streams : (name : Waiter) → IsUnwoken Streams name w.roll → 0 < w.messages → 0 < w.sending
     pub closing : (line : Line) (name : Waiter) → IsUnwoken line name w.roll → w.closed ≡ true → 0 < w.closers

@@ -52,6 +52,13 @@ module _ {A : Type 0} where
 
 -- ---- the names
 
+-- whether what is pending was woken since its last poll
+abbrev pub WasWoken : Type 0
+WasWoken = Bool
+
+abbrev pub not_woken : WasWoken
+not_woken = false
+
 -- How a name stands: it was never taken; nothing lives under it; what lives there isn't pending; it is pending with this
 -- listener, and was woken or not; a poll of it is under way; or, which never is, a finished send or what is no receiver is
 -- pending.
@@ -60,12 +67,12 @@ pub data Post : Type 0 where
   vacant : Post
   amiss : Post
   rests : Line → Post
-  waits : Held → Bool → Post
+  waits : Held → WasWoken → Post
   polled : Line → Post
 
 -- it waits, and was not woken
 abbrev pub waits_unwoken : Held → Post
-waits_unwoken h = waits h false
+waits_unwoken h = waits h not_woken
 
 abbrev pub post_on : Line → Standing → Post
 post_on line Rests = rests line
@@ -227,7 +234,7 @@ module _ {T : Type 0} where
   Suits p (errand.LeaveBoth a b) wait = wait ≡ None
 
   -- an agent and the call of the same party under way
-  pub record Fits (p : Waiter → Post) (a : Agent T) (u : Under T Waiter) : Type 0 where
+  pub record AgentFits (p : Waiter → Post) (a : Agent T) (u : Under T Waiter) : Type 0 where
     pub party : a.party ≡ u.party
     pub suits : Suits p a.errand (wait_of u.ask)
     pub bears : Bears (task_at u.at) (wait_of u.ask)
@@ -238,7 +245,7 @@ module _ {T : Type 0} where
   Together p [] [] = Unit {0}
   Together p [] (u ∷ us) = ⊥
   Together p (a ∷ more) [] = ⊥
-  Together p (a ∷ more) (u ∷ us) = Fits p a u × Together p more us
+  Together p (a ∷ more) (u ∷ us) = AgentFits p a u × Together p more us
 
   -- two agents are of different parties, and don't work at the same name
   pub record Differ (a b : Agent T) : Type 0 where
@@ -282,7 +289,7 @@ module _ {T : Type 0} where
 
   -- a name holds its listener while it is pending, a call while it has it in hand
   abbrev pub HoldsIn : (Waiter → Post) → List (Under T Waiter) → Holder → Held → Type 0
-  HoldsIn p us (named w) h = (is_woken : Bool) × (p w ≡ waits h is_woken)
+  HoldsIn p us (named w) h = (is_woken : WasWoken) × (p w ≡ waits h is_woken)
   HoldsIn p us (calling party) h = AnyOf (λ u. (u.party ≡ party) × (holding u.at ≡ Some h)) us
 
   -- Each call under way is of one agent, and no two of one party or at one name. What is pending has its listener on its list;
@@ -293,7 +300,7 @@ module _ {T : Type 0} where
     pub differ : AllDiffer b.agents
     pub none_amiss : (w : Waiter) → post b.roll w ≡ amiss → ⊥
     pub once : NoneListedTwice s.now
-    pub unwoken : (w : Waiter) (h : Held) → post b.roll w ≡ waits h false → WaitsToWake h w s.now
+    pub unwoken : (w : Waiter) (h : Held) → post b.roll w ≡ waits_unwoken h → WaitsToWake h w s.now
     pub listed : (x : Holder) (h : Held) → HoldsIn (post b.roll) s.under_way x h → IsListed h s.now
     pub held : (h : Held) → IsListed h s.now → (x : Holder) × HoldsIn (post b.roll) s.under_way x h
     pub alone : (x y : Holder) (h : Held) → HoldsIn (post b.roll) s.under_way x h → HoldsIn (post b.roll) s.under_way y h → x ≡ y

@@ -9,8 +9,8 @@ use Rattle.channel_interleaving.specs.declared.names.Standing.{Standing}
 use Rattle.channel_interleaving.specs.declared.roll.Roll.{Roll}
 
 -- one that is pending holds a listener
-abbrev pub is_pending : Standing → Bool
-is_pending s = is_some (key_of s)
+abbrev pub stands_pending : Standing → Bool
+stands_pending s = is_some (key_of s)
 
 -- whether a handle lives there that stands so as a stream
 abbrev pub stream_stands : (Standing → Bool) → Option Hold → Bool

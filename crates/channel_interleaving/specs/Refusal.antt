@@ -33,25 +33,25 @@ module _ {T : Type 0} where
   meets_poll r c = list_any (λ u. is_stream_polled u.0 r) (uses c)
 
   -- a new name that was taken before
-  abbrev pub names_taken : Roll T → Call T → Bool
-  names_taken r (call.NewSend op sender msg) = is_taken op.0 r.operations
-  names_taken r (call.NewRecv op receiver) = is_taken op.0 r.operations
-  names_taken r (call.NewClosed op sender) = is_taken op.0 r.operations
-  names_taken r (call.TryClone handle new) = is_taken new.0 r.handles
-  names_taken r (call.Downgrade handle new) = is_taken new.0 r.handles
-  names_taken r (call.Upgrade weak new) = is_taken new.0 r.handles
-  names_taken r c = false
+  abbrev pub takes_again : Roll T → Call T → Bool
+  takes_again r (call.NewSend op sender msg) = is_taken op.0 r.operations
+  takes_again r (call.NewRecv op receiver) = is_taken op.0 r.operations
+  takes_again r (call.NewClosed op sender) = is_taken op.0 r.operations
+  takes_again r (call.TryClone handle new) = is_taken new.0 r.handles
+  takes_again r (call.Downgrade handle new) = is_taken new.0 r.handles
+  takes_again r (call.Upgrade weak new) = is_taken new.0 r.handles
+  takes_again r c = false
 
   -- the first of these reasons that there is; a handle is borrowed as long as a live operation or a call under way uses it
-  abbrev pub refusal : Roll T → Call T → Option WorldRefusal
-  refusal r c =
+  abbrev pub begin_refusal : Roll T → Call T → Option WorldRefusal
+  begin_refusal r c =
       if not (list_all (is_live (names_of r)) (uses c)) then Some UnknownName
       else (if not (are_fit (names_of r) c) then Some WrongKind
       else (if meets_poll r c then Some OpUnderWay
       else (if takes_borrowed (names_of r) c then Some Borrowed
-      else (if names_taken r c then Some NameTaken else None))))
+      else (if takes_again r c then Some NameTaken else None))))
 
   -- why a step is refused
   abbrev pub step_refusal : Roll T → List (Agent T) → Step T → Option WorldRefusal
-  step_refusal r agents (step.Begin p c) = if is_at_work p.0 agents then Some Busy else refusal r c
+  step_refusal r agents (step.Begin p c) = if is_at_work p.0 agents then Some Busy else begin_refusal r c
   step_refusal r agents (step.Step p) = if is_at_work p.0 agents then None else Some Idle

@@ -27,7 +27,7 @@ use Rattle.channel_interleaving.specs.declared.roll.Roll.{Roll}
 
 -- the listener of one that is pending
 abbrev pub key_of : Standing → Option Key
-key_of (Waits key is_woken) = Some key
+key_of (Waits key since) = Some key
 key_of s = None
 
 -- after a poll that left this listener, or none
@@ -53,10 +53,10 @@ told (IsPolled brings) = IsPolled brings
 -- ---- operations
 
 -- the line in which it waits
-abbrev pub line_of : OperationKind → Line
-line_of Send = Sends
-line_of Receive = Receives
-line_of Closing = Closings
+abbrev pub line_of_kind : OperationKind → Line
+line_of_kind Send = Sends
+line_of_kind Receive = Receives
+line_of_kind Closing = Closings
 
 -- whether a poll under way has the message
 abbrev pub is_lent : Standing → Bool

@@ -13,7 +13,7 @@ use Rattle.channel_steps.specs.Run.{Next}
 use Rattle.channel_steps.specs.Scene.{Scene}
 use Rattle.channel_steps.specs.declared.run.Step.{Step as ChannelStep}
 use Rattle.channel_steps.specs.declared.run.Step.TheVariants as channel
-use Rattle.channel_interleaving.specs.Bookkeeping.{asks, errand_of, names_begun, settled, all_woken}
+use Rattle.channel_interleaving.specs.Bookkeeping.{asks, errand_of, names_begun, written_back, all_woken}
 use Rattle.channel_interleaving.specs.Order.{order_begun, all_moved_last, order_settled}
 use Rattle.channel_interleaving.specs.Refusal.{step_refusal}
 use Rattle.channel_interleaving.specs.declared.names.Agent.{Agent}
@@ -55,7 +55,7 @@ module _ {T : Type 0} where
   book_ended k a (Some r) kept b =
       let left : Kept T = unwrap_or kept nothing_kept in
       record {
-        roll = settled a.errand r left b.roll;
+        roll = written_back a.errand r left b.roll;
         order = order_settled a.errand left.key b.order;
         agents = remove b.agents k;
       }
@@ -73,7 +73,7 @@ module _ {T : Type 0} where
 
   -- a step that was made: nothing refuses it, the channel's step of it has this entry's mark, woken names and reply, and the
   -- book is as it is to be
-  pub record Made (b : Book T) (s : Scene T Waiter) (x : Step T) (e : Entry T) (c : Book T) (t : Scene T Waiter) : Type 0 where
+  pub record StepIsMade (b : Book T) (s : Scene T Waiter) (x : Step T) (e : Entry T) (c : Book T) (t : Scene T Waiter) : Type 0 where
     pub not_refused : step_refusal b.roll b.agents x ≡ None
     pub kept : Option (Kept T)
     pub next : Next s (channel_step b.roll x) (record { mark = e.mark; reply = e.reply; kept = kept }) e.woken.items t

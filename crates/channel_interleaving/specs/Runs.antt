@@ -9,7 +9,7 @@ use Rattle.channel_steps.specs.Scene.{Scene, OthersQuiet, blocks_after}
 use Rattle.channel_interleaving.specs.Floor.{parts_in, book_of, StandsIn}
 use Rattle.channel_interleaving.specs.Kept.{AllKept}
 use Rattle.channel_interleaving.specs.Left.{left_of, calls_of_others, wanted_of}
-use Rattle.channel_interleaving.specs.Run.{Book, Made, channel_step}
+use Rattle.channel_interleaving.specs.Run.{Book, StepIsMade, channel_step}
 use Rattle.channel_interleaving.specs.declared.floor.Floor.{Floor}
 use Rattle.channel_interleaving.specs.declared.step.Entry.{Entry}
 use Rattle.channel_interleaving.specs.declared.step.Step.{Step}
@@ -56,7 +56,7 @@ module _ {T : Type 0} where
   pub record LeadsBy (m : Moment T) (x : Step T) (e : Entry T) (n : Moment T) : Type 0 where
     pub touches : Touches (channel_step m.book.roll x) m.parts n.parts
     pub blocks : n.scene.blocks ≡ blocks_after n.parts.cells.form m.scene.blocks m.parts.cells n.parts.cells
-    pub made : Made m.book m.scene x e n.book n.scene
+    pub made : StepIsMade m.book m.scene x e n.book n.scene
     pub nearer : ComesNearer m x e n
     pub holds : Holds n
 

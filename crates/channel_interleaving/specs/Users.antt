@@ -14,18 +14,18 @@ one name handle = cond (nat_eq name handle.0) 1 0
 
 module _ {T : Type 0} where
   -- how often a call gives back the handle of this name at its end
-  abbrev pub uses : ℕ → Errand T → ℕ
-  uses name (errand.Leave handle) = one name handle
-  uses name (errand.LeaveBoth a b) = one name a + one name b
-  uses name (errand.PollNext receiver) = one name receiver
-  uses name (errand.New from new kind) = one name from
-  uses name (errand.Make op operation) = 0
-  uses name (errand.Poll op) = 0
-  uses name errand.Nothing = 0
+  abbrev pub times_used : ℕ → Errand T → ℕ
+  times_used name (errand.Leave handle) = one name handle
+  times_used name (errand.LeaveBoth a b) = one name a + one name b
+  times_used name (errand.PollNext receiver) = one name receiver
+  times_used name (errand.New from new kind) = one name from
+  times_used name (errand.Make op operation) = 0
+  times_used name (errand.Poll op) = 0
+  times_used name errand.Nothing = 0
 
   abbrev pub all_uses : ℕ → List (Agent T) → ℕ
   all_uses name [] = 0
-  all_uses name (a ∷ more) = uses name a.errand + all_uses name more
+  all_uses name (a ∷ more) = times_used name a.errand + all_uses name more
 
   -- no handle is used by more than one for each name of an operation that was ever taken, and the calls under way that give
   -- it back

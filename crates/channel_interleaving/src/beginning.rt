@@ -109,9 +109,9 @@ impl<T: Drop> Roll<T> {
     ghost use Rattle.channel_model.specs.Names.{at, is_taken};
     ghost use Rattle.channel_model.specs.declared.name.Waiter.{Waiter};
     ghost use Rattle.channel_interleaving.specs.Order.{order_begun};
-    ghost use Rattle.channel_interleaving.specs.Refusal.{names_taken};
+    ghost use Rattle.channel_interleaving.specs.Refusal.{takes_again};
     ghost use Rattle.channel_interleaving.specs.Roll.{key_of, with_lent};
-    ghost use Rattle.channel_interleaving.specs.Bookkeeping.{Begins, Starts, IsLent, unpolled, operation_named, handle_named};
+    ghost use Rattle.channel_interleaving.specs.Bookkeeping.{BeginsByName, Starts, IsLent, unpolled, operation_named, handle_named};
 
     /// A call through a handle asks this.
     fn through(&mut self, handle: HandleId, ask: ChannelAsk<T, Waiter>) -> Begun<T>
@@ -181,7 +181,7 @@ impl<T: Drop> Roll<T> {
     }
 
     pub(crate) fn poll(&mut self, op: OpId) -> Begun<T>
-        ensures { Begins self.old (Call.Poll op) result self.new }
+        ensures { BeginsByName self.old (Call.Poll op) result self.new }
     {
         let ask = match self.lend_operation(op) {
             Some((kind, message, key)) => poll_ask(kind, message, key, op),
@@ -194,7 +194,7 @@ impl<T: Drop> Roll<T> {
     }
 
     fn poll_refused(&mut self, op: OpId) -> Begun<T>
-        ensures { Begins self.old (Call.PollRefused op) result self.new }
+        ensures { BeginsByName self.old (Call.PollRefused op) result self.new }
     {
         let ask = match self.lend_operation(op) {
             Some((kind, message, key)) => {
@@ -209,7 +209,7 @@ impl<T: Drop> Roll<T> {
     }
 
     fn give_up(&mut self, op: OpId) -> Begun<T>
-        ensures { Begins self.old (Call.GiveUp op) result self.new }
+        ensures { BeginsByName self.old (Call.GiveUp op) result self.new }
     {
         let Some(operation) = self.operations.take(op.0) else {
             return Begun {
@@ -231,7 +231,7 @@ impl<T: Drop> Roll<T> {
 
     /// Whether a poll has finished the send, and the handle that it borrows.
     fn send_is_terminated(&mut self, op: OpId) -> Begun<T>
-        ensures { Begins self.old (Call.SendIsTerminated op) result self.new }
+        ensures { BeginsByName self.old (Call.SendIsTerminated op) result self.new }
     {
         let Some(operation) = self.operations.get(op.0) else {
             return Begun {
@@ -245,7 +245,7 @@ impl<T: Drop> Roll<T> {
     }
 
     pub(crate) fn poll_next(&mut self, receiver: HandleId) -> Begun<T>
-        ensures { Begins self.old (Call.PollNext receiver) result self.new }
+        ensures { BeginsByName self.old (Call.PollNext receiver) result self.new }
     {
         let key = self.lend_stream(receiver);
         self.lend(receiver);
@@ -256,7 +256,7 @@ impl<T: Drop> Roll<T> {
     }
 
     fn drop_handle(&mut self, handle: HandleId) -> Begun<T>
-        ensures { Begins self.old (Call.Drop handle) result self.new }
+        ensures { BeginsByName self.old (Call.Drop handle) result self.new }
     {
         let ask = match self.handles.take(handle.0) {
             Some(hold) => drop_ask(hold.handle.kind, hold.standing.key()),
@@ -293,7 +293,7 @@ impl<T: Drop> Roll<T> {
 
     fn try_clone(&mut self, handle: HandleId, new: HandleId) -> Option<Begun<T>>
         requires { is_taken new.0 self.old.handles ≡ false }
-        ensures some { IfSome result (λ b. Begins self.old (Call.TryClone handle new) b self.new) }
+        ensures some { IfSome result (λ b. BeginsByName self.old (Call.TryClone handle new) b self.new) }
         ensures none { IfNone result (self.new ≡ self.old) }
     {
         let seen = self.seen(handle)?;
@@ -302,7 +302,7 @@ impl<T: Drop> Roll<T> {
 
     fn downgrade(&mut self, handle: HandleId, new: HandleId) -> Option<Begun<T>>
         requires { is_taken new.0 self.old.handles ≡ false }
-        ensures some { IfSome result (λ b. Begins self.old (Call.Downgrade handle new) b self.new) }
+        ensures some { IfSome result (λ b. BeginsByName self.old (Call.Downgrade handle new) b self.new) }
         ensures none { IfNone result (self.new ≡ self.old) }
     {
         let seen = self.seen(handle)?;
@@ -311,7 +311,7 @@ impl<T: Drop> Roll<T> {
 
     fn upgrade(&mut self, weak: HandleId, new: HandleId) -> Option<Begun<T>>
         requires { is_taken new.0 self.old.handles ≡ false }
-        ensures some { IfSome result (λ b. Begins self.old (Call.Upgrade weak new) b self.new) }
+        ensures some { IfSome result (λ b. BeginsByName self.old (Call.Upgrade weak new) b self.new) }
         ensures none { IfNone result (self.new ≡ self.old) }
     {
         let seen = self.seen(weak)?;
@@ -319,7 +319,7 @@ impl<T: Drop> Roll<T> {
     }
 
     fn same_channel(&mut self, a: HandleId, b: HandleId) -> Begun<T>
-        ensures { Begins self.old (Call.SameChannel a b) result self.new }
+        ensures { BeginsByName self.old (Call.SameChannel a b) result self.new }
     {
         self.lend(a);
         self.lend(b);
@@ -332,8 +332,8 @@ impl<T: Drop> Roll<T> {
     /// A call that is not refused begins; or it comes back where its new name found no room, with nothing changed. One that
     /// comes back gives and takes no place. A receive of several messages takes its room from `alloc`, at its first step.
     pub(crate) fn begin(&mut self, call: Call<T>, alloc: Global) -> Result<Begun<T>, Call<T>>
-        requires { names_taken self.old call ≡ false }
-        ensures ok { IfOk result (λ b. Begins self.old call b self.new) }
+        requires { takes_again self.old call ≡ false }
+        ensures ok { IfOk result (λ b. BeginsByName self.old call b self.new) }
         ensures err { OnErr result (self.new ≡ self.old) }
         ensures back { IfErr result (λ c. c ≡ call) }
         ensures places { OnErr result ((ws : List Waiter) → order_begun call ws ≡ ws) }

@@ -9,7 +9,7 @@ use channel_model::name::{Handle, HandleId, HandleKind, OpId, Waiter};
 
 impl<T: Drop> Roll<T> {
     ghost use Rattle.std.specs.Prelude.{◌≡◌, Option};
-    ghost use Rattle.channel_interleaving.specs.Bookkeeping.{with_operation, restored, installed, settled, woken, all_woken};
+    ghost use Rattle.channel_interleaving.specs.Bookkeeping.{with_operation, restored, installed, written_back, with_one_woken, all_woken};
     ghost use Rattle.channel_interleaving.specs.declared.names.Operation.{Operation};
 
     /// The operation gets back what its poll left to it.
@@ -48,7 +48,7 @@ impl<T: Drop> Roll<T> {
 
     /// A call that has given this reply, and has left this, writes back what it has to.
     pub(crate) fn settle(&mut self, errand: Errand<T>, reply: &Reply<T>, kept: Kept<T>)
-        ensures { self.new ≡ settled errand reply.now kept self.old }
+        ensures { self.new ≡ written_back errand reply.now kept self.old }
     {
         match errand {
             Errand::Nothing => {}
@@ -72,7 +72,7 @@ impl<T: Drop> Roll<T> {
 
     /// One that is pending is woken.
     pub(crate) fn wake(&mut self, name: Waiter)
-        ensures { self.new ≡ woken name self.old }
+        ensures { self.new ≡ with_one_woken name self.old }
     {
         match name {
             Waiter::Op(op) => {

@@ -89,7 +89,7 @@ impl<T: Drop> Floor<T> {
     ghost use Rattle.channel_steps.specs.Run.{new_scene};
     ghost use Rattle.channel_interleaving.specs.Roll.{first_roll, IsAgent};
     ghost use Rattle.channel_interleaving.specs.Refusal.{step_refusal};
-    ghost use Rattle.channel_interleaving.specs.Floor.{book_of, Shown, AreAtWork, AreOwned, IsSame, Steps};
+    ghost use Rattle.channel_interleaving.specs.Floor.{book_of, Shown, AreAtWork, AreOwned, IsSame, LeadsByStep};
 
     /// An open channel over a queue of this form, with its first two handles and nobody at work. Own to this project.
     pub fn open(alloc: Global, form: QueueForm) -> Result<Floor<T>, AllocError>
@@ -139,7 +139,7 @@ impl<T: Drop> Floor<T> {
     /// Begins a call that is not refused; or hands it back where there was no room, with nothing changed.
     fn start(&mut self, party: PartyId, call: Call<T>) -> Result<Entry<T>, Call<T>>
         requires accepted { step_refusal self.old.roll self.old.agents.items (Step.Begin party call) ≡ None }
-        ensures ok { IfOk result (λ e. Steps (Step.Begin party call) self.old e self.new) }
+        ensures ok { IfOk result (λ e. LeadsByStep (Step.Begin party call) self.old e self.new) }
         ensures at_work { AreAtWork self.old → AreAtWork self.new }
         ensures err { OnErr result (IsSame self.old self.new) }
         ensures back { IfErr result (λ c. c ≡ call) }
@@ -174,7 +174,7 @@ impl<T: Drop> Floor<T> {
         requires party { IsAgent party.0 self.old.agents.items k }
         requires accepted { step_refusal self.old.roll self.old.agents.items (Step.Step party) ≡ None }
         requires at_work { AreAtWork self.old }
-        ensures some { IfSome result (λ e. Steps (Step.Step party) self.old e self.new) }
+        ensures some { IfSome result (λ e. LeadsByStep (Step.Step party) self.old e self.new) }
         ensures at_work { AreAtWork self.new }
         ensures none { IfNone result (IsSame self.old self.new) }
     {
@@ -213,7 +213,7 @@ impl<T: Drop> Floor<T> {
     pub(crate) fn turn(&mut self, step: Step<T>) -> Result<Entry<T>, Step<T>>
         requires accepted { step_refusal self.old.roll self.old.agents.items step ≡ None }
         requires at_work { AreAtWork self.old }
-        ensures ok { IfOk result (λ e. Steps step self.old e self.new) }
+        ensures ok { IfOk result (λ e. LeadsByStep step self.old e self.new) }
         ensures at_work { AreAtWork self.new }
         ensures err { OnErr result (IsSame self.old self.new) }
         ensures back { IfErr result (λ x. x ≡ step) }

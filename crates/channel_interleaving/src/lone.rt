@@ -10,7 +10,7 @@ use channel_model::run::Done;
 
 impl<T: Drop> Floor<T> {
     ghost use Rattle.std.specs.Prelude.{◌≡◌, None, IfOk, IfErr, OnErr};
-    ghost use Rattle.channel_interleaving.specs.Refusal.{refusal};
+    ghost use Rattle.channel_interleaving.specs.Refusal.{begin_refusal};
     ghost use Rattle.channel_interleaving.specs.Floor.{AreAtWork, AreOwned, IsQuiet, IsSame};
     ghost use Rattle.channel_interleaving.specs.Lone.{CallsAlone, WakesAtMost};
 
@@ -24,7 +24,7 @@ impl<T: Drop> Floor<T> {
         requires owned { AreOwned self.old }
         requires at_work { AreAtWork self.old }
         requires quiet { IsQuiet self.old }
-        requires accepted { refusal self.old.roll call ≡ None }
+        requires accepted { begin_refusal self.old.roll call ≡ None }
         requires room { WakesAtMost room call self.old }
         ensures ok { IfOk result (λ d. CallsAlone call self.old d.reply d.woken.items self.new) }
         ensures at_work { AreAtWork self.new }

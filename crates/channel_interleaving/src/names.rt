@@ -97,11 +97,11 @@ pub enum OperationKind {
 
 impl OperationKind {
     ghost use Rattle.std.specs.Prelude.{◌≡◌};
-    ghost use Rattle.channel_interleaving.specs.Roll.{line_of};
+    ghost use Rattle.channel_interleaving.specs.Roll.{line_of_kind};
 
     /// The line in which it waits.
     pub(crate) fn line(self) -> Line
-        ensures { result ≡ line_of self }
+        ensures { result ≡ line_of_kind self }
     {
         match self {
             OperationKind::Send => Line::Sends,

@@ -14,7 +14,7 @@ impl<T> Roll<T> {
     ghost use Rattle.channel_model.specs.Refusal as want;
     ghost use Rattle.channel_interleaving.specs.Roll.{names_of, operation_of};
     ghost use Rattle.channel_interleaving.specs.declared.names.Operation.{Operation};
-    ghost use Rattle.channel_interleaving.specs.Refusal.{is_operation_polled, is_stream_polled, meets_poll, names_taken, refusal};
+    ghost use Rattle.channel_interleaving.specs.Refusal.{is_operation_polled, is_stream_polled, meets_poll, takes_again, begin_refusal};
 
     /// A live handle, as one call at a time sees it.
     fn handle(&self, handle: HandleId) -> Option<Handle>
@@ -272,7 +272,7 @@ impl<T> Roll<T> {
 
     /// Whether the new name of the call was taken before.
     fn names_taken(&self, call: &Call<T>) -> bool
-        ensures { result ≡ names_taken self.now call.now }
+        ensures { result ≡ takes_again self.now call.now }
     {
         match call {
             Call::NewSend { op, .. } | Call::NewRecv { op, .. } | Call::NewClosed { op, .. } => {
@@ -286,7 +286,7 @@ impl<T> Roll<T> {
 
     /// Why the call is not begun, room and parties aside. Own to this project.
     pub fn refusal(&self, call: &Call<T>) -> Option<WorldRefusal>
-        ensures { result ≡ refusal self.now call.now }
+        ensures { result ≡ begin_refusal self.now call.now }
     {
         if !self.is_live(call) {
             return Some(WorldRefusal::UnknownName);

@@ -155,11 +155,11 @@ impl<T> Roll<T> {
 }
 
 ghost use Rattle.channel_interleaving.specs.Roll.{is_woken};
-ghost use Rattle.channel_interleaving.specs.Pending.{is_pending, operation_stands, stream_stands};
+ghost use Rattle.channel_interleaving.specs.Pending.{stands_pending, operation_stands, stream_stands};
 
 /// Whether an operation is pending.
 fn is_pending<T>(operation: &Option<Operation<T>>) -> bool
-    ensures { result ≡ operation_stands is_pending operation.now }
+    ensures { result ≡ operation_stands stands_pending operation.now }
 {
     match operation {
         Some(operation) => operation.standing.key().is_some(),
@@ -169,7 +169,7 @@ fn is_pending<T>(operation: &Option<Operation<T>>) -> bool
 
 /// Whether a stream is pending.
 fn is_stream_pending(hold: &Option<Hold>) -> bool
-    ensures { result ≡ stream_stands is_pending hold.now }
+    ensures { result ≡ stream_stands stands_pending hold.now }
 {
     match hold {
         Some(hold) => hold.standing.key().is_some(),
@@ -200,12 +200,12 @@ fn is_stream_woken(hold: &Option<Hold>) -> bool
 impl<T> Roll<T> {
     ghost use Rattle.std.specs.Prelude.{◌≡◌};
     ghost use Rattle.channel_interleaving.specs.Roll.{is_woken};
-    ghost use Rattle.channel_interleaving.specs.Pending.{is_pending, how_many};
+    ghost use Rattle.channel_interleaving.specs.Pending.{stands_pending, how_many};
 
     /// How many operations and streams are pending: they live, their last poll ended so, and no poll of them is under way. Own to
     /// this project.
     pub fn count_pending(&self) -> usize
-        ensures { result ≡ how_many is_pending self.now }
+        ensures { result ≡ how_many stands_pending self.now }
     {
         let operations = self.operations.iter();
         let operations = operations.filter(|(_, x)| is_pending(*x)).count();
@@ -255,7 +255,7 @@ fn is_same(a: Line, b: Line) -> bool
 impl<T> Roll<T> {
     ghost use Rattle.std.specs.Prelude.{◌≡◌};
     ghost use Rattle.std.specs.Option.{option_map};
-    ghost use Rattle.channel_model.specs.Laws.{is_line, line_of, line_of_operation};
+    ghost use Rattle.channel_model.specs.Laws.{is_line, line_at, line_of_operation};
     ghost use Rattle.channel_model.specs.Names.{at};
     ghost use Rattle.channel_model.specs.declared.name.Waiter.TheVariants.{Op};
     ghost use Rattle.channel_interleaving.specs.Roll.{names_of, operation_of};
@@ -279,14 +279,14 @@ impl<T> Roll<T> {
 
     /// The line to which an operation belongs: a finished send to none.
     fn operation_line(&self, op: OpId) -> Option<Line>
-        ensures { result ≡ line_of (names_of self.now) (Op op) }
+        ensures { result ≡ line_at (names_of self.now) (Op op) }
     {
         self.kept_line(op)
     }
 
     /// The line to which what has this name belongs.
     fn line(&self, name: Waiter) -> Option<Line>
-        ensures { result ≡ line_of (names_of self.now) name }
+        ensures { result ≡ line_at (names_of self.now) name }
     {
         match name {
             Waiter::Op(op) => self.operation_line(op),
@@ -297,7 +297,7 @@ impl<T> Roll<T> {
     /// Whether what has this name belongs to this line: a pending send, receive or wait for the closing to its own, and a stream to
     /// that of the streams. A finished send belongs to none, nor does a name under which nothing lives. Own to this project.
     pub fn is_on(&self, line: Line, name: Waiter) -> bool
-        ensures { result ≡ is_line line (line_of (names_of self.now) name) }
+        ensures { result ≡ is_line line (line_at (names_of self.now) name) }
     {
         match self.line(name) {
             Some(own) => is_same(line, own),

@@ -22,7 +22,7 @@ pub struct Polled<T> {
 impl<T: Drop> Roll<T> {
     ghost use Rattle.std.specs.Prelude.{◌≡◌, ◌≤◌, drop, vec_len};
     ghost use Rattle.channel_model.specs.Settling.{poll_of};
-    ghost use Rattle.channel_interleaving.specs.Bookkeeping.{Begins, all_woken};
+    ghost use Rattle.channel_interleaving.specs.Bookkeeping.{BeginsByName, all_woken};
     ghost use Rattle.channel_interleaving.specs.OwnerOrder.{was_woken};
     ghost use Rattle.channel_interleaving.specs.Owners.{post};
 
@@ -49,7 +49,7 @@ impl<T: Drop> Roll<T> {
 
     /// A poll of this name begins.
     fn begin_poll(&mut self, name: Waiter) -> Begun<T>
-        ensures { Begins self.old (poll_of name) result self.new }
+        ensures { BeginsByName self.old (poll_of name) result self.new }
     {
         match name {
             Waiter::Op(op) => self.poll(op),

@@ -15,7 +15,7 @@ use Rattle.channel_calls.specs.declared.mark.Mark.TheVariants as mark
 use Rattle.channel_calls.specs.declared.reply.Reply.{Reply}
 use Rattle.channel_calls.specs.declared.stage.Stage.{Stage}
 use Rattle.channel_calls.specs.declared.stage.Stage.TheVariants.{Trying, Working, Finished}
-use Rattle.channel_laws.specs.Bounds.{Fits}
+use Rattle.channel_laws.specs.Bounds.{IsWithinBound}
 use Rattle.channel_laws.specs.Ends.{IsStill}
 use Rattle.channel_laws.proofs.ClosedMoves.{worked_spares}
 
@@ -135,7 +135,7 @@ module _ {T W : Type 0} where
   -- what a step with this mark does
   pub record Bounded (c d : Channel T W) (m : Mark) : Type 0 where
     pub capacity : d.queue.capacity ≡ c.queue.capacity
-    pub fits : Fits c → Fits d
+    pub fits : IsWithinBound c → IsWithinBound d
     pub says : SaysOf m c
     pub flag : FlagOf m c d
 

@@ -19,7 +19,7 @@ use Rattle.channel_steps.specs.Scene.{Under, Scene, Steps, MayFinish, does}
 use Rattle.channel_steps.specs.declared.party.Entry.{Entry}
 use Rattle.channel_steps.specs.declared.run.Step.{Step}
 use Rattle.channel_steps.specs.declared.run.Step.TheVariants as step
-use Rattle.channel_laws.specs.Bounds.{IsDisplacing, SaysFull, NoneFull, Fits, AllOf, BoundSound, BoundsStay, NeverOverfull, UnboundedIsNeverFull}
+use Rattle.channel_laws.specs.Bounds.{IsDisplacing, SaysFull, NoneFull, IsWithinBound, AllOf, BoundSound, BoundsStay, NeverOverfull, EachUnboundedRunIsNeverFull}
 use Rattle.channel_laws.specs.Ends.{Replies}
 use Rattle.channel_laws.proofs.BoundMoves.{Bounded, SaysOf, moves_bounded}
 use Rattle.channel_laws.proofs.EachFacts.{of_mine, each_steps, each_begins}
@@ -40,7 +40,7 @@ module _ {T W : Type 0} where
   bound_next s (step.Begin p a) e names t n h =
       let same : t.now.queue.capacity ≡ s.now.queue.capacity = ap (λ (c : Channel T W). c.queue.capacity) n.0.now in
       record {
-        fits = subst (λ (c : Channel T W). Fits c) (sym n.0.now) h.fits;
+        fits = subst (λ (c : Channel T W). IsWithinBound c) (sym n.0.now) h.fits;
         alike = each_begins (λ u. AllOf s.now.queue.capacity u.seen) (λ u. AllOf t.now.queue.capacity u.seen) s t p a e n.0
             (λ u k. all_moved u.seen s.now.queue.capacity t.now.queue.capacity same k) (sym same, tt) h.alike;
       }
@@ -144,5 +144,5 @@ module _ (T W : Type 0) where
       let k = bounds_stay (new_scene capacity) t steps trace (bound_new capacity) run in
       (run_capacity (new_scene capacity) t steps trace run, k.fits)
 
-  pub never_full : UnboundedIsNeverFull T W
+  pub never_full : EachUnboundedRunIsNeverFull T W
   never_full s t steps trace h none run = run_never_full s t steps trace h none run

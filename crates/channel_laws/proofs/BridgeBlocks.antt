@@ -3,7 +3,7 @@ use Rattle.std.proofs.Common.{◌≡◌, ◌⊎◌, inl, inr, ℕ, zero, suc, Op
 use Rattle.concurrent_queue.specs.declared.queue_call.QueueCall.{QueueCall}
 use Rattle.event_listener.specs.declared.key.Key.{Key}
 use Rattle.channel_calls.specs.Asks.{first, is_refused}
-use Rattle.channel_calls.specs.Blocks.{waiting_of, at_once, not_yet, poll_woken, still_waits, Looks, Begins, Listens, Round, Rounds, Wakens, SleepsOn}
+use Rattle.channel_calls.specs.Blocks.{waiting_of, at_once, not_yet, poll_woken, still_waits, Looks, AnswersAtFirst, Listens, Round, Rounds, Wakens, SleepsOn}
 use Rattle.channel_calls.specs.Deeds.{Deed}
 use Rattle.channel_calls.specs.Turns.{again, line_of, message_of}
 use Rattle.channel_calls.specs.Walks.{Takes, Leaves, WorkMakes, ChannelMakes, Leads, Walked, WalkedFrom}
@@ -22,7 +22,7 @@ use Rattle.channel_calls.specs.declared.stage.Waiting.{Waiting}
 use Rattle.channel_calls.specs.declared.stage.Work.{Work}
 use Rattle.channel_calls.specs.declared.stage.Work.TheVariants.{TellReceive, TellStreams, TellSend, TellSends, TakeRoom, TellAll, Insert, Register, Leave, Lower, Count, Load, Raise}
 use Rattle.channel_calls.proofs.Walking.{walks_on}
-use Rattle.channel_laws.specs.BridgeBlocks.{first_poll, poll_refused, Polls, InCalls, IsLeft, Rests, Rested, BlocksInCalls}
+use Rattle.channel_laws.specs.BridgeBlocks.{first_poll, poll_refused, PollsInTurn, InCalls, IsLeft, Rests, Rested, BlocksInCalls}
 
 module _ {T W : Type 0} where
   first_is : (b : Blocked T) (task : W) → first (first_poll b task) ≡ again (waiting_of b) None task
@@ -134,7 +134,7 @@ module _ {T W X : Type 0} (did : Deed T W → X → X → Type 0) (asked : Optio
 
     -- a poll that asks its listener first, and those behind it; or one that is refused its task
     abbrev GoesOn : Key → X → Reply T → Kept T → X → Type 0
-    GoesOn key s r kept t = ((task : W) × (m : ℕ) × Polls after m (poll_woken b key task) b s r kept t) ⊎ WalkedFrom after (first (poll_refused b key)) s r kept t
+    GoesOn key s r kept t = ((task : W) × (m : ℕ) × PollsInTurn after m (poll_woken b key task) b s r kept t) ⊎ WalkedFrom after (first (poll_refused b key)) s r kept t
 
     abbrev From : Key → X → Reply T → Kept T → X → Type 0
     From key x r kept t = (k : ℕ) (s : X) → Resting k s x → GoesOn key s r kept t
@@ -179,7 +179,7 @@ module _ {T W X : Type 0} (did : Deed T W → X → X → Type 0) (asked : Optio
           (a, takes, walks_on after n a x (Working (Register (waiting_of b) key task)) y r' kept' z (led n x a y (Working (Register (waiting_of b) key task)) path) there)
 
       polls_so : (n : ℕ) (task : W) (key : Key) (x y : X) (a : Stage (QueueCall T) T W) → Takes (again (waiting_of b) None task) a None
-          → Leads did n x a y (Working (Register (waiting_of b) key task)) → (m : ℕ) → Polls after m (poll_woken b key task) b y r kept t → Polls after m (first_poll b task) b x r kept t
+          → Leads did n x a y (Working (Register (waiting_of b) key task)) → (m : ℕ) → PollsInTurn after m (poll_woken b key task) b y r kept t → PollsInTurn after m (first_poll b task) b x r kept t
       polls_so n task key x y a takes path zero walk = begins_so n task key x y a takes path r kept t walk
       polls_so n task key x y a takes path (suc m) (next, z, walk, ask, is, more) =
           (next, z, begins_so n task key x y a takes path (still_waits b next).reply (still_waits b next).kept z walk, ask, is, more)
@@ -205,7 +205,7 @@ module _ {T W X : Type 0} (did : Deed T W → X → X → Type 0) (asked : Optio
               last,
             )
 
-        blocked : Begins did b x r kept t ⊎ ((key : Key) × (y : X) × Listens did b x key y × SleepsOn did asked slept b key y r kept t)
+        blocked : AnswersAtFirst did b x r kept t ⊎ ((key : Key) × (y : X) × Listens did b x key y × SleepsOn did asked slept b key y r kept t)
             → InCalls after b s r kept t ⊎ IsLeft after b s r kept t
         blocked (inl begins) =
             inl (j, x, looked j b s x look, task, zero, subst (λ (u : Turn T W). WalkedFrom after u x r kept t) (sym (first_is b task)) (walked_from (again (waiting_of b) None task) x r kept t (begins task)))

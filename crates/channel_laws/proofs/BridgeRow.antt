@@ -12,10 +12,10 @@ use Rattle.channel_calls.specs.declared.stage.Side.TheVariants.{Senders}
 use Rattle.channel_calls.specs.declared.stage.Stage.TheVariants.{Working, Finished}
 use Rattle.channel_calls.specs.declared.stage.Work.TheVariants.{Load, Raise}
 use Rattle.channel_laws.specs.Bridge.{Acts, own, opened_parts, InOneOrder}
-use Rattle.channel_laws.specs.BridgeRow.{two_clones, parts_of_three, is_made, both_made, TwoClonesMerge}
+use Rattle.channel_laws.specs.BridgeRow.{two_clones, parts_of_three, given_made, both_made, TwoClonesMerge}
 
 module _ (T W : Type 0) (form : QueueForm) where
-  first : Acts {T = T} {W = W} form None (own 1 two_clones) is_made
+  first : Acts {T = T} {W = W} form None (own 1 two_clones) given_made
   first = (
     Working (Load Senders Clone),
     (refl, refl),
@@ -40,7 +40,7 @@ module _ (T W : Type 0) (form : QueueForm) where
     ),
   )
 
-  second : Acts {T = T} {W = W} form None (own 2 two_clones) is_made
+  second : Acts {T = T} {W = W} form None (own 2 two_clones) given_made
   second = (
     Working (Load Senders Clone),
     (refl, refl),

@@ -16,7 +16,7 @@ use Rattle.channel_steps.specs.Scene.{Under, Scene, Steps, MayFinish, sees, does
 use Rattle.channel_steps.specs.declared.party.Entry.{Entry}
 use Rattle.channel_steps.specs.declared.run.Step.{Step}
 use Rattle.channel_steps.specs.declared.run.Step.TheVariants as step
-use Rattle.channel_laws.specs.Bounds.{one_if_closed, closings_in, ClosesOnce}
+use Rattle.channel_laws.specs.Bounds.{one_if_closed, closings_in, EachRunClosesOnce}
 use Rattle.channel_steps.proofs.Interface.{run_so}
 use Rattle.channel_laws.proofs.BoundMoves.{SaysOf, FlagOf}
 use Rattle.channel_laws.proofs.Bounds.{step_bounded}
@@ -131,6 +131,6 @@ module _ {T W : Type 0} where
       (λ a x e b xs es c n rest. let now = next_closes a x e n.0 b n.1 in omega (arith, now, rest)) s xs es t run
 
 module _ (T W : Type 0) where
-  pub closes_once : ClosesOnce T W
+  pub closes_once : EachRunClosesOnce T W
   closes_once capacity t steps trace run =
       let most = run_closes (new_scene capacity) t steps trace run in omega (arith, most)

@@ -12,7 +12,7 @@ use Rattle.channel_steps.specs.declared.run.Step.{Step}
 use Rattle.channel_steps.specs.declared.run.Step.TheVariants as step
 use Rattle.channel_steps.proofs.Interface.{known_next}
 use Rattle.channel_laws.specs.Waits.{Waits, WaitApart, Any}
-use Rattle.channel_laws.specs.Closings.{HasClosed, HasToTell, LooksAgain, ClosingIsOwed, PendingIsOwedTheClosing, AnswersClosed, ClosingSound, ClosingStaysOwed, NobodyMissesTheClosing}
+use Rattle.channel_laws.specs.Closings.{HasClosed, HasToTell, LooksAgain, ClosingIsOwed, PendingIsOwedTheClosing, AnswersClosed, ClosingSound, ClosingStaysOwed, EachRunOwesTheClosing}
 use Rattle.channel_laws.proofs.AnyFacts.{any_but, any_mine, any_steps, any_begins}
 use Rattle.channel_laws.proofs.RunFacts.{kept_long}
 use Rattle.channel_laws.proofs.EachFacts.{of_mine, each_known}
@@ -104,5 +104,5 @@ module _ (T W : Type 0) where
   pub closing_stays_owed : ClosingStaysOwed T W
   closing_stays_owed s t steps trace h run = kept_long ClosingSound sound_next s t steps trace h run
 
-  pub nobody_misses_the_closing : NobodyMissesTheClosing T W
+  pub nobody_misses_the_closing : EachRunOwesTheClosing T W
   nobody_misses_the_closing cap t steps trace run = let h = closing_stays_owed (new_scene cap) t steps trace (new_sound cap) run in (h.owed, pending_owed t h.owed)

@@ -41,8 +41,8 @@ module _ {T : Type 0} where
 
 module _ {T W : Type 0} where
   -- no more messages than fit
-  abbrev pub Fits : Channel T W → Type 0
-  Fits c = (most : ℕ) → c.queue.capacity ≡ Some most → length c.queue.items ≤ most
+  abbrev pub IsWithinBound : Channel T W → Type 0
+  IsWithinBound c = (most : ℕ) → c.queue.capacity ≡ Some most → length c.queue.items ≤ most
 
   -- of this capacity at each of these moments
   abbrev pub AllOf : Option ℕ → List (Channel T W) → Type 0
@@ -51,7 +51,7 @@ module _ {T W : Type 0} where
 
   -- what every run keeps: no more messages than fit, and the calls under way have seen no other capacity
   pub record BoundSound (s : Scene T W) : Type 0 where
-    pub fits : Fits s.now
+    pub fits : IsWithinBound s.now
     pub alike : Each (λ u. AllOf s.now.queue.capacity u.seen) s.under_way
 
 module _ (T W : Type 0) where
@@ -62,16 +62,16 @@ module _ (T W : Type 0) where
   abbrev pub NeverOverfull : Type 0
   NeverOverfull =
       (capacity : Option ℕ) (t : Scene T W) (steps : List (Step T W)) (trace : List (Entry T)) → IsRun NextScene (new_scene capacity) steps trace t
-      → (t.now.queue.capacity ≡ capacity) × Fits t.now
+      → (t.now.queue.capacity ≡ capacity) × IsWithinBound t.now
 
   -- in every run from a channel without a bound
-  abbrev pub UnboundedIsNeverFull : Type 0
-  UnboundedIsNeverFull =
+  abbrev pub EachUnboundedRunIsNeverFull : Type 0
+  EachUnboundedRunIsNeverFull =
       (s t : Scene T W) (steps : List (Step T W)) (trace : List (Entry T)) → BoundSound s → s.now.queue.capacity ≡ None → IsRun NextScene s steps trace t
       → NoneFull trace
 
   -- in every run from a channel that was just opened
-  abbrev pub ClosesOnce : Type 0
-  ClosesOnce =
+  abbrev pub EachRunClosesOnce : Type 0
+  EachRunClosesOnce =
       (capacity : Option ℕ) (t : Scene T W) (steps : List (Step T W)) (trace : List (Entry T)) → IsRun NextScene (new_scene capacity) steps trace t
       → closings_in trace ≤ 1

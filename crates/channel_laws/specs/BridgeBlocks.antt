@@ -29,20 +29,20 @@ module _ {T W : Type 0} where
   poll_refused b key = RefusePoll (line_of (waiting_of b)) (message_of (waiting_of b)) (Some key)
 
   -- what it may ask next, its poll having left this listener
-  abbrev pub IsNext : Blocked T → Key → ChannelAsk T W → Type 0
-  IsNext b key ask = ((task : W) × (ask ≡ poll_woken b key task)) ⊎ (ask ≡ poll_refused b key)
+  abbrev pub MayAskNext : Blocked T → Key → ChannelAsk T W → Type 0
+  MayAskNext b key ask = ((task : W) × (ask ≡ poll_woken b key task)) ⊎ (ask ≡ poll_refused b key)
 
 module _ {T W X : Type 0} (did : Deed T W → X → X → Type 0) where
   -- polls one after another, the first of which asks this. Each but the last waits, and leaves its listener to the next one
-  abbrev pub Polls : ℕ → ChannelAsk T W → Blocked T → X → Reply T → Kept T → X → Type 0
-  Polls zero ask b s r kept t = WalkedFrom did (first ask) s r kept t
-  Polls (suc n) ask b s r kept t =
+  abbrev pub PollsInTurn : ℕ → ChannelAsk T W → Blocked T → X → Reply T → Kept T → X → Type 0
+  PollsInTurn zero ask b s r kept t = WalkedFrom did (first ask) s r kept t
+  PollsInTurn (suc n) ask b s r kept t =
       (key : Key) × (x : X) × WalkedFrom did (first ask) s (still_waits b key).reply (still_waits b key).kept x
-      × (next : ChannelAsk T W) × IsNext b key next × Polls n next b x r kept t
+      × (next : ChannelAsk T W) × MayAskNext b key next × PollsInTurn n next b x r kept t
 
   -- calls that don't wait, and polls from the first one to that which answers
   abbrev pub InCalls : Blocked T → X → Reply T → Kept T → X → Type 0
-  InCalls b s r kept t = (n : ℕ) × (x : X) × Looks did n b s x × (task : W) × (m : ℕ) × Polls m (first_poll b task) b x r kept t
+  InCalls b s r kept t = (n : ℕ) × (x : X) × Looks did n b s x × (task : W) × (m : ℕ) × PollsInTurn m (first_poll b task) b x r kept t
 
   -- It was refused its task before it ever slept: its first poll stands for ever where it was to register this listener, and beside
   -- it a poll is made that is refused its task, as by another party.

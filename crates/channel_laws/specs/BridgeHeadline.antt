@@ -18,7 +18,7 @@ use Rattle.channel_steps.specs.Tellings.{telling, dropping, WokenBy}
 use Rattle.channel_steps.specs.declared.party.Entry.{Entry}
 use Rattle.channel_steps.specs.declared.run.Step.{Step}
 use Rattle.channel_steps.specs.declared.run.Step.TheVariants as step
-use Rattle.channel_laws.specs.Bounds.{Fits}
+use Rattle.channel_laws.specs.Bounds.{IsWithinBound}
 use Rattle.channel_laws.specs.Bridge.{MergeMoment, just_opened, Happening, Given, Acts, own, steps_of, opened_parts, InOneOrder, IsRunOf, LastsFor}
 use Rattle.channel_laws.specs.BridgeEnd.{NoMessageAfter}
 use Rattle.channel_laws.specs.BridgeMoments.{FewStepsLeft, MergeEndsInARow, left_to}
@@ -41,7 +41,7 @@ module _ {T W S : Type 0} where
     pub shows : Represents m.parts m.parties m.scene
     -- what left the channel, followed by what it holds, is what came into it, in order, and no more than fit
     pub in_order : m.scene.gone ++ m.scene.now.queue.items ≡ m.scene.came
-    pub fits : Fits m.scene.now
+    pub fits : IsWithinBound m.scene.now
     -- of each call under way, the marks are the first of those that a call which asks this makes
     pub begun : Each (λ u. BeginsItsMarks u) m.scene.under_way
     -- beside one who is pending and was not told, whose listener no call has in hand, there is no message, no free place and no

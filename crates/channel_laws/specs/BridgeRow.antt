@@ -28,12 +28,12 @@ module _ {T W : Type 0} where
   parts_of_three form = with_roster (with_count Senders 3 new_roster) (opened_parts form)
 
 module _ {T : Type 0} where
-  abbrev pub is_made : List (Given T)
-  is_made = record { reply = Made; kept = nothing_kept } ∷ []
+  abbrev pub given_made : List (Given T)
+  given_made = record { reply = Made; kept = nothing_kept } ∷ []
 
   -- both answer that a handle was made
   abbrev pub both_made : ℕ → List (Given T)
-  both_made p = if 1 == p then is_made else (if 2 == p then is_made else [])
+  both_made p = if 1 == p then given_made else (if 2 == p then given_made else [])
 
 -- it is a merge as `MergesAreRuns` asks it
 abbrev pub TwoClonesMerge : (T W S : Type 0) → (S → W → S → Type 0) → Type 0

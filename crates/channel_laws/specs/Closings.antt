@@ -81,5 +81,5 @@ module _ (T W : Type 0) where
   ClosingStaysOwed = (s t : Scene T W) (steps : List (Step T W)) (trace : List (Entry T)) → ClosingSound s → IsRun NextScene s steps trace t → ClosingSound t
 
   -- in every run from a channel that was just opened
-  abbrev pub NobodyMissesTheClosing : Type 0
-  NobodyMissesTheClosing = (cap : Option ℕ) (t : Scene T W) (steps : List (Step T W)) (trace : List (Entry T)) → IsRun NextScene (new_scene cap) steps trace t → ClosingIsOwed t × PendingIsOwedTheClosing t
+  abbrev pub EachRunOwesTheClosing : Type 0
+  EachRunOwesTheClosing = (cap : Option ℕ) (t : Scene T W) (steps : List (Step T W)) (trace : List (Entry T)) → IsRun NextScene (new_scene cap) steps trace t → ClosingIsOwed t × PendingIsOwedTheClosing t

@@ -7,9 +7,9 @@ ghost use Rattle.channel_laws.specs.BridgeHeadline.{MergesKeepTheHeadline};
 ghost use Rattle.channel_laws.specs.BridgeRow.{TwoClonesMerge};
 ghost use Rattle.channel_calls.specs.Blocks.{Asked, Slept};
 ghost use Rattle.channel_calls.specs.Deeds.{Done};
-ghost use Rattle.channel_laws.specs.Bounds.{BoundsStay, ClosesOnce, NeverOverfull, UnboundedIsNeverFull};
+ghost use Rattle.channel_laws.specs.Bounds.{BoundsStay, EachRunClosesOnce, NeverOverfull, EachUnboundedRunIsNeverFull};
 ghost use Rattle.channel_laws.specs.Closed.{ClosingIsForGood};
-ghost use Rattle.channel_laws.specs.Closings.{ClosingStaysOwed, NobodyMissesTheClosing};
+ghost use Rattle.channel_laws.specs.Closings.{ClosingStaysOwed, EachRunOwesTheClosing};
 ghost use Rattle.channel_laws.specs.Ends.{EndIsForGood, EndIsKnown, NothingComesAfterTheEnd};
 ghost use Rattle.channel_laws.specs.Notices.{TellingsAlwaysFit, TellingsStayFit};
 ghost use Rattle.channel_laws.specs.Receives.{NoReceiveIsForgotten, ReceivesStayOwed};
@@ -74,7 +74,7 @@ pub fn no_stream_is_forgotten<T, W>()
 /// Own to this project.
 pub fn nobody_misses_the_closing<T, W>()
     ensures kept { ClosingStaysOwed T W }
-    ensures owed { NobodyMissesTheClosing T W }
+    ensures owed { EachRunOwesTheClosing T W }
 {}
 
 /// Wherever a run from a channel that was just opened has come, whatever its steps are: while the channel is open, each send
@@ -131,7 +131,7 @@ pub fn no_send_is_forgotten<T, W>()
 pub fn no_more_than_fit<T, W>()
     ensures kept { BoundsStay T W }
     ensures within { NeverOverfull T W }
-    ensures never_full { UnboundedIsNeverFull T W }
+    ensures never_full { EachUnboundedRunIsNeverFull T W }
 {}
 
 /// Of all closes of a run from a channel that was just opened, whatever its steps are, one at most answers that it closed the
@@ -139,7 +139,7 @@ pub fn no_more_than_fit<T, W>()
 ///
 /// Own to this project.
 pub fn one_close_at_most<T, W>()
-    ensures once { ClosesOnce T W }
+    ensures once { EachRunClosesOnce T W }
 {}
 
 /// What any number of parties do to a new channel, merged in any order in which each answer is what the cells then held, is a

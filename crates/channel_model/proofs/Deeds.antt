@@ -2,9 +2,9 @@
 use Rattle.std.proofs.Common.{zero, suc, take, drop, arith, ◌≡◌, ◌⊎◌, ◌+◌, ◌^◌, ◌-◌, ◌==◌, ℕ, nat_lt, List, [], ◌∷◌, ◌++◌, length, Bool, true, false, ◌||◌, if◌then◌else◌, Option, None, Some, is_none, Ok, Err, refl, sym, ap, subst, inl, inr, length-append}
 use Rattle.std.proofs.lemmas.List.{take-append-drop}
 use Rattle.channel_model.specs.Bounds.{says_closed}
-use Rattle.channel_model.specs.Channel.{appended, holding}
+use Rattle.channel_model.specs.Channel.{appended, with_messages}
 use Rattle.channel_model.specs.Handles.{live_of}
-use Rattle.channel_model.specs.Names.{Directory, ModelOperation, send, recv, closing, at, with_new, without_name, with_operation}
+use Rattle.channel_model.specs.Names.{Directory, ModelOperation, send, recv, closing, at, with_new, without_name, with_new_operation}
 use Rattle.channel_model.specs.Lines.{is_among, untold, gone}
 use Rattle.channel_model.specs.State.{State, with_channel, with_waiting}
 use Rattle.channel_model.specs.declared.call.Call.{Call}
@@ -38,7 +38,7 @@ module _ {T : Type 0} where
   pub data Deed (s : State T) (a : Answer T) : Type 0 where
     stays : a.after.channel ≡ s.channel → Alike s a → says_closed a.reply ≡ false → Deed s a
     grows : (m : T) → (space_of s.channel ≡ Open) ⊎ (s.channel.messages ≡ []) → a.after.channel ≡ appended s.channel m → Alike s a → says_closed a.reply ≡ false → Deed s a
-    holds : (ms : List T) → (n : ℕ) → length ms + n ≡ length s.channel.messages → a.after.channel ≡ holding s.channel ms → Alike s a → says_closed a.reply ≡ false → Deed s a
+    holds : (ms : List T) → (n : ℕ) → length ms + n ≡ length s.channel.messages → a.after.channel ≡ with_messages s.channel ms → Alike s a → says_closed a.reply ≡ false → Deed s a
     shuts : s.channel.closed ≡ false → a.after.channel ≡ shut s.channel → Alike s a → Deed s a
     adds : (name : ℕ) (kind : HandleKind) → a.after.channel ≡ with_strong_handles kind (strong_handles kind s.channel + 1) s.channel
         → a.after.names.handles ≡ with_new name (record { kind = kind; borrowers = 0 }) s.names.handles → says_closed a.reply ≡ false → Deed s a
@@ -184,7 +184,7 @@ module _ {T : Type 0} where
         (λ t. stays refl (λ side. refl) refl) (λ t. more new (strong_of h.kind))
     upgrade new None = stays refl (λ side. refl) refl
 
-    begun : (op : OpId) (x : ModelOperation T) (handle : HandleId) → (new_answer s op x).after.names.handles ≡ (with_operation op (recv handle) s.names).handles → Deed s (new_answer s op x)
+    begun : (op : OpId) (x : ModelOperation T) (handle : HandleId) → (new_answer s op x).after.names.handles ≡ (with_new_operation op (recv handle) s.names).handles → Deed s (new_answer s op x)
     begun op x handle e = stays refl (λ side. subst (λ (d : Directory Handle). live_of side d ≡ live_of side s.names.handles) (sym e) (lent_alike side handle s.names.handles)) refl
 
     -- ---- every call

@@ -7,7 +7,7 @@ use Rattle.channel_model.specs.Channel.{ModelChannel}
 use Rattle.channel_model.specs.Handles.{HandlesAreCounted, UpgradesAsOpen, live_of}
 use Rattle.channel_model.specs.Names.{Directory, at, with_new, without_name}
 use Rattle.channel_model.specs.Refusal.{are_alike, is_live, uses, are_fit, takes_borrowed, names_taken}
-use Rattle.channel_model.specs.Run.{Does, Runs}
+use Rattle.channel_model.specs.Run.{MayBeDone, Runs}
 use Rattle.channel_model.specs.State.{State, start}
 use Rattle.channel_model.specs.declared.call.Call.{Call}
 use Rattle.channel_model.specs.declared.call.Call.TheVariants as call
@@ -207,7 +207,7 @@ module _ {T : Type 0} where
   ]
 
   pub upgraded : (capacity : Option ℕ) (calls rest : List (Call T)) (done : List (Done T)) (why : Option WorldRefusal) (world after : State T)
-      (weak new : HandleId) (d : Done T) → Runs (start capacity) calls done why rest world → Does world (call.Upgrade weak new) d after → UpgradesAsOpen world weak d.reply
+      (weak new : HandleId) (d : Done T) → Runs (start capacity) calls done why rest world → MayBeDone world (call.Upgrade weak new) d after → UpgradesAsOpen world weak d.reply
   upgraded capacity calls rest done why world after weak new d r (ok, inr (lack, e)) = cc e
   upgraded capacity calls rest done why world after weak new d r (ok, inl e) =
       subst (λ (x : Reply T). UpgradesAsOpen world weak x) (sym (ap (λ (a : Answer T). a.reply) e)) (found (at weak.0 world.names.handles) refl) where

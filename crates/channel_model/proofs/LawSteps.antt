@@ -7,7 +7,7 @@ use Rattle.std.specs.Option.{option_map_or, option_to_list}
 use Rattle.std.specs.Map.{lookup, set_value}
 use Rattle.std.proofs.lemmas.Map.{lookup-set_value}
 use Rattle.channel_model.specs.Channel.{ModelChannel, is_full}
-use Rattle.channel_model.specs.Names.{Names, Directory, ModelOperation, send, recv, closing, at, is_taken, with_operation, with_operation_changed, without_operation}
+use Rattle.channel_model.specs.Names.{Names, Directory, ModelOperation, send, recv, closing, at, is_taken, with_new_operation, with_operation_changed, without_operation}
 use Rattle.channel_model.specs.Lines.{Waiting, nobody, is_among, untold, after_news, gone, left_after, standing}
 use Rattle.channel_model.specs.State.{State, start, with_channel, with_names, with_waiting}
 use Rattle.channel_model.specs.declared.call.Call.{Call}
@@ -17,7 +17,7 @@ use Rattle.channel_calls.specs.declared.reply.Reply.TheVariants as reply
 use Rattle.channel_model.specs.Answer.{Answer, replying, after_telling, after_leaving, pending, space_of, Found, first, none_yet, none_ever, found_in, found, try_send_answer, force_send_answer, displacing, send_poll_answer, try_recv_answer, recv_many_answer, recv_poll_answer, next_answer, poll_next_answer, close_answer, shut, closed_poll_answer, poll_answer, poll_refused_answer, give_up_answer, given_up, new_answer, drop_one, dropped, drop_answer, made, spent, weak_of, clone_answer, downgrade_answer, upgrade_answer, one_more, strong_of, strong_handles, with_strong_handles, news_without_one, answer}
 use Rattle.channel_model.specs.Refused.{Lack, memory, serials, refused, not_listening, not_standing, not_held, send_not_polled, recv_not_polled, not_polled, next_not_polled, not_received, answer_without, Answers}
 use Rattle.channel_model.specs.Refusal.{refusal, is_live, uses, are_fit, takes_borrowed, names_taken}
-use Rattle.channel_model.specs.Laws.{removed_by, accepted_by, sends_after, removed, accepted, line_of_operation, line_of, free_places, NobodyIsLeft}
+use Rattle.channel_model.specs.Laws.{removed_by, brought_by_call, sends_after, removed, accepted, line_of_operation, line_at, free_places, NobodyIsLeft}
 use Rattle.channel_model.specs.Awake.{Awake, AwakeIn, times_in}
 use Rattle.channel_model.specs.Run.{Runs}
 use Rattle.channel_model.specs.Settling.{poll_of}
@@ -73,7 +73,7 @@ module _ {T : Type 0} where
   -- what an answer has to keep
   pub record Good (sends : List (ℕ × T)) (s : State T) (c : Call T) (a : Answer T) : Type 0 where
     pub awake : AwakeIn a.after
-    pub account : removed_by a.reply ++ a.after.channel.messages ≡ s.channel.messages ++ accepted_by sends c a.reply
+    pub account : removed_by a.reply ++ a.after.channel.messages ≡ s.channel.messages ++ brought_by_call sends c a.reply
     pub keeps : Keeps (sends_after sends c) a.after.names
 
   pub found_name : (n : ℕ) (d : Directory (ModelOperation T)) (x : ModelOperation T) → at n d ≡ Some x → IsSome (lookup (nat_eq n) d)
@@ -98,9 +98,9 @@ module _ {T : Type 0} where
   -- one operation was changed, which stands in no line
   awake_changed : (op : OpId) (v : Option (ModelOperation T)) (x : ModelOperation T) (names names' : Names T) (capacity : Option ℕ) (closed : Bool) (n : ℕ) (l : Waiting)
       → at op.0 names.operations ≡ Some x → names'.operations ≡ set_value (nat_eq op.0) names.operations v → times_in (Op op) l ≡ 0
-      → Awake (line_of names) capacity closed n l → Awake (line_of names') capacity closed n l
-  awake_changed op v x names names' capacity closed n l there set zero_times a = awake_renamed (line_of names) (line_of names') capacity closed n l same a where
-    same : (w : Waiter) → 1 ≤ times_in w l → line_of names' w ≡ line_of names w
+      → Awake (line_at names) capacity closed n l → Awake (line_at names') capacity closed n l
+  awake_changed op v x names names' capacity closed n l there set zero_times a = awake_renamed (line_at names) (line_at names') capacity closed n l same a where
+    same : (w : Waiter) → 1 ≤ times_in w l → line_at names' w ≡ line_at names w
     same (Stream receiver) h = refl
     same (Op other) h = elim (decided (nat_eq op.0 other.0)) [
       | inl t ↦
@@ -123,9 +123,9 @@ module _ {T : Type 0} where
 
   -- the handles alone were changed
   awake_handles : (names names' : Names T) (capacity : Option ℕ) (closed : Bool) (n : ℕ) (l : Waiting) → names'.operations ≡ names.operations
-      → Awake (line_of names) capacity closed n l → Awake (line_of names') capacity closed n l
-  awake_handles names names' capacity closed n l e a = awake_renamed (line_of names) (line_of names') capacity closed n l same a where
-    same : (w : Waiter) → 1 ≤ times_in w l → line_of names' w ≡ line_of names w
+      → Awake (line_at names) capacity closed n l → Awake (line_at names') capacity closed n l
+  awake_handles names names' capacity closed n l e a = awake_renamed (line_at names) (line_at names') capacity closed n l same a where
+    same : (w : Waiter) → 1 ≤ times_in w l → line_at names' w ≡ line_at names w
     same (Stream receiver) h = refl
     same (Op other) h = ap (λ (d : Directory (ModelOperation T)). line_of_operation (at other.0 d)) e
 
@@ -167,7 +167,7 @@ module _ {T : Type 0} where
     none (Some y) h = cc h
 
   module _ (sends : List (ℕ × T)) (s : State T) (awake : AwakeIn s) (keeps : Keeps sends s.names) where
-    nothing_moved : (c : Call T) (r : Reply T) → removed_by r ≡ [] → accepted_by sends c r ≡ [] → removed_by r ++ s.channel.messages ≡ s.channel.messages ++ accepted_by sends c r
+    nothing_moved : (c : Call T) (r : Reply T) → removed_by r ≡ [] → brought_by_call sends c r ≡ [] → removed_by r ++ s.channel.messages ≡ s.channel.messages ++ brought_by_call sends c r
     nothing_moved c r e f = ap (λ (ms : List T). ms ++ s.channel.messages) e ∙ sym (ap (λ (ms : List T). s.channel.messages ++ ms) f ∙ append-nil s.channel.messages)
 
     taken : (m : T) (rest : List T) → s.channel.messages ≡ m ∷ rest → m ∷ rest ≡ s.channel.messages ++ []
@@ -180,7 +180,7 @@ module _ {T : Type 0} where
     no_message e = ap (λ (ms : List T). length ms) e
 
     -- an answer that changes no operation
-    good : (c : Call T) (a : Answer T) → AwakeIn a.after → removed_by a.reply ++ a.after.channel.messages ≡ s.channel.messages ++ accepted_by sends c a.reply
+    good : (c : Call T) (a : Answer T) → AwakeIn a.after → removed_by a.reply ++ a.after.channel.messages ≡ s.channel.messages ++ brought_by_call sends c a.reply
         → a.after.names.operations ≡ s.names.operations → sends_after sends c ≡ sends → Good sends s c a
     good c a w account ops same = record {
       awake = w;
@@ -188,24 +188,24 @@ module _ {T : Type 0} where
       keeps = λ n h m e. subst (λ (ss : List (ℕ × T)). lookup (nat_eq n) ss ≡ Some m) (sym same) (keeps n h m (subst (λ (d : Directory (ModelOperation T)). at n d ≡ Some (send h (Some m))) ops e));
     }
 
-    stay : (c : Call T) (r : Reply T) → removed_by r ≡ [] → accepted_by sends c r ≡ [] → sends_after sends c ≡ sends → Good sends s c (replying s r)
+    stay : (c : Call T) (r : Reply T) → removed_by r ≡ [] → brought_by_call sends c r ≡ [] → sends_after sends c ≡ sends → Good sends s c (replying s r)
     stay c r e f same = good c (replying s r) awake (nothing_moved c r e f) refl same
 
     -- the channel is open here
-    awake_open : s.channel.closed ≡ false → Awake (line_of s.names) s.channel.capacity false (length s.channel.messages) s.waiting
-    awake_open o = subst (λ (b : Bool). Awake (line_of s.names) s.channel.capacity b (length s.channel.messages) s.waiting) o awake
+    awake_open : s.channel.closed ≡ false → Awake (line_at s.names) s.channel.capacity false (length s.channel.messages) s.waiting
+    awake_open o = subst (λ (b : Bool). Awake (line_at s.names) s.channel.capacity b (length s.channel.messages) s.waiting) o awake
 
     -- a message comes
-    awake_more : (m : T) → Awake (line_of s.names) s.channel.capacity s.channel.closed (length (s.channel.messages ++ m ∷ [])) (after_news Message s.waiting)
-    awake_more m = awake_message (line_of s.names) s.channel.capacity s.channel.closed (length s.channel.messages) (length (s.channel.messages ++ m ∷ [])) s.waiting
+    awake_more : (m : T) → Awake (line_at s.names) s.channel.capacity s.channel.closed (length (s.channel.messages ++ m ∷ [])) (after_news Message s.waiting)
+    awake_more m = awake_message (line_at s.names) s.channel.capacity s.channel.closed (length s.channel.messages) (length (s.channel.messages ++ m ∷ [])) s.waiting
         (omega (arith, one_longer s.channel.messages m)) (omega (arith, one_longer s.channel.messages m)) awake
 
     -- a message is taken
-    awake_less : (m : T) (rest : List T) → s.channel.messages ≡ m ∷ rest → Awake (line_of s.names) s.channel.capacity s.channel.closed (length rest) (after_news Room s.waiting)
-    awake_less m rest e = awake_room (line_of s.names) s.channel.capacity s.channel.closed (length s.channel.messages) (length rest) s.waiting (one_less m rest e) awake
+    awake_less : (m : T) (rest : List T) → s.channel.messages ≡ m ∷ rest → Awake (line_at s.names) s.channel.capacity s.channel.closed (length rest) (after_news Room s.waiting)
+    awake_less m rest e = awake_room (line_at s.names) s.channel.capacity s.channel.closed (length s.channel.messages) (length rest) s.waiting (one_less m rest e) awake
 
-    awake_still : Awake (line_of s.names) s.channel.capacity s.channel.closed (length s.channel.messages) (after_news Nothing s.waiting)
-    awake_still = awake_nothing (line_of s.names) s.channel.capacity s.channel.closed (length s.channel.messages) s.waiting awake
+    awake_still : Awake (line_at s.names) s.channel.capacity s.channel.closed (length s.channel.messages) (after_news Nothing s.waiting)
+    awake_still = awake_nothing (line_at s.names) s.channel.capacity s.channel.closed (length s.channel.messages) s.waiting awake
 
     -- ---- sending and receiving
 
@@ -218,7 +218,7 @@ module _ {T : Type 0} where
     displace sender m [] e = good (call.ForceSend sender m) (displacing s m []) (awake_more m) refl refl refl
     displace sender m (oldest ∷ ms) e =
         good (call.ForceSend sender m) (displacing s m (oldest ∷ ms))
-        (awake_message (line_of s.names) s.channel.capacity s.channel.closed (length s.channel.messages) (length (ms ++ m ∷ [])) s.waiting
+        (awake_message (line_at s.names) s.channel.capacity s.channel.closed (length s.channel.messages) (length (ms ++ m ∷ [])) s.waiting
         (omega (arith, one_longer ms m, one_less oldest ms e)) (omega (arith, one_longer ms m, one_less oldest ms e)) awake)
         (ap (λ (xs : List T). xs ++ m ∷ []) (sym e)) refl refl
 
@@ -246,43 +246,43 @@ module _ {T : Type 0} where
     recv_many receiver (suc n) limit [] rest e = stay (call.RecvMany receiver limit) (recv_many_answer s (suc n) [] rest).reply refl refl refl
     recv_many receiver (suc n) limit (m ∷ ms) rest e =
         good (call.RecvMany receiver limit) (recv_many_answer s (suc n) (m ∷ ms) rest)
-        (awake_rooms (line_of s.names) s.channel.capacity s.channel.closed (length (m ∷ ms)) (length s.channel.messages) (length rest) s.waiting
+        (awake_rooms (line_at s.names) s.channel.capacity s.channel.closed (length (m ∷ ms)) (length s.channel.messages) (length rest) s.waiting
         (several_lengths (m ∷ ms) rest e) awake)
         (e ∙ sym (append-nil s.channel.messages)) refl refl
 
     -- ---- operations
 
     -- one of this line leaves, and passes on what it was told
-    awake_left : (own : Line) (w : Waiter) → line_of s.names w ≡ Some own → Awake (line_of s.names) s.channel.capacity s.channel.closed (length s.channel.messages) (left_after Nothing own w s.waiting)
-    awake_left own w e = awake_leave (line_of s.names) s.channel.capacity s.channel.closed (length s.channel.messages) own w (after_news Nothing s.waiting) e awake_still
+    awake_left : (own : Line) (w : Waiter) → line_at s.names w ≡ Some own → Awake (line_at s.names) s.channel.capacity s.channel.closed (length s.channel.messages) (left_after Nothing own w s.waiting)
+    awake_left own w e = awake_leave (line_at s.names) s.channel.capacity s.channel.closed (length s.channel.messages) own w (after_news Nothing s.waiting) e awake_still
 
-    awake_left_spent : (own : Line) (w : Waiter) → line_of s.names w ≡ None → Awake (line_of s.names) s.channel.capacity s.channel.closed (length s.channel.messages) (left_after Nothing own w s.waiting)
-    awake_left_spent own w e = awake_leave_spent (line_of s.names) s.channel.capacity s.channel.closed (length s.channel.messages) own w (after_news Nothing s.waiting) e awake_still
+    awake_left_spent : (own : Line) (w : Waiter) → line_at s.names w ≡ None → Awake (line_at s.names) s.channel.capacity s.channel.closed (length s.channel.messages) (left_after Nothing own w s.waiting)
+    awake_left_spent own w e = awake_leave_spent (line_at s.names) s.channel.capacity s.channel.closed (length s.channel.messages) own w (after_news Nothing s.waiting) e awake_still
 
     -- one of this line stands
-    awake_pending : (own : Line) (w : Waiter) (r : Reply T) → line_of s.names w ≡ Some own → s.channel.closed ≡ false → Idle (line_of s.names) s.channel.capacity own (length s.channel.messages) → AwakeIn (pending own w s r).after
+    awake_pending : (own : Line) (w : Waiter) (r : Reply T) → line_at s.names w ≡ Some own → s.channel.closed ≡ false → Idle (line_at s.names) s.channel.capacity own (length s.channel.messages) → AwakeIn (pending own w s r).after
     awake_pending own w r e o i =
-        subst (λ (b : Bool). Awake (line_of s.names) s.channel.capacity b (length s.channel.messages) (pending own w s r).after.waiting) (sym o)
-        (awake_standing (line_of s.names) s.channel.capacity (length s.channel.messages) own w s.waiting e i (awake_open o))
+        subst (λ (b : Bool). Awake (line_at s.names) s.channel.capacity b (length s.channel.messages) (pending own w s r).after.waiting) (sym o)
+        (awake_standing (line_at s.names) s.channel.capacity (length s.channel.messages) own w s.waiting e i (awake_open o))
 
     send_poll : (op : OpId) (handle : HandleId) (m : T) (x : Space) → at op.0 s.names.operations ≡ Some (send handle (Some m)) → space_of s.channel ≡ x → Good sends s (call.Poll op) (send_poll_answer s op handle m x)
     send_poll op handle m Open there e =
-        let own : line_of s.names (Op op) ≡ Some Sends = ap (λ (o : Option (ModelOperation T)). line_of_operation o) there in
+        let own : line_at s.names (Op op) ≡ Some Sends = ap (λ (o : Option (ModelOperation T)). line_of_operation o) there in
         record {
           awake = awake_changed op (Some (send handle None)) (send handle (Some m)) s.names (with_operation_changed op (send handle None) s.names) s.channel.capacity s.channel.closed (length (s.channel.messages ++ m ∷ [])) (left_after Message Sends (Op op) s.waiting)
               there refl (left_nowhere Sends (Op op) (after_news Message s.waiting))
-              (awake_leave (line_of s.names) s.channel.capacity s.channel.closed (length (s.channel.messages ++ m ∷ [])) Sends (Op op) (after_news Message s.waiting) own (awake_more m));
+              (awake_leave (line_at s.names) s.channel.capacity s.channel.closed (length (s.channel.messages ++ m ∷ [])) Sends (Op op) (after_news Message s.waiting) own (awake_more m));
           account = ap (λ (o : Option T). s.channel.messages ++ option_to_list o) (sym (keeps op.0 handle m there));
           keeps = keeps_changed op (Some (send handle None)) (send handle (Some m)) sends s.names (with_operation_changed op (send handle None) s.names) (λ h v q. cc q) there refl keeps;
         }
     send_poll op handle m Filled there e =
-        let own : line_of s.names (Op op) ≡ Some Sends = ap (λ (o : Option (ModelOperation T)). line_of_operation o) there in
+        let own : line_at s.names (Op op) ≡ Some Sends = ap (λ (o : Option (ModelOperation T)). line_of_operation o) there in
         let filled = space_filled s.channel e in
         good (call.Poll op) (send_poll_answer s op handle m Filled)
         (awake_pending Sends (Op op) (send_poll_answer s op handle m Filled).reply own filled.0 (full_idle s.channel.capacity (length s.channel.messages) filled.1))
         (nothing_moved (call.Poll op) (send_poll_answer s op handle m Filled).reply refl refl) refl refl
     send_poll op handle m Shut there e =
-        let own : line_of s.names (Op op) ≡ Some Sends = ap (λ (o : Option (ModelOperation T)). line_of_operation o) there in
+        let own : line_at s.names (Op op) ≡ Some Sends = ap (λ (o : Option (ModelOperation T)). line_of_operation o) there in
         record {
           awake = awake_changed op (Some (send handle None)) (send handle (Some m)) s.names (with_operation_changed op (send handle None) s.names) s.channel.capacity s.channel.closed (length s.channel.messages) (left_after Nothing Sends (Op op) s.waiting)
               there refl (left_nowhere Sends (Op op) (after_news Nothing s.waiting)) (awake_left Sends (Op op) own);
@@ -292,24 +292,24 @@ module _ {T : Type 0} where
 
     recv_poll : (op : OpId) (handle : HandleId) (x : Found T) → at op.0 s.names.operations ≡ Some (recv handle) → found s.channel ≡ x → Good sends s (call.Poll op) (recv_poll_answer s op x)
     recv_poll op handle (first m rest) there e =
-        let own : line_of s.names (Op op) ≡ Some Receives = ap (λ (o : Option (ModelOperation T)). line_of_operation o) there in
+        let own : line_at s.names (Op op) ≡ Some Receives = ap (λ (o : Option (ModelOperation T)). line_of_operation o) there in
         let is_first = found_first s.channel.messages s.channel.closed m rest e in
         good (call.Poll op) (recv_poll_answer s op (first m rest))
-        (awake_leave (line_of s.names) s.channel.capacity s.channel.closed (length rest) Receives (Op op) (after_news Room s.waiting) own (awake_less m rest is_first))
+        (awake_leave (line_at s.names) s.channel.capacity s.channel.closed (length rest) Receives (Op op) (after_news Room s.waiting) own (awake_less m rest is_first))
         (taken m rest is_first) refl refl
     recv_poll op handle none_yet there e =
-        let own : line_of s.names (Op op) ≡ Some Receives = ap (λ (o : Option (ModelOperation T)). line_of_operation o) there in
+        let own : line_at s.names (Op op) ≡ Some Receives = ap (λ (o : Option (ModelOperation T)). line_of_operation o) there in
         let yet = found_yet s.channel.messages s.channel.closed e in
         good (call.Poll op) (recv_poll_answer s op none_yet) (awake_pending Receives (Op op) (recv_poll_answer s op none_yet).reply own yet.1 (no_message yet.0))
         (nothing_moved (call.Poll op) (recv_poll_answer s op none_yet).reply refl refl) refl refl
     recv_poll op handle none_ever there e =
-        let own : line_of s.names (Op op) ≡ Some Receives = ap (λ (o : Option (ModelOperation T)). line_of_operation o) there in
+        let own : line_at s.names (Op op) ≡ Some Receives = ap (λ (o : Option (ModelOperation T)). line_of_operation o) there in
         good (call.Poll op) (recv_poll_answer s op none_ever) (awake_left Receives (Op op) own)
         (nothing_moved (call.Poll op) (recv_poll_answer s op none_ever).reply refl refl) refl refl
 
     closed_poll : (op : OpId) (handle : HandleId) → at op.0 s.names.operations ≡ Some (closing handle) → Good sends s (call.Poll op) (closed_poll_answer s op)
     closed_poll op handle there =
-        let own : line_of s.names (Op op) ≡ Some Closings = ap (λ (o : Option (ModelOperation T)). line_of_operation o) there in
+        let own : line_at s.names (Op op) ≡ Some Closings = ap (λ (o : Option (ModelOperation T)). line_of_operation o) there in
         either_way (λ (a : Answer T). Good sends s (call.Poll op) a) s.channel.closed
         (after_leaving Nothing Closings (Op op) s (reply.ClosedPoll (Ready (Ok tt)))) (pending Closings (Op op) s (reply.ClosedPoll Pending))
         (λ t. good (call.Poll op) (after_leaving Nothing Closings (Op op) s (reply.ClosedPoll (Ready (Ok tt)))) (awake_left Closings (Op op) own) (nothing_moved (call.Poll op) (reply.ClosedPoll (Ready (Ok tt))) refl refl) refl refl)
@@ -323,7 +323,7 @@ module _ {T : Type 0} where
     poll op None there = stay (call.Poll op) reply.Unit refl refl refl
 
     -- an operation of this line, and a finished send, leaves
-    refused_poll : (op : OpId) (own : Line) (r : Reply T) → (line_of s.names (Op op) ≡ Some own) ⊎ (line_of s.names (Op op) ≡ None) → removed_by r ≡ [] → accepted_by sends (call.PollRefused op) r ≡ []
+    refused_poll : (op : OpId) (own : Line) (r : Reply T) → (line_at s.names (Op op) ≡ Some own) ⊎ (line_at s.names (Op op) ≡ None) → removed_by r ≡ [] → brought_by_call sends (call.PollRefused op) r ≡ []
         → Good sends s (call.PollRefused op) (after_leaving Nothing own (Op op) s r)
     refused_poll op own r (inl e) f g = good (call.PollRefused op) (after_leaving Nothing own (Op op) s r) (awake_left own (Op op) e) (nothing_moved (call.PollRefused op) r f g) refl refl
     refused_poll op own r (inr e) f g = good (call.PollRefused op) (after_leaving Nothing own (Op op) s r) (awake_left_spent own (Op op) e) (nothing_moved (call.PollRefused op) r f g) refl refl
@@ -335,8 +335,8 @@ module _ {T : Type 0} where
     poll_refused op (Some (closing handle)) there = refused_poll op Closings (reply.ClosedPoll (Ready (Err listen.NoMemory))) (inl (ap (λ (o : Option (ModelOperation T)). line_of_operation o) there)) refl refl
     poll_refused op None there = stay (call.PollRefused op) reply.Unit refl refl refl
 
-    given : (op : OpId) (x : ModelOperation T) (own : Line) (r : Reply T) → at op.0 s.names.operations ≡ Some x → removed_by r ≡ [] → accepted_by sends (call.GiveUp op) r ≡ []
-        → Awake (line_of s.names) s.channel.capacity s.channel.closed (length s.channel.messages) (left_after Nothing own (Op op) s.waiting)
+    given : (op : OpId) (x : ModelOperation T) (own : Line) (r : Reply T) → at op.0 s.names.operations ≡ Some x → removed_by r ≡ [] → brought_by_call sends (call.GiveUp op) r ≡ []
+        → Awake (line_at s.names) s.channel.capacity s.channel.closed (length s.channel.messages) (left_after Nothing own (Op op) s.waiting)
         → Good sends s (call.GiveUp op) (after_leaving Nothing own (Op op) (given_up s op x) r)
     given op x own r there f g w = record {
       awake = awake_changed op None x s.names (without_operation op x s.names) s.channel.capacity s.channel.closed (length s.channel.messages) (left_after Nothing own (Op op) s.waiting)
@@ -358,18 +358,18 @@ module _ {T : Type 0} where
 
     -- a new operation stands in no line
     awake_new : (op : OpId) (x : ModelOperation T) → at op.0 s.names.operations ≡ None → AwakeIn (new_answer s op x).after
-    awake_new op x free = awake_renamed (line_of s.names) (line_of (with_operation op x s.names)) s.channel.capacity s.channel.closed (length s.channel.messages) s.waiting same awake where
-      same : (w : Waiter) → 1 ≤ times_in w s.waiting → line_of (with_operation op x s.names) w ≡ line_of s.names w
+    awake_new op x free = awake_renamed (line_at s.names) (line_at (with_new_operation op x s.names)) s.channel.capacity s.channel.closed (length s.channel.messages) s.waiting same awake where
+      same : (w : Waiter) → 1 ≤ times_in w s.waiting → line_at (with_new_operation op x s.names) w ≡ line_at s.names w
       same (Stream receiver) h = refl
       same (Op other) h = elim (decided (nat_eq other.0 op.0)) [
         | inl t ↦
-            let nowhere : line_of s.names (Op other) ≡ None = subst (λ (n : ℕ). line_of_operation (at n s.names.operations) ≡ None) (sym (same_number other.0 op.0 t)) (ap (λ (o : Option (ModelOperation T)). line_of_operation o) free) in
-            no_line (line_of s.names (Op other)) (stands (line_of s.names) (Op other) s.waiting awake.placed h) nowhere
+            let nowhere : line_at s.names (Op other) ≡ None = subst (λ (n : ℕ). line_of_operation (at n s.names.operations) ≡ None) (sym (same_number other.0 op.0 t)) (ap (λ (o : Option (ModelOperation T)). line_of_operation o) free) in
+            no_line (line_at s.names (Op other)) (stands (line_at s.names) (Op other) s.waiting awake.placed h) nowhere
         | inr t ↦ rw t refl
       ]
 
     new_keeps : (op : OpId) (x : ModelOperation T) (ss : List (ℕ × T)) → ((h : HandleId) (m : T) → Some x ≡ Some (send h (Some m)) → lookup (nat_eq op.0) ss ≡ Some m)
-        → ((n : ℕ) → nat_eq n op.0 ≡ false → lookup (nat_eq n) ss ≡ lookup (nat_eq n) sends) → Keeps ss (with_operation op x s.names)
+        → ((n : ℕ) → nat_eq n op.0 ≡ false → lookup (nat_eq n) ss ≡ lookup (nat_eq n) sends) → Keeps ss (with_new_operation op x s.names)
     new_keeps op x ss mine others n h m e = elim (decided (nat_eq n op.0)) [
       | inl t ↦
           subst (λ (i : ℕ). lookup (nat_eq i) ss ≡ Some m) (sym (same_number n op.0 t)) (mine h m (rw t at e))
@@ -378,23 +378,23 @@ module _ {T : Type 0} where
 
     -- ---- streams
 
-    next_left : (receiver : HandleId) → Awake (line_of s.names) s.channel.capacity s.channel.closed (length s.channel.messages) (gone (Stream receiver) s.waiting)
-    next_left receiver = awake_without_stream (line_of s.names) s.channel.capacity s.channel.closed (length s.channel.messages) (Stream receiver) s.waiting refl awake
+    next_left : (receiver : HandleId) → Awake (line_at s.names) s.channel.capacity s.channel.closed (length s.channel.messages) (gone (Stream receiver) s.waiting)
+    next_left receiver = awake_without_stream (line_at s.names) s.channel.capacity s.channel.closed (length s.channel.messages) (Stream receiver) s.waiting refl awake
 
-    next_open : (receiver : HandleId) → s.channel.closed ≡ false → Awake (line_of s.names) s.channel.capacity false (length s.channel.messages) (gone (Stream receiver) s.waiting)
-    next_open receiver o = subst (λ (b : Bool). Awake (line_of s.names) s.channel.capacity b (length s.channel.messages) (gone (Stream receiver) s.waiting)) o (next_left receiver)
+    next_open : (receiver : HandleId) → s.channel.closed ≡ false → Awake (line_at s.names) s.channel.capacity false (length s.channel.messages) (gone (Stream receiver) s.waiting)
+    next_open receiver o = subst (λ (b : Bool). Awake (line_at s.names) s.channel.capacity b (length s.channel.messages) (gone (Stream receiver) s.waiting)) o (next_left receiver)
 
     next : (receiver : HandleId) (x : Found T) → found s.channel ≡ x → Good sends s (call.PollNext receiver) (next_answer (with_waiting (gone (Stream receiver) s.waiting) s) receiver x)
     next receiver (first m rest) e =
         let is_first = found_first s.channel.messages s.channel.closed m rest e in
         good (call.PollNext receiver) (next_answer (with_waiting (gone (Stream receiver) s.waiting) s) receiver (first m rest))
-        (awake_room (line_of s.names) s.channel.capacity s.channel.closed (length s.channel.messages) (length rest) (gone (Stream receiver) s.waiting) (one_less m rest is_first) (next_left receiver))
+        (awake_room (line_at s.names) s.channel.capacity s.channel.closed (length s.channel.messages) (length rest) (gone (Stream receiver) s.waiting) (one_less m rest is_first) (next_left receiver))
         (taken m rest is_first) refl refl
     next receiver none_yet e =
         let yet = found_yet s.channel.messages s.channel.closed e in
         good (call.PollNext receiver) (next_answer (with_waiting (gone (Stream receiver) s.waiting) s) receiver none_yet)
-        (subst (λ (b : Bool). Awake (line_of s.names) s.channel.capacity b (length s.channel.messages) (standing Streams (Stream receiver) (gone (Stream receiver) s.waiting))) (sym yet.1)
-        (awake_standing (line_of s.names) s.channel.capacity (length s.channel.messages) Streams (Stream receiver) (gone (Stream receiver) s.waiting) refl (no_message yet.0) (next_open receiver yet.1)))
+        (subst (λ (b : Bool). Awake (line_at s.names) s.channel.capacity b (length s.channel.messages) (standing Streams (Stream receiver) (gone (Stream receiver) s.waiting))) (sym yet.1)
+        (awake_standing (line_at s.names) s.channel.capacity (length s.channel.messages) Streams (Stream receiver) (gone (Stream receiver) s.waiting) refl (no_message yet.0) (next_open receiver yet.1)))
         (nothing_moved (call.PollNext receiver) (reply.Next Pending) refl refl) refl refl
     next receiver none_ever e =
         good (call.PollNext receiver) (next_answer (with_waiting (gone (Stream receiver) s.waiting) s) receiver none_ever) (next_left receiver)
@@ -415,17 +415,17 @@ module _ {T : Type 0} where
         (replying s (reply.Closed false)) (after_telling Closing (with_channel (shut s.channel) s) (reply.Closed true))
         (λ t. stay (call.Close handle) (reply.Closed false) refl refl refl)
         (λ t. good (call.Close handle) (after_telling Closing (with_channel (shut s.channel) s) (reply.Closed true))
-        (awake_closing (line_of s.names) s.channel.capacity s.channel.closed (length s.channel.messages) s.waiting awake)
+        (awake_closing (line_at s.names) s.channel.capacity s.channel.closed (length s.channel.messages) s.waiting awake)
         (nothing_moved (call.Close handle) (reply.Closed true) refl refl) refl refl)
 
     -- the handle is gone, and with the last one the channel is closed
-    lost : (closed last : Bool) → s.channel.closed ≡ closed → Awake (line_of s.names) s.channel.capacity (if last then true else closed) (length s.channel.messages) (after_news (if last && not closed then Closing else Nothing) s.waiting)
-    lost true true e = subst (λ (b : Bool). Awake (line_of s.names) s.channel.capacity b (length s.channel.messages) (after_news Nothing s.waiting)) e awake_still
-    lost true false e = subst (λ (b : Bool). Awake (line_of s.names) s.channel.capacity b (length s.channel.messages) (after_news Nothing s.waiting)) e awake_still
-    lost false true e = awake_closing (line_of s.names) s.channel.capacity s.channel.closed (length s.channel.messages) s.waiting awake
-    lost false false e = subst (λ (b : Bool). Awake (line_of s.names) s.channel.capacity b (length s.channel.messages) (after_news Nothing s.waiting)) e awake_still
+    lost : (closed last : Bool) → s.channel.closed ≡ closed → Awake (line_at s.names) s.channel.capacity (if last then true else closed) (length s.channel.messages) (after_news (if last && not closed then Closing else Nothing) s.waiting)
+    lost true true e = subst (λ (b : Bool). Awake (line_at s.names) s.channel.capacity b (length s.channel.messages) (after_news Nothing s.waiting)) e awake_still
+    lost true false e = subst (λ (b : Bool). Awake (line_at s.names) s.channel.capacity b (length s.channel.messages) (after_news Nothing s.waiting)) e awake_still
+    lost false true e = awake_closing (line_at s.names) s.channel.capacity s.channel.closed (length s.channel.messages) s.waiting awake
+    lost false false e = subst (λ (b : Bool). Awake (line_at s.names) s.channel.capacity b (length s.channel.messages) (after_news Nothing s.waiting)) e awake_still
 
-    awake_operations : (names : Names T) (capacity : Option ℕ) (closed : Bool) (n : ℕ) (l : Waiting) → names.operations ≡ s.names.operations → Awake (line_of s.names) capacity closed n l → Awake (line_of names) capacity closed n l
+    awake_operations : (names : Names T) (capacity : Option ℕ) (closed : Bool) (n : ℕ) (l : Waiting) → names.operations ≡ s.names.operations → Awake (line_at s.names) capacity closed n l → Awake (line_at names) capacity closed n l
     awake_operations names capacity closed n l e a = awake_handles s.names names capacity closed n l e a
 
     -- the channel after a sender, or a receiver, is gone
@@ -435,11 +435,11 @@ module _ {T : Type 0} where
     abbrev receiver_gone : ℕ → Bool → ModelChannel T
     receiver_gone n last = let left = with_strong_handles Receiver n s.channel in if last then shut left else left
 
-    sender_lost : (n : ℕ) (last closed : Bool) → s.channel.closed ≡ closed → Awake (line_of s.names) (sender_gone n last).capacity (sender_gone n last).closed (length (sender_gone n last).messages) (after_news (if last && not closed then Closing else Nothing) s.waiting)
+    sender_lost : (n : ℕ) (last closed : Bool) → s.channel.closed ≡ closed → Awake (line_at s.names) (sender_gone n last).capacity (sender_gone n last).closed (length (sender_gone n last).messages) (after_news (if last && not closed then Closing else Nothing) s.waiting)
     sender_lost n true closed e = lost closed true e
     sender_lost n false closed e = awake_still
 
-    receiver_lost : (n : ℕ) (last closed : Bool) → s.channel.closed ≡ closed → Awake (line_of s.names) (receiver_gone n last).capacity (receiver_gone n last).closed (length (receiver_gone n last).messages) (after_news (if last && not closed then Closing else Nothing) s.waiting)
+    receiver_lost : (n : ℕ) (last closed : Bool) → s.channel.closed ≡ closed → Awake (line_at s.names) (receiver_gone n last).capacity (receiver_gone n last).closed (length (receiver_gone n last).messages) (after_news (if last && not closed then Closing else Nothing) s.waiting)
     receiver_lost n true closed e = lost closed true e
     receiver_lost n false closed e = awake_still
 
@@ -466,7 +466,7 @@ module _ {T : Type 0} where
         let news = news_without_one Receiver s.channel in
         good (call.Drop handle) (drop_one (dropped s handle) handle Receiver)
         (awake_operations (dropped s handle).names (receiver_gone n last).capacity (receiver_gone n last).closed (length (receiver_gone n last).messages) (left_after news Streams (Stream handle) s.waiting) refl
-        (awake_leave (line_of s.names) (receiver_gone n last).capacity (receiver_gone n last).closed (length (receiver_gone n last).messages) Streams (Stream handle) (after_news news s.waiting) refl
+        (awake_leave (line_at s.names) (receiver_gone n last).capacity (receiver_gone n last).closed (length (receiver_gone n last).messages) Streams (Stream handle) (after_news news s.waiting) refl
         (receiver_lost n last s.channel.closed refl)))
         (receiver_messages n last) refl refl
     drop_kind handle WeakSender =
@@ -481,7 +481,7 @@ module _ {T : Type 0} where
     drop_handle handle None = stay (call.Drop handle) reply.Unit refl refl refl
 
     -- a new handle, or a name that is spent: the operations stay
-    module _ (c : Call T) (still : sends_after sends c ≡ sends) (quiet : (r : Reply T) → accepted_by sends c r ≡ []) where
+    module _ (c : Call T) (still : sends_after sends c ≡ sends) (quiet : (r : Reply T) → brought_by_call sends c r ≡ []) where
       renamed : (names : Names T) (r : Reply T) → names.operations ≡ s.names.operations → removed_by r ≡ [] → Good sends s c (replying (with_names names s) r)
       renamed names r e f = good c (replying (with_names names s) r)
           (awake_operations names s.channel.capacity s.channel.closed (length s.channel.messages) s.waiting e awake) (nothing_moved c r f (quiet r)) e still
@@ -584,13 +584,13 @@ module _ {T : Type 0} where
     either_good c false x y f g = g
 
     -- one that would stand is out of its line
-    out_of_line : (c : Call T) (own : Line) (w : Waiter) (r : Reply T) → sends_after sends c ≡ sends → removed_by r ≡ [] → accepted_by sends c r ≡ []
-        → line_of s.names w ≡ Some own → Idle (line_of s.names) s.channel.capacity own (length s.channel.messages) → AllGood c (not_standing own w s r)
+    out_of_line : (c : Call T) (own : Line) (w : Waiter) (r : Reply T) → sends_after sends c ≡ sends → removed_by r ≡ [] → brought_by_call sends c r ≡ []
+        → line_at s.names w ≡ Some own → Idle (line_at s.names) s.channel.capacity own (length s.channel.messages) → AllGood c (not_standing own w s r)
     out_of_line c own w r still f g e i =
         either_good c (is_among w (untold own s.waiting)) None (Some (replying (with_waiting (gone w s.waiting) s) r)) (none_good c)
         (one_good c (replying (with_waiting (gone w s.waiting) s) r)
         (good c (replying (with_waiting (gone w s.waiting) s) r)
-        (awake_gone (line_of s.names) s.channel.capacity s.channel.closed (length s.channel.messages) own w s.waiting e i awake) (nothing_moved c r f g) refl still))
+        (awake_gone (line_at s.names) s.channel.capacity s.channel.closed (length s.channel.messages) own w s.waiting e i awake) (nothing_moved c r f g) refl still))
 
     -- no memory for one more message
     no_room : (c : Call T) (lack : Lack) (x : Space) (a : Answer T) → Good sends s c a → AllGood c (not_held lack s.channel x a)
@@ -599,7 +599,7 @@ module _ {T : Type 0} where
     no_room c memory Shut a g = none_good c
     no_room c serials x a g = none_good c
 
-    send_unpolled : (lack : Lack) (op : OpId) (x : Space) → line_of s.names (Op op) ≡ Some Sends → space_of s.channel ≡ x → AllGood (call.Poll op) (send_not_polled lack s op x)
+    send_unpolled : (lack : Lack) (op : OpId) (x : Space) → line_at s.names (Op op) ≡ Some Sends → space_of s.channel ≡ x → AllGood (call.Poll op) (send_not_polled lack s op x)
     send_unpolled lack op Open own e =
         no_room (call.Poll op) lack Open (after_leaving Nothing Sends (Op op) s (reply.SendPoll (Ready (Err (refused lack)))))
         (good (call.Poll op) (after_leaving Nothing Sends (Op op) s (reply.SendPoll (Ready (Err (refused lack))))) (awake_left Sends (Op op) own)
@@ -608,7 +608,7 @@ module _ {T : Type 0} where
         out_of_line (call.Poll op) Sends (Op op) (reply.SendPoll (Ready (Err (refused lack)))) refl refl refl own (full_idle s.channel.capacity (length s.channel.messages) (space_filled s.channel e).1)
     send_unpolled lack op Shut own e = none_good (call.Poll op)
 
-    recv_unpolled : (lack : Lack) (op : OpId) (x : Found T) → line_of s.names (Op op) ≡ Some Receives → found s.channel ≡ x → AllGood (call.Poll op) (recv_not_polled lack s op x)
+    recv_unpolled : (lack : Lack) (op : OpId) (x : Found T) → line_at s.names (Op op) ≡ Some Receives → found s.channel ≡ x → AllGood (call.Poll op) (recv_not_polled lack s op x)
     recv_unpolled lack op (first m rest) own e = none_good (call.Poll op)
     recv_unpolled lack op none_yet own e =
         out_of_line (call.Poll op) Receives (Op op) (reply.RecvPoll (Ready (Err (refused lack)))) refl refl refl own (no_message (found_yet s.channel.messages s.channel.closed e).0)
@@ -708,7 +708,7 @@ module _ {T : Type 0} where
             ∙ (ap (λ (ms : List T). removed_by d.reply ++ ms) on.account
             ∙ (sym (append_assoc (removed_by d.reply) mid.channel.messages (accepted (sends_after sends c) cs ds))
             ∙ (ap (λ (ms : List T). ms ++ accepted (sends_after sends c) cs ds) g.account
-            ∙ append_assoc s.channel.messages (accepted_by sends c d.reply) (accepted (sends_after sends c) cs ds))));
+            ∙ append_assoc s.channel.messages (brought_by_call sends c d.reply) (accepted (sends_after sends c) cs ds))));
       }
 
   -- a channel that was just opened
@@ -730,7 +730,7 @@ module _ {T : Type 0} where
     none_untold Streams = refl
     none_untold Closings = refl
 
-    nobody_untold : (line : Line) (w : Waiter) → is_among w (untold line nobody) ≡ true → line_of (start {T = T} capacity).names w ≡ Some line
+    nobody_untold : (line : Line) (w : Waiter) → is_among w (untold line nobody) ≡ true → line_at (start {T = T} capacity).names w ≡ Some line
     nobody_untold Sends w e = cc e
     nobody_untold Receives w e = cc e
     nobody_untold Streams w e = cc e

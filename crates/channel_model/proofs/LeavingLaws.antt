@@ -7,7 +7,7 @@ use Rattle.channel_model.specs.Leaving.{RefusesWhole, unsent_in, unsent_at}
 use Rattle.channel_model.specs.Lines.{is_among, untold, gone}
 use Rattle.channel_model.specs.Names.{ModelOperation, send, recv, closing, at}
 use Rattle.channel_model.specs.Refused.{Lack, memory, serials, refused, not_listening, not_standing, not_held, send_not_polled, recv_not_polled, not_polled, Answers}
-use Rattle.channel_model.specs.Run.{Does, Runs}
+use Rattle.channel_model.specs.Run.{MayBeDone, Runs}
 use Rattle.channel_model.specs.State.{State, start, with_waiting}
 use Rattle.channel_model.specs.declared.call.Call.{Call}
 use Rattle.channel_model.specs.declared.call.Call.TheVariants as call
@@ -178,5 +178,5 @@ module _ {T : Type 0} where
     whole (call.SenderCount handle) a e = tt
     whole (call.ReceiverCount handle) a e = tt
 
-  pub kept_out : (s t : State T) (c : Call T) (d : Done T) → Does s c d t → RefusesWhole s c d.reply t
+  pub kept_out : (s t : State T) (c : Call T) (d : Done T) → MayBeDone s c d t → RefusesWhole s c d.reply t
   kept_out s t c d does = whole s c (record { after = t; reply = d.reply; woken = d.woken.items }) does.1

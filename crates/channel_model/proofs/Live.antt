@@ -3,7 +3,7 @@ use Rattle.std.proofs.Common.{arith, ◌≡◌, ◌+◌, ◌-◌, ℕ, nat_eq, L
 use Rattle.std.specs.List.{filter}
 use Rattle.std.specs.Option.{option_map_or}
 use Rattle.channel_model.specs.Handles.{is_of, live_of}
-use Rattle.channel_model.specs.Names.{Directory, at, lent_once_more, given_back, with_changed, without_name}
+use Rattle.channel_model.specs.Names.{Directory, at, lent_once_more, used_once_less, with_changed, without_name}
 use Rattle.channel_model.specs.Refusal.{are_alike}
 use Rattle.channel_model.specs.declared.name.Handle.{Handle}
 use Rattle.channel_model.specs.declared.name.HandleId.{HandleId}
@@ -62,7 +62,7 @@ lent_alike side handle d = found (at handle.0 d) refl where
   found None e = refl
   found (Some h) e = changed_alike side handle.0 h (record h { borrowers = h.borrowers + 1 }) d e refl
 
-pub back_alike : (side : HandleKind) (handle : HandleId) (d : Directory Handle) → live_of side (given_back handle d) ≡ live_of side d
+pub back_alike : (side : HandleKind) (handle : HandleId) (d : Directory Handle) → live_of side (used_once_less handle d) ≡ live_of side d
 back_alike side handle d = found (at handle.0 d) refl where
   found : (o : Option Handle) → at handle.0 d ≡ o
       → live_of side (option_map_or (λ (h : Handle). with_changed handle.0 (record h { borrowers = h.borrowers - 1 }) d) o d) ≡ live_of side d

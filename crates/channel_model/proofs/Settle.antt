@@ -6,7 +6,7 @@ use Rattle.std.proofs.lemmas.List.Elements.{filter-append}
 use Rattle.std.specs.Prelude.{slice_get}
 use Rattle.channel_model.specs.Answer.{Answer, replying, after_leaving, pending, space_of, Found, first, none_yet, none_ever, found, send_poll_answer, recv_poll_answer, next_answer, closed_poll_answer, poll_answer, answer}
 use Rattle.channel_model.specs.Awake.{AwakeIn, Enough, Kind, Placed, times}
-use Rattle.channel_model.specs.Laws.{count_of, free_places, line_of, line_of_operation}
+use Rattle.channel_model.specs.Laws.{count_of, free_places, line_at, line_of_operation}
 use Rattle.channel_model.specs.Lines.{Waiting, same_waiter, is_among, untold, told_by, after_news, without_waiter, gone, passed_on, left_after, told_after, at_end, standing, is_stream}
 use Rattle.channel_model.specs.Names.{ModelOperation, send, recv, closing, at}
 use Rattle.channel_model.specs.Refused.{Lack, memory, serials, refused, not_listening, not_standing, not_held, send_not_polled, recv_not_polled, not_polled, next_not_polled, answer_without, Answers}
@@ -285,7 +285,7 @@ module _ {T : Type 0} where
       answered_so : (w : Waiter) → is_among w s.waiting.woken ≡ true → Cases w s.waiting P → So (answer s (poll_of w))
       answered_so (Op op) e c = poll_so op (at op.0 s.names.operations) (awake.placed.wakes (Op op) e) c
       answered_so (Stream receiver) e c =
-          rw (not_untold (line_of s.names) Streams (Stream receiver) s.waiting awake.placed e) (next_so receiver (found s.channel) c)
+          rw (not_untold (line_at s.names) Streams (Stream receiver) s.waiting awake.placed e) (next_so receiver (found s.channel) c)
 
       unanswered_so : (lack : Lack) (w : Waiter) → Cases w s.waiting P → AllSo (answer_without lack s (poll_of w))
       unanswered_so lack (Op op) c = poll_refused lack op (at op.0 s.names.operations) c
@@ -319,7 +319,7 @@ near_cases k w l placed e = record {
 pub nearer : {T : Type 0} → (s : State T) → AwakeIn s → (w : Waiter) (a : Answer T) → is_among w s.waiting.woken ≡ true → Answers s (poll_of w) a
     → Nearer s.waiting a.after.waiting
 nearer s awake w a e answers =
-    poll_cases s (λ m names. Nearer s.waiting m) awake w a e answers (near_cases (line_of s.names) w s.waiting awake.placed e)
+    poll_cases s (λ m names. Nearer s.waiting m) awake w a e answers (near_cases (line_at s.names) w s.waiting awake.placed e)
 
 -- ---- the woken are a queue: the one that is polled leaves its front, and those whom it wakes come to its end
 
@@ -393,7 +393,7 @@ woken_next s awake w a front answers =
     let e = first_there w s.waiting.woken front in
     let all : times w s.waiting.sends + times w s.waiting.receives + times w s.waiting.streams + times w s.waiting.closings + times w s.waiting.woken ≤ 1 = awake.placed.once w in
     let f : a.after.waiting.woken ≡ without_waiter w s.waiting.woken ++ a.woken =
-    poll_cases s (λ m names. Follows w s.waiting m names) awake w a e answers (follow_cases (line_of s.names) w s.waiting awake.placed e) in
+    poll_cases s (λ m names. Follows w s.waiting m names) awake w a e answers (follow_cases (line_at s.names) w s.waiting awake.placed e) in
     f ∙ ap (λ (ws : List Waiter). ws ++ a.woken) (without_first w s.waiting.woken front (omega (arith, all)))
 
 -- ---- how many are woken by one poll
@@ -581,7 +581,7 @@ module _ {T : Type 0} where
   at_rest s t ps awake settles =
       let to = settles_to s t ps settles in
       let a = (polled s t ps awake to.0).awake in
-      let k = line_of t.names in
+      let k = line_at t.names in
       let n = length t.channel.messages in (
         to.1,
         record {

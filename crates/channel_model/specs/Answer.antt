@@ -1,7 +1,7 @@
 -- What a call answers and leaves, when calls are made one at a time and memory is ample: a function of state and call.
 use Rattle.std.specs.Prelude.{ℕ, zero, suc, take, drop, ◌+◌, ◌-◌, ◌^◌, ◌==◌, nat_lt, List, [], ◌∷◌, ◌++◌, length, ◌&&◌, ◌||◌, Bool, true, false, not, Option, None, Some, is_none, Ok, Err, if◌then◌else◌}
-use Rattle.channel_model.specs.Channel.{ModelChannel, is_full, appended, holding}
-use Rattle.channel_model.specs.Names.{ModelOperation, send, recv, closing, at, with_new, with_spent, without_name, with_handles, with_operation, with_operation_changed, without_operation}
+use Rattle.channel_model.specs.Channel.{ModelChannel, is_full, appended, with_messages}
+use Rattle.channel_model.specs.Names.{ModelOperation, send, recv, closing, at, with_new, with_spent, without_name, with_handles, with_new_operation, with_operation_changed, without_operation}
 use Rattle.channel_model.specs.Lines.{is_among, told_by, after_news, after_rooms, told_by_rooms, gone, left_after, told_after, standing}
 use Rattle.channel_model.specs.State.{State, with_channel, with_names, with_waiting}
 use Rattle.channel_model.specs.declared.call.Call.{Call}
@@ -84,7 +84,7 @@ try_send_answer s m Shut = replying s (reply.TrySend (Err (Plain (try_send.Close
 -- The oldest message makes place for the new one. That is no taking: no send is told.
 abbrev pub displacing : {T : Type 0} → State T → T → List T → Answer T
 displacing s m [] = after_telling Message (with_channel (appended s.channel m) s) (reply.ForceSend (Ok None))
-displacing s m (oldest ∷ ms) = after_telling Message (with_channel (holding s.channel (ms ++ m ∷ [])) s) (reply.ForceSend (Ok (Some oldest)))
+displacing s m (oldest ∷ ms) = after_telling Message (with_channel (with_messages s.channel (ms ++ m ∷ [])) s) (reply.ForceSend (Ok (Some oldest)))
 
 abbrev pub force_send_answer : {T : Type 0} → State T → T → Space → Answer T
 force_send_answer s m Open = after_telling Message (with_channel (appended s.channel m) s) (reply.ForceSend (Ok None))
@@ -105,7 +105,7 @@ send_poll_answer s op handle m Shut = after_leaving Nothing Sends (Op op) (finis
 -- ---- receiving
 
 abbrev pub try_recv_answer : {T : Type 0} → State T → Found T → Answer T
-try_recv_answer s (first m ms) = after_telling Room (with_channel (holding s.channel ms) s) (reply.TryRecv (Ok m))
+try_recv_answer s (first m ms) = after_telling Room (with_channel (with_messages s.channel ms) s) (reply.TryRecv (Ok m))
 try_recv_answer s none_yet = replying s (reply.TryRecv (Err try_recv.Empty))
 try_recv_answer s none_ever = replying s (reply.TryRecv (Err try_recv.Closed))
 
@@ -113,16 +113,16 @@ try_recv_answer s none_ever = replying s (reply.TryRecv (Err try_recv.Closed))
 abbrev pub recv_many_answer : {T : Type 0} → State T → ℕ → List T → List T → Answer T
 recv_many_answer s zero ms rest = replying s (reply.RecvMany (Ok []))
 recv_many_answer s (suc n) [] rest = replying s (reply.RecvMany (Err (Plain (if s.channel.closed then try_recv.Closed else try_recv.Empty))))
-recv_many_answer s (suc n) (m ∷ ms) rest = telling_rooms (length (m ∷ ms)) (with_channel (holding s.channel rest) s) (reply.RecvMany (Ok (m ∷ ms)))
+recv_many_answer s (suc n) (m ∷ ms) rest = telling_rooms (length (m ∷ ms)) (with_channel (with_messages s.channel rest) s) (reply.RecvMany (Ok (m ∷ ms)))
 
 abbrev pub recv_poll_answer : {T : Type 0} → State T → OpId → Found T → Answer T
-recv_poll_answer s op (first m ms) = after_leaving Room Receives (Op op) (with_channel (holding s.channel ms) s) (reply.RecvPoll (Ready (Ok m)))
+recv_poll_answer s op (first m ms) = after_leaving Room Receives (Op op) (with_channel (with_messages s.channel ms) s) (reply.RecvPoll (Ready (Ok m)))
 recv_poll_answer s op none_yet = pending Receives (Op op) s (reply.RecvPoll Pending)
 recv_poll_answer s op none_ever = after_leaving Nothing Receives (Op op) s (reply.RecvPoll (Ready (Err (Plain (record {})))))
 
 -- A stream that is not standing untold. What it was told is used up by this poll, and passed on to nobody.
 abbrev pub next_answer : {T : Type 0} → State T → HandleId → Found T → Answer T
-next_answer s receiver (first m ms) = after_telling Room (with_channel (holding s.channel ms) s) (reply.Next (Ready (Some (Ok m))))
+next_answer s receiver (first m ms) = after_telling Room (with_channel (with_messages s.channel ms) s) (reply.Next (Ready (Some (Ok m))))
 next_answer s receiver none_yet = pending Streams (Stream receiver) s (reply.Next Pending)
 next_answer s receiver none_ever = replying s (reply.Next (Ready None))
 
@@ -177,7 +177,7 @@ is_finished operation = false
 
 -- a new operation, which is not polled yet
 abbrev pub new_answer : {T : Type 0} → State T → OpId → ModelOperation T → Answer T
-new_answer s op operation = replying (with_names (with_operation op operation s.names) s) reply.Made
+new_answer s op operation = replying (with_names (with_new_operation op operation s.names) s) reply.Made
 
 -- ---- handles
 

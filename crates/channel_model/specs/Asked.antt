@@ -113,10 +113,10 @@ module _ {T : Type 0} where
   asked held names c = question_asked c
 
   -- who keeps the listener that a call leaves, if any does
-  abbrev pub keeper : Names T → Call T → Option Waiter
-  keeper names (call.Poll op) = Some (Op op)
-  keeper names (call.PollRefused op) = Some (Op op)
-  keeper names (call.GiveUp op) = Some (Op op)
-  keeper names (call.PollNext receiver) = Some (Stream receiver)
-  keeper names (call.Drop handle) = stream_of handle (at handle.0 names.handles)
-  keeper names c = None
+  abbrev pub keeper_in : Names T → Call T → Option Waiter
+  keeper_in names (call.Poll op) = Some (Op op)
+  keeper_in names (call.PollRefused op) = Some (Op op)
+  keeper_in names (call.GiveUp op) = Some (Op op)
+  keeper_in names (call.PollNext receiver) = Some (Stream receiver)
+  keeper_in names (call.Drop handle) = stream_of handle (at handle.0 names.handles)
+  keeper_in names c = None

@@ -2,7 +2,7 @@
 use Rattle.std.specs.Prelude.{◌≡◌, ◌⊎◌, ◌≤◌, ◌+◌, ℕ, List, [], length, Bool, true, false, Option, None, Some, IsSome}
 use Rattle.std.specs.List.{filter}
 use Rattle.channel_model.specs.Lines.{Waiting, same_waiter, is_among, untold}
-use Rattle.channel_model.specs.Laws.{count_of, free_places, line_of}
+use Rattle.channel_model.specs.Laws.{count_of, free_places, line_at}
 use Rattle.channel_model.specs.State.{State}
 use Rattle.channel_model.specs.declared.name.Waiter.{Waiter}
 use Rattle.channel_calls.specs.declared.stage.Line.{Line}
@@ -39,4 +39,4 @@ pub record Awake (k : Kind) (capacity : Option ℕ) (closed : Bool) (n : ℕ) (l
 
 -- of a whole state: a name that waits belongs to the line of its live operation, a finished send to none
 abbrev pub AwakeIn : {T : Type 0} → State T → Type 0
-AwakeIn s = Awake (line_of s.names) s.channel.capacity s.channel.closed (length s.channel.messages) s.waiting
+AwakeIn s = Awake (line_at s.names) s.channel.capacity s.channel.closed (length s.channel.messages) s.waiting

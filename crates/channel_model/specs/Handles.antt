@@ -5,7 +5,7 @@ use Rattle.channel_model.specs.Answer.{strong_handles, strong_of}
 use Rattle.channel_model.specs.Channel.{ModelChannel}
 use Rattle.channel_model.specs.Names.{Directory, at}
 use Rattle.channel_model.specs.Refusal.{are_alike}
-use Rattle.channel_model.specs.Run.{Does, Runs}
+use Rattle.channel_model.specs.Run.{MayBeDone, Runs}
 use Rattle.channel_model.specs.State.{State, start}
 use Rattle.channel_model.specs.declared.call.Call.{Call}
 use Rattle.channel_model.specs.declared.call.Call.TheVariants as call
@@ -56,5 +56,5 @@ UpgradesWhileOpen T =
     (capacity : Option ℕ) (calls rest : List (Call T)) (done : List (Done T)) (why : Option WorldRefusal) (world after : State T)
     (weak new : HandleId) (upgraded : Done T)
     → Runs (start capacity) calls done why rest world
-    → Does world (call.Upgrade weak new) upgraded after
+    → MayBeDone world (call.Upgrade weak new) upgraded after
     → UpgradesAsOpen world weak upgraded.reply

@@ -31,11 +31,11 @@ removed_by (reply.ForceSend (Ok (Some m))) = m ∷ []
 removed_by r = []
 
 -- what a call brought into the channel; `sends` has the message of each polled send under its name
-abbrev pub accepted_by : {T : Type 0} → List (ℕ × T) → Call T → Reply T → List T
-accepted_by sends (call.TrySend sender m) (reply.TrySend (Ok u)) = m ∷ []
-accepted_by sends (call.ForceSend sender m) (reply.ForceSend (Ok d)) = m ∷ []
-accepted_by sends (call.Poll op) (reply.SendPoll (Ready (Ok u))) = option_to_list (lookup (nat_eq op.0) sends)
-accepted_by sends c r = []
+abbrev pub brought_by_call : {T : Type 0} → List (ℕ × T) → Call T → Reply T → List T
+brought_by_call sends (call.TrySend sender m) (reply.TrySend (Ok u)) = m ∷ []
+brought_by_call sends (call.ForceSend sender m) (reply.ForceSend (Ok d)) = m ∷ []
+brought_by_call sends (call.Poll op) (reply.SendPoll (Ready (Ok u))) = option_to_list (lookup (nat_eq op.0) sends)
+brought_by_call sends c r = []
 
 -- the sends that were made, after this call
 abbrev pub sends_after : {T : Type 0} → List (ℕ × T) → Call T → List (ℕ × T)
@@ -51,7 +51,7 @@ removed (d ∷ ds) = removed_by d.reply ++ removed ds
 abbrev pub accepted : {T : Type 0} → List (ℕ × T) → List (Call T) → List (Done T) → List T
 accepted sends [] ds = []
 accepted sends (c ∷ cs) [] = []
-accepted sends (c ∷ cs) (d ∷ ds) = accepted_by sends c d.reply ++ accepted (sends_after sends c) cs ds
+accepted sends (c ∷ cs) (d ∷ ds) = brought_by_call sends c d.reply ++ accepted (sends_after sends c) cs ds
 
 -- What was received or displaced, followed by what is held, is what was accepted, in order.
 abbrev pub NothingIsLost : Type 0 → Type 0
@@ -70,9 +70,9 @@ line_of_operation (Some (recv handle)) = Some Receives
 line_of_operation (Some (closing handle)) = Some Closings
 line_of_operation None = None
 
-abbrev pub line_of : {T : Type 0} → Names T → Waiter → Option Line
-line_of names (Op op) = line_of_operation (at op.0 names.operations)
-line_of names (Stream receiver) = Some Streams
+abbrev pub line_at : {T : Type 0} → Names T → Waiter → Option Line
+line_at names (Op op) = line_of_operation (at op.0 names.operations)
+line_at names (Stream receiver) = Some Streams
 
 abbrev pub same_line : Line → Line → Bool
 same_line Sends Sends = true
@@ -91,7 +91,7 @@ count_of kind line ws = length (filter (λ w. is_line line (kind w)) ws)
 
 -- how many pending names of a line are woken
 abbrev pub woken_of_line : {T : Type 0} → Line → State T → ℕ
-woken_of_line line s = count_of (line_of s.names) line s.waiting.woken
+woken_of_line line s = count_of (line_at s.names) line s.waiting.woken
 
 -- how many more messages fit; of an unbounded channel none is counted, since no send ever waits there
 abbrev pub free_places : Option ℕ → ℕ → ℕ

@@ -2,7 +2,7 @@
 use Rattle.std.specs.Prelude.{◌≡◌, ◌<◌, ℕ, List, [], length, Option, None, Some, Err, slice_get}
 use Rattle.channel_model.specs.Laws.{removed, accepted}
 use Rattle.channel_model.specs.Names.{ModelOperation, send, recv, closing, at}
-use Rattle.channel_model.specs.Run.{Does, Runs}
+use Rattle.channel_model.specs.Run.{MayBeDone, Runs}
 use Rattle.channel_model.specs.State.{State, start}
 use Rattle.channel_model.specs.declared.call.Call.{Call}
 use Rattle.channel_model.specs.declared.call.Call.TheVariants as call
@@ -52,4 +52,4 @@ RefusesWhole s c r t = Unit {0}
 
 -- So it is of every call, in whatever state it is made.
 abbrev pub RefusedIsNotHeld : Type 0 → Type 0
-RefusedIsNotHeld T = (s t : State T) (c : Call T) (d : Done T) → Does s c d t → RefusesWhole s c d.reply t
+RefusedIsNotHeld T = (s t : State T) (c : Call T) (d : Done T) → MayBeDone s c d t → RefusesWhole s c d.reply t

@@ -57,16 +57,16 @@ told_by Closing l = l.sends ++ l.receives ++ l.streams ++ l.closings
 told_by (NextIn line) l = take 1 (untold line l)
 
 -- those who are still untold
-abbrev pub left_by : News → Waiting → Waiting
-left_by Nothing l = l
-left_by Message l = record l { receives = drop 1 l.receives; streams = [] }
-left_by Room l = record l { sends = drop 1 l.sends }
-left_by Closing l = record l { sends = []; receives = []; streams = []; closings = [] }
-left_by (NextIn line) l = with_untold line (drop 1 (untold line l)) l
+abbrev pub untold_after : News → Waiting → Waiting
+untold_after Nothing l = l
+untold_after Message l = record l { receives = drop 1 l.receives; streams = [] }
+untold_after Room l = record l { sends = drop 1 l.sends }
+untold_after Closing l = record l { sends = []; receives = []; streams = []; closings = [] }
+untold_after (NextIn line) l = with_untold line (drop 1 (untold line l)) l
 
 -- each one told is woken, after all that were woken before
 abbrev pub after_news : News → Waiting → Waiting
-after_news news l = record (left_by news l) { woken = l.woken ++ told_by news l }
+after_news news l = record (untold_after news l) { woken = l.woken ++ told_by news l }
 
 abbrev pub without_waiter : Waiter → List Waiter → List Waiter
 without_waiter w ws = filter (λ v. not (same_waiter w v)) ws

@@ -50,16 +50,16 @@ borrowed_by (closing handle) = handle
 abbrev pub lent_once_more : HandleId → Directory Handle → Directory Handle
 lent_once_more handle directory = option_map_or (λ (h : Handle). with_changed handle.0 (record h { borrowers = h.borrowers + 1 }) directory) (at handle.0 directory) directory
 
-abbrev pub given_back : HandleId → Directory Handle → Directory Handle
-given_back handle directory = option_map_or (λ (h : Handle). with_changed handle.0 (record h { borrowers = h.borrowers - 1 }) directory) (at handle.0 directory) directory
+abbrev pub used_once_less : HandleId → Directory Handle → Directory Handle
+used_once_less handle directory = option_map_or (λ (h : Handle). with_changed handle.0 (record h { borrowers = h.borrowers - 1 }) directory) (at handle.0 directory) directory
 
 pub record Names (T : Type 0) : Type 0 where
   pub handles : Directory Handle
   pub operations : Directory (ModelOperation T)
 
 -- a new operation, which borrows its handle as long as it lives
-abbrev pub with_operation : {T : Type 0} → OpId → ModelOperation T → Names T → Names T
-with_operation op operation names = record {
+abbrev pub with_new_operation : {T : Type 0} → OpId → ModelOperation T → Names T → Names T
+with_new_operation op operation names = record {
   handles = lent_once_more (borrowed_by operation) names.handles;
   operations = with_new op.0 operation names.operations;
 }
@@ -71,7 +71,7 @@ with_operation_changed op operation names = record names { operations = with_cha
 -- the operation lives no more
 abbrev pub without_operation : {T : Type 0} → OpId → ModelOperation T → Names T → Names T
 without_operation op operation names = record {
-  handles = given_back (borrowed_by operation) names.handles;
+  handles = used_once_less (borrowed_by operation) names.handles;
   operations = without_name op.0 names.operations;
 }
 

@@ -21,11 +21,11 @@ Stops s (c ∷ cs) None = ⊥
 Stops s (c ∷ cs) (Some why) = MayStop s c (Some why)
 
 -- an accepted call may be done so, and lead to the state t
-abbrev pub Does : {T : Type 0} → State T → Call T → Done T → State T → Type 0
-Does s c d t = (refusal s c ≡ None) × Answers s c (record { after = t; reply = d.reply; woken = d.woken.items })
+abbrev pub MayBeDone : {T : Type 0} → State T → Call T → Done T → State T → Type 0
+MayBeDone s c d t = (refusal s c ≡ None) × Answers s c (record { after = t; reply = d.reply; woken = d.woken.items })
 
 -- From s the calls may be done so, leave the calls `rest` undone for the reason why, and go on to the state t.
 abbrev pub Runs : {T : Type 0} → State T → List (Call T) → List (Done T) → Option WorldRefusal → List (Call T) → State T → Type 0
 Runs s calls [] why rest t = (rest ≡ calls) × (t ≡ s) × Stops s calls why
 Runs s [] (d ∷ ds) why rest t = ⊥
-Runs s (c ∷ cs) (d ∷ ds) why rest t = (mid : State _) × Does s c d mid × Runs mid cs ds why rest t
+Runs s (c ∷ cs) (d ∷ ds) why rest t = (mid : State _) × MayBeDone s c d mid × Runs mid cs ds why rest t

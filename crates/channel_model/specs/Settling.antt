@@ -80,6 +80,6 @@ state_after s [] = s
 state_after s (c ∷ cs) = if is_none (refusal s c) then state_after (answer s c).after cs else s
 
 -- at most n polls of settling
-abbrev pub settled : {T : Type 0} → ℕ → State T → List (Waiter × Reply T)
-settled zero s = []
-settled (suc n) s = option_map_or (λ (w : Waiter). let a = answer s (poll_of w) in (w, a.reply) ∷ settled n a.after) (slice_get s.waiting.woken 0) []
+abbrev pub settling_polls : {T : Type 0} → ℕ → State T → List (Waiter × Reply T)
+settling_polls zero s = []
+settling_polls (suc n) s = option_map_or (λ (w : Waiter). let a = answer s (poll_of w) in (w, a.reply) ∷ settling_polls n a.after) (slice_get s.waiting.woken 0) []

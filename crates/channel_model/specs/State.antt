@@ -1,6 +1,6 @@
 -- The state between two calls, when calls are made one at a time.
 use Rattle.std.specs.Prelude.{ℕ, [], ◌∷◌, Option, Some}
-use Rattle.channel_model.specs.Channel.{ModelChannel, opened}
+use Rattle.channel_model.specs.Channel.{ModelChannel, opened_model}
 use Rattle.channel_model.specs.Names.{Names, Directory}
 use Rattle.channel_model.specs.Lines.{Waiting, nobody}
 use Rattle.channel_model.specs.declared.name.Handle.{Handle}
@@ -12,14 +12,14 @@ pub record State (T : Type 0) : Type 0 where
   pub waiting : Waiting
 
 -- handle 0 is the first sender, handle 1 the first receiver; nobody borrows them
-abbrev pub first_handles : Directory Handle
-first_handles = (1, Some (record { kind = Receiver; borrowers = 0 })) ∷ (0, Some (record { kind = Sender; borrowers = 0 })) ∷ []
+abbrev pub first_two_handles : Directory Handle
+first_two_handles = (1, Some (record { kind = Receiver; borrowers = 0 })) ∷ (0, Some (record { kind = Sender; borrowers = 0 })) ∷ []
 
 -- as a channel of this capacity is opened
 abbrev pub start : {T : Type 0} → Option ℕ → State T
 start capacity = record {
-  channel = opened capacity;
-  names = record { handles = first_handles; operations = [] };
+  channel = opened_model capacity;
+  names = record { handles = first_two_handles; operations = [] };
   waiting = nobody;
 }
 

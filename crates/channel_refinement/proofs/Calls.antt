@@ -15,7 +15,7 @@ use Rattle.channel_calls.specs.declared.stage.Side.TheVariants.{Senders, Receive
 use Rattle.channel_alone.specs.Alone.{Outcome, Alone, MayLackRoom, ends, sends, force_sends, says_only}
 use Rattle.channel_model.specs.Answer.{replying, after_leaving, is_finished, poll_refused_answer, made, dropped, clone_answer, downgrade_answer, upgrade_answer, drop_answer, weak_of, strong_of}
 use Rattle.channel_model.specs.Awake.{AwakeIn}
-use Rattle.channel_model.specs.Laws.{line_of, line_of_operation}
+use Rattle.channel_model.specs.Laws.{line_at, line_of_operation}
 use Rattle.channel_model.specs.Names.{ModelOperation, send, recv, closing, at}
 use Rattle.channel_model.specs.Refusal.{refusal, is_live, uses, are_fit, takes_borrowed, names_taken}
 use Rattle.channel_model.specs.State.{State}
@@ -71,7 +71,7 @@ module _ {T : Type 0} (held : KeysHeld) (c : Channel T Waiter) (s : State T) (h 
   polled op None there ok does = cc (rw there at ok)
 
   -- an operation that got no copy of its waker
-  refused_as : (op : OpId) (x : ModelOperation T) (line : Line) (msg : Option T) → at op.0 s.names.operations ≡ Some x → (line_of s.names (Op op) ≡ Some line) ⊎ (line_of s.names (Op op) ≡ None)
+  refused_as : (op : OpId) (x : ModelOperation T) (line : Line) (msg : Option T) → at op.0 s.names.operations ≡ Some x → (line_at s.names (Op op) ≡ Some line) ⊎ (line_at s.names (Op op) ≡ None)
       → poll_refused_answer s op (Some x) ≡ after_leaving Nothing line (Op op) s (refused_reply (list_of line) listening.NoMemory) → s.names ≡ refused_names op (Some x) msg s.names
       → o ≡ ends [] (is_refused (list_of line) msg (held (Op op))) c → Matches held s (call.PollRefused op) o
   refused_as op x line msg there k answer_is names e =
@@ -79,7 +79,7 @@ module _ {T : Type 0} (held : KeysHeld) (c : Channel T Waiter) (s : State T) (h 
       (inl (sym answer_is ∙ ap (λ (y : Option (ModelOperation T)). poll_refused_answer s op y) (sym there)))
       (names ∙ ap (λ (y : Option (ModelOperation T)). refused_names op y msg s.names) (sym there)) e
 
-  kind_is : (op : OpId) (x : ModelOperation T) → at op.0 s.names.operations ≡ Some x → line_of s.names (Op op) ≡ line_of_operation (Some x)
+  kind_is : (op : OpId) (x : ModelOperation T) → at op.0 s.names.operations ≡ Some x → line_at s.names (Op op) ≡ line_of_operation (Some x)
   kind_is op x there = ap (λ (y : Option (ModelOperation T)). line_of_operation y) there
 
   refused : (op : OpId) (x : Option (ModelOperation T)) → at op.0 s.names.operations ≡ x → refusal s (call.PollRefused op) ≡ None → Alone (refusal_asked held op x) c o → Matches held s (call.PollRefused op) o

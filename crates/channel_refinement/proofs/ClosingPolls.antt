@@ -9,10 +9,10 @@ use Rattle.channel_calls.specs.Turns.{refused_reply}
 use Rattle.channel_calls.specs.declared.reply.Reply.TheVariants as reply
 use Rattle.channel_calls.specs.declared.stage.Line.TheVariants as list
 use Rattle.channel_calls.specs.declared.stage.Waiting.TheVariants as waiting
-use Rattle.channel_alone.specs.Alone.{Outcome, Waits, PollsClosing}
+use Rattle.channel_alone.specs.Alone.{Outcome, WaitsOrGoesOn, PollsClosing}
 use Rattle.channel_model.specs.Answer.{replying, after_leaving, pending, closed_poll_answer, poll_answer}
 use Rattle.channel_model.specs.Awake.{AwakeIn}
-use Rattle.channel_model.specs.Laws.{line_of, line_of_operation}
+use Rattle.channel_model.specs.Laws.{line_at, line_of_operation}
 use Rattle.channel_model.specs.Lines.{is_among, untold, gone}
 use Rattle.channel_model.specs.Names.{ModelOperation, closing, at}
 use Rattle.channel_model.specs.Refused.{not_polled}
@@ -34,10 +34,10 @@ use Rattle.channel_refinement.proofs.Operations.{lack_of, not_standing_is, poll_
 use Rattle.channel_refinement.proofs.Polling.{WaitsAs, where_true, where_false, wait_ends}
 
 module _ {T : Type 0} (held : KeysHeld) (c : Channel T Waiter) (s : State T) (h : Refines held c s) (awake : AwakeIn s) (op : OpId) (handle : HandleId) (there : at op.0 s.names.operations ≡ Some (closing handle)) where
-  closing_kind : line_of s.names (Op op) ≡ Some Closings
+  closing_kind : line_at s.names (Op op) ≡ Some Closings
   closing_kind = ap (λ (o : Option (ModelOperation T)). line_of_operation o) there
 
-  closing_waits : (key : Option Key) (o : Outcome T Waiter) → Waits waiting.Closing key (Op op) c o
+  closing_waits : (key : Option Key) (o : Outcome T Waiter) → WaitsOrGoesOn waiting.Closing key (Op op) c o
       → WaitsAs Closings (reply.ClosedPoll poll.Pending) (λ e. refused_reply list.Closings e) None (Op op) key c o
   closing_waits None o x = x
   closing_waits (Some key) o x = x

@@ -7,7 +7,7 @@ use Rattle.channel_calls.specs.Turns.{held_on}
 use Rattle.channel_model.specs.Lines.{Waiting, is_among, is_stream, untold, told_by, after_news, gone, passed_on}
 use Rattle.channel_model.specs.Awake.{Kind, Placed, times_in}
 use Rattle.channel_model.specs.Names.{ModelOperation, send, recv, closing, Names, at}
-use Rattle.channel_model.specs.Laws.{line_of, line_of_operation}
+use Rattle.channel_model.specs.Laws.{line_at, line_of_operation}
 use Rattle.channel_model.specs.declared.name.Waiter.{Waiter}
 use Rattle.channel_model.specs.declared.name.Waiter.TheVariants.{Op, Stream}
 use Rattle.channel_model.specs.declared.news.News.{News}
@@ -45,7 +45,7 @@ passes_nothing Streams w l e = rw e refl
 passes_nothing Closings w l e = refl
 
 -- of the kinds of names
-pub streams_are : {T : Type 0} → (names : Names T) → StreamsAreStreams (line_of names)
+pub streams_are : {T : Type 0} → (names : Names T) → StreamsAreStreams (line_at names)
 streams_are names (Stream r) = (λ e. refl, λ e. refl)
 streams_are {T} names (Op op) = (λ e. cc e, λ e. never (at op.0 names.operations) e) where
   never : (o : Option (ModelOperation T)) → line_of_operation o ≡ Some Streams → is_stream (Op op) ≡ true

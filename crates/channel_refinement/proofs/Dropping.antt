@@ -15,7 +15,7 @@ use Rattle.channel_model.specs.Answer as model
 use Rattle.channel_model.specs.Answer.{after_telling, after_leaving, shut, without_one, news_without_one, dropped, drop_answer}
 use Rattle.channel_model.specs.Awake.{AwakeIn, Awake, Kind}
 use Rattle.channel_model.specs.Channel as plain
-use Rattle.channel_model.specs.Laws.{line_of}
+use Rattle.channel_model.specs.Laws.{line_at}
 use Rattle.channel_model.specs.Lines.{Waiting, untold, told_by, after_news}
 use Rattle.channel_model.specs.Names.{at}
 use Rattle.channel_model.specs.State.{State, with_channel}
@@ -112,19 +112,19 @@ module _ {T : Type 0} (held : KeysHeld) (c : Channel T Waiter) (s : State T) (h 
           capacity = g.capacity;
           senders = g.senders;
           receivers = g.receivers;
-          lines = nothing_lines (line_of (lowered Senders).names) held s.channel.closed (lowers Senders c).channel.roster s.waiting g.lines;
-          keys = keys_news (line_of (lowered Senders).names) held Nothing s.waiting g.keys;
+          lines = nothing_lines (line_at (lowered Senders).names) held s.channel.closed (lowers Senders c).channel.roster s.waiting g.lines;
+          keys = keys_news (line_at (lowered Senders).names) held Nothing s.waiting g.keys;
         })
         refl refl
 
     sender_closes : (last : (model.strong_handles Sender s.channel == 1) ≡ true) → s.channel.closed ≡ false
-        → Matches held s (call.Drop handle) (ends of_closing (closer_ending (dropper Senders None) true) (over_queue alone.shut (lowers Senders c).channel))
+        → Matches held s (call.Drop handle) (ends of_closing (closer_ending (dropper Senders None) true) (over_queue alone.with_closed (lowers Senders c).channel))
     sender_closes last open_yet =
         let g = shows_lowered Senders in
-        let kind = line_of (lowered Senders).names in
+        let kind = line_at (lowered Senders).names in
         let d : Channel T Waiter = (lowers Senders c).channel in
         let woken = closing_wakes kind held s.channel.closed d.roster s.waiting [] g.lines ∙ append-nil _ in
-        matching held s (call.Drop handle) None (ap (λ (o : Option Handle). stream_of handle o) there) (ends of_closing (closer_ending (dropper Senders None) true) (over_queue alone.shut d))
+        matching held s (call.Drop handle) None (ap (λ (o : Option Handle). stream_of handle o) there) (ends of_closing (closer_ending (dropper Senders None) true) (over_queue alone.with_closed d))
         (after_telling Closing (with_channel (shut (fewer Senders)) (dropped s handle)) reply.Unit) (inl (sender_says Closing (shut (fewer Senders)) (news_are Senders true false last open_yet) (channel_is Senders true last))) refl woken
         (record {
           messages = g.messages;
@@ -139,7 +139,7 @@ module _ {T : Type 0} (held : KeysHeld) (c : Channel T Waiter) (s : State T) (h 
 
     sender_drops : (last closed : Bool) → (count Senders c.roster == 1) ≡ last → c.queue.closed ≡ closed
         → Matches held s (call.Drop handle) (if last then (if closed then ends [] (closer_ending (dropper Senders None) false) (lowers Senders c).channel
-        else ends of_closing (closer_ending (dropper Senders None) true) (over_queue alone.shut (lowers Senders c).channel))
+        else ends of_closing (closer_ending (dropper Senders None) true) (over_queue alone.with_closed (lowers Senders c).channel))
         else ends [] (closer_ending (dropper Senders None) false) (lowers Senders c).channel)
     sender_drops true true e f = sender_leaves (quiet Senders true true (same_last Senders true e) (sym h.closed ∙ f) refl)
     sender_drops true false e f = sender_closes (same_last Senders true e) (sym h.closed ∙ f)
@@ -173,23 +173,23 @@ module _ {T : Type 0} (held : KeysHeld) (c : Channel T Waiter) (s : State T) (h 
         refl (told_left_as Nothing Streams (Stream handle) s.waiting _ woken)
 
     receiver_closes : (last : (model.strong_handles Receiver s.channel == 1) ≡ true) → s.channel.closed ≡ false
-        → Matches held s (call.Drop handle) (ends of_closing (closer_ending (dropper Receivers key) true) (over_queue alone.shut (lowers Receivers c).channel))
+        → Matches held s (call.Drop handle) (ends of_closing (closer_ending (dropper Receivers key) true) (over_queue alone.with_closed (lowers Receivers c).channel))
     receiver_closes last open_yet =
         let w : Waiter = Stream handle in
         let g = shows_lowered Receivers in
         let names = (lowered Receivers).names in
         let d : Channel T Waiter = (lowers Receivers c).channel in
-        let told : Channel T Waiter = (tells_all list.Closings (tells_all list.Streams (tells_all list.Receives (tells_all list.Sends (over_queue alone.shut d)).channel).channel).channel).channel in
+        let told : Channel T Waiter = (tells_all list.Closings (tells_all list.Streams (tells_all list.Receives (tells_all list.Sends (over_queue alone.with_closed d)).channel).channel).channel).channel in
         let placed = (awake_lowered Receivers).placed in
-        let lines : ShowsLines (line_of names) held true told.roster (after_news Closing s.waiting) =
-        closing_lines (line_of names) held d.roster s.waiting placed.lines (shut_lines (line_of names) held s.channel.closed d.roster s.waiting g.lines) in
+        let lines : ShowsLines (line_at names) held true told.roster (after_news Closing s.waiting) =
+        closing_lines (line_at names) held d.roster s.waiting placed.lines (shut_lines (line_at names) held s.channel.closed d.roster s.waiting g.lines) in
         let left =
-        departed (line_of names) held true (streams_are names) Streams w (inl refl) (after_news Closing s.waiting) (placed_news (line_of names) Closing s.waiting placed)
-        (keys_news (line_of names) held Closing s.waiting g.keys) (λ f own. nobody_left own s.waiting) told lines key refl in
+        departed (line_at names) held true (streams_are names) Streams w (inl refl) (after_news Closing s.waiting) (placed_news (line_at names) Closing s.waiting placed)
+        (keys_news (line_at names) held Closing s.waiting g.keys) (λ f own. nobody_left own s.waiting) told lines key refl in
         let woken =
-        closing_wakes (line_of names) held s.channel.closed d.roster s.waiting ((leaves (held_on list.Streams key) told).woken ++ []) g.lines
+        closing_wakes (line_at names) held s.channel.closed d.roster s.waiting ((leaves (held_on list.Streams key) told).woken ++ []) g.lines
         ∙ ap (λ (ws : List Waiter). told_by Closing s.waiting ++ ws) (append-nil _ ∙ left.wakes) in
-        matching held s (call.Drop handle) (Some w) (ap (λ (o : Option Handle). stream_of handle o) there) (ends of_closing (closer_ending (dropper Receivers key) true) (over_queue alone.shut d))
+        matching held s (call.Drop handle) (Some w) (ap (λ (o : Option Handle). stream_of handle o) there) (ends of_closing (closer_ending (dropper Receivers key) true) (over_queue alone.with_closed d))
         (after_leaving Closing Streams w (with_channel (shut (fewer Receivers)) (dropped s handle)) reply.Unit)
         (inl (receiver_says Closing (shut (fewer Receivers)) (news_are Receivers true false last open_yet) (channel_is Receivers true last))) refl woken
         (record {
@@ -205,7 +205,7 @@ module _ {T : Type 0} (held : KeysHeld) (c : Channel T Waiter) (s : State T) (h 
 
     receiver_drops : (last closed : Bool) → (count Receivers c.roster == 1) ≡ last → c.queue.closed ≡ closed
         → Matches held s (call.Drop handle) (if last then (if closed then ends [] (closer_ending (dropper Receivers key) false) (lowers Receivers c).channel
-        else ends of_closing (closer_ending (dropper Receivers key) true) (over_queue alone.shut (lowers Receivers c).channel))
+        else ends of_closing (closer_ending (dropper Receivers key) true) (over_queue alone.with_closed (lowers Receivers c).channel))
         else ends [] (closer_ending (dropper Receivers key) false) (lowers Receivers c).channel)
     receiver_drops true true e f = receiver_leaves (quiet Receivers true true (same_last Receivers true e) (sym h.closed ∙ f) refl)
     receiver_drops true false e f = receiver_closes (same_last Receivers true e) (sym h.closed ∙ f)

@@ -9,7 +9,7 @@ use Rattle.channel_calls.specs.declared.stage.Line.{Line}
 use Rattle.channel_alone.specs.Alone.{Outcome, ends}
 use Rattle.channel_model.specs.Answer.{after_leaving}
 use Rattle.channel_model.specs.Awake.{AwakeIn}
-use Rattle.channel_model.specs.Laws.{line_of}
+use Rattle.channel_model.specs.Laws.{line_at}
 use Rattle.channel_model.specs.Lines.{after_news}
 use Rattle.channel_model.specs.Refused.{Answers}
 use Rattle.channel_model.specs.State.{State}
@@ -28,16 +28,16 @@ use Rattle.channel_refinement.proofs.Told.{told_left_as}
 
 module _ {T : Type 0} (held : KeysHeld) (c : Channel T Waiter) (s : State T) (h : Refines held c s) (awake : AwakeIn s) where
   -- nothing is told, and w leaves
-  pub leaves_now : (line : Line) (w : Waiter) → (line_of s.names w ≡ Some line) ⊎ (line_of s.names w ≡ None)
-      → Departed (line_of s.names) held s.channel.closed line w (after_news Nothing s.waiting) c (leaves (held_on (list_of line) (held w)) c).channel (leaves (held_on (list_of line) (held w)) c).woken
+  pub leaves_now : (line : Line) (w : Waiter) → (line_at s.names w ≡ Some line) ⊎ (line_at s.names w ≡ None)
+      → Departed (line_at s.names) held s.channel.closed line w (after_news Nothing s.waiting) c (leaves (held_on (list_of line) (held w)) c).channel (leaves (held_on (list_of line) (held w)) c).woken
   leaves_now line w k =
-      departed (line_of s.names) held s.channel.closed (streams_are s.names) line w k (after_news Nothing s.waiting) (placed_news (line_of s.names) Nothing s.waiting awake.placed)
-      (keys_news (line_of s.names) held Nothing s.waiting h.keys) (λ e own. empty_news Nothing own s.waiting (awake.opened e own)) c
-      (nothing_lines (line_of s.names) held s.channel.closed c.roster s.waiting h.lines) (held w) refl
+      departed (line_at s.names) held s.channel.closed (streams_are s.names) line w k (after_news Nothing s.waiting) (placed_news (line_at s.names) Nothing s.waiting awake.placed)
+      (keys_news (line_at s.names) held Nothing s.waiting h.keys) (λ e own. empty_news Nothing own s.waiting (awake.opened e own)) c
+      (nothing_lines (line_at s.names) held s.channel.closed c.roster s.waiting h.lines) (held w) refl
 
   -- the state after it, where no name changed
   pub left_state : (line : Line) (w : Waiter) (r : Reply T) (d : Channel T Waiter) (names : List Waiter)
-      → Departed (line_of s.names) held s.channel.closed line w (after_news Nothing s.waiting) c d names → Refines (with_held w None held) d (after_leaving Nothing line w s r).after
+      → Departed (line_at s.names) held s.channel.closed line w (after_news Nothing s.waiting) c d names → Refines (with_held w None held) d (after_leaving Nothing line w s r).after
   left_state line w r d names g = record {
     messages = ap (λ (q : Queue T). q.items) g.queue ∙ h.messages;
     closed = ap (λ (q : Queue T). q.closed) g.queue ∙ h.closed;
@@ -50,7 +50,7 @@ module _ {T : Type 0} (held : KeysHeld) (c : Channel T Waiter) (s : State T) (h 
 
   -- a call of w's that ends so with this answer, and keeps this message
   pub ends_so : (call : Call T) (line : Line) (w : Waiter) (r : Reply T) (m : Option T) (o : Outcome T Waiter) → keeper s call ≡ Some w
-      → (line_of s.names w ≡ Some line) ⊎ (line_of s.names w ≡ None) → Answers s call (after_leaving Nothing line w s r)
+      → (line_at s.names w ≡ Some line) ⊎ (line_at s.names w ≡ None) → Answers s call (after_leaving Nothing line w s r)
       → s.names ≡ names_after s call (ends [] (over r m (list_of line) (held w)) c) → o ≡ ends [] (over r m (list_of line) (held w)) c → Matches held s call o
   ends_so call line w r m o own k allowed names e =
       let g = leaves_now line w k in

@@ -13,7 +13,7 @@ use Rattle.channel_alone.specs.Alone.{Outcome, answers, says_only, clones, upgra
 use Rattle.channel_model.specs.Answer as model
 use Rattle.channel_model.specs.Answer.{Answer, replying, made, spent, one_more, upgrade_to}
 use Rattle.channel_model.specs.Awake.{Kind}
-use Rattle.channel_model.specs.Laws.{line_of}
+use Rattle.channel_model.specs.Laws.{line_at}
 use Rattle.channel_model.specs.Lines.{Waiting}
 use Rattle.channel_model.specs.Names.{Names, Directory, with_handles}
 use Rattle.channel_model.specs.Refused.{Answers}
@@ -54,9 +54,9 @@ raised_now n e = grind (arith, nat_tests)
 
 module _ {T : Type 0} where
   -- the handles are no matter to what kind of name each is
-  pub same_kinds : (names : Names T) (handles : Directory Handle) → line_of (with_handles handles names) ≡ line_of names
+  pub same_kinds : (names : Names T) (handles : Directory Handle) → line_at (with_handles handles names) ≡ line_at names
   same_kinds names handles = λ i w. same w i where
-    same : (w : Waiter) → line_of (with_handles handles names) w ≡ line_of names w
+    same : (w : Waiter) → line_at (with_handles handles names) w ≡ line_at names w
     same (Stream r) = refl
     same (Op op) = refl
 
@@ -80,7 +80,7 @@ module _ {T : Type 0} where
     capacity = h.capacity;
     senders = e;
     receivers = h.receivers;
-    lines = counted_lines (line_of s.names) held s.channel.closed Senders n c.roster s.waiting h.lines;
+    lines = counted_lines (line_at s.names) held s.channel.closed Senders n c.roster s.waiting h.lines;
     keys = h.keys;
   }
   shows_count held c s Receivers n m e h = record {
@@ -89,7 +89,7 @@ module _ {T : Type 0} where
     capacity = h.capacity;
     senders = h.senders;
     receivers = e;
-    lines = counted_lines (line_of s.names) held s.channel.closed Receivers n c.roster s.waiting h.lines;
+    lines = counted_lines (line_at s.names) held s.channel.closed Receivers n c.roster s.waiting h.lines;
     keys = h.keys;
   }
 

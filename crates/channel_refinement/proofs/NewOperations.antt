@@ -6,9 +6,9 @@ use Rattle.channel_calls.specs.declared.reply.Reply.TheVariants as reply
 use Rattle.channel_alone.specs.Alone.{Outcome, says_only}
 use Rattle.channel_model.specs.Answer.{replying, new_answer, poll_answer}
 use Rattle.channel_model.specs.Awake.{AwakeIn}
-use Rattle.channel_model.specs.Laws.{line_of, line_of_operation}
+use Rattle.channel_model.specs.Laws.{line_at, line_of_operation}
 use Rattle.channel_model.specs.Lines.{same_waiter}
-use Rattle.channel_model.specs.Names.{Names, ModelOperation, send, at, with_operation}
+use Rattle.channel_model.specs.Names.{Names, ModelOperation, send, at, with_new_operation}
 use Rattle.channel_model.specs.Refused.{Answers}
 use Rattle.channel_model.specs.State.{State}
 use Rattle.channel_model.specs.declared.call.Call.{Call}
@@ -28,22 +28,22 @@ use Rattle.channel_refinement.proofs.Standing.{Nowhere, kindless_nowhere, nowher
 use Rattle.channel_refinement.proofs.Told.{told_away}
 
 -- every name but the new one keeps its kind
-new_kind : {T : Type 0} → (op : OpId) (x : ModelOperation T) (names : Names T) (w : Waiter) → same_waiter (Op op) w ≡ false → line_of (with_operation op x names) w ≡ line_of names w
+new_kind : {T : Type 0} → (op : OpId) (x : ModelOperation T) (names : Names T) (w : Waiter) → same_waiter (Op op) w ≡ false → line_at (with_new_operation op x names) w ≡ line_at names w
 new_kind op x names (Stream r) off = refl
 new_kind op x names (Op other) off = let apart : nat_eq other.0 op.0 ≡ false = same_symm (Op other) (Op op) ∙ off in rw apart refl
 
 module _ {T : Type 0} (held : KeysHeld) (c : Channel T Waiter) (s : State T) (h : Refines held c s) (awake : AwakeIn s) (op : OpId) where
   -- one that belongs to no line
-  kindless : line_of s.names (Op op) ≡ None → Nowhere (Op op) s.waiting
-  kindless none = kindless_nowhere (line_of s.names) (Op op) s.waiting none awake.placed
+  kindless : line_at s.names (Op op) ≡ None → Nowhere (Op op) s.waiting
+  kindless none = kindless_nowhere (line_at s.names) (Op op) s.waiting none awake.placed
 
-  unheld : line_of s.names (Op op) ≡ None → held (Op op) ≡ None
-  unheld none = nowhere_keyless (line_of s.names) held (Op op) s.waiting (kindless none) h.keys
+  unheld : line_at s.names (Op op) ≡ None → held (Op op) ≡ None
+  unheld none = nowhere_keyless (line_at s.names) held (Op op) s.waiting (kindless none) h.keys
 
   pub new_operation : (call : Call T) (x : ModelOperation T) (o : Outcome T Waiter) → keeper s call ≡ None → at op.0 s.names.operations ≡ None → Answers s call (new_answer s op x)
-      → with_operation op x s.names ≡ names_after s call (says_only reply.Made c) → o ≡ says_only reply.Made c → Matches held s call o
+      → with_new_operation op x s.names ≡ names_after s call (says_only reply.Made c) → o ≡ says_only reply.Made c → Matches held s call o
   new_operation call x o nobody free allowed names e =
-      let none : line_of s.names (Op op) ≡ None = ap (λ (y : Option (ModelOperation T)). line_of_operation y) free in
+      let none : line_at s.names (Op op) ≡ None = ap (λ (y : Option (ModelOperation T)). line_of_operation y) free in
       subst (λ (y : Outcome T Waiter). Matches held s call y) (sym e)
       (matching held s call None nobody (says_only reply.Made c) (new_answer s op x) allowed refl refl
       (record {
@@ -52,15 +52,15 @@ module _ {T : Type 0} (held : KeysHeld) (c : Channel T Waiter) (s : State T) (h 
         capacity = h.capacity;
         senders = h.senders;
         receivers = h.receivers;
-        lines = rekinded_lines (line_of s.names) (line_of (with_operation op x s.names)) held s.channel.closed c.roster s.waiting (Op op) (kindless none) (new_kind op x s.names) h.lines;
-        keys = rekinded_keys (line_of s.names) (line_of (with_operation op x s.names)) held s.waiting (Op op) (unheld none) (new_kind op x s.names) h.keys;
+        lines = rekinded_lines (line_at s.names) (line_at (with_new_operation op x s.names)) held s.channel.closed c.roster s.waiting (Op op) (kindless none) (new_kind op x s.names) h.lines;
+        keys = rekinded_keys (line_at s.names) (line_at (with_new_operation op x s.names)) held s.waiting (Op op) (unheld none) (new_kind op x s.names) h.keys;
       })
       names (sym (append-nil s.waiting.woken)))
 
   -- a finished send stays pending, and is only answered
   pub poll_finished : (handle : HandleId) (o : Outcome T Waiter) → at op.0 s.names.operations ≡ Some (send handle None) → o ≡ says_only (reply.SendPoll poll.Pending) c → Matches held s (call.Poll op) o
   poll_finished handle o there e =
-      let none : line_of s.names (Op op) ≡ None = ap (λ (y : Option (ModelOperation T)). line_of_operation y) there in
+      let none : line_at s.names (Op op) ≡ None = ap (λ (y : Option (ModelOperation T)). line_of_operation y) there in
       subst (λ (y : Outcome T Waiter). Matches held s (call.Poll op) y) (sym e)
       (matching held s (call.Poll op) (Some (Op op)) refl (says_only (reply.SendPoll poll.Pending) c) (replying s (reply.SendPoll poll.Pending))
       (inl (ap (λ (y : Option (ModelOperation T)). poll_answer s op y) (sym there))) refl refl

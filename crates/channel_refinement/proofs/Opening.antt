@@ -1,7 +1,7 @@
 -- A channel that was just opened shows the start.
 use Rattle.std.proofs.Common.{ℕ, Option, refl}
 use Rattle.channel_calls.specs.Moves.{Channel, new_channel}
-use Rattle.channel_model.specs.Laws.{line_of}
+use Rattle.channel_model.specs.Laws.{line_at}
 use Rattle.channel_model.specs.State.{State, start}
 use Rattle.channel_model.specs.declared.name.Waiter.{Waiter}
 use Rattle.channel_calls.specs.declared.stage.Line.TheVariants.{Sends, Receives, Streams, Closings}
@@ -16,7 +16,7 @@ module _ (T : Type 0) (capacity : Option ℕ) where
   abbrev s : State T
   s = start capacity
 
-  lines : ShowsLines (line_of s.names) nothing_held s.channel.closed channel.roster s.waiting
+  lines : ShowsLines (line_at s.names) nothing_held s.channel.closed channel.roster s.waiting
   lines Sends = record { untold = tt; told = tt }
   lines Receives = record { untold = tt; told = tt }
   lines Streams = record { untold = tt; told = tt }

@@ -12,7 +12,7 @@ use Rattle.channel_calls.specs.declared.stage.Line.{Line}
 use Rattle.channel_alone.specs.Alone.{Outcome, ends}
 use Rattle.channel_model.specs.Answer.{replying, after_leaving, pending, poll_answer, give_up_answer, given_up}
 use Rattle.channel_model.specs.Awake.{AwakeIn}
-use Rattle.channel_model.specs.Laws.{line_of, line_of_operation}
+use Rattle.channel_model.specs.Laws.{line_at, line_of_operation}
 use Rattle.channel_model.specs.Lines.{Waiting, same_waiter, is_among, untold, after_news, gone, passed_on}
 use Rattle.channel_model.specs.Names.{Names, Directory, ModelOperation, at}
 use Rattle.channel_model.specs.Refused.{Lack, memory, serials, not_standing, not_polled}
@@ -35,7 +35,7 @@ use Rattle.channel_refinement.proofs.Told.{told_left_as, told_standing, told_gon
 
 -- every name but one keeps its kind
 pub other_kind : {T : Type 0} → (op : OpId) (v : Option (ModelOperation T)) (x : ModelOperation T) (names names' : Names T) → at op.0 names.operations ≡ Some x → names'.operations ≡ set_value (nat_eq op.0) names.operations v
-    → (w : Waiter) → same_waiter (Op op) w ≡ false → line_of names' w ≡ line_of names w
+    → (w : Waiter) → same_waiter (Op op) w ≡ false → line_at names' w ≡ line_at names w
 other_kind op v x names names' there set (Stream r) off = refl
 other_kind {T} op v x names names' there set (Op other) off =
     ap (λ (o : Option (ModelOperation T)). line_of_operation o)
@@ -64,7 +64,7 @@ module _ {T : Type 0} (held : KeysHeld) (c : Channel T Waiter) (s : State T) (h 
         woken = refl;
         shows = g;
         names = names ∙ ap (λ (y : Option (ModelOperation T)). polled_names op y left s.names) (sym there);
-        told = told_standing (line_of s.names) line (Op op) s.waiting awake.placed;
+        told = told_standing (line_at s.names) line (Op op) s.waiting awake.placed;
       })
   poll_waited line pends refuses left there pends_is lacks names o (inr (error, d, e, u, g)) =
       subst (λ (y : Outcome T Waiter). Matches held s (call.Poll op) y) (sym e)
@@ -81,19 +81,19 @@ module _ {T : Type 0} (held : KeysHeld) (c : Channel T Waiter) (s : State T) (h 
   -- ---- an operation that changes as it leaves
 
   pub changed_lines : (line : Line) (l : Waiting) (v : Option (ModelOperation T)) (names' : Names T) (b d : Channel T Waiter) (names : List Waiter) (closed : Bool)
-      → at op.0 s.names.operations ≡ Some x → names'.operations ≡ set_value (nat_eq op.0) s.names.operations v → Departed (line_of s.names) held closed line (Op op) l b d names
-      → ShowsLines (line_of names') (with_held (Op op) None held) closed d.roster (after_news (passed_on line (Op op) l) (gone (Op op) l))
-      × KeysFit (line_of names') (with_held (Op op) None held) (after_news (passed_on line (Op op) l) (gone (Op op) l))
+      → at op.0 s.names.operations ≡ Some x → names'.operations ≡ set_value (nat_eq op.0) s.names.operations v → Departed (line_at s.names) held closed line (Op op) l b d names
+      → ShowsLines (line_at names') (with_held (Op op) None held) closed d.roster (after_news (passed_on line (Op op) l) (gone (Op op) l))
+      × KeysFit (line_at names') (with_held (Op op) None held) (after_news (passed_on line (Op op) l) (gone (Op op) l))
   changed_lines line l v names' b d names closed there set g =
       let m : Waiting = after_news (passed_on line (Op op) l) (gone (Op op) l) in
       let kinds = other_kind op v x s.names names' there set in (
-        rekinded_lines (line_of s.names) (line_of names') (with_held (Op op) None held) closed d.roster m (Op op) (nowhere_after (passed_on line (Op op) l) (Op op) l) kinds g.lines,
-        rekinded_keys (line_of s.names) (line_of names') (with_held (Op op) None held) m (Op op) (with_own (Op op) (Op op) None held (same_refl (Op op))) kinds g.keys,
+        rekinded_lines (line_at s.names) (line_at names') (with_held (Op op) None held) closed d.roster m (Op op) (nowhere_after (passed_on line (Op op) l) (Op op) l) kinds g.lines,
+        rekinded_keys (line_at s.names) (line_at names') (with_held (Op op) None held) m (Op op) (with_own (Op op) (Op op) None held (same_refl (Op op))) kinds g.keys,
       )
 
   -- ---- an operation that is given up
 
-  pub give_up : (line : Line) (msg : Option T) (o : Outcome T Waiter) → at op.0 s.names.operations ≡ Some x → (line_of s.names (Op op) ≡ Some line) ⊎ (line_of s.names (Op op) ≡ None)
+  pub give_up : (line : Line) (msg : Option T) (o : Outcome T Waiter) → at op.0 s.names.operations ≡ Some x → (line_at s.names (Op op) ≡ Some line) ⊎ (line_at s.names (Op op) ≡ None)
       → give_up_answer s op (Some x) ≡ after_leaving Nothing line (Op op) (given_up s op x) (reply.GivenUp msg)
       → o ≡ ends [] (gives_up (list_of line) msg (held (Op op))) c → Matches held s (call.GiveUp op) o
   give_up line msg o there k answer_is e =

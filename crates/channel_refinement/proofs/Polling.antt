@@ -9,7 +9,7 @@ use Rattle.channel_calls.specs.Parts.{listeners, waits}
 use Rattle.channel_calls.specs.Turns.{leaving as keeping}
 use Rattle.channel_calls.specs.declared.reply.Reply.{Reply}
 use Rattle.channel_alone.specs.Alone.{Outcome, Where, answers}
-use Rattle.channel_model.specs.Laws.{line_of}
+use Rattle.channel_model.specs.Laws.{line_at}
 use Rattle.channel_model.specs.Lines.{Waiting, is_among, untold, gone, standing}
 use Rattle.channel_model.specs.Awake.{AwakeIn}
 use Rattle.channel_model.specs.State.{State, with_waiting}
@@ -52,8 +52,8 @@ module _ {T : Type 0} (line : Line) (pends : Reply T) (refuses : ListenError →
       ⊎ ((error : ListenError) × (d : Channel T Waiter) × (o ≡ answers (refuses error) (keeping None message) d) × (is_among w (untold line s.waiting) ≡ false)
       × Refines (with_held w None held) d (with_waiting (gone w s.waiting) s))
 
-  module _ (held : KeysHeld) (c : Channel T Waiter) (s : State T) (h : Refines held c s) (awake : AwakeIn s) (k : line_of s.names w ≡ Some line) where
-    pub shown : (key : Option Key) (m : Waiting) (d : Channel T Waiter) → d.queue ≡ c.queue → Waited (line_of s.names) held s.channel.closed w c.roster d.roster key m → Refines (with_held w key held) d (with_waiting m s)
+  module _ (held : KeysHeld) (c : Channel T Waiter) (s : State T) (h : Refines held c s) (awake : AwakeIn s) (k : line_at s.names w ≡ Some line) where
+    pub shown : (key : Option Key) (m : Waiting) (d : Channel T Waiter) → d.queue ≡ c.queue → Waited (line_at s.names) held s.channel.closed w c.roster d.roster key m → Refines (with_held w key held) d (with_waiting m s)
     shown key m d e g = record {
       messages = ap (λ (q : Queue T). q.items) e ∙ h.messages;
       closed = ap (λ (q : Queue T). q.closed) e ∙ h.closed;
@@ -65,14 +65,14 @@ module _ {T : Type 0} (line : Line) (pends : Reply T) (refuses : ListenError →
     }
 
     listened_ends : (b : Channel T Waiter) (o : Outcome T Waiter) → b.queue ≡ c.queue → is_among w (untold line s.waiting) ≡ false
-        → Waited (line_of s.names) held s.channel.closed w c.roster b.roster None (gone w s.waiting) → ListensAs b o → WaitEnds held s o
+        → Waited (line_at s.names) held s.channel.closed w c.roster b.roster None (gone w s.waiting) → ListensAs b o → WaitEnds held s o
     listened_ends b o e u g (inl (key, none, f)) =
         inl (
           key,
           (registers (list_of line) key w (listens (list_of line) key b).channel).channel,
           f,
           shown (Some key) (standing line w s.waiting) (registers (list_of line) key w (listens (list_of line) key b).channel).channel e
-              (listens_so (line_of s.names) held s.channel.closed (streams_are s.names) line w k s.waiting awake.placed h.keys awake.opened c.roster h.lines b.roster key u none g),
+              (listens_so (line_at s.names) held s.channel.closed (streams_are s.names) line w k s.waiting awake.placed h.keys awake.opened c.roster h.lines b.roster key u none g),
         )
     listened_ends b o e u g (inr (error, f)) = inr (error, b, f, u, shown None (gone w s.waiting) b e g)
 
@@ -80,26 +80,26 @@ module _ {T : Type 0} (line : Line) (pends : Reply T) (refuses : ListenError →
     told_not_untold : is_among w s.waiting.woken ≡ true → is_among w (untold line s.waiting) ≡ false
     told_not_untold t = elim (decided (is_among w (untold line s.waiting))) [
       | inr u ↦ u
-      | inl u ↦ absurd (not_both (line_of s.names) line w s.waiting awake.placed u t)
+      | inl u ↦ absurd (not_both (line_at s.names) line w s.waiting awake.placed u t)
     ]
 
     pub wait_ends : (key : Option Key) (o : Outcome T Waiter) → held w ≡ key → WaitsAs key c o → WaitEnds held s o
     wait_ends None o e x =
-        let away : Nowhere w s.waiting = keyless_nowhere (line_of s.names) held s.channel.closed c.roster s.waiting line w k e awake.placed h.lines in
-        listened_ends c o refl (away.lines line) (away_unheld (line_of s.names) held s.channel.closed (streams_are s.names) line w k s.waiting awake.placed h.keys awake.opened c.roster h.lines e) x
+        let away : Nowhere w s.waiting = keyless_nowhere (line_at s.names) held s.channel.closed c.roster s.waiting line w k e awake.placed h.lines in
+        listened_ends c o refl (away.lines line) (away_unheld (line_at s.names) held s.channel.closed (streams_are s.names) line w k s.waiting awake.placed h.keys awake.opened c.roster h.lines e) x
     wait_ends (Some key) o e x = elim (decided (is_among w s.waiting.woken)) [
       | inl t ↦
-          let used = away_told (line_of s.names) held s.channel.closed (streams_are s.names) line w k s.waiting awake.placed h.keys awake.opened c.roster h.lines key e t in
+          let used = away_told (line_at s.names) held s.channel.closed (streams_are s.names) line w k s.waiting awake.placed h.keys awake.opened c.roster h.lines key e t in
           listened_ends (registers (list_of line) key w c).channel o refl (told_not_untold t) used.1 (where_false (waits key (listeners (list_of line) c.roster)) _ _ used.0 x)
       | inr t ↦ elim (decided (is_among w (untold line s.waiting))) [
         | inl u ↦
-            let stayed = stays (line_of s.names) held s.channel.closed (streams_are s.names) line w k s.waiting awake.placed h.keys awake.opened c.roster h.lines key e t u in
+            let stayed = stays (line_at s.names) held s.channel.closed (streams_are s.names) line w k s.waiting awake.placed h.keys awake.opened c.roster h.lines key e t u in
             inl (
               key,
               (registers (list_of line) key w c).channel,
               where_true (waits key (listeners (list_of line) c.roster)) _ _ stayed.0 x,
               shown (Some key) (standing line w s.waiting) (registers (list_of line) key w c).channel refl stayed.1,
             )
-        | inr u ↦ absurd (away_holds_none (line_of s.names) held line w s.waiting key k awake.placed h.keys e u t)
+        | inr u ↦ absurd (away_holds_none (line_at s.names) held line w s.waiting key k awake.placed h.keys e u t)
       ]
     ]

@@ -13,10 +13,10 @@ use Rattle.channel_calls.specs.declared.reply.Reply.TheVariants as reply
 use Rattle.channel_calls.specs.declared.stage.Line.TheVariants as list
 use Rattle.channel_calls.specs.declared.stage.Waiting.TheVariants as waiting
 use Rattle.channel_alone.specs.Alone as alone
-use Rattle.channel_alone.specs.Alone.{Outcome, ends, of_room, over_queue, Waits, PollsFor, PollsReceive}
+use Rattle.channel_alone.specs.Alone.{Outcome, ends, of_room, over_queue, WaitsOrGoesOn, PollsFor, PollsReceive}
 use Rattle.channel_model.specs.Answer.{Found, first, none_yet, none_ever, found, replying, recv_poll_answer, poll_answer}
 use Rattle.channel_model.specs.Awake.{AwakeIn}
-use Rattle.channel_model.specs.Laws.{line_of, line_of_operation}
+use Rattle.channel_model.specs.Laws.{line_at, line_of_operation}
 use Rattle.channel_model.specs.Lines.{after_news, told_by, is_among, untold, gone}
 use Rattle.channel_model.specs.Names.{ModelOperation, recv, at}
 use Rattle.channel_model.specs.Refused.{recv_not_polled, not_polled}
@@ -41,7 +41,7 @@ use Rattle.channel_refinement.proofs.Polling.{WaitsAs, where_true, where_false, 
 use Rattle.channel_refinement.proofs.Told.{told_left_as}
 
 module _ {T : Type 0} (held : KeysHeld) (c : Channel T Waiter) (s : State T) (h : Refines held c s) (awake : AwakeIn s) (op : OpId) (handle : HandleId) (there : at op.0 s.names.operations ≡ Some (recv handle)) where
-  recv_kind : line_of s.names (Op op) ≡ Some Receives
+  recv_kind : line_at s.names (Op op) ≡ Some Receives
   recv_kind = ap (λ (o : Option (ModelOperation T)). line_of_operation o) there
 
   by_found : (x : Found T) → found s.channel ≡ x → recv_poll_answer s op x ≡ poll_answer s op (at op.0 s.names.operations)
@@ -57,12 +57,12 @@ module _ {T : Type 0} (held : KeysHeld) (c : Channel T Waiter) (s : State T) (h 
   recv_got m ms o some e =
       let d : Channel T Waiter = (tells_one list.Sends (over_queue alone.taken c)).channel in
       let g =
-      departed (line_of s.names) held s.channel.closed (streams_are s.names) Receives (Op op) (inl recv_kind) (after_news Room s.waiting)
-      (placed_news (line_of s.names) Room s.waiting awake.placed) (keys_news (line_of s.names) held Room s.waiting h.keys)
-      (λ f own. empty_news Room own s.waiting (awake.opened f own)) d (room_lines (line_of s.names) held s.channel.closed c.roster s.waiting awake.placed.lines h.lines) (held (Op op)) refl in
+      departed (line_at s.names) held s.channel.closed (streams_are s.names) Receives (Op op) (inl recv_kind) (after_news Room s.waiting)
+      (placed_news (line_at s.names) Room s.waiting awake.placed) (keys_news (line_at s.names) held Room s.waiting h.keys)
+      (λ f own. empty_news Room own s.waiting (awake.opened f own)) d (room_lines (line_at s.names) held s.channel.closed c.roster s.waiting awake.placed.lines h.lines) (held (Op op)) refl in
       let found_first : found s.channel ≡ first m ms = rw (sym h.messages ∙ some) refl in
       let woken =
-      room_wakes (line_of s.names) held s.channel.closed c.roster s.waiting ((leaves (held_on list.Receives (held (Op op))) d).woken ++ []) h.lines
+      room_wakes (line_at s.names) held s.channel.closed c.roster s.waiting ((leaves (held_on list.Receives (held (Op op))) d).woken ++ []) h.lines
       ∙ ap (λ (ws : List Waiter). told_by Room s.waiting ++ ws) (append-nil _ ∙ g.wakes) in
       subst (λ (x : Outcome T Waiter). Matches held s (call.Poll op) x) (sym e)
       (record {
@@ -85,7 +85,7 @@ module _ {T : Type 0} (held : KeysHeld) (c : Channel T Waiter) (s : State T) (h 
 
   -- ---- none is
 
-  recv_waits : (key : Option Key) (o : Outcome T Waiter) → Waits waiting.Receive key (Op op) c o
+  recv_waits : (key : Option Key) (o : Outcome T Waiter) → WaitsOrGoesOn waiting.Receive key (Op op) c o
       → WaitsAs Receives (reply.RecvPoll poll.Pending) (λ e. refused_reply list.Receives e) None (Op op) key c o
   recv_waits None o x = x
   recv_waits (Some key) o x = x

@@ -13,11 +13,11 @@ use Rattle.channel_calls.specs.declared.reply.Reply.TheVariants as reply
 use Rattle.channel_calls.specs.declared.stage.Line.TheVariants as list
 use Rattle.channel_calls.specs.declared.stage.Waiting.TheVariants as waiting
 use Rattle.channel_alone.specs.Alone as alone
-use Rattle.channel_alone.specs.Alone.{Outcome, ends, of_message, over_queue, Waits, PollsSend, MayLackRoom}
+use Rattle.channel_alone.specs.Alone.{Outcome, ends, of_message, over_queue, WaitsOrGoesOn, PollsSend, MayLackRoom}
 use Rattle.channel_model.specs.Answer.{replying, after_leaving, send_poll_answer, poll_answer, finished, space_of}
 use Rattle.channel_model.specs.declared.call.Call.TheVariants as call
 use Rattle.channel_model.specs.Refused.{memory, refused, not_polled, send_not_polled}
-use Rattle.channel_model.specs.Laws.{line_of, line_of_operation}
+use Rattle.channel_model.specs.Laws.{line_at, line_of_operation}
 use Rattle.channel_model.specs.Lines.{is_among, untold, after_news, told_by, gone}
 use Rattle.channel_model.specs.Names.{ModelOperation, send, at}
 use Rattle.channel_calls.specs.declared.reply.Reply.{Reply}
@@ -45,10 +45,10 @@ use Rattle.channel_refinement.proofs.Told.{told_left_as, same_names}
 use Rattle.channel_refinement.proofs.Trying.{shut_space, filled_space, open_space, lacking_space}
 
 module _ {T : Type 0} (held : KeysHeld) (c : Channel T Waiter) (s : State T) (h : Refines held c s) (awake : AwakeIn s) (op : OpId) (handle : HandleId) (msg : T) (there : at op.0 s.names.operations ≡ Some (send handle (Some msg))) where
-  send_is : line_of s.names (Op op) ≡ Some Sends
+  send_is : line_at s.names (Op op) ≡ Some Sends
   send_is = ap (λ (o : Option (ModelOperation T)). line_of_operation o) there
 
-  send_waits : (key : Option Key) (o : Outcome T Waiter) → Waits (waiting.Send msg) key (Op op) c o
+  send_waits : (key : Option Key) (o : Outcome T Waiter) → WaitsOrGoesOn (waiting.Send msg) key (Op op) c o
       → WaitsAs Sends (reply.SendPoll poll.Pending) (λ e. refused_reply list.Sends e) (Some msg) (Op op) key c o
   send_waits None o x = x
   send_waits (Some key) o x = x
@@ -110,16 +110,16 @@ module _ {T : Type 0} (held : KeysHeld) (c : Channel T Waiter) (s : State T) (h 
       })
 
   send_sent : (o : Outcome T Waiter) → space_of s.channel ≡ Open
-      → o ≡ ends of_message (over (reply.SendPoll (poll.Ready (Ok tt))) None list.Sends (held (Op op))) (over_queue (alone.appended msg) c) → Matches held s (call.Poll op) o
+      → o ≡ ends of_message (over (reply.SendPoll (poll.Ready (Ok tt))) None list.Sends (held (Op op))) (over_queue (alone.with_appended msg) c) → Matches held s (call.Poll op) o
   send_sent o free e =
-      let d : Channel T Waiter = (tells_all list.Streams (tells_one list.Receives (over_queue (alone.appended msg) c)).channel).channel in
+      let d : Channel T Waiter = (tells_all list.Streams (tells_one list.Receives (over_queue (alone.with_appended msg) c)).channel).channel in
       let g =
-      departed (line_of s.names) held s.channel.closed (streams_are s.names) Sends (Op op) (inl send_is) (after_news Message s.waiting)
-      (placed_news (line_of s.names) Message s.waiting awake.placed) (keys_news (line_of s.names) held Message s.waiting h.keys)
-      (λ f own. empty_news Message own s.waiting (awake.opened f own)) d (message_lines (line_of s.names) held s.channel.closed c.roster s.waiting awake.placed.lines h.lines) (held (Op op)) refl in
+      departed (line_at s.names) held s.channel.closed (streams_are s.names) Sends (Op op) (inl send_is) (after_news Message s.waiting)
+      (placed_news (line_at s.names) Message s.waiting awake.placed) (keys_news (line_at s.names) held Message s.waiting h.keys)
+      (λ f own. empty_news Message own s.waiting (awake.opened f own)) d (message_lines (line_at s.names) held s.channel.closed c.roster s.waiting awake.placed.lines h.lines) (held (Op op)) refl in
       let changed = changed_lines held c s h awake op (send handle (Some msg)) Sends (after_news Message s.waiting) (Some (send handle None)) (finished s op handle).names d _ _ s.channel.closed there refl g in
       let woken =
-      message_wakes (line_of s.names) held s.channel.closed c.roster s.waiting ((leaves (held_on list.Sends (held (Op op))) d).woken ++ []) h.lines
+      message_wakes (line_at s.names) held s.channel.closed c.roster s.waiting ((leaves (held_on list.Sends (held (Op op))) d).woken ++ []) h.lines
       ∙ ap (λ (ws : List Waiter). told_by Message s.waiting ++ ws) (append-nil _ ∙ g.wakes) in
       subst (λ (x : Outcome T Waiter). Matches held s (call.Poll op) x) (sym e)
       (record {

@@ -17,7 +17,7 @@ use Rattle.channel_alone.specs.Alone as alone
 use Rattle.channel_alone.specs.Alone.{Outcome, Alone, ends, of_room, over_queue, PollsFor, PollsStream}
 use Rattle.channel_model.specs.Answer.{Found, first, none_yet, none_ever, found, replying, next_answer, poll_next_answer}
 use Rattle.channel_model.specs.Awake.{AwakeIn}
-use Rattle.channel_model.specs.Laws.{line_of}
+use Rattle.channel_model.specs.Laws.{line_at}
 use Rattle.channel_model.specs.Lines.{Waiting, is_among, without_waiter, told_by, gone, standing}
 use Rattle.channel_model.specs.Refused.{next_not_polled, answer_without}
 use Rattle.channel_model.specs.State.{State, with_waiting}
@@ -49,7 +49,7 @@ module _ {T : Type 0} (held : KeysHeld) (s : State T) (receiver : HandleId) (awa
   unheld = with_held (Stream receiver) None held
 
   still_awake : AwakeIn used_up
-  still_awake = awake_without_stream (line_of s.names) s.channel.capacity s.channel.closed (length s.channel.messages) (Stream receiver) s.waiting refl awake
+  still_awake = awake_without_stream (line_at s.names) s.channel.capacity s.channel.closed (length s.channel.messages) (Stream receiver) s.waiting refl awake
 
   -- what a poll answers then
   answer_then : (x : Found T) → is_among (Stream receiver) s.waiting.streams ≡ false → found s.channel ≡ x → next_answer used_up receiver x ≡ poll_next_answer s receiver
@@ -69,7 +69,7 @@ module _ {T : Type 0} (held : KeysHeld) (s : State T) (receiver : HandleId) (awa
     got m ms e =
         let found_first : found s.channel ≡ first m ms = rw (sym h.messages ∙ e) refl in
         let l : Waiting = gone (Stream receiver) s.waiting in
-        let woken = room_wakes (line_of s.names) unheld s.channel.closed c.roster l [] h.lines ∙ append-nil _ in
+        let woken = room_wakes (line_at s.names) unheld s.channel.closed c.roster l [] h.lines ∙ append-nil _ in
         record {
           answer = next_answer used_up receiver (first m ms);
           allowed = inl (answer_then (first m ms) u found_first);
@@ -81,8 +81,8 @@ module _ {T : Type 0} (held : KeysHeld) (s : State T) (receiver : HandleId) (awa
             capacity = h.capacity;
             senders = h.senders;
             receivers = h.receivers;
-            lines = room_lines (line_of s.names) unheld s.channel.closed c.roster l still_awake.placed.lines h.lines;
-            keys = keys_news (line_of s.names) unheld Room l h.keys;
+            lines = room_lines (line_at s.names) unheld s.channel.closed c.roster l still_awake.placed.lines h.lines;
+            keys = keys_news (line_at s.names) unheld Room l h.keys;
           };
           names = refl;
           told =
@@ -114,7 +114,7 @@ module _ {T : Type 0} (held : KeysHeld) (s : State T) (receiver : HandleId) (awa
           shows = subst (λ (f : KeysHeld). Refines f d (next_answer used_up receiver none_yet).after) (held_twice (Stream receiver) (Some key) None held) g;
           names = refl;
           told =
-              told_standing (line_of s.names) Streams (Stream receiver) (gone (Stream receiver) s.waiting) still_awake.placed
+              told_standing (line_at s.names) Streams (Stream receiver) (gone (Stream receiver) s.waiting) still_awake.placed
               ∙ sym (told_gone (Stream receiver) (without_waiter (Stream receiver) s.waiting.woken))
               ∙ without_absent (Stream receiver) (without_waiter (Stream receiver) s.waiting.woken) (none_left (Stream receiver) s.waiting.woken)
               ∙ told_gone (Stream receiver) s.waiting.woken;
@@ -151,14 +151,14 @@ module _ {T : Type 0} (held : KeysHeld) (s : State T) (receiver : HandleId) (awa
 -- ---- from what the stream holds
 
 module _ {T : Type 0} (held : KeysHeld) (c : Channel T Waiter) (s : State T) (h : Refines held c s) (awake : AwakeIn s) (receiver : HandleId) where
-  shown_so : (key : Option Key) (m : Waiting) (d : Channel T Waiter) → d.queue ≡ c.queue → Waited (line_of s.names) held s.channel.closed (Stream receiver) c.roster d.roster key m
+  shown_so : (key : Option Key) (m : Waiting) (d : Channel T Waiter) → d.queue ≡ c.queue → Waited (line_at s.names) held s.channel.closed (Stream receiver) c.roster d.roster key m
       → Refines (with_held (Stream receiver) key held) d (with_waiting m s)
   shown_so key m d e g = shown Streams (reply.Next poll.Pending) (λ e. refused_reply list.Streams e) None (Stream receiver) held c s h awake refl key m d e g
 
   told_not_untold : is_among (Stream receiver) s.waiting.woken ≡ true → is_among (Stream receiver) s.waiting.streams ≡ false
   told_not_untold t = elim (decided (is_among (Stream receiver) s.waiting.streams)) [
     | inr u ↦ u
-    | inl u ↦ absurd (not_both (line_of s.names) Streams (Stream receiver) s.waiting awake.placed u t)
+    | inl u ↦ absurd (not_both (line_at s.names) Streams (Stream receiver) s.waiting awake.placed u t)
   ]
 
   still_untold : is_among (Stream receiver) s.waiting.streams ≡ true → replying (with_waiting (standing Streams (Stream receiver) s.waiting) s) (reply.Next poll.Pending) ≡ poll_next_answer s receiver
@@ -166,20 +166,20 @@ module _ {T : Type 0} (held : KeysHeld) (c : Channel T Waiter) (s : State T) (h 
 
   polls_by : (key : Option Key) (o : Outcome T Waiter) → held (Stream receiver) ≡ key → Alone (ask.PollNext key (Stream receiver)) c o → Matches held s (call.PollNext receiver) o
   polls_by None o e x =
-      let away : Nowhere (Stream receiver) s.waiting = keyless_nowhere (line_of s.names) held s.channel.closed c.roster s.waiting Streams (Stream receiver) refl e awake.placed h.lines in
+      let away : Nowhere (Stream receiver) s.waiting = keyless_nowhere (line_at s.names) held s.channel.closed c.roster s.waiting Streams (Stream receiver) refl e awake.placed h.lines in
       polls_used held s receiver awake (away.lines Streams) c
       (shown_so None (gone (Stream receiver) s.waiting) c refl
-      (away_unheld (line_of s.names) held s.channel.closed (streams_are s.names) Streams (Stream receiver) refl s.waiting awake.placed h.keys awake.opened c.roster h.lines e)) o x
+      (away_unheld (line_at s.names) held s.channel.closed (streams_are s.names) Streams (Stream receiver) refl s.waiting awake.placed h.keys awake.opened c.roster h.lines e)) o x
   polls_by (Some key) o e x = elim (decided (is_among (Stream receiver) s.waiting.woken)) [
     | inl t ↦
-        let used = away_told (line_of s.names) held s.channel.closed (streams_are s.names) Streams (Stream receiver) refl s.waiting awake.placed h.keys awake.opened c.roster h.lines key e t in
+        let used = away_told (line_at s.names) held s.channel.closed (streams_are s.names) Streams (Stream receiver) refl s.waiting awake.placed h.keys awake.opened c.roster h.lines key e t in
         let d : Channel T Waiter = (registers list.Streams key (Stream receiver) c).channel in
         polls_used held s receiver awake (told_not_untold t) d (shown_so None (gone (Stream receiver) s.waiting) d refl used.1) o
         (where_false (waits key (listeners list.Streams c.roster)) _ _ used.0 x)
     | inr t ↦ elim (decided (is_among (Stream receiver) s.waiting.streams)) [
-      | inr u ↦ absurd (away_holds_none (line_of s.names) held Streams (Stream receiver) s.waiting key refl awake.placed h.keys e u t)
+      | inr u ↦ absurd (away_holds_none (line_at s.names) held Streams (Stream receiver) s.waiting key refl awake.placed h.keys e u t)
       | inl u ↦
-          let stayed = stays (line_of s.names) held s.channel.closed (streams_are s.names) Streams (Stream receiver) refl s.waiting awake.placed h.keys awake.opened c.roster h.lines key e t u in
+          let stayed = stays (line_at s.names) held s.channel.closed (streams_are s.names) Streams (Stream receiver) refl s.waiting awake.placed h.keys awake.opened c.roster h.lines key e t u in
           let d : Channel T Waiter = (registers list.Streams key (Stream receiver) c).channel in
           subst (λ (y : Outcome T Waiter). Matches held s (call.PollNext receiver) y) (sym (where_true (waits key (listeners list.Streams c.roster)) _ _ stayed.0 x))
           (record {
@@ -189,7 +189,7 @@ module _ {T : Type 0} (held : KeysHeld) (c : Channel T Waiter) (s : State T) (h 
             woken = refl;
             shows = shown_so (Some key) (standing Streams (Stream receiver) s.waiting) d refl stayed.1;
             names = refl;
-            told = told_standing (line_of s.names) Streams (Stream receiver) s.waiting awake.placed;
+            told = told_standing (line_at s.names) Streams (Stream receiver) s.waiting awake.placed;
           })
     ]
   ]

@@ -14,8 +14,8 @@ use Rattle.channel_alone.specs.Alone as alone
 use Rattle.channel_alone.specs.Alone.{Outcome, ends, of_message, of_closing, over_queue, receives_by, receives, receives_these, receives_several, ReceivesSeveral, sends, force_sends, closes, MayLackRoom}
 use Rattle.channel_model.specs.Answer.{Found, first, none_yet, none_ever, found, try_recv_answer, recv_many_answer, try_send_answer, force_send_answer, displacing, space_of, replying, after_telling, shut}
 use Rattle.channel_model.specs.Awake.{AwakeIn}
-use Rattle.channel_model.specs.Channel.{is_full, holding}
-use Rattle.channel_model.specs.Laws.{line_of}
+use Rattle.channel_model.specs.Channel.{is_full, with_messages}
+use Rattle.channel_model.specs.Laws.{line_at}
 use Rattle.channel_model.specs.Refused.{Answers, memory, not_held}
 use Rattle.channel_model.specs.State.{State, with_channel}
 use Rattle.channel_model.specs.declared.call.Call.{Call}
@@ -79,7 +79,7 @@ module _ {T : Type 0} (held : KeysHeld) (c : Channel T Waiter) (s : State T) (h 
       only_answers call r o nobody (allowed Open (lacking_space lack.0 lack.1) free) names lack.2
 
   module _ (awake : AwakeIn s) where
-    lined : Lined (line_of s.names) s.waiting
+    lined : Lined (line_at s.names) s.waiting
     lined = awake.placed.lines
 
     -- ---- receiving
@@ -93,7 +93,7 @@ module _ {T : Type 0} (held : KeysHeld) (c : Channel T Waiter) (s : State T) (h 
         only_answers (call.TryRecv receiver) (reply.TryRecv (Err unreceived.Empty)) _ refl (inl (ap (λ (x : Found T). try_recv_answer s x) (sym none))) refl (rw f refl)
     receiving receiver (m ∷ ms) closed e f =
         let some : found s.channel ≡ first m ms = rw (sym h.messages ∙ e) refl in
-        let woken = room_wakes (line_of s.names) held s.channel.closed c.roster s.waiting [] h.lines ∙ append-nil _ in
+        let woken = room_wakes (line_at s.names) held s.channel.closed c.roster s.waiting [] h.lines ∙ append-nil _ in
         record {
           answer = try_recv_answer s (first m ms);
           allowed = inl (ap (λ (x : Found T). try_recv_answer s x) (sym some));
@@ -105,8 +105,8 @@ module _ {T : Type 0} (held : KeysHeld) (c : Channel T Waiter) (s : State T) (h 
             capacity = h.capacity;
             senders = h.senders;
             receivers = h.receivers;
-            lines = room_lines (line_of s.names) held s.channel.closed c.roster s.waiting lined h.lines;
-            keys = keys_news (line_of s.names) held Room s.waiting h.keys;
+            lines = room_lines (line_at s.names) held s.channel.closed c.roster s.waiting lined h.lines;
+            keys = keys_news (line_at s.names) held Room s.waiting h.keys;
           };
           names = refl;
           told = ap (λ (ws : List Waiter). s.waiting.woken ++ ws) (sym woken);
@@ -127,7 +127,7 @@ module _ {T : Type 0} (held : KeysHeld) (c : Channel T Waiter) (s : State T) (h 
     several_taken receiver n (m ∷ ms) e =
         let some : take (suc n) s.channel.messages ≡ m ∷ ms = ap (λ (xs : List T). take (suc n) xs) (sym h.messages) ∙ e in
         let k = length (m ∷ ms) in
-        let woken = append-nil _ ∙ rooms_wakes (line_of s.names) held k s.channel.closed c.roster s.waiting lined h.lines in
+        let woken = append-nil _ ∙ rooms_wakes (line_at s.names) held k s.channel.closed c.roster s.waiting lined h.lines in
         record {
           answer = recv_many_answer s (suc n) (m ∷ ms) (drop (suc n) s.channel.messages);
           allowed = inl (sym (ap (λ (xs : List T). recv_many_answer s (suc n) xs (drop (suc n) s.channel.messages)) some));
@@ -139,8 +139,8 @@ module _ {T : Type 0} (held : KeysHeld) (c : Channel T Waiter) (s : State T) (h 
             capacity = h.capacity;
             senders = h.senders;
             receivers = h.receivers;
-            lines = rooms_lines (line_of s.names) held k s.channel.closed c.roster s.waiting lined h.lines;
-            keys = keys_rooms (line_of s.names) held k s.waiting h.keys;
+            lines = rooms_lines (line_at s.names) held k s.channel.closed c.roster s.waiting lined h.lines;
+            keys = keys_rooms (line_at s.names) held k s.waiting h.keys;
           };
           names = refl;
           told = rooms_woken k s.waiting ∙ ap (λ (ws : List Waiter). s.waiting.woken ++ ws) (sym woken);
@@ -163,34 +163,34 @@ module _ {T : Type 0} (held : KeysHeld) (c : Channel T Waiter) (s : State T) (h 
     -- ---- sending
 
     -- a message that comes in, perhaps in the place of an older one
-    came_in : (call : Call T) (r : Reply T) (f : Queue T → Queue T) (ms : List T) → keeper s call ≡ None → Answers s call (after_telling Message (with_channel (holding s.channel ms) s) r)
+    came_in : (call : Call T) (r : Reply T) (f : Queue T → Queue T) (ms : List T) → keeper s call ≡ None → Answers s call (after_telling Message (with_channel (with_messages s.channel ms) s) r)
         → s.names ≡ names_after s call (ends of_message (says r) (over_queue f c))
         → (f c.queue).items ≡ ms → (f c.queue).closed ≡ c.queue.closed → (f c.queue).capacity ≡ c.queue.capacity → Matches held s call (ends of_message (says r) (over_queue f c))
     came_in call r f ms nobody allowed names items closed capacity =
-        let woken = message_wakes (line_of s.names) held s.channel.closed c.roster s.waiting [] h.lines ∙ append-nil _ in
-        let shows : Refines held (ends of_message (says r) (over_queue f c)).channel (after_telling Message (with_channel (holding s.channel ms) s) r).after =
+        let woken = message_wakes (line_at s.names) held s.channel.closed c.roster s.waiting [] h.lines ∙ append-nil _ in
+        let shows : Refines held (ends of_message (says r) (over_queue f c)).channel (after_telling Message (with_channel (with_messages s.channel ms) s) r).after =
         record {
           messages = items;
           closed = closed ∙ h.closed;
           capacity = capacity ∙ h.capacity;
           senders = h.senders;
           receivers = h.receivers;
-          lines = message_lines (line_of s.names) held s.channel.closed c.roster s.waiting lined h.lines;
-          keys = keys_news (line_of s.names) held Message s.waiting h.keys;
+          lines = message_lines (line_at s.names) held s.channel.closed c.roster s.waiting lined h.lines;
+          keys = keys_news (line_at s.names) held Message s.waiting h.keys;
         } in
-        matching held s call None nobody (ends of_message (says r) (over_queue f c)) (after_telling Message (with_channel (holding s.channel ms) s) r) allowed refl woken shows names
+        matching held s call None nobody (ends of_message (says r) (over_queue f c)) (after_telling Message (with_channel (with_messages s.channel ms) s) r) allowed refl woken shows names
         (ap (λ (ws : List Waiter). s.waiting.woken ++ ws) (sym woken))
 
     sending : (sender : HandleId) (m : T) (closed full : Bool) → c.queue.closed ≡ closed → is_filled c.queue ≡ full → Matches held s (call.TrySend sender m)
         (if closed then ends [] (says (reply.TrySend (Err (unmade.Plain (unsent.Closed m))))) c
         else (if full then ends [] (says (reply.TrySend (Err (unmade.Plain (unsent.Full m))))) c
-        else ends of_message (says (reply.TrySend (Ok tt))) (over_queue (alone.appended m) c)))
+        else ends of_message (says (reply.TrySend (Ok tt))) (over_queue (alone.with_appended m) c)))
     sending sender m true full e f =
         only_answers (call.TrySend sender m) (reply.TrySend (Err (unmade.Plain (unsent.Closed m)))) _ refl (inl (ap (λ (x : Space). try_send_answer s m x) (sym (shut_space e)))) refl refl
     sending sender m false true e f =
         only_answers (call.TrySend sender m) (reply.TrySend (Err (unmade.Plain (unsent.Full m)))) _ refl (inl (ap (λ (x : Space). try_send_answer s m x) (sym (filled_space e f)))) refl refl
     sending sender m false false e f =
-        came_in (call.TrySend sender m) (reply.TrySend (Ok tt)) (alone.appended m) (s.channel.messages ++ m ∷ []) refl
+        came_in (call.TrySend sender m) (reply.TrySend (Ok tt)) (alone.with_appended m) (s.channel.messages ++ m ∷ []) refl
         (inl (ap (λ (x : Space). try_send_answer s m x) (sym (open_space e f)))) refl (ap (λ (items : List T). items ++ m ∷ []) h.messages) refl refl
 
     pub try_send : (sender : HandleId) (m : T) (o : Outcome T Waiter) → o ≡ sends m c → Matches held s (call.TrySend sender m) o
@@ -219,12 +219,12 @@ module _ {T : Type 0} (held : KeysHeld) (c : Channel T Waiter) (s : State T) (h 
     forcing : (sender : HandleId) (m : T) (closed full : Bool) → c.queue.closed ≡ closed → is_filled c.queue ≡ full → Matches held s (call.ForceSend sender m)
         (if closed then ends [] (says (reply.ForceSend (Err (unmade.Plain (record { 0 = m }))))) c
         else (if full then ends of_message (says (reply.ForceSend (Ok (slice_get c.queue.items 0)))) (over_queue (alone.replaced m) c)
-        else ends of_message (says (reply.ForceSend (Ok None))) (over_queue (alone.appended m) c)))
+        else ends of_message (says (reply.ForceSend (Ok None))) (over_queue (alone.with_appended m) c)))
     forcing sender m true full e f =
         only_answers (call.ForceSend sender m) (reply.ForceSend (Err (unmade.Plain (record { 0 = m })))) _ refl (inl (ap (λ (x : Space). force_send_answer s m x) (sym (shut_space e)))) refl refl
     forcing sender m false true e f = displaces sender m c.queue.items e f refl
     forcing sender m false false e f =
-        came_in (call.ForceSend sender m) (reply.ForceSend (Ok None)) (alone.appended m) (s.channel.messages ++ m ∷ []) refl
+        came_in (call.ForceSend sender m) (reply.ForceSend (Ok None)) (alone.with_appended m) (s.channel.messages ++ m ∷ []) refl
         (inl (ap (λ (x : Space). force_send_answer s m x) (sym (open_space e f)))) refl (ap (λ (items : List T). items ++ m ∷ []) h.messages) refl refl
 
     pub force_send : (sender : HandleId) (m : T) (o : Outcome T Waiter) → o ≡ force_sends m c → Matches held s (call.ForceSend sender m) o
@@ -239,10 +239,10 @@ module _ {T : Type 0} (held : KeysHeld) (c : Channel T Waiter) (s : State T) (h 
     -- ---- closing
 
     closing : (handle : HandleId) (closed : Bool) → c.queue.closed ≡ closed
-        → Matches held s (call.Close handle) (if closed then ends [] (closer_ending closer.Call false) c else ends of_closing (closer_ending closer.Call true) (over_queue alone.shut c))
+        → Matches held s (call.Close handle) (if closed then ends [] (closer_ending closer.Call false) c else ends of_closing (closer_ending closer.Call true) (over_queue alone.with_closed c))
     closing handle true e = only_answers (call.Close handle) (reply.Closed false) _ refl (inl (rw (sym h.closed ∙ e) refl)) refl refl
     closing handle false e =
-        let woken = closing_wakes (line_of s.names) held s.channel.closed c.roster s.waiting [] h.lines ∙ append-nil _ in
+        let woken = closing_wakes (line_at s.names) held s.channel.closed c.roster s.waiting [] h.lines ∙ append-nil _ in
         record {
           answer = after_telling Closing (with_channel (shut s.channel) s) (reply.Closed true);
           allowed = inl (rw (sym h.closed ∙ e) refl);
@@ -254,8 +254,8 @@ module _ {T : Type 0} (held : KeysHeld) (c : Channel T Waiter) (s : State T) (h 
             capacity = h.capacity;
             senders = h.senders;
             receivers = h.receivers;
-            lines = closing_lines (line_of s.names) held c.roster s.waiting lined (shut_lines (line_of s.names) held s.channel.closed c.roster s.waiting h.lines);
-            keys = keys_news (line_of s.names) held Closing s.waiting h.keys;
+            lines = closing_lines (line_at s.names) held c.roster s.waiting lined (shut_lines (line_at s.names) held s.channel.closed c.roster s.waiting h.lines);
+            keys = keys_news (line_at s.names) held Closing s.waiting h.keys;
           };
           names = refl;
           told = ap (λ (ws : List Waiter). s.waiting.woken ++ ws) (sym woken);

@@ -12,4 +12,4 @@ module _ {T : Type 0} where
   asked_in held s c = names.asked held s.names c
 
   abbrev pub keeper : State T → Call T → Option Waiter
-  keeper s c = names.keeper s.names c
+  keeper s c = names.keeper_in s.names c

@@ -9,7 +9,7 @@ use Rattle.channel_alone.specs.Alone.{Outcome, Alone}
 use Rattle.channel_model.specs.Answer.{Answer, weak_of, strong_of}
 use Rattle.channel_model.specs.Awake.{AwakeIn}
 use Rattle.channel_model.specs.Lines.{without_waiter}
-use Rattle.channel_model.specs.Names.{Names, ModelOperation, send, recv, closing, at, with_new, with_spent, with_handles, with_operation, with_operation_changed, without_operation}
+use Rattle.channel_model.specs.Names.{Names, ModelOperation, send, recv, closing, at, with_new, with_spent, with_handles, with_new_operation, with_operation_changed, without_operation}
 use Rattle.channel_model.specs.Names as names
 use Rattle.channel_model.specs.Refusal.{refusal}
 use Rattle.channel_model.specs.Refused.{Answers}
@@ -50,9 +50,9 @@ module _ {T : Type 0} where
   kind_at handle names = option_map (λ (h : Handle). h.kind) (at handle.0 names.handles)
 
   abbrev pub names_after : State T → Call T → Outcome T Waiter → Names T
-  names_after s (call.NewSend op sender msg) o = with_operation op (send sender (Some msg)) s.names
-  names_after s (call.NewRecv op receiver) o = with_operation op (recv receiver) s.names
-  names_after s (call.NewClosed op sender) o = with_operation op (closing sender) s.names
+  names_after s (call.NewSend op sender msg) o = with_new_operation op (send sender (Some msg)) s.names
+  names_after s (call.NewRecv op receiver) o = with_new_operation op (recv receiver) s.names
+  names_after s (call.NewClosed op sender) o = with_new_operation op (closing sender) s.names
   names_after s (call.Poll op) o = polled_names op (at op.0 s.names.operations) o.kept.message s.names
   names_after s (call.PollRefused op) o = refused_names op (at op.0 s.names.operations) o.kept.message s.names
   names_after s (call.GiveUp op) o = given_up_names op (at op.0 s.names.operations) s.names

@@ -9,7 +9,7 @@ use Rattle.channel_calls.specs.declared.stage.Line.{Line as ListName}
 use Rattle.channel_calls.specs.declared.stage.Line.TheVariants as list
 use Rattle.channel_model.specs.Asked.{KeysHeld}
 use Rattle.channel_model.specs.Lines.{Waiting, same_waiter, untold}
-use Rattle.channel_model.specs.Laws.{is_line, line_of}
+use Rattle.channel_model.specs.Laws.{is_line, line_at}
 use Rattle.channel_model.specs.Awake.{Kind, times_in}
 use Rattle.channel_model.specs.State.{State}
 use Rattle.channel_model.specs.declared.name.Waiter.{Waiter}
@@ -78,5 +78,5 @@ pub record Refines {T : Type 0} (held : KeysHeld) (c : Channel T Waiter) (s : St
   pub capacity : c.queue.capacity ≡ s.channel.capacity
   pub senders : c.roster.senders ≡ s.channel.senders
   pub receivers : c.roster.receivers ≡ s.channel.receivers
-  pub lines : ShowsLines (line_of s.names) held s.channel.closed c.roster s.waiting
-  pub keys : KeysFit (line_of s.names) held s.waiting
+  pub lines : ShowsLines (line_at s.names) held s.channel.closed c.roster s.waiting
+  pub keys : KeysFit (line_at s.names) held s.waiting

@@ -18,7 +18,7 @@ use Rattle.channel_model.specs.Answer.{Answer}
 use Rattle.channel_model.specs.Asked.{KeysHeld as Holding}
 use Rattle.channel_model.specs.Awake.{AwakeIn, Kind, times, times_in}
 use Rattle.channel_model.specs.Channel.{ModelChannel as PlainChannel}
-use Rattle.channel_model.specs.Laws.{line_of, is_line}
+use Rattle.channel_model.specs.Laws.{line_at, is_line}
 use Rattle.channel_model.specs.Lines.{Waiting, same_waiter, is_among, without_waiter}
 use Rattle.channel_model.specs.Names.{Names}
 use Rattle.channel_model.specs.Refusal as model
@@ -43,7 +43,7 @@ use Rattle.channel_interleaving.specs.Kept.{AllKept}
 use Rattle.channel_interleaving.specs.Lone.{names_alone, order_alone, book_alone}
 use Rattle.channel_interleaving.specs.OwnerOrder.{woken_in}
 use Rattle.channel_interleaving.specs.Owners.{IsAmong, amiss, waits, post}
-use Rattle.channel_interleaving.specs.Refusal.{refusal}
+use Rattle.channel_interleaving.specs.Refusal.{begin_refusal}
 use Rattle.channel_interleaving.specs.Roll.{names_of, held_of}
 use Rattle.channel_interleaving.specs.Run.{Book}
 use Rattle.channel_interleaving.specs.declared.names.Agent.{Agent}
@@ -129,7 +129,7 @@ module _ {T : Type 0} where
       let h = kept.polled w line e in subst (λ (l : List (Agent T)). IsAmong h.0 l) none h.1
 
   pub refusals_agree : (b : Book T) (s : Scene T Waiter) (c : Call T) → AllKept b s → b.agents ≡ []
-      → refusal b.roll c ≡ model.refusal (state_at b s) c
+      → begin_refusal b.roll c ≡ model.refusal (state_at b s) c
   refusals_agree b s c kept none =
       let o = kept.owned in
       refusal_same b.roll (none_polled b s kept none) o.none_amiss (state_at b s) c refl
@@ -160,14 +160,14 @@ module _ {T : Type 0} where
         let among : is_among v answer.after.waiting.woken ≡ true =
         ap (λ (l : List Waiter). is_among v l) told_are ∙ among_last own v before.waiting.woken o.woken e in
         held_before own o.kept.key (held_of b.roll) v o.woken e
-        (of_kind (line_of answer.after.names v) refl (awake.placed.wakes v among) among)
+        (of_kind (line_at answer.after.names v) refl (awake.placed.wakes v among) among)
       where
-        of_kind : (k : Option Line) → line_of answer.after.names v ≡ k → IsSome k → is_among v answer.after.waiting.woken ≡ true
+        of_kind : (k : Option Line) → line_at answer.after.names v ≡ k → IsSome k → is_among v answer.after.waiting.woken ≡ true
             → is_some (held_after before c o.kept.key (held_of b.roll) v) ≡ true
         of_kind None k some among = cc some
         of_kind (Some line) k some among =
             told_holds (held_after before c o.kept.key (held_of b.roll)) answer.after.channel.closed line _ _
-            (matches.shows.lines line).told v (among_line (line_of answer.after.names) line v answer.after.waiting.woken k among)
+            (matches.shows.lines line).told v (among_line (line_at answer.after.names) line v answer.after.waiting.woken k among)
 
     named : (v : Waiter) → is_among v (but_for own o.woken) ≡ true → (h : Held) × (w : Bool) × (post b.roll v ≡ waits h w)
     named v e = by (held_of b.roll v) refl (holds v e)

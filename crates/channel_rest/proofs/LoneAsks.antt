@@ -27,7 +27,7 @@ use Rattle.channel_model.specs.declared.refusal.WorldRefusal.{WorldRefusal}
 use Rattle.channel_model.specs.declared.refusal.WorldRefusal.TheVariants.{UnknownName, WrongKind, OpUnderWay, Borrowed, NameTaken}
 use Rattle.channel_interleaving.specs.Bookkeeping.{asks}
 use Rattle.channel_interleaving.specs.Owners.{amiss, polled, stream_post, operation_post, post}
-use Rattle.channel_interleaving.specs.Refusal.{is_operation_polled, is_stream_polled, meets_poll, names_taken, refusal}
+use Rattle.channel_interleaving.specs.Refusal.{is_operation_polled, is_stream_polled, meets_poll, takes_again, begin_refusal}
 use Rattle.channel_interleaving.specs.Roll.{is_polled, has_finished, is_done, operation_of, names_of, held_of}
 use Rattle.channel_interleaving.specs.declared.names.Hold.{Hold}
 use Rattle.channel_interleaving.specs.declared.names.Operation.{Operation}
@@ -195,7 +195,7 @@ module _ {T : Type 0} where
       handle_taken : (new : HandleId) → names.is_taken new.0 r.handles ≡ names.is_taken new.0 (names_of r).handles
       handle_taken new = sym (taken_seen (λ (h : Hold). h.handle) new.0 r.handles)
 
-      taken_same : (c : Call T) → names_taken r c ≡ wants.names_taken (names_of r) c
+      taken_same : (c : Call T) → takes_again r c ≡ wants.names_taken (names_of r) c
       taken_same (call.NewSend op sender msg) = operation_taken op
       taken_same (call.NewRecv op receiver) = operation_taken op
       taken_same (call.NewClosed op sender) = operation_taken op
@@ -232,11 +232,11 @@ module _ {T : Type 0} where
           else (if borrowed then Some Borrowed
           else (if taken then Some NameTaken else None))))
 
-      pub refusal_same : (s : State T) (c : Call T) → s.names ≡ names_of r → refusal r c ≡ wants.refusal s c
+      pub refusal_same : (s : State T) (c : Call T) → s.names ≡ names_of r → begin_refusal r c ≡ wants.refusal s c
       refusal_same s c e =
           let live = list_all (is_live (names_of r)) (uses c) in
           let fit = are_fit (names_of r) c in
           let borrowed = takes_borrowed (names_of r) c in
-          let idle : refusal r c ≡ first_of live fit false borrowed (names_taken r c) =
-          ap (λ (b : Bool). first_of live fit b borrowed (names_taken r c)) (meets_none c) in
+          let idle : begin_refusal r c ≡ first_of live fit false borrowed (takes_again r c) =
+          ap (λ (b : Bool). first_of live fit b borrowed (takes_again r c)) (meets_none c) in
           idle ∙ (ap (λ (b : Bool). first_of live fit false borrowed b) (taken_same c) ∙ rw e refl)

@@ -9,7 +9,7 @@ use Rattle.channel_model.proofs.WaiterLemmas.{same_refl, same_sound, decided}
 use Rattle.channel_model.specs.Lines.{same_waiter, is_among, without_waiter}
 use Rattle.channel_model.specs.declared.name.HandleId.{HandleId}
 use Rattle.channel_model.specs.declared.name.Waiter.{Waiter}
-use Rattle.channel_interleaving.specs.Bookkeeping.{settled}
+use Rattle.channel_interleaving.specs.Bookkeeping.{written_back}
 use Rattle.channel_interleaving.specs.Order.{placed, kept_place, order_settled}
 use Rattle.channel_interleaving.specs.OwnerOrder.{was_woken, woken_in}
 use Rattle.channel_interleaving.specs.Owners.{post}
@@ -149,7 +149,7 @@ module _ {T : Type 0} where
   EndsSo r e k =
       (x : Reply T) (kept : Kept T) (r' : Roll T) (order : List Waiter)
       → ((v : Waiter) → is_pending (post r' v) ≡ is_pending (post r v))
-      → woken_in (settled e x kept r') (order_settled e kept.key order) ≡ but_for k (woken_in r' order)
+      → woken_in (written_back e x kept r') (order_settled e kept.key order) ≡ but_for k (woken_in r' order)
 
   pub same_woken : (r new : Roll T) (order : List Waiter) → ((v : Waiter) → was_woken (post new v) ≡ was_woken (post r v))
       → woken_in new order ≡ woken_in r order

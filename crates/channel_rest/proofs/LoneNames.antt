@@ -21,7 +21,7 @@ use Rattle.channel_model.specs.declared.name.HandleKind.{HandleKind}
 use Rattle.channel_model.specs.declared.name.OpId.{OpId}
 use Rattle.channel_model.specs.declared.name.Waiter.{Waiter}
 use Rattle.channel_refinement.specs.Over.{polled_names, refused_names, given_up_names, made_names, kind_at, names_after}
-use Rattle.channel_interleaving.specs.Bookkeeping.{asks, unpolled, leave_handle_of, new_from, lent_by, operation_named, handle_named, lent_to_poll, installed, settled, with_operation, all_woken}
+use Rattle.channel_interleaving.specs.Bookkeeping.{asks, unpolled, leave_handle_of, new_from, lent_by, operation_named, handle_named, lent_to_poll, installed, written_back, with_operation, all_woken}
 use Rattle.channel_interleaving.specs.Roll.{names_of, operation_of, operation_at, handle_at, held_of, with_lent, with_standing, with_given_back, standing_with}
 use Rattle.channel_interleaving.specs.declared.names.Errand.{Errand}
 use Rattle.channel_interleaving.specs.declared.names.Errand.TheVariants as errand
@@ -72,7 +72,7 @@ module _ {T : Type 0} where
   seen_installed new k x r = refl
 
   seen_settled : (e : Errand T) (x : Reply T) (kept : Kept T) (r : Roll T)
-      → names_of (settled e x kept r) ≡ settled_names e x kept (names_of r)
+      → names_of (written_back e x kept r) ≡ settled_names e x kept (names_of r)
   seen_settled errand.Nothing x kept r = refl
   seen_settled (errand.Leave handle) x kept r = seen_back r handle
   seen_settled (errand.LeaveBoth a b) x kept r =
@@ -89,7 +89,7 @@ module _ {T : Type 0} where
 
   -- and it is so whoever was woken
   ends_so : (e : Errand T) (x : Reply T) (kept : Kept T) (ws : List Waiter) (r : Roll T) (n : Names T) → names_of r ≡ n
-      → names_of (settled e x kept (all_woken ws r)) ≡ settled_names e x kept n
+      → names_of (written_back e x kept (all_woken ws r)) ≡ settled_names e x kept n
   ends_so e x kept ws r n same =
       seen_settled e x kept (all_woken ws r) ∙ ap (settled_names e x kept) (all_seen ws r ∙ same)
 
@@ -119,7 +119,7 @@ module _ {T : Type 0} where
 
     -- an operation has what its poll left to it
     polls : (op : OpId) (x : Reply T) (kept : Kept T) (ws : List Waiter)
-        → names_of (settled (errand.Poll op) x kept (all_woken ws (with_operation lent_to_poll op r)))
+        → names_of (written_back (errand.Poll op) x kept (all_woken ws (with_operation lent_to_poll op r)))
         ≡ left_names kept.message op (names_of r)
     polls op x kept ws =
         ends_so (errand.Poll op) x kept ws (with_operation lent_to_poll op r) (left_names None op (names_of r))
@@ -166,7 +166,7 @@ module _ {T : Type 0} where
     -- ---- what lives no more
 
     gives_up : (op : OpId) (y : Option (Operation T)) (x : Reply T) (kept : Kept T) (ws : List Waiter) → at op.0 r.operations ≡ y
-        → names_of (settled (leave_handle_of y) x kept (all_woken ws (record r { operations = model.without_name op.0 r.operations })))
+        → names_of (written_back (leave_handle_of y) x kept (all_woken ws (record r { operations = model.without_name op.0 r.operations })))
         ≡ given_up_names op (option_map operation_of y) (names_of r)
     gives_up op None x kept ws e =
         ends_so errand.Nothing x kept ws (record r { operations = model.without_name op.0 r.operations }) (names_of r)
@@ -178,11 +178,11 @@ module _ {T : Type 0} where
         (ap (λ (d : Directory (model.ModelOperation T)). with_operations d (names_of r))
         (views_set operation_of op.0 r.operations None))
         ∙ ap (λ (h : HandleId). let n : Names T =
-        record { handles = model.given_back h handles; operations = model.without_name op.0 operations } in n)
+        record { handles = model.used_once_less h handles; operations = model.without_name op.0 operations } in n)
         (sym (borrowed_is y))
 
     drops : (handle : HandleId) (x : Reply T) (kept : Kept T) (ws : List Waiter)
-        → names_of (settled errand.Nothing x kept (all_woken ws (record r { handles = model.without_name handle.0 r.handles })))
+        → names_of (written_back errand.Nothing x kept (all_woken ws (record r { handles = model.without_name handle.0 r.handles })))
         ≡ model.with_handles (model.without_name handle.0 handles) (names_of r)
     drops handle x kept ws =
         ends_so errand.Nothing x kept ws (record r { handles = model.without_name handle.0 r.handles }) _
@@ -224,13 +224,13 @@ module _ {T : Type 0} where
         ap (λ (d : Directory Handle). model.with_handles d (names_of r)) (back_lent handle.0 (handles r) (lendable_once handle.0))
 
     through : (handle : HandleId) (x : Reply T) (kept : Kept T) (ws : List Waiter)
-        → names_of (settled (errand.Leave handle) x kept (all_woken ws (with_lent handle r))) ≡ names_of r
+        → names_of (written_back (errand.Leave handle) x kept (all_woken ws (with_lent handle r))) ≡ names_of r
     through handle x kept ws =
         ends_so (errand.Leave handle) x kept ws (with_lent handle r) (lent_names handle (names_of r)) (seen_lent r handle)
         ∙ back_is handle
 
     through_both : (a b : HandleId) (x : Reply T) (kept : Kept T) (ws : List Waiter)
-        → names_of (settled (errand.LeaveBoth a b) x kept (all_woken ws (with_lent b (with_lent a r)))) ≡ names_of r
+        → names_of (written_back (errand.LeaveBoth a b) x kept (all_woken ws (with_lent b (with_lent a r)))) ≡ names_of r
     through_both a b x kept ws =
         ends_so (errand.LeaveBoth a b) x kept ws (with_lent b (with_lent a r)) (lent_names b (lent_names a (names_of r)))
         (seen_lent (with_lent a r) b ∙ ap (lent_names b) (seen_lent r a))
@@ -238,7 +238,7 @@ module _ {T : Type 0} where
         (back_both a.0 b.0 (handles r) (lendable a.0) (lendable b.0))
 
     streamed : (receiver : HandleId) (x : Reply T) (kept : Kept T) (ws : List Waiter)
-        → names_of (settled (errand.PollNext receiver) x kept
+        → names_of (written_back (errand.PollNext receiver) x kept
         (all_woken ws (with_lent receiver (with_standing (IsPolled false) receiver r)))) ≡ names_of r
     streamed receiver x kept ws =
         ends_so (errand.PollNext receiver) x kept ws (with_lent receiver (with_standing (IsPolled false) receiver r))
@@ -249,7 +249,7 @@ module _ {T : Type 0} where
 
     -- a call through the handle of an operation
     through_of : (o : Option (Operation T)) (x : Reply T) (kept : Kept T) (ws : List Waiter)
-        → names_of (settled (leave_handle_of o) x kept (all_woken ws (lent_by o r))) ≡ names_of r
+        → names_of (written_back (leave_handle_of o) x kept (all_woken ws (lent_by o r))) ≡ names_of r
     through_of None x kept ws = ends_so errand.Nothing x kept ws r (names_of r) refl
     through_of (Some o) x kept ws = through o.handle x kept ws
 
@@ -257,8 +257,8 @@ module _ {T : Type 0} where
 
     made : (op : OpId) (handle : HandleId) (operation : Operation T) (x : Reply T) (kept : Kept T) (ws : List Waiter)
         → operation.handle ≡ handle
-        → names_of (settled (errand.Make op operation) x kept (all_woken ws (with_lent handle (operation_named op r))))
-        ≡ model.with_operation op (operation_of operation) (names_of r)
+        → names_of (written_back (errand.Make op operation) x kept (all_woken ws (with_lent handle (operation_named op r))))
+        ≡ model.with_new_operation op (operation_of operation) (names_of r)
     made op handle operation x kept ws same =
         ends_so (errand.Make op operation) x kept ws (with_lent handle (operation_named op r)) _
         (seen_lent (operation_named op r) handle)
@@ -274,7 +274,7 @@ module _ {T : Type 0} where
 
     newly : (from new : HandleId) (to : HandleKind → HandleKind) (o : Option Handle) (x : Reply T) (kept : Kept T)
         (ws : List Waiter) → at from.0 (handles r) ≡ o
-        → names_of (settled (new_from from new to o) x kept (all_woken ws (with_lent from (handle_named new r))))
+        → names_of (written_back (new_from from new to o) x kept (all_woken ws (with_lent from (handle_named new r))))
         ≡ made_names new (option_map (λ (h : Handle). to h.kind) o) x (names_of r)
     newly from new to None x kept ws e =
         ends_so errand.Nothing x kept ws (with_lent from (handle_named new r)) _ (seen_lent (handle_named new r) from)
@@ -301,13 +301,13 @@ module _ {T : Type 0} where
       → s.names ≡ names_of r → CanBeLent r → Alone (asks r c) channel o
       → names_of (names_alone r c o.reply o.kept o.woken) ≡ names_after s c o
   names_follow r (call.NewSend op sender msg) s channel o same few alone =
-      follow r s _ (λ n. model.with_operation op (model.send sender (Some msg)) n) same
+      follow r s _ (λ n. model.with_new_operation op (model.send sender (Some msg)) n) same
       (made r few op sender (unpolled kind.Send sender (Some msg)) o.reply o.kept o.woken refl)
   names_follow r (call.NewRecv op receiver) s channel o same few alone =
-      follow r s _ (λ n. model.with_operation op (model.recv receiver) n) same
+      follow r s _ (λ n. model.with_new_operation op (model.recv receiver) n) same
       (made r few op receiver (unpolled kind.Receive receiver None) o.reply o.kept o.woken refl)
   names_follow r (call.NewClosed op sender) s channel o same few alone =
-      follow r s _ (λ n. model.with_operation op (model.closing sender) n) same
+      follow r s _ (λ n. model.with_new_operation op (model.closing sender) n) same
       (made r few op sender (unpolled kind.Closing sender None) o.reply o.kept o.woken refl)
   names_follow r (call.Poll op) s channel o same few alone =
       follow r s _ (λ n. polled_names op (at op.0 n.operations) o.kept.message n) same

@@ -3,7 +3,7 @@ use Rattle.std.proofs.Common.{◌≡◌, ℕ, ◌+◌, ◌-◌, ◌^◌, ◌<◌
 use Rattle.std.proofs.Math.Nat.{min-eq_left}
 use Rattle.std.proofs.lemmas.Cmp.{nat_eq_equiv}
 use Rattle.channel_model.proofs.WaiterLemmas.{decided, same_number}
-use Rattle.channel_model.specs.Names.{Directory, Names, at, with_spent, given_back, lent_once_more, with_changed}
+use Rattle.channel_model.specs.Names.{Directory, Names, at, with_spent, used_once_less, lent_once_more, with_changed}
 use Rattle.channel_model.specs.Names as model
 use Rattle.channel_model.specs.declared.name.Handle.{Handle}
 use Rattle.channel_model.specs.declared.name.HandleId.{HandleId}
@@ -11,7 +11,7 @@ use Rattle.channel_model.specs.declared.name.OpId.{OpId}
 use Rattle.channel_model.specs.declared.name.Waiter.{Waiter}
 use Rattle.channel_model.specs.declared.name.Waiter.TheVariants.{Op, Stream}
 use Rattle.channel_calls.specs.declared.stage.Kept.{Kept}
-use Rattle.channel_interleaving.specs.Bookkeeping.{lent_to_poll, restored, with_operation, woken, all_woken}
+use Rattle.channel_interleaving.specs.Bookkeeping.{lent_to_poll, restored, with_operation, with_one_woken, all_woken}
 use Rattle.channel_interleaving.specs.Roll.{operation_of, used_more, used_less, names_of, told, with_handle, with_lent, with_given_back}
 use Rattle.channel_interleaving.specs.declared.names.Hold.{Hold}
 use Rattle.channel_interleaving.specs.declared.names.Operation.{Operation}
@@ -196,7 +196,7 @@ module _ {T : Type 0} where
       (λ o. left_seen kept.message o.kind o.handle o.message) op.0 r.operations)
 
   -- whoever is woken is the same
-  seen_woken : (w : Waiter) (r : Roll T) → names_of (woken w r) ≡ names_of r
+  seen_woken : (w : Waiter) (r : Roll T) → names_of (with_one_woken w r) ≡ names_of r
   seen_woken (Op op) r =
       ap (λ (d : Directory (model.ModelOperation T)). with_operations d (names_of r))
       (views_kept operation_of (λ (o : Operation T). record o { standing = told o.standing }) (λ o. refl) op.0 r.operations)
@@ -204,4 +204,4 @@ module _ {T : Type 0} where
 
   pub all_seen : (ws : List Waiter) (r : Roll T) → names_of (all_woken ws r) ≡ names_of r
   all_seen [] r = refl
-  all_seen (w ∷ ws) r = all_seen ws (woken w r) ∙ seen_woken w r
+  all_seen (w ∷ ws) r = all_seen ws (with_one_woken w r) ∙ seen_woken w r

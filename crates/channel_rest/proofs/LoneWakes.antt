@@ -7,7 +7,7 @@ use Rattle.channel_model.proofs.WaiterLemmas.{same_refl, same_sound, decided, or
 use Rattle.channel_model.specs.Awake.{times}
 use Rattle.channel_model.specs.Lines.{same_waiter, is_among, without_waiter}
 use Rattle.channel_model.specs.declared.name.Waiter.{Waiter}
-use Rattle.channel_interleaving.specs.Bookkeeping.{woken, all_woken}
+use Rattle.channel_interleaving.specs.Bookkeeping.{with_one_woken, all_woken}
 use Rattle.channel_interleaving.specs.Order.{moved_last, all_moved_last}
 use Rattle.channel_interleaving.specs.OwnerOrder.{was_woken, woken_in}
 use Rattle.channel_interleaving.specs.Owners.{Post, free, vacant, amiss, rests, waits, polled, post}
@@ -192,17 +192,17 @@ module _ {T : Type 0} where
     was v = was_woken (post r v)
 
     abbrev is : Waiter → Bool
-    is v = was_woken (post (woken w r) v)
+    is v = was_woken (post (with_one_woken w r) v)
 
-    one : Sets (post r) (post (woken w r)) w (told_post (post r w))
+    one : Sets (post r) (post (with_one_woken w r)) w (told_post (post r w))
     one = one_woken w r
 
-    pending_one : (v : Waiter) → is_pending (post (woken w r) v) ≡ is_pending (post r v)
+    pending_one : (v : Waiter) → is_pending (post (with_one_woken w r) v) ≡ is_pending (post r v)
     pending_one v = by (decided (same_waiter w v))
       where
-        by : (same_waiter w v ≡ true) ⊎ (same_waiter w v ≡ false) → is_pending (post (woken w r) v) ≡ is_pending (post r v)
+        by : (same_waiter w v ≡ true) ⊎ (same_waiter w v ≡ false) → is_pending (post (with_one_woken w r) v) ≡ is_pending (post r v)
         by (inl t) =
-            subst (λ (x : Waiter). is_pending (post (woken w r) x) ≡ is_pending (post r x)) (same_sound w v t)
+            subst (λ (x : Waiter). is_pending (post (with_one_woken w r) x) ≡ is_pending (post r x)) (same_sound w v t)
             (ap is_pending one.there ∙ told_pending (post r w))
         by (inr t) = ap is_pending (one.others v (not_same v w t))
 
@@ -222,14 +222,14 @@ module _ {T : Type 0} where
         by (inr t) = others_one v t
 
     last_one : (ws : List Waiter) → is_pending (post r w) ≡ true → is_among w ws ≡ true
-        → woken_in (woken w r) (moved_last w ws) ≡ without_waiter w (woken_in r ws) ++ w ∷ []
+        → woken_in (with_one_woken w r) (moved_last w ws) ≡ without_waiter w (woken_in r ws) ++ w ∷ []
     last_one ws on there =
         ap (λ (b : Bool). filter is (cond b (without_waiter w ws ++ w ∷ []) ws)) there
         ∙ (filter-append is (without_waiter w ws) (w ∷ [])
         ∙ (ap (λ (b : Bool). filter is (without_waiter w ws) ++ cond b (w ∷ []) []) (own_one ∙ on)
         ∙ ap (λ (xs : List Waiter). xs ++ w ∷ []) (swap_without w is ws ∙ filter_others (Some w) is was ws others_one)))
 
-    still_one : (ws : List Waiter) → is_pending (post r w) ≡ false → woken_in (woken w r) (moved_last w ws) ≡ woken_in r ws
+    still_one : (ws : List Waiter) → is_pending (post r w) ≡ false → woken_in (with_one_woken w r) (moved_last w ws) ≡ woken_in r ws
     still_one ws off = by (is_among w ws) refl ∙ filter_same is was ws (same_one off)
       where
         by : (b : Bool) → is_among w ws ≡ b → filter is (moved_last w ws) ≡ filter is ws
@@ -241,14 +241,14 @@ module _ {T : Type 0} where
             ∙ (swap_without w is ws ∙ out_already w is ws (own_one ∙ off)))))
         by false e = ap (λ (b : Bool). filter is (cond b (without_waiter w ws ++ w ∷ []) ws)) e
 
-    places_one : (ws : List Waiter) → HavePlaces r ws → HavePlaces (woken w r) (moved_last w ws)
+    places_one : (ws : List Waiter) → HavePlaces r ws → HavePlaces (with_one_woken w r) (moved_last w ws)
     places_one ws places v on = among_moved w v ws (places v (sym (pending_one v) ∙ on))
 
     -- but for one, whoever it is, w was woken last
     own_told : (ws : List Waiter) (k : Waiter) → same_waiter k w ≡ true → HavePlaces r ws
-        → without_waiter k (woken_in (woken w r) (moved_last w ws)) ≡ without_waiter k (woken_in r ws ++ w ∷ [])
+        → without_waiter k (woken_in (with_one_woken w r) (moved_last w ws)) ≡ without_waiter k (woken_in r ws ++ w ∷ [])
     own_told ws k t places =
-        subst (λ (x : Waiter). without_waiter x (woken_in (woken w r) (moved_last w ws)) ≡ without_waiter x (woken_in r ws ++ w ∷ []))
+        subst (λ (x : Waiter). without_waiter x (woken_in (with_one_woken w r) (moved_last w ws)) ≡ without_waiter x (woken_in r ws ++ w ∷ []))
         (sym (same_sound k w t)) (by (decided (is_pending (post r w))))
       where
         split : without_waiter w (woken_in r ws ++ w ∷ []) ≡ without_waiter w (woken_in r ws)
@@ -257,7 +257,7 @@ module _ {T : Type 0} where
             ∙ (ap (λ (xs : List Waiter). without_waiter w (woken_in r ws) ++ xs) (last_out w) ∙ append-nil (without_waiter w (woken_in r ws)))
 
         by : (is_pending (post r w) ≡ true) ⊎ (is_pending (post r w) ≡ false)
-            → without_waiter w (woken_in (woken w r) (moved_last w ws)) ≡ without_waiter w (woken_in r ws ++ w ∷ [])
+            → without_waiter w (woken_in (with_one_woken w r) (moved_last w ws)) ≡ without_waiter w (woken_in r ws ++ w ∷ [])
         by (inl p) =
             ap (without_waiter w) (last_one ws p (places w p))
             ∙ (filter-append (λ v. not (same_waiter w v)) (without_waiter w (woken_in r ws)) (w ∷ [])
@@ -267,7 +267,7 @@ module _ {T : Type 0} where
 
     other_told : (ws : List Waiter) (k : Option Waiter) → HavePlaces r ws → is_pending (post r w) ≡ true
         → is_among w (but_for k (woken_in r ws)) ≡ false
-        → but_for k (woken_in (woken w r) (moved_last w ws)) ≡ but_for k (woken_in r ws ++ w ∷ [])
+        → but_for k (woken_in (with_one_woken w r) (moved_last w ws)) ≡ but_for k (woken_in r ws ++ w ∷ [])
     other_told ws k places p out =
         ap (but_for k) (last_one ws p (places w p))
         ∙ (but_append k (without_waiter w (woken_in r ws)) (w ∷ [])
@@ -284,7 +284,7 @@ module _ {T : Type 0} where
 
   pub all_pending : (ns : List Waiter) (r : Roll T) (v : Waiter) → is_pending (post (all_woken ns r) v) ≡ is_pending (post r v)
   all_pending [] r v = refl
-  all_pending (w ∷ ns) r v = all_pending ns (woken w r) v ∙ pending_one r w v
+  all_pending (w ∷ ns) r v = all_pending ns (with_one_woken w r) v ∙ pending_one r w v
 
   -- those who are woken are woken after all that were before, but for the one of the call itself
   pub all_last : (k : Option Waiter) (r : Roll T) (ws ns : List Waiter) → HavePlaces r ws
@@ -293,11 +293,11 @@ module _ {T : Type 0} where
       → but_for k (woken_in (all_woken ns r) (all_moved_last ns ws)) ≡ but_for k (woken_in r ws ++ ns)
   all_last k r ws [] places named once = ap (but_for k) (sym (append-nil (woken_in r ws)))
   all_last k r ws (w ∷ ns) places named once =
-      all_last k (woken w r) (moved_last w ws) ns (places_one r w ws places) later fewer ∙ joined
+      all_last k (with_one_woken w r) (moved_last w ws) ns (places_one r w ws places) later fewer ∙ joined
     where
       first : (k : Option Waiter) → ((v : Waiter) → is_among v (but_for k (w ∷ ns)) ≡ true → is_pending (post r v) ≡ true)
           → ((v : Waiter) → times v (but_for k (woken_in r ws ++ w ∷ ns)) ≤ 1)
-          → but_for k (woken_in (woken w r) (moved_last w ws)) ≡ but_for k (woken_in r ws ++ w ∷ [])
+          → but_for k (woken_in (with_one_woken w r) (moved_last w ws)) ≡ but_for k (woken_in r ws ++ w ∷ [])
       first None p o = other_told r w ws None places (p w (among_self w ns)) (not_twice w (woken_in r ws) ns (o w))
       first (Some v) p o = elim (decided (same_waiter v w)) [
         | inl u ↦ own_told r w ws v u places
@@ -309,13 +309,13 @@ module _ {T : Type 0} where
             (not_twice w (without_waiter v (woken_in r ws)) (without_waiter v ns) (subst (λ (xs : List Waiter). times w xs ≤ 1) split (o w)))
       ]
 
-      joined : but_for k (woken_in (woken w r) (moved_last w ws) ++ ns) ≡ but_for k (woken_in r ws ++ w ∷ ns)
+      joined : but_for k (woken_in (with_one_woken w r) (moved_last w ws) ++ ns) ≡ but_for k (woken_in r ws ++ w ∷ ns)
       joined =
-          but_append k (woken_in (woken w r) (moved_last w ws)) ns
+          but_append k (woken_in (with_one_woken w r) (moved_last w ws)) ns
           ∙ (ap (λ (xs : List Waiter). xs ++ but_for k ns) (first k named once)
           ∙ (sym (but_append k (woken_in r ws ++ w ∷ []) ns) ∙ ap (but_for k) (append_assoc (woken_in r ws) (w ∷ []) ns)))
 
-      later : (v : Waiter) → is_among v (but_for k ns) ≡ true → is_pending (post (woken w r) v) ≡ true
+      later : (v : Waiter) → is_among v (but_for k ns) ≡ true → is_pending (post (with_one_woken w r) v) ≡ true
       later v e = pending_one r w v ∙ named v (beyond k e)
         where
           beyond : (k : Option Waiter) → is_among v (but_for k ns) ≡ true → is_among v (but_for k (w ∷ ns)) ≡ true
@@ -325,5 +325,5 @@ module _ {T : Type 0} where
             | inr u ↦ rw u (or_right (same_waiter v w) (is_among v (without_waiter x ns)) h)
           ]
 
-      fewer : (v : Waiter) → times v (but_for k (woken_in (woken w r) (moved_last w ws) ++ ns)) ≤ 1
+      fewer : (v : Waiter) → times v (but_for k (woken_in (with_one_woken w r) (moved_last w ws) ++ ns)) ≤ 1
       fewer v = subst (λ (xs : List Waiter). times v xs ≤ 1) (sym joined) (once v)

@@ -30,7 +30,7 @@ use Rattle.channel_interleaving.specs.Bookkeeping.{errand_of, names_begun, unpol
 use Rattle.channel_interleaving.specs.Order.{placed, order_begun, all_moved_last}
 use Rattle.channel_interleaving.specs.OwnerOrder.{was_woken, woken_in}
 use Rattle.channel_interleaving.specs.Owners.{IsAmong, Post, free, vacant, amiss, rests, waits, polled, no_stream_post, stream_post, posted, post}
-use Rattle.channel_interleaving.specs.Refusal.{refusal}
+use Rattle.channel_interleaving.specs.Refusal.{begin_refusal}
 use Rattle.channel_interleaving.specs.Roll.{names_of, handle_at, with_lent, with_standing, with_given_back, standing_with}
 use Rattle.channel_interleaving.specs.declared.names.Errand.TheVariants as errand
 use Rattle.channel_interleaving.specs.declared.names.Hold.{Hold}

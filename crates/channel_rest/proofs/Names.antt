@@ -7,7 +7,7 @@ use Rattle.channel_calls.specs.declared.stage.Held.{Held}
 use Rattle.channel_calls.specs.declared.stage.Line.{Line}
 use Rattle.channel_calls.specs.declared.stage.Line.TheVariants.{Sends, Receives, Streams, Closings}
 use Rattle.channel_model.proofs.DirectoryLemmas.{at_seen}
-use Rattle.channel_model.specs.Laws.{line_of, line_of_operation}
+use Rattle.channel_model.specs.Laws.{line_at, line_of_operation}
 use Rattle.channel_model.specs.Names as model
 use Rattle.channel_model.specs.declared.name.HandleId.{HandleId}
 use Rattle.channel_model.specs.declared.name.HandleKind.{HandleKind}
@@ -160,7 +160,7 @@ module _ {T : Type 0} where
 
   module _ (r : Roll T) where
     -- the line of a pending name is that of its listener
-    pub line_is : (w : Waiter) (h : Held) (b : Bool) → post r w ≡ waits h b → line_of (names_of r) w ≡ Some h.line
+    pub line_is : (w : Waiter) (h : Held) (b : Bool) → post r w ≡ waits h b → line_at (names_of r) w ≡ Some h.line
     line_is (Op op) h b e =
         ap (λ (o : Option (model.ModelOperation T)). line_of_operation o) (at_seen operation_of op.0 r.operations) ∙
         (op_at (lookup (nat_eq op.0) r.operations) h b e).1

@@ -16,7 +16,7 @@ use Rattle.channel_laws.specs.Streams.{AnswersFor}
 use Rattle.channel_laws.specs.Waits.{Waits, Any}
 use Rattle.channel_model.proofs.Counting.{count_append}
 use Rattle.channel_model.specs.Awake.{Kind, Enough, times, times_in, Placed, AwakeIn}
-use Rattle.channel_model.specs.Laws.{line_of, count_of, free_places}
+use Rattle.channel_model.specs.Laws.{line_at, count_of, free_places}
 use Rattle.channel_model.specs.Lines.{Waiting, same_waiter, is_among, untold}
 use Rattle.channel_model.specs.State.{State}
 use Rattle.channel_model.specs.declared.name.Waiter.{Waiter}
@@ -63,7 +63,7 @@ module _ {T : Type 0} (b : Book T) (s : Scene T Waiter) (kept : AllKept b s) (re
   sound = kept.sound
 
   abbrev kind : Kind
-  kind = line_of (names_of b.roll)
+  kind = line_at (names_of b.roll)
 
   abbrev told : Line → List (Key × Notice Unit)
   told line = told_of line s.now

@@ -7,7 +7,7 @@ use Rattle.channel_interleaving.specs.Kept.{AllKept}
 use Rattle.channel_interleaving.specs.Lone.{book_alone}
 use Rattle.channel_interleaving.specs.OwnerOrder.{woken_in}
 use Rattle.channel_interleaving.specs.Owners.{polled, post}
-use Rattle.channel_interleaving.specs.Refusal.{refusal}
+use Rattle.channel_interleaving.specs.Refusal.{begin_refusal}
 use Rattle.channel_interleaving.specs.Run.{Book}
 use Rattle.channel_interleaving.specs.declared.names.Hold.{Hold}
 use Rattle.channel_interleaving.specs.declared.roll.Roll.{Roll}
@@ -39,14 +39,14 @@ module _ {T : Type 0} where
 abbrev pub RefusalsAgree : Type 0 → Type 0
 RefusalsAgree T =
     (b : Book T) (s : Scene T Waiter) (c : Call T) → AllKept b s → b.agents ≡ []
-    → refusal b.roll c ≡ model.refusal (state_at b s) c
+    → begin_refusal b.roll c ≡ model.refusal (state_at b s) c
 
 -- Where nobody is at work, a call that is not refused and is made alone answers as the model may; the names, the order of waking
 -- and the channel after it are the model's state after it.
 abbrev pub LoneCallsAnswer : Type 0 → Type 0
 LoneCallsAnswer T =
     (b : Book T) (s t : Scene T Waiter) (c : Call T) (o : Outcome T Waiter)
-    → AllKept b s → b.agents ≡ [] → s.under_way ≡ [] → CanBeLent b.roll → refusal b.roll c ≡ None
+    → AllKept b s → b.agents ≡ [] → s.under_way ≡ [] → CanBeLent b.roll → begin_refusal b.roll c ≡ None
     → Alone (asks b.roll c) s.now o → t.now ≡ o.channel
     → Answers (state_at b s) c (record { after = state_at (book_alone b c o) t; reply = o.reply; woken = o.woken })
 

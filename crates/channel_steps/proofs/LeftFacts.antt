@@ -43,7 +43,7 @@ use Rattle.channel_calls.specs.Turns.{most, line_of, leaving, nothing_kept, ends
 use Rattle.channel_calls.specs.Answered.{sent_next, forced_next, received_next, gathered_next, short_next, several_next, send_next, receive_next, stream_next, closing_next, polled_next, closed_next, asked_next, terminated_next, upgraded_next, answered_next}
 use Rattle.channel_calls.specs.Moves.{Channel, Effect, channel, Turned, Worked, Tried, seats, phase, IsTaken, Hastens, Made}
 use Rattle.channel_steps.specs.Known.{left_to_tell}
-use Rattle.channel_steps.specs.Left.{one_try, listening_try, told_try, most_left, left_after, left_to_work, steps_left}
+use Rattle.channel_steps.specs.Left.{one_try, listening_try, told_try, most_left, left_after_try, left_to_work, steps_left}
 use Rattle.channel_steps.proofs.LineFacts.{fresh_waits, same_line}
 
 -- ---- the steps that are left
@@ -51,7 +51,7 @@ use Rattle.channel_steps.proofs.LineFacts.{fresh_waits, same_line}
 module _ {T W : Type 0} where
   -- a call of the queue answers by its 64th step where the others are quiet
   abbrev pub left_to_turn : Roster W → Turn T W → ℕ
-  left_to_turn a (Tries x aim) = one_try + left_after a aim
+  left_to_turn a (Tries x aim) = one_try + left_after_try a aim
   left_to_turn a (Works w) = left_to_work a w
   left_to_turn a (Ends x kept) = 0
 
@@ -70,7 +70,7 @@ abbrev pub wanted_after : {T W : Type 0} → Aim T W → ℕ
 wanted_after (aim.RecvMany g) = g.more
 wanted_after x = 0
 
-few_after : {T W : Type 0} (a : Roster W) (x : Aim T W) → left_after a x ≤ told_try + one_try * wanted_after x
+few_after : {T W : Type 0} (a : Roster W) (x : Aim T W) → left_after_try a x ≤ told_try + one_try * wanted_after x
 few_after a (aim.Poll line None task) = omega arith
 few_after a (aim.Poll line (Some key) task) = few_or (waits key (listeners line a)) told_try 3 told_try (omega arith) (omega arith)
 few_after a x = omega arith
@@ -113,7 +113,7 @@ at_least true n i j h k = h
 at_least false n i j h k = k
 
 module _ (T : Type 0) {W : Type 0} (a : Roster W) where
-  some_to_poll : (line : Line) (key : Option Key) (task : W) (n : ℕ) → n ≤ 3 → n ≤ left_after {T = T} a (aim.Poll line key task)
+  some_to_poll : (line : Line) (key : Option Key) (task : W) (n : ℕ) → n ≤ 3 → n ≤ left_after_try {T = T} a (aim.Poll line key task)
   some_to_poll line None task n h = omega (arith, h)
   some_to_poll line (Some key) task n h = at_least (waits key (listeners line a)) n 3 told_try h (omega (arith, h))
 
@@ -127,7 +127,7 @@ module _ {T W : Type 0} (a : Roster W) where
   ends_soon x = ended x.reply x.message x.held
 
   refused_left : (w : Waiting T) (line : Line) (key : Option Key) (task : W) → line_of w ≡ line
-      → left_to_turn a (refused_next w key task) ≤ left_after {T = T} a (aim.Poll line key task)
+      → left_to_turn a (refused_next w key task) ≤ left_after_try {T = T} a (aim.Poll line key task)
   refused_left w line None task e = omega arith
   refused_left w line (Some key) task e =
       subst (λ (l : Line). (if waits key (listeners (line_of w) a) then 1 else told_try) ≤ (if waits key (listeners l a) then 3 else told_try)) e
@@ -167,34 +167,34 @@ module _ {T W : Type 0} (a : Roster W) where
   several_left x g = omega arith
 
   module _ (key : Option Key) (task : W) where
-    soon : (line : Line) (x : Ending T) → left_to_turn a (let t : Turn T W = ends_by x in t) ≤ left_after {T = T} a (aim.Poll line key task)
+    soon : (line : Line) (x : Ending T) → left_to_turn a (let t : Turn T W = ends_by x in t) ≤ left_after_try {T = T} a (aim.Poll line key task)
     soon line x = let h = ends_soon x in let k = some_to_poll T a line key task 1 (omega arith) in omega (arith, h, k)
 
-    send_left : (x : QueueReply T) → left_to_turn a (send_next x key task) ≤ left_after {T = T} a (aim.Poll Sends key task)
+    send_left : (x : QueueReply T) → left_to_turn a (send_next x key task) ≤ left_after_try {T = T} a (aim.Poll Sends key task)
     send_left (answer.Push (Ok u)) = some_to_poll T a Sends key task 3 (omega arith)
     send_left (answer.Push (Err (push_error.Full m))) = refused_left (waiting.Send m) Sends key task refl
     send_left (answer.Push (Err (push_error.Closed m))) = soon Sends _
     send_left (answer.Push (Err (push_error.NoMemory m))) = soon Sends _
     send_left x = some_to_poll T a Sends key task 0 (omega arith)
 
-    receive_left : (x : QueueReply T) → left_to_turn a (receive_next x key task) ≤ left_after {T = T} a (aim.Poll Receives key task)
+    receive_left : (x : QueueReply T) → left_to_turn a (receive_next x key task) ≤ left_after_try {T = T} a (aim.Poll Receives key task)
     receive_left (answer.Pop (Ok m)) = some_to_poll T a Receives key task 2 (omega arith)
     receive_left (answer.Pop (Err pop_error.Empty)) = refused_left waiting.Receive Receives key task refl
     receive_left (answer.Pop (Err pop_error.Closed)) = soon Receives _
     receive_left x = some_to_poll T a Receives key task 0 (omega arith)
 
-    stream_left : (x : QueueReply T) → left_to_turn a (stream_next x key task) ≤ left_after {T = T} a (aim.Poll Streams key task)
+    stream_left : (x : QueueReply T) → left_to_turn a (stream_next x key task) ≤ left_after_try {T = T} a (aim.Poll Streams key task)
     stream_left (answer.Pop (Ok m)) = some_to_poll T a Streams key task 2 (omega arith)
     stream_left (answer.Pop (Err pop_error.Empty)) = refused_left waiting.Stream Streams key task refl
     stream_left (answer.Pop (Err pop_error.Closed)) = soon Streams _
     stream_left x = some_to_poll T a Streams key task 0 (omega arith)
 
-    closing_left : (x : QueueReply T) → left_to_turn a (closing_next x key task) ≤ left_after {T = T} a (aim.Poll Closings key task)
+    closing_left : (x : QueueReply T) → left_to_turn a (closing_next x key task) ≤ left_after_try {T = T} a (aim.Poll Closings key task)
     closing_left (answer.Flag true) = soon Closings _
     closing_left (answer.Flag false) = refused_left waiting.Closing Closings key task refl
     closing_left x = some_to_poll T a Closings key task 0 (omega arith)
 
-    polled_left : (line : Line) (x : QueueReply T) → left_to_turn a (polled_next line x key task) ≤ left_after {T = T} a (aim.Poll line key task)
+    polled_left : (line : Line) (x : QueueReply T) → left_to_turn a (polled_next line x key task) ≤ left_after_try {T = T} a (aim.Poll line key task)
     polled_left Sends x = send_left x
     polled_left Receives x = receive_left x
     polled_left Streams x = stream_left x
@@ -221,7 +221,7 @@ module _ {T W : Type 0} (a : Roster W) where
   upgraded_left (answer.Flag false) side = omega arith
   upgraded_left x side = omega arith
 
-  pub answered_left : (x : Aim T W) (y : QueueReply T) → left_to_turn a (answered_next x y) ≤ left_after a x
+  pub answered_left : (x : Aim T W) (y : QueueReply T) → left_to_turn a (answered_next x y) ≤ left_after_try a x
   answered_left aim.TrySend y = sent_left y
   answered_left aim.ForceSend y = forced_left y
   answered_left aim.TryRecv y = received_left y
@@ -337,7 +337,7 @@ module _ {T W : Type 0} where
   taken_left : (c : Contents T) (a : Roster W) (q : Queue T) (f : Phase T) (l r : List (Seat T)) (turn : Turn T W) (x : Option (Reply T)) (s : Stage (QueueCall T) T W)
       → Fits c q (l ++ (seats f s ++ r)) → IsTaken turn x s → steps_left c a s ≤ left_to_turn a turn
   taken_left c a q f l r (Tries y aim) x (Trying call z) fits (call', starts, none, same) =
-      let aims : left_after a z ≡ left_after a aim = ap (λ (w : Aim T W). left_after a w) (same_aim call call' z aim same) in
+      let aims : left_after_try a z ≡ left_after_try a aim = ap (λ (w : Aim T W). left_after_try a w) (same_aim call call' z aim same) in
       let h = ranks c q f call l r fits in
       omega (arith, h, aims)
     where
@@ -352,7 +352,7 @@ module _ {T W : Type 0} where
   turned_left : (c : Contents T) (a : Roster W) (q : Queue T) (f : Phase T) (l r : List (Seat T)) (turn : Turn T W) (x : Option (Reply T)) (s : Stage (QueueCall T) T W)
       → Fits c q (l ++ (seats f s ++ r)) → Turned turn x (phase f s) → steps_left c a s ≤ left_to_turn a turn
   turned_left c a q f l r (Tries y aim) x (Trying call z) fits (none, same) =
-      let aims : left_after a z ≡ left_after a aim = ap (λ (w : Aim T W). left_after a w) (same_aim f (asked y) z aim same) in
+      let aims : left_after_try a z ≡ left_after_try a aim = ap (λ (w : Aim T W). left_after_try a w) (same_aim f (asked y) z aim same) in
       let h = ranks c q f call l r fits in
       omega (arith, h, aims)
     where
@@ -385,14 +385,14 @@ module _ {T W : Type 0} where
         → steps_left parts'.cells parts'.roster stage' < steps_left parts.cells parts.roster (Trying call y)
     tried_less call y made (inl (call', same, less)) =
         let moved : Tried (channel q parts) f y (record { channel = channel made.queue parts'; mark = m; woken = names }) x (phase made.phase_now stage') = made.moves in
-        let still : left_after parts'.roster y ≡ left_after parts.roster y =
-        ap (λ (e : Effect T W). left_after e.channel.roster y) moved.effect in
+        let still : left_after_try parts'.roster y ≡ left_after_try parts.roster y =
+        ap (λ (e : Effect T W). left_after_try e.channel.roster y) moved.effect in
         subst (λ (z : Stage (QueueCall T) T W). steps_left parts'.cells parts'.roster z < steps_left parts.cells parts.roster (Trying call y))
         (sym same) (omega (arith, less, still))
     tried_less call y made (inr (z, k, ans, taken)) =
         let moved : Tried (channel q parts) f y (record { channel = channel made.queue parts'; mark = m; woken = names }) x (phase made.phase_now stage') = made.moves in
-        let still : left_after parts'.roster y ≡ left_after parts.roster y =
-        ap (λ (e : Effect T W). left_after e.channel.roster y) moved.effect in
+        let still : left_after_try parts'.roster y ≡ left_after_try parts.roster y =
+        ap (λ (e : Effect T W). left_after_try e.channel.roster y) moved.effect in
         let turn = taken_left parts'.cells parts'.roster made.queue made.phase_now l r (answered_next y z) x stage' (_, made.fits) taken in
         let falls = answered_left parts'.roster y z in
         omega (arith, turn, falls, still)

@@ -36,7 +36,7 @@ use Rattle.channel_calls.specs.declared.stage.Work.{Work}
 use Rattle.channel_calls.specs.declared.stage.Waiting.TheVariants as waiting
 use Rattle.channel_calls.specs.declared.stage.Work.TheVariants.{TellReceive, TellStreams, TellSend, TellSends, TakeRoom, TellAll, Insert, Register, Leave, Lower, Count, Load, Raise}
 use Rattle.channel_steps.specs.Moments.{MarkedMoment, with_marked}
-use Rattle.channel_steps.specs.Known.{TriesFor, TriesAt, StageAt, ToldAt, IsQuick, steps_left}
+use Rattle.channel_steps.specs.Known.{TriesFor, TriesAt, StageAt, ToldAt, IsQuick, quick_steps_left}
 use Rattle.channel_steps.specs.Run.{call_begun}
 use Rattle.channel_steps.specs.Scene.{Under, sees, does, Finishes, EndsInTime, brought, gone_by, came_by, Known, AllKnown, IsBalanced}
 use Rattle.channel_steps.specs.Tellings.{Telling, telling, dropping, WokenBy}
@@ -273,12 +273,12 @@ module _ {T W : Type 0} where
     pub own_in_time : (r : Option (Reply T)) → Moves c u.at effect r s → IsQuick u.ask → EndsInTime u.made r
     own_in_time None g q =
         let h = own_known g in
-        let i : u.made + 1 + steps_left s ≤ 8 = h.quick q in
-        let j : 0 < steps_left s = some_left d u.ask s _ _ h.stands in
+        let i : u.made + 1 + quick_steps_left s ≤ 8 = h.quick q in
+        let j : 0 < quick_steps_left s = some_left d u.ask s _ _ h.stands in
         omega (arith, i, j)
     own_in_time (Some r) g q =
-        let i : u.made + steps_left u.at ≤ 8 = k.quick q in
-        let j : 0 < steps_left u.at = some_left c u.ask u.at u.marks u.seen k.stands in
+        let i : u.made + quick_steps_left u.at ≤ 8 = k.quick q in
+        let j : 0 < quick_steps_left u.at = some_left c u.ask u.at u.marks u.seen k.stands in
         omega (arith, i, j)
 
   -- ---- a call that begins

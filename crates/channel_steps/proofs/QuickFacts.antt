@@ -34,7 +34,7 @@ use Rattle.channel_calls.specs.declared.stage.Waiting.{Waiting}
 use Rattle.channel_calls.specs.declared.stage.Work.{Work}
 use Rattle.channel_calls.specs.declared.stage.Work.TheVariants.{TellReceive, TellStreams, TellSend, TellSends, TakeRoom, TellAll, Insert, Register, Leave, Lower, Count, Load, Raise}
 use Rattle.channel_steps.specs.Moments.{MarkedMoment}
-use Rattle.channel_steps.specs.Known.{TriesFor, IsFor, Makes, WorkAt, StageAt, IsQuick, left_to_try, left_to_tell, left_to_work, steps_left}
+use Rattle.channel_steps.specs.Known.{TriesFor, IsFor, Makes, WorkAt, StageAt, IsQuick, left_to_try, left_to_tell, quick_left_to_work, quick_steps_left}
 
 module _ {T : Type 0} where
   -- what a quick call asks of the queue
@@ -71,12 +71,12 @@ module _ {T : Type 0} where
 module _ {T W : Type 0} where
   abbrev left_after : Turn T W → ℕ
   left_after (Tries a y) = left_to_try a (trying false)
-  left_after (Works w) = left_to_work w
+  left_after (Works w) = quick_left_to_work w
   left_after (Ends y kept) = 0
 
-  turned_left : (turn : Turn T W) (s : Stage (Phase T) T W) → Turned turn None s → steps_left s ≡ left_after turn
-  turned_left (Tries a y) s h = ap (λ (z : Stage (Phase T) T W). steps_left z) h.1
-  turned_left (Works w) s h = ap (λ (z : Stage (Phase T) T W). steps_left z) h.1
+  turned_left : (turn : Turn T W) (s : Stage (Phase T) T W) → Turned turn None s → quick_steps_left s ≡ left_after turn
+  turned_left (Tries a y) s h = ap (λ (z : Stage (Phase T) T W). quick_steps_left z) h.1
+  turned_left (Works w) s h = ap (λ (z : Stage (Phase T) T W). quick_steps_left z) h.1
   turned_left (Ends y kept) s h = absurd (let no : None ≡ Some y = h.0 in cc)
 
 module _ {T : Type 0} (W : Type 0) where
@@ -188,16 +188,16 @@ module _ {T W : Type 0} where
   never_makes x side m seen h q = absurd h
 
   abbrev Less : Work T W → Turn T W → Type 0
-  Less w turn = left_after turn < left_to_work w
+  Less w turn = left_after turn < quick_left_to_work w
 
-  step_less : (w : Work T W) (turn : Turn T W) (s : Stage (Phase T) T W) → Turned turn None s → Less w turn → steps_left s < left_to_work w
-  step_less w turn s t h = subst (λ n. n < left_to_work w) (sym (turned_left turn s t)) h
+  step_less : (w : Work T W) (turn : Turn T W) (s : Stage (Phase T) T W) → Turned turn None s → Less w turn → quick_steps_left s < quick_left_to_work w
+  step_less w turn s t h = subst (λ n. n < quick_left_to_work w) (sym (turned_left turn s t)) h
 
-  ends_less : (w : Work T W) (e : Ending T) → 1 < left_to_work w → Less w (ends_by e)
+  ends_less : (w : Work T W) (e : Ending T) → 1 < quick_left_to_work w → Less w (ends_by e)
   ends_less w e h = let k : left_after (let t : Turn T W = ends_by e in t) ≤ 1 = ended_left W e in omega (arith, h, k)
 
   quick_works : (c : Channel T W) (x : ChannelAsk T W) (w : Work T W) (e : Effect T W) (s : Stage (Phase T) T W) (ds : List (MarkedMoment T W)) (seen : List (Channel T W)) → WorkAt x w ds seen → IsQuick x → Worked c w e None s
-      → steps_left s < left_to_work w
+      → quick_steps_left s < quick_left_to_work w
   quick_works c x (TellReceive y) e s ds seen h q g = step_less (TellReceive y) (Works (TellStreams y)) s g.1 (omega arith)
   quick_works c x (TellStreams y) e s ds seen h q g = step_less (TellStreams y) (ends_by y) s g.1 (ends_less (TellStreams y) y (omega arith))
   quick_works c x (TellSend y) e s ds seen h q g = step_less (TellSend y) (ends_by y) s g.1 (ends_less (TellSend y) y (omega arith))
@@ -213,32 +213,32 @@ module _ {T W : Type 0} where
   quick_works c x (Raise side n m) e s ds seen h q g = absurd (never_makes x side m seen h.0 q)
 
   pub quick_moves : (c : Channel T W) (x : ChannelAsk T W) (at : Stage (Phase T) T W) (e : Effect T W) (s : Stage (Phase T) T W) (ds : List (MarkedMoment T W)) (seen : List (Channel T W)) → StageAt c x at ds seen → IsQuick x → Moves c at e None s
-      → steps_left s < steps_left at
+      → quick_steps_left s < quick_steps_left at
   quick_moves c x (Trying f y) e s ds seen h q g = by_how g.how
     where
-      by_how : ((f' : Phase T) × queue.Continues c.queue f g.mark f' × (let r : Option (Reply T) = None in r ≡ None) × (s ≡ Trying f' y)) ⊎ ((r : QueueReply T) × queue.Answers c.queue f g.mark r × Turned (answered_next y r) None s) → steps_left s < left_to_try f.ask f.stage
+      by_how : ((f' : Phase T) × queue.Continues c.queue f g.mark f' × (let r : Option (Reply T) = None in r ≡ None) × (s ≡ Trying f' y)) ⊎ ((r : QueueReply T) × queue.Answers c.queue f g.mark r × Turned (answered_next y r) None s) → quick_steps_left s < left_to_try f.ask f.stage
       by_how (inl (f', goes, none, there)) =
-          subst (λ (z : Stage (Phase T) T W). steps_left z < left_to_try f.ask f.stage) (sym there)
+          subst (λ (z : Stage (Phase T) T W). quick_steps_left z < left_to_try f.ask f.stage) (sym there)
           (subst (λ (a : QueueAsk T). left_to_try a f'.stage < left_to_try f.ask f.stage) (sym goes.0) (quick_goes c.queue f.ask g.mark f.stage f'.stage (quick_try x y f.ask ds seen h.0 q) goes.1))
       by_how (inr (r, answers, turned)) =
           subst (λ n. n < left_to_try f.ask f.stage) (sym (turned_left (answered_next y r) s turned)) (quick_answers x y f.ask f.stage r ds seen h.0 q)
   quick_moves c x (Working w) e s ds seen h q g = quick_works c x w e s ds seen h q g
   quick_moves c x (Finished kept) e s ds seen h q g = absurd h
 
-  some_to_work : (w : Work T W) → 0 < left_to_work w
+  some_to_work : (w : Work T W) → 0 < quick_left_to_work w
   some_to_work (TellAll line y) = some_to_tell line
   some_to_work w = omega arith
 
-  pub some_left : (c : Channel T W) (x : ChannelAsk T W) (at : Stage (Phase T) T W) (ds : List (MarkedMoment T W)) (seen : List (Channel T W)) → StageAt c x at ds seen → 0 < steps_left at
+  pub some_left : (c : Channel T W) (x : ChannelAsk T W) (at : Stage (Phase T) T W) (ds : List (MarkedMoment T W)) (seen : List (Channel T W)) → StageAt c x at ds seen → 0 < quick_steps_left at
   some_left c x (Trying f y) ds seen h = some_to_try f.ask f.stage
   some_left c x (Working w) ds seen h = some_to_work w
   some_left c x (Finished kept) ds seen h = absurd h
 
-  few_to_work : (w : Work T W) → left_to_work w ≤ 7
+  few_to_work : (w : Work T W) → quick_left_to_work w ≤ 7
   few_to_work (TellAll line y) = few_to_tell line
   few_to_work w = omega arith
 
-  pub few_left : (at : Stage (Phase T) T W) → steps_left at ≤ 7
+  pub few_left : (at : Stage (Phase T) T W) → quick_steps_left at ≤ 7
   few_left (Trying f y) = few_to_try f.ask f.stage
   few_left (Working w) = few_to_work w
   few_left (Finished kept) = omega arith

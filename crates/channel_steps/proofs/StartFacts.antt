@@ -11,7 +11,7 @@ use Rattle.channel_calls.specs.Parts.{Parts, Roster, new_roster}
 use Rattle.channel_steps.specs.declared.party.Party.{Party}
 use Rattle.channel_steps.specs.Run.{new_scene}
 use Rattle.channel_steps.specs.Scene.{Scene, Sitting, under_of, Represents, MayHave}
-use Rattle.channel_steps.specs.Start.{IsQuietOrNot, TellsQuiet}
+use Rattle.channel_steps.specs.Start.{IsQuietOrNot, EachSceneTellsQuiet}
 
 long_as : {A B : Type 0} (g : A → B) (xs : List A) → length (map g xs) ≡ length xs
 long_as g [] = refl
@@ -49,5 +49,5 @@ module _ {T W : Type 0} where
   none_or_some n true s e f = no_items s.under_way (grind (arith, nat_tests))
   none_or_some n false s e f = λ none. (let k : length s.under_way ≡ 0 = ap length none in absurd (grind (arith, nat_tests)))
 
-  pub quiet : (parties : List (Party T W)) (b : Bool) → (length parties == 0) ≡ b → TellsQuiet parties b
+  pub quiet : (parties : List (Party T W)) (b : Bool) → (length parties == 0) ≡ b → EachSceneTellsQuiet parties b
   quiet parties b f parts s sh = none_or_some (length parties) b s (counts parties parts s sh) f

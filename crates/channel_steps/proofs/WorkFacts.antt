@@ -37,7 +37,7 @@ use Rattle.channel_calls.specs.declared.stage.Work.{Work}
 use Rattle.channel_calls.specs.declared.stage.Work.TheVariants.{TellReceive, TellStreams, TellSend, TellSends, TakeRoom, TellAll, Insert, Register, Leave, Lower, Count, Load, Raise}
 use Rattle.channel_steps.specs.Moments.{MarkedMoment, with_marked, Open, Once, TookAll}
 use Rattle.channel_steps.specs.Answers.{WaitsFor, asks_first}
-use Rattle.channel_steps.specs.Known.{AreBehind, IsFor, Makes, Drops, MayRaise, Answered, WorkAt, to_tell}
+use Rattle.channel_steps.specs.Known.{AreBehind, IsFor, Makes, IsDropOf, MayRaise, Answered, WorkAt, to_tell}
 use Rattle.channel_steps.specs.Tellings.{Telling, one_of, more_of, all_of, owed, telling}
 use Rattle.channel_steps.proofs.TryFacts.{eq_of, open_once}
 use Rattle.channel_steps.proofs.TurnFacts.{TurnAt, After, turned_at, ended, met_more, owes_nothing, told_nobody, tries_again}
@@ -116,7 +116,7 @@ module _ {T W : Type 0} where
   module _ (c d : Channel T W) (seen : List (Channel T W)) where
     -- ---- a handle is dropped
 
-    lowered_at : (x : ChannelAsk T W) (side : Side) (key : Option Key) (b : Bool) → (count side c.roster == 1) ≡ b → Drops x side
+    lowered_at : (x : ChannelAsk T W) (side : Side) (key : Option Key) (b : Bool) → (count side c.roster == 1) ≡ b → IsDropOf x side
         → TurnAt d x [] (with_marked [] (down side) c seen) (d ∷ seen) (if b then Tries ask.Close (aim.Close (dropper side key)) else ends_by (closer_ending (dropper side key) false))
     lowered_at channel.DropSender Senders key true e h = (((refl, eq_of (count Senders c.roster) 1 e, d ∷ [], refl), tt), refl)
     lowered_at channel.DropSender Senders key false e h = ((([], d ∷ seen, refl, ((refl, inl (λ k. not_one (count Senders c.roster) e k)), refl)), refl), refl)
@@ -218,7 +218,7 @@ module _ {T W : Type 0} where
         (ended e.channel x (told ++ all_of Closings ∷ []) ds (e.channel ∷ seen) (closer_ending closer true) (answered_more x (closer_ending closer true) e.channel ds seen h) (then_tell _ [] k))
 
     dropped : (side : Side) (key : Option Key) (e : Effect T W) (r : Option (Reply T)) (s : Stage (Phase T) T W) → e.mark ≡ down side → Turned (lowered_next side key (count side c.roster)) r s
-        → Drops x side → ds ≡ [] → told ≡ [] → AfterWork [] e r s
+        → IsDropOf x side → ds ≡ [] → told ≡ [] → AfterWork [] e r s
     dropped side key e r s m t h k n =
         first_step (down side) e r s (lowered_next side key (count side c.roster)) m n t
         (subst (λ (xs : List (MarkedMoment T W)). TurnAt e.channel x [] (with_marked xs (down side) c seen) (e.channel ∷ seen) (lowered_next side key (count side c.roster))) (sym k)

@@ -139,10 +139,10 @@ module _ {T W : Type 0} where
   Makes _ side m seen = ⊥
 
   -- one of this kind is dropped
-  abbrev pub Drops : ChannelAsk T W → Side → Type 0
-  Drops DropSender Senders = Unit {0}
-  Drops (DropReceiver k) Receivers = Unit {0}
-  Drops _ _ = ⊥
+  abbrev pub IsDropOf : ChannelAsk T W → Side → Type 0
+  IsDropOf DropSender Senders = Unit {0}
+  IsDropOf (DropReceiver k) Receivers = Unit {0}
+  IsDropOf _ _ = ⊥
 
   -- the answer is fixed
   abbrev pub Answered : ChannelAsk T W → Ending T → List (MarkedMoment T W) → List (Channel T W) → Type 0
@@ -158,7 +158,7 @@ module _ {T W : Type 0} where
   WorkAt ask (Insert w task) ds seen = IsFor ask w × (ds ≡ []) × WaitsFor (line_of w) seen
   WorkAt ask (Register w key task) ds seen = IsFor ask w × (ds ≡ []) × (asks_first ask ≡ false → WaitsFor (line_of w) seen)
   WorkAt ask (Leave x) ds seen = Answered ask x ds seen
-  WorkAt ask (Lower side key) ds seen = Drops ask side × (ds ≡ [])
+  WorkAt ask (Lower side key) ds seen = IsDropOf ask side × (ds ≡ [])
   WorkAt ask (Count side) ds seen = (ask ≡ HandleCount side) × (ds ≡ [])
   WorkAt ask (Load side making) ds seen = Makes ask side making seen × (ds ≡ [])
   WorkAt ask (Raise side n making) ds seen = Makes ask side making seen × (ds ≡ []) × MayRaise making n
@@ -207,16 +207,16 @@ module _ {T W : Type 0} where
   IsQuick Make = Unit {0}
   IsQuick ask = ⊥
 
-  abbrev pub left_to_work : Work T W → ℕ
-  left_to_work (TellReceive x) = 3
-  left_to_work (TellStreams x) = 2
-  left_to_work (TellSend x) = 2
-  left_to_work (TellSends n x) = 2
-  left_to_work (TellAll line closer) = left_to_tell line
-  left_to_work (Lower side key) = 7
-  left_to_work _ = 1
+  abbrev pub quick_left_to_work : Work T W → ℕ
+  quick_left_to_work (TellReceive x) = 3
+  quick_left_to_work (TellStreams x) = 2
+  quick_left_to_work (TellSend x) = 2
+  quick_left_to_work (TellSends n x) = 2
+  quick_left_to_work (TellAll line closer) = left_to_tell line
+  quick_left_to_work (Lower side key) = 7
+  quick_left_to_work _ = 1
 
-  abbrev pub steps_left : Stage (Phase T) T W → ℕ
-  steps_left (Trying f aim) = left_to_try f.ask f.stage
-  steps_left (Working w) = left_to_work w
-  steps_left (Finished kept) = 0
+  abbrev pub quick_steps_left : Stage (Phase T) T W → ℕ
+  quick_steps_left (Trying f aim) = left_to_try f.ask f.stage
+  quick_steps_left (Working w) = quick_left_to_work w
+  quick_steps_left (Finished kept) = 0

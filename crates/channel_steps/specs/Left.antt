@@ -39,17 +39,17 @@ most_left more = one_try + told_try + one_try * more
 
 -- after a call of the queue, by what that is for: a poll that holds no listener listens and tries once more; one whose listener
 -- waits ends pending; one whose listener was told goes on without it. For each further message there is one more call of the queue.
-abbrev pub left_after : {T W : Type 0} → Roster W → Aim T W → ℕ
-left_after a (aim.Poll line None task) = listening_try
-left_after a (aim.Poll line (Some key) task) = if waits key (listeners line a) then 3 else told_try
-left_after a aim.TrySend = 3
-left_after a aim.ForceSend = 3
-left_after a aim.TryRecv = 2
-left_after a (aim.RecvMany g) = 2 + one_try * g.more
-left_after a aim.Ask = 0
-left_after a (aim.Close c) = 5
-left_after a aim.IsTerminated = one_try
-left_after a (aim.Upgrade side) = 2
+abbrev pub left_after_try : {T W : Type 0} → Roster W → Aim T W → ℕ
+left_after_try a (aim.Poll line None task) = listening_try
+left_after_try a (aim.Poll line (Some key) task) = if waits key (listeners line a) then 3 else told_try
+left_after_try a aim.TrySend = 3
+left_after_try a aim.ForceSend = 3
+left_after_try a aim.TryRecv = 2
+left_after_try a (aim.RecvMany g) = 2 + one_try * g.more
+left_after_try a aim.Ask = 0
+left_after_try a (aim.Close c) = 5
+left_after_try a aim.IsTerminated = one_try
+left_after_try a (aim.Upgrade side) = 2
 
 module _ {T W : Type 0} where
   -- on a list or a count, and after that
@@ -70,7 +70,7 @@ module _ {T W : Type 0} where
 
   -- by its stage
   abbrev pub steps_left : Contents T → Roster W → Stage (QueueCall T) T W → ℕ
-  steps_left c a (Trying call aim) = rank c call + 1 + left_after a aim
+  steps_left c a (Trying call aim) = rank c call + 1 + left_after_try a aim
   steps_left c a (Working w) = left_to_work a w
   steps_left c a (Finished kept) = 0
 

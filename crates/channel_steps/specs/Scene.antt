@@ -20,7 +20,7 @@ use Rattle.channel_calls.specs.declared.stage.Kept.{Kept}
 use Rattle.channel_calls.specs.declared.stage.Stage.{Stage}
 use Rattle.channel_calls.specs.declared.stage.Stage.TheVariants.{Finished}
 use Rattle.channel_steps.specs.Answers.{Met, Keeps}
-use Rattle.channel_steps.specs.Known.{StageAt, ToldAt, IsQuick, steps_left}
+use Rattle.channel_steps.specs.Known.{StageAt, ToldAt, IsQuick, quick_steps_left}
 use Rattle.channel_steps.specs.Left.{all_left, left_at, most_wanted}
 use Rattle.channel_steps.specs.Moments.{MarkedMoment, with_marked}
 use Rattle.channel_steps.specs.Tellings.{Telling, owed, telling, dropping, WokenBy}
@@ -159,7 +159,7 @@ module _ {T W : Type 0} where
     pub latest : u.seen ≡ now ∷ older
     pub stands : StageAt now u.ask u.at u.marks u.seen
     pub tells : ToldAt u.told u.at u.marks
-    pub quick : IsQuick u.ask → u.made + steps_left u.at ≤ 8
+    pub quick : IsQuick u.ask → u.made + quick_steps_left u.at ≤ 8
 
   abbrev pub AllKnown : Channel T W → List (Under T W) → Type 0
   AllKnown now [] = Unit {0}

@@ -10,5 +10,5 @@ module _ {T W : Type 0} where
   IsQuietOrNot s false = s.under_way ≡ [] → ⊥
 
   -- in every scene that the cells and the parties show, no call is under way, or one is
-  abbrev pub TellsQuiet : List (Party T W) → Bool → Type 0
-  TellsQuiet parties quiet = (parts : Parts T W) (s : Scene T W) → Represents parts parties s → IsQuietOrNot s quiet
+  abbrev pub EachSceneTellsQuiet : List (Party T W) → Bool → Type 0
+  EachSceneTellsQuiet parties quiet = (parts : Parts T W) (s : Scene T W) → Represents parts parties s → IsQuietOrNot s quiet

@@ -1,9 +1,9 @@
 -- Whom a call tells, and when.
-use Rattle.std.specs.Prelude.{◌≡◌, ℕ, zero, suc, true, List, [], ◌∷◌, ◌++◌, Option, None, Some}
+use Rattle.std.specs.Prelude.{◌≡◌, ℕ, zero, suc, List, [], ◌∷◌, ◌++◌, Option, None, Some}
 use Rattle.concurrent_queue.specs.Queue.{Phase}
-use Rattle.event_listener.specs.Lists.{removed_wakes}
+use Rattle.event_listener.specs.Lists.{told_as, without, passed_wakes}
 use Rattle.channel_calls.specs.Moves.{Channel}
-use Rattle.channel_calls.specs.Parts.{listeners, told_more_wakes, told_all_wakes}
+use Rattle.channel_calls.specs.Parts.{Listeners, listeners, told_more_wakes, told_all_wakes}
 use Rattle.channel_calls.specs.declared.mark.Mark.{Mark}
 use Rattle.channel_calls.specs.declared.mark.Mark.TheVariants.{Append, Take, Replace, Close}
 use Rattle.channel_calls.specs.declared.stage.Held.{Held}
@@ -69,7 +69,9 @@ module _ {T W : Type 0} where
 
   -- whom the removal of a listener wakes, which passes its notice on
   abbrev pub passed_on_by : Held → Channel T W → List W
-  passed_on_by h c = removed_wakes h.key true (listeners h.line c.roster)
+  passed_on_by h c =
+      let l : Listeners W = listeners h.line c.roster in
+      elim (told_as l h.key) [ Some notice ↦ passed_wakes notice (without h.key l) | None ↦ [] ]
 
   -- whom a step wakes: those whom its telling finds waiting, in order, or him to whom the listener that it drops passes its
   -- notice on; any other step wakes nobody

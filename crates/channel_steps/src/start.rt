@@ -6,7 +6,7 @@ ghost use Rattle.concurrent_queue.specs.Made.{CanBeMade};
 ghost use Rattle.channel_calls.specs.Plain.{parts_of};
 ghost use Rattle.channel_steps.specs.Scene.{Represents};
 ghost use Rattle.channel_steps.specs.Run.{new_scene};
-ghost use Rattle.channel_steps.specs.Start.{TellsQuiet};
+ghost use Rattle.channel_steps.specs.Start.{EachSceneTellsQuiet};
 
 use crate::party::Party;
 use channel_calls::plain::PlainChannel;
@@ -39,7 +39,7 @@ pub fn open_channel<T: Drop, W: Drop>(
 
 /// Whether no call is under way. Own to this project.
 pub fn is_quiet<T, W>(parties: &Vec<Party<T, W>>) -> bool
-    ensures { TellsQuiet parties.now.items result }
+    ensures { EachSceneTellsQuiet parties.now.items result }
 {
     parties.is_empty()
 }

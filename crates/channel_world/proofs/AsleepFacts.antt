@@ -16,7 +16,7 @@ use Rattle.channel_interleaving.proofs.Interface.{none_under_way}
 use Rattle.channel_rest.specs.Rest.{RestIsAWorld}
 use Rattle.channel_world.proofs.Opening.{at_rest_is}
 use Rattle.channel_world.proofs.NumberFacts.{messages_at_rest, woken_at_rest}
-use Rattle.channel_world.specs.Asleep.{NobodyIsLeftAtRest, NoReceiveIsLeft, NoStreamIsLeft, NoSendIsLeft, NobodyIsLeftOnAClosed, HasAPlace, NoReceiveGoesOn, NoSendGoesOn, NoStreamGoesOn, woken_among}
+use Rattle.channel_world.specs.Asleep.{NobodyIsLeftAtRest, NoReceiveIsLeft, NoStreamIsLeft, NoSendIsLeft, NobodyIsLeftOnAClosed, HasAPlace, NoReceivePendsBesideAMessage, NoSendPendsBesideAPlace, NoStreamPendsBesideAMessage, woken_among}
 use Rattle.channel_world.specs.Numbers.{CallsAtRest}
 use Rattle.channel_world.specs.World.{at_rest}
 use Rattle.channel_world.specs.View.{view_of}
@@ -46,13 +46,13 @@ none_beside xs n (inl e) some = e
 none_beside xs n (inr z) some = absurd (omega (arith, z, some))
 
 module _ {T : Type 0} (w : Floor T) (held : messages_in w ≡ length (at_rest w).channel.messages) (rest : NobodyGoesOn (at_rest w)) where
-  pub no_receive_goes_on : NoReceiveGoesOn (view_of w)
+  pub no_receive_goes_on : NoReceivePendsBesideAMessage (view_of w)
   no_receive_goes_on some = let r = rest in none_beside _ _ r.receives (omega (arith, held, some))
 
-  pub no_stream_goes_on : NoStreamGoesOn (view_of w)
+  pub no_stream_goes_on : NoStreamPendsBesideAMessage (view_of w)
   no_stream_goes_on some = let r = rest in none_beside _ _ r.streams (omega (arith, held, some))
 
-  pub no_send_goes_on : NoSendGoesOn (view_of w)
+  pub no_send_goes_on : NoSendPendsBesideAPlace (view_of w)
   no_send_goes_on is_open place = by (at_rest w).channel.capacity refl place
     where
       by : (cap : Option ℕ) → (at_rest w).channel.capacity ≡ cap → HasAPlace cap (messages_in w) → (at_rest w).waiting.sends ≡ []

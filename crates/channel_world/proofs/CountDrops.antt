@@ -40,7 +40,7 @@ module _ (T : Type 0) where
 
   -- ---- a call at its lowering
 
-  drops_it : (side s : Side) (x : ChannelAsk T Waiter) → known.Drops x s → same_side side s ≡ true → Drops side x
+  drops_it : (side s : Side) (x : ChannelAsk T Waiter) → known.IsDropOf x s → same_side side s ≡ true → Drops side x
   drops_it Senders Senders ask.DropSender h e = tt
   drops_it Receivers Receivers (ask.DropReceiver k) h e = tt
   drops_it Senders Receivers x h e = absurd (let no : false ≡ true = e in cc)
@@ -102,7 +102,7 @@ module _ (T : Type 0) where
   unmade Receivers s (ask.DropReceiver key) m seen d k = k
   unmade side s x m seen d k = absurd d
 
-  same_it : (side s : Side) (x : ChannelAsk T Waiter) → Drops side x → known.Drops x s → same_side side s ≡ true
+  same_it : (side s : Side) (x : ChannelAsk T Waiter) → Drops side x → known.IsDropOf x s → same_side side s ≡ true
   same_it Senders Senders ask.DropSender d k = refl
   same_it Receivers Receivers (ask.DropReceiver key) d k = refl
   same_it Senders Receivers ask.DropSender d k = absurd k

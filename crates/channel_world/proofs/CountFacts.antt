@@ -27,13 +27,13 @@ use Rattle.channel_interleaving.specs.Counted.{tally, is_strong, strong_lives, l
 use Rattle.channel_interleaving.specs.Floor.{parts_in, Shown, IsQuiet, Stands}
 use Rattle.channel_interleaving.specs.declared.floor.Floor.{Floor}
 use Rattle.channel_interleaving.specs.declared.names.Hold.{Hold}
-use Rattle.channel_world.specs.Counts.{strong_of, live, CountsLive, OpenHasBoth, AreByDrops, CountsAtRest}
+use Rattle.channel_world.specs.Counts.{strong_kind, live, CountsLive, OpenHasBoth, AreByDrops, CountsAtRest}
 use Rattle.channel_world.proofs.CountDrops.{by_drops}
-use Rattle.channel_world.specs.View.{counted, to_lower, to_close, view_of}
+use Rattle.channel_world.specs.View.{count_in, to_lower, to_close, view_of}
 
 -- ---- handles
 
-same_kind : (side : Side) (k : HandleKind) → are_alike (strong_of side) k ≡ is_strong side k
+same_kind : (side : Side) (k : HandleKind) → are_alike (strong_kind side) k ≡ is_strong side k
 same_kind Senders Sender = refl
 same_kind Senders Receiver = refl
 same_kind Senders WeakSender = refl
@@ -43,7 +43,7 @@ same_kind Receivers Receiver = refl
 same_kind Receivers WeakSender = refl
 same_kind Receivers WeakReceiver = refl
 
-same_there : (side : Side) (o : Option Hold) → is_of (strong_of side) (option_map (λ (h : Hold). h.handle) o) ≡ strong_lives side o
+same_there : (side : Side) (o : Option Hold) → is_of (strong_kind side) (option_map (λ (h : Hold). h.handle) o) ≡ strong_lives side o
 same_there side None = refl
 same_there side (Some h) = same_kind side h.handle.kind
 
@@ -54,14 +54,14 @@ one_more true false x xs e = cc e
 one_more false true x xs e = cc e
 
 same_live : (side : Side) (d : Directory Hold)
-    → live_of (strong_of side) (map (λ (e : ℕ × Option Hold). (e.0, option_map (λ (h : Hold). h.handle) e.1)) d) ≡ live_on side d
+    → live_of (strong_kind side) (map (λ (e : ℕ × Option Hold). (e.0, option_map (λ (h : Hold). h.handle) e.1)) d) ≡ live_on side d
 same_live side [] = refl
 same_live side (e ∷ d) =
     let rest = same_live side d in
     let kinds : List (ℕ × Option Handle) = map (λ (f : ℕ × Option Hold). (f.0, option_map (λ (h : Hold). h.handle) f.1)) d in
-    let own = one_more (is_of (strong_of side) (option_map (λ (h : Hold). h.handle) e.1)) (strong_lives side e.1)
+    let own = one_more (is_of (strong_kind side) (option_map (λ (h : Hold). h.handle) e.1)) (strong_lives side e.1)
     (let x : ℕ × Option Handle = (e.0, option_map (λ (h : Hold). h.handle) e.1) in x)
-    (filter (λ (f : ℕ × Option Handle). is_of (strong_of side) f.1) kinds) (same_there side e.1) in
+    (filter (λ (f : ℕ × Option Handle). is_of (strong_kind side) f.1) kinds) (same_there side e.1) in
     omega (arith, rest, own)
 
 -- ---- calls under way
@@ -99,7 +99,7 @@ module _ {T : Type 0} where
         ∙ (same_tally p q same sh.shows.sittings
         ∙ ap (λ (ps : List (Party T Waiter)). tally (λ (x : Party T Waiter). q x.call.stage) ps) (sym sh.shows.parties_are))
 
-    count_shown : (side : Side) → count side s.now.roster ≡ counted side (view_of w)
+    count_shown : (side : Side) → count side s.now.roster ≡ count_in side (view_of w)
     count_shown side = ap (λ (c : Channel T Waiter). count side c.roster) sh.shows.now
 
     closed_shown : s.now.queue.closed ≡ closed_in (parts_in w).cells
@@ -121,7 +121,7 @@ module _ {T : Type 0} where
     pub open_has_both : OpenHasBoth (view_of w)
     open_has_both is_open side = by ((k.stands.kept.counted side).opened (closed_shown w k.scene k.stands.shown ∙ is_open)) where
       by : (1 ≤ count side k.scene.now.roster) ⊎ (1 ≤ tally (λ (u : Under T Waiter). is_closing side u.at) k.scene.under_way)
-          → (1 ≤ counted side (view_of w)) ⊎ (1 ≤ to_close side (view_of w))
+          → (1 ≤ count_in side (view_of w)) ⊎ (1 ≤ to_close side (view_of w))
       by (inl h) = let now = count_shown w k.scene k.stands.shown side in inl (omega (arith, h, now))
       by (inr h) =
           let close = shown_tally w k.scene k.stands.shown (λ at. is_closing side at) (λ at. is_closing side at) (close_so side) in
@@ -133,12 +133,12 @@ module _ {T : Type 0} where
     none_closes : IsQuiet w → (side : Side) → to_close side (view_of w) ≡ 0
     none_closes quiet side = ap (λ (ps : List (Party T Waiter)). tally (λ (p : Party T Waiter). is_closing side p.call.stage) ps) quiet
 
-    all_live : IsQuiet w → (side : Side) → counted side (view_of w) ≡ live side (view_of w)
+    all_live : IsQuiet w → (side : Side) → count_in side (view_of w) ≡ live side (view_of w)
     all_live quiet side = let c = counts_live side in let none = none_lowers quiet side in omega (arith, c, none)
 
-    has_one : IsQuiet w → closed_in (parts_in w).cells ≡ false → (side : Side) → 1 ≤ counted side (view_of w)
+    has_one : IsQuiet w → closed_in (parts_in w).cells ≡ false → (side : Side) → 1 ≤ count_in side (view_of w)
     has_one quiet is_open side = by (open_has_both is_open side) where
-      by : (1 ≤ counted side (view_of w)) ⊎ (1 ≤ to_close side (view_of w)) → 1 ≤ counted side (view_of w)
+      by : (1 ≤ count_in side (view_of w)) ⊎ (1 ≤ to_close side (view_of w)) → 1 ≤ count_in side (view_of w)
       by (inl h) = h
       by (inr h) = absurd (let none = none_closes quiet side in omega (arith, h, none))
 

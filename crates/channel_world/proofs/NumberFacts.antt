@@ -21,7 +21,7 @@ use Rattle.channel_interleaving.specs.Apart.{AreApart}
 use Rattle.channel_interleaving.specs.Floor.{book_of, IsQuiet, Stands}
 use Rattle.channel_interleaving.specs.OwnerOrder.{was_woken}
 use Rattle.channel_interleaving.specs.Owners.{IsAmong, Post, amiss, post_on, no_stream_post, stream_post, posted, send_post, operation_post, post}
-use Rattle.channel_interleaving.specs.Pending.{is_pending, how_many, operation_stands, stream_stands}
+use Rattle.channel_interleaving.specs.Pending.{stands_pending, how_many, operation_stands, stream_stands}
 use Rattle.channel_interleaving.specs.Roll.{key_of, held_of, is_woken}
 use Rattle.channel_interleaving.specs.Kept.{AllKept}
 use Rattle.channel_interleaving.specs.Run.{Book}
@@ -135,15 +135,15 @@ some_so None e = absurd (let no : false ≡ true = e in cc)
 some_so (Some x) e = (x, refl)
 
 module _ {T : Type 0} (r : Roll T) where
-  pub pending_holds : (w : Waiter) → stands_so is_pending r w ≡ is_some (held_of r w)
+  pub pending_holds : (w : Waiter) → stands_so stands_pending r w ≡ is_some (held_of r w)
   pending_holds (Op op) = by (at op.0 r.operations)
     where
-      by : (o : Option (Operation T)) → operation_stands is_pending o ≡ is_some (option_map_or (λ (x : Operation T). key_of x.standing) o None)
+      by : (o : Option (Operation T)) → operation_stands stands_pending o ≡ is_some (option_map_or (λ (x : Operation T). key_of x.standing) o None)
       by None = refl
       by (Some x) = refl
   pending_holds (Stream handle) = by (at handle.0 r.handles)
     where
-      by : (o : Option Hold) → stream_stands is_pending o ≡ is_some (option_map_or (λ (x : Hold). key_of x.standing) o None)
+      by : (o : Option Hold) → stream_stands stands_pending o ≡ is_some (option_map_or (λ (x : Hold). key_of x.standing) o None)
       by None = refl
       by (Some x) = refl
 
@@ -202,21 +202,21 @@ module _ {T : Type 0} (r : Roll T) where
       by (Some None) f = refl
       by (Some (Some x)) f = woken_stream x.handle.kind x.standing f
 
-  pub woken_pends : (s : Standing) → is_woken s ≡ true → is_pending s ≡ true
+  pub woken_pends : (s : Standing) → is_woken s ≡ true → stands_pending s ≡ true
   woken_pends Rests e = e
   woken_pends (Waits key b) e = refl
   woken_pends (IsPolled brings) e = e
 
   -- and is pending
-  woken_are_pending : (w : Waiter) → stands_so is_woken r w ≡ true → stands_so is_pending r w ≡ true
+  woken_are_pending : (w : Waiter) → stands_so is_woken r w ≡ true → stands_so stands_pending r w ≡ true
   woken_are_pending (Op op) e = by (at op.0 r.operations) e
     where
-      by : (o : Option (Operation T)) → operation_stands is_woken o ≡ true → operation_stands is_pending o ≡ true
+      by : (o : Option (Operation T)) → operation_stands is_woken o ≡ true → operation_stands stands_pending o ≡ true
       by None f = f
       by (Some x) f = woken_pends x.standing f
   woken_are_pending (Stream handle) e = by (at handle.0 r.handles) e
     where
-      by : (o : Option Hold) → stream_stands is_woken o ≡ true → stream_stands is_pending o ≡ true
+      by : (o : Option Hold) → stream_stands is_woken o ≡ true → stream_stands stands_pending o ≡ true
       by None f = f
       by (Some x) f = woken_pends x.standing f
 
@@ -296,34 +296,34 @@ module _ {T : Type 0} (b : Book T) (s : Scene T Waiter) (kept : AllKept b s) (wo
   pub woken_number : how_many is_woken b.roll ≡ length who.woken
   woken_number = counted_so is_woken b.roll apart who.woken told_once told_so told_there
 
-  line_so : (line : Line) (w : Waiter) → is_among w (untold line who) ≡ true → stands_so is_pending b.roll w ≡ true
+  line_so : (line : Line) (w : Waiter) → is_among w (untold line who) ≡ true → stands_so stands_pending b.roll w ≡ true
   line_so line w i =
       let shown = world.shows in
       let own = shown.lines line in
       pending_holds b.roll w ∙ untold_hold (held_of b.roll) _ (untold line who) w own.untold i
 
-  all_pending : (w : Waiter) → is_among w (everybody who) ≡ true → stands_so is_pending b.roll w ≡ true
+  all_pending : (w : Waiter) → is_among w (everybody who) ≡ true → stands_so stands_pending b.roll w ≡ true
   all_pending w i = sends (among_append w who.sends (who.receives ++ (who.streams ++ (who.closings ++ who.woken))) i)
     where
-      closings : (is_among w who.closings ≡ true) ⊎ (is_among w who.woken ≡ true) → stands_so is_pending b.roll w ≡ true
+      closings : (is_among w who.closings ≡ true) ⊎ (is_among w who.woken ≡ true) → stands_so stands_pending b.roll w ≡ true
       closings (inl k) = line_so Closings w k
       closings (inr k) = woken_are_pending b.roll w (told_so w k)
 
-      streams : (is_among w who.streams ≡ true) ⊎ (is_among w (who.closings ++ who.woken) ≡ true) → stands_so is_pending b.roll w ≡ true
+      streams : (is_among w who.streams ≡ true) ⊎ (is_among w (who.closings ++ who.woken) ≡ true) → stands_so stands_pending b.roll w ≡ true
       streams (inl k) = line_so Streams w k
       streams (inr k) = closings (among_append w who.closings who.woken k)
 
       receives : (is_among w who.receives ≡ true) ⊎ (is_among w (who.streams ++ (who.closings ++ who.woken)) ≡ true)
-          → stands_so is_pending b.roll w ≡ true
+          → stands_so stands_pending b.roll w ≡ true
       receives (inl k) = line_so Receives w k
       receives (inr k) = streams (among_append w who.streams (who.closings ++ who.woken) k)
 
       sends : (is_among w who.sends ≡ true) ⊎ (is_among w (who.receives ++ (who.streams ++ (who.closings ++ who.woken))) ≡ true)
-          → stands_so is_pending b.roll w ≡ true
+          → stands_so stands_pending b.roll w ≡ true
       sends (inl k) = line_so Sends w k
       sends (inr k) = receives (among_append w who.receives (who.streams ++ (who.closings ++ who.woken)) k)
 
-  all_there : (w : Waiter) → stands_so is_pending b.roll w ≡ true → 1 ≤ times w (everybody who)
+  all_there : (w : Waiter) → stands_so stands_pending b.roll w ≡ true → 1 ≤ times w (everybody who)
   all_there w e =
       let key = some_so (held_of b.roll w) (sym (pending_holds b.roll w) ∙ e) in
       let keys = world.shows.keys in
@@ -334,8 +334,8 @@ module _ {T : Type 0} (b : Book T) (s : Scene T Waiter) (kept : AllKept b s) (wo
   all_once : (w : Waiter) → times w (everybody who) ≤ 1
   all_once w = let one = once_in w in let same = everybody_once w who in omega (arith, one, same)
 
-  pub pending_number : how_many is_pending b.roll ≡ pending_count who
-  pending_number = counted_so is_pending b.roll apart (everybody who) all_once all_pending all_there ∙ everybody_many who
+  pub pending_number : how_many stands_pending b.roll ≡ pending_count who
+  pending_number = counted_so stands_pending b.roll apart (everybody who) all_once all_pending all_there ∙ everybody_many who
 
 -- ---- a world
 

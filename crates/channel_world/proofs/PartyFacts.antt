@@ -12,7 +12,7 @@ use Rattle.channel_steps.specs.Scene.{Scene}
 use Rattle.channel_steps.proofs.Interface.{run_on}
 use Rattle.channel_interleaving.specs.Floor.{book_of, Stands}
 use Rattle.channel_interleaving.specs.Refusal.{step_refusal}
-use Rattle.channel_interleaving.specs.Run.{Book, Made, MayRefuseStep, StopsAt, book_ended, with_woken}
+use Rattle.channel_interleaving.specs.Run.{Book, StepIsMade, MayRefuseStep, StopsAt, book_ended, with_woken}
 use Rattle.channel_interleaving.specs.Runs.{Moment, LeadsBy, RanTo, accepted_in, left_in, moment_of}
 use Rattle.channel_interleaving.specs.declared.floor.Floor.{Floor}
 use Rattle.channel_interleaving.specs.declared.names.Agent.{Agent}
@@ -103,7 +103,7 @@ module _ {T : Type 0} where
 
   -- a party whose step did not answer is at work still
   still_at_work : (b : Book T) (s : Scene T Waiter) (p : PartyId) (e : Entry T) (c : Book T) (t : Scene T Waiter)
-      → Made b s (step.Step p) e c t → e.reply ≡ None → step_refusal c.roll c.agents (step.Step p) ≡ None
+      → StepIsMade b s (step.Step p) e c t → e.reply ≡ None → step_refusal c.roll c.agents (step.Step p) ≡ None
   still_at_work b s p e c t made silent =
       let k = made.book.0 in
       let a = made.book.1 in

@@ -2,16 +2,16 @@
 use Rattle.std.proofs.Common.{arith, ◌≡◌, ◌+◌, ◌-◌, ◌*◌, ◌^◌, ◌≤◌, ℕ, zero, suc, List, [], ◌∷◌, ◌++◌, length, Option, None, Some, IfSome, refl, sym, subst, ap, ◌∙◌, add-one, append_assoc, append-nil}
 use Rattle.std.specs.Option.{option_map}
 use Rattle.channel_model.specs.Awake.{AwakeIn}
-use Rattle.channel_model.specs.Laws.{removed_by, accepted_by, sends_after, NobodyIsLeft}
-use Rattle.channel_model.specs.Run.{Runs, Stops, Does, MayStop}
+use Rattle.channel_model.specs.Laws.{removed_by, brought_by_call, sends_after, NobodyIsLeft}
+use Rattle.channel_model.specs.Run.{Runs, Stops, MayBeDone, MayStop}
 use Rattle.channel_model.specs.State.{State, start}
 use Rattle.channel_model.specs.declared.call.Call.{Call}
 use Rattle.channel_model.specs.declared.refusal.WorldRefusal.{WorldRefusal}
 use Rattle.channel_model.specs.declared.run.Done.{Done}
 use Rattle.channel_model.specs.declared.run.Stopped.{Stopped}
 use Rattle.channel_model.proofs.LawSteps.{Kept, step_good, opened_kept}
-use Rattle.channel_world.specs.RecordLaws.{removed, accepted, accepted_after}
-use Rattle.channel_world.specs.RecordReplay.{Made, Replays, IsHistory}
+use Rattle.channel_world.specs.RecordLaws.{removed_in_record, accepted_in_record, accepted_after}
+use Rattle.channel_world.specs.RecordReplay.{MadeAsSaid, Replays, IsHistory}
 use Rattle.channel_world.specs.RecordSeat.{SeatView, amount_of, call_weight, calls_of, numbers_of, sum_below}
 use Rattle.channel_world.specs.Recording.{RecordingView, IsRecording}
 use Rattle.channel_world.specs.declared.recorded.receipt.Receipt.{Receipt}
@@ -61,9 +61,9 @@ not_none (a ∷ xs) x e = cc e
 module _ {T : Type 0} where
   -- ---- one entry more
 
-  pub replays_more : (place : ℕ) (s mid t : State T) (rs : List (Receipt T)) (r : Receipt T) → Replays place s rs mid → r.place ≡ place + length rs → Made mid r t
+  pub replays_more : (place : ℕ) (s mid t : State T) (rs : List (Receipt T)) (r : Receipt T) → Replays place s rs mid → r.place ≡ place + length rs → MadeAsSaid mid r t
       → Replays place s (rs ++ r ∷ []) t
-  replays_more place s mid t [] r same at made = (t, omega (arith, at), subst (λ (x : State T). Made x r t) same made, refl)
+  replays_more place s mid t [] r same at made = (t, omega (arith, at), subst (λ (x : State T). MadeAsSaid x r t) same made, refl)
   replays_more place s mid t (x ∷ rs) r (next, here, first, more) at made =
       (next, here, first, replays_more (place + 1) next mid t rs r more (omega (arith, at)) made)
 
@@ -78,7 +78,7 @@ module _ {T : Type 0} where
       (subst (λ (x : RecordingView T). IsRecording x count total parts amount all) (sym (same_view v t rs same kept)) i)
 
   pub one_recorded : (v : RecordingView T) (t : State T) (r : Receipt T) (count count' total total' parts amount all : ℕ) → IsRecording v count total parts amount all
-      → r.place ≡ length v.entries → Made v.state r t → count' ≡ count + 1 → total' ≡ total + call_weight
+      → r.place ≡ length v.entries → MadeAsSaid v.state r t → count' ≡ count + 1 → total' ≡ total + call_weight
       → IsRecording (record v { state = t; entries = v.entries ++ r ∷ [] }) count' total' parts amount all
   one_recorded v t r count count' total total' parts amount all i at made longer counted =
       let before = i.counted in
@@ -95,23 +95,23 @@ module _ {T : Type 0} where
   -- ---- a run of one call
 
   last_of : (s t : State T) (c : Call T) (before ds : List (Done T)) (d : Done T) (why : Option WorldRefusal) (rest : List (Call T))
-      → Runs s (c ∷ []) ds why rest t → ds ≡ before ++ d ∷ [] → Does s c d t
+      → Runs s (c ∷ []) ds why rest t → ds ≡ before ++ d ∷ [] → MayBeDone s c d t
   last_of s t c before [] d why rest run e = absurd (not_none before d e)
   last_of s t c before (x ∷ []) d why rest (mid, does, (left, same, stops)) e =
       let is : x ≡ d = only_one before d x e in
-      subst (λ (y : Done T). Does s c y t) is (subst (λ (y : State T). Does s c x y) (sym same) does)
+      subst (λ (y : Done T). MayBeDone s c y t) is (subst (λ (y : State T). MayBeDone s c x y) (sym same) does)
   last_of s t c before (x ∷ y ∷ ds) d why rest (mid, does, more) e = absurd more
 
   -- the call that was made is the last one made
   pub one_done : (s t : State T) (c : Call T) (calls rest : List (Call T)) (before ds : List (Done T)) (d : Done T) (why : Option WorldRefusal)
-      → Runs s calls ds why rest t → calls ≡ c ∷ [] → ds ≡ before ++ d ∷ [] → Does s c d t
+      → Runs s calls ds why rest t → calls ≡ c ∷ [] → ds ≡ before ++ d ∷ [] → MayBeDone s c d t
   one_done s t c calls rest before ds d why run one e =
       last_of s t c before ds d why rest (subst (λ (cs : List (Call T)). Runs s cs ds why rest t) one run) e
 
   -- and the receipt that says so of it is right
-  pub made_so : (s t : State T) (c : Call T) (d : Done T) (place seat : ℕ) (r : Receipt T) → Does s c d t
-      → r ≡ record { place = place; seat = seat; call = c; reply = d.reply; woken = d.woken.items } → Made s r t
-  made_so s t c d place seat r does is = subst (λ (x : Receipt T). Made s x t) (sym is) does
+  pub made_so : (s t : State T) (c : Call T) (d : Done T) (place seat : ℕ) (r : Receipt T) → MayBeDone s c d t
+      → r ≡ record { place = place; seat = seat; call = c; reply = d.reply; woken = d.woken.items } → MadeAsSaid s r t
+  made_so s t c d place seat r does is = subst (λ (x : Receipt T). MadeAsSaid s x t) (sym is) does
 
   stopped_by : (s : State T) (c : Call T) (stopped : Option Stopped) (why : WorldRefusal) → Stops s (c ∷ []) (option_map (λ (x : Stopped). x.why) stopped)
       → IfSome stopped (λ x. why ≡ x.why) → MayStop s c (Some why)
@@ -130,7 +130,7 @@ module _ {T : Type 0} where
 
   pub record RecordKept (sends : List (ℕ × T)) (s : State T) (rs : List (Receipt T)) (t : State T) : Type 0 where
     pub awake : AwakeIn t
-    pub account : removed rs ++ t.channel.messages ≡ s.channel.messages ++ accepted_after sends rs
+    pub account : removed_in_record rs ++ t.channel.messages ≡ s.channel.messages ++ accepted_after sends rs
 
   pub record_kept : (place : ℕ) (sends : List (ℕ × T)) (s : State T) (rs : List (Receipt T)) (t : State T) → Kept sends s → Replays place s rs t → RecordKept sends s rs t
   record_kept place sends s [] t kept same = record {
@@ -143,17 +143,17 @@ module _ {T : Type 0} where
       record {
         awake = on.awake;
         account =
-            append_assoc (removed_by r.reply) (removed rs) t.channel.messages
+            append_assoc (removed_by r.reply) (removed_in_record rs) t.channel.messages
             ∙ (ap (λ (ms : List T). removed_by r.reply ++ ms) on.account
             ∙ (sym (append_assoc (removed_by r.reply) mid.channel.messages (accepted_after (sends_after sends r.call) rs))
             ∙ (ap (λ (ms : List T). ms ++ accepted_after (sends_after sends r.call) rs) g.account
-            ∙ append_assoc s.channel.messages (accepted_by sends r.call r.reply) (accepted_after (sends_after sends r.call) rs))));
+            ∙ append_assoc s.channel.messages (brought_by_call sends r.call r.reply) (accepted_after (sends_after sends r.call) rs))));
       }
 
   history_kept : (capacity : Option ℕ) (rs : List (Receipt T)) (h : IsHistory capacity rs) → RecordKept [] (start capacity) rs h.last
   history_kept capacity rs h = record_kept 0 [] (start capacity) rs h.last (opened_kept capacity) h.replays
 
-  pub in_order : (capacity : Option ℕ) (rs : List (Receipt T)) (h : IsHistory capacity rs) → removed rs ++ h.last.channel.messages ≡ accepted rs
+  pub in_order : (capacity : Option ℕ) (rs : List (Receipt T)) (h : IsHistory capacity rs) → removed_in_record rs ++ h.last.channel.messages ≡ accepted_in_record rs
   in_order capacity rs h = (history_kept capacity rs h).account
 
   pub nobody_left : (capacity : Option ℕ) (rs : List (Receipt T)) (h : IsHistory capacity rs) → NobodyIsLeft h.last

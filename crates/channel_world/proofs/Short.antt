@@ -8,7 +8,7 @@ use Rattle.channel_calls.specs.declared.stage.Line.{Line}
 use Rattle.channel_calls.specs.declared.stage.Line.TheVariants.{Sends, Receives, Streams, Closings}
 use Rattle.channel_model.specs.Answer.{Answer, answer, replying, after_leaving, pending, space_of, Found, first, none_yet, none_ever, found, send_poll_answer, recv_poll_answer, next_answer, closed_poll_answer, poll_answer}
 use Rattle.channel_model.specs.Awake.{AwakeIn, Kind, Placed}
-use Rattle.channel_model.specs.Laws.{is_line, line_of, line_of_operation}
+use Rattle.channel_model.specs.Laws.{is_line, line_at, line_of_operation}
 use Rattle.channel_model.specs.Lines.{Waiting, is_among, untold, told_by, after_news, gone, passed_on, left_after, told_after, standing}
 use Rattle.channel_model.specs.Names.{Names, ModelOperation, send, recv, closing, at, with_operation_changed}
 use Rattle.channel_model.specs.Refused.{Lack, memory, serials, refused, not_listening, not_standing, not_held, send_not_polled, recv_not_polled, not_polled, next_not_polled, answer_without, Answers}
@@ -166,7 +166,7 @@ module _ {T : Type 0} where
   module _ (s : State T) where
     -- who belongs to a line after it belonged to it before
     abbrev KeepsLines : Names T → Type 0
-    KeepsLines names = (line : Line) (v : Waiter) → is_line line (line_of names v) ≡ true → is_line line (line_of s.names v) ≡ true
+    KeepsLines names = (line : Line) (v : Waiter) → is_line line (line_at names v) ≡ true → is_line line (line_at s.names v) ≡ true
 
     -- it brought no message in, or is a send that left
     abbrev Brings : Line → Waiter → Answer T → Type 0
@@ -212,7 +212,7 @@ module _ {T : Type 0} where
 
     module _ (awake : AwakeIn s) (w : Waiter) (e : is_among w s.waiting.woken ≡ true) where
       abbrev k : Kind
-      k = line_of s.names
+      k = line_at s.names
 
       out_of_line : (line : Line) (r : Reply T) → came_in r ≡ 0 → AllPolled line w (not_standing line w s r)
       out_of_line line r none =
@@ -229,26 +229,26 @@ module _ {T : Type 0} where
       send_so : (handle : HandleId) (m : T) (x : Space) → at op.0 s.names.operations ≡ Some (send handle (Some m))
           → Polled Sends (Op op) (send_poll_answer s op handle m x)
       send_so handle m Open there =
-          let left = accepted (line_of s.names) (Op op) s.waiting awake.placed e in
+          let left = accepted (line_at s.names) (Op op) s.waiting awake.placed e in
           (inl left, finishes op handle _ there, inr (refl, refl, left))
-      send_so handle m Filled there = (stood (line_of s.names) (Op op) s.waiting awake.placed e Sends Sends, kept, inl refl)
-      send_so handle m Shut there = (leaves (line_of s.names) (Op op) s.waiting awake.placed e Sends, finishes op handle _ there, inl refl)
+      send_so handle m Filled there = (stood (line_at s.names) (Op op) s.waiting awake.placed e Sends Sends, kept, inl refl)
+      send_so handle m Shut there = (leaves (line_at s.names) (Op op) s.waiting awake.placed e Sends, finishes op handle _ there, inl refl)
 
       recv_so : (x : Found T) → Polled Receives (Op op) (recv_poll_answer s op x)
-      recv_so (first m ms) = (takes (line_of s.names) (Op op) s.waiting awake.placed e, kept, inl refl)
-      recv_so none_yet = (stood (line_of s.names) (Op op) s.waiting awake.placed e Receives Receives, kept, inl refl)
-      recv_so none_ever = (leaves (line_of s.names) (Op op) s.waiting awake.placed e Receives, kept, inl refl)
+      recv_so (first m ms) = (takes (line_at s.names) (Op op) s.waiting awake.placed e, kept, inl refl)
+      recv_so none_yet = (stood (line_at s.names) (Op op) s.waiting awake.placed e Receives Receives, kept, inl refl)
+      recv_so none_ever = (leaves (line_at s.names) (Op op) s.waiting awake.placed e Receives, kept, inl refl)
 
       closed_so : Polled Closings (Op op) (closed_poll_answer s op)
       closed_so =
           either_way (Polled Closings (Op op)) s.channel.closed (after_leaving Nothing Closings (Op op) s (reply.ClosedPoll (Ready (Ok tt))))
-          (pending Closings (Op op) s (reply.ClosedPoll Pending)) (leaves (line_of s.names) (Op op) s.waiting awake.placed e Closings, kept, inl refl)
-          (stood (line_of s.names) (Op op) s.waiting awake.placed e Closings Closings, kept, inl refl)
+          (pending Closings (Op op) s (reply.ClosedPoll Pending)) (leaves (line_at s.names) (Op op) s.waiting awake.placed e Closings, kept, inl refl)
+          (stood (line_at s.names) (Op op) s.waiting awake.placed e Closings Closings, kept, inl refl)
 
       send_lacks : (lack : Lack) (x : Space) → AllPolled Sends (Op op) (send_not_polled lack s op x)
       send_lacks lack Open =
           unheld awake (Op op) e Sends lack Open (after_leaving Nothing Sends (Op op) s (reply.SendPoll (Ready (Err (refused lack)))))
-          (leaves (line_of s.names) (Op op) s.waiting awake.placed e Sends, kept, inl refl)
+          (leaves (line_at s.names) (Op op) s.waiting awake.placed e Sends, kept, inl refl)
       send_lacks lack Filled = out_of_line awake (Op op) e Sends (reply.SendPoll (Ready (Err (refused lack)))) refl
       send_lacks lack Shut = none_polled Sends (Op op)
 
@@ -266,7 +266,7 @@ module _ {T : Type 0} where
     -- of one that belongs to this line
     record PolledOn (w : Waiter) : Type 0 where
       pub line : Line
-      pub own : line_of s.names w ≡ Some line
+      pub own : line_at s.names w ≡ Some line
       pub ample : Polled line w (answer s (poll_of w))
       pub lacking : (lack : Lack) → AllPolled line w (answer_without lack s (poll_of w))
 
@@ -296,9 +296,9 @@ module _ {T : Type 0} where
 
       next_so : (r : HandleId) → is_among (Stream r) s.waiting.woken ≡ true → (x : Found T)
           → Polled Streams (Stream r) (next_answer (with_waiting (gone (Stream r) s.waiting) s) r x)
-      next_so r e (first m ms) = (gives (line_of s.names) (Stream r) s.waiting awake.placed e, kept, inl refl)
-      next_so r e none_yet = (stood_again (line_of s.names) (Stream r) s.waiting awake.placed e, kept, inl refl)
-      next_so r e none_ever = (is_gone (line_of s.names) (Stream r) s.waiting awake.placed e Streams, kept, inl refl)
+      next_so r e (first m ms) = (gives (line_at s.names) (Stream r) s.waiting awake.placed e, kept, inl refl)
+      next_so r e none_yet = (stood_again (line_at s.names) (Stream r) s.waiting awake.placed e, kept, inl refl)
+      next_so r e none_ever = (is_gone (line_at s.names) (Stream r) s.waiting awake.placed e Streams, kept, inl refl)
 
       next_lacks : (r : HandleId) → is_among (Stream r) s.waiting.woken ≡ true → (lack : Lack) (x : Found T)
           → AllPolled Streams (Stream r) (next_not_polled lack s (Stream r) x)
@@ -311,7 +311,7 @@ module _ {T : Type 0} where
       polled_on (Stream r) e = record {
         line = Streams;
         own = refl;
-        ample = rw (not_untold (line_of s.names) Streams (Stream r) s.waiting awake.placed e) (next_so r e (found s.channel));
+        ample = rw (not_untold (line_at s.names) Streams (Stream r) s.waiting awake.placed e) (next_so r e (found s.channel));
         lacking = λ lack. next_lacks r e lack (found s.channel);
       }
 
@@ -325,7 +325,7 @@ module _ {T : Type 0} where
 
   -- how many polls are to come at most
   pub weight_of : State T → ℕ
-  weight_of s = weight (line_of s.names) s.waiting
+  weight_of s = weight (line_at s.names) s.waiting
 
   -- one of each who is woken
   pub woken_within : (s : State T) → length s.waiting.woken ≤ weight_of s
@@ -337,29 +337,29 @@ module _ {T : Type 0} where
       → suc (weight_of a.after) ≤ weight_of s
   unfolding weight_of
   shorter s awake w a front answers =
-      let k = line_of s.names in
+      let k = line_at s.names in
       let p = polled_on s awake w (first_there w s.waiting.woken front) in
       let so = polled_so s awake w a p answers in
       let next = ap (λ (ws : List Waiter). length ws) (woken_next s awake w a front answers) ∙ length-append (drop 1 s.waiting.woken) a.woken in
       let one = one_fewer w s.waiting.woken front in
       let near = nearer k w s.waiting a.after.waiting a.woken (all_streams k s.waiting awake.placed) (omega (arith, next, one)) p.line p.own so.0 in
-      let fewer = fewer_kinds k (line_of a.after.names) a.after.waiting so.1 in
+      let fewer = fewer_kinds k (line_at a.after.names) a.after.waiting so.1 in
       omega (arith, near, fewer)
 
   -- how many sends are pending
   pub sends_of : State T → ℕ
-  sends_of s = count_all (on (line_of s.names) Sends) s.waiting
+  sends_of s = count_all (on (line_at s.names) Sends) s.waiting
 
   pub sends_within : (s : State T) → AwakeIn s → sends_of s ≤ pending_on Sends s
   unfolding sends_of
-  sends_within s awake = count_on (line_of s.names) s.waiting awake.placed Sends
+  sends_within s awake = count_on (line_at s.names) s.waiting awake.placed Sends
 
   -- one of them is woken
-  pub sends_one : (s : State T) (w : Waiter) → is_among w s.waiting.woken ≡ true → is_line Sends (line_of s.names w) ≡ true → 1 ≤ sends_of s
+  pub sends_one : (s : State T) (w : Waiter) → is_among w s.waiting.woken ≡ true → is_line Sends (line_at s.names w) ≡ true → 1 ≤ sends_of s
   unfolding sends_of
   sends_one s w there own =
-      let gone_one = count_gone_one (on (line_of s.names) Sends) w s.waiting there in
-      let one : one_if (is_line Sends (line_of s.names w)) ≡ 1 = ap (λ (b : Bool). one_if b) own in
+      let gone_one = count_gone_one (on (line_at s.names) Sends) w s.waiting there in
+      let one : one_if (is_line Sends (line_at s.names w)) ≡ 1 = ap (λ (b : Bool). one_if b) own in
       omega (arith, gone_one, one)
 
   -- a poll of the first of those who are woken brings a message in only where a send leaves
@@ -369,14 +369,14 @@ module _ {T : Type 0} where
   brings_one s awake w a front answers =
       let p = polled_on s awake w (first_there w s.waiting.woken front) in
       let so = polled_so s awake w a p answers in
-      let k = line_of s.names in
-      let fewer = count_more (on (line_of a.after.names) Sends) (on k Sends) (λ v e. so.1 Sends v e) a.after.waiting in
+      let k = line_at s.names in
+      let fewer = count_more (on (line_at a.after.names) Sends) (on k Sends) (λ v e. so.1 Sends v e) a.after.waiting in
       by k p.line p.own fewer so.0 so.2
     where
       by : (k : Kind) (line : Line) → k w ≡ Some line
-          → count_all (on (line_of a.after.names) Sends) a.after.waiting ≤ count_all (on k Sends) a.after.waiting
+          → count_all (on (line_at a.after.names) Sends) a.after.waiting ≤ count_all (on k Sends) a.after.waiting
           → LeftOrStood w line s.waiting a.after.waiting a.woken → Brings s line w a
-          → came_in a.reply + count_all (on (line_of a.after.names) Sends) a.after.waiting ≤ count_all (on k Sends) s.waiting
+          → came_in a.reply + count_all (on (line_at a.after.names) Sends) a.after.waiting ≤ count_all (on k Sends) s.waiting
       by k line own fewer lors (inr (same, one, left)) =
           let mine : one_if (is_line Sends (k w)) ≡ 1 = ap (λ (o : Option Line). one_if (is_line Sends o)) (own ∙ ap (λ (l : Line). Some l) same) in
           let gone_one = left.fewer (on k Sends) in
@@ -387,7 +387,7 @@ module _ {T : Type 0} where
   pub within : (s : State T) → AwakeIn s → weight_of s ≤ most_polls s
   unfolding weight_of
   within s awake =
-      let on_line = count_on (line_of s.names) s.waiting awake.placed in
+      let on_line = count_on (line_at s.names) s.waiting awake.placed in
       no_more (length s.waiting.woken) _ (pending_on Sends s) _ (pending_on Receives s) _ (pending_on Streams s) (on_line Sends) (on_line Receives)
       (on_line Streams)
 

@@ -25,7 +25,7 @@ use Rattle.channel_interleaving.specs.Doing.{doing_of}
 use Rattle.channel_interleaving.specs.Floor.{calls_in, messages_in, sight_of, Stands}
 use Rattle.channel_interleaving.specs.Owed.{Owed, IsUnwoken, is_sending, is_receiving, is_woken_on, woken_on, all_unannounced}
 use Rattle.channel_interleaving.specs.Owners.{Post, waits, posted, post_on, no_stream_post, stream_post, send_post, operation_post, post, Together}
-use Rattle.channel_interleaving.specs.Pending.{is_pending, how_many, operation_stands, stream_stands}
+use Rattle.channel_interleaving.specs.Pending.{stands_pending, how_many, operation_stands, stream_stands}
 use Rattle.channel_interleaving.specs.Roll.{is_woken}
 use Rattle.channel_interleaving.specs.declared.doing.Doing.{Doing}
 use Rattle.channel_interleaving.specs.declared.doing.Role.{Role}
@@ -137,31 +137,31 @@ woken_handle line (Some x) e = woken_stream line x.handle.kind x.standing e
 abbrev Sleeps : Line → Key → Post → Type 0
 Sleeps line key p = p ≡ waits (record { line = line; key = key }) false
 
-asleep_post : (line own : Line) (key : Key) (s : Standing) → Sleeps line key (post_on own s) → (is_woken s ≡ false) × (is_pending s ≡ true)
+asleep_post : (line own : Line) (key : Key) (s : Standing) → Sleeps line key (post_on own s) → (is_woken s ≡ false) × (stands_pending s ≡ true)
 asleep_post line own key Rests e = cc e
 asleep_post line own key (Waits k true) e = cc e
 asleep_post line own key (Waits k false) e = (refl, refl)
 asleep_post line own key (IsPolled brings) e = cc e
 
-asleep_off : (line : Line) (key : Key) (s : Standing) → Sleeps line key (no_stream_post s) → (is_woken s ≡ false) × (is_pending s ≡ true)
+asleep_off : (line : Line) (key : Key) (s : Standing) → Sleeps line key (no_stream_post s) → (is_woken s ≡ false) × (stands_pending s ≡ true)
 asleep_off line key Rests e = cc e
 asleep_off line key (Waits k woken) e = cc e
 asleep_off line key (IsPolled brings) e = cc e
 
 asleep_stream : (line : Line) (key : Key) (k : HandleKind) (s : Standing) → Sleeps line key (stream_post k s)
-    → (is_woken s ≡ false) × (is_pending s ≡ true)
+    → (is_woken s ≡ false) × (stands_pending s ≡ true)
 asleep_stream line key handle_kind.Receiver s e = asleep_post line Streams key s e
 asleep_stream line key handle_kind.Sender s e = asleep_off line key s e
 asleep_stream line key handle_kind.WeakSender s e = asleep_off line key s e
 asleep_stream line key handle_kind.WeakReceiver s e = asleep_off line key s e
 
 -- who is woken is pending
-pends : (s : Standing) → is_woken s ≡ true → is_pending s ≡ true
+pends : (s : Standing) → is_woken s ≡ true → stands_pending s ≡ true
 pends Rests e = no e
 pends (Waits key woken) e = refl
 pends (IsPolled brings) e = no e
 
-woken_streams : (o : Option Hold) → stream_stands is_woken o ≡ true → stream_stands is_pending o ≡ true
+woken_streams : (o : Option Hold) → stream_stands is_woken o ≡ true → stream_stands stands_pending o ≡ true
 woken_streams None e = e
 woken_streams (Some x) e = pends x.standing e
 
@@ -230,7 +230,7 @@ module _ {T : Type 0} where
       omega (arith, a, b, both)
 
   asleep_kind : (line : Line) (key : Key) (k : OperationKind) (m : Option T) (s : Standing) → Sleeps line key (operation_post k m s)
-      → (is_woken s ≡ false) × (is_pending s ≡ true)
+      → (is_woken s ≡ false) × (stands_pending s ≡ true)
   asleep_kind line key kind.Send None Rests e = cc e
   asleep_kind line key kind.Send None (Waits k woken) e = cc e
   asleep_kind line key kind.Send None (IsPolled brings) e = cc e
@@ -238,34 +238,34 @@ module _ {T : Type 0} where
   asleep_kind line key kind.Receive m s e = asleep_post line Receives key s e
   asleep_kind line key kind.Closing m s e = asleep_post line _ key s e
 
-  woken_stands : (o : Option (Operation T)) → operation_stands is_woken o ≡ true → operation_stands is_pending o ≡ true
+  woken_stands : (o : Option (Operation T)) → operation_stands is_woken o ≡ true → operation_stands stands_pending o ≡ true
   woken_stands None e = e
   woken_stands (Some x) e = pends x.standing e
 
   -- so more are pending than were woken
-  more_pending : (line : Line) (name : Waiter) (r : Roll T) → IsUnwoken line name r → suc (how_many is_woken r) ≤ how_many is_pending r
+  more_pending : (line : Line) (name : Waiter) (r : Roll T) → IsUnwoken line name r → suc (how_many is_woken r) ≤ how_many stands_pending r
   more_pending line (Op op) r (key, e) = by (lookup (nat_eq op.0) r.operations) refl e
     where
       by : (o : Option (Option (Operation T))) → lookup (nat_eq op.0) r.operations ≡ o → Sleeps line key (operation_seen o)
-          → suc (how_many is_woken r) ≤ how_many is_pending r
+          → suc (how_many is_woken r) ≤ how_many stands_pending r
       by None there e = cc e
       by (Some None) there e = cc e
       by (Some (Some x)) there e =
           let so = asleep_kind line key x.kind x.message x.standing e in
-          let more = one_more (operation_stands is_woken) (operation_stands is_pending) woken_stands op.0 (Some x) r.operations there so.0 so.1 in
-          let others = count_more (λ (f : ℕ × Option Hold). stream_stands is_woken f.1) (λ (f : ℕ × Option Hold). stream_stands is_pending f.1)
+          let more = one_more (operation_stands is_woken) (operation_stands stands_pending) woken_stands op.0 (Some x) r.operations there so.0 so.1 in
+          let others = count_more (λ (f : ℕ × Option Hold). stream_stands is_woken f.1) (λ (f : ℕ × Option Hold). stream_stands stands_pending f.1)
           (λ f k. woken_streams f.1 k) r.handles in
           omega (arith, more, others)
   more_pending line (Stream handle) r (key, e) = by (lookup (nat_eq handle.0) r.handles) refl e
     where
       by : (o : Option (Option Hold)) → lookup (nat_eq handle.0) r.handles ≡ o → Sleeps line key (handle_seen o)
-          → suc (how_many is_woken r) ≤ how_many is_pending r
+          → suc (how_many is_woken r) ≤ how_many stands_pending r
       by None there e = cc e
       by (Some None) there e = cc e
       by (Some (Some x)) there e =
           let so = asleep_stream line key x.handle.kind x.standing e in
-          let more = one_more (stream_stands is_woken) (stream_stands is_pending) woken_streams handle.0 (Some x) r.handles there so.0 so.1 in
-          let others = count_more (λ (f : ℕ × Option (Operation T)). operation_stands is_woken f.1) (λ (f : ℕ × Option (Operation T)). operation_stands is_pending f.1)
+          let more = one_more (stream_stands is_woken) (stream_stands stands_pending) woken_streams handle.0 (Some x) r.handles there so.0 so.1 in
+          let others = count_more (λ (f : ℕ × Option (Operation T)). operation_stands is_woken f.1) (λ (f : ℕ × Option (Operation T)). operation_stands stands_pending f.1)
           (λ f k. woken_stands f.1 k) r.operations in
           omega (arith, more, others)
 

@@ -37,14 +37,14 @@ module _ {T : Type 0} where
     nobody = no_agents f kept.at_work quiet
 
     -- why a call is refused
-    pub refused_alike : names.refusal f.roll c ≡ refusal (at_rest f) c
+    pub refused_alike : names.begin_refusal f.roll c ≡ refusal (at_rest f) c
     refused_alike =
         let o = kept.listeners in
         agree (book_of f) o.scene c o.kept nobody
         ∙ ap (λ (x : State T). refusal x c) (sym (at_rest_is f o.scene o.shown quiet))
 
     module _ (few : length f.roll.operations < 2 ^ 63) (answer : LoneCallsAnswer T) (fine : refusal (at_rest f) c ≡ None) where
-      accepted : names.refusal f.roll c ≡ None
+      accepted : names.begin_refusal f.roll c ≡ None
       accepted = refused_alike ∙ fine
 
       -- whatever it does alone, the model allows

@@ -7,7 +7,7 @@ use Rattle.channel_model.specs.Laws.{NobodyIsLeft}
 use Rattle.channel_model.specs.Lines.{untold}
 use Rattle.channel_model.specs.declared.name.Waiter.{Waiter}
 use Rattle.channel_interleaving.specs.Owed.{IsUnwoken}
-use Rattle.channel_interleaving.specs.Pending.{is_pending, how_many}
+use Rattle.channel_interleaving.specs.Pending.{stands_pending, how_many}
 use Rattle.channel_interleaving.specs.Roll.{is_woken}
 use Rattle.channel_world.specs.View.{names_in, messages_in, capacity_in, is_closed, calls_in, at_rest, sight_of, IsQuiet, WorldView}
 
@@ -19,7 +19,7 @@ HasAPlace (Some capacity) held = held < capacity
 module _ {T : Type 0} where
   -- how many are pending, and how many of these were woken
   abbrev pub pending_in : WorldView T → ℕ
-  pending_in w = how_many is_pending (names_in w)
+  pending_in w = how_many stands_pending (names_in w)
 
   abbrev pub woken_among : WorldView T → ℕ
   woken_among w = how_many is_woken (names_in w)
@@ -77,21 +77,21 @@ module _ {T : Type 0} where
   -- ---- the state that it is then: whom a message, a free place or a closing lets go on
 
   -- where it holds a message no receive is pending
-  abbrev pub NoReceiveGoesOn : WorldView T → Type 0
-  NoReceiveGoesOn w = 0 < messages_in w → (at_rest w).waiting.receives ≡ []
+  abbrev pub NoReceivePendsBesideAMessage : WorldView T → Type 0
+  NoReceivePendsBesideAMessage w = 0 < messages_in w → (at_rest w).waiting.receives ≡ []
 
   -- nor a stream
-  abbrev pub NoStreamGoesOn : WorldView T → Type 0
-  NoStreamGoesOn w = 0 < messages_in w → (at_rest w).waiting.streams ≡ []
+  abbrev pub NoStreamPendsBesideAMessage : WorldView T → Type 0
+  NoStreamPendsBesideAMessage w = 0 < messages_in w → (at_rest w).waiting.streams ≡ []
 
   -- where it is open and one more message fits, no send is pending
-  abbrev pub NoSendGoesOn : WorldView T → Type 0
-  NoSendGoesOn w =
+  abbrev pub NoSendPendsBesideAPlace : WorldView T → Type 0
+  NoSendPendsBesideAPlace w =
       (at_rest w).channel.closed ≡ false → HasAPlace (at_rest w).channel.capacity (messages_in w) → (at_rest w).waiting.sends ≡ []
 
   -- where it is closed nobody is pending
-  abbrev pub NobodyMissesTheClosing : WorldView T → Type 0
-  NobodyMissesTheClosing w = (at_rest w).channel.closed ≡ true → (line : Line) → untold line (at_rest w).waiting ≡ []
+  abbrev pub NobodyPendsOnAClosed : WorldView T → Type 0
+  NobodyPendsOnAClosed w = (at_rest w).channel.closed ≡ true → (line : Line) → untold line (at_rest w).waiting ≡ []
 
   -- beside one who was not woken no message, free place or closing but such as the woken ones answer for
   abbrev pub NobodyIsLeftAtRest : WorldView T → Type 0
@@ -99,14 +99,14 @@ module _ {T : Type 0} where
 
   -- so where nobody is woken no receive, no stream and no send is pending that could go on
   abbrev pub NoReceiveIsLeft : WorldView T → Type 0
-  NoReceiveIsLeft w = IsQuiet w → woken_among w ≡ 0 → NoReceiveGoesOn w
+  NoReceiveIsLeft w = IsQuiet w → woken_among w ≡ 0 → NoReceivePendsBesideAMessage w
 
   abbrev pub NoStreamIsLeft : WorldView T → Type 0
-  NoStreamIsLeft w = IsQuiet w → NoStreamGoesOn w
+  NoStreamIsLeft w = IsQuiet w → NoStreamPendsBesideAMessage w
 
   abbrev pub NoSendIsLeft : WorldView T → Type 0
-  NoSendIsLeft w = IsQuiet w → woken_among w ≡ 0 → NoSendGoesOn w
+  NoSendIsLeft w = IsQuiet w → woken_among w ≡ 0 → NoSendPendsBesideAPlace w
 
   -- and nobody on a closed channel
   abbrev pub NobodyIsLeftOnAClosed : WorldView T → Type 0
-  NobodyIsLeftOnAClosed w = IsQuiet w → NobodyMissesTheClosing w
+  NobodyIsLeftOnAClosed w = IsQuiet w → NobodyPendsOnAClosed w

@@ -13,25 +13,25 @@ use Rattle.channel_steps.specs.Scene.{Under, Scene}
 use Rattle.channel_interleaving.specs.Counted.{is_lowering, is_closing}
 use Rattle.channel_interleaving.specs.Owners.{All}
 use Rattle.channel_interleaving.specs.Roll.{names_of}
-use Rattle.channel_world.specs.View.{names_in, is_closed, counted, to_lower, to_close, at_rest, IsQuiet, StandsIn, WorldView}
+use Rattle.channel_world.specs.View.{names_in, is_closed, count_in, to_lower, to_close, at_rest, IsQuiet, StandsIn, WorldView}
 
 -- the strong handles of a side
-abbrev pub strong_of : Side → HandleKind
-strong_of Senders = Sender
-strong_of Receivers = Receiver
+abbrev pub strong_kind : Side → HandleKind
+strong_kind Senders = Sender
+strong_kind Receivers = Receiver
 
 module _ {T : Type 0} where
   -- how many strong handles of this side live under the names of the world
   abbrev pub live : Side → WorldView T → ℕ
-  live side w = live_of (strong_of side) (names_of (names_in w)).handles
+  live side w = live_of (strong_kind side) (names_of (names_in w)).handles
 
   -- A count is the number of live strong handles of its side, with those whose drops under way are to lower it yet.
   abbrev pub CountsLive : WorldView T → Type 0
-  CountsLive w = (side : Side) → counted side w ≡ live side w + to_lower side w
+  CountsLive w = (side : Side) → count_in side w ≡ live side w + to_lower side w
 
   -- On an open channel a count is one at least, or the drop of the last handle is at closing the channel.
   abbrev pub OpenHasBoth : WorldView T → Type 0
-  OpenHasBoth w = is_closed w ≡ false → (side : Side) → (1 ≤ counted side w) ⊎ (1 ≤ to_close side w)
+  OpenHasBoth w = is_closed w ≡ false → (side : Side) → (1 ≤ count_in side w) ⊎ (1 ≤ to_close side w)
 
   -- ---- which calls those are
 

@@ -1,15 +1,8 @@
 -- More worked scripts, computed.
-use Rattle.std.specs.Prelude.{◌≡◌, ℕ, List, [], ◌∷◌, ◌++◌, codes, refl}
+use Rattle.std.specs.Prelude.{◌≡◌, [], ◌∷◌, codes, refl}
 use Rattle.std.specs.Fmt.{digits}
-use Rattle.channel_language.specs.Language.{Language, today}
-use Rattle.channel_world.specs.Script.{script_in}
-use Rattle.channel_world.specs.Output.{text_of_lines, last_lines, status_of}
-
--- the lines that are written for these lines, and the status
-abbrev ran : Language → List (List ℕ) → List (List ℕ) × ℕ
-ran language lines =
-    let s = script_in language (text_of_lines lines) in
-    (s.replies ++ last_lines s.end, status_of s.end)
+use Rattle.channel_language.specs.Language.{today}
+use Rattle.channel_world.specs.ScriptRows.{ran}
 
 pub settling_polls_a_borrowed_stream : ran today (codes "unbounded" ∷ codes "next r" ∷ codes "recv a r" ∷ codes "try_send s 1" ∷ codes "next r" ∷ codes "settle" ∷ codes "next r" ∷ [])
     ≡ (codes "ok" ∷ codes "pending" ∷ codes "ok" ∷ codes "ok wakes r" ∷ codes "refused 6" ∷ codes "polls 1: r some 1" ∷ codes "refused 6" ∷ [], 0)

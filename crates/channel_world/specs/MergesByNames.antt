@@ -1,13 +1,13 @@
 -- A merge whose calls are calls by names. What the headline says of names holds of it too: no step is refused, the book of names and
 -- the order of waking are as the bookkeeping has them, and nobody is left asleep under his name.
-use Rattle.std.specs.Prelude.{◌≡◌, ℕ, List, [], ◌∷◌, None}
+use Rattle.std.specs.Prelude.{◌≡◌, ℕ, List, [], ◌∷◌, map, None}
 use Rattle.concurrent_queue.specs.Capacity.{capacity_of}
 use Rattle.concurrent_queue.specs.declared.cells.QueueForm.{QueueForm}
 use Rattle.event_listener.specs.Notices.{Woken}
 use Rattle.channel_calls.specs.Parts.{Parts}
 use Rattle.channel_model.specs.declared.call.Call.{Call}
 use Rattle.channel_model.specs.declared.name.Waiter.{Waiter}
-use Rattle.channel_steps.specs.Run.{Next, new_scene}
+use Rattle.channel_steps.specs.Run.{IsRun, Next, new_scene}
 use Rattle.channel_steps.specs.declared.party.Entry.{Entry}
 use Rattle.channel_steps.specs.declared.run.Step.{Step as ChannelStep}
 use Rattle.channel_steps.specs.declared.run.Step.TheVariants as channel
@@ -16,17 +16,22 @@ use Rattle.channel_laws.specs.BridgeHeadline.{KeepsTheHeadline}
 use Rattle.channel_interleaving.specs.AskedBy.{IsOrListens, IsStepOf}
 use Rattle.channel_interleaving.specs.Bookkeeping.{asks}
 use Rattle.channel_interleaving.specs.Owed.{Owed}
-use Rattle.channel_interleaving.specs.Refusal.{refusal, step_refusal}
+use Rattle.channel_interleaving.specs.Refusal.{begin_refusal, step_refusal}
 use Rattle.channel_interleaving.specs.Roll.{first_roll}
 use Rattle.channel_interleaving.specs.Run.{Book, IsBookOf, book_begun}
 use Rattle.channel_interleaving.specs.SightAt.{sight_at}
 use Rattle.channel_interleaving.specs.declared.step.Step.{Step}
 use Rattle.channel_interleaving.specs.declared.step.Step.TheVariants as step
 
--- a step by names, and the book after it
-pub record Page (T : Type 0) : Type 0 where
-  pub step : Step T
+-- a step by names, beside the step of the channel that it is
+pub record NamedStep (T : Type 0) : Type 0 where
+  pub by_name : Step T
+  pub of_channel : ChannelStep T Waiter
+
+-- a moment of a merge, with the book of its names
+pub record NamedMoment (T S : Type 0) : Type 0 where
   pub book : Book T
+  pub merge : MergeMoment T Waiter S
 
 module _ {T : Type 0} where
   -- the book of a channel that was just opened: its first sender and its first receiver live, and nobody is at work
@@ -41,7 +46,7 @@ module _ {T S : Type 0} (wakes : S → Waiter → S → Type 0) where
   -- one: whatever book that is, and whomever they woke.
   abbrev pub BeginByNames : Book T → MergeMoment T Waiter S → List (ChannelStep T Waiter) → List (Entry T) → List (MergeMoment T Waiter S) → Type 0
   BeginByNames b m (channel.Begin p a ∷ ys) (e ∷ es) (n ∷ ns) =
-      (c : Call T) × (refusal b.roll c ≡ None) × IsOrListens (asks b.roll c) a × BeginByNames (book_begun (record { 0 = p }) c b) n ys es ns
+      (c : Call T) × (begin_refusal b.roll c ≡ None) × IsOrListens (asks b.roll c) a × BeginByNames (book_begun (record { 0 = p }) c b) n ys es ns
   BeginByNames b m (channel.Step p ∷ ys) (e ∷ es) (n ∷ ns) =
       (names : List Waiter) (after : Book T) → Next m.scene (channel.Step p) e names n.scene → Woken wakes m.sink names n.sink
       → IsBookOf (step.Step (record { 0 = p })) e.reply e.kept names b after → BeginByNames after n ys es ns
@@ -49,35 +54,33 @@ module _ {T S : Type 0} (wakes : S → Waiter → S → Type 0) where
 
   -- ---- what is said
 
-  -- a step of the channel, from the moment m to the moment n, is this step by names, from the book b to the book c
-  pub record SaysByNames (b : Book T) (m : MergeMoment T Waiter S) (x : Step T) (y : ChannelStep T Waiter) (e : Entry T) (c : Book T) (n : MergeMoment T Waiter S) : Type 0 where
+  -- a step by names, from the moment m to the moment n
+  pub record SaysByNames (m : NamedMoment T S) (x : NamedStep T) (e : Entry T) (n : NamedMoment T S) : Type 0 where
     -- none of the seven reasons refuses it
-    pub accepted : step_refusal b.roll b.agents x ≡ None
+    pub accepted : step_refusal m.book.roll m.book.agents x.by_name ≡ None
     -- it is what this step by names is to the channel; a poll may ask its listener first
-    pub step : IsStepOf b.roll x y
+    pub step : IsStepOf m.book.roll x.by_name x.of_channel
     -- it wakes these, in order, and nobody else
     pub names : List Waiter
-    pub next : Next m.scene y e names n.scene
-    pub woken : Woken wakes m.sink names n.sink
+    pub next : Next m.merge.scene x.of_channel e names n.merge.scene
+    pub woken : Woken wakes m.merge.sink names n.merge.sink
     -- A call that begins has its names, and its party is at work. Who is woken comes last in the order of waking. And a call that
     -- answers has written back to its names what it left to them.
-    pub book : IsBookOf x e.reply e.kept names b c
+    pub book : IsBookOf x.by_name e.reply e.kept names m.book n.book
     -- beside one who is pending and was not woken, there is no message, free place or closing but such as a woken one or a call
     -- under way answers for
-    pub owed : Owed (sight_at c.roll n.scene)
-
-  -- so it is of each step, with its entry and its page
-  abbrev pub EachByNames : Book T → MergeMoment T Waiter S → List (Page T) → List (ChannelStep T Waiter) → List (Entry T) → List (MergeMoment T Waiter S) → Type 0
-  EachByNames b m [] [] [] [] = Unit {0}
-  EachByNames b m (x ∷ xs) (y ∷ ys) (e ∷ es) (n ∷ ns) = SaysByNames b m x.step y e x.book n × EachByNames x.book n xs ys es ns
-  EachByNames b m xs ys es ns = ⊥
+    pub owed : Owed (sight_at n.book.roll n.merge.scene)
 
   -- the run that a merge is, as its headline tells it, is one by names from the opening of a channel
   pub record IsByNames {form : QueueForm} {events : List (Happening T Waiter)} {given : ℕ → List (Given T)} {sink : S}
       {last : Parts T Waiter} {woken : S} (k : KeepsTheHeadline wakes form events given sink last woken) : Type 0 where
-    pub pages : List (Page T)
     pub at_first : Owed {T = T} (sight_at first_roll (new_scene (capacity_of form)))
-    pub each : EachByNames first_book (just_opened form sink) pages (steps_of events) k.is.trace k.is.run.moments
+    pub steps : List (NamedStep T)
+    pub to : NamedMoment T S
+    pub run : IsRun SaysByNames (record { book = first_book; merge = just_opened form sink }) steps k.is.trace to
+    -- its steps are those of the merge, each with its name, and its moments are those of the merge, each with its book
+    pub same_steps : map (λ (x : NamedStep T). x.of_channel) steps ≡ steps_of events
+    pub same_moments : map (λ (n : NamedMoment T S). n.merge) run.moments ≡ k.is.run.moments
 
 -- a merge that keeps the headline, and whose begins are those of calls by names
 abbrev pub MergesByNamesAreRuns : (T S : Type 0) → (S → Waiter → S → Type 0) → Type 0

@@ -1,7 +1,7 @@
 -- The numbers that a world tells, with no call under way: those of its state.
 use Rattle.std.specs.Prelude.{◌≡◌, length}
 use Rattle.channel_model.specs.Settling.{pending_count}
-use Rattle.channel_interleaving.specs.Pending.{is_pending, how_many}
+use Rattle.channel_interleaving.specs.Pending.{stands_pending, how_many}
 use Rattle.channel_interleaving.specs.Roll.{is_woken}
 use Rattle.channel_world.specs.View.{names_in, messages_in, calls_in, at_rest, IsQuiet, WorldView}
 
@@ -12,7 +12,7 @@ module _ {T : Type 0} where
 
   -- those who are pending are as many as stand untold in its four lines and in the order of its woken ones
   abbrev pub PendingAtRest : WorldView T → Type 0
-  PendingAtRest w = IsQuiet w → how_many is_pending (names_in w) ≡ pending_count (at_rest w).waiting
+  PendingAtRest w = IsQuiet w → how_many stands_pending (names_in w) ≡ pending_count (at_rest w).waiting
 
   -- and those of them who were woken as many as stand in that order
   abbrev pub WokenAtRest : WorldView T → Type 0

@@ -1,26 +1,26 @@
 -- Two laws of every record of calls.
 use Rattle.std.specs.Prelude.{◌≡◌, ℕ, List, [], ◌∷◌, ◌++◌, Option}
-use Rattle.channel_model.specs.Laws.{removed_by, accepted_by, sends_after, NobodyIsLeft}
+use Rattle.channel_model.specs.Laws.{removed_by, brought_by_call, sends_after, NobodyIsLeft}
 use Rattle.channel_world.specs.RecordReplay.{IsHistory}
 use Rattle.channel_world.specs.declared.recorded.receipt.Receipt.{Receipt}
 
 module _ {T : Type 0} where
   -- what the calls took out of the channel, received or displaced, in order
-  abbrev pub removed : List (Receipt T) → List T
-  removed [] = []
-  removed (r ∷ rs) = removed_by r.reply ++ removed rs
+  abbrev pub removed_in_record : List (Receipt T) → List T
+  removed_in_record [] = []
+  removed_in_record (r ∷ rs) = removed_by r.reply ++ removed_in_record rs
 
   -- what they brought in, in order; `sends` has the message of each send that was made before them, under its name
   abbrev pub accepted_after : List (ℕ × T) → List (Receipt T) → List T
   accepted_after sends [] = []
-  accepted_after sends (r ∷ rs) = accepted_by sends r.call r.reply ++ accepted_after (sends_after sends r.call) rs
+  accepted_after sends (r ∷ rs) = brought_by_call sends r.call r.reply ++ accepted_after (sends_after sends r.call) rs
 
-  abbrev pub accepted : List (Receipt T) → List T
-  accepted rs = accepted_after [] rs
+  abbrev pub accepted_in_record : List (Receipt T) → List T
+  accepted_in_record rs = accepted_after [] rs
 
 -- What was received or displaced, followed by what is held at the end, is what was accepted, in order.
 abbrev pub RecordLosesNothing : Type 0 → Type 0
-RecordLosesNothing T = (capacity : Option ℕ) (rs : List (Receipt T)) (h : IsHistory capacity rs) → removed rs ++ h.last.channel.messages ≡ accepted rs
+RecordLosesNothing T = (capacity : Option ℕ) (rs : List (Receipt T)) (h : IsHistory capacity rs) → removed_in_record rs ++ h.last.channel.messages ≡ accepted_in_record rs
 
 -- At the end no unwoken pending one stands beside a message, a free place or a closing that no woken one answers for.
 abbrev pub RecordLeavesNobody : Type 0 → Type 0
@@ -29,4 +29,4 @@ RecordLeavesNobody T = (capacity : Option ℕ) (rs : List (Receipt T)) (h : IsHi
 -- A record that replays from an opened channel to a state in which both laws hold.
 abbrev pub KeepsItsLaws : {T : Type 0} → Option ℕ → List (Receipt T) → Type 0
 KeepsItsLaws capacity rs =
-    (h : IsHistory capacity rs) × (removed rs ++ h.last.channel.messages ≡ accepted rs) × NobodyIsLeft h.last
+    (h : IsHistory capacity rs) × (removed_in_record rs ++ h.last.channel.messages ≡ accepted_in_record rs) × NobodyIsLeft h.last

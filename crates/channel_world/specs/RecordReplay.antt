@@ -13,13 +13,13 @@ pub record RecordView (T : Type 0) : Type 0 where
 
 module _ {T : Type 0} where
   -- in s the call is accepted, and may answer and wake as the receipt says and leave t
-  abbrev pub Made : State T → Receipt T → State T → Type 0
-  Made s r t = (refusal s r.call ≡ None) × Answers s r.call (record { after = t; reply = r.reply; woken = r.woken })
+  abbrev pub MadeAsSaid : State T → Receipt T → State T → Type 0
+  MadeAsSaid s r t = (refusal s r.call ≡ None) × Answers s r.call (record { after = t; reply = r.reply; woken = r.woken })
 
   -- Made one after another from s on, they leave t. The first stands at this place, and each other at the next one.
   abbrev pub Replays : ℕ → State T → List (Receipt T) → State T → Type 0
   Replays place s [] t = t ≡ s
-  Replays place s (r ∷ rs) t = (mid : State T) × (r.place ≡ place) × Made s r mid × Replays (place + 1) mid rs t
+  Replays place s (r ∷ rs) t = (mid : State T) × (r.place ≡ place) × MadeAsSaid s r mid × Replays (place + 1) mid rs t
 
   -- they are all calls that were made of a channel of this capacity since it was opened
   pub record IsHistory (capacity : Option ℕ) (rs : List (Receipt T)) : Type 0 where
@@ -35,7 +35,7 @@ module _ {T : Type 0} where
     pub place : r.place ≡ length before
     -- the channel after it
     pub after : State T
-    pub made : Made history.last r after
+    pub made : MadeAsSaid history.last r after
 
   -- whether the entry at the receipt's place equals it
   abbrev pub stands_in : (Receipt T → Receipt T → Bool) → List (Receipt T) → Receipt T → Bool

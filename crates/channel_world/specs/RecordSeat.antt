@@ -25,8 +25,8 @@ abbrev pub new_seat : ℕ → SeatView
 new_seat n = record { number = n; calls = 0 }
 
 -- the seat after one more accepted call
-abbrev pub one_more : SeatView → SeatView
-one_more s = record s { calls = s.calls + 1 }
+abbrev pub with_call_more : SeatView → SeatView
+with_call_more s = record s { calls = s.calls + 1 }
 
 -- ---- in the ledger
 
@@ -39,5 +39,5 @@ abbrev pub amount_of : ℕ → ℕ → ℕ
 amount_of numbers calls = numbers + call_weight * calls
 
 -- how many calls a seat made whose share has this amount
-abbrev pub calls_in : ℕ → ℕ
-calls_in amount = amount / call_weight
+abbrev pub calls_of_amount : ℕ → ℕ
+calls_of_amount amount = amount / call_weight

@@ -7,7 +7,7 @@ use Rattle.channel_world.specs.Script.{script_in, script}
 use Rattle.channel_world.specs.Output.{text_of_lines, last_lines, status_of, text_of_script}
 
 -- the lines that are written for these lines, and the status
-abbrev ran : Language → List (List ℕ) → List (List ℕ) × ℕ
+abbrev pub ran : Language → List (List ℕ) → List (List ℕ) × ℕ
 ran language lines =
     let s = script_in language (text_of_lines lines) in
     (s.replies ++ last_lines s.end, status_of s.end)

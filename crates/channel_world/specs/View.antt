@@ -59,8 +59,8 @@ module _ {T : Type 0} where
   calls_in w = floor.calls_in w.inside
 
   -- the count of senders or of receivers
-  abbrev pub counted : Side → WorldView T → ℕ
-  counted side w = count side (floor.parts_in w.inside).roster
+  abbrev pub count_in : Side → WorldView T → ℕ
+  count_in side w = count side (floor.parts_in w.inside).roster
 
   -- how many drops of strong handles of this side are under way whose next step lowers the count; what they drop lives under no name
   abbrev pub to_lower : Side → WorldView T → ℕ

@@ -16,8 +16,8 @@ use Rattle.channel_interleaving.specs.Roll.{names_of}
 use Rattle.channel_interleaving.specs.declared.floor.Floor.{Floor}
 
 -- those who wait in each list, and the woken
-abbrev pub waiting_of : Roster Waiter → List Waiter → Waiting
-waiting_of r woken = record {
+abbrev pub waiting_in : Roster Waiter → List Waiter → Waiting
+waiting_in r woken = record {
   sends = tasks_of r.sends.waiting;
   receives = tasks_of r.receives.waiting;
   streams = tasks_of r.streams.waiting;
@@ -45,7 +45,7 @@ module _ {T : Type 0} where
   at_rest f = record {
     channel = channel_of (parts_in f);
     names = names_of f.roll;
-    waiting = waiting_of (parts_in f).roster (woken_in f.roll f.order);
+    waiting = waiting_in (parts_in f).roster (woken_in f.roll f.order);
   }
 
   -- how many a call may wake at most

@@ -52,7 +52,7 @@ impl<T: Drop> World<T> {
     ghost use Rattle.channel_calls.specs.declared.stage.Line.TheVariants.{Sends};
     ghost use Rattle.channel_interleaving.specs.Positions.{accepted_by, brings};
     ghost use Rattle.channel_model.specs.Answer.{Answer};
-    ghost use Rattle.channel_model.specs.Laws.{count_of, is_line, line_of};
+    ghost use Rattle.channel_model.specs.Laws.{count_of, is_line, line_at};
     ghost use Rattle.channel_model.specs.Lines.{is_among};
     ghost use Rattle.channel_model.specs.Refused.{Answers};
     ghost use Rattle.channel_model.specs.Settling.{poll_of};
@@ -61,14 +61,14 @@ impl<T: Drop> World<T> {
 
     /// Whether what has this name belongs to this line.
     fn is_on(&self, line: Line, name: Waiter) -> bool
-        ensures { result ≡ is_line line (line_of (at_rest self.now).names name) }
+        ensures { result ≡ is_line line (line_at (at_rest self.now).names name) }
     {
         self.floor.roll.is_on(line, name)
     }
 
     /// How many of these names belong to this line. None where there is no such number.
     fn count_on(&self, line: Line, names: &Vec<Waiter>) -> Option<usize>
-        ensures { IfSome result (λ n. n ≡ count_of (line_of (at_rest self.now).names) line names.now.items) }
+        ensures { IfSome result (λ n. n ≡ count_of (line_at (at_rest self.now).names) line names.now.items) }
     {
         let mut count = 0usize;
         for k in 0..names.len() {
@@ -164,7 +164,7 @@ impl<T: Drop> World<T> {
 
 impl<T: Drop> World<T> {
     ghost use Rattle.std.specs.Prelude.{◌≡◌, ◌≤◌, ◌+◌, ◌*◌, [], vec_len, IfOk, OnOk, OnErr};
-    ghost use Rattle.channel_interleaving.specs.Pending.{is_pending, how_many};
+    ghost use Rattle.channel_interleaving.specs.Pending.{stands_pending, how_many};
     ghost use Rattle.channel_model.specs.Settling.{Settles, pending_count};
     ghost use Rattle.channel_world.specs.Carried.{polls_replied, LeadsTo};
     ghost use Rattle.channel_world.specs.Asleep.{NoReceiveGoesOn, NoSendGoesOn, NoStreamGoesOn, NobodyMissesTheClosing};
@@ -198,8 +198,8 @@ impl<T: Drop> World<T> {
             ≤ pending_count (at_rest self.old).waiting * (pending_count (at_rest self.old).waiting + 1)) }
         ensures short { IfOk result (λ polls. vec_len polls ≤ most_polls (at_rest self.old)) }
         ensures few_pending { IfOk result (λ polls. 2 * vec_len polls
-            ≤ how_many is_pending (names_in self.old) * (how_many is_pending (names_in self.old) + 1)) }
-        ensures one_pending { IfOk result (λ polls. how_many is_pending (names_in self.old) ≡ 1 → vec_len polls ≤ 1) }
+            ≤ how_many stands_pending (names_in self.old) * (how_many stands_pending (names_in self.old) + 1)) }
+        ensures one_pending { IfOk result (λ polls. how_many stands_pending (names_in self.old) ≡ 1 → vec_len polls ≤ 1) }
         ensures ample { IfOk result (λ polls. NoneLackedMemory polls.items) }
         ensures nobody_woken { OnOk result ((at_rest self.new).waiting.woken ≡ []) }
         ensures receives { OnOk result (NoReceiveGoesOn self.new) }

@@ -110,7 +110,7 @@ impl<T: Drop> World<T> {
     ghost use Rattle.channel_steps.specs.Scene.{Scene};
     ghost use Rattle.channel_interleaving.specs.Apart.{AreApart};
     ghost use Rattle.channel_interleaving.specs.Roll.{is_woken};
-    ghost use Rattle.channel_interleaving.specs.Pending.{is_pending, how_many};
+    ghost use Rattle.channel_interleaving.specs.Pending.{stands_pending, how_many};
     ghost use Rattle.channel_interleaving.specs.Run.{StopsAt};
     ghost use Rattle.channel_interleaving.specs.Runs.{accepted_in, left_in};
     ghost use Rattle.channel_interleaving.specs.Way.{replies_in};
@@ -217,7 +217,7 @@ impl<T: Drop> World<T> {
     /// How many operations and streams are pending: they live, their last poll ended so, and no poll of them is under way.
     /// A walk over all names. Own to this project.
     pub fn pending(&self) -> usize
-        ensures { result ≡ how_many is_pending (names_in self.now) }
+        ensures { result ≡ how_many stands_pending (names_in self.now) }
     {
         self.floor.roll.count_pending()
     }

@@ -3,7 +3,7 @@
 ghost use Rattle.std.specs.Prelude.{◌≡◌, ◌+◌, ◌*◌, ◌<◌, ◌≤◌, ℕ, List, [], ◌++◌, length, slice_get, true, IfOk, vec_len};
 ghost use Rattle.channel_calls.specs.declared.reply.Reply.{Reply};
 ghost use Rattle.channel_calls.specs.declared.stage.Line.{Line};
-ghost use Rattle.channel_interleaving.specs.Pending.{how_many, is_pending};
+ghost use Rattle.channel_interleaving.specs.Pending.{how_many, stands_pending};
 ghost use Rattle.channel_interleaving.specs.Runs.{accepted_in, left_in};
 ghost use Rattle.channel_interleaving.specs.Way.{replies_in};
 ghost use Rattle.channel_model.specs.Handles.{HandlesAreCounted};
@@ -225,7 +225,7 @@ pub struct Seen {
 /// Looks at whatever world: the number of its messages, its names, and its flag, and nothing of what it is made of.
 pub fn look<T: Drop>(world: &World<T>) -> Seen
     ensures messages { result.messages ≡ (sight_of world.now).messages }
-    ensures names { result.pending ≡ how_many is_pending (names_in world.now) }
+    ensures names { result.pending ≡ how_many stands_pending (names_in world.now) }
     ensures flag { result.is_awake ≡ true → is_closed world.now ≡ true → (line : Line) → NobodySleeps line world.now }
 {
     who_sleeps_is_answered_for(world);

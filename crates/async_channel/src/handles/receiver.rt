@@ -38,7 +38,7 @@ impl<T: Drop, R: Wait + Copy> Model for Receiver<T, R> {
 impl<T: Drop, R: Wait + Copy> Receiver<T, R> {
     ghost use Rattle.std.specs.Prelude.{◌≡◌, ◌<◌, ◌≤◌, [], false, length, Err, IfOk, IfErr, OnErr};
     ghost use Rattle.std.specs.Vec.{vec_capacity, vec_ptr};
-    ghost use Rattle.channel_calls.specs.Filling.{room_in, Stands};
+    ghost use Rattle.channel_calls.specs.Filling.{room_in, StandsBehind};
     ghost use Rattle.async_channel.specs.Handles.{handle_of, new_receiving};
 
     pub(crate) fn new(rt: R, counted: Counted<T, OfReceivers>) -> Receiver<T, R>
@@ -124,7 +124,7 @@ impl<T: Drop, R: Wait + Copy> Receiver<T, R> {
     /// }
     /// ```
     pub fn recv_many_into(&self, into: &mut Vec<T>) -> Result<usize, TryRecvError>
-        ensures taken { Stands into.old.items result into.new.items }
+        ensures taken { StandsBehind into.old.items result into.new.items }
         ensures most { IfOk result (λ n. n ≤ room_in into.old) }
         ensures none { IfOk result (λ n. n ≡ 0 → room_in into.old ≡ 0) }
         ensures wanted { IfErr result (λ _. 0 < room_in into.old) }

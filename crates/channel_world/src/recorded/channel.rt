@@ -3,7 +3,7 @@
 ghost use Rattle.std.specs.Prelude.{◌≡◌, ◌<◌, ◌≤◌, ◌+◌, ◌-◌, ◌^◌, Err, IsOk, IfOk, IfErr, OnOk, OnErr, length};
 ghost use Rattle.channel_model.specs.State.{start};
 ghost use Rattle.channel_world.specs.RecordReplay.{EndsHistory};
-ghost use Rattle.channel_world.specs.RecordSeat.{calls_of, numbers_of, one_more, sum_below};
+ghost use Rattle.channel_world.specs.RecordSeat.{calls_of, numbers_of, with_call_more, sum_below};
 ghost use Rattle.channel_world.specs.Recording.{call_in};
 ghost use Rattle.channel_world.specs.View.{at_rest, IsQuiet};
 
@@ -131,7 +131,7 @@ impl<T: Copy, L: Ledger> RecordedChannel<T, L> {
         ensures asked { IfOk result (λ r. (r.call ≡ call) × (r.seat ≡ seat.old.number)) }
         ensures ends { IfOk result (λ r. EndsHistory r) }
         ensures behind { IfOk result (λ r. seat.old.calls ≤ r.place) }
-        ensures counted { OnOk result (seat.new ≡ one_more seat.old) }
+        ensures counted { OnOk result (seat.new ≡ with_call_more seat.old) }
         ensures back { IfErr result (λ e. call_in e ≡ call) }
         ensures idle { OnErr result (seat.new ≡ seat.old) }
     {

@@ -59,8 +59,8 @@ impl<T: Copy, L: Ledger> Model for Recording<T, L> {
 
 impl<T: Copy, L: Ledger> Recording<T, L> {
     ghost use Rattle.channel_model.specs.State.{start};
-    ghost use Rattle.channel_world.specs.RecordReplay.{EndsHistory, Made};
-    ghost use Rattle.channel_world.specs.RecordSeat.{calls_of, new_seat, numbers_of, one_more, sum_below};
+    ghost use Rattle.channel_world.specs.RecordReplay.{EndsHistory, MadeAsSaid};
+    ghost use Rattle.channel_world.specs.RecordSeat.{calls_of, new_seat, numbers_of, with_call_more, sum_below};
     ghost use Rattle.channel_world.specs.Recording.{with_seat, call_in, MayRefuseRecorded};
     ghost use Rattle.channel_world.specs.View.{at_rest, IsQuiet};
 
@@ -119,11 +119,11 @@ impl<T: Copy, L: Ledger> Recording<T, L> {
     ) -> Result<Receipt<T>, RecordError<T>>
         ensures asked { IfOk result (λ r. (r.call ≡ call) × (r.seat ≡ seat.old.number)) }
         ensures place { IfOk result (λ r. r.place ≡ length self.old.entries) }
-        ensures made { IfOk result (λ r. Made self.old.state r self.new.state) }
+        ensures made { IfOk result (λ r. MadeAsSaid self.old.state r self.new.state) }
         ensures ends { IfOk result (λ r. EndsHistory r) }
         ensures behind { IfOk result (λ r. seat.old.calls ≤ r.place) }
         ensures recorded { IfOk result (λ r. self.new ≡ record self.old { state = self.new.state; entries = self.old.entries ++ r ∷ [] }) }
-        ensures counted { OnOk result (seat.new ≡ one_more seat.old) }
+        ensures counted { OnOk result (seat.new ≡ with_call_more seat.old) }
         ensures why { IfErr result (λ e. MayRefuseRecorded self.old.state e) }
         ensures back { IfErr result (λ e. call_in e ≡ call) }
         ensures unchanged { OnErr result (self.new ≡ self.old) }

@@ -15,13 +15,13 @@ pub struct RecordSeat<L: Ledger> {
 
 impl<L: Ledger> Model for RecordSeat<L> {
     ghost use Rattle.std.specs.Prelude.{◌≡◌, ◌<◌, ◌^◌};
-    ghost use Rattle.channel_world.specs.RecordSeat.{SeatView, amount_of, calls_in};
+    ghost use Rattle.channel_world.specs.RecordSeat.{SeatView, amount_of, calls_of_amount};
 
     ghost Value = { SeatView };
 
-    ghost view = { λ s. record { number = s.number; calls = calls_in s.mine.amount } };
+    ghost view = { λ s. record { number = s.number; calls = calls_of_amount s.mine.amount } };
 
-    ghost invariant = { λ s. (s.mine.parts ≡ 1) × (s.number < 2 ^ 32) × (s.mine.amount ≡ amount_of s.number (calls_in s.mine.amount)) };
+    ghost invariant = { λ s. (s.mine.parts ≡ 1) × (s.number < 2 ^ 32) × (s.mine.amount ≡ amount_of s.number (calls_of_amount s.mine.amount)) };
 }
 
 impl<L: Ledger> RecordSeat<L> {

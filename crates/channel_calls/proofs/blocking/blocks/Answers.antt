@@ -1,5 +1,5 @@
 use Rattle.std.proofs.Common.{inl, inr, sym, ◌∙◌, subst}
-use Rattle.channel_calls.specs.Blocks.{Asked, Slept, Looks, Begins, Listens, SleepsOn}
+use Rattle.channel_calls.specs.Blocks.{Asked, Slept, Looks, AnswersAtFirst, Listens, SleepsOn}
 use Rattle.channel_calls.specs.Deeds.{Done}
 use Rattle.channel_calls.specs.declared.blocked.Blocked.{Blocked}
 use Rattle.channel_calls.proofs.blocking.blocks.Goals as goal
@@ -18,7 +18,7 @@ returns-in-Ok-begins-clause-deeds g c =
     let end : g.row.C.Denot × g.row.S.Denot = (c.begins.new.cells, c.begins.new.sink) in
     let given = c.in-Ok-begins.given in
     let looked = subst (λ (x : g.row.C.Denot × g.row.S.Denot). Looks did told.0 c.args.call start x) (sym told.3) told.2 in
-    (told.0, here, looked, inl (subst (λ (b : Blocked g.row.T.Denot). Begins did b here given.reply given.kept end) c.in-Err.ensures.same c.in-Ok-begins.ensures.begins))
+    (told.0, here, looked, inl (subst (λ (b : Blocked g.row.T.Denot). AnswersAtFirst did b here given.reply given.kept end) c.in-Err.ensures.same c.in-Ok-begins.ensures.begins))
 
 pub returns-in-Err-begins-clause-deeds : goal.returns-in-Err-begins-clause-deeds
 returns-in-Err-begins-clause-deeds g c =

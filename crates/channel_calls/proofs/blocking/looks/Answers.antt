@@ -1,6 +1,6 @@
 use Rattle.std.proofs.Common.{suc, refl, ◌∙◌, subst}
 use Rattle.channel_calls.specs.Asks.{first}
-use Rattle.channel_calls.specs.Blocks.{at_once, not_yet, Begins}
+use Rattle.channel_calls.specs.Blocks.{at_once, not_yet, AnswersAtFirst}
 use Rattle.channel_calls.specs.Deeds.{Done}
 use Rattle.channel_calls.specs.Walks.{WalkedTo}
 use Rattle.channel_calls.specs.declared.ask.ChannelAsk.{ChannelAsk}
@@ -15,7 +15,7 @@ returns-in-Ok-clause-looks g c =
     let there : g.row.C.Denot × g.row.S.Denot = (c.tries.new.cells, c.tries.new.sink) in
     let given = c.in-Ok.given in
     let begun = polls.begun_over did c.loop.call here given there c.in-Ok.ensures.over c.in-Ok.ensures.comes in
-    (c.loop.invariant.0.0, here, c.loop.invariant.0.1, subst (λ (b : Blocked g.row.T.Denot). Begins did b here given.reply given.kept there) c.loop.invariant.2 begun)
+    (c.loop.invariant.0.0, here, c.loop.invariant.0.1, subst (λ (b : Blocked g.row.T.Denot). AnswersAtFirst did b here given.reply given.kept there) c.loop.invariant.2 begun)
 
 pub returns-then-is_completed-clause-looks : goal.returns-then-is_completed-clause-looks
 returns-then-is_completed-clause-looks g c =

@@ -1,7 +1,7 @@
 -- From the number of tasks, and of those of the line among the woken.
 use Rattle.std.proofs.Common.{arith, ◌≡◌, ◌+◌, ◌≤◌, ◌∙◌, List, length, ap, subst}
 use Rattle.channel_interleaving.specs.declared.floor.Floor.{Floor}
-use Rattle.channel_model.specs.Laws.{count_of, line_of, woken_of_line}
+use Rattle.channel_model.specs.Laws.{count_of, line_at, woken_of_line}
 use Rattle.channel_model.specs.Lines.{untold}
 use Rattle.channel_model.specs.declared.name.Waiter.{Waiter}
 use Rattle.channel_world.specs.World.{at_rest}
@@ -19,5 +19,5 @@ returns g c =
     let untold_few : length (untold line s.waiting) ≤ c.waiting.result =
     subst (λ (x : Floor g.row.T.Denot). length (untold line (at_rest x).waiting) ≤ c.waiting.result) (inside_is c.self.inside.floor c.args.self.now c.self.view_is) (omega (arith, few, count)) in
     let told : c.in_ok-told.told ≡ woken_of_line line s =
-    c.in_ok-told.ensures ∙ ap (λ (ws : List Waiter). count_of (line_of s.names) line ws) c.requires in
+    c.in_ok-told.ensures ∙ ap (λ (ws : List Waiter). count_of (line_at s.names) line ws) c.requires in
     no_less _ c.checked_add.result _ (c.waiting.result + c.in_ok-told.told) c.checked_add.ensures (omega (arith, untold_few, told))

@@ -9,5 +9,5 @@ use Rattle.channel_world.proofs.world.World.refusal.Goals as goal
 pub returns : goal.returns
 returns g c =
     c.refusal.ensures
-    ∙ (ap (λ (f : Floor g.row.T.Denot). names.refusal f.roll c.args.call.now) (inside_is c.self.inside.floor c.args.self.now c.self.view_is)
+    ∙ (ap (λ (f : Floor g.row.T.Denot). names.begin_refusal f.roll c.args.call.now) (inside_is c.self.inside.floor c.args.self.now c.self.view_is)
     ∙ refused_alike c.a_call_made_alone_is_the_models.ensures.refused (floor_of c.args.self.now) c.keeps_names.ensures.kept c.requires.quiet c.args.call.now)

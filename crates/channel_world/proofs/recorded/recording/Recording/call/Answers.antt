@@ -1,10 +1,10 @@
 use Rattle.std.proofs.Common.{arith, ◌≡◌, ◌∙◌, ◌∷◌, ◌++◌, [], List, Some, ap, length, refl, subst, sym, vec_len}
 use Rattle.channel_model.specs.Answer.{Answer}
-use Rattle.channel_model.specs.Run.{Does, MayStop}
+use Rattle.channel_model.specs.Run.{MayBeDone, MayStop}
 use Rattle.channel_world.proofs.Few.{few_woken}
 use Rattle.channel_world.proofs.FewListed.{few_listed}
 use Rattle.channel_world.proofs.RecordLemmas.{one_done, made_so, none_done, one_recorded, still_recording, sum_is_small}
-use Rattle.channel_world.specs.RecordReplay.{Made}
+use Rattle.channel_world.specs.RecordReplay.{MadeAsSaid}
 use Rattle.channel_world.specs.RecordSeat.{SeatView}
 use Rattle.channel_world.specs.Recording.{RecordingView, IsRecording}
 use Rattle.channel_world.specs.View.{at_rest}
@@ -16,7 +16,7 @@ twice-entry-requires-clause-names g c =
     let before = at_rest c.self.inside.world in
     let after = at_rest c.run_calls-done.new.self in
     let done = c.in-Some-pop.done in
-    let does : Does before c.args.call done after =
+    let does : MayBeDone before c.args.call done after =
     one_done before after c.args.call c.ask-room.new.asked.items c.run_calls-done.new.calls.items c.pop.new.self.items c.run_calls-done.result.done.items done _
     c.run_calls-done.ensures.run c.in-Some.ensures.asked c.in-Some-pop.ensures.items in
     let a : Answer g.row.T.Denot = record { after = after; reply = done.reply; woken = done.woken.items } in
@@ -29,7 +29,7 @@ twice-entry-requires-clause-messages g c =
     let before = at_rest c.self.inside.world in
     let after = at_rest c.run_calls-done.new.self in
     let done = c.in-Some-pop.done in
-    let does : Does before c.args.call done after =
+    let does : MayBeDone before c.args.call done after =
     one_done before after c.args.call c.ask-room.new.asked.items c.run_calls-done.new.calls.items c.pop.new.self.items c.run_calls-done.result.done.items done _
     c.run_calls-done.ensures.run c.in-Some.ensures.asked c.in-Some-pop.ensures.items in
     let a : Answer g.row.T.Denot = record { after = after; reply = done.reply; woken = done.woken.items } in
@@ -44,10 +44,10 @@ invariant_of-self-in-Some-pop g c =
     let done = c.in-Some-pop.done in
     let entry = c.twice-entry.result.0 in
     let is = c.twice-entry.ensures.entry in
-    let does : Does before c.args.call done after =
+    let does : MayBeDone before c.args.call done after =
     one_done before after c.args.call c.ask-room.new.asked.items c.run_calls-done.new.calls.items c.pop.new.self.items c.run_calls-done.result.done.items done _
     c.run_calls-done.ensures.run c.in-Some.ensures.asked c.in-Some-pop.ensures.items in
-    let made : Made before entry after = made_so before after c.args.call done c.len-place.result c.seat.inside.number entry does is in
+    let made : MadeAsSaid before entry after = made_so before after c.args.call done c.len-place.result c.seat.inside.number entry does is in
     let old = c.self.inside.entries.items in
     let v : RecordingView g.row.T.Denot = record { capacity = c.self.inside.capacity; state = before; entries = old; seats = c.self.inside.made; parts = c.self.inside.left } in
     let place : entry.place ≡ c.len-place.result = ap (λ (r : Receipt g.row.T.Denot). r.place) is in
@@ -111,12 +111,12 @@ returns-in-Some-pop-clause-made g c =
     let after = at_rest c.run_calls-done.new.self in
     let done = c.in-Some-pop.done in
     let receipt = c.twice-entry.result.1 in
-    let does : Does before c.args.call done after =
+    let does : MayBeDone before c.args.call done after =
     one_done before after c.args.call c.ask-room.new.asked.items c.run_calls-done.new.calls.items c.pop.new.self.items c.run_calls-done.result.done.items done _
     c.run_calls-done.ensures.run c.in-Some.ensures.asked c.in-Some-pop.ensures.items in
-    let made : Made before receipt after =
+    let made : MadeAsSaid before receipt after =
     made_so before after c.args.call done c.len-place.result c.seat.inside.number receipt does (c.twice-entry.ensures.same ∙ c.twice-entry.ensures.entry) in
-    subst (λ (v : RecordingView g.row.T.Denot). Made v.state receipt after) c.self.view_is made
+    subst (λ (v : RecordingView g.row.T.Denot). MadeAsSaid v.state receipt after) c.self.view_is made
 
 pub returns-in-Some-pop-clause-ends : goal.returns-in-Some-pop-clause-ends
 returns-in-Some-pop-clause-ends g c =
@@ -125,7 +125,7 @@ returns-in-Some-pop-clause-ends g c =
     let done = c.in-Some-pop.done in
     let receipt = c.twice-entry.result.1 in
     let is = c.twice-entry.ensures.same ∙ c.twice-entry.ensures.entry in
-    let does : Does before c.args.call done after =
+    let does : MayBeDone before c.args.call done after =
     one_done before after c.args.call c.ask-room.new.asked.items c.run_calls-done.new.calls.items c.pop.new.self.items c.run_calls-done.result.done.items done _
     c.run_calls-done.ensures.run c.in-Some.ensures.asked c.in-Some-pop.ensures.items in
     let place : receipt.place ≡ c.len-place.result = ap (λ (r : Receipt g.row.T.Denot). r.place) is in
