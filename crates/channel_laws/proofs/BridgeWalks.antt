@@ -110,9 +110,13 @@ module _ {T W X : Type 0} (did : Deed T W → X → X → Type 0) (cells_did : c
 
   module _ (walks : QueueIsWalked did cells_did form) where
     step : (at : Stage (QueueCall T) T W) (s : X) (m : Mark) (next : Stage (QueueCall T) T W) (r : Option (Reply T)) (t : X) → ChannelMakes did at s t m next r → Step at s next r t
-    step (Trying call aim) s m next r t (after, answer, h, e, heard) =
-        let w = walks call after answer s t h in
-        let g = walk aim after answer next r heard w.0 s call.state w.1 w.2 t w.3 w.4 in
+    step (Trying call aim) s m next r t (after, None, h, e, heard) =
+        let w = walks call after None s t h in
+        let g = walk aim after None next r heard w.0 s call.state w.1 w.2 t w.3 w.4 in
+        (g.0, g.1, g.2 call.mark)
+    step (Trying call aim) s m next r t (after, Some x, h, e, heard) =
+        let w = walks call after (Some x) s t h in
+        let g = walk aim (call_at w.3 w.4) (Some x) next r heard w.0 s call.state w.1 w.2 t w.5 w.6 in
         (g.0, g.1, g.2 call.mark)
     step (Working w) s m next r t h = let n = note w s m next r t h in (n.0 ∷ [], n.2, λ xs given rest. (m, next, r, n.1, rest))
     step (Finished kept) s m next r t (is, k, e, none) = (on_nothing ∷ [], is, λ xs given rest. (m, next, r, (refl, k, e, none), rest))

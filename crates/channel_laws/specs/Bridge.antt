@@ -11,6 +11,7 @@ use Rattle.concurrent_queue.specs.Effects as cell_effect
 use Rattle.concurrent_queue.specs.Made.{new_cells}
 use Rattle.concurrent_queue.specs.machine.Ahead.{Leads}
 use Rattle.concurrent_queue.specs.Walked.{CallMakes, StateMakes}
+use Rattle.concurrent_queue.specs.Walked as whole
 use Rattle.concurrent_queue.specs.declared.call.QueueReply.{QueueReply}
 use Rattle.concurrent_queue.specs.declared.cells.QueueForm.{QueueForm}
 use Rattle.concurrent_queue.specs.declared.queue_call.CallState.{CallState}
@@ -164,11 +165,13 @@ MergesAreRuns T W S wakes =
 -- ---- whole calls over cells of any kind, as their contracts say it
 
 module _ {T W X : Type 0} (did : Deed T W → X → X → Type 0) (cells_did : cell.Deed T → X → X → Type 0) where
-  -- operations on the queue's cells lead a call of it from the one state to the other, as its machine makes them
+  -- operations on the queue's cells lead a call of it from the one state to the other, as its machine makes them: to the call that goes
+  -- on, or to its answer, after which nobody asks where it stands
   abbrev pub QueueWalks : QueueForm → QueueCall T → X → QueueCall T → Option (QueueReply T) → X → Type 0
-  QueueWalks form call s next answer t =
+  QueueWalks form call s next None t =
       (n : ℕ) × (x : X) × (at : CallState T) × Leads (StateMakes cells_did form) n s call.state x at
-      × StateMakes cells_did form x at t (record { action = next.state; mark = next.mark; reply = answer })
+      × StateMakes cells_did form x at t (record { action = next.state; mark = next.mark; reply = None })
+  QueueWalks form call s next (Some r) t = whole.WalkedFrom cells_did form call.state s r t
 
   -- what is done to the queue by a call of the channel is such a walk: one step or more of the queue's call
   abbrev pub QueueIsWalked : QueueForm → Type 0
