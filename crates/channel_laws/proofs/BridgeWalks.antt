@@ -116,7 +116,8 @@ module _ {T W X : Type 0} (did : Deed T W → X → X → Type 0) (cells_did : c
         (g.0, g.1, g.2 call.mark)
     step (Trying call aim) s m next r t (after, Some x, h, e, heard) =
         let w = walks call after (Some x) s t h in
-        let g = walk aim (call_at w.3 w.4) (Some x) next r heard w.0 s call.state w.1 w.2 t w.5 w.6 in
+        let e = w.1 in
+        let g = walk aim (call_at e.2 e.3) (Some x) next r heard w.0 s call.state e.0 e.1 t e.4 e.5 in
         (g.0, g.1, g.2 call.mark)
     step (Working w) s m next r t h = let n = note w s m next r t h in (n.0 ∷ [], n.2, λ xs given rest. (m, next, r, n.1, rest))
     step (Finished kept) s m next r t (is, k, e, none) = (on_nothing ∷ [], is, λ xs given rest. (m, next, r, (refl, k, e, none), rest))
