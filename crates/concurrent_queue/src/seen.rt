@@ -5,10 +5,20 @@ ghost use Rattle.concurrent_queue.specs.Deeds.{Deed, loaded, stored, exchanged, 
 
 use crate::cells::{Cells, QueueForm, Slot, Word};
 use crate::error::NoMemory;
+use crate::shared::cells::{SharedCells, WordCells};
+use std::marker::PhantomData;
+use std::sync::Wait;
+
+/// What shows a trace of type `S` that it is the cells of a shared queue who tell it something. Nobody makes one but the
+/// functions of this file that join cells to their trace, and nobody is lent one but the trace itself. It has no size.
+pub struct Sight<S> {
+    of: PhantomData<S>,
+}
 
 /// What sees the operations on the cells of a queue, each after it was made and with what it answered. Each method says of
 /// itself that this deed was seen, and no other: so a trace of which nothing is known but this trait can be led from one value
-/// to another by these very deeds alone.
+/// to another by these very deeds alone. Each takes a sight of this very trace, so no code but the cells' own can tell it
+/// anything, another trace that has a sight of its own least of all.
 pub trait Trace<T> {
     ghost use Rattle.concurrent_queue.specs.declared.cells.Slot.{Slot};
 
@@ -19,65 +29,155 @@ pub trait Trace<T> {
     ghost brought: { Slot → T → Self → Self → Type 0 };
 
     /// A word was loaded, and held this.
-    fn loaded(&mut self, at: Word, found: u64)
+    fn loaded(&mut self, sight: &Sight<Self>, at: Word, found: u64)
         ensures { did (loaded at found) self.old self.new };
 
     /// A word was written.
-    fn stored(&mut self, at: Word, value: u64)
+    fn stored(&mut self, sight: &Sight<Self>, at: Word, value: u64)
         ensures { did (stored at value) self.old self.new };
 
     /// A word that was to hold `expected` was written, or was not: `Err` has what it held.
-    fn exchanged(&mut self, at: Word, expected: u64, next: u64, answer: Result<u64, u64>)
+    fn exchanged(
+        &mut self,
+        sight: &Sight<Self>,
+        at: Word,
+        expected: u64,
+        next: u64,
+        answer: Result<u64, u64>,
+    )
         ensures { did (exchanged at expected next answer) self.old self.new };
 
     /// So much was added to a word that held this.
-    fn added(&mut self, at: Word, by: u64, found: u64)
+    fn added(&mut self, sight: &Sight<Self>, at: Word, by: u64, found: u64)
         ensures { did (added at by found) self.old self.new };
 
     /// Bits of a word that held this were set.
-    fn bits_set(&mut self, at: Word, bits: u64, found: u64)
+    fn bits_set(&mut self, sight: &Sight<Self>, at: Word, bits: u64, found: u64)
         ensures { did (bits_set at bits found) self.old self.new };
 
     /// All other bits of a word that held this were cleared.
-    fn bits_kept(&mut self, at: Word, bits: u64, found: u64)
+    fn bits_kept(&mut self, sight: &Sight<Self>, at: Word, bits: u64, found: u64)
         ensures { did (bits_kept at bits found) self.old self.new };
 
     /// This message is brought to a slot. What came of it is said next, by `put`.
-    fn bring(&mut self, at: Slot, message: &T)
+    fn bring(&mut self, sight: &Sight<Self>, at: Slot, message: &T)
         ensures { brought at message.now self.old self.new };
 
     /// The message that was brought to the slot is in, or was handed back.
-    fn put(&mut self, at: Slot, done: bool)
+    fn put(&mut self, sight: &Sight<Self>, at: Slot, done: bool)
         ensures { (before : Self) (message : T) → brought at message before self.old → did (did_put at message (put_answer message done)) before self.new };
 
     /// A slot was emptied, and held this.
-    fn taken(&mut self, at: Slot, found: &Option<T>)
+    fn taken(&mut self, sight: &Sight<Self>, at: Slot, found: &Option<T>)
         ensures { did (did_take at found.now) self.old self.new };
 
     /// A blank block was asked for.
-    fn spared(&mut self, answer: Result<u64, NoMemory>)
+    fn spared(&mut self, sight: &Sight<Self>, answer: Result<u64, NoMemory>)
         ensures { did (spared answer) self.old self.new };
 
     /// A block was given back.
-    fn retired(&mut self, block: u64)
+    fn retired(&mut self, sight: &Sight<Self>, block: u64)
         ensures { did (retired block) self.old self.new };
 }
 
-/// Cells, and a trace that sees each operation on them.
-pub struct Seen<C, S> {
-    /// The cells.
-    pub cells: C,
-    /// What sees them.
-    pub trace: S,
+/// A trace that keeps nothing. It has no size, and seeing by it takes no instruction.
+#[derive(Clone, Copy, Debug)]
+pub struct NoTrace;
+
+impl<T> Trace<T> for NoTrace {
+    ghost did = { λ _ _ _. Unit {0} };
+
+    ghost brought = { λ _ _ _ _. Unit {0} };
+
+    #[inline(always)]
+    fn loaded(&mut self, _sight: &Sight<NoTrace>, _at: Word, _found: u64) {}
+
+    #[inline(always)]
+    fn stored(&mut self, _sight: &Sight<NoTrace>, _at: Word, _value: u64) {}
+
+    #[inline(always)]
+    fn exchanged(
+        &mut self,
+        _sight: &Sight<NoTrace>,
+        _at: Word,
+        _expected: u64,
+        _next: u64,
+        _answer: Result<u64, u64>,
+    ) {}
+
+    #[inline(always)]
+    fn added(&mut self, _sight: &Sight<NoTrace>, _at: Word, _by: u64, _found: u64) {}
+
+    #[inline(always)]
+    fn bits_set(&mut self, _sight: &Sight<NoTrace>, _at: Word, _bits: u64, _found: u64) {}
+
+    #[inline(always)]
+    fn bits_kept(&mut self, _sight: &Sight<NoTrace>, _at: Word, _bits: u64, _found: u64) {}
+
+    #[inline(always)]
+    fn bring(&mut self, _sight: &Sight<NoTrace>, _at: Slot, _message: &T) {}
+
+    #[inline(always)]
+    fn put(&mut self, _sight: &Sight<NoTrace>, _at: Slot, _done: bool) {}
+
+    #[inline(always)]
+    fn taken(&mut self, _sight: &Sight<NoTrace>, _at: Slot, _found: &Option<T>) {}
+
+    #[inline(always)]
+    fn spared(&mut self, _sight: &Sight<NoTrace>, _answer: Result<u64, NoMemory>) {}
+
+    #[inline(always)]
+    fn retired(&mut self, _sight: &Sight<NoTrace>, _block: u64) {}
+}
+
+/// Cells of a shared queue, and a trace that sees each operation on them. Nobody else can see them, or tell the trace anything.
+pub(crate) struct Seen<C, S> {
+    cells: C,
+    trace: S,
+    sight: Sight<S>,
+}
+
+/// The cells of words of a shared queue, seen by this trace.
+#[inline(always)]
+pub(crate) fn see_words<T: Drop, S>(cells: WordCells<'_, T>, trace: S) -> Seen<WordCells<'_, T>, S>
+    ensures form { result.cells.form ≡ cells.entry.form }
+    ensures trace { result.trace ≡ trace }
+{
+    Seen {
+        cells,
+        trace,
+        sight: Sight { of: PhantomData },
+    }
+}
+
+/// The same with the runtime value.
+#[inline(always)]
+pub(crate) fn see_cells<'a, T: Drop, R: Wait, S>(
+    cells: SharedCells<'a, T, R>,
+    trace: S,
+) -> Seen<SharedCells<'a, T, R>, S>
+    ensures form { result.cells.words.form ≡ cells.entry.words.form }
+    ensures trace { result.trace ≡ trace }
+{
+    Seen {
+        cells,
+        trace,
+        sight: Sight { of: PhantomData },
+    }
 }
 
 impl<C: Drop, S> Seen<C, S> {
     /// What saw them.
     #[inline(always)]
-    pub fn into_trace(self) -> S
+    pub(crate) fn into_trace(self) -> S
         ensures { result ≡ self.trace }
     {
-        let Seen { cells, trace } = self;
+        let Seen {
+            cells,
+            trace,
+            sight,
+        } = self;
+        let Sight { of: _ } = sight;
         drop(cells);
         trace
     }
@@ -108,69 +208,70 @@ impl<T, C: Cells<T>, S: Trace<T>> Cells<T> for Seen<C, S> {
     #[inline(always)]
     fn load(&mut self, at: Word) -> u64 {
         let found = self.cells.load(at);
-        self.trace.loaded(at, found);
+        self.trace.loaded(&self.sight, at, found);
         found
     }
 
     #[inline(always)]
     fn store(&mut self, at: Word, value: u64) {
         self.cells.store(at, value);
-        self.trace.stored(at, value);
+        self.trace.stored(&self.sight, at, value);
     }
 
     #[inline(always)]
     fn compare_exchange(&mut self, at: Word, expected: u64, next: u64) -> Result<u64, u64> {
         let answer = self.cells.compare_exchange(at, expected, next);
-        self.trace.exchanged(at, expected, next, answer);
+        self.trace
+            .exchanged(&self.sight, at, expected, next, answer);
         answer
     }
 
     #[inline(always)]
     fn fetch_add(&mut self, at: Word, by: u64) -> u64 {
         let found = self.cells.fetch_add(at, by);
-        self.trace.added(at, by, found);
+        self.trace.added(&self.sight, at, by, found);
         found
     }
 
     #[inline(always)]
     fn fetch_or(&mut self, at: Word, bits: u64) -> u64 {
         let found = self.cells.fetch_or(at, bits);
-        self.trace.bits_set(at, bits, found);
+        self.trace.bits_set(&self.sight, at, bits, found);
         found
     }
 
     #[inline(always)]
     fn fetch_and(&mut self, at: Word, bits: u64) -> u64 {
         let found = self.cells.fetch_and(at, bits);
-        self.trace.bits_kept(at, bits, found);
+        self.trace.bits_kept(&self.sight, at, bits, found);
         found
     }
 
     #[inline(always)]
     fn put(&mut self, at: Slot, value: T) -> Result<(), T> {
-        self.trace.bring(at, &value);
+        self.trace.bring(&self.sight, at, &value);
         let answer = self.cells.put(at, value);
-        self.trace.put(at, answer.is_ok());
+        self.trace.put(&self.sight, at, answer.is_ok());
         answer
     }
 
     #[inline(always)]
     fn take(&mut self, at: Slot) -> Option<T> {
         let found = self.cells.take(at);
-        self.trace.taken(at, &found);
+        self.trace.taken(&self.sight, at, &found);
         found
     }
 
     #[inline(always)]
     fn spare(&mut self) -> Result<u64, NoMemory> {
         let answer = self.cells.spare();
-        self.trace.spared(answer);
+        self.trace.spared(&self.sight, answer);
         answer
     }
 
     #[inline(always)]
     fn retire(&mut self, block: u64) {
         self.cells.retire(block);
-        self.trace.retired(block);
+        self.trace.retired(&self.sight, block);
     }
 }

@@ -2,7 +2,7 @@
 
 use concurrent_queue::cells::{Slot, Word};
 use concurrent_queue::error::NoMemory;
-use concurrent_queue::seen::Trace;
+use concurrent_queue::seen::{Sight, Trace};
 use std::alloc::Global;
 
 /// One operation: what was done, to which cell, and what it answered: what a word held, 1 where an exchange or a put was done,
@@ -60,45 +60,52 @@ impl Trace<u64> for Log {
 
     ghost brought = { λ _ _ _ _. Unit {0} };
 
-    fn loaded(&mut self, at: Word, found: u64) {
+    fn loaded(&mut self, _sight: &Sight<Log>, at: Word, found: u64) {
         self.note(("load", name_of(at), found));
     }
 
-    fn stored(&mut self, at: Word, _value: u64) {
+    fn stored(&mut self, _sight: &Sight<Log>, at: Word, _value: u64) {
         self.note(("store", name_of(at), 0));
     }
 
-    fn exchanged(&mut self, at: Word, _expected: u64, _next: u64, answer: Result<u64, u64>) {
+    fn exchanged(
+        &mut self,
+        _sight: &Sight<Log>,
+        at: Word,
+        _expected: u64,
+        _next: u64,
+        answer: Result<u64, u64>,
+    ) {
         self.note(("exchange", name_of(at), u64::from(answer.is_ok())));
     }
 
-    fn added(&mut self, at: Word, _by: u64, found: u64) {
+    fn added(&mut self, _sight: &Sight<Log>, at: Word, _by: u64, found: u64) {
         self.note(("add", name_of(at), found));
     }
 
-    fn bits_set(&mut self, at: Word, _bits: u64, found: u64) {
+    fn bits_set(&mut self, _sight: &Sight<Log>, at: Word, _bits: u64, found: u64) {
         self.note(("or", name_of(at), found));
     }
 
-    fn bits_kept(&mut self, at: Word, _bits: u64, found: u64) {
+    fn bits_kept(&mut self, _sight: &Sight<Log>, at: Word, _bits: u64, found: u64) {
         self.note(("and", name_of(at), found));
     }
 
-    fn bring(&mut self, _at: Slot, _message: &u64) {}
+    fn bring(&mut self, _sight: &Sight<Log>, _at: Slot, _message: &u64) {}
 
-    fn put(&mut self, _at: Slot, done: bool) {
+    fn put(&mut self, _sight: &Sight<Log>, _at: Slot, done: bool) {
         self.note(("put", "slot", u64::from(done)));
     }
 
-    fn taken(&mut self, _at: Slot, found: &Option<u64>) {
+    fn taken(&mut self, _sight: &Sight<Log>, _at: Slot, found: &Option<u64>) {
         self.note(("take", "slot", found.unwrap_or(0)));
     }
 
-    fn spared(&mut self, answer: Result<u64, NoMemory>) {
+    fn spared(&mut self, _sight: &Sight<Log>, answer: Result<u64, NoMemory>) {
         self.note(("spare", "block", answer.unwrap_or(0)));
     }
 
-    fn retired(&mut self, block: u64) {
+    fn retired(&mut self, _sight: &Sight<Log>, block: u64) {
         self.note(("retire", "block", block));
     }
 }

@@ -12,6 +12,7 @@ use std::thread::Threads;
 mod examples;
 mod logged;
 mod standing;
+mod watched;
 
 /// How many messages each of two threads pushes.
 const EACH: u64 = 2_000;

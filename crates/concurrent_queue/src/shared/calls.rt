@@ -1,67 +1,25 @@
-//! The calls of a shared queue. Each makes the one of `queue` that shows a trace what it does, with a trace that keeps nothing:
-//! this file has no other way to the cells of a queue.
+//! The calls of a shared queue. Each makes the one of `queue` that shows a trace what it does, with a copy of the queue's own
+//! watch: this file has no other way to the cells of a queue. Of that watch nothing is known here, so each call can say what it
+//! saw only of the call that it made, and of the answer that came of it.
 
 use crate::call::{QueueAsk, QueueReply};
-use crate::cells::{Slot, Word};
-use crate::error::{ForcePushError, NoMemory, PopError, PushError};
+use crate::error::{ForcePushError, PopError, PushError};
 use crate::queue_call::QueueCall;
 use crate::seen::Trace;
 use crate::shared::iter::TryIter;
 use crate::shared::queue::ConcurrentQueue;
 use std::sync::Wait;
 
-/// A trace that keeps nothing. It has no size, and seeing by it takes no instruction.
-#[derive(Clone, Copy, Debug)]
-struct NoTrace;
-
-impl<T> Trace<T> for NoTrace {
-    ghost did = { λ _ _ _. Unit {0} };
-
-    ghost brought = { λ _ _ _ _. Unit {0} };
-
-    #[inline(always)]
-    fn loaded(&mut self, _at: Word, _found: u64) {}
-
-    #[inline(always)]
-    fn stored(&mut self, _at: Word, _value: u64) {}
-
-    #[inline(always)]
-    fn exchanged(&mut self, _at: Word, _expected: u64, _next: u64, _answer: Result<u64, u64>) {}
-
-    #[inline(always)]
-    fn added(&mut self, _at: Word, _by: u64, _found: u64) {}
-
-    #[inline(always)]
-    fn bits_set(&mut self, _at: Word, _bits: u64, _found: u64) {}
-
-    #[inline(always)]
-    fn bits_kept(&mut self, _at: Word, _bits: u64, _found: u64) {}
-
-    #[inline(always)]
-    fn bring(&mut self, _at: Slot, _message: &T) {}
-
-    #[inline(always)]
-    fn put(&mut self, _at: Slot, _done: bool) {}
-
-    #[inline(always)]
-    fn taken(&mut self, _at: Slot, _found: &Option<T>) {}
-
-    #[inline(always)]
-    fn spared(&mut self, _answer: Result<u64, NoMemory>) {}
-
-    #[inline(always)]
-    fn retired(&mut self, _block: u64) {}
-}
-
-impl<T: Drop> ConcurrentQueue<T> {
-    ghost use Rattle.concurrent_queue.specs.SharedQueue.{IsSharedStep, IsSharedCall, IsWordsAlone};
+impl<T: Drop, W: Trace<T> + Copy> ConcurrentQueue<T, W> {
+    ghost use Rattle.concurrent_queue.specs.SharedQueue.{IsSharedStep, IsSharedCall, IsWordsAlone, SawStep, SawRest};
 
     /// One step of a call. It yields where the call has to make its action again, and may wait for the lock of the spare
     /// list. What it answers is what this queue may answer: a capacity is this queue's own. Own to this project.
     pub fn step<R: Wait>(&self, rt: &R, call: &mut QueueCall<T>) -> Option<QueueReply<T>>
-        ensures { IsSharedStep self.now call.old call.new result }
+        ensures deed { SawStep W.did self.now call.old call.new result }
+        ensures answers { IsSharedStep self.now call.old call.new result }
     {
-        self.step_seen(rt, call, NoTrace).0
+        self.step_seen(rt, call, self.watch()).0
     }
 
     /// Makes the steps of a call up to its answer. A push or a pop that has made no step is made at once where nothing stands
@@ -70,9 +28,10 @@ impl<T: Drop> ConcurrentQueue<T> {
     /// call that has answered before it never returns. Own to this project.
     #[inline(always)]
     pub fn complete<R: Wait>(&self, rt: &R, call: QueueCall<T>) -> QueueReply<T>
-        ensures { IsSharedCall self.now call result }
+        ensures walked { SawRest W.did self.now call result }
+        ensures answers { IsSharedCall self.now call result }
     {
-        self.complete_seen(rt, call, NoTrace).0
+        self.complete_seen(rt, call, self.watch()).0
     }
 
     /// One step of a call that is `close` or a question but for the length. It waits for nobody, and the second one answers
@@ -80,35 +39,43 @@ impl<T: Drop> ConcurrentQueue<T> {
     #[inline(always)]
     pub fn step_words(&self, call: &mut QueueCall<T>) -> Option<QueueReply<T>>
         requires { IsWordsAlone call.old }
-        ensures { IsSharedStep self.now call.old call.new result }
+        ensures deed { SawStep W.did self.now call.old call.new result }
+        ensures answers { IsSharedStep self.now call.old call.new result }
     {
-        self.step_words_seen(call, NoTrace).0
+        self.step_words_seen(call, self.watch()).0
     }
 }
 
-impl<T: Drop> ConcurrentQueue<T> {
+impl<T: Drop, W: Trace<T> + Copy> ConcurrentQueue<T, W> {
     ghost use Rattle.std.specs.Prelude.{◌≡◌, IfOk, IfErr, None, false};
     ghost use Rattle.concurrent_queue.specs.Errors.{push_message, force_message};
-    ghost use Rattle.concurrent_queue.specs.SharedQueue.{limit, CanRefuse, CanRefuseForce};
+    ghost use Rattle.concurrent_queue.specs.SharedQueue.{limit, CanRefuse, CanRefuseForce, SawCall};
+    ghost use Rattle.concurrent_queue.specs.declared.call.QueueAsk.TheVariants as ask;
+    ghost use Rattle.concurrent_queue.specs.declared.call.QueueReply.TheVariants as reply;
 
     /// Appends the message. A refusal hands it back: the queue was full or closed, or an unbounded one had no memory for it.
     /// It may wait. Other threads push and close too, so nothing that a caller knows says that it will succeed: `HasPlace` of
     /// `specs/Room` says so of a push into a queue of one owner alone.
     pub fn push<R: Wait>(&self, rt: &R, value: T) -> Result<(), PushError<T>>
+        ensures walked { SawCall W.did self.now (ask.Push value) (reply.Push result) }
         ensures back { IfErr result (λ e. push_message e ≡ value) }
         ensures reason { IfErr result (λ e. CanRefuse (limit self.now) e) }
     {
-        self.push_seen(rt, value, NoTrace).0
+        self.push_seen(rt, value, self.watch()).0
     }
 
     /// Appends the message; where the queue is full, the oldest one leaves for it and is answered. A refusal hands the message
     /// back: the queue was closed, or an unbounded one had no memory for it. It may wait.
     pub fn force_push<R: Wait>(&self, rt: &R, value: T) -> Result<Option<T>, ForcePushError<T>>
+        ensures walked { SawCall W.did self.now (ask.ForcePush value) (reply.Force result) }
         ensures back { IfErr result (λ e. force_message e ≡ value) }
         ensures reason { IfErr result (λ e. CanRefuseForce (limit self.now) e) }
         ensures displaced { limit self.now ≡ None → IfOk result (λ o. o ≡ None) }
     {
-        match self.make_seen(rt, QueueAsk::ForcePush(value), NoTrace).0 {
+        match self
+            .make_seen(rt, QueueAsk::ForcePush(value), self.watch())
+            .0
+        {
             QueueReply::Force(result) => result,
             _ => unreachable!(),
         }
@@ -116,30 +83,38 @@ impl<T: Drop> ConcurrentQueue<T> {
 
     /// Takes the oldest message. `Err` where there was none: `Empty` while the queue was open, `Closed` once it was closed. It
     /// may wait.
-    pub fn pop<R: Wait>(&self, rt: &R) -> Result<T, PopError> {
-        self.pop_seen(rt, NoTrace).0
+    pub fn pop<R: Wait>(&self, rt: &R) -> Result<T, PopError>
+        ensures walked { SawCall W.did self.now ask.Pop (reply.Pop result) }
+    {
+        self.pop_seen(rt, self.watch()).0
     }
 
     /// Closes the queue: nothing more comes in, and what is in can still be popped. True in the one call that closed it. It
     /// waits for nobody.
-    pub fn close(&self) -> bool {
-        match self.tell_seen(QueueAsk::Close, NoTrace).0 {
+    pub fn close(&self) -> bool
+        ensures walked { SawCall W.did self.now ask.Close (reply.Close result) }
+    {
+        match self.tell_seen(QueueAsk::Close, self.watch()).0 {
             QueueReply::Close(result) => result,
             _ => unreachable!(),
         }
     }
 
     /// Whether the queue is closed. It waits for nobody.
-    pub fn is_closed(&self) -> bool {
-        match self.tell_seen(QueueAsk::IsClosed, NoTrace).0 {
+    pub fn is_closed(&self) -> bool
+        ensures walked { SawCall W.did self.now ask.IsClosed (reply.Flag result) }
+    {
+        match self.tell_seen(QueueAsk::IsClosed, self.watch()).0 {
             QueueReply::Flag(result) => result,
             _ => unreachable!(),
         }
     }
 
     /// Whether it holds no message. It waits for nobody.
-    pub fn is_empty(&self) -> bool {
-        match self.tell_seen(QueueAsk::IsEmpty, NoTrace).0 {
+    pub fn is_empty(&self) -> bool
+        ensures walked { SawCall W.did self.now ask.IsEmpty (reply.Flag result) }
+    {
+        match self.tell_seen(QueueAsk::IsEmpty, self.watch()).0 {
             QueueReply::Flag(result) => result,
             _ => unreachable!(),
         }
@@ -147,24 +122,27 @@ impl<T: Drop> ConcurrentQueue<T> {
 
     /// Whether it holds as many messages as its capacity; an unbounded queue never does. It waits for nobody.
     pub fn is_full(&self) -> bool
-        ensures { limit self.now ≡ None → result ≡ false }
+        ensures walked { SawCall W.did self.now ask.IsFull (reply.Flag result) }
+        ensures unbounded { limit self.now ≡ None → result ≡ false }
     {
-        match self.tell_seen(QueueAsk::IsFull, NoTrace).0 {
+        match self.tell_seen(QueueAsk::IsFull, self.watch()).0 {
             QueueReply::Flag(result) => result,
             _ => unreachable!(),
         }
     }
 
     /// How many messages it held at a moment of the call. It may wait, since it asks again where others came between.
-    pub fn len<R: Wait>(&self, rt: &R) -> usize {
-        match self.make_seen(rt, QueueAsk::Len, NoTrace).0 {
+    pub fn len<R: Wait>(&self, rt: &R) -> usize
+        ensures walked { SawCall W.did self.now ask.Len (reply.Count result) }
+    {
+        match self.make_seen(rt, QueueAsk::Len, self.watch()).0 {
             QueueReply::Count(result) => result,
             _ => unreachable!(),
         }
     }
 
     /// An iterator that pops. It keeps the runtime value, and each item may wait.
-    pub fn try_iter<'a, R: Wait>(&'a self, rt: &'a R) -> TryIter<'a, T, R> {
+    pub fn try_iter<'a, R: Wait>(&'a self, rt: &'a R) -> TryIter<'a, T, R, W> {
         TryIter::new(self, rt)
     }
 }

@@ -9,7 +9,7 @@ use crate::cells::QueueForm;
 use crate::error::{NoMemory, PopError, PushError};
 use crate::queue_call::ahead::{call_ahead, pop_ahead, push_ahead};
 use crate::queue_call::{QueueCall, whole};
-use crate::seen::{Seen, Trace};
+use crate::seen::{NoTrace, Seen, Trace, see_cells, see_words};
 use crate::shared::blocks::Blocks;
 use crate::shared::cells::{STAMPS, SharedCells, WordCells};
 use crate::shared::table::SharedTable;
@@ -22,11 +22,15 @@ use std::sync::Wait;
 /// What a call finds depends on the others, so its contract says what holds whatever they do: nothing is read or written by
 /// two threads at once, a refused message comes back, and what each value of `T` keeps holds of each message. Of the messages
 /// that are left when the queue is dropped each is dropped once.
+///
+/// A queue may be watched by a trace `W`: each call shows it what it does to the cells, and by contract its walk to this very
+/// answer was seen. Whoever watches nothing says `ConcurrentQueue<T>`. The watch is own to this project.
 #[derive(Drop)]
-pub struct ConcurrentQueue<T: Drop> {
+pub struct ConcurrentQueue<T: Drop, W: Copy = NoTrace> {
     form: QueueForm,
     own: SharedTable<T>,
     blocks: Option<Blocks<T>>,
+    watch: W,
 }
 
 /// The table of a new queue: its own words, all 0, and the stamps of a ring, each of which waits for the message that is first
@@ -43,10 +47,40 @@ impl<T: Drop> ConcurrentQueue<T> {
 
     /// An open empty queue that holds at most `capacity` messages. `Err` where there is no memory for its slots, which for
     /// a capacity above 2^58 nobody is asked for.
+    #[inline(always)]
     pub fn bounded(alloc: Global, capacity: usize) -> Result<ConcurrentQueue<T>, NoMemory>
         requires { 0 < capacity }
         ensures limit { IfOk result (λ q. limit q ≡ Some capacity) }
         ensures most { IfOk result (λ q. capacity ≤ 2 ^ 58) }
+    {
+        ConcurrentQueue::bounded_watched(alloc, capacity, NoTrace)
+    }
+
+    /// An open empty queue with no bound. Its blocks, of 31 messages each, come with the messages, and one whose messages
+    /// were all taken is used again. `Err` where there is no memory for its words.
+    #[inline(always)]
+    pub fn unbounded(alloc: Global) -> Result<ConcurrentQueue<T>, NoMemory>
+        ensures { IfOk result (λ q. limit q ≡ None) }
+    {
+        ConcurrentQueue::unbounded_watched(alloc, NoTrace)
+    }
+}
+
+impl<T: Drop, W: Copy> ConcurrentQueue<T, W> {
+    ghost use Rattle.std.specs.Prelude.{◌≡◌, ◌<◌, ◌≤◌, ◌^◌, IfOk, Some, None};
+    ghost use Rattle.concurrent_queue.specs.SharedQueue.{limit, watch_of};
+
+    /// A bounded queue, as `bounded`, whose calls show this trace what they do. Each takes a copy of it, so calls of many
+    /// threads are seen where a copy leads to what they share. `Err` as there. Own to this project.
+    pub fn bounded_watched(
+        alloc: Global,
+        capacity: usize,
+        watch: W,
+    ) -> Result<ConcurrentQueue<T, W>, NoMemory>
+        requires { 0 < capacity }
+        ensures limit { IfOk result (λ q. limit q ≡ Some capacity) }
+        ensures most { IfOk result (λ q. capacity ≤ 2 ^ 58) }
+        ensures watch { IfOk result (λ q. watch_of q ≡ watch) }
     {
         if capacity > GREATEST {
             return Err(NoMemory);
@@ -56,15 +90,17 @@ impl<T: Drop> ConcurrentQueue<T> {
                 form: QueueForm::Bounded(capacity),
                 own,
                 blocks: None,
+                watch,
             }),
             Err(_) => Err(NoMemory),
         }
     }
 
-    /// An open empty queue with no bound. Its blocks, of 31 messages each, come with the messages, and one whose messages
-    /// were all taken is used again. `Err` where there is no memory for its words.
-    pub fn unbounded(alloc: Global) -> Result<ConcurrentQueue<T>, NoMemory>
-        ensures { IfOk result (λ q. limit q ≡ None) }
+    /// An unbounded queue, as `unbounded`, whose calls show this trace what they do, each with a copy of it. `Err` as there. Own
+    /// to this project.
+    pub fn unbounded_watched(alloc: Global, watch: W) -> Result<ConcurrentQueue<T, W>, NoMemory>
+        ensures limit { IfOk result (λ q. limit q ≡ None) }
+        ensures watch { IfOk result (λ q. watch_of q ≡ watch) }
     {
         match own_table(alloc, 0) {
             Ok(own) => match Blocks::new(alloc) {
@@ -72,6 +108,7 @@ impl<T: Drop> ConcurrentQueue<T> {
                     form: QueueForm::Unbounded,
                     own,
                     blocks: Some(blocks),
+                    watch,
                 }),
                 Err(_) => Err(NoMemory),
             },
@@ -88,21 +125,34 @@ impl<T: Drop> ConcurrentQueue<T> {
             QueueForm::Unbounded => None,
         }
     }
+
+    /// What watches it, as each call takes it. Own to this project.
+    #[inline(always)]
+    pub(crate) fn watch(&self) -> W
+        ensures { result ≡ watch_of self.now }
+    {
+        self.watch
+    }
 }
 
-impl<T: Drop> ConcurrentQueue<T> {
+impl<T: Drop, W: Copy> ConcurrentQueue<T, W> {
     ghost use Rattle.std.specs.Prelude.{◌≡◌};
 
-    /// The cells of words and slots, from a new seat, seen by this trace.
+    /// The cells of words and slots, from a new seat.
+    #[inline(always)]
+    fn word_cells(&self) -> WordCells<'_, T>
+        ensures { result.form ≡ self.now.form }
+    {
+        WordCells::new(self.form, self.own.seat(), self.blocks.as_ref())
+    }
+
+    /// The same, seen by this trace.
     #[inline(always)]
     fn words<S>(&self, trace: S) -> Seen<WordCells<'_, T>, S>
         ensures form { result.cells.form ≡ self.now.form }
         ensures trace { result.trace ≡ trace }
     {
-        Seen {
-            cells: WordCells::new(self.form, self.own.seat(), self.blocks.as_ref()),
-            trace,
-        }
+        see_words(self.word_cells(), trace)
     }
 
     /// The same with the runtime value.
@@ -111,20 +161,14 @@ impl<T: Drop> ConcurrentQueue<T> {
         ensures form { result.cells.words.form ≡ self.now.form }
         ensures trace { result.trace ≡ trace }
     {
-        let Seen {
-            cells: words,
-            trace,
-        } = self.words(trace);
-        Seen {
-            cells: SharedCells { words, rt },
-            trace,
-        }
+        let words = self.word_cells();
+        see_cells(SharedCells { words, rt }, trace)
     }
 }
 
 // A call that goes on has cells of its own: those of one that is made at once are lent to no function that stands apart, so they
 // need no place in memory.
-impl<T: Drop> ConcurrentQueue<T> {
+impl<T: Drop, W: Copy> ConcurrentQueue<T, W> {
     ghost use Rattle.concurrent_queue.specs.SharedQueue.{form_in};
     ghost use Rattle.concurrent_queue.specs.Replies.{MayCall};
     ghost use Rattle.concurrent_queue.specs.Walked.{Walked};
@@ -161,8 +205,8 @@ impl<T: Drop> ConcurrentQueue<T> {
 }
 
 // Each call of a shared queue with a trace of the caller's. It is one body for whatever trace, and has no other way to the
-// cells than by the trace that it was given; `calls` makes the same with a trace of no size.
-impl<T: Drop> ConcurrentQueue<T> {
+// cells than by the trace that it was given; `calls` makes the same with the queue's own watch.
+impl<T: Drop, W: Copy> ConcurrentQueue<T, W> {
     ghost use Rattle.std.specs.Prelude.{◌≡◌, Some};
     ghost use Rattle.concurrent_queue.specs.SharedQueue.{form_in, IsSharedStep, IsSharedCall, IsWordsAlone};
     ghost use Rattle.concurrent_queue.specs.Walked.{Walked, WalkedAsking, CallMakes};

@@ -1,6 +1,6 @@
 use Rattle.std.proofs.Common.{◌≤◌, ◌^◌, Some, ap, rules}
 use Rattle.concurrent_queue.proofs.FitsFacts.{cap_same}
-use Rattle.concurrent_queue.proofs.shared.queue.ConcurrentQueue.bounded.Goals as goal
+use Rattle.concurrent_queue.proofs.shared.queue.ConcurrentQueue.bounded_watched.Goals as goal
 
 pub returns-in-Ok-clause-limit : goal.returns-in-Ok-clause-limit
 returns-in-Ok-clause-limit g c =
