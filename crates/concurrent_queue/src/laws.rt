@@ -8,6 +8,7 @@ ghost use Rattle.concurrent_queue.specs.Bridge.{MergesAreRuns, WalksAct};
 ghost use Rattle.concurrent_queue.specs.BridgeRow.{TwoCallsMerge};
 
 use crate::cells::Cells;
+use crate::seen::Trace;
 
 /// What was removed, followed by what is held at the end, is what was held at the start, followed by what was accepted, in
 /// order: of every message type and of every list of steps. So no message is lost, doubled or reordered.
@@ -64,6 +65,14 @@ pub fn merges_are_runs<T>()
 /// Own to this project.
 pub fn walks_act<T, C: Cells<T>>()
     ensures acts { WalksAct C.did }
+{}
+
+/// The same of what a public call of a shared queue says it showed its watch, or a caller's trace: what was seen of it are operations
+/// that are its party's next events. Nothing is known of the trace but that it is one.
+///
+/// Own to this project.
+pub fn seen_walks_act<T, S: Trace<T>>()
+    ensures acts { WalksAct S.did }
 {}
 
 /// There are such merges: a push and a pop of one slot whose operations come in turn, as they would between two threads.
