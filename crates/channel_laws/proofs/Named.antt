@@ -20,8 +20,8 @@ named_merges_keep_the_headline T W V S wakes form events given sink last woken n
     record {
       both = b;
       headline =
-        merges_keep_the_headline T V S (WakesNamed wakes) form (all_by name_of b.behind) given sink (parts_by name_of b.parts) woken has
-        (subst (λ (n : ℕ). LastsFor n form) as_many long)
-        m.0
-        m.1;
+          merges_keep_the_headline T V S (WakesNamed wakes) form (all_by name_of b.behind) given sink (parts_by name_of b.parts) woken has
+          (subst (λ (n : ℕ). LastsFor n form) as_many long)
+          m.0
+          m.1;
     }

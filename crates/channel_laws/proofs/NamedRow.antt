@@ -47,8 +47,7 @@ module _ (T W : Type 0) where
   polled : (key : Key) (task : W) → Acts {T = T} {W = W} (Bounded 1) None (own 1 (waits_once 1 key task)) (still_waits key)
   polled key task =
       let asking : QueueCall T = new_call ask.IsClosed in
-      let begun = starts ask.IsClosed queue_mark.Nothing in
-      (
+      let begun = starts ask.IsClosed queue_mark.Nothing in (
         Trying asking (aim.Poll Closings None task),
         (asking, begun, refl, refl, refl),
         (
@@ -138,8 +137,7 @@ module _ (T W : Type 0) where
         let waits : Parts T W × _ = at (listening (record { told = []; waiting = (first_key, Some one) ∷ [] })) in
         let both_came : Parts T W × _ = at (listening (record { told = []; waiting = (first_key, Some one) ∷ (second_key, None) ∷ [] })) in
         let all_wait : Parts T W × _ = at (listening both_wait) in
-        let shut : Parts T W × _ = at (closing both_wait) in
-        (
+        let shut : Parts T W × _ = at (closing both_wait) in (
           at new,
           refl,
           (

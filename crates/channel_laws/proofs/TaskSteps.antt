@@ -84,48 +84,56 @@ module _ {T W V S : Type 0} (put : W → V) (wakes : S → V → S → Type 0) (
     one : (line : Line) (names : List V) → o ≡ on_roster (one_told line names) → Tells (λ ns. one_told line ns)
     one line names is =
         let h = on (one_told line names) is in
-        let t = told_before put line told_one told_one (one_alike put) told_one_wakes told_one_wakes (one_wakes put) c.0 names d.0 h.0.0 h.0.1 in
-        (t.names_before, record {
-          acts = ap (λ (xs : List V). on_roster (one_told line xs)) t.were ∙ sym is;
-          left = (t.parts, d.1);
-          seen = ends_in t.parts d.1 t.left refl;
-          changes = ((t.told, t.on_it), woke t.names_before names t.were h.1);
-        })
+        let t = told_before put line told_one told_one (one_alike put) told_one_wakes told_one_wakes (one_wakes put) c.0 names d.0 h.0.0 h.0.1 in (
+          t.names_before,
+          record {
+            acts = ap (λ (xs : List V). on_roster (one_told line xs)) t.were ∙ sym is;
+            left = (t.parts, d.1);
+            seen = ends_in t.parts d.1 t.left refl;
+            changes = ((t.told, t.on_it), woke t.names_before names t.were h.1);
+          },
+        )
 
     more : (line : Line) (n : ℕ) (names : List V) → o ≡ on_roster (more_told line n names) → Tells (λ ns. more_told line n ns)
     more line n names is =
         let h = on (more_told line n names) is in
-        let t = told_before put line (told_more n) (told_more n) (more_alike put n) (told_more_wakes n) (told_more_wakes n) (more_wakes put n) c.0 names d.0 h.0.0 h.0.1 in
-        (t.names_before, record {
-          acts = ap (λ (xs : List V). on_roster (more_told line n xs)) t.were ∙ sym is;
-          left = (t.parts, d.1);
-          seen = ends_in t.parts d.1 t.left refl;
-          changes = ((t.told, t.on_it), woke t.names_before names t.were h.1);
-        })
+        let t = told_before put line (told_more n) (told_more n) (more_alike put n) (told_more_wakes n) (told_more_wakes n) (more_wakes put n) c.0 names d.0 h.0.0 h.0.1 in (
+          t.names_before,
+          record {
+            acts = ap (λ (xs : List V). on_roster (more_told line n xs)) t.were ∙ sym is;
+            left = (t.parts, d.1);
+            seen = ends_in t.parts d.1 t.left refl;
+            changes = ((t.told, t.on_it), woke t.names_before names t.were h.1);
+          },
+        )
 
     all : (line : Line) (names : List V) → o ≡ on_roster (all_told line names) → Tells (λ ns. all_told line ns)
     all line names is =
         let h = on (all_told line names) is in
-        let t = told_before put line told_all told_all (all_alike put) told_all_wakes told_all_wakes (all_wakes put) c.0 names d.0 h.0.0 h.0.1 in
-        (t.names_before, record {
-          acts = ap (λ (xs : List V). on_roster (all_told line xs)) t.were ∙ sym is;
-          left = (t.parts, d.1);
-          seen = ends_in t.parts d.1 t.left refl;
-          changes = ((t.told, t.on_it), woke t.names_before names t.were h.1);
-        })
+        let t = told_before put line told_all told_all (all_alike put) told_all_wakes told_all_wakes (all_wakes put) c.0 names d.0 h.0.0 h.0.1 in (
+          t.names_before,
+          record {
+            acts = ap (λ (xs : List V). on_roster (all_told line xs)) t.were ∙ sym is;
+            left = (t.parts, d.1);
+            seen = ends_in t.parts d.1 t.left refl;
+            changes = ((t.told, t.on_it), woke t.names_before names t.were h.1);
+          },
+        )
 
     -- a removal, which may pass a notice on
     off : (line : Line) (key : Key) (names : List V) → o ≡ on_roster (taken_off line key names) → Tells (λ ns. taken_off line key ns)
     off line key names is =
         let h = on (taken_off line key names) is in
         let t =
-        told_before put line (removed key true) (removed key true) (removed_by put key) (removed_wakes key true) (removed_wakes key true) (removed_wakes_by put key) c.0 names d.0 h.0.0 h.0.1 in
-        (t.names_before, record {
-          acts = ap (λ (xs : List V). on_roster (taken_off line key xs)) t.were ∙ sym is;
-          left = (t.parts, d.1);
-          seen = ends_in t.parts d.1 t.left refl;
-          changes = ((t.told, t.on_it), woke t.names_before names t.were h.1);
-        })
+        told_before put line (removed key true) (removed key true) (removed_by put key) (removed_wakes key true) (removed_wakes key true) (removed_wakes_by put key) c.0 names d.0 h.0.0 h.0.1 in (
+          t.names_before,
+          record {
+            acts = ap (λ (xs : List V). on_roster (taken_off line key xs)) t.were ∙ sym is;
+            left = (t.parts, d.1);
+            seen = ends_in t.parts d.1 t.left refl;
+            changes = ((t.told, t.on_it), woke t.names_before names t.were h.1);
+          },
+        )
 
     leaves : (held : Option Held) → Leaves (Notes form) held on_nothing o → (act : Act T W) × ActBefore act × Leaves (Notes form) held on_nothing act
     leaves None is = (on_nothing, nothing is, refl)
@@ -207,12 +215,12 @@ module _ {T W V S : Type 0} (put : W → V) (wakes : S → V → S → Type 0) (
           record {
             act = on_roster (registered (line_of w) key task b.0);
             before =
-              record {
-                acts = ap (λ (y : Option V). on_roster (registered (line_of w) key (put task) y)) b.1 ∙ sym is;
-                left = (b.2, c.1);
-                seen = ends_in b.2 c.1 b.3 (sym h.1);
-                changes = (b.4, refl);
-              };
+                record {
+                  acts = ap (λ (y : Option V). on_roster (registered (line_of w) key (put task) y)) b.1 ∙ sym is;
+                  left = (b.2, c.1);
+                  seen = ends_in b.2 c.1 b.3 (sym h.1);
+                  changes = (b.4, refl);
+                };
             after = k.0;
             goes = k.2;
             makes = (b.0, refl, k.1);
