@@ -12,7 +12,9 @@ use Rattle.channel_calls.specs.declared.ask.ChannelAsk.{ChannelAsk}
 use Rattle.channel_calls.specs.declared.reply.Reply.{Reply}
 use Rattle.channel_calls.specs.declared.stage.Kept.{Kept}
 use Rattle.channel_calls.specs.declared.stage.Turn.{Turn}
-use Rattle.channel_laws.specs.Bridge.{Event, begins, does, Happening, Given, Acts, own, opened_parts, InOneOrder, LastsFor}
+use Rattle.channel_steps.specs.declared.run.Step.{Step}
+use Rattle.channel_steps.specs.declared.run.Step.TheVariants as step
+use Rattle.channel_laws.specs.Bridge.{Event, begins, does, Happening, Given, Acts, own, steps_of, opened_parts, InOneOrder, LastsFor}
 use Rattle.channel_laws.specs.BridgeHeadline.{KeepsTheHeadline}
 use Rattle.channel_laws.specs.Tasks.{deed_by, turn_by, parts_by, ask_by, all_by}
 
@@ -48,6 +50,16 @@ module _ {T W : Type 0} where
   abbrev pub asked : List (Happening T W) → List (ChannelAsk T W)
   asked [] = []
   asked (x ∷ xs) = with_asked x.event (asked xs)
+
+  -- the steps of these events, where others are put for what is asked at each begin
+  abbrev pub step_asking : {V : Type 0} → ℕ → Event T W → List (ChannelAsk T V) → (List (ChannelAsk T V) → List (Step T V)) → List (Step T V)
+  step_asking p (begins a) [] rest = []
+  step_asking p (begins a) (x ∷ more) rest = step.Begin p x ∷ rest more
+  step_asking p (does o) asks rest = step.Step p ∷ rest asks
+
+  abbrev pub steps_asking : {V : Type 0} → List (Happening T W) → List (ChannelAsk T V) → List (Step T V)
+  steps_asking [] asks = []
+  steps_asking (x ∷ xs) asks = step_asking x.party x.event asks (λ more. steps_asking xs more)
 
 -- Whatever parties do to a new channel, by the machine and in one order, they do so, with the same given to each, where others are put
 -- for the tasks of all calls.
@@ -97,6 +109,8 @@ pub record KeepsItByNames {T W V S : Type 0} (wakes : S → W → S → Type 0) 
     (sink : S) (last : Parts T W) (woken : S) (named : List (ChannelAsk T (W × V))) : Type 0 where
   pub both : IsBehind task_of wakes form events given sink last woken named
   pub headline : KeepsTheHeadline (WakesNamed wakes) form (all_by name_of both.behind) given sink (parts_by name_of both.parts) woken
+  -- its steps are those of the given one, but that each begin has the name for its task
+  pub steps : steps_of (all_by name_of both.behind) ≡ steps_asking events (map (λ a. ask_by name_of a) named)
 
 -- whatever parties do to a new channel, with tasks of any kind, and whichever name each call is given beside its task
 abbrev pub NamedMergesKeepTheHeadline : (T W V S : Type 0) → (S → W → S → Type 0) → Type 0

@@ -8,7 +8,7 @@ ghost use Rattle.channel_world.specs.InTurn.{HasItsAccounts, LaterLeavesLater, L
 ghost use Rattle.channel_world.specs.BlocksByNames.{PollsByName};
 ghost use Rattle.channel_world.specs.MergesByNames.{MergesByNamesAreRuns};
 ghost use Rattle.channel_world.specs.MergesByNamesRow.{TwoClonesByNames};
-ghost use Rattle.channel_world.specs.NamedMerges.{NamedMergesAreRuns};
+ghost use Rattle.channel_world.specs.NamedMerges.{NamedMergesAreRuns, TwoClonesAreNamed};
 ghost use Rattle.channel_world.specs.Numbers.{CallsAtRest, MessagesAtRest, PendingAtRest, WokenAtRest};
 ghost use Rattle.channel_world.specs.Settled.{SettlingIsShort};
 ghost use Rattle.channel_world.specs.Since.{ClosesOnce, ClosesOnceFromRest, ClosesOnceToHere, ClosesWhatIsLeft, IsNeverFull, IsNeverFullFromRest, IsNeverFullSince, IsNeverFullToHere, NoneClosesAgain};
@@ -212,9 +212,12 @@ pub fn merges_by_names_are_runs<T, S: Wakes<Waiter>>()
 /// (`channel_laws::laws::named_merges_keep_the_headline`). If with them its begins are those of calls by names, it is a run by names, and
 /// all that `merges_by_names_are_runs` says is said of it. Each party was given what it was given with its tasks.
 ///
+/// There is such a merge: the first sender is cloned twice at once.
+///
 /// Own to this project.
 pub fn named_merges_are_runs_by_names<T, W, S: Wakes<W>>()
     ensures runs { NamedMergesAreRuns T W S S.wakes }
+    ensures row { TwoClonesAreNamed T W S S.wakes }
 {}
 
 /// The polls of a call that blocks, which `channel_laws::laws::blocking_makes_calls` tells, are those of an operation by name, if their
