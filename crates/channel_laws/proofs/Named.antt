@@ -1,5 +1,5 @@
 -- A merge whose calls are given names beside their tasks keeps the headline with the names.
-use Rattle.std.proofs.Common.{◌≡◌, ℕ, suc, List, [], ◌∷◌, map, length, None, refl, sym, ap, subst, ◌∙◌}
+use Rattle.std.proofs.Common.{◌≡◌, ℕ, suc, List, [], ◌∷◌, map, length, refl, sym, ap, subst, ◌∙◌}
 use Rattle.channel_calls.specs.declared.ask.ChannelAsk.{ChannelAsk}
 use Rattle.channel_steps.specs.declared.run.Step.{Step}
 use Rattle.channel_steps.specs.declared.run.Step.TheVariants as step
@@ -39,7 +39,7 @@ named_merges_keep_the_headline T W V S wakes form events given sink last woken n
           m.0
           m.1;
       steps =
-        steps_are task_of name_of b.behind
-        ∙ ap (λ (xs : List (Happening T W)). steps_asking xs (map (λ a. ask_by name_of a) (asked b.behind))) b.events_are
-        ∙ ap (λ (zs : List (ChannelAsk T (W × V))). steps_asking events (map (λ a. ask_by name_of a) zs)) b.asks_are;
+          steps_are task_of name_of b.behind
+          ∙ ap (λ (xs : List (Happening T W)). steps_asking xs (map (λ a. ask_by name_of a) (asked b.behind))) b.events_are
+          ∙ ap (λ (zs : List (ChannelAsk T (W × V))). steps_asking events (map (λ a. ask_by name_of a) zs)) b.asks_are;
     }

@@ -16,24 +16,19 @@ use Rattle.concurrent_queue.proofs.Callers.{is_same}
 use Rattle.concurrent_queue.proofs.FitsFacts.{starts}
 use Rattle.event_listener.specs.declared.key.Key.{Key}
 use Rattle.futures.specs.declared.task.Poll.TheVariants.{Pending}
-use Rattle.channel_calls.specs.Asks.{first}
 use Rattle.channel_calls.specs.Parts.{Parts, Listeners, new_roster, with_listeners}
 use Rattle.channel_calls.specs.Turns.{leaving, nothing_kept}
-use Rattle.channel_calls.specs.Walks.{Takes}
-use Rattle.channel_calls.specs.declared.ask.ChannelAsk.{ChannelAsk}
-use Rattle.channel_calls.specs.declared.ask.ChannelAsk.TheVariants.{PollClosed, Close}
 use Rattle.channel_calls.specs.declared.mark.Mark.TheVariants as mark
 use Rattle.channel_calls.specs.declared.reply.Reply.TheVariants as reply
 use Rattle.channel_calls.specs.declared.stage.Aim.TheVariants as aim
 use Rattle.channel_calls.specs.declared.stage.Closer.TheVariants as closer
 use Rattle.channel_calls.specs.declared.stage.Line.TheVariants.{Sends, Receives, Streams, Closings}
-use Rattle.channel_calls.specs.declared.stage.Stage.{Stage}
 use Rattle.channel_calls.specs.declared.stage.Stage.TheVariants.{Trying, Working, Finished}
 use Rattle.channel_calls.specs.declared.stage.Waiting.TheVariants as waiting
 use Rattle.channel_calls.specs.declared.stage.Work.TheVariants.{TellAll, Insert, Register}
-use Rattle.channel_laws.specs.Bridge.{Event, Happening, Acts, own, opened_parts, InOneOrder}
+use Rattle.channel_laws.specs.Bridge.{Acts, own, opened_parts, InOneOrder}
 use Rattle.channel_laws.specs.Named.{WakesFor, task_of}
-use Rattle.channel_laws.specs.NamedRow.{first_key, second_key, waits_once, closes, two_are_told, two_wait, both_told, parts_of_two, still_waits, has_closed, given_to_three, TwoWaitsMerge, OneTaskHasTwoNames}
+use Rattle.channel_laws.specs.NamedRow.{first_key, second_key, waits_once, closes, two_are_told, parts_of_two, still_waits, has_closed, given_to_three, TwoWaitsMerge, OneTaskHasTwoNames}
 
 module _ {T : Type 0} where
   abbrev new_call : QueueAsk T → QueueCall T

@@ -13,9 +13,9 @@ use Rattle.channel_calls.specs.declared.stage.Kept.{Kept}
 use Rattle.channel_calls.specs.declared.stage.Stage.{Stage}
 use Rattle.channel_calls.specs.declared.stage.Turn.{Turn}
 use Rattle.channel_laws.specs.Bridge.{Act, on_nothing, Event, begins, does, Happening, Given, Notes, Acts, own, opened_parts, Changes, InOneOrder}
-use Rattle.channel_laws.specs.Named.{WakesFor, with_asked, asked, IsBehind, TasksMayTellMore}
-use Rattle.channel_laws.specs.Tasks.{parts_by, act_by, ask_by, stage_by, event_by, all_by}
-use Rattle.channel_laws.proofs.TaskSteps.{both_so, ActBefore, StepBefore, step_before}
+use Rattle.channel_laws.specs.Named.{WakesFor, with_asked, asked, TasksMayTellMore}
+use Rattle.channel_laws.specs.Tasks.{ask_by, stage_by, event_by, all_by}
+use Rattle.channel_laws.proofs.TaskSteps.{both_so, step_before}
 use Rattle.channel_laws.proofs.TaskTurns.{first_alike, kept_alike, taken}
 
 module _ {T W : Type 0} where

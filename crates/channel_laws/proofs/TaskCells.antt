@@ -1,7 +1,7 @@
 -- Other tasks put for those of a channel's lists: each deed does to them what it did, with these tasks.
 use Rattle.std.proofs.Common.{◌≡◌, ℕ, zero, suc, ◌+◌, ◌-◌, Bool, true, false, not, if◌then◌else◌, List, [], ◌∷◌, ◌++◌, map, Option, None, Some, Result, Ok, Err, option_map, refl, sym, ap, subst, ◌∙◌}
 use Rattle.std.proofs.lemmas.List.{map-append}
-use Rattle.event_listener.specs.Lists.{Notice, kind_of, listened, registration, removed, removed_wakes, told_with, tasks_of}
+use Rattle.event_listener.specs.Lists.{Notice, kind_of, listened, registration, removed, removed_wakes, told_with}
 use Rattle.event_listener.specs.Notices.{Woken}
 use Rattle.event_listener.specs.declared.key.Key.{Key}
 use Rattle.event_listener.specs.declared.error.ListenError.{ListenError}
@@ -13,7 +13,7 @@ use Rattle.channel_calls.specs.declared.stage.Line.TheVariants.{Sends, Receives,
 use Rattle.channel_calls.specs.declared.stage.Side.{Side}
 use Rattle.channel_calls.specs.declared.stage.Side.TheVariants.{Senders, Receivers}
 use Rattle.channel_laws.specs.Named.{WakesSo, WakesFor}
-use Rattle.channel_laws.specs.Tasks.{listener_by, listeners_by, roster_by, parts_by, deed_by}
+use Rattle.channel_laws.specs.Tasks.{listeners_by, roster_by, parts_by, deed_by}
 use Rattle.channel_laws.proofs.TaskLists.{by, told_by, tasks_by, kind_by, listened_by, registration_by, passed_by, passed_wakes_by, removed_by, removed_wakes_by}
 
 module _ {W V : Type 0} (put : W → V) where

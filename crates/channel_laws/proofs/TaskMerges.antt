@@ -1,11 +1,10 @@
 -- Other tasks put for those of a merge.
-use Rattle.std.proofs.Common.{◌≡◌, ℕ, ◌==◌, Bool, true, false, if◌then◌else◌, List, [], ◌∷◌, map, Option, None, Some, MatchOption, option_map, refl, sym, ap, subst, ◌∙◌}
+use Rattle.std.proofs.Common.{◌≡◌, ℕ, ◌==◌, Bool, true, false, if◌then◌else◌, List, [], ◌∷◌, map, Option, None, Some, option_map, refl, sym, ap, subst, ◌∙◌}
 use Rattle.concurrent_queue.specs.declared.cells.QueueForm.{QueueForm}
 use Rattle.concurrent_queue.specs.declared.queue_call.QueueCall.{QueueCall}
-use Rattle.channel_calls.specs.Asks.{first, kept_by}
+use Rattle.channel_calls.specs.Asks.{first}
 use Rattle.channel_calls.specs.Deeds.{Deed, stepped, inserted, registered, taken_off, one_told, more_told, all_told, counted, lowered, raised}
 use Rattle.channel_calls.specs.Parts.{Parts, Roster}
-use Rattle.channel_calls.specs.Turns.{leaving}
 use Rattle.channel_calls.specs.Walks.{Takes, ChannelMakes}
 use Rattle.channel_calls.specs.declared.mark.Mark.{Mark}
 use Rattle.channel_calls.specs.declared.reply.Reply.{Reply}
@@ -14,7 +13,7 @@ use Rattle.channel_calls.specs.declared.stage.Stage.{Stage}
 use Rattle.channel_calls.specs.declared.stage.Turn.{Turn}
 use Rattle.channel_laws.specs.Bridge.{Act, on_queue, on_roster, on_nothing, Event, begins, does, Happening, Given, Notes, Acts, own, Changes, InOneOrder}
 use Rattle.channel_laws.specs.Named.{WakesSo, MergesHaveAnyTasks}
-use Rattle.channel_laws.specs.Tasks.{roster_by, parts_by, deed_by, act_by, ask_by, stage_by, event_by, all_by}
+use Rattle.channel_laws.specs.Tasks.{roster_by, parts_by, deed_by, act_by, stage_by, event_by, all_by}
 use Rattle.channel_laws.proofs.TaskCells.{done_so}
 use Rattle.channel_laws.proofs.TaskTurns.{first_alike, kept_alike, takes}
 use Rattle.channel_laws.proofs.TaskWalks.{made_so}

@@ -1,16 +1,15 @@
 -- Other tasks put for those of a call: it is walked as it was.
-use Rattle.std.proofs.Common.{◌≡◌, ℕ, zero, suc, List, map, Option, None, Some, option_map, refl, sym, ap, subst, ◌∙◌}
+use Rattle.std.proofs.Common.{◌≡◌, ℕ, zero, suc, map, Option, None, Some, option_map, refl, sym, ap, subst, ◌∙◌}
 use Rattle.concurrent_queue.specs.declared.call.QueueReply.{QueueReply}
 use Rattle.concurrent_queue.specs.declared.queue_call.QueueCall.{QueueCall}
 use Rattle.channel_calls.specs.Deeds.{Deed, taken_off}
 use Rattle.channel_calls.specs.Turns.{leaving, nothing_kept}
-use Rattle.channel_calls.specs.Walks.{Takes, Heard, Leaves, WorkMakes, ChannelMakes, Leads, Walked, WalkedFrom}
+use Rattle.channel_calls.specs.Walks.{Takes, Heard, Leaves, WorkMakes, ChannelMakes, Leads}
 use Rattle.channel_calls.specs.declared.mark.Mark.{Mark}
 use Rattle.channel_calls.specs.declared.reply.Reply.{Reply}
 use Rattle.channel_calls.specs.declared.reply.Reply.TheVariants as reply
 use Rattle.channel_calls.specs.declared.stage.Aim.{Aim}
 use Rattle.channel_calls.specs.declared.stage.Held.{Held}
-use Rattle.channel_calls.specs.declared.stage.Kept.{Kept}
 use Rattle.channel_calls.specs.declared.stage.Stage.{Stage}
 use Rattle.channel_calls.specs.declared.stage.Stage.TheVariants.{Trying, Working, Finished}
 use Rattle.channel_calls.specs.declared.stage.Turn.{Turn}

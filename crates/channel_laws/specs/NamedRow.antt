@@ -1,6 +1,6 @@
 -- A merge of three calls over one slot: two wait for the closing, and the third closes. The two may have one task, as two waits of one
 -- thread have; with names they are two.
-use Rattle.std.specs.Prelude.{◌≡◌, ℕ, ◌==◌, true, false, List, [], ◌∷◌, ◌++◌, length, Option, None, Some, Ok, if◌then◌else◌}
+use Rattle.std.specs.Prelude.{◌≡◌, ℕ, ◌==◌, true, false, List, [], ◌∷◌, ◌++◌, length, None, Some, Ok, if◌then◌else◌}
 use Rattle.concurrent_queue.specs.Deeds.{loaded, bits_set}
 use Rattle.concurrent_queue.specs.declared.cells.QueueForm.TheVariants.{Bounded}
 use Rattle.concurrent_queue.specs.declared.cells.Word.TheVariants.{State}
@@ -15,7 +15,7 @@ use Rattle.channel_calls.specs.declared.ask.ChannelAsk.{ChannelAsk}
 use Rattle.channel_calls.specs.declared.ask.ChannelAsk.TheVariants.{PollClosed, Close}
 use Rattle.channel_calls.specs.declared.reply.Reply.TheVariants.{ClosedPoll, Closed}
 use Rattle.channel_calls.specs.declared.stage.Line.TheVariants.{Sends, Receives, Streams, Closings}
-use Rattle.channel_laws.specs.Bridge.{Event, begins, does, on_queue, on_roster, Happening, Given, Acts, own, opened_parts, InOneOrder, LastsFor}
+use Rattle.channel_laws.specs.Bridge.{begins, does, on_queue, on_roster, Happening, Given, Acts, own, opened_parts, InOneOrder, LastsFor}
 use Rattle.channel_laws.specs.Named.{IsBehind, task_of}
 
 abbrev pub first_key : Key

@@ -2,7 +2,6 @@
 -- of whatever carries tasks this is it with others in their place, by a function; all else stays.
 use Rattle.std.specs.Prelude.{List, [], ◌∷◌, map, Option}
 use Rattle.std.specs.Option.{option_map}
-use Rattle.event_listener.specs.Lists.{Lists}
 use Rattle.event_listener.specs.declared.key.Key.{Key}
 use Rattle.channel_calls.specs.Deeds.{Deed, stepped, inserted, registered, taken_off, one_told, more_told, all_told, counted, lowered, raised}
 use Rattle.channel_calls.specs.Parts.{Parts, Listeners, Roster}
