@@ -41,3 +41,12 @@ mod BridgeWalks
 mod BridgeRow
 mod BridgeBlocks
 mod BridgeHeadline
+mod TaskLists
+mod TaskTurns
+mod TaskWalks
+mod TaskCells
+mod TaskMerges
+mod TaskSteps
+mod TaskBehind
+mod Named
+mod NamedRow

@@ -23,3 +23,6 @@ pub mod BridgeRow
 pub mod BridgeBlocks
 pub mod BridgeEnd
 pub mod BridgeHeadline
+pub mod Tasks
+pub mod Named
+pub mod NamedRow

@@ -5,6 +5,8 @@ ghost use Rattle.channel_laws.specs.Bridge.{InCells, MergesAreRuns, StandsAct, W
 ghost use Rattle.channel_laws.specs.BridgeBlocks.{BlocksInCalls, Rested};
 ghost use Rattle.channel_laws.specs.BridgeHeadline.{MergesKeepTheHeadline};
 ghost use Rattle.channel_laws.specs.BridgeRow.{TwoClonesMerge};
+ghost use Rattle.channel_laws.specs.Named.{MergesHaveAnyTasks, NamedMergesKeepTheHeadline, TasksMayTellMore, WalksHaveAnyTasks};
+ghost use Rattle.channel_laws.specs.NamedRow.{OneTaskHasTwoNames, TwoWaitsMerge};
 ghost use Rattle.channel_calls.specs.Blocks.{Asked, Slept};
 ghost use Rattle.channel_calls.specs.Deeds.{Done};
 ghost use Rattle.channel_laws.specs.Bounds.{BoundsStay, EachRunClosesOnce, NeverOverfull, EachUnboundedRunIsNeverFull};
@@ -207,4 +209,41 @@ pub fn blocking_makes_calls<T, W, Q: Cells<T>, C: Sleeps<T, W>, S: Wakes<W>>()
 /// Own to this project.
 pub fn two_clones_merge<T, W, S: Wakes<W>>()
     ensures merge { TwoClonesMerge T W S S.wakes }
+{}
+
+/// Whatever is put for the tasks of calls, they do what they did. A call that is walked to its answer is walked to the same one, and
+/// leaves the same to its operation, with others put for its own task and for those in the answers of its deeds. And what parties do to a
+/// new channel, all in one order, they do so too, with the same given to each. For no step of a machine and no cell looks at a task.
+///
+/// Own to this project.
+pub fn tasks_may_be_others<T, W, V, C: ChannelCells<T, W>, S: Wakes<W>>()
+    ensures walks { (put : W → V) → WalksHaveAnyTasks {T = T} put (Done C.did S.wakes) }
+    ensures merges { (put : W → V) → MergesHaveAnyTasks put T S S.wakes }
+{}
+
+/// Tasks that were taken for one may be told apart. Of a merge each call may be given any task for which its own was put, and there is
+/// such a merge, in the same order, with the same given to each party. Which of these a telling wakes follows from the calls alone. So
+/// names may stand beside tasks, chosen anew for each call, though all calls of a thread have one waker.
+///
+/// Own to this project.
+pub fn tasks_may_tell_more<T, W, V, S: Wakes<V>>()
+    ensures behind { (put : W → V) → TasksMayTellMore put T S S.wakes }
+{}
+
+/// The headline holds with names in the place of tasks, whatever the tasks are and whichever names are chosen, one for each call. What
+/// any number of parties do to a new channel is what they do where each task has the name beside it that its call was given; and with
+/// the names alone it keeps the headline, with the same given to each party. The tasks may be the wakers of threads.
+///
+/// Own to this project.
+pub fn named_merges_keep_the_headline<T, W, V, S: Wakes<W>>()
+    ensures headline { NamedMergesKeepTheHeadline T W V S S.wakes }
+{}
+
+/// There are such merges: two wait for the closing with one task, and a closing wakes this task twice. With a name beside each, it wakes
+/// the one, and then the other.
+///
+/// Own to this project.
+pub fn one_task_has_two_names<T, W, V, S: Wakes<W>>()
+    ensures merge { TwoWaitsMerge T W S S.wakes }
+    ensures named { OneTaskHasTwoNames T W V S S.wakes }
 {}

@@ -19,6 +19,7 @@ pub mod TheEndFacts
 pub mod HeadlineFacts
 pub mod MergeNames
 mod MergeRow
+mod NamedMerges
 mod BlockNames
 pub mod PartyFacts
 pub mod StopFacts

@@ -40,10 +40,10 @@ module _ {T S : Type 0} (wakes : S → Waiter → S → Type 0) where
   second m (e ∷ es) [] = tt
   second m (e ∷ es) (n ∷ ns) = (TryClone (record { 0 = 0 }) (record { 0 = 3 }), refl, inl refl, only_steps (drop 2 (steps_of two_clones)) tt book_of_two n es ns)
 
-  first : (m : MergeMoment T Waiter S) (es : List (Entry T)) (ns : List (MergeMoment T Waiter S)) → BeginByNames wakes first_book m (steps_of two_clones) es ns
-  first m [] ns = tt
-  first m (e ∷ es) [] = tt
-  first m (e ∷ es) (n ∷ ns) = (TryClone (record { 0 = 0 }) (record { 0 = 2 }), refl, inl refl, second n es ns)
+  pub begins_by_names : (m : MergeMoment T Waiter S) (es : List (Entry T)) (ns : List (MergeMoment T Waiter S)) → BeginByNames wakes first_book m (steps_of two_clones) es ns
+  begins_by_names m [] ns = tt
+  begins_by_names m (e ∷ es) [] = tt
+  begins_by_names m (e ∷ es) (n ∷ ns) = (TryClone (record { 0 = 0 }) (record { 0 = 2 }), refl, inl refl, second n es ns)
 
 pub two_clones_by_names : (T S : Type 0) (wakes : S → Waiter → S → Type 0) → TwoClonesByNames T S wakes
-two_clones_by_names T S wakes form given sink last woken k = first wakes (just_opened form sink) k.is.trace k.is.run.moments
+two_clones_by_names T S wakes form given sink last woken k = begins_by_names wakes (just_opened form sink) k.is.trace k.is.run.moments

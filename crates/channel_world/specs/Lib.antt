@@ -7,6 +7,7 @@ pub mod TheEnd
 pub mod Headline
 pub mod MergesByNames
 pub mod MergesByNamesRow
+pub mod NamedMerges
 pub mod BlocksByNames
 pub mod PartyRun
 pub mod Settled

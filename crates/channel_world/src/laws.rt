@@ -8,6 +8,7 @@ ghost use Rattle.channel_world.specs.InTurn.{HasItsAccounts, LaterLeavesLater, L
 ghost use Rattle.channel_world.specs.BlocksByNames.{PollsByName};
 ghost use Rattle.channel_world.specs.MergesByNames.{MergesByNamesAreRuns};
 ghost use Rattle.channel_world.specs.MergesByNamesRow.{TwoClonesByNames};
+ghost use Rattle.channel_world.specs.NamedMerges.{NamedMergesAreRuns, TwoClonesAreNamed};
 ghost use Rattle.channel_world.specs.Numbers.{CallsAtRest, MessagesAtRest, PendingAtRest, WokenAtRest};
 ghost use Rattle.channel_world.specs.Settled.{SettlingIsShort};
 ghost use Rattle.channel_world.specs.Since.{ClosesOnce, ClosesOnceFromRest, ClosesOnceToHere, ClosesWhatIsLeft, IsNeverFull, IsNeverFullFromRest, IsNeverFullSince, IsNeverFullToHere, NoneClosesAgain};
@@ -204,6 +205,19 @@ pub fn a_scene_at_rest_is_its_state<T: Drop>(world: &World<T>)
 pub fn merges_by_names_are_runs<T, S: Wakes<Waiter>>()
     ensures runs { MergesByNamesAreRuns T S S.wakes }
     ensures row { TwoClonesByNames T S S.wakes }
+{}
+
+/// So it is where the tasks are of any kind, as the wakers of threads, of which many calls may have one. Each call of a merge is given
+/// a name beside its task, and with the names alone the merge keeps the headline
+/// (`channel_laws::laws::named_merges_keep_the_headline`). If with them its begins are those of calls by names, it is a run by names, and
+/// all that `merges_by_names_are_runs` says is said of it. Each party was given what it was given with its tasks.
+///
+/// There is such a merge: the first sender is cloned twice at once.
+///
+/// Own to this project.
+pub fn named_merges_are_runs_by_names<T, W, S: Wakes<W>>()
+    ensures runs { NamedMergesAreRuns T W S S.wakes }
+    ensures row { TwoClonesAreNamed T W S S.wakes }
 {}
 
 /// The polls of a call that blocks, which `channel_laws::laws::blocking_makes_calls` tells, are those of an operation by name, if their
