@@ -9,8 +9,10 @@ ghost use Rattle.channel_world.specs.BlocksByNames.{PollsByName};
 ghost use Rattle.channel_world.specs.MergesByNames.{MergesByNamesAreRuns};
 ghost use Rattle.channel_world.specs.MergesByNamesRow.{TwoClonesByNames};
 ghost use Rattle.channel_world.specs.Numbers.{CallsAtRest, MessagesAtRest, PendingAtRest, WokenAtRest};
+ghost use Rattle.channel_interleaving.specs.Owed.{Owed};
 ghost use Rattle.channel_world.specs.Settled.{SettlingIsShort};
 ghost use Rattle.channel_world.specs.Since.{ClosesOnce, ClosesOnceFromRest, ClosesOnceToHere, ClosesWhatIsLeft, IsNeverFull, IsNeverFullFromRest, IsNeverFullSince, IsNeverFullToHere, NoneClosesAgain};
+ghost use Rattle.channel_world.specs.View.{sight_of};
 
 pub use crate::recorded::laws::{a_record_leaves_nobody_asleep, a_record_loses_nothing};
 use crate::world::World;
@@ -118,6 +120,7 @@ pub fn at_rest_nobody_is_left_asleep<T: Drop>(world: &World<T>)
 ///
 /// Own to this project.
 pub fn who_sleeps_is_answered_for<T: Drop>(world: &World<T>)
+    ensures owed { Owed (sight_of world.now) }
     ensures receives { ReceivesAreAnswered world.now }
     ensures sends { SendsAreAnswered world.now }
     ensures streams { StreamsAreAnswered world.now }
