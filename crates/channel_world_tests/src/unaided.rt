@@ -56,8 +56,8 @@ pub struct Told<T> {
 /// that sleeps there are no more messages than woken ones and calls under way. Beside a send, on an open channel, there are no more
 /// places than messages, woken ones, calls under way, and places that such calls have freed and not announced yet. Beside a stream and
 /// a message a call is under way, and beside anybody on a closed channel. By kind it is said too: which of the woken, and which calls.
-/// All these numbers the world tells, but how many places were freed, and how many of one line are woken. So where it tells that no
-/// call is under way no stream sleeps beside a message, and no receive where it tells that nobody is woken.
+/// The world tells how many messages, woken ones and calls there are, and the calls by kind. So where it tells that no call is under way
+/// no stream sleeps beside a message, and no receive where it tells that nobody is woken.
 pub fn step_and_look<T: Drop>(world: &mut World<T>, steps: &mut VecDeque<Step<T>>) -> Told<T>
     ensures messages { result.messages ≡ messages_in world.new }
     ensures woken { result.woken ≡ woken_among world.new }
