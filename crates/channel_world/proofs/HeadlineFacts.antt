@@ -33,8 +33,9 @@ use Rattle.channel_world.specs.Headline.{Headline}
 use Rattle.channel_laws.specs.Marked.{AddUp}
 use Rattle.channel_world.specs.Marked.{all_brought, all_taken}
 use Rattle.channel_laws.specs.Words.{WordsSay}
+use Rattle.channel_world.specs.StepsLeft.{EndInFront}
 use Rattle.channel_world.specs.Sentences.{MomentSays, BeginSays, WorkSays, CallSays, StepSays}
-use Rattle.channel_world.specs.View.{view_of}
+use Rattle.channel_world.specs.View.{view_of, WorldView}
 
 module _ {T : Type 0} where
   -- ---- a moment
@@ -156,13 +157,17 @@ module _ {T : Type 0} where
         stands = r.stands;
         at_first = moment_says start (holds_first old s k);
         run = record { moments = moments; each = says; ends = run.ends };
-        accounts = subst (λ (n : Moment T). AddUp s (all_taken start trace moments) (all_brought start r.made trace moments) n.scene) run.ends sums;
+        accounts = subst (λ (n : Moment T). AddUp s (all_taken s trace moments) (all_brought s r.made trace moments) n.scene) run.ends sums;
         after_the_end = nothing_comes steps left start r.made trace moments r.first k.kept run.each says;
         ended_before = λ over. ended_before steps left start r.made trace moments r.first k.kept run.each says over;
         ends_soon = all_in_a_row start r.made trace moments k.kept (few_in old s k) run.each;
-        in_front = in_front steps left start r.made trace moments r.first k.kept (few_in old s k) run.each;
         stops = stops;
       }
+
+  -- in front of the list a call ends as soon as from its first moment on
+  pub ends_in_front : (steps left : List (Step T)) (old : WorldView T) (trace : List (Entry T)) (stopped : Option Stopped) (new : WorldView T)
+      (s : Scene T Waiter) → Headline steps left old trace stopped new s → EndInFront s steps trace
+  ends_in_front steps left old trace stopped new s h = in_front steps left s h.made trace h.run.moments h.first h.ends_soon
 
   -- the number of messages
   pub counted : (steps left : List (Step T)) (old : Floor T) (trace : List (Entry T)) (new : Floor T) → RanTo steps left old trace new

@@ -38,7 +38,7 @@ module _ {T : Type 0} where
 
   -- the accounts of one step
   one_adds : (m : Moment T) (x : Step T) (e : Entry T) (n : Moment T) → AllKept m.book m.scene → LeadsBy m x e n
-      → AddUp m.scene (gone_by e.mark m.scene.now.queue.items) (brought_at m x e) n.scene
+      → AddUp m.scene (gone_by e.mark m.scene.now.queue.items) (brought_at m.scene x e) n.scene
   one_adds m (step.Begin p c) e n k l =
       let b = l.made.next.0 in
       let mark : e.mark ≡ Nothing = ap (λ (g : ChannelEntry T). g.mark) b.entry in
@@ -52,13 +52,13 @@ module _ {T : Type 0} where
       let s = l.made.next in
       let his = message_is p.0 s.before s.mine s.behind (none_before m p e n k l) s.whose in
       let there = ap (λ (us : List (Under T Waiter)). message_brought p.0 us) s.there in
-      let same : came_by e.mark s.mine.ask ≡ brought_at m (step.Step p) e =
+      let same : came_by e.mark s.mine.ask ≡ brought_at m.scene (step.Step p) e =
       came_is e.mark s.mine.ask ∙ ap (λ (ms : List T). brought_by e.mark ms) (sym (there ∙ his)) in
       subst (λ (ms : List T). AddUp m.scene (gone_by e.mark m.scene.now.queue.items) ms n.scene) same
       (record { held = s.held; gone = s.gone; came = s.came })
 
   pub all_add : (m : Moment T) (xs : List (Step T)) (es : List (Entry T)) (ns : List (Moment T)) → AllKept m.book m.scene
-      → EachStep LeadsBy m xs es ns → AddUp m.scene (all_taken m es ns) (all_brought m xs es ns) (end_of m ns).scene
+      → EachStep LeadsBy m xs es ns → AddUp m.scene (all_taken m.scene es ns) (all_brought m.scene xs es ns) (end_of m ns).scene
   all_add m [] [] [] k h = none_adds m.scene
   all_add m (x ∷ xs) (e ∷ es) (n ∷ ns) k h =
       both_add m.scene n.scene (end_of n ns).scene _ _ _ _ (one_adds m x e n k h.0) (all_add n xs es ns h.0.holds.kept h.1)

@@ -11,7 +11,7 @@ use Rattle.channel_steps.specs.Scene.{Scene}
 use Rattle.channel_laws.specs.Marked.{AddUp}
 use Rattle.channel_world.specs.Marked.{all_taken, all_brought}
 use Rattle.channel_world.specs.Sentences.{MomentSays, StepSays}
-use Rattle.channel_world.specs.StepsLeft.{EndInARow, EndInFront}
+use Rattle.channel_world.specs.StepsLeft.{EndInARow}
 use Rattle.channel_world.specs.TheEnd.{GiveNothing, NothingComesAfter}
 use Rattle.channel_world.specs.View.{book_of, moment_of, StandsIn, WorldView}
 
@@ -31,14 +31,13 @@ module _ {T : Type 0} where
     pub at_first : MomentSays (moment_of old from)
     pub run : IsRun StepSays (moment_of old from) made trace (moment_of new to)
     -- what left the channel, followed by what it holds, is what it held followed by what it accepted, in order
-    pub accounts : AddUp from (all_taken (moment_of old from) trace run.moments) (all_brought (moment_of old from) made trace run.moments) to
+    pub accounts : AddUp from (all_taken from trace run.moments) (all_brought from made trace run.moments) to
     -- once a receive answered closed, or a stream ended, in these steps or before them, no call that begins later gives a message
     pub after_the_end : NothingComesAfter steps trace
     pub ended_before : Spent from.now → GiveNothing [] steps trace
     -- where the others are quiet (no other call under way has a mark but Nothing, and an unbounded channel has had its first taking or
     -- there is no other call), a call makes no more steps than it has left at most before the one that ends it, if its are the next:
-    -- from each moment on, and so in front of the list
-    pub ends_soon : EndInARow (moment_of old from) made trace run.moments
-    pub in_front : EndInFront (moment_of old from) steps trace
+    -- from each moment on, so in front of the list too
+    pub ends_soon : EndInARow from made trace run.moments
     -- the run stops at the first step that is refused, which stays in front, for the first reason that there is
     pub stops : StopsAt (book_of new) left (length trace) stopped

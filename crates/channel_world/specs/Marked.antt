@@ -2,7 +2,7 @@
 use Rattle.std.specs.Prelude.{ℕ, ◌==◌, if◌then◌else◌, List, [], ◌∷◌, ◌++◌}
 use Rattle.channel_laws.specs.Marked.{brought_by}
 use Rattle.channel_model.specs.declared.name.Waiter.{Waiter}
-use Rattle.channel_steps.specs.Scene.{Under, brought, gone_by}
+use Rattle.channel_steps.specs.Scene.{Under, Scene, brought, gone_by}
 use Rattle.channel_interleaving.specs.Runs.{Moment}
 use Rattle.channel_interleaving.specs.declared.step.Entry.{Entry}
 use Rattle.channel_interleaving.specs.declared.step.Step.{Step}
@@ -14,16 +14,16 @@ module _ {T : Type 0} where
   message_brought party [] = []
   message_brought party (u ∷ us) = if u.party == party then brought u.ask else message_brought party us
 
-  abbrev pub brought_at : Moment T → Step T → Entry T → List T
-  brought_at m (step.Begin p c) e = []
-  brought_at m (step.Step p) e = brought_by e.mark (message_brought p.0 m.scene.under_way)
+  abbrev pub brought_at : Scene T Waiter → Step T → Entry T → List T
+  brought_at s (step.Begin p c) e = []
+  brought_at s (step.Step p) e = brought_by e.mark (message_brought p.0 s.under_way)
 
   -- all that came in by the steps made, in order
-  abbrev pub all_brought : Moment T → List (Step T) → List (Entry T) → List (Moment T) → List T
-  all_brought m (x ∷ xs) (e ∷ es) (n ∷ ns) = brought_at m x e ++ all_brought n xs es ns
-  all_brought m xs es ns = []
+  abbrev pub all_brought : Scene T Waiter → List (Step T) → List (Entry T) → List (Moment T) → List T
+  all_brought s (x ∷ xs) (e ∷ es) (n ∷ ns) = brought_at s x e ++ all_brought n.scene xs es ns
+  all_brought s xs es ns = []
 
   -- all that they took out, in order: each the oldest message at its moment
-  abbrev pub all_taken : Moment T → List (Entry T) → List (Moment T) → List T
-  all_taken m (e ∷ es) (n ∷ ns) = gone_by e.mark m.scene.now.queue.items ++ all_taken n es ns
-  all_taken m es ns = []
+  abbrev pub all_taken : Scene T Waiter → List (Entry T) → List (Moment T) → List T
+  all_taken s (e ∷ es) (n ∷ ns) = gone_by e.mark s.now.queue.items ++ all_taken n.scene es ns
+  all_taken s es ns = []

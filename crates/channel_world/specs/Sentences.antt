@@ -102,7 +102,7 @@ module _ {T : Type 0} where
     -- a short call ends within eight steps of its own, whatever others do
     pub in_time : IsQuick call.ask → EndsInTime call.made e.reply
     -- where the others are quiet, a step that does not end its call leaves it fewer steps
-    pub nearer : e.reply ≡ None → OthersQuietOf p.0 m → n.left p.0 < m.left p.0
+    pub nearer : e.reply ≡ None → OthersQuietOf p.0 m.scene → n.left p.0 < m.left p.0
     -- a call that began when the end was said gives no message
     pub late : AllSpent call.seen → Replies GivesMessage e.reply → ⊥
 

@@ -8,7 +8,7 @@ use Rattle.channel_interleaving.specs.Runs.{Moment}
 use Rattle.channel_interleaving.specs.declared.step.Entry.{Entry}
 use Rattle.channel_interleaving.specs.declared.step.Step.{Step}
 use Rattle.channel_interleaving.specs.declared.step.Step.TheVariants as step
-use Rattle.channel_world.specs.View.{moment_of, StandsIn, WorldView}
+use Rattle.channel_world.specs.View.{StandsIn, WorldView}
 
 module _ {T : Type 0} where
   -- how many of the next steps are this party's, one after another, with no reply among them
@@ -18,21 +18,20 @@ module _ {T : Type 0} where
 
   -- the calls under way but this party's are quiet: none has a mark but Nothing, and an unbounded channel has had its first taking,
   -- or there is no other call
-  abbrev pub OthersQuietOf : ℕ → Moment T → Type 0
-  OthersQuietOf p m = OthersQuiet m.scene.now (calls_of_others p m.scene.under_way)
+  abbrev pub OthersQuietOf : ℕ → Scene T Waiter → Type 0
+  OthersQuietOf p s = OthersQuiet s.now (calls_of_others p s.under_way)
 
-  -- where the others of a party's call are quiet at this moment, it makes no more steps than these before it ends, if its are the
+  -- where the others of a party's call are quiet in this scene, it makes no more steps than these before it ends, if its are the
   -- next: those in front of a list, also where not all of them are made
-  abbrev pub EndInFront : Moment T → List (Step T) → List (Entry T) → Type 0
-  EndInFront m steps trace = (party : ℕ) → OthersQuietOf party m → in_a_row party steps trace ≤ most_left (wanted_of party m.scene.under_way)
+  abbrev pub EndInFront : Scene T Waiter → List (Step T) → List (Entry T) → Type 0
+  EndInFront s steps trace = (party : ℕ) → OthersQuietOf party s → in_a_row party steps trace ≤ most_left (wanted_of party s.under_way)
 
-  -- so it is at each moment
-  abbrev pub EndInARow : Moment T → List (Step T) → List (Entry T) → List (Moment T) → Type 0
-  EndInARow m [] [] [] = Unit {0}
-  EndInARow m (x ∷ xs) (e ∷ es) (n ∷ ns) = EndInFront m (x ∷ xs) (e ∷ es) × EndInARow n xs es ns
-  EndInARow m _ _ _ = ⊥
+  -- so it is in the scene of each moment
+  abbrev pub EndInARow : Scene T Waiter → List (Step T) → List (Entry T) → List (Moment T) → Type 0
+  EndInARow s [] [] [] = Unit {0}
+  EndInARow s (x ∷ xs) (e ∷ es) (n ∷ ns) = EndInFront s (x ∷ xs) (e ∷ es) × EndInARow n.scene xs es ns
+  EndInARow s _ _ _ = ⊥
 
   -- from whatever scene the world stood in: a call whose others are quiet makes no more steps than these in front of the list
   abbrev pub EndsInFront : WorldView T → List (Step T) → List (Entry T) → Type 0
-  EndsInFront old steps trace =
-      (s : Scene T Waiter) → StandsIn old s → EndInFront (moment_of old s) steps trace
+  EndsInFront old steps trace = (s : Scene T Waiter) → StandsIn old s → EndInFront s steps trace

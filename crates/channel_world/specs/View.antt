@@ -1,5 +1,6 @@
 -- What a world shows: its names, how many messages it holds, its capacity, whether it is closed, and how many calls of each kind
--- are under way. What it is made of is shut: no other file can name it, so no clause of a caller says anything of it.
+-- are under way. What it is made of only the words of this file name, and no clause of a caller says anything of it. That is agreed:
+-- to the logic the words are open, so that a proof can read the parts off them.
 use Rattle.std.specs.Prelude.{ℕ, Bool, List, Option, refl}
 use Rattle.std.specs.Coded.{Coded, code_by}
 use Rattle.channel_calls.specs.Parts.{Parts, count}

@@ -21,6 +21,7 @@ mod run;
 pub mod script;
 pub mod settle;
 pub mod step;
+pub mod under_way;
 pub mod world;
 
 pub use account::Account;
@@ -38,4 +39,5 @@ pub use recorded::{
 pub use script::{ScriptEnd, run_script};
 pub use settle::Settled;
 pub use step::{Entry, PartyId, Run, Step};
+pub use under_way::UnderWay;
 pub use world::World;

@@ -31,7 +31,7 @@ fn have_room<T: Drop>(steps: &mut VecDeque<Step<T>>, trace: &mut Vec<Entry<T>>) 
 }
 
 impl<T: Drop> World<T> {
-    ghost use Rattle.std.specs.Prelude.{◌≡◌, ◌≤◌, ◌<◌, ◌+◌, [], replicate, vec_len, vec_capacity, None, IfOk, IfErr, OnErr};
+    ghost use Rattle.std.specs.Prelude.{◌≡◌, ◌≤◌, ◌<◌, ◌+◌, [], replicate, vec_len, vec_capacity, None, IfOk, IfErr, IfSome, OnErr};
     ghost use Rattle.std.specs.VecDeque.{deque_len, deque_capacity};
     ghost use Rattle.channel_model.specs.declared.name.Waiter.{Waiter};
     ghost use Rattle.channel_steps.specs.Scene.{Scene};
@@ -40,6 +40,8 @@ impl<T: Drop> World<T> {
     ghost use Rattle.channel_world.specs.Carried.{LeadsTo};
     ghost use Rattle.channel_world.specs.Headline.{Headline};
     ghost use Rattle.channel_world.specs.PartyRun.{steps_asked, refused_of, AreSilent, EndsWithAnswer, IsRefused, StepsOnce};
+    ghost use Rattle.channel_world.specs.StepsLeft.{EndsInFront};
+    ghost use Rattle.channel_world.specs.TheEnd.{NothingComesAfter};
     ghost use Rattle.channel_world.specs.View.{messages_in, StandsIn, Stands};
 
     /// Makes one step of this party in the room that was taken, and says whether its call answered; or why the step is refused.
@@ -94,9 +96,14 @@ impl<T: Drop> World<T> {
         ensures headline { IfOk result (λ run. (s : Scene T Waiter) → StandsIn self.old s → Headline
             (replicate (steps_asked run.trace.items run.stopped) (Step.Step party)) (refused_of party run.stopped)
             self.old run.trace.items run.stopped self.new s) }
+        ensures soon { IfOk result (λ run. EndsInFront self.old
+            (replicate (steps_asked run.trace.items run.stopped) (Step.Step party)) run.trace.items) }
+        ensures the_end { IfOk result (λ run. NothingComesAfter
+            (replicate (steps_asked run.trace.items run.stopped) (Step.Step party)) run.trace.items) }
         ensures within { IfOk result (λ run. steps_asked run.trace.items run.stopped ≤ most) }
         ensures answered { IfOk result (λ run. EndsWithAnswer run.trace.items run.stopped) }
         ensures short { IfOk result (λ run. run.stopped ≡ None → AreSilent run.trace.items → vec_len run.trace ≡ most) }
+        ensures place { IfOk result (λ run. IfSome run.stopped (λ s. s.place ≡ vec_len run.trace)) }
         ensures leads { IfOk result (λ run. LeadsTo self.old (replies_in run.trace.items) self.new) }
         ensures messages { IfOk result (λ run. messages_in self.new + left_in run.trace.items
             ≡ messages_in self.old + accepted_in run.trace.items) }

@@ -51,8 +51,8 @@ pub fn count<T: Drop>(world: &mut World<T>, steps: &mut VecDeque<Step<T>>) -> Co
     Counted { before, after, run }
 }
 
-/// Makes steps in whatever world, calls begun before included: no party beside whose call the others are quiet makes 198 steps in
-/// front of the list with no reply among them, or, for a receive of several, 64 more for each message that it may take.
+/// Makes steps in whatever world, calls begun before included: no party beside whose call the others are quiet makes more steps than
+/// its call has left at most (`most_left`) in front of the list with no reply among them.
 pub fn ends_soon<T: Drop>(world: &mut World<T>, steps: &mut VecDeque<Step<T>>) -> Run<T>
     ensures { EndsInFront world.old steps.old.items result.trace.items }
 {

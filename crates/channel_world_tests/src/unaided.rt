@@ -9,12 +9,14 @@
 
 ghost use Rattle.std.specs.Prelude.{◌≡◌, ◌+◌, ◌<◌, ◌≤◌, [], length, None, Some, true, IfOk, IfSome, vec_len};
 ghost use Rattle.channel_calls.specs.declared.stage.Line.TheVariants.{Receives, Streams};
+ghost use Rattle.channel_interleaving.specs.Owed.{Owed};
 ghost use Rattle.channel_world.specs.Asleep.{woken_among, ClosingIsAnswered, NobodySleeps, ReceivesAreAnswered, SendsAreAnswered, StreamsAreAnswered};
-ghost use Rattle.channel_world.specs.View.{at_rest, calls_in, messages_in, IsQuiet};
+ghost use Rattle.channel_world.specs.View.{at_rest, calls_in, messages_in, sight_of, IsQuiet};
 
 use crate::clients::Settling;
 use channel_world::laws::who_sleeps_is_answered_for;
 use channel_world::step::{Run, Step};
+use channel_world::under_way::UnderWay;
 use channel_world::world::World;
 use std::collections::VecDeque;
 
@@ -46,17 +48,24 @@ pub struct Told<T> {
     pub woken: usize,
     /// How many calls are under way.
     pub under_way: usize,
+    /// How many of these are sending, are receiving, and have closed the channel.
+    pub by_kind: UnderWay,
 }
 
-/// Makes steps in whatever world, calls begun before included, wherever the list ends: then who sleeps is answered for, in the numbers
-/// that the world tells. Beside a receive that sleeps there are no more messages than woken ones and calls under way. Beside a send, on
-/// an open channel, there are no more places than messages, woken ones, calls under way, and places that such calls have freed and not
-/// announced yet. Beside a stream and a message a call is under way, and beside anybody on a closed channel. So where the world tells
-/// that no call is under way no stream sleeps beside a message, and no receive where it tells that nobody is woken.
+/// Makes steps in whatever world, calls begun before included, wherever the list ends: then who sleeps is answered for. Beside a receive
+/// that sleeps there are no more messages than woken ones and calls under way. Beside a send, on an open channel, there are no more
+/// places than messages, woken ones, calls under way, and places that such calls have freed and not announced yet. Beside a stream and
+/// a message a call is under way, and beside anybody on a closed channel. By kind it is said too: which of the woken, and which calls.
+/// The world tells how many messages, woken ones and calls there are, and the calls by kind. So where it tells that no call is under way
+/// no stream sleeps beside a message, and no receive where it tells that nobody is woken.
 pub fn step_and_look<T: Drop>(world: &mut World<T>, steps: &mut VecDeque<Step<T>>) -> Told<T>
     ensures messages { result.messages ≡ messages_in world.new }
     ensures woken { result.woken ≡ woken_among world.new }
     ensures under_way { result.under_way ≡ calls_in world.new }
+    ensures sending { result.by_kind.sending ≡ (sight_of world.new).sending }
+    ensures receiving { result.by_kind.receiving ≡ (sight_of world.new).receiving }
+    ensures closers { result.by_kind.closers ≡ (sight_of world.new).closers }
+    ensures owed { Owed (sight_of world.new) }
     ensures receives { ReceivesAreAnswered world.new }
     ensures sends { SendsAreAnswered world.new }
     ensures streams { StreamsAreAnswered world.new }
@@ -71,6 +80,7 @@ pub fn step_and_look<T: Drop>(world: &mut World<T>, steps: &mut VecDeque<Step<T>
         messages: world.messages(),
         woken: world.woken(),
         under_way: world.under_way(),
+        by_kind: world.calls_by_kind(),
     }
 }
 

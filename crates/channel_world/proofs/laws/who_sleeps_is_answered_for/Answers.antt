@@ -9,6 +9,7 @@ returns g c =
     let k = c.keeps.ensures in
     let apart = c.keeps_names.ensures.apart in
     record {
+      owed = k.stands.owed;
       receives = receives_answered w k apart;
       sends = sends_answered w k apart;
       streams = streams_answered w k apart;

@@ -6,7 +6,7 @@ use Rattle.channel_interleaving.specs.declared.step.Entry.{Entry}
 use Rattle.channel_interleaving.specs.declared.step.Step.TheVariants as step
 use Rattle.channel_interleaving.proofs.Interface.{ran_leads}
 use Rattle.channel_world.specs.PartyRun.{refused_of, AreSilent, EndsWithAnswer, IsRefused, StepsOnce}
-use Rattle.channel_world.proofs.HeadlineFacts.{headline, counted}
+use Rattle.channel_world.proofs.HeadlineFacts.{headline, ends_in_front, counted}
 use Rattle.channel_interleaving.proofs.FloorFacts.{ran_none}
 use Rattle.channel_world.proofs.PartyFacts.{Ended, ended_refused, ended_well, not_silent, answer_ends, once_silent, none_written, party_more, silent_ends, silent_more, some_written}
 use Rattle.channel_world.proofs.Inside.{floor_of}
@@ -263,3 +263,35 @@ returns-then-answered-clause-within g c =
     (let w = ap (λ (t : List (Entry g.row.T.Denot)). length t) once.written in grind (arith, common_steps, w, count)) in
     let below = c.loop-made-test.true in
     omega (arith, long, below)
+
+pub returns-then-not-have_room-clause-soon : goal.returns-then-not-have_room-clause-soon
+returns-then-not-have_room-clause-soon g c =
+    λ s stands party free. ends_in_front _ _ c.args.self.now _ _ _ s (returns-then-not-have_room-clause-headline g c s stands) party free
+
+pub returns-then-not-have_room-clause-the_end : goal.returns-then-not-have_room-clause-the_end
+returns-then-not-have_room-clause-the_end g c =
+    (returns-then-not-have_room-clause-headline g c c.keeps.ensures.scene c.keeps.ensures.stands).after_the_end
+
+pub returns-then-answered-clause-soon : goal.returns-then-answered-clause-soon
+returns-then-answered-clause-soon g c =
+    λ s stands party free. ends_in_front _ _ c.args.self.now _ _ _ s (returns-then-answered-clause-headline g c s stands) party free
+
+pub returns-then-answered-clause-the_end : goal.returns-then-answered-clause-the_end
+returns-then-answered-clause-the_end g c =
+    (returns-then-answered-clause-headline g c c.keeps.ensures.scene c.keeps.ensures.stands).after_the_end
+
+pub returns-in-Err-clause-soon : goal.returns-in-Err-clause-soon
+returns-in-Err-clause-soon g c =
+    λ s stands party free. ends_in_front _ _ c.args.self.now _ _ _ s (returns-in-Err-clause-headline g c s stands) party free
+
+pub returns-in-Err-clause-the_end : goal.returns-in-Err-clause-the_end
+returns-in-Err-clause-the_end g c =
+    (returns-in-Err-clause-headline g c c.keeps.ensures.scene c.keeps.ensures.stands).after_the_end
+
+pub returns-clause-soon : goal.returns-clause-soon
+returns-clause-soon g c =
+    λ s stands party free. ends_in_front _ _ c.args.self.now _ _ _ s (returns-clause-headline g c s stands) party free
+
+pub returns-clause-the_end : goal.returns-clause-the_end
+returns-clause-the_end g c =
+    (returns-clause-headline g c c.keeps.ensures.scene c.keeps.ensures.stands).after_the_end

@@ -2,7 +2,7 @@ use Rattle.std.proofs.Common.{arith, subst}
 use Rattle.channel_interleaving.specs.Floor.{book_of}
 use Rattle.channel_interleaving.specs.Run.{StopsAt}
 use Rattle.channel_interleaving.proofs.Interface.{ran_leads}
-use Rattle.channel_world.proofs.HeadlineFacts.{headline, counted}
+use Rattle.channel_world.proofs.HeadlineFacts.{headline, ends_in_front, counted}
 use Rattle.channel_world.proofs.StopFacts.{all_used_up, place_is, all_made}
 use Rattle.channel_world.proofs.Inside.{floor_of}
 use Rattle.channel_world.proofs.world.World.run_steps.Goals as goal
@@ -15,7 +15,8 @@ returns-clause-headline g c =
     c.make_steps.result.trace.ok.0 c.make_steps.ensures.stopped)
 
 pub returns-clause-soon : goal.returns-clause-soon
-returns-clause-soon g c = λ s stands party free. (returns-clause-headline g c s stands).in_front party free
+returns-clause-soon g c =
+    λ s stands party free. ends_in_front c.args.steps.now.items _ c.args.self.now _ _ _ s (returns-clause-headline g c s stands) party free
 
 pub returns-clause-the_end : goal.returns-clause-the_end
 returns-clause-the_end g c =

@@ -1,0 +1,58 @@
+//! The calls under way on a world, by what they are to those who wait.
+
+use super::world::World;
+use channel_interleaving::doing::{Doing, Role};
+
+ghost use Rattle.std.specs.Prelude.{◌≡◌};
+ghost use Rattle.channel_interleaving.specs.Owed.{is_sending, is_receiving};
+
+/// How many calls are under way, by what they are to those who wait. One that has closed the channel is neither sending nor receiving,
+/// and so are questions, clones and drops. Own to this project.
+#[derive(Clone, Copy, Debug, PartialEq, Eq)]
+pub struct UnderWay {
+    /// Sends, displacing sends, and polls and the giving up of a send.
+    pub sending: usize,
+    /// Receives of one message or of several, polls of a stream, and polls and the giving up of a receive.
+    pub receiving: usize,
+    /// Those that have closed the channel.
+    pub closers: usize,
+}
+
+/// Whether it is sending.
+fn is_sending(doing: &Doing) -> bool
+    ensures { result ≡ is_sending doing.now.role }
+{
+    match doing.role {
+        Role::Sending => true,
+        Role::Receiving | Role::Other => false,
+    }
+}
+
+/// Whether it is receiving.
+fn is_receiving(doing: &Doing) -> bool
+    ensures { result ≡ is_receiving doing.now.role }
+{
+    match doing.role {
+        Role::Receiving => true,
+        Role::Sending | Role::Other => false,
+    }
+}
+
+impl<T: Drop> World<T> {
+    ghost use Rattle.std.specs.Prelude.{◌≡◌};
+    ghost use Rattle.channel_world.specs.View.{sight_of};
+
+    /// How many calls are under way of each kind. A walk over the calls under way. Own to this project.
+    pub fn calls_by_kind(&self) -> UnderWay
+        ensures sending { result.sending ≡ (sight_of self.now).sending }
+        ensures receiving { result.receiving ≡ (sight_of self.now).receiving }
+        ensures closers { result.closers ≡ (sight_of self.now).closers }
+    {
+        let doings = &self.floor.doings;
+        UnderWay {
+            sending: doings.iter().filter(|doing| is_sending(*doing)).count(),
+            receiving: doings.iter().filter(|doing| is_receiving(*doing)).count(),
+            closers: doings.iter().filter(|doing| doing.has_closed).count(),
+        }
+    }
+}
