@@ -1,8 +1,9 @@
-//! A list of messages that can be closed, and what calls of a channel answer by it.
+//! A list of messages that can be closed, with the handles that are counted of it, and what calls of a channel answer by it.
 
-use crate::beside::kind::Kind;
+use crate::beside::kind::{How, Kind};
 use crate::said::Said;
 use channel_calls::mark::Mark;
+use channel_calls::stage::{Line, Side};
 
 /// What a step of a call did to the list, with the call's message, and which call it was.
 #[derive(Clone, Copy)]
@@ -21,9 +22,15 @@ pub(crate) enum Later {
     Append,
     /// It takes one more message, if there is one.
     Take,
+    /// It takes one more message, or finds the list closed and empty.
+    Await,
+    /// It closes.
+    Close,
+    /// It counts one handle more, if one is counted.
+    Raise(Side),
 }
 
-/// How many messages a list of these tests has room for.
+/// How many messages a list of these tests has room for; a bound that is greater is none.
 const ROOM: usize = 8;
 
 /// A list of messages, oldest first, with a bound or without one.
@@ -33,16 +40,29 @@ pub(crate) struct Plain {
     count: usize,
     closed: bool,
     bound: usize,
+    /// How many senders and receivers are counted.
+    handles: [usize; 2],
+    /// Whether a step did what no call may do.
+    broken: bool,
+}
+
+fn place(side: Side) -> usize {
+    match side {
+        Side::Senders => 0,
+        Side::Receivers => 1,
+    }
 }
 
 impl Plain {
-    /// An open and empty list with this bound.
-    pub(crate) fn new(bound: usize) -> Plain {
+    /// An open and empty list with this bound, and so many senders and receivers.
+    pub(crate) fn new(bound: usize, handles: [usize; 2]) -> Plain {
         Plain {
             messages: [0; ROOM],
             count: 0,
             closed: false,
             bound,
+            handles,
+            broken: false,
         }
     }
 
@@ -75,6 +95,27 @@ impl Plain {
         self.count >= self.bound
     }
 
+    /// How many handles of this kind are counted.
+    fn counted(&self, side: Side) -> usize {
+        self.handles[place(side)]
+    }
+
+    /// One handle more of this kind is counted, or one less. There has to be one.
+    fn counts(&mut self, side: Side, more: bool) {
+        let count = self.counted(side);
+        self.broken = self.broken || count == 0;
+        self.handles[place(side)] = if more {
+            count.saturating_add(1)
+        } else {
+            count.saturating_sub(1)
+        };
+    }
+
+    /// Whether it is closed, where the last handle of a kind is gone.
+    pub(crate) fn is_sound(&self) -> bool {
+        self.closed || (self.handles[0] > 0 && self.handles[1] > 0)
+    }
+
     /// Does what a step did, and answers the message that it took, or 0.
     pub(crate) fn do_event(&mut self, event: &Event) -> u64 {
         let mut taken = 0;
@@ -86,7 +127,11 @@ impl Plain {
                 self.append(event.message);
             }
             Mark::Close => self.close(),
-            _ => {}
+            Mark::SenderUp => self.counts(Side::Senders, true),
+            Mark::SenderDown => self.counts(Side::Senders, false),
+            Mark::ReceiverUp => self.counts(Side::Receivers, true),
+            Mark::ReceiverDown => self.counts(Side::Receivers, false),
+            Mark::Nothing => {}
         }
         taken
     }
@@ -114,6 +159,28 @@ impl Plain {
         }
     }
 
+    /// What an operation of this list says, at one moment; this where it has to wait.
+    fn tries(&mut self, line: Line, message: u64, waits: Said) -> Said {
+        match line {
+            Line::Sends => self.send(message, waits),
+            Line::Receives | Line::Streams => self.receive(waits),
+            Line::Closings if self.closed => Said::Ended,
+            Line::Closings => waits,
+        }
+    }
+
+    /// What it says as it is polled so. One that is refused another listener may have needed none.
+    fn polled(&mut self, line: Line, how: How, message: u64, found: Said) -> Said {
+        match how {
+            How::Leaves if line == Line::Sends => Said::GivenUp(Some(message)),
+            How::Leaves => Said::GivenUp(None),
+            How::Unwoken => Said::Refused,
+            How::Unlisted => self.tries(line, message, Said::Refused),
+            How::Delisted if found == Said::Refused => self.tries(line, message, Said::Refused),
+            _ => self.tries(line, message, Said::Pending),
+        }
+    }
+
     /// What a displacing send says, at its first moment; its message may come at a later one.
     fn make_room(&mut self, message: u64) -> (Said, Later) {
         if self.closed {
@@ -125,27 +192,66 @@ impl Plain {
         }
     }
 
-    /// What a receive of two messages says, at its first moment; it may take the second one at a later moment.
-    fn receive_first(&mut self) -> (Said, Later) {
-        let said = self.receive(Said::Empty);
+    /// What a call that takes two messages says, at its first moment; this where the list is open and empty. It takes the second one at a
+    /// later moment.
+    fn receive_first(&mut self, empty: Said, later: Later) -> (Said, Later) {
+        let said = self.receive(empty);
         match said {
-            Said::Received(_) => (said, Later::Take),
+            Said::Received(_) => (said, later),
             _ => (said, Later::Nothing),
         }
+    }
+
+    /// What a walk says over the messages that are there.
+    fn walk_there(&mut self) -> (Said, Later) {
+        match self.receive_first(Said::Empty, Later::Take) {
+            (Said::Closed(_), _) => (Said::Empty, Later::Nothing),
+            other => other,
+        }
+    }
+
+    /// What a drop of this kind of handle says, at its first moment. The last one closes at a later moment.
+    fn lower(&mut self, side: Side) -> (Said, Later) {
+        self.counts(side, false);
+        if self.counted(side) == 0 {
+            (Said::Dropped, Later::Close)
+        } else {
+            (Said::Dropped, Later::Nothing)
+        }
+    }
+
+    /// What an upgrade says, at its first moment. It counts at a later one.
+    fn upgrade(&self, side: Side) -> (Said, Later) {
+        if self.closed {
+            (Said::Made(false), Later::Nothing)
+        } else {
+            (Said::Missing, Later::Raise(side))
+        }
+    }
+
+    /// Counts one handle more, if one is counted, and says whether it did.
+    fn raise(&mut self, side: Side) -> Said {
+        let is_there = self.counted(side) > 0;
+        if is_there {
+            self.counts(side, true);
+        }
+        Said::Made(is_there)
     }
 
     /// Does what a call still does, and answers what it then says.
     pub(crate) fn end(&mut self, said: Said, later: Later, message: u64) -> Said {
         match (later, said) {
-            (Later::Append, _) => {
-                self.append(message);
-                said
+            (Later::Append, _) => self.append(message),
+            (Later::Close, _) => self.close(),
+            (Later::Raise(side), _) => return self.raise(side),
+            (Later::Take, Said::Received(first)) | (Later::Await, Said::Received(first))
+                if self.count > 0 => {
+                return Said::Several(first, self.take());
             }
-            (Later::Take, Said::Received(first)) if self.count > 0 => {
-                Said::Several(first, self.take())
-            }
-            _ => said,
+            (Later::Await, _) if !self.closed => return Said::Missing,
+            _ => {}
         }
+        said
     }
 
     /// What a closing says.
@@ -155,30 +261,41 @@ impl Plain {
         said
     }
 
-    /// What a call says at one moment, and what it still does later.
-    pub(crate) fn answer(&mut self, kind: Kind, message: u64) -> (Said, Later) {
+    /// What a call says at one moment, and what it still does later; found was this.
+    pub(crate) fn answer(&mut self, kind: Kind, message: u64, found: Said) -> (Said, Later) {
         let said = match kind {
             Kind::ForceSend => return self.make_room(message),
-            Kind::RecvMany => return self.receive_first(),
-            Kind::TrySend => self.send(message, Said::Full(message)),
-            Kind::PollSend | Kind::SendAgain => self.send(message, Said::Pending),
-            Kind::SendBlocking => self.send(message, Said::Missing),
-            Kind::TryRecv => self.receive(Said::Empty),
-            Kind::PollRecv | Kind::RecvAgain | Kind::PollNext | Kind::NextAgain => {
-                self.receive(Said::Pending)
+            Kind::RecvMany | Kind::RecvManyInto => {
+                return self.receive_first(Said::Empty, Later::Take);
             }
-            Kind::RecvBlocking => self.receive(Said::Missing),
+            Kind::Walk(_) => return self.receive_first(Said::Missing, Later::Await),
+            Kind::WalkThere => return self.walk_there(),
+            Kind::DropHandle(side) => return self.lower(side),
+            Kind::DropStream => return self.lower(Side::Receivers),
+            Kind::Upgrade(side) => return self.upgrade(side),
+            Kind::CloneHandle(side) => self.raise(side),
+            Kind::TrySend => self.send(message, Said::Full(message)),
+            Kind::TryRecv => self.receive(Said::Empty),
+            Kind::Poll(line, how) => self.polled(line, how, message, found),
+            Kind::Blocks(line, true) => self.tries(line, message, Said::Refused),
+            Kind::Blocks(line, false) => self.tries(line, message, Said::Missing),
             Kind::Close => self.closing(),
-            Kind::PollClosed if self.closed => Said::Ended,
-            Kind::PollClosed => Said::Pending,
-            Kind::SendLeaves => Said::GivenUp(Some(message)),
-            Kind::RecvLeaves => Said::GivenUp(None),
-            Kind::IsClosed => Said::Flag(self.closed),
+            _ => self.question(kind),
+        };
+        (said, Later::Nothing)
+    }
+
+    /// What a question says.
+    fn question(&self, kind: Kind) -> Said {
+        match kind {
             Kind::IsEmpty => Said::Flag(self.count == 0),
             Kind::IsFull => Said::Flag(self.is_full()),
             Kind::IsTerminated => Said::Flag(self.closed && self.count == 0),
             Kind::Len => Said::Count(self.count),
-        };
-        (said, Later::Nothing)
+            Kind::HandleCount(side) => Said::Count(self.counted(side)),
+            Kind::Capacity if self.bound > ROOM => Said::Cap(None),
+            Kind::Capacity => Said::Cap(Some(self.bound)),
+            _ => Said::Flag(self.closed),
+        }
     }
 }
