@@ -142,7 +142,7 @@ fn is_owed(line: Line, bound: usize, alloc: Global, cells: &mut Scarce) -> bool
     if cells.channel.waiting(line) == 0 {
         return false;
     }
-    if is_closed(cells) {
+    if is_closed(&mut cells.channel) {
         return true;
     }
     let (held, _) = alone(Called::new(Kind::Len, 0, 0, alloc), cells);

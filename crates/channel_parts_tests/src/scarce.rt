@@ -1,14 +1,12 @@
 //! Cells of a channel with one owner that may refuse a listener, and note whom their steps wake.
 
 ghost use Rattle.std.specs.Prelude.{◌≡◌};
-ghost use Rattle.concurrent_queue.specs.Replies.{Follows};
 ghost use Rattle.channel_calls.specs.Plain.{form_of, parts_of};
 
 use crate::woken::Woken;
 use channel_calls::cells::ChannelCells;
 use channel_calls::plain::PlainChannel;
 use channel_calls::stage::{Line, Side};
-use channel_calls::words::ChannelWords;
 use concurrent_queue::call::QueueReply;
 use concurrent_queue::queue_call::QueueCall;
 use event_listener::error::ListenError;
@@ -97,17 +95,5 @@ impl ChannelCells<u64, u32> for Scarce {
 
     fn raise(&mut self, side: Side, from: usize) -> bool {
         self.channel.raise(side, from)
-    }
-}
-
-impl ChannelWords<u64, u32> for Scarce {
-    ghost has_form = { λ c f. f ≡ form_of c.channel };
-
-    fn step_words(&mut self, call: &mut QueueCall<u64>) -> Option<QueueReply<u64>> {
-        self.channel.step_words(call)
-    }
-
-    fn count(&mut self, side: Side) -> usize {
-        ChannelWords::count(&mut self.channel, side)
     }
 }

@@ -41,17 +41,18 @@ struct Case {
     steps: u32,
 }
 
-/// What no list explains: the calls, which one it is, the operation and the steps of the case, what they said, and whether nobody was
-/// left asleep and each list has those who wait there.
-type Wrong = ([Kind; 3], [u32; 3], [Said; 3], [bool; 2]);
+/// What no list explains: the calls, how many handles of each kind there were, which one of those who wait the call was, the operation and
+/// the steps of the case, what they said, and whether nobody was left asleep and each list has those who wait there.
+type Wrong = ([Kind; 3], usize, [u32; 3], [Said; 3], [bool; 2]);
 
 impl Case {
     /// That this came of it is explained by no list.
-    fn wrong(self, outcome: &Outcome) -> Wrong {
+    fn wrong(self, handles: usize, outcome: &Outcome) -> Wrong {
         let [first, second] = outcome.others;
         let waits = [!outcome.is_lost, outcome.is_counted];
         (
             [self.kind, self.first, self.second],
+            handles,
             [self.who, self.turn, self.steps],
             [outcome.said, first, second],
             waits,
@@ -238,7 +239,7 @@ fn wrong_at<R: Wait>(
         let (plain, message) = (begun.plain, case.callers(&begun, alloc)[0].message);
         let outcome = make(rt, alloc, start, begun, case);
         if !outcome.is_explained(case.kind, message, plain) {
-            return Ok((Some(case.wrong(&outcome)), true));
+            return Ok((Some(case.wrong(start.handles, &outcome)), true));
         }
         if !outcome.came {
             return Ok((None, false));

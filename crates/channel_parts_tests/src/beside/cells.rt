@@ -163,12 +163,12 @@ impl<'a, R: Wait> ChannelWords<u64, u32> for Beside<'a, R> {
 
     fn step_words(&mut self, call: &mut QueueCall<u64>) -> Option<QueueReply<u64>> {
         self.before();
-        self.cells.step_words(call)
+        self.cells.channel.step_words(call)
     }
 
     fn count(&mut self, side: Side) -> usize {
         self.before();
-        ChannelWords::count(&mut self.cells, side)
+        ChannelWords::count(&mut self.cells.channel, side)
     }
 }
 

@@ -25,7 +25,7 @@ pub(crate) enum How {
 }
 
 /// What is called. Of what isn't refused for want of anything the flag is false.
-#[derive(Clone, Copy, PartialEq, Eq, Debug)]
+#[derive(Clone, Copy, Debug)]
 pub(crate) enum Kind {
     TrySend,
     ForceSend,
