@@ -40,28 +40,22 @@ pub(crate) struct Plain {
     count: usize,
     closed: bool,
     bound: usize,
-    /// How many senders and receivers are counted.
-    handles: [usize; 2],
+    senders: usize,
+    receivers: usize,
     /// Whether a step did what no call may do.
     broken: bool,
 }
 
-fn place(side: Side) -> usize {
-    match side {
-        Side::Senders => 0,
-        Side::Receivers => 1,
-    }
-}
-
 impl Plain {
     /// An open and empty list with this bound, and so many senders and receivers.
-    pub(crate) fn new(bound: usize, handles: [usize; 2]) -> Plain {
+    pub(crate) fn new(bound: usize, senders: usize, receivers: usize) -> Plain {
         Plain {
             messages: [0; ROOM],
             count: 0,
             closed: false,
             bound,
-            handles,
+            senders,
+            receivers,
             broken: false,
         }
     }
@@ -97,23 +91,36 @@ impl Plain {
 
     /// How many handles of this kind are counted.
     fn counted(&self, side: Side) -> usize {
-        self.handles[place(side)]
+        match side {
+            Side::Senders => self.senders,
+            Side::Receivers => self.receivers,
+        }
     }
 
-    /// One handle more of this kind is counted, or one less. There has to be one.
-    fn counts(&mut self, side: Side, more: bool) {
+    /// So many handles of this kind are counted, where one was at least.
+    fn count_so(&mut self, side: Side, count: usize) {
+        self.broken = self.broken || self.counted(side) == 0;
+        match side {
+            Side::Senders => self.senders = count,
+            Side::Receivers => self.receivers = count,
+        }
+    }
+
+    /// One handle more of this kind is counted.
+    fn count_up(&mut self, side: Side) {
         let count = self.counted(side);
-        self.broken = self.broken || count == 0;
-        self.handles[place(side)] = if more {
-            count.saturating_add(1)
-        } else {
-            count.saturating_sub(1)
-        };
+        self.count_so(side, count.saturating_add(1));
+    }
+
+    /// One handle less of this kind is counted.
+    fn count_down(&mut self, side: Side) {
+        let count = self.counted(side);
+        self.count_so(side, count.saturating_sub(1));
     }
 
     /// Whether it is closed, where the last handle of a kind is gone.
     pub(crate) fn is_sound(&self) -> bool {
-        self.closed || (self.handles[0] > 0 && self.handles[1] > 0)
+        self.closed || (self.senders > 0 && self.receivers > 0)
     }
 
     /// Does what a step did, and answers the message that it took, or 0.
@@ -127,10 +134,10 @@ impl Plain {
                 self.append(event.message);
             }
             Mark::Close => self.close(),
-            Mark::SenderUp => self.counts(Side::Senders, true),
-            Mark::SenderDown => self.counts(Side::Senders, false),
-            Mark::ReceiverUp => self.counts(Side::Receivers, true),
-            Mark::ReceiverDown => self.counts(Side::Receivers, false),
+            Mark::SenderUp => self.count_up(Side::Senders),
+            Mark::SenderDown => self.count_down(Side::Senders),
+            Mark::ReceiverUp => self.count_up(Side::Receivers),
+            Mark::ReceiverDown => self.count_down(Side::Receivers),
             Mark::Nothing => {}
         }
         taken
@@ -212,7 +219,7 @@ impl Plain {
 
     /// What a drop of this kind of handle says, at its first moment. The last one closes at a later moment.
     fn lower(&mut self, side: Side) -> (Said, Later) {
-        self.counts(side, false);
+        self.count_down(side);
         if self.counted(side) == 0 {
             (Said::Dropped, Later::Close)
         } else {
@@ -233,7 +240,7 @@ impl Plain {
     fn raise(&mut self, side: Side) -> Said {
         let is_there = self.counted(side) > 0;
         if is_there {
-            self.counts(side, true);
+            self.count_up(side);
         }
         Said::Made(is_there)
     }

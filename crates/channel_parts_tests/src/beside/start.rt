@@ -71,7 +71,7 @@ impl Start {
         };
         let mut begun = Begun {
             cells: Scarce::new(channel, self.want()),
-            plain: Plain::new(self.bound, [self.handles; 2]),
+            plain: Plain::new(self.bound, self.handles, self.handles),
             waiting: [0; 4],
             keys: [[None; 2]; 4],
         };
@@ -132,7 +132,7 @@ impl Begun {
 pub(crate) fn left_in(alloc: Global, cells: &mut Scarce, bound: usize) -> Plain {
     let senders = ChannelCells::count(cells, Side::Senders);
     let receivers = ChannelCells::count(cells, Side::Receivers);
-    let mut plain = Plain::new(bound, [senders, receivers]);
+    let mut plain = Plain::new(bound, senders, receivers);
     let (closed, _) = alone(Called::new(Kind::Close, 0, 0, alloc), cells);
     for _ in 0..8 {
         match alone(Called::new(Kind::TryRecv, 0, 0, alloc), cells).0 {
