@@ -99,11 +99,15 @@ impl Case {
         if !kind.is_again() {
             return Called::new(kind, message, task_of(line, fresh), alloc);
         }
-        let (place, at) = (place_of(line), who as usize);
+        let place = place_of(line);
         let message = WAITING.saturating_add(who as u64);
         let mut called = Called::new(kind, message, task_of(line, who), alloc);
-        if place < 4 && at < 2 {
-            called.key = begun.keys[place][at];
+        if place < 4 {
+            called.key = if who == 0 {
+                begun.firsts[place]
+            } else {
+                begun.seconds[place]
+            };
         }
         called
     }

@@ -245,20 +245,31 @@ impl Plain {
         Said::Made(is_there)
     }
 
+    /// What a call of several says that has taken a first message, and takes a second one where there is one.
+    fn take_second(&mut self, said: Said) -> Said {
+        match said {
+            Said::Received(first) if self.count > 0 => Said::Several(first, self.take()),
+            said => said,
+        }
+    }
+
     /// Does what a call still does, and answers what it then says.
     pub(crate) fn end(&mut self, said: Said, later: Later, message: u64) -> Said {
-        match (later, said) {
-            (Later::Append, _) => self.append(message),
-            (Later::Close, _) => self.close(),
-            (Later::Raise(side), _) => return self.raise(side),
-            (Later::Take, Said::Received(first)) | (Later::Await, Said::Received(first))
-                if self.count > 0 => {
-                return Said::Several(first, self.take());
+        match later {
+            Later::Nothing => said,
+            Later::Append => {
+                self.append(message);
+                said
             }
-            (Later::Await, _) if !self.closed => return Said::Missing,
-            _ => {}
+            Later::Take => self.take_second(said),
+            Later::Await if self.count == 0 && !self.closed => Said::Missing,
+            Later::Await => self.take_second(said),
+            Later::Close => {
+                self.close();
+                said
+            }
+            Later::Raise(side) => self.raise(side),
         }
-        said
     }
 
     /// What a closing says.
@@ -284,8 +295,14 @@ impl Plain {
             Kind::TrySend => self.send(message, Said::Full(message)),
             Kind::TryRecv => self.receive(Said::Empty),
             Kind::Poll(line, how) => self.polled(line, how, message, found),
-            Kind::Blocks(line, true) => self.tries(line, message, Said::Refused),
-            Kind::Blocks(line, false) => self.tries(line, message, Said::Missing),
+            Kind::Blocks(line, refused) => {
+                let waits = if refused {
+                    Said::Refused
+                } else {
+                    Said::Missing
+                };
+                self.tries(line, message, waits)
+            }
             Kind::Close => self.closing(),
             _ => self.question(kind),
         };

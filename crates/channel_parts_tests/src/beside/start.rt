@@ -35,7 +35,8 @@ pub(crate) struct Begun {
     pub(crate) cells: Scarce,
     pub(crate) plain: Plain,
     pub(crate) waiting: [usize; 4],
-    pub(crate) keys: [[Option<Key>; 2]; 4],
+    pub(crate) firsts: [Option<Key>; 4],
+    pub(crate) seconds: [Option<Key>; 4],
 }
 
 /// The message of the first send that waits; the second one has the next.
@@ -73,7 +74,8 @@ impl Start {
             cells: Scarce::new(channel, self.want()),
             plain: Plain::new(self.bound, self.handles, self.handles),
             waiting: [0; 4],
-            keys: [[None; 2]; 4],
+            firsts: [None; 4],
+            seconds: [None; 4],
         };
         self.fill(alloc, &mut begun);
         if self.waited {
@@ -120,10 +122,14 @@ impl Begun {
         let message = WAITING.saturating_add(who as u64);
         let called = Called::new(kind, message, task_of(line, who), alloc);
         let (said, key) = alone(called, &mut self.cells);
-        let (place, who) = (place_of(line), who as usize);
-        if said == Said::Pending && place < 4 && who < 2 {
+        let place = place_of(line);
+        if said == Said::Pending && place < 4 {
             self.waiting[place] = self.waiting[place].saturating_add(1);
-            self.keys[place][who] = key;
+            if who == 0 {
+                self.firsts[place] = key;
+            } else {
+                self.seconds[place] = key;
+            }
         }
     }
 }
