@@ -10,93 +10,100 @@ ghost use Rattle.channel_calls.specs.Plain.{form_of};
 mod cases;
 mod cells;
 mod kind;
+mod made;
 mod outcome;
+mod pairs;
 mod plain;
 mod start;
-mod woken;
 
+use crate::beside::kind::{Called, Kind};
 use crate::beside::plain::Event;
-use crate::beside::woken::Woken;
 use crate::said::{Said, answer_of};
-use channel_calls::ask::ChannelAsk;
+use crate::scarce::Scarce;
+use crate::woken::Woken;
 use channel_calls::call::ChannelCall;
 use channel_calls::mark::Mark;
-use channel_calls::plain::PlainChannel;
 use channel_calls::questions::is_closed;
 use channel_calls::stage::Line;
 use event_listener::key::Key;
+use std::alloc::Global;
+use std::mem;
 
 /// More steps than a call alone has.
 const ALL: u32 = 64;
 
-/// A call that is made step by step between the operations of another one.
+/// A call that is made step by step between the operations of another one; or two of them, one after the other.
 #[derive(Drop)]
 struct Other {
+    called: Called,
     call: ChannelCall<u64, u32>,
-    message: u64,
+    is_second: bool,
+    /// The messages that it handed out, in their order, as digits.
+    took: u64,
     said: Option<Said>,
 }
 
 impl Other {
-    /// The call that asks this, with this message.
-    fn new(ask: ChannelAsk<u64, u32>, message: u64) -> Other {
+    /// This call.
+    fn new(called: Called) -> Other {
         Other {
-            call: ChannelCall::new(ask),
-            message,
+            called,
+            call: ChannelCall::new(called.ask()),
+            is_second: false,
+            took: 0,
             said: None,
         }
     }
 
-    /// Makes a step, unless the call has answered, and notes what it did.
-    fn go(
-        &mut self,
-        by: usize,
-        cells: &mut PlainChannel<u64, u32>,
-        woken: &mut Woken,
-        events: &mut Events,
-    )
-        ensures { form_of cells.new ≡ form_of cells.old }
+    /// Makes a step, and notes what it did.
+    fn go(&mut self, by: usize, cells: &mut Scarce, events: &mut Events)
+        ensures { form_of cells.new.channel ≡ form_of cells.old.channel }
     {
-        if self.said.is_some() {
-            return;
+        let refused = mem::replace(&mut cells.refused, self.called.kind.is_refused() as u32);
+        let reply = self.call.step(cells, &mut Woken::new());
+        cells.refused = refused;
+        events.note(self.call.last_mark(), self.called.message, by);
+        if let Some(reply) = reply {
+            self.answers(answer_of(reply));
         }
-        if let Some(reply) = self.call.step(cells, woken) {
-            self.said = Some(answer_of(reply));
-        }
-        events.note(self.call.last_mark(), self.message, by);
     }
 
-    /// Makes up to so many steps.
-    fn go_on(
-        &mut self,
-        by: usize,
-        steps: u32,
-        cells: &mut PlainChannel<u64, u32>,
-        woken: &mut Woken,
-        events: &mut Events,
-    )
-        ensures { form_of cells.new ≡ form_of cells.old }
+    /// A call of it says this.
+    fn answers(&mut self, said: Said) {
+        self.took = said.after(self.took);
+        if !self.is_second && self.called.kind.goes_on(said) {
+            self.is_second = true;
+            drop(mem::replace(&mut self.call, ChannelCall::new(self.called.ask())));
+        } else {
+            self.said = Some(said);
+        }
+    }
+
+    /// Makes up to so many steps, until the call has answered.
+    fn go_on(&mut self, by: usize, steps: u32, cells: &mut Scarce, events: &mut Events)
+        ensures { form_of cells.new.channel ≡ form_of cells.old.channel }
     {
         'steps: for _ in 0..steps {
-            self.go(by, cells, woken, events);
+            if self.said.is_some() {
+                break 'steps;
+            }
+            self.go(by, cells, events);
         }
     }
 }
 
 /// What a call says that is made alone, and the listener that it leaves to its operation.
-fn alone(
-    ask: ChannelAsk<u64, u32>,
-    cells: &mut PlainChannel<u64, u32>,
-    woken: &mut Woken,
-) -> (Said, Option<Key>)
-    ensures { form_of cells.new ≡ form_of cells.old }
+fn alone(called: Called, cells: &mut Scarce) -> (Said, Option<Key>)
+    ensures { form_of cells.new.channel ≡ form_of cells.old.channel }
 {
     let mut events = Events::new();
-    let mut other = Other::new(ask, 0);
-    other.go_on(0, ALL, cells, woken, &mut events);
+    let mut other = Other::new(called);
+    other.go_on(0, ALL, cells, &mut events);
     let Other {
+        called: _,
         call,
-        message: _,
+        is_second: _,
+        took: _,
         said,
     } = other;
     (said.unwrap_or(Said::GoesOn), call.into_kept().key)
@@ -105,14 +112,14 @@ fn alone(
 /// What steps of others did to the list, in their order.
 #[derive(Clone, Copy)]
 struct Events {
-    events: [Option<Event>; 6],
+    events: [Option<Event>; 8],
     count: usize,
 }
 
 impl Events {
     fn new() -> Events {
         Events {
-            events: [None; 6],
+            events: [None; 8],
             count: 0,
         }
     }
@@ -129,22 +136,22 @@ impl Events {
 }
 
 /// Whether somebody sleeps on this list beside what nobody who was woken answers for: a message, a free place or the closing.
-fn is_owed(line: Line, bound: usize, cells: &mut PlainChannel<u64, u32>, woken: &Woken) -> bool
-    ensures { form_of cells.new ≡ form_of cells.old }
+fn is_owed(line: Line, bound: usize, alloc: Global, cells: &mut Scarce) -> bool
+    ensures { form_of cells.new.channel ≡ form_of cells.old.channel }
 {
-    if cells.waiting(line) == 0 {
+    if cells.channel.waiting(line) == 0 {
         return false;
     }
-    if is_closed(cells) {
+    if is_closed(&mut cells.channel) {
         return true;
     }
-    let (held, _) = alone(ChannelAsk::Len, cells, &mut Woken::new());
+    let (held, _) = alone(Called::new(Kind::Len, 0, 0, alloc), cells);
     let Said::Count(held) = held else {
         return true;
     };
     match line {
-        Line::Sends => woken.count(line) < bound.saturating_sub(held),
-        Line::Receives => woken.count(line) < held,
+        Line::Sends => cells.woken.count(line) < bound.saturating_sub(held),
+        Line::Receives => cells.woken.count(line) < held,
         Line::Streams => held > 0,
         Line::Closings => false,
     }

@@ -15,4 +15,8 @@ pub mod owned_cells;
 #[cfg(test)]
 mod said;
 #[cfg(test)]
+mod scarce;
+#[cfg(test)]
 mod steps;
+#[cfg(test)]
+mod woken;

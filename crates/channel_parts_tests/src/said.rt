@@ -30,7 +30,7 @@ pub(crate) enum Said {
     Ended,
     /// The operation was given up, and handed this back.
     GivenUp(Option<u64>),
-    /// Memory was refused.
+    /// Memory or a serial was refused.
     Refused,
     /// Whether a closing closed, or what a question answered.
     Flag(bool),
@@ -44,6 +44,22 @@ pub(crate) enum Said {
     Dropped,
     /// Something else.
     Else,
+}
+
+impl Said {
+    /// The messages that were handed out before, as the digits of a number, and then by this.
+    pub(crate) fn after(self, before: u64) -> u64 {
+        match self {
+            Said::Received(message) | Said::Sent(Some(message)) => with(before, message),
+            Said::Several(first, second) => with(with(before, first), second),
+            _ => before,
+        }
+    }
+}
+
+/// One more digit; messages of these tests are less than 10.
+pub(crate) fn with(digits: u64, message: u64) -> u64 {
+    digits.wrapping_mul(10).wrapping_add(message)
 }
 
 fn sent(reply: Result<(), Refused<TrySendError<u64>, u64>>) -> Said {
@@ -93,12 +109,15 @@ pub(crate) fn answer_of(reply: Reply<u64>) -> Said {
         Reply::SendPoll(Poll::Ready(Err(Refused::Plain(refused)))) => {
             Said::Closed(Some(refused.0))
         }
+        Reply::SendPoll(Poll::Ready(Err(_))) => Said::Refused,
         Reply::RecvPoll(Poll::Ready(Ok(message))) => Said::Received(message),
         Reply::RecvPoll(Poll::Ready(Err(Refused::Plain(_)))) => Said::Closed(None),
-        Reply::RecvPoll(Poll::Ready(Err(Refused::NoMemory(())))) => Said::Refused,
+        Reply::RecvPoll(Poll::Ready(Err(_))) => Said::Refused,
         Reply::Next(Poll::Ready(Some(Ok(message)))) => Said::Received(message),
+        Reply::Next(Poll::Ready(Some(Err(_)))) => Said::Refused,
         Reply::Next(Poll::Ready(None)) => Said::Closed(None),
         Reply::ClosedPoll(Poll::Ready(Ok(()))) => Said::Ended,
+        Reply::ClosedPoll(Poll::Ready(Err(_))) => Said::Refused,
         Reply::SendPoll(Poll::Pending)
         | Reply::RecvPoll(Poll::Pending)
         | Reply::Next(Poll::Pending)

@@ -1,81 +1,20 @@
 //! Calls made step by step: over cells that refuse a listener, and what each entry says of its step. Rows of many parties' steps
 //! are in `channel_interleaving_tests`, by names.
 
-ghost use Rattle.channel_calls.specs.Plain.{parts_of};
-
 use crate::checks::{expect_equal, expect_true};
 use crate::names::Names;
 use crate::said::{Said, answer_of};
+use crate::scarce::Scarce;
 use channel_calls::ask::{ChannelAsk, lent};
 use channel_calls::cells::ChannelCells;
 use channel_calls::mark::Mark;
-use channel_calls::plain::PlainChannel;
-use channel_calls::stage::{Line, Side};
 use channel_steps::party::{Entry, Party, begin, step_at};
 use channel_steps::start::{Opened, is_quiet, open_channel};
-use concurrent_queue::call::QueueReply;
 use concurrent_queue::cells::QueueForm;
-use concurrent_queue::queue_call::QueueCall;
 use event_listener::error::ListenError;
 use event_listener::key::Key;
-use event_listener::wakes::Wakes;
 use std::alloc::{AllocError, Global};
 use std::test::Fail;
-
-/// A channel whose lists have no room for a listener.
-#[derive(Drop)]
-struct Cramped {
-    channel: PlainChannel<u64, u32>,
-}
-
-impl ChannelCells<u64, u32> for Cramped {
-    ghost known = { ⊥ };
-
-    ghost parts = { λ c. parts_of c.channel };
-
-    ghost exact = { λ unknown. absurd unknown };
-
-    fn step_queue(&mut self, call: &mut QueueCall<u64>) -> Option<QueueReply<u64>> {
-        self.channel.step_queue(call)
-    }
-
-    fn insert(&mut self, line: Line) -> Result<Key, ListenError> {
-        let _ = line;
-        Err(ListenError::NoMemory)
-    }
-
-    fn register(&mut self, line: Line, key: Key, task: u32) -> Option<u32> {
-        self.channel.register(line, key, task)
-    }
-
-    fn remove<S: Wakes<u32>>(&mut self, line: Line, key: Key, sink: &mut S) {
-        self.channel.remove(line, key, sink)
-    }
-
-    fn tell_one<S: Wakes<u32>>(&mut self, line: Line, sink: &mut S) {
-        self.channel.tell_one(line, sink)
-    }
-
-    fn tell_more<S: Wakes<u32>>(&mut self, line: Line, count: usize, sink: &mut S) {
-        self.channel.tell_more(line, count, sink)
-    }
-
-    fn tell_all<S: Wakes<u32>>(&mut self, line: Line, sink: &mut S) {
-        self.channel.tell_all(line, sink)
-    }
-
-    fn count(&mut self, side: Side) -> usize {
-        self.channel.count(side)
-    }
-
-    fn lower(&mut self, side: Side) -> usize {
-        self.channel.lower(side)
-    }
-
-    fn raise(&mut self, side: Side, from: usize) -> bool {
-        self.channel.raise(side, from)
-    }
-}
 
 /// Cells with the parties at work on them, and those who were woken.
 #[derive(Drop)]
@@ -147,13 +86,13 @@ fn in_short(entry: Option<Entry<u64>>) -> (Said, Option<Key>) {
 
 #[test]
 fn a_poll_that_may_not_listen_is_not_pending(rt: HostRuntime) -> Result<(), Fail> {
-    let cells = Cramped {
-        channel: one_slot(rt.alloc())?.cells,
-    };
+    let channel = one_slot(rt.alloc())?.cells;
+    let mut cells = Scarce::new(channel, ListenError::NoMemory);
+    cells.refused = 1;
     let mut all = make_fixture(cells, rt.alloc());
     let (refused, key) = all.call(ChannelAsk::PollRecv(lent(None), 7), 2);
     let sent = all.call(ChannelAsk::TrySend(5), 5).0;
-    let woken = all.names.woken.len();
+    let woken = all.cells.woken.is_woken(7);
     let received = all.call(ChannelAsk::TryRecv, 4).0;
     drop(all);
     expect_equal(
@@ -162,7 +101,7 @@ fn a_poll_that_may_not_listen_is_not_pending(rt: HostRuntime) -> Result<(), Fail
         &[Said::Refused, Said::Sent(None), Said::Received(5)],
     );
     expect_true(&rt, key.is_none());
-    expect_equal(&rt, &woken, &0);
+    expect_equal(&rt, &woken, &false);
     Ok(())
 }
 

@@ -8,10 +8,10 @@ mod plain;
 
 use crate::beside::plain::{Event, Kind};
 use crate::said::{Said, replied};
+use crate::scarce::Scarce;
 use concurrent_queue::call::QueueMark;
 use concurrent_queue::cells::{Cells, QueueForm, Slot, Word};
 use concurrent_queue::error::NoMemory;
-use concurrent_queue::plain::PlainCells;
 use concurrent_queue::queue_call::QueueCall;
 
 /// So many operations after the others came between, they go on, one step before each operation: a call may wait for them.
@@ -30,6 +30,7 @@ const ALL: u32 = 64;
 #[derive(Drop)]
 struct Other {
     call: QueueCall<u64>,
+    is_refused: bool,
     message: u64,
     steps: u32,
     said: Option<Said>,
@@ -40,14 +41,19 @@ impl Other {
     fn new(kind: Kind, message: u64, steps: u32) -> Other {
         Other {
             call: QueueCall::new(kind.ask(message)),
+            is_refused: kind.is_refused(),
             message,
             steps,
             said: None,
         }
     }
 
-    /// Makes up to so many steps, and notes what they did.
-    fn go_on(&mut self, by: usize, steps: u32, cells: &mut PlainCells<u64>, events: &mut Events) {
+    /// Makes up to so many steps, and notes what they did. Where it is to be refused, no block can be made meanwhile.
+    fn go_on(&mut self, by: usize, steps: u32, cells: &mut Scarce, events: &mut Events) {
+        let left = cells.left;
+        if self.is_refused {
+            cells.left = 0;
+        }
         for _ in 0..steps {
             if self.said.is_some() {
                 break;
@@ -57,6 +63,7 @@ impl Other {
             }
             events.note(self.call.last_mark(), self.message, by);
         }
+        cells.left = left;
     }
 }
 
@@ -90,7 +97,8 @@ impl Events {
 #[derive(Drop)]
 struct Beside {
     form: QueueForm,
-    cells: PlainCells<u64>,
+    is_refused: bool,
+    cells: Scarce,
     made: u32,
     turn: u32,
     first: Other,
@@ -138,7 +146,7 @@ impl Cells<u64> for Beside {
 
     ghost known = { ⊥ };
 
-    ghost contents = { λ c. contents_of c.cells };
+    ghost contents = { λ c. contents_of c.cells.cells };
 
     ghost form_of = { λ c. c.form };
 
@@ -208,6 +216,9 @@ impl Cells<u64> for Beside {
 
     fn spare(&mut self) -> Result<u64, NoMemory> {
         self.before();
+        if self.is_refused {
+            return Err(NoMemory);
+        }
         self.cells.spare()
     }
 

@@ -26,10 +26,10 @@ use worked_rows::{Player, Said, Words};
 /// The cells of an unbounded queue for which only so many more blocks can be made: each request for memory past them is
 /// refused. Nothing is said of what they hold, so no call over them has more than its answers proved.
 #[derive(Drop)]
-struct Scarce {
-    cells: PlainCells<u64>,
-    left: u32,
-    idle: u32,
+pub(crate) struct Scarce {
+    pub(crate) cells: PlainCells<u64>,
+    pub(crate) left: u32,
+    pub(crate) idle: u32,
 }
 
 impl Cells<u64> for Scarce {

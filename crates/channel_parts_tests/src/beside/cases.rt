@@ -1,40 +1,26 @@
 //! Each call of each form beside each other one, at each of its operations.
 
 use crate::beside::cells::Beside;
-use crate::beside::kind::{Called, Kind, said_at_once};
+use crate::beside::kind::{Called, How, Kind};
+use crate::beside::made::said_by;
 use crate::beside::outcome::Outcome;
+use crate::beside::pairs::{CHANGES, ONE_SLOT, OTHERS, RING_OF_TWO, Starts, UNBOUNDED};
 use crate::beside::start::{Begun, Start, WAITING, left_in};
-use crate::beside::woken::{LINES, Woken, place_of, task_of};
 use crate::beside::{ALL, Events, Other, is_owed};
 use crate::checks::expect_none;
 use crate::said::Said;
-use channel_calls::ask::ChannelAsk;
-use channel_calls::plain::PlainChannel;
-use channel_calls::several::Limit;
-use channel_calls::stage::Line;
+use crate::scarce::Scarce;
+use crate::woken::{LINES, place_of, task_of};
+use channel_calls::stage::{Line, Side};
 use concurrent_queue::cells::QueueForm;
-use event_listener::key::Key;
 use std::alloc::{AllocError, Global};
 use std::process::Abort;
 use std::sync::Wait;
 
-/// The calls that come between. One that leaves has the first listener of its list.
-const OTHERS: [Kind; 11] = [
-    Kind::TrySend,
-    Kind::ForceSend,
-    Kind::TryRecv,
-    Kind::RecvMany,
-    Kind::Close,
-    Kind::PollSend,
-    Kind::SendLeaves,
-    Kind::PollRecv,
-    Kind::RecvLeaves,
-    Kind::PollNext,
-    Kind::PollClosed,
-];
+/// A call that blocks its thread tries some times before it listens, each time alike. The others come at its first operations and at
+/// the last ones before that, so many each, and at each one from there on.
+const FIRST: u32 = 6;
 
-/// A call that blocks its thread tries some times before it listens, each time alike. The others come at the last so many of its
-/// operations before that, and at each one from there on.
 const BEFORE: u32 = 12;
 
 /// What stands for the bound of a channel without one: more than these tests send.
@@ -43,140 +29,163 @@ const MANY: usize = 9;
 /// More operations than a call makes.
 const NEVER: u32 = 1_000_000;
 
-/// Those of them that change what a channel holds.
-const CHANGES: [Kind; 4] = [Kind::TrySend, Kind::ForceSend, Kind::TryRecv, Kind::Close];
-
-/// What is made of a channel: the call, the others, the operation before which they come, and how many steps the first of them
-/// makes there.
+/// What is made of a channel: the call, the others, which of those who wait the call is where it was polled before, the operation before
+/// which the others come, and how many steps the first of them makes there.
 #[derive(Clone, Copy)]
 struct Case {
     kind: Kind,
     first: Kind,
     second: Kind,
+    who: u32,
     turn: u32,
     steps: u32,
 }
 
-/// What no list explains: the calls, the operation and the steps of the case, what they said, and whether nobody was left asleep and each
-/// list has those who wait there.
-type Wrong = ([&'static str; 3], [u32; 2], [Said; 3], [bool; 2]);
+/// What no list explains: the calls, how many handles of each kind there were, which one of those who wait the call was, the operation and
+/// the steps of the case, what they said, and whether nobody was left asleep and each list has those who wait there.
+type Wrong = ([Kind; 3], usize, [u32; 3], [Said; 3], [bool; 2]);
 
 impl Case {
     /// That this came of it is explained by no list.
-    fn wrong(self, outcome: &Outcome) -> Wrong {
-        let names = [self.kind.name(), self.first.name(), self.second.name()];
+    fn wrong(self, handles: usize, outcome: &Outcome) -> Wrong {
         let [first, second] = outcome.others;
         let waits = [!outcome.is_lost, outcome.is_counted];
         (
-            names,
-            [self.turn, self.steps],
+            [self.kind, self.first, self.second],
+            handles,
+            [self.who, self.turn, self.steps],
             [outcome.said, first, second],
             waits,
         )
     }
 
-    /// Whether the call and the first other one are for different listeners, and the other's is there.
-    fn is_apart(self, start: Start) -> bool {
-        match self.first.line() {
-            Some(line) if self.first.is_again() => {
-                let is_same = self.kind.is_again() && self.kind.line() == Some(line);
-                start.has_waiting(line) && !is_same
+    /// Whether the call and the first other one both have a listener on one list.
+    fn share_list(self) -> bool {
+        self.kind.is_again() && self.first.is_again() && self.kind.line() == self.first.line()
+    }
+
+    /// Whether two handles of a kind are needed: one that is dropped is dropped once, and isn't cloned at that time.
+    fn wants_two_handles(self) -> bool {
+        let mut wants_two = false;
+        for side in [Side::Senders, Side::Receivers] {
+            let (call, other) = (self.kind.needs(side), self.first.needs(side));
+            let drops = call.0 || other.0;
+            wants_two = wants_two || (call.0 && other.0) || (drops && (call.1 || other.1));
+        }
+        wants_two
+    }
+
+    /// Whether the calls can be made in this channel: they have the handles, and the listeners, that they need.
+    fn is_possible(self, start: Start) -> bool {
+        let mut is_possible = start.handles > 1 || !self.wants_two_handles();
+        for kind in [self.kind, self.first] {
+            if let Some(line) = kind.line() {
+                is_possible = is_possible && (!kind.is_again() || start.has_waiting(line));
             }
-            _ => true,
         }
+        is_possible
     }
 
-    /// What the first other one asks.
-    fn first_ask(self, keys: [Option<Key>; 4], alloc: Global) -> ChannelAsk<u64, u32> {
-        match self.first {
-            Kind::RecvMany => ChannelAsk::RecvMany(Limit::new(2, alloc)),
-            Kind::SendLeaves => ChannelAsk::GiveUp(Line::Sends, Some(WAITING), keys[0]),
-            Kind::RecvLeaves => ChannelAsk::GiveUp(Line::Receives, None, keys[1]),
-            first => first.ask(8, 3),
+    /// The one who makes a call of this kind: one of those who wait in the start, or with this message, and a task of this number.
+    fn caller(
+        kind: Kind,
+        who: u32,
+        message: u64,
+        fresh: u32,
+        begun: &Begun,
+        alloc: Global,
+    ) -> Called {
+        let line = kind.line().unwrap_or(Line::Closings);
+        if !kind.is_again() {
+            return Called::new(kind, message, task_of(line, fresh), alloc);
         }
-    }
-
-    /// The task of the listener by which the first other one leaves.
-    fn leaving(self) -> Option<u32> {
-        match self.first.line() {
-            Some(line) if self.first.is_again() => Some(task_of(line, 0)),
-            _ => None,
-        }
-    }
-
-    /// The call. One that waits in the start has its listener there.
-    fn called(self, begun: &Begun) -> Called {
-        let line = self.kind.line().unwrap_or(Line::Closings);
         let place = place_of(line);
-        if self.kind.is_again() && place < 4 {
-            return Called {
-                kind: self.kind,
-                message: WAITING,
-                key: begun.keys[place],
-                task: task_of(line, 0),
+        let message = WAITING.saturating_add(who as u64);
+        let mut called = Called::new(kind, message, task_of(line, who), alloc);
+        if place < 4 {
+            called.key = if who == 0 {
+                begun.firsts[place]
+            } else {
+                begun.seconds[place]
             };
         }
-        Called {
-            kind: self.kind,
-            message: 7,
-            key: None,
-            task: task_of(line, 2),
-        }
+        called
     }
 
-    /// How many wait on this list in the end, by what the calls said.
-    fn waiting(self, begun: [usize; 4], said: [Said; 3], line: Line) -> usize {
-        let place = place_of(line);
-        let mut waiting: usize = if place < 4 { begun[place] } else { 0 };
-        for kind in [self.kind, self.first] {
-            if kind.is_again() && kind.line() == Some(line) {
+    /// Those who call.
+    fn callers(self, begun: &Begun, alloc: Global) -> [Called; 3] {
+        let who = if self.share_list() && self.who == 0 {
+            1
+        } else {
+            0
+        };
+        [
+            Case::caller(self.kind, self.who, 7, 2, begun, alloc),
+            Case::caller(self.first, who, 8, 3, begun, alloc),
+            Case::caller(self.second, 0, 9, 4, begun, alloc),
+        ]
+    }
+}
+
+/// How many wait on this list in the end, of so many in the start, by what the calls said.
+fn wanted(callers: [Called; 3], begun: [usize; 4], said: [Said; 3], line: Line) -> usize {
+    let place = place_of(line);
+    let mut waiting: usize = if place < 4 { begun[place] } else { 0 };
+    for by in 0..3 {
+        let kind = callers[by].kind;
+        if kind.line() == Some(line) {
+            if kind.is_again() {
                 waiting = waiting.saturating_sub(1);
             }
-        }
-        for (kind, said) in [
-            (self.kind, said[0]),
-            (self.first, said[1]),
-            (self.second, said[2]),
-        ] {
-            if said == Said::Pending && kind.line() == Some(line) {
+            if said[by] == Said::Pending {
                 waiting = waiting.saturating_add(1);
             }
         }
-        waiting
     }
+    waiting
 }
 
 /// Whether somebody was left asleep beside what nobody answers for; and whether each list has so many, each woken who was told, and
 /// the longest no more than those.
 fn looked_after(
-    case: Case,
+    callers: [Called; 3],
     begun: [usize; 4],
     said: [Said; 3],
     bound: usize,
-    cells: &mut PlainChannel<u64, u32>,
-    woken: &Woken,
+    cells: &mut Scarce,
 ) -> (bool, bool) {
     let (mut is_lost, mut is_counted) = (false, true);
     let mut most: usize = 0;
+    for by in 0..3 {
+        if said[by] != Said::Pending {
+            cells.woken.clear(callers[by].task);
+        }
+    }
     for line in LINES {
-        let wanted = case.waiting(begun, said, line);
-        let found = cells.waiting(line).saturating_add(woken.count(line));
+        let wanted = wanted(callers, begun, said, line);
+        let found = cells
+            .channel
+            .waiting(line)
+            .saturating_add(cells.woken.count(line));
         is_counted = is_counted && wanted == found;
-        is_lost = is_lost || is_owed(line, bound, cells, woken);
+        is_lost = is_lost || is_owed(line, bound, callers[0].alloc, cells);
         most = most.max(wanted);
     }
-    (is_lost, is_counted && cells.most_listeners() == most)
+    (
+        is_lost,
+        is_counted && cells.channel.most_listeners() == most,
+    )
 }
 
-/// The cells on which the others come as this case says, of which the first asks this, for a call with this task.
+/// The cells on which the others come as this case says.
 fn laid<'a, R: Wait>(
     rt: &'a R,
-    cells: PlainChannel<u64, u32>,
+    mut cells: Scarce,
     bound: usize,
     case: Case,
-    first: ChannelAsk<u64, u32>,
-    task: u32,
+    callers: [Called; 3],
 ) -> Beside<'a, R> {
+    cells.refused = case.kind.is_refused() as u32;
     Beside {
         rt,
         cells,
@@ -184,13 +193,12 @@ fn laid<'a, R: Wait>(
         made: 0,
         turn: case.turn,
         steps: case.steps,
-        first: Other::new(first, 8),
-        second: Other::new(case.second.ask(9, 4), 9),
+        first: Other::new(callers[1]),
+        second: Other::new(callers[2]),
         events: Events::new(),
         came_whole: false,
-        woken: Woken::new(),
         line: case.kind.line().unwrap_or(Line::Closings),
-        task,
+        task: callers[0].task,
         listened: 0,
         naps: 0,
         is_lost: false,
@@ -199,35 +207,25 @@ fn laid<'a, R: Wait>(
 
 /// Makes the calls.
 fn make<R: Wait>(rt: &R, alloc: Global, start: Start, begun: Begun, case: Case) -> Outcome {
-    let called = case.called(&begun);
+    let callers = case.callers(&begun, alloc);
     let waiting = begun.waiting;
-    let first = case.first_ask(begun.keys, alloc);
-    let mut beside = laid(rt, begun.cells, start.bound, case, first, called.task);
-    let mut sink = Woken::new();
-    let said = said_at_once(rt, alloc, called, &mut beside, &mut sink);
+    let mut beside = laid(rt, begun.cells, start.bound, case, callers);
+    let said = said_by(rt, callers[0], &mut beside);
     let ended = beside.events.count;
-    if said != Said::Pending {
-        beside.woken.clear(called.task);
-        sink.clear(called.task);
-    }
     beside.let_on(ALL, ALL);
-    if let Some(task) = case.leaving() {
-        beside.woken.clear(task);
-        sink.clear(task);
-    }
     let others = [
         beside.first.said.unwrap_or(Said::GoesOn),
         beside.second.said.unwrap_or(Said::GoesOn),
     ];
-    let (all, woken) = ([said, others[0], others[1]], beside.woken.or(&sink));
-    let cells = &mut beside.cells;
-    let (lost, is_counted) = looked_after(case, waiting, all, start.bound, cells, &woken);
+    let all = [said, others[0], others[1]];
+    let (lost, is_counted) = looked_after(callers, waiting, all, start.bound, &mut beside.cells);
     Outcome {
         said,
         others,
+        took: [beside.first.took, beside.second.took],
         events: beside.events,
         ended,
-        left: left_in(&mut beside.cells, start.bound),
+        left: left_in(alloc, &mut beside.cells, start.bound),
         is_lost: beside.is_lost || lost,
         is_counted,
         listened: beside.listened,
@@ -247,10 +245,10 @@ fn wrong_at<R: Wait>(
     for steps in case.steps..ALL {
         case.steps = steps;
         let begun = start.begin(alloc)?;
-        let (plain, message) = (begun.plain, case.called(&begun).message);
+        let (plain, message) = (begun.plain, case.callers(&begun, alloc)[0].message);
         let outcome = make(rt, alloc, start, begun, case);
         if !outcome.is_explained(case.kind, message, plain) {
-            return Ok((Some(case.wrong(&outcome)), true));
+            return Ok((Some(case.wrong(start.handles, &outcome)), true));
         }
         if !outcome.came {
             return Ok((None, false));
@@ -267,23 +265,17 @@ fn wrong_beside<R: Wait>(
     rt: &R,
     alloc: Global,
     start: Start,
-    kinds: [Kind; 3],
-    steps: u32,
+    mut case: Case,
 ) -> Result<Option<Wrong>, AllocError> {
-    let [kind, first, second] = kinds;
-    let mut case = Case {
-        kind,
-        first,
-        second,
-        turn: NEVER,
-        steps,
-    };
-    if !case.is_apart(start) {
+    if !case.is_possible(start) {
         return Ok(None);
     }
-    let alone = make(rt, alloc, start, start.begin(alloc)?, case);
-    let from = alone.listened.saturating_sub(BEFORE).max(1);
-    for turn in from..NEVER {
+    case.turn = NEVER;
+    let listened = make(rt, alloc, start, start.begin(alloc)?, case).listened;
+    for turn in 1..NEVER {
+        if turn > FIRST && turn.saturating_add(BEFORE) < listened {
+            continue;
+        }
         case.turn = turn;
         let (wrong, came) = wrong_at(rt, alloc, start, case)?;
         if wrong.is_some() {
@@ -296,22 +288,25 @@ fn wrong_beside<R: Wait>(
     Ok(None)
 }
 
-/// The same of this call beside each other one, and beside each two that come whole.
-fn wrong_of<R: Wait>(
+/// The same of these calls, of which the call and the first other one may each be either of two on one list, and beside one handle of each
+/// kind or, where handles are counted, two.
+fn wrong_pair<R: Wait>(
     rt: &R,
     alloc: Global,
-    start: Start,
-    kind: Kind,
+    mut start: Start,
+    mut case: Case,
 ) -> Result<Option<Wrong>, AllocError> {
-    for first in OTHERS {
-        let wrong = wrong_beside(rt, alloc, start, [kind, first, Kind::IsClosed], 1)?;
-        if wrong.is_some() {
-            return Ok(wrong);
-        }
-    }
-    for first in CHANGES {
-        for second in CHANGES {
-            let wrong = wrong_beside(rt, alloc, start, [kind, first, second], ALL - 1)?;
+    let most = if case.kind.counts() || case.first.counts() {
+        2
+    } else {
+        1
+    };
+    let listeners = if case.share_list() { 2 } else { 1 };
+    for more in 0..most {
+        start.handles = 1_usize.saturating_add(more);
+        for who in 0..listeners {
+            case.who = who;
+            let wrong = wrong_beside(rt, alloc, start, case)?;
             if wrong.is_some() {
                 return Ok(wrong);
             }
@@ -320,36 +315,40 @@ fn wrong_of<R: Wait>(
     Ok(None)
 }
 
-/// The channels of each form, by how many messages have passed and how many are in it, whether it is closed, and whether somebody
-/// waits.
-type Starts = [(u64, u64, bool, bool); 6];
-
-const ONE_SLOT: Starts = [
-    (0, 0, false, false),
-    (0, 0, false, true),
-    (1, 1, false, false),
-    (0, 1, false, true),
-    (0, 0, true, false),
-    (0, 1, true, false),
-];
-
-const RING_OF_TWO: Starts = [
-    (0, 0, false, false),
-    (1, 0, false, true),
-    (1, 1, false, false),
-    (1, 2, false, false),
-    (0, 2, false, true),
-    (1, 1, true, false),
-];
-
-const UNBOUNDED: Starts = [
-    (0, 0, false, false),
-    (0, 0, false, true),
-    (1, 1, false, false),
-    (1, 2, false, false),
-    (1, 0, true, false),
-    (0, 1, true, false),
-];
+/// The same of this call beside each other one, and beside each two that come whole.
+fn wrong_of<R: Wait>(
+    rt: &R,
+    alloc: Global,
+    start: Start,
+    kind: Kind,
+) -> Result<Option<Wrong>, AllocError> {
+    let mut case = Case {
+        kind,
+        first: kind,
+        second: Kind::IsClosed,
+        who: 0,
+        turn: NEVER,
+        steps: 1,
+    };
+    for first in OTHERS {
+        case.first = first;
+        let wrong = wrong_pair(rt, alloc, start, case)?;
+        if wrong.is_some() {
+            return Ok(wrong);
+        }
+    }
+    case.steps = ALL - 1;
+    for first in CHANGES {
+        for second in CHANGES {
+            (case.first, case.second) = (first, second);
+            let wrong = wrong_pair(rt, alloc, start, case)?;
+            if wrong.is_some() {
+                return Ok(wrong);
+            }
+        }
+    }
+    Ok(None)
+}
 
 /// A channel: whether it has a bound, how many messages have passed and are in it, and whether it is closed and somebody waits.
 type Place = (usize, [u64; 2], [bool; 2]);
@@ -373,10 +372,8 @@ fn wrong_in<R: Wait>(
             messages,
             closed,
             waited,
+            handles: 1,
         };
-        if kind.is_again() && !waited {
-            continue;
-        }
         if let Some(wrong) = wrong_of(rt, alloc, start, kind)? {
             let place = (start.bound, [passed, messages], [closed, waited]);
             return Ok(Some((place, wrong)));
@@ -395,9 +392,20 @@ fn check<R: Wait + Abort>(rt: &R, alloc: Global, kinds: &[Kind]) {
     for (form, starts) in forms {
         for kind in kinds {
             let wrong = wrong_in(rt, alloc, form, starts, *kind).expect(rt, "memory");
-            expect_none(rt, &kind.name(), &wrong);
+            expect_none(rt, kind, &wrong);
         }
     }
+}
+
+/// Each poll on this list.
+fn polls(line: Line) -> [Kind; 5] {
+    [
+        Kind::Poll(line, How::Anew),
+        Kind::Poll(line, How::Unlisted),
+        Kind::Poll(line, How::Again),
+        Kind::Poll(line, How::Delisted),
+        Kind::Poll(line, How::Unwoken),
+    ]
 }
 
 #[test]
@@ -417,39 +425,77 @@ fn a_receive_beside_others(rt: HostRuntime) {
 
 #[test]
 fn a_receive_of_two_beside_others(rt: HostRuntime) {
-    check(&rt, rt.alloc(), &[Kind::RecvMany]);
+    check(&rt, rt.alloc(), &[Kind::RecvMany, Kind::RecvManyInto]);
+}
+
+#[test]
+fn a_walk_beside_others(rt: HostRuntime) {
+    let kinds = [Kind::Walk(false), Kind::Walk(true), Kind::WalkThere];
+    check(&rt, rt.alloc(), &kinds);
 }
 
 #[test]
 fn a_closing_beside_others(rt: HostRuntime) {
-    check(&rt, rt.alloc(), &[Kind::Close, Kind::PollClosed]);
+    let kinds = [Kind::Close, Kind::Poll(Line::Closings, How::Leaves)];
+    check(&rt, rt.alloc(), &kinds);
+    check(&rt, rt.alloc(), &polls(Line::Closings));
 }
 
 #[test]
 fn a_polled_send_beside_others(rt: HostRuntime) {
-    let kinds = [Kind::PollSend, Kind::SendAgain, Kind::SendLeaves];
-    check(&rt, rt.alloc(), &kinds);
+    check(&rt, rt.alloc(), &polls(Line::Sends));
+    check(&rt, rt.alloc(), &[Kind::Poll(Line::Sends, How::Leaves)]);
 }
 
 #[test]
 fn a_polled_receive_beside_others(rt: HostRuntime) {
-    let kinds = [Kind::PollRecv, Kind::RecvAgain, Kind::RecvLeaves];
-    check(&rt, rt.alloc(), &kinds);
+    check(&rt, rt.alloc(), &polls(Line::Receives));
+    check(&rt, rt.alloc(), &[Kind::Poll(Line::Receives, How::Leaves)]);
 }
 
 #[test]
 fn a_stream_beside_others(rt: HostRuntime) {
-    check(&rt, rt.alloc(), &[Kind::PollNext, Kind::NextAgain]);
+    // A stream isn't given up; its listener leaves when the receiver is dropped.
+    check(&rt, rt.alloc(), &polls(Line::Streams));
 }
 
 #[test]
 fn a_send_that_blocks_beside_others(rt: HostRuntime) {
-    check(&rt, rt.alloc(), &[Kind::SendBlocking]);
+    let kinds = [
+        Kind::Blocks(Line::Sends, false),
+        Kind::Blocks(Line::Sends, true),
+    ];
+    check(&rt, rt.alloc(), &kinds);
 }
 
 #[test]
 fn a_receive_that_blocks_beside_others(rt: HostRuntime) {
-    check(&rt, rt.alloc(), &[Kind::RecvBlocking]);
+    let kinds = [
+        Kind::Blocks(Line::Receives, false),
+        Kind::Blocks(Line::Receives, true),
+    ];
+    check(&rt, rt.alloc(), &kinds);
+}
+
+#[test]
+fn handles_made_beside_others(rt: HostRuntime) {
+    let kinds = [
+        Kind::CloneHandle(Side::Senders),
+        Kind::CloneHandle(Side::Receivers),
+        Kind::Upgrade(Side::Senders),
+        Kind::Upgrade(Side::Receivers),
+    ];
+    check(&rt, rt.alloc(), &kinds);
+}
+
+#[test]
+fn handles_dropped_beside_others(rt: HostRuntime) {
+    let kinds = [
+        Kind::DropHandle(Side::Senders),
+        Kind::DropHandle(Side::Receivers),
+        Kind::DropStream,
+    ];
+    check(&rt, rt.alloc(), &kinds);
 }
 
 #[test]
@@ -460,6 +506,9 @@ fn questions_beside_others(rt: HostRuntime) {
         Kind::IsFull,
         Kind::IsTerminated,
         Kind::Len,
+        Kind::Capacity,
+        Kind::HandleCount(Side::Senders),
+        Kind::HandleCount(Side::Receivers),
     ];
     check(&rt, rt.alloc(), &kinds);
 }

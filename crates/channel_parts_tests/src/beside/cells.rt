@@ -4,11 +4,10 @@ ghost use Rattle.std.specs.Prelude.{◌≡◌, Some};
 ghost use Rattle.concurrent_queue.specs.Replies.{Follows};
 ghost use Rattle.channel_calls.specs.Plain.{form_of, parts_of};
 
-use crate::beside::kind::Kind;
-use crate::beside::woken::Woken;
+use crate::beside::kind::{Called, Kind};
 use crate::beside::{ALL, Events, Other, is_owed};
+use crate::scarce::Scarce;
 use channel_calls::cells::ChannelCells;
-use channel_calls::plain::PlainChannel;
 use channel_calls::sleeps::Sleeps;
 use channel_calls::stage::{Line, Side};
 use channel_calls::words::ChannelWords;
@@ -29,7 +28,7 @@ const NAPS: u32 = 8;
 #[derive(Drop)]
 pub(super) struct Beside<'a, R: Wait> {
     pub(super) rt: &'a R,
-    pub(super) cells: PlainChannel<u64, u32>,
+    pub(super) cells: Scarce,
     pub(super) bound: usize,
     pub(super) made: u32,
     pub(super) turn: u32,
@@ -38,7 +37,6 @@ pub(super) struct Beside<'a, R: Wait> {
     pub(super) second: Other,
     pub(super) events: Events,
     pub(super) came_whole: bool,
-    pub(super) woken: Woken,
     pub(super) line: Line,
     pub(super) task: u32,
     pub(super) listened: u32,
@@ -49,7 +47,7 @@ pub(super) struct Beside<'a, R: Wait> {
 impl<'a, R: Wait> Beside<'a, R> {
     /// What comes before an operation.
     fn before(&mut self)
-        ensures { form_of self.new.cells ≡ form_of self.old.cells }
+        ensures { form_of self.new.cells.channel ≡ form_of self.old.cells.channel }
     {
         self.made = self.made.wrapping_add(1);
         if self.made == self.turn {
@@ -63,8 +61,8 @@ impl<'a, R: Wait> Beside<'a, R> {
 
     /// All that are left of the steps of the queue's call, as over the cells that threads share, and others before each of them.
     fn all_steps(&mut self, call: &mut QueueCall<u64>) -> QueueReply<u64>
-        ensures form { form_of self.new.cells ≡ form_of self.old.cells }
-        ensures answers { Follows (form_of self.old.cells) call.old call.new (Some result) }
+        ensures form { form_of self.new.cells.channel ≡ form_of self.old.cells.channel }
+        ensures answers { Follows (form_of self.old.cells.channel) call.old call.new (Some result) }
     {
         for _ in self.rt.forever() {
             self.before();
@@ -77,32 +75,33 @@ impl<'a, R: Wait> Beside<'a, R> {
 
     /// Lets the others make up to so many steps.
     pub(super) fn let_on(&mut self, first: u32, second: u32)
-        ensures { form_of self.new.cells ≡ form_of self.old.cells }
+        ensures { form_of self.new.cells.channel ≡ form_of self.old.cells.channel }
     {
-        let (cells, woken) = (&mut self.cells, &mut self.woken);
-        self.first.go_on(0, first, cells, woken, &mut self.events);
-        self.second.go_on(1, second, cells, woken, &mut self.events);
+        let (cells, events) = (&mut self.cells, &mut self.events);
+        self.first.go_on(0, first, cells, events);
+        self.second.go_on(1, second, cells, events);
     }
 
     /// Nobody is left who would wake the call: it may only sleep beside what isn't there for it. Then the channel is closed,
     /// which has to wake it.
     fn end_sleep(&mut self)
-        ensures { form_of self.new.cells ≡ form_of self.old.cells }
+        ensures { form_of self.new.cells.channel ≡ form_of self.old.cells.channel }
     {
-        let lost = is_owed(self.line, self.bound, &mut self.cells, &self.woken);
-        let mut closing = Other::new(Kind::Close.ask(0, 0), 0);
-        closing.go_on(2, ALL, &mut self.cells, &mut self.woken, &mut self.events);
+        let alloc = self.first.called.alloc;
+        let lost = is_owed(self.line, self.bound, alloc, &mut self.cells);
+        let mut closing = Other::new(Called::new(Kind::Close, 0, 0, alloc));
+        closing.go_on(2, ALL, &mut self.cells, &mut self.events);
         drop(closing);
-        self.is_lost = self.is_lost || lost || !self.woken.is_woken(self.task);
+        self.is_lost = self.is_lost || lost || !self.cells.woken.is_woken(self.task);
     }
 }
 
 impl<'a, R: Wait> ChannelCells<u64, u32> for Beside<'a, R> {
     ghost known = { ⊥ };
 
-    ghost parts = { λ c. parts_of c.cells };
+    ghost parts = { λ c. parts_of c.cells.channel };
 
-    ghost has_form = { λ c f. f ≡ form_of c.cells };
+    ghost has_form = { λ c f. f ≡ form_of c.cells.channel };
 
     ghost exact = { λ unknown. absurd unknown };
 
@@ -120,12 +119,7 @@ impl<'a, R: Wait> ChannelCells<u64, u32> for Beside<'a, R> {
 
     fn register(&mut self, line: Line, key: Key, task: u32) -> Option<u32> {
         self.before();
-        let back = self.cells.register(line, key, task);
-        if back.is_some() {
-            // It was told and goes on, so the waking is used up.
-            self.woken.clear(task);
-        }
-        back
+        self.cells.register(line, key, task)
     }
 
     fn remove<S: Wakes<u32>>(&mut self, line: Line, key: Key, sink: &mut S) {
@@ -165,16 +159,16 @@ impl<'a, R: Wait> ChannelCells<u64, u32> for Beside<'a, R> {
 }
 
 impl<'a, R: Wait> ChannelWords<u64, u32> for Beside<'a, R> {
-    ghost has_form = { λ c f. f ≡ form_of c.cells };
+    ghost has_form = { λ c f. f ≡ form_of c.cells.channel };
 
     fn step_words(&mut self, call: &mut QueueCall<u64>) -> Option<QueueReply<u64>> {
         self.before();
-        self.cells.step_words(call)
+        self.cells.channel.step_words(call)
     }
 
     fn count(&mut self, side: Side) -> usize {
         self.before();
-        ChannelWords::count(&mut self.cells, side)
+        ChannelWords::count(&mut self.cells.channel, side)
     }
 }
 
@@ -190,9 +184,9 @@ impl<'a, R: Wait> Sleeps<u64, u32> for Beside<'a, R> {
     fn sleep(&mut self) {
         self.naps = self.naps.saturating_add(1);
         self.let_on(ALL, ALL);
-        if !self.woken.is_woken(self.task) {
+        if !self.cells.woken.is_woken(self.task) {
             self.end_sleep();
         }
-        self.woken.clear(self.task);
+        self.cells.woken.clear(self.task);
     }
 }

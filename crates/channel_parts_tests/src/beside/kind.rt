@@ -1,85 +1,66 @@
-//! The calls, each as it is made by steps and as handles make it.
+//! What is called, by whom, and as what it is made by steps.
 
-use crate::beside::cells::Beside;
-use crate::beside::woken::{Woken, task_of};
-use crate::said::{Said, answer_of, sent_blocking};
+use crate::said::Said;
 use channel_calls::ask::{ChannelAsk, lent};
-use channel_calls::blocking::{recv_blocking, send_blocking};
-use channel_calls::reply::Reply;
-use channel_calls::several::{Limit, Messages};
-use channel_calls::stage::Line;
-use channel_calls::{calls, polls, questions};
+use channel_calls::several::Limit;
+use channel_calls::stage::{Line, Side};
 use event_listener::key::Key;
-use futures::task::Poll;
 use std::alloc::Global;
-use std::sync::Wait;
 
-/// What is called. Of a poll that is made again, and of an operation that is given up, the listener is the first that the queue's
-/// start has on its list.
-#[derive(Clone, Copy, PartialEq, Eq)]
+/// How an operation is polled, or let go.
+#[derive(Clone, Copy, PartialEq, Eq, Debug)]
+pub(crate) enum How {
+    /// For the first time: it has no listener.
+    Anew,
+    /// The same, and it is refused one.
+    Unlisted,
+    /// Once more, with the listener that it has in the channel's start.
+    Again,
+    /// The same, and where that was told it is refused another one.
+    Delisted,
+    /// Once more, without a copy of its waker: its listener leaves.
+    Unwoken,
+    /// Not at all: it is given up.
+    Leaves,
+}
+
+/// What is called. Of what isn't refused for want of anything the flag is false.
+#[derive(Clone, Copy, Debug)]
 pub(crate) enum Kind {
     TrySend,
     ForceSend,
     TryRecv,
     RecvMany,
+    RecvManyInto,
+    /// Two items of a walk that waits for messages.
+    Walk(bool),
+    /// Two items of a walk over the messages that are there.
+    WalkThere,
     Close,
-    PollSend,
-    SendAgain,
-    SendLeaves,
-    PollRecv,
-    RecvAgain,
-    RecvLeaves,
-    PollNext,
-    NextAgain,
-    PollClosed,
-    SendBlocking,
-    RecvBlocking,
+    Poll(Line, How),
+    /// A send or a receive that blocks its thread.
+    Blocks(Line, bool),
+    CloneHandle(Side),
+    Upgrade(Side),
+    DropHandle(Side),
+    /// The drop of a receiver that has a listener as a stream.
+    DropStream,
+    HandleCount(Side),
     IsClosed,
     IsEmpty,
     IsFull,
     IsTerminated,
     Len,
+    Capacity,
 }
 
 impl Kind {
-    /// What the call is called.
-    pub(crate) fn name(self) -> &'static str {
-        match self {
-            Kind::TrySend => "try_send",
-            Kind::ForceSend => "force_send",
-            Kind::TryRecv => "try_recv",
-            Kind::RecvMany => "recv_many",
-            Kind::Close => "close",
-            Kind::PollSend => "poll of a send",
-            Kind::SendAgain => "poll of a send that waits",
-            Kind::SendLeaves => "send that leaves",
-            Kind::PollRecv => "poll of a receive",
-            Kind::RecvAgain => "poll of a receive that waits",
-            Kind::RecvLeaves => "receive that leaves",
-            Kind::PollNext => "poll of a stream",
-            Kind::NextAgain => "poll of a stream that waits",
-            Kind::PollClosed => "poll for the closing",
-            Kind::SendBlocking => "send_blocking",
-            Kind::RecvBlocking => "recv_blocking",
-            Kind::IsClosed => "is_closed",
-            Kind::IsEmpty => "is_empty",
-            Kind::IsFull => "is_full",
-            Kind::IsTerminated => "is_terminated",
-            Kind::Len => "len",
-        }
-    }
-
     /// The list on which it may wait.
     pub(crate) fn line(self) -> Option<Line> {
         match self {
-            Kind::PollSend | Kind::SendAgain | Kind::SendLeaves | Kind::SendBlocking => {
-                Some(Line::Sends)
-            }
-            Kind::PollRecv | Kind::RecvAgain | Kind::RecvLeaves | Kind::RecvBlocking => {
-                Some(Line::Receives)
-            }
-            Kind::PollNext | Kind::NextAgain => Some(Line::Streams),
-            Kind::PollClosed => Some(Line::Closings),
+            Kind::Poll(line, _) | Kind::Blocks(line, _) => Some(line),
+            Kind::Walk(_) => Some(Line::Receives),
+            Kind::DropStream => Some(Line::Streams),
             _ => None,
         }
     }
@@ -87,103 +68,130 @@ impl Kind {
     /// Whether it has a listener of the start.
     pub(crate) fn is_again(self) -> bool {
         match self {
-            Kind::SendAgain
-            | Kind::SendLeaves
-            | Kind::RecvAgain
-            | Kind::RecvLeaves
-            | Kind::NextAgain => true,
+            Kind::Poll(_, how) => how != How::Anew && how != How::Unlisted,
+            Kind::DropStream => true,
             _ => false,
         }
     }
 
-    /// What a call asks that is made by steps. Those that have no steps of their own ask whether the channel is closed.
-    pub(crate) fn ask(self, message: u64, who: u32) -> ChannelAsk<u64, u32> {
+    /// Whether it is refused a listener.
+    pub(crate) fn is_refused(self) -> bool {
         match self {
-            Kind::TrySend => ChannelAsk::TrySend(message),
-            Kind::ForceSend => ChannelAsk::ForceSend(message),
-            Kind::TryRecv => ChannelAsk::TryRecv,
-            Kind::Close => ChannelAsk::Close,
-            Kind::PollSend => {
-                ChannelAsk::PollSend(message, lent(None), task_of(Line::Sends, who))
-            }
-            Kind::PollRecv => ChannelAsk::PollRecv(lent(None), task_of(Line::Receives, who)),
-            Kind::PollNext => ChannelAsk::PollNext(None, task_of(Line::Streams, who)),
-            Kind::PollClosed => ChannelAsk::PollClosed(None, task_of(Line::Closings, who)),
-            Kind::Len => ChannelAsk::Len,
-            _ => ChannelAsk::IsClosed,
+            Kind::Poll(_, how) => how == How::Unlisted || how == How::Delisted,
+            Kind::Blocks(_, refused) | Kind::Walk(refused) => refused,
+            _ => false,
+        }
+    }
+
+    /// Whether it is made of several calls, and goes on after one that says this.
+    pub(crate) fn goes_on(self, said: Said) -> bool {
+        match said {
+            Said::Received(_) | Said::Refused => match self {
+                Kind::Walk(_) | Kind::WalkThere => true,
+                _ => false,
+            },
+            _ => false,
+        }
+    }
+
+    /// The handles that it needs of this kind: whether one that it lets go, and whether one that it clones.
+    pub(crate) fn needs(self, side: Side) -> (bool, bool) {
+        match self {
+            Kind::DropHandle(of) => (of == side, false),
+            Kind::DropStream => (side == Side::Receivers, false),
+            Kind::CloneHandle(of) => (false, of == side),
+            _ => (false, false),
+        }
+    }
+
+    /// Whether it asks how many handles live, or changes that.
+    pub(crate) fn counts(self) -> bool {
+        match self {
+            Kind::CloneHandle(_)
+            | Kind::Upgrade(_)
+            | Kind::DropHandle(_)
+            | Kind::DropStream
+            | Kind::HandleCount(_) => true,
+            _ => false,
         }
     }
 }
 
-/// The call, with its message, and with the listener and the task of the operation where it has them.
+/// A call, with its message, and with the listener and the task of the operation where it has them.
 #[derive(Clone, Copy)]
 pub(crate) struct Called {
     pub(crate) kind: Kind,
     pub(crate) message: u64,
     pub(crate) key: Option<Key>,
     pub(crate) task: u32,
+    pub(crate) alloc: Global,
 }
 
-/// What a call says that is no poll, made as handles make it.
-pub(crate) fn said_at_once<R: Wait>(
-    rt: &R,
-    alloc: Global,
-    called: Called,
-    cells: &mut Beside<'_, R>,
-    sink: &mut Woken,
-) -> Said {
-    let reply = match called.kind {
-        Kind::TrySend => Reply::TrySend(calls::try_send(rt, called.message, cells, sink)),
-        Kind::ForceSend => Reply::ForceSend(calls::force_send(rt, called.message, cells, sink)),
-        Kind::TryRecv => Reply::TryRecv(calls::try_recv(rt, cells, sink)),
-        Kind::RecvMany => match calls::recv_many(rt, 2, alloc, cells, sink) {
-            Ok(messages) => Reply::RecvMany(Ok(Messages::new(messages))),
-            Err(error) => Reply::RecvMany(Err(error)),
-        },
-        Kind::Close => Reply::Closed(calls::close(rt, cells, sink)),
-        Kind::Len => Reply::Count(calls::len(rt, cells, sink)),
-        Kind::IsClosed => Reply::Flag(questions::is_closed(cells)),
-        Kind::IsEmpty => Reply::Flag(questions::is_empty(cells)),
-        Kind::IsFull => Reply::Flag(questions::is_full(cells)),
-        Kind::IsTerminated => Reply::Flag(questions::is_terminated(cells)),
-        _ => return said_in_time(rt, called, cells, sink),
-    };
-    answer_of(reply)
-}
+impl Called {
+    /// A call that has no listener.
+    pub(crate) fn new(kind: Kind, message: u64, task: u32, alloc: Global) -> Called {
+        Called {
+            kind,
+            message,
+            key: None,
+            task,
+            alloc,
+        }
+    }
 
-/// What a call says that may wait: a poll, a giving up, a call that blocks its thread.
-fn said_in_time<R: Wait>(
-    rt: &R,
-    called: Called,
-    cells: &mut Beside<'_, R>,
-    sink: &mut Woken,
-) -> Said {
-    let (message, key, task) = (called.message, called.key, Some(called.task));
-    match called.kind {
-        Kind::PollSend | Kind::SendAgain => {
-            let (polled, _kept) = polls::poll_send(rt, Some(message), key, task, cells, sink);
-            answer_of(Reply::SendPoll(polled))
+    /// What it asks where it is made by steps; one of several calls asks this each time.
+    pub(crate) fn ask(self) -> ChannelAsk<u64, u32> {
+        match self.kind {
+            Kind::TrySend => ChannelAsk::TrySend(self.message),
+            Kind::ForceSend => ChannelAsk::ForceSend(self.message),
+            Kind::TryRecv | Kind::WalkThere => ChannelAsk::TryRecv,
+            Kind::RecvMany | Kind::RecvManyInto => ChannelAsk::RecvMany(Limit::new(2, self.alloc)),
+            Kind::Walk(_) => self.polls(Line::Receives),
+            Kind::Close => ChannelAsk::Close,
+            Kind::Poll(line, How::Unwoken) => {
+                ChannelAsk::RefusePoll(line, self.carried(line), self.key)
+            }
+            Kind::Poll(line, How::Leaves) => {
+                ChannelAsk::GiveUp(line, self.carried(line), self.key)
+            }
+            Kind::Poll(line, _) | Kind::Blocks(line, _) => self.polls(line),
+            _ => self.asks_of_handles(),
         }
-        Kind::PollRecv | Kind::RecvAgain => {
-            let (polled, _kept) = polls::poll_recv(rt, key, task, cells, sink);
-            answer_of(Reply::RecvPoll(polled))
+    }
+
+    /// The message of a send.
+    pub(crate) fn carried(self, line: Line) -> Option<u64> {
+        match line {
+            Line::Sends => Some(self.message),
+            _ => None,
         }
-        Kind::PollNext | Kind::NextAgain => {
-            let (polled, _kept) = polls::poll_next(rt, key, task, cells, sink);
-            answer_of(Reply::Next(polled))
+    }
+
+    /// What a poll asks on this list.
+    fn polls(self, line: Line) -> ChannelAsk<u64, u32> {
+        match line {
+            Line::Sends => ChannelAsk::PollSend(self.message, lent(self.key), self.task),
+            Line::Receives => ChannelAsk::PollRecv(lent(self.key), self.task),
+            Line::Streams => ChannelAsk::PollNext(self.key, self.task),
+            Line::Closings => ChannelAsk::PollClosed(self.key, self.task),
         }
-        Kind::PollClosed => {
-            let (polled, _kept) = polls::poll_closed(rt, key, task, cells, sink);
-            answer_of(Reply::ClosedPoll(polled))
+    }
+
+    /// What it asks of handles, or a question.
+    fn asks_of_handles(self) -> ChannelAsk<u64, u32> {
+        match self.kind {
+            Kind::CloneHandle(side) => ChannelAsk::CloneHandle(side),
+            Kind::Upgrade(side) => ChannelAsk::Upgrade(side),
+            Kind::DropHandle(Side::Senders) => ChannelAsk::DropSender,
+            Kind::DropHandle(Side::Receivers) => ChannelAsk::DropReceiver(None),
+            Kind::DropStream => ChannelAsk::DropReceiver(self.key),
+            Kind::HandleCount(side) => ChannelAsk::HandleCount(side),
+            Kind::IsEmpty => ChannelAsk::IsEmpty,
+            Kind::IsFull => ChannelAsk::IsFull,
+            Kind::IsTerminated => ChannelAsk::IsTerminated,
+            Kind::Len => ChannelAsk::Len,
+            Kind::Capacity => ChannelAsk::Capacity,
+            _ => ChannelAsk::IsClosed,
         }
-        Kind::SendBlocking => sent_blocking(send_blocking(rt, message, cells, sink)),
-        Kind::RecvBlocking => {
-            answer_of(Reply::RecvPoll(Poll::Ready(recv_blocking(rt, cells, sink))))
-        }
-        Kind::SendLeaves => {
-            let back = polls::give_up(rt, Line::Sends, Some(message), key, cells, sink);
-            Said::GivenUp(back)
-        }
-        _ => Said::GivenUp(polls::give_up(rt, Line::Receives, None, key, cells, sink)),
     }
 }

@@ -3,15 +3,16 @@
 use crate::beside::Events;
 use crate::beside::kind::Kind;
 use crate::beside::plain::{Later, Plain};
-use crate::said::Said;
+use crate::said::{Said, with};
 
 /// What came of it.
 #[derive(Clone, Copy)]
 pub(crate) struct Outcome {
     /// What the call said.
     pub(crate) said: Said,
-    /// What the others said.
+    /// What the others said last, and the messages that they handed out.
     pub(crate) others: [Said; 2],
+    pub(crate) took: [u64; 2],
     /// What the others did, in order, and how much of it before the call had ended.
     pub(crate) events: Events,
     pub(crate) ended: usize,
@@ -28,15 +29,6 @@ pub(crate) struct Outcome {
     pub(crate) came_whole: bool,
 }
 
-/// The message that a call says it took, the last one of several, or 0.
-fn taken(said: Said) -> u64 {
-    match said {
-        Said::Received(message) | Said::Sent(Some(message)) => message,
-        Said::Several(_, last) => last,
-        _ => 0,
-    }
-}
-
 impl Outcome {
     /// Whether a list explains it, to which the others' steps did what they did: the call had its moment before the step of
     /// this place among them, and what it did later came before another one, not earlier.
@@ -47,7 +39,7 @@ impl Outcome {
         let mut later = Later::Nothing;
         for place in 0..self.events.count.saturating_add(1) {
             if place == moment {
-                (said, later) = plain.answer(kind, message);
+                (said, later) = plain.answer(kind, message, self.said);
             }
             if place == comes {
                 said = plain.end(said, later, message);
@@ -55,18 +47,16 @@ impl Outcome {
             if let Some(Some(event)) = self.events.events.get(place) {
                 let out = plain.do_event(event);
                 if out != 0 && event.by < 2 {
-                    took[event.by] = out;
+                    took[event.by] = with(took[event.by], out);
                 }
             }
         }
-        said == self.said
-            && plain == self.left
-            && took == [taken(self.others[0]), taken(self.others[1])]
+        said == self.said && plain == self.left && took == self.took
     }
 
     /// Whether there are such moments while the call is under way, and nobody sleeps who shouldn't.
     pub(crate) fn is_explained(&self, kind: Kind, message: u64, start: Plain) -> bool {
-        if self.is_lost || !self.is_counted {
+        if self.is_lost || !self.is_counted || !self.left.is_sound() {
             return false;
         }
         let end = self.ended.saturating_add(1);

@@ -1,19 +1,22 @@
 //! A channel as the calls find it.
 
 use crate::beside::alone;
-use crate::beside::kind::Kind;
+use crate::beside::kind::{Called, How, Kind};
 use crate::beside::plain::Plain;
-use crate::beside::woken::{Woken, place_of};
 use crate::said::Said;
-use channel_calls::ask::ChannelAsk;
+use crate::scarce::Scarce;
+use crate::woken::{place_of, task_of};
+use channel_calls::cells::ChannelCells;
 use channel_calls::plain::PlainChannel;
-use channel_calls::stage::Line;
+use channel_calls::stage::{Line, Side};
 use concurrent_queue::cells::QueueForm;
+use event_listener::error::ListenError;
 use event_listener::key::Key;
 use std::alloc::{AllocError, Global};
 
-/// A channel, and what is in it when the calls begin. Where somebody waits, two sends wait on a full one, two receives and a stream
-/// on an empty one, and on each somebody waits for the closing.
+/// A channel, and what is in it when the calls begin. Where somebody waits, two sends wait on a full one, two receives and two streams
+/// on an empty one, and on each two wait for the closing. A listener that is refused is refused for want of a serial where messages have
+/// passed, and else for want of memory.
 #[derive(Clone, Copy)]
 pub(crate) struct Start {
     pub(crate) form: QueueForm,
@@ -22,33 +25,45 @@ pub(crate) struct Start {
     pub(crate) messages: u64,
     pub(crate) closed: bool,
     pub(crate) waited: bool,
+    /// So many senders and so many receivers live, one or two.
+    pub(crate) handles: usize,
 }
 
-/// Its cells, the list that they stand for, and who waits: how many on each list, and the listener of the first of them.
+/// Its cells, the list that they stand for, and who waits: how many on each list, and the listeners of the first two of them.
 #[derive(Drop)]
 pub(crate) struct Begun {
-    pub(crate) cells: PlainChannel<u64, u32>,
+    pub(crate) cells: Scarce,
     pub(crate) plain: Plain,
     pub(crate) waiting: [usize; 4],
-    pub(crate) keys: [Option<Key>; 4],
+    pub(crate) firsts: [Option<Key>; 4],
+    pub(crate) seconds: [Option<Key>; 4],
 }
 
-/// The message of the first send that waits.
+/// The message of the first send that waits; the second one has the next.
 pub(crate) const WAITING: u64 = 5;
 
 impl Start {
-    /// Whether somebody waits on this list who may leave it.
+    /// Whether somebody waits on this list.
     pub(crate) fn has_waiting(self, line: Line) -> bool {
         match line {
             Line::Sends => self.waited && self.messages > 0,
-            Line::Receives => self.waited && self.messages == 0,
-            _ => false,
+            Line::Receives | Line::Streams => self.waited && self.messages == 0,
+            Line::Closings => self.waited,
+        }
+    }
+
+    /// What a listener is refused for.
+    fn want(self) -> ListenError {
+        if self.passed > 0 {
+            ListenError::SerialsUsedUp
+        } else {
+            ListenError::NoMemory
         }
     }
 
     /// The channel. So many messages have passed through it before.
     pub(crate) fn begin(self, alloc: Global) -> Result<Begun, AllocError> {
-        let cells = match self.form {
+        let channel = match self.form {
             QueueForm::Unbounded => PlainChannel::new(QueueForm::Unbounded, alloc)?,
             QueueForm::Bounded(bound) if bound > 0 => {
                 PlainChannel::new(QueueForm::Bounded(bound), alloc)?
@@ -56,69 +71,77 @@ impl Start {
             QueueForm::Bounded(_) => return Err(AllocError),
         };
         let mut begun = Begun {
-            cells,
-            plain: Plain::new(self.bound),
+            cells: Scarce::new(channel, self.want()),
+            plain: Plain::new(self.bound, self.handles, self.handles),
             waiting: [0; 4],
-            keys: [None; 4],
+            firsts: [None; 4],
+            seconds: [None; 4],
         };
-        self.fill(&mut begun);
+        self.fill(alloc, &mut begun);
         if self.waited {
-            self.wait(&mut begun);
+            self.wait(alloc, &mut begun);
         }
         Ok(begun)
     }
 
-    fn fill(self, begun: &mut Begun) {
-        let mut woken = Woken::new();
+    fn fill(self, alloc: Global, begun: &mut Begun) {
+        let cells = &mut begun.cells;
+        for _ in 1..self.handles {
+            for side in [Side::Senders, Side::Receivers] {
+                alone(Called::new(Kind::CloneHandle(side), 0, 0, alloc), cells);
+            }
+        }
         for message in 0..self.passed {
-            alone(ChannelAsk::TrySend(message), &mut begun.cells, &mut woken);
-            alone(ChannelAsk::TryRecv, &mut begun.cells, &mut woken);
+            alone(Called::new(Kind::TrySend, message, 0, alloc), cells);
+            alone(Called::new(Kind::TryRecv, 0, 0, alloc), cells);
         }
         for message in 1..self.messages.saturating_add(1) {
-            alone(ChannelAsk::TrySend(message), &mut begun.cells, &mut woken);
+            alone(Called::new(Kind::TrySend, message, 0, alloc), cells);
             begun.plain.append(message);
         }
         if self.closed {
-            alone(ChannelAsk::Close, &mut begun.cells, &mut woken);
+            alone(Called::new(Kind::Close, 0, 0, alloc), cells);
             begun.plain.close();
         }
     }
 
-    fn wait(self, begun: &mut Begun) {
-        if self.messages == 0 {
-            begun.wait(Kind::PollRecv, Line::Receives, 0);
-            begun.wait(Kind::PollRecv, Line::Receives, 1);
-            begun.wait(Kind::PollNext, Line::Streams, 0);
-        } else {
-            begun.wait(Kind::PollSend, Line::Sends, 0);
-            begun.wait(Kind::PollSend, Line::Sends, 1);
+    fn wait(self, alloc: Global, begun: &mut Begun) {
+        for line in [Line::Sends, Line::Receives, Line::Streams, Line::Closings] {
+            if self.has_waiting(line) {
+                begun.wait(alloc, line, 0);
+                begun.wait(alloc, line, 1);
+            }
         }
-        begun.wait(Kind::PollClosed, Line::Closings, 0);
     }
 }
 
 impl Begun {
-    /// One of this number polls, and waits on this list.
-    fn wait(&mut self, kind: Kind, line: Line, who: u32) {
-        let ask = kind.ask(WAITING, who);
-        let (said, key) = alone(ask, &mut self.cells, &mut Woken::new());
+    /// The one of this number polls, and waits on this list.
+    fn wait(&mut self, alloc: Global, line: Line, who: u32) {
+        let kind = Kind::Poll(line, How::Anew);
+        let message = WAITING.saturating_add(who as u64);
+        let called = Called::new(kind, message, task_of(line, who), alloc);
+        let (said, key) = alone(called, &mut self.cells);
         let place = place_of(line);
         if said == Said::Pending && place < 4 {
             self.waiting[place] = self.waiting[place].saturating_add(1);
             if who == 0 {
-                self.keys[place] = key;
+                self.firsts[place] = key;
+            } else {
+                self.seconds[place] = key;
             }
         }
     }
 }
 
 /// What is left in the channel.
-pub(crate) fn left_in(cells: &mut PlainChannel<u64, u32>, bound: usize) -> Plain {
-    let mut woken = Woken::new();
-    let mut plain = Plain::new(bound);
-    let (closed, _) = alone(ChannelAsk::Close, cells, &mut woken);
+pub(crate) fn left_in(alloc: Global, cells: &mut Scarce, bound: usize) -> Plain {
+    let senders = ChannelCells::count(cells, Side::Senders);
+    let receivers = ChannelCells::count(cells, Side::Receivers);
+    let mut plain = Plain::new(bound, senders, receivers);
+    let (closed, _) = alone(Called::new(Kind::Close, 0, 0, alloc), cells);
     for _ in 0..8 {
-        match alone(ChannelAsk::TryRecv, cells, &mut woken).0 {
+        match alone(Called::new(Kind::TryRecv, 0, 0, alloc), cells).0 {
             Said::Received(message) => plain.append(message),
             _ => break,
         }

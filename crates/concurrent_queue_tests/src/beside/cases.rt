@@ -4,6 +4,7 @@ use crate::beside::plain::{Kind, Plain};
 use crate::beside::{ALL, Beside, Events, Other};
 use crate::checks::expect_none;
 use crate::said::{Said, replied};
+use crate::scarce::Scarce;
 use concurrent_queue::cells::QueueForm;
 use concurrent_queue::plain::PlainCells;
 use concurrent_queue::queue_call::{QueueCall, whole};
@@ -12,9 +13,11 @@ use std::process::Abort;
 use std::sync::Wait;
 
 /// The calls.
-const KINDS: [Kind; 9] = [
+const KINDS: [Kind; 11] = [
     Kind::Push,
     Kind::ForcePush,
+    Kind::PushRefused,
+    Kind::ForceRefused,
     Kind::Pop,
     Kind::Close,
     Kind::IsClosed,
@@ -26,6 +29,9 @@ const KINDS: [Kind; 9] = [
 
 /// Those that change a queue.
 const CHANGES: [Kind; 4] = [Kind::Push, Kind::ForcePush, Kind::Pop, Kind::Close];
+
+/// More blocks than these tests need.
+const BLOCKS: u32 = 8;
 
 /// A queue, and what is in it when the calls begin.
 #[derive(Clone, Copy)]
@@ -76,7 +82,7 @@ struct Outcome {
 }
 
 /// What a call answers that steps alone.
-fn alone(cells: &mut PlainCells<u64>, kind: Kind, message: u64) -> Said {
+fn alone(cells: &mut Scarce, kind: Kind, message: u64) -> Said {
     let mut call = QueueCall::new(kind.ask(message));
     let mut said = ("nothing", 0);
     for _ in 0..ALL {
@@ -90,13 +96,18 @@ fn alone(cells: &mut PlainCells<u64>, kind: Kind, message: u64) -> Said {
 
 impl Start {
     /// The cells of the queue, and the list that they stand for. So many messages have passed through it before.
-    fn begin(self, alloc: Global) -> Result<(PlainCells<u64>, Plain), AllocError> {
-        let mut cells = match self.form {
+    fn begin(self, alloc: Global) -> Result<(Scarce, Plain), AllocError> {
+        let cells = match self.form {
             QueueForm::Unbounded => PlainCells::new(alloc, QueueForm::Unbounded)?,
             QueueForm::Bounded(bound) if bound > 0 => {
                 PlainCells::new(alloc, QueueForm::Bounded(bound))?
             }
             QueueForm::Bounded(_) => return Err(AllocError),
+        };
+        let mut cells = Scarce {
+            cells,
+            left: BLOCKS,
+            idle: 0,
         };
         let mut plain = Plain::new(self.bound);
         for message in 0..self.passed {
@@ -116,7 +127,7 @@ impl Start {
 }
 
 /// What is left in the queue.
-fn left_in(cells: &mut PlainCells<u64>, bound: usize) -> Plain {
+fn left_in(cells: &mut Scarce, bound: usize) -> Plain {
     let mut plain = Plain::new(bound);
     for _ in 0..8 {
         match alone(cells, Kind::Pop, 0) {
@@ -128,9 +139,10 @@ fn left_in(cells: &mut PlainCells<u64>, bound: usize) -> Plain {
 }
 
 /// Makes the calls.
-fn make<R: Wait>(rt: &R, start: Start, cells: PlainCells<u64>, case: Case) -> Outcome {
+fn make<R: Wait>(rt: &R, start: Start, cells: Scarce, case: Case) -> Outcome {
     let mut beside = Beside {
         form: start.form,
+        is_refused: case.kind.is_refused(),
         cells,
         made: 0,
         turn: case.turn,
@@ -182,7 +194,7 @@ impl Outcome {
         let mut is_to_come = false;
         for place in 0..self.events.count.saturating_add(1) {
             if place == moment {
-                (said, is_to_come) = plain.answer(kind, 7);
+                (said, is_to_come) = plain.answer(kind, 7, self.said);
             }
             if place == comes && is_to_come {
                 plain.append(7);

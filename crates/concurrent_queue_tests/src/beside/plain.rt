@@ -8,6 +8,10 @@ use concurrent_queue::call::{QueueAsk, QueueMark};
 pub(crate) enum Kind {
     Push,
     ForcePush,
+    /// A push that gets no block, where it needs one.
+    PushRefused,
+    /// A displacing push that gets none.
+    ForceRefused,
     Pop,
     Close,
     IsClosed,
@@ -23,6 +27,8 @@ impl Kind {
         match self {
             Kind::Push => "push",
             Kind::ForcePush => "force",
+            Kind::PushRefused => "push without memory",
+            Kind::ForceRefused => "force without memory",
             Kind::Pop => "pop",
             Kind::Close => "close",
             Kind::IsClosed => "is_closed",
@@ -33,11 +39,19 @@ impl Kind {
         }
     }
 
+    /// Whether no block can be made for it.
+    pub(crate) fn is_refused(self) -> bool {
+        match self {
+            Kind::PushRefused | Kind::ForceRefused => true,
+            _ => false,
+        }
+    }
+
     /// The question, with this message where it has one.
     pub(crate) fn ask(self, message: u64) -> QueueAsk<u64> {
         match self {
-            Kind::Push => QueueAsk::Push(message),
-            Kind::ForcePush => QueueAsk::ForcePush(message),
+            Kind::Push | Kind::PushRefused => QueueAsk::Push(message),
+            Kind::ForcePush | Kind::ForceRefused => QueueAsk::ForcePush(message),
             Kind::Pop => QueueAsk::Pop,
             Kind::Close => QueueAsk::Close,
             Kind::IsClosed => QueueAsk::IsClosed,
@@ -168,15 +182,28 @@ impl Plain {
         }
     }
 
+    /// What a push says that got no block, at one moment.
+    fn refuse(&self, message: u64) -> Said {
+        if self.closed {
+            ("closed", message)
+        } else {
+            ("no memory", message)
+        }
+    }
+
     fn flag(it: bool) -> Said {
         if it { ("yes", 0) } else { ("no", 0) }
     }
 
-    /// What a call says at one moment, and whether its message is still to come.
-    pub(crate) fn answer(&mut self, kind: Kind, message: u64) -> (Said, bool) {
+    /// What a call says at one moment, and whether its message is still to come; found was this. The list has no blocks, so it can't say
+    /// whether one was needed.
+    pub(crate) fn answer(&mut self, kind: Kind, message: u64, found: Said) -> (Said, bool) {
         match kind {
-            Kind::Push => (self.push(message), false),
-            Kind::ForcePush => self.make_room(message),
+            Kind::PushRefused | Kind::ForceRefused if found.0 == "no memory" => {
+                (self.refuse(message), false)
+            }
+            Kind::Push | Kind::PushRefused => (self.push(message), false),
+            Kind::ForcePush | Kind::ForceRefused => self.make_room(message),
             Kind::Pop => (self.pop(), false),
             Kind::Close => {
                 let said = if self.closed {

@@ -3,4 +3,4 @@ use Rattle.channel_calls.specs.Plain.{form_of}
 use Rattle.channel_parts_tests.proofs.beside.Other.go_on.Given as goal
 
 abbrev pub invariant-steps : goal.invariant-steps
-invariant-steps l = form_of l.cells ≡ form_of l.initial.cells
+invariant-steps l = form_of l.cells.channel ≡ form_of l.initial.cells.channel

@@ -5,6 +5,6 @@ use Rattle.channel_parts_tests.proofs.beside.cells.Beside.all_steps.Goals as goa
 pub loop-preserved : goal.loop-preserved
 loop-preserved g c =
     let before = c.before-in-loop.ensures in
-    let form = c.in_default.ensures.form (form_of c.args.self.now.cells) (sym (before ∙ c.loop.invariant.0)) in
-    let answers = c.in_default.ensures.answers (form_of c.loop.self.cells) (sym before) in
-    (sym form, (λ r may. c.loop.invariant.1 r (answers.0 (form_of c.step_queue.new.self) r may)))
+    let form = c.in_default.ensures.form (form_of c.args.self.now.cells.channel) (sym (before ∙ c.loop.invariant.0)) in
+    let answers = c.in_default.ensures.answers (form_of c.loop.self.cells.channel) (sym before) in
+    (sym form, (λ r may. c.loop.invariant.1 r (answers.0 (form_of c.step_queue.new.self.channel) r may)))

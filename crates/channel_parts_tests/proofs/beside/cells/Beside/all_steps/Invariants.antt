@@ -6,5 +6,5 @@ use Rattle.channel_parts_tests.proofs.beside.cells.Beside.all_steps.Given as goa
 -- what the call may still answer it might have answered at first
 abbrev pub invariant-loop : goal.invariant-loop
 invariant-loop g l =
-    (form_of l.self.cells ≡ form_of l.initial.self.cells)
-    × IsStillOf (form_of l.initial.self.cells) (form_of l.self.cells) l.fn.call l.call
+    (form_of l.self.cells.channel ≡ form_of l.initial.self.cells.channel)
+    × IsStillOf (form_of l.initial.self.cells.channel) (form_of l.self.cells.channel) l.fn.call l.call
