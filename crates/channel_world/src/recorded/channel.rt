@@ -114,7 +114,7 @@ impl<T: Copy, L: Ledger> RecordedChannel<T, L> {
         ensures idle { IfOk result (λ s. s.calls ≡ 0) }
         ensures below { IfOk result (λ s. s.number + 1 < L.parts) }
     {
-        self.inner.lock(rt).seat()
+        Recording::seat_behind(&self.inner, rt)
     }
 
     /// Makes a call from its begin to its end, with nobody else at work, and records it; the receipt is a copy of the entry. What it
