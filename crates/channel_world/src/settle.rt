@@ -177,7 +177,7 @@ impl<T: Drop> World<T> {
     ghost use Rattle.channel_interleaving.specs.Pending.{stands_pending, how_many};
     ghost use Rattle.channel_model.specs.Settling.{Settles, pending_count};
     ghost use Rattle.channel_world.specs.Carried.{polls_replied, LeadsTo};
-    ghost use Rattle.channel_world.specs.Asleep.{NoReceiveGoesOn, NoSendGoesOn, NoStreamGoesOn, NobodyMissesTheClosing};
+    ghost use Rattle.channel_world.specs.Asleep.{NoReceivePendsBesideAMessage, NoSendPendsBesideAPlace, NoStreamPendsBesideAMessage, NobodyPendsOnAClosed};
     ghost use Rattle.channel_world.specs.Settled.{polls_in, most_polls, NoneLackedMemory};
     ghost use Rattle.channel_world.specs.View.{names_in, at_rest, IsQuiet, Stands};
 
@@ -213,10 +213,10 @@ impl<T: Drop> World<T> {
         ensures room { IfOk result (λ polls. vec_capacity polls ≡ most_polls (at_rest self.old)) }
         ensures ample { IfOk result (λ polls. NoneLackedMemory polls.items) }
         ensures nobody_woken { OnOk result ((at_rest self.new).waiting.woken ≡ []) }
-        ensures receives { OnOk result (NoReceiveGoesOn self.new) }
-        ensures sends { OnOk result (NoSendGoesOn self.new) }
-        ensures streams { OnOk result (NoStreamGoesOn self.new) }
-        ensures closing { OnOk result (NobodyMissesTheClosing self.new) }
+        ensures receives { OnOk result (NoReceivePendsBesideAMessage self.new) }
+        ensures sends { OnOk result (NoSendPendsBesideAPlace self.new) }
+        ensures streams { OnOk result (NoStreamPendsBesideAMessage self.new) }
+        ensures closing { OnOk result (NobodyPendsOnAClosed self.new) }
         ensures unchanged { OnErr result (self.new ≡ self.old) }
         ensures quiet { IsQuiet self.new }
         ensures leads { IfOk result (λ polls. LeadsTo self.old (polls_replied polls.items) self.new) }
