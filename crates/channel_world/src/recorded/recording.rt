@@ -124,6 +124,13 @@ impl<T: Copy, L: Ledger> Recording<T, L> {
         Ok(RecordSeat { number, mine })
     }
 
+    /// How many seats were made.
+    pub(crate) fn seats(&self) -> u64
+        ensures { result ≡ self.now.seats }
+    {
+        self.made
+    }
+
     /// Makes a call for a seat and records it. Room for its entry and its receipt is taken first.
     pub(crate) fn call(
         &mut self,
