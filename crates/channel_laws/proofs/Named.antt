@@ -4,7 +4,7 @@ use Rattle.channel_calls.specs.declared.ask.ChannelAsk.{ChannelAsk}
 use Rattle.channel_steps.specs.declared.run.Step.{Step}
 use Rattle.channel_steps.specs.declared.run.Step.TheVariants as step
 use Rattle.channel_laws.specs.Bridge.{Event, begins, does, Happening, LastsFor, step_of, steps_of}
-use Rattle.channel_laws.specs.Named.{WakesFor, WakesNamed, task_of, name_of, with_asked, asked, step_asking, steps_asking, NamedMergesKeepTheHeadline}
+use Rattle.channel_laws.specs.Named.{WakesFor, WakesNamed, task_of, name_of, with_asked, asks_of, step_asking, steps_asking, NamedMergesKeepTheHeadline}
 use Rattle.channel_laws.specs.Tasks.{parts_by, ask_by, event_by, all_by}
 use Rattle.channel_laws.proofs.BridgeHeadline.{merges_keep_the_headline}
 use Rattle.channel_laws.proofs.TaskBehind.{tasks_may_tell_more}
@@ -15,13 +15,13 @@ length_so put [] = refl
 length_so put (x ∷ xs) = ap (λ (n : ℕ). suc n) (length_so put xs)
 
 module _ {T W V U : Type 0} (put : U → W) (name : U → V) where
-  one_step : (p : ℕ) (x : Event T U) (xs : List (Happening T U)) → steps_of (all_by name xs) ≡ steps_asking (all_by put xs) (map (λ a. ask_by name a) (asked xs))
+  one_step : (p : ℕ) (x : Event T U) (xs : List (Happening T U)) → steps_of (all_by name xs) ≡ steps_asking (all_by put xs) (map (λ a. ask_by name a) (asks_of xs))
       → step_of p (event_by name x) ∷ steps_of (all_by name xs)
-      ≡ step_asking p (event_by put x) (map (λ a. ask_by name a) (with_asked x (asked xs))) (λ more. steps_asking (all_by put xs) more)
+      ≡ step_asking p (event_by put x) (map (λ a. ask_by name a) (with_asked x (asks_of xs))) (λ more. steps_asking (all_by put xs) more)
   one_step p (begins a) xs more = ap (λ (ys : List (Step T V)). step.Begin p (ask_by name a) ∷ ys) more
   one_step p (does o) xs more = ap (λ (ys : List (Step T V)). step.Step p ∷ ys) more
 
-  steps_are : (xs : List (Happening T U)) → steps_of (all_by name xs) ≡ steps_asking (all_by put xs) (map (λ a. ask_by name a) (asked xs))
+  steps_are : (xs : List (Happening T U)) → steps_of (all_by name xs) ≡ steps_asking (all_by put xs) (map (λ a. ask_by name a) (asks_of xs))
   steps_are [] = refl
   steps_are (x ∷ xs) = one_step x.party x.event xs (steps_are xs)
 
@@ -40,6 +40,6 @@ named_merges_keep_the_headline T W V S wakes form events given sink last woken n
           m.1;
       steps =
           steps_are task_of name_of b.behind
-          ∙ ap (λ (xs : List (Happening T W)). steps_asking xs (map (λ a. ask_by name_of a) (asked b.behind))) b.events_are
+          ∙ ap (λ (xs : List (Happening T W)). steps_asking xs (map (λ a. ask_by name_of a) (asks_of b.behind))) b.events_are
           ∙ ap (λ (zs : List (ChannelAsk T (W × V))). steps_asking events (map (λ a. ask_by name_of a) zs)) b.asks_are;
     }

@@ -28,7 +28,7 @@ use Rattle.channel_calls.specs.declared.stage.Waiting.TheVariants as waiting
 use Rattle.channel_calls.specs.declared.stage.Work.TheVariants.{TellAll, Insert, Register}
 use Rattle.channel_laws.specs.Bridge.{Acts, own, opened_parts, InOneOrder}
 use Rattle.channel_laws.specs.Named.{WakesFor, task_of}
-use Rattle.channel_laws.specs.NamedRow.{first_key, second_key, waits_once, closes, two_are_told, parts_of_two, still_waits, has_closed, given_to_three, TwoWaitsMerge, OneTaskHasTwoNames}
+use Rattle.channel_laws.specs.NamedRow.{first_key, second_key, waits_once, one_close, two_are_told, parts_of_two, pends_on, has_closed, given_to_three, TwoWaitsMerge, OneTaskHasTwoNames}
 
 module _ {T : Type 0} where
   abbrev new_call : QueueAsk T → QueueCall T
@@ -39,7 +39,7 @@ module _ {T : Type 0} where
 
 module _ (T W : Type 0) where
   -- a wait
-  polled : (key : Key) (task : W) → Acts {T = T} {W = W} (Bounded 1) None (own 1 (waits_once 1 key task)) (still_waits key)
+  polled : (key : Key) (task : W) → Acts {T = T} {W = W} (Bounded 1) None (own 1 (waits_once 1 key task)) (pends_on key)
   polled key task =
       let asking : QueueCall T = new_call ask.IsClosed in
       let begun = starts ask.IsClosed queue_mark.Nothing in (
@@ -67,7 +67,7 @@ module _ (T W : Type 0) where
       )
 
   -- the closing
-  closed : (woken : List W) → Acts {T = T} {W = W} (Bounded 1) None (own 3 (closes 3 woken)) has_closed
+  closed : (woken : List W) → Acts {T = T} {W = W} (Bounded 1) None (own 3 (one_close 3 woken)) has_closed
   closed woken =
       let asking : QueueCall T = new_call ask.Close in (
         Trying asking (aim.Close closer.Call),

@@ -13,7 +13,7 @@ use Rattle.channel_calls.specs.declared.stage.Kept.{Kept}
 use Rattle.channel_calls.specs.declared.stage.Stage.{Stage}
 use Rattle.channel_calls.specs.declared.stage.Turn.{Turn}
 use Rattle.channel_laws.specs.Bridge.{Act, on_nothing, Event, begins, does, Happening, Given, Notes, Acts, own, opened_parts, Changes, InOneOrder}
-use Rattle.channel_laws.specs.Named.{WakesFor, with_asked, asked, TasksMayTellMore}
+use Rattle.channel_laws.specs.Named.{WakesFor, with_asked, asks_of, TasksMayTellMore}
 use Rattle.channel_laws.specs.Tasks.{ask_by, stage_by, event_by, all_by}
 use Rattle.channel_laws.proofs.TaskSteps.{both_so, step_before}
 use Rattle.channel_laws.proofs.TaskTurns.{first_alike, kept_alike, taken}
@@ -57,7 +57,7 @@ module _ {T W V S : Type 0} (put : W → V) (wakes : S → V → S → Type 0) (
   record Behind (xs : List (Happening T V)) (asks : List (ChannelAsk T W)) (c : Parts T W × S) (at : ℕ → Before T W) (given : ℕ → List (Given T)) (last : Parts T V × S) : Type 0 where
     pub events : List (Happening T W)
     pub are : all_by put events ≡ xs
-    pub asked_so : asked events ≡ asks
+    pub asked_so : asks_of events ≡ asks
     pub left : Parts T W × S
     pub seen : both_so put left ≡ last
     pub acts : AllActBefore at events given
@@ -66,7 +66,7 @@ module _ {T W V S : Type 0} (put : W → V) (wakes : S → V → S → Type 0) (
   abbrev GoesOn : List (Happening T V) → Parts T V × S → Type 0
   GoesOn xs last =
       (asks : List (ChannelAsk T W)) (c : Parts T W × S) (at : ℕ → Before T W) (given : ℕ → List (Given T))
-      → map (λ a. ask_by put a) asks ≡ asked xs → AllAct at xs given → InOneOrder wakes xs (both_so put c) last → Behind xs asks c at given last
+      → map (λ a. ask_by put a) asks ≡ asks_of xs → AllAct at xs given → InOneOrder wakes xs (both_so put c) last → Behind xs asks c at given last
 
   -- the others go on as before
   acts_on : (p : ℕ) (x : Event T V) (xs : List (Happening T V)) (at : ℕ → Before T W) (now : Before T W) (given : ℕ → List (Given T)) (left : List (Given T))
@@ -127,10 +127,10 @@ module _ {T W V S : Type 0} (put : W → V) (wakes : S → V → S → Type 0) (
   first_ask (x ∷ xs) a more e = (x, xs, refl, cc e, cc e)
 
   begun : (p : ℕ) (a : ChannelAsk T V) (xs : List (Happening T V)) (last d : Parts T V × S) (asks : List (ChannelAsk T W)) (c : Parts T W × S) (at : ℕ → Before T W) (given : ℕ → List (Given T))
-      → map (λ x. ask_by put x) asks ≡ a ∷ asked xs → AllAct at (happens p (begins a) ∷ xs) given → d ≡ both_so put c → InOneOrder wakes xs d last → GoesOn xs last
+      → map (λ x. ask_by put x) asks ≡ a ∷ asks_of xs → AllAct at (happens p (begins a) ∷ xs) given → d ≡ both_so put c → InOneOrder wakes xs d last → GoesOn xs last
       → Behind (happens p (begins a) ∷ xs) asks c at given last
   begun p a xs last d asks c at given asks_are acts same order further =
-      let x = first_ask asks a (asked xs) asks_are in
+      let x = first_ask asks a (asks_of xs) asks_are in
       let mine = idle (at p) a (own p xs) (given p) (subst (λ (ys : List (Event T V)). Acts form (at_so (at p)) ys (given p)) (own_mine p (begins a) xs) (acts p)) in
       let start = mine.1 in
       let turn : Takes (first (ask_by put x.0)) start.0 None = subst (λ (y : ChannelAsk T V). Takes (first y) start.0 None) (sym x.3) start.1 in
@@ -149,7 +149,7 @@ module _ {T W V S : Type 0} (put : W → V) (wakes : S → V → S → Type 0) (
   busy (Some s) o ys rs h = (s, refl, h)
 
   module _ (p : ℕ) (o : Act T V) (xs : List (Happening T V)) (last d : Parts T V × S) (asks : List (ChannelAsk T W)) (c : Parts T W × S) (at : ℕ → Before T W) (given : ℕ → List (Given T))
-      (asks_are : map (λ x. ask_by put x) asks ≡ asked xs) (acts : AllAct at (happens p (does o) ∷ xs) given) (order : InOneOrder wakes xs d last) (further : GoesOn xs last)
+      (asks_are : map (λ x. ask_by put x) asks ≡ asks_of xs) (acts : AllAct at (happens p (does o) ∷ xs) given) (order : InOneOrder wakes xs d last) (further : GoesOn xs last)
       (change : Changes wakes (does o) (both_so put c) d) (s : Stage (QueueCall T) T W) (there : at p ≡ Some s) (m : Mark) (next : Stage (QueueCall T) T V) where
     stepped : (r : Option (Reply T)) → ChannelMakes (Notes form) (stage_by put s) on_nothing o m next r
         → MatchOption r (Acts form (Some next) (own p xs) (given p)) (λ x. (more : List (Given T)) × (given p ≡ record { reply = x; kept = kept_by next } ∷ more) × Acts form None (own p xs) more)
@@ -173,7 +173,7 @@ module _ {T W V S : Type 0} (put : W → V) (wakes : S → V → S → Type 0) (
         (λ ys h. subst (λ (y : Before T W). Acts form y (does b.act ∷ ys) (given p)) (sym there) (m, b.after, Some r, b.makes, (more, given_is, h)))
 
   happened : (p : ℕ) (y : Event T V) (xs : List (Happening T V)) (last d : Parts T V × S) (asks : List (ChannelAsk T W)) (c : Parts T W × S) (at : ℕ → Before T W) (given : ℕ → List (Given T))
-      → map (λ x. ask_by put x) asks ≡ with_asked y (asked xs) → AllAct at (happens p y ∷ xs) given → Changes wakes y (both_so put c) d → InOneOrder wakes xs d last → GoesOn xs last
+      → map (λ x. ask_by put x) asks ≡ with_asked y (asks_of xs) → AllAct at (happens p y ∷ xs) given → Changes wakes y (both_so put c) d → InOneOrder wakes xs d last → GoesOn xs last
       → Behind (happens p y ∷ xs) asks c at given last
   happened p (begins a) xs last d asks c at given asks_are acts change order further = begun p a xs last d asks c at given asks_are acts change order further
   happened p (does o) xs last d asks c at given asks_are acts change order further =

@@ -45,9 +45,9 @@ module _ {T W : Type 0} where
   with_asked (begins a) more = a ∷ more
   with_asked (does o) more = more
 
-  abbrev pub asked : List (Happening T W) → List (ChannelAsk T W)
-  asked [] = []
-  asked (x ∷ xs) = with_asked x.event (asked xs)
+  abbrev pub asks_of : List (Happening T W) → List (ChannelAsk T W)
+  asks_of [] = []
+  asks_of (x ∷ xs) = with_asked x.event (asks_of xs)
 
   -- the steps of these events, where others are put for what is asked at each begin
   abbrev pub step_asking : {V : Type 0} → ℕ → Event T W → List (ChannelAsk T V) → (List (ChannelAsk T V) → List (Step T V)) → List (Step T V)
@@ -73,7 +73,7 @@ pub record IsBehind {T W V S : Type 0} (put : W → V) (wakes : S → V → S �
     (sink : S) (last : Parts T V) (woken : S) (asks : List (ChannelAsk T W)) : Type 0 where
   pub behind : List (Happening T W)
   pub events_are : all_by put behind ≡ events
-  pub asks_are : asked behind ≡ asks
+  pub asks_are : asks_of behind ≡ asks
   pub parts : Parts T W
   pub parts_are : parts_by put parts ≡ last
   pub acts : (p : ℕ) → Acts form None (own p behind) (given p)
@@ -85,7 +85,7 @@ abbrev pub TasksMayTellMore : {W V : Type 0} → (W → V) → (T S : Type 0) �
 TasksMayTellMore {W} {V} put T S wakes =
     (form : QueueForm) (events : List (Happening T V)) (given : ℕ → List (Given T)) (sink : S) (last : Parts T V) (woken : S) (asks : List (ChannelAsk T W))
     → ((p : ℕ) → Acts form None (own p events) (given p)) → InOneOrder wakes events (opened_parts form, sink) (last, woken)
-    → map (λ a. ask_by put a) asks ≡ asked events → IsBehind put wakes form events given sink last woken asks
+    → map (λ a. ask_by put a) asks ≡ asks_of events → IsBehind put wakes form events given sink last woken asks
 
 -- ---- names
 
@@ -115,5 +115,5 @@ abbrev pub NamedMergesKeepTheHeadline : (T W V S : Type 0) → (S → W → S �
 NamedMergesKeepTheHeadline T W V S wakes =
     (form : QueueForm) (events : List (Happening T W)) (given : ℕ → List (Given T)) (sink : S) (last : Parts T W) (woken : S) (named : List (ChannelAsk T (W × V)))
     → HasCells form → LastsFor (length events) form → ((p : ℕ) → Acts form None (own p events) (given p))
-    → InOneOrder wakes events (opened_parts form, sink) (last, woken) → map (λ a. ask_by task_of a) named ≡ asked events
+    → InOneOrder wakes events (opened_parts form, sink) (last, woken) → map (λ a. ask_by task_of a) named ≡ asks_of events
     → KeepsItByNames wakes form events given sink last woken named

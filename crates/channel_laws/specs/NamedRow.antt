@@ -43,8 +43,8 @@ module _ {T W : Type 0} where
       ∷ []
 
   -- the closing, which wakes these
-  abbrev pub closes : ℕ → List W → List (Happening T W)
-  closes p woken =
+  abbrev pub one_close : ℕ → List W → List (Happening T W)
+  one_close p woken =
       record { party = p; event = begins Close }
       ∷ record { party = p; event = does (on_queue (Some (bits_set State 4 0))) }
       ∷ record { party = p; event = does (on_roster (all_told Sends [])) }
@@ -54,7 +54,7 @@ module _ {T W : Type 0} where
       ∷ []
 
   abbrev pub two_are_told : W → W → List (Happening T W)
-  two_are_told one other = waits_once 1 first_key one ++ (waits_once 2 second_key other ++ closes 3 (one ∷ other ∷ []))
+  two_are_told one other = waits_once 1 first_key one ++ (waits_once 2 second_key other ++ one_close 3 (one ∷ other ∷ []))
 
   -- what they ask
   abbrev pub two_wait : W → W → List (ChannelAsk T W)
@@ -67,14 +67,14 @@ module _ {T W : Type 0} where
       record { cells = set_state new.cells 4; roster = with_listeners Closings both_told new_roster }
 
 module _ {T : Type 0} where
-  abbrev pub still_waits : Key → List (Given T)
-  still_waits key = record { reply = ClosedPoll Pending; kept = leaving (Some key) None } ∷ []
+  abbrev pub pends_on : Key → List (Given T)
+  pends_on key = record { reply = ClosedPoll Pending; kept = leaving (Some key) None } ∷ []
 
   abbrev pub has_closed : List (Given T)
   has_closed = record { reply = Closed true; kept = nothing_kept } ∷ []
 
   abbrev pub given_to_three : ℕ → List (Given T)
-  given_to_three p = if 1 == p then still_waits first_key else (if 2 == p then still_waits second_key else (if 3 == p then has_closed else []))
+  given_to_three p = if 1 == p then pends_on first_key else (if 2 == p then pends_on second_key else (if 3 == p then has_closed else []))
 
 -- it is a merge as `MergesAreRuns` asks it, whether the tasks are one or two
 abbrev pub TwoWaitsMerge : (T W S : Type 0) → (S → W → S → Type 0) → Type 0
