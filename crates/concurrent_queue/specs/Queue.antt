@@ -21,12 +21,15 @@ pub record Queue (T : Type 0) : Type 0 where
   pub removed : ℕ
   pub capacity : Option ℕ
 
--- how far a call has come. `trying seen`: it has no mark, and `seen` says whether at a step of its own the queue was open
--- and might refuse a message; `displaced d`: it took d out, and its own message is on its way; `appended o`: its message is
--- in, in place of o; `taken v`: it took v; `read n`: a question that read a count; `measured n k`: one that read a count and
--- then a length
+-- whether at a step of its own a call saw the queue open and such that it might refuse a message
+abbrev pub MightHaveRefused : Type 0
+MightHaveRefused = Bool
+
+-- how far a call has come. `trying seen`: it has no mark, and `seen` says whether the queue might have refused a message at a step of
+-- the call's own; `displaced d`: it took d out, and its own message is on its way; `appended o`: its message is in, in place of o;
+-- `taken v`: it took v; `read n`: a question that read a count; `measured n k`: one that read a count and then a length
 pub data Stage (T : Type 0) : Type 0 where
-  trying : Bool → Stage T
+  trying : MightHaveRefused → Stage T
   displaced : T → Stage T
   appended : Option T → Stage T
   taken : T → Stage T
@@ -110,7 +113,7 @@ module _ {T : Type 0} where
   after p mark q = marked p.ask (is_displaced p.stage) mark q
 
   -- whether a try has found the queue open and one that may refuse, with a step here
-  abbrev pub seen_after : Bool → Queue T → Bool
+  abbrev pub seen_after : MightHaveRefused → Queue T → MightHaveRefused
   seen_after seen q = if seen then true else may_refuse q
 
   -- ---- a step that does not end its call: over the queue q, by this mark, from one stage to the next

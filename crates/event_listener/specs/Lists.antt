@@ -10,9 +10,17 @@ use Rattle.event_listener.specs.declared.calls.Registered.TheVariants as registe
 use Rattle.event_listener.specs.declared.error.ListenError.{ListenError}
 use Rattle.event_listener.specs.declared.error.ListenError.TheVariants.{NoMemory, SerialsUsedUp}
 
+-- whether a notice is for so many more, whoever is told already, or for so many in all
+abbrev pub IsAdditional : Type 0
+IsAdditional = Bool
+
+-- whether the notice of a told listener that is removed goes on to another
+abbrev pub PassesOn : Type 0
+PassesOn = Bool
+
 -- how a listener was told, and its tag
 pub record Notice (T : Type 0) : Type 0 where
-  pub additional : Bool
+  pub additional : IsAdditional
   pub tag : T
 
 -- the told listeners and the waiting ones, each in the order of listening
@@ -67,22 +75,20 @@ module _ {T W : Type 0} where
   with_task key task lists = record lists { waiting = set_value (same_key key) lists.waiting (Some task) }
 
   -- these waiting listeners told, each with its tag
-  abbrev pub told_with : Bool → List (Key × Option W) → List T → List (Key × Notice T)
-  told_with additional [] tags = []
-  told_with additional (w ∷ ws) [] = []
+  abbrev pub told_with : IsAdditional → List (Key × Option W) → List T → List (Key × Notice T)
   told_with additional (w ∷ ws) (t ∷ ts) = (w.0, record { additional = additional; tag = t }) ∷ told_with additional ws ts
+  told_with additional ws ts = []
 
   -- how many a notice for n moves
-  abbrev pub moved : Bool → ℕ → Lists T W → ℕ
+  abbrev pub moved : IsAdditional → ℕ → Lists T W → ℕ
   moved additional n lists = min (if additional then n else n - length lists.told) (length lists.waiting)
 
   -- the first waiting ones told with these tags
-  abbrev pub notified : Bool → List T → Lists T W → Lists T W
-  notified additional tags lists =
-      record {
-        told = lists.told ++ told_with additional (take (length tags) lists.waiting) tags;
-        waiting = drop (length tags) lists.waiting;
-      }
+  abbrev pub notified : IsAdditional → List T → Lists T W → Lists T W
+  notified additional tags lists = record {
+    told = lists.told ++ told_with additional (take (length tags) lists.waiting) tags;
+    waiting = drop (length tags) lists.waiting;
+  }
 
   -- memory is refused only without room, and serials only once all are given
   abbrev pub IsListenRefusal : ListView T W → ListenError → Type 0
@@ -117,8 +123,8 @@ module _ {T W : Type 0} where
   abbrev pub passed_wakes : Notice T → Lists T W → List W
   passed_wakes notice lists = tasks_of (take (moved notice.additional 1 lists) lists.waiting)
 
-  abbrev pub removed : Key → Bool → Lists T W → Lists T W
+  abbrev pub removed : Key → PassesOn → Lists T W → Lists T W
   removed key pass_on lists = elim (told_as lists key) [ Some notice ↦ (if pass_on then passed notice (without key lists) else without key lists) | None ↦ (if is_some (waits_as lists key) then without key lists else lists) ]
 
-  abbrev pub removed_wakes : Key → Bool → Lists T W → List W
+  abbrev pub removed_wakes : Key → PassesOn → Lists T W → List W
   removed_wakes key pass_on lists = elim (told_as lists key) [ Some notice ↦ (if pass_on then passed_wakes notice (without key lists) else []) | None ↦ [] ]
