@@ -1,5 +1,6 @@
 -- What leaves and what comes in a run, step by step; and with no call under way the state that the scene at its end is.
-use Rattle.std.proofs.Common.{arith, ◌≡◌, ℕ, zero, suc, ◌<◌, List, [], ◌∷◌, ◌++◌, map, length, slice_get, Option, None, Some, Err, refl, sym, ap, ◌∙◌, subst, append-nil, append_assoc}
+use Rattle.std.proofs.Common.{arith, ◌≡◌, ℕ, zero, suc, ◌+◌, ◌<◌, List, [], ◌∷◌, ◌++◌, map, length, slice_get, Option, None, Some, Err, refl, sym, ap, ◌∙◌, subst, append-nil, append_assoc}
+use Rattle.std.proofs.Math.Nat.{zero-add, suc-add}
 use Rattle.std.proofs.lemmas.List.{map-append}
 use Rattle.futures.specs.declared.task.Poll.TheVariants.{Ready, Pending}
 use Rattle.channel_calls.specs.Moves.{Channel}
@@ -21,7 +22,7 @@ use Rattle.channel_steps.specs.declared.run.Step.{Step as ChannelStep}
 use Rattle.channel_steps.specs.declared.run.Step.TheVariants as step
 use Rattle.channel_interleaving.specs.declared.floor.Floor.{Floor}
 use Rattle.channel_interleaving.proofs.Interface.{none_under_way}
-use Rattle.channel_world.specs.InTurn.{KeepsItOut, EndsWithItOut, StandsAsItsState, HasItsAccounts, LeaveInTurn, LaterLeavesLater, RefusedIsKeptOut, let_in, let_out, all_let_in, all_let_out, AllKeptOut, left_on, accepted_on}
+use Rattle.channel_world.specs.InTurn.{KeepsItOut, EndsWithItOut, StandsAsItsState, HasItsAccounts, LeaveInTurn, LaterLeavesLater, OfOnePartyInTurn, RefusedIsKeptOut, let_in, let_out, all_let_in, all_let_out, AllKeptOut, left_on, brought_on, accepted_on}
 use Rattle.channel_world.proofs.Opening.{at_rest_is}
 use Rattle.channel_world.specs.View.{view_of}
 
@@ -31,6 +32,16 @@ in_front : {A : Type 0} (xs ys : List A) (n : ℕ) → n < length xs → slice_g
 in_front [] ys n h = absurd (omega (arith, h))
 in_front (x ∷ xs) ys zero h = refl
 in_front (x ∷ xs) ys (suc n) h = in_front xs ys n (omega (arith, h))
+
+behind_all : {A : Type 0} (xs ys : List A) (n : ℕ) → slice_get (xs ++ ys) (length xs + n) ≡ slice_get ys n
+behind_all [] ys n = ap (λ (m : ℕ). slice_get ys m) (zero-add n)
+behind_all (x ∷ xs) ys n = ap (λ (m : ℕ). slice_get (x ∷ xs ++ ys) m) (suc-add (length xs) n) ∙ behind_all xs ys n
+
+module _ {A : Type 0} where
+  of_pair : (ms : List (ℕ × A)) (n p : ℕ) (x : A) → slice_get ms n ≡ Some (p, x) → slice_get (map (λ (m : ℕ × A). m.1) ms) n ≡ Some x
+  of_pair [] n p x e = cc e
+  of_pair (m ∷ ms) zero p x e = let same : m ≡ (p, x) = cc e in ap (λ (y : ℕ × A). Some y.1) same
+  of_pair (m ∷ ms) (suc n) p x e = of_pair ms n p x e
 
 unnamed : {A : Type 0} (p : ℕ) (xs : List A) → map (λ (m : ℕ × A). m.1) (map (λ x. (p, x)) xs) ≡ xs
 unnamed p [] = refl
@@ -144,6 +155,15 @@ module _ (T : Type 0) where
   pub later_leaves_later : LaterLeavesLater T
   later_leaves_later s t xs es run i j first later less a b h =
       (leave_in_turn s t xs es run i (omega (arith, less, h)) ∙ a, leave_in_turn s t xs es run j h ∙ b)
+
+  pub of_one_party_in_turn : OfOnePartyInTurn T
+  of_one_party_in_turn s t xs es run party i j first later less a b h =
+      let held = s.now.queue.items in
+      let come = map (λ (m : ℕ × T). m.1) (brought_on run) in (
+        leave_in_turn s t xs es run (length held + i) (omega (arith, less, h))
+            ∙ (behind_all held come i ∙ of_pair (brought_on run) i party first a),
+        leave_in_turn s t xs es run (length held + j) h ∙ (behind_all held come j ∙ of_pair (brought_on run) j party later b),
+      )
 
   pub refused_is_kept_out : RefusedIsKeptOut T
   refused_is_kept_out s t xs es run = each_out s xs es run.moments run.each

@@ -1,6 +1,6 @@
 -- What leaves and what comes in any run from one scene to another, by lists of steps, lists of calls and settlings in turn: message by
 -- message, each with the party whose call brought it; in which order they leave, and what becomes of a refused one.
-use Rattle.std.specs.Prelude.{◌≡◌, ℕ, ◌<◌, List, [], ◌∷◌, ◌++◌, map, length, slice_get, Some, Err}
+use Rattle.std.specs.Prelude.{◌≡◌, ℕ, ◌+◌, ◌<◌, List, [], ◌∷◌, ◌++◌, map, length, slice_get, Some, Err}
 use Rattle.futures.specs.declared.task.Poll.TheVariants.{Ready, Pending}
 use Rattle.channel_calls.specs.Errors.{unsent, handed_back, try_handed_back}
 use Rattle.channel_calls.specs.declared.ask.ChannelAsk.{ChannelAsk}
@@ -72,7 +72,8 @@ module _ {T : Type 0} where
   AllKeptOut s xs es ns h = Unit {0}
 
   module _ {s t : Scene T Waiter} {xs : List (ChannelStep T Waiter)} {es : List (ChannelEntry T)} where
-    -- what came on it, in order
+    -- What came on it, in the order of its steps, each with the party whose call brought it. A party has one call under way at a time, so of
+    -- what one party brought the order is also that of its calls.
     abbrev pub brought_on : IsRun NextScene s xs es t → List (ℕ × T)
     brought_on run = all_let_in s xs es run.moments run.each
 
@@ -115,13 +116,22 @@ LeaveInTurn T =
     (s t : Scene T Waiter) (steps : List (ChannelStep T Waiter)) (trace : List (ChannelEntry T)) (run : IsRun NextScene s steps trace t)
     (n : ℕ) → n < length (left_on run) → slice_get (left_on run) n ≡ slice_get (accepted_on run) n
 
--- So of two messages of which one came later, as of successive calls of one party, it has left only where the other one has, and
--- as an earlier one.
+-- So of two messages of which one was held or came later, it has left only where the other one has, and that as an earlier one.
 abbrev pub LaterLeavesLater : Type 0 → Type 0
 LaterLeavesLater T =
     (s t : Scene T Waiter) (steps : List (ChannelStep T Waiter)) (trace : List (ChannelEntry T)) (run : IsRun NextScene s steps trace t)
     (i j : ℕ) (first later : T) → i < j → slice_get (accepted_on run) i ≡ Some first → slice_get (accepted_on run) j ≡ Some later
     → j < length (left_on run) → (slice_get (left_on run) i ≡ Some first) × (slice_get (left_on run) j ≡ Some later)
+
+-- Of two messages that one party brought, as by successive calls of its own, the later has left only where the first has, and each has
+-- left as the one that it came as, behind all that was held at first: so the first as an earlier one.
+abbrev pub OfOnePartyInTurn : Type 0 → Type 0
+OfOnePartyInTurn T =
+    (s t : Scene T Waiter) (steps : List (ChannelStep T Waiter)) (trace : List (ChannelEntry T)) (run : IsRun NextScene s steps trace t)
+    (party i j : ℕ) (first later : T) → i < j → slice_get (brought_on run) i ≡ Some (party, first)
+    → slice_get (brought_on run) j ≡ Some (party, later) → length s.now.queue.items + j < length (left_on run)
+    → (slice_get (left_on run) (length s.now.queue.items + i) ≡ Some first)
+    × (slice_get (left_on run) (length s.now.queue.items + j) ≡ Some later)
 
 -- No refused send lets its message in.
 abbrev pub RefusedIsKeptOut : Type 0 → Type 0

@@ -4,7 +4,7 @@
 ghost use Rattle.channel_world.specs.Asleep.{AllAreAwake, ClosingIsAnswered, NoReceiveIsLeft, NoSendIsLeft, NoSendSleepsBesideAPlace, NoStreamIsLeft, NobodyIsLeftAtRest, NobodyIsLeftOnAClosed, NobodySleepsOnAClosed, NoReceiveSleepsBesideAMessage, NoStreamSleepsBesideAMessage, ReceivesAreAnswered, SendsAreAnswered, StreamsAreAnswered};
 ghost use Rattle.channel_world.specs.Carried.{HoldsWhatFits, LeadsFurther, LeadsOnInTurn, StaysWhereItIs};
 ghost use Rattle.channel_world.specs.Counts.{AreByDrops, CountsAtRest, CountsLive, OpenHasBoth};
-ghost use Rattle.channel_world.specs.InTurn.{HasItsAccounts, LaterLeavesLater, LeaveInTurn, RefusedIsKeptOut, StandsAsItsState};
+ghost use Rattle.channel_world.specs.InTurn.{HasItsAccounts, LaterLeavesLater, LeaveInTurn, OfOnePartyInTurn, RefusedIsKeptOut, StandsAsItsState};
 ghost use Rattle.channel_world.specs.BlocksByNames.{PollsByName};
 ghost use Rattle.channel_world.specs.MergesByNames.{MergesByNamesAreRuns};
 ghost use Rattle.channel_world.specs.MergesByNamesRow.{TwoClonesByNames};
@@ -160,13 +160,15 @@ pub fn an_unbounded_world_is_never_full<T: Drop>(world: &World<T>)
 {}
 
 /// On any way from one scene to another, by runs of steps, lists of calls and settlings in turn, what leaves as the n-th is what was
-/// held or came as the n-th. So of two messages that were accepted in successive calls of one party the later never leaves first.
-/// The ways are those of `leads`.
+/// held or came as the n-th. What came is told in the order of the steps, each message with the party whose call brought it, and a
+/// party makes one call after another. So of two messages that were accepted in successive calls of one party the later never leaves
+/// first: it has left only where the other one has, and as a later one. The ways are those of `leads`.
 ///
 /// Own to this project.
 pub fn by_steps_messages_leave_in_turn<T>()
     ensures in_turn { LeaveInTurn T }
     ensures later { LaterLeavesLater T }
+    ensures of_one_party { OfOnePartyInTurn T }
 {}
 
 /// On any such way a call that refuses the message which it was to send, or goes on waiting with it, has let nothing in: it has made
