@@ -1,31 +1,63 @@
 -- One poll of settling: what the channel did is an answer of the model.
-use Rattle.std.proofs.Common.{arith, ◌≡◌, ◌<◌, ◌≤◌, ◌+◌, ◌-◌, ◌^◌, ℕ, List, length, true, refl, sym, ap, subst, ◌∙◌}
+use Rattle.std.proofs.Common.{arith, ◌≡◌, ◌<◌, ◌≤◌, ◌+◌, ◌-◌, ◌^◌, ℕ, suc, List, [], ◌∷◌, length, Option, true, refl, sym, ap, subst, ◌∙◌}
+use Rattle.event_listener.specs.declared.key.Key.{Key}
+use Rattle.channel_calls.specs.Moves.{Channel}
+use Rattle.channel_calls.specs.Parts.{Roster, listeners}
 use Rattle.channel_calls.specs.declared.reply.Reply.{Reply}
+use Rattle.channel_calls.specs.declared.stage.Line.{Line}
+use Rattle.channel_calls.specs.declared.stage.Line.TheVariants.{Sends, Receives, Streams, Closings}
 use Rattle.channel_alone.specs.Alone.{Outcome, Alone}
 use Rattle.channel_interleaving.proofs.Interface.{none_under_way, no_agents}
 use Rattle.channel_interleaving.specs.Bookkeeping.{asks}
-use Rattle.channel_interleaving.specs.Floor.{book_of, Shown, IsKept, IsQuiet}
+use Rattle.channel_interleaving.specs.Floor.{parts_in, book_of, Shown, IsKept, IsQuiet}
 use Rattle.channel_interleaving.specs.Kept.{AllKept}
 use Rattle.channel_interleaving.specs.Lone.{book_alone, WakesAtMost}
+use Rattle.channel_interleaving.specs.Roll.{held_of}
 use Rattle.channel_interleaving.specs.Run.{Book}
 use Rattle.channel_interleaving.specs.Settle.{PollsAlone}
 use Rattle.channel_interleaving.specs.declared.floor.Floor.{Floor}
 use Rattle.channel_model.specs.Answer.{Answer}
+use Rattle.channel_model.specs.Asked.{KeysHeld}
 use Rattle.channel_model.specs.Awake.{AwakeIn}
-use Rattle.channel_model.specs.Lines.{is_among}
+use Rattle.channel_model.specs.Lines.{is_among, untold}
 use Rattle.channel_model.specs.Refused.{Answers}
 use Rattle.channel_model.specs.Settling.{poll_of}
 use Rattle.channel_model.specs.State.{State}
 use Rattle.channel_model.specs.declared.name.Waiter.{Waiter}
+use Rattle.channel_refinement.specs.Refines.{AreUntold}
 use Rattle.channel_rest.specs.Lone.{PollsAnswer}
-use Rattle.channel_rest.specs.Rest.{state_at, RestIsAWorld}
+use Rattle.channel_rest.specs.Rest.{state_at, IsWorld, RestIsAWorld}
 use Rattle.channel_steps.specs.Scene.{Scene}
 use Rattle.channel_world.specs.Settled.{Polls}
 use Rattle.channel_world.specs.World.{at_rest}
 use Rattle.channel_world.proofs.Opening.{at_rest_is}
 use Rattle.channel_world.proofs.Whole.{can_be_lent}
 
+-- a list shows a line of as many names as wait on it
+as_many : (held : KeysHeld) (es : List (Key × Option Waiter)) (ws : List Waiter) → AreUntold held es ws → length es ≡ length ws
+as_many held [] [] h = refl
+as_many held [] (w ∷ ws) h = absurd h
+as_many held (e ∷ es) [] h = absurd h
+as_many held (e ∷ es) (w ∷ ws) h = ap suc (as_many held es ws h.2)
+
 module _ {T : Type 0} (f : Floor T) (kept : IsKept f) (quiet : IsQuiet f) where
+  -- as many stand untold in a line as wait on its list, where no call is under way
+  pub as_many_wait : RestIsAWorld T → (line : Line)
+      → length (listeners line (parts_in f).roster).waiting ≡ length (untold line (at_rest f).waiting)
+  as_many_wait rests line =
+      let k = kept.listeners in
+      subst (λ (r : Roster Waiter). length (listeners line r).waiting ≡ length (untold line (at_rest f).waiting))
+      (ap (λ (c : Channel T Waiter). c.roster) k.shown.shows.now)
+      (subst (λ (s : State T). length (listeners line k.scene.now.roster).waiting ≡ length (untold line s.waiting))
+      (sym (at_rest_is f k.scene k.shown quiet)) (shown k.scene (rests (book_of f) k.scene k.kept (none_under_way f k.scene quiet k.shown)) line))
+    where
+      shown : (s : Scene T Waiter) → IsWorld (book_of f) s → (l : Line)
+          → length (listeners l s.now.roster).waiting ≡ length (untold l (state_at (book_of f) s).waiting)
+      shown s world Sends = let own = world.shows.lines Sends in as_many (held_of f.roll) _ _ own.untold
+      shown s world Receives = let own = world.shows.lines Receives in as_many (held_of f.roll) _ _ own.untold
+      shown s world Streams = let own = world.shows.lines Streams in as_many (held_of f.roll) _ _ own.untold
+      shown s world Closings = let own = world.shows.lines Closings in as_many (held_of f.roll) _ _ own.untold
+
   -- nobody is left asleep where no call is under way
   pub awake_at_rest : RestIsAWorld T → AwakeIn (at_rest f)
   awake_at_rest rests =

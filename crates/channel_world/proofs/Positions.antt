@@ -1,5 +1,5 @@
 -- The positions that a settling needs: one for each send that is pending.
-use Rattle.std.proofs.Common.{arith, ◌≡◌, ◌≤◌, ◌+◌, ℕ, Bool, true, false, Some, List, length, slice_get, inl, inr, ap, ◌∙◌}
+use Rattle.std.proofs.Common.{arith, ◌≡◌, ◌≤◌, ◌+◌, ℕ, Bool, true, false, Some, List, [], ◌∷◌, length, slice_get, inl, inr, ap, ◌∙◌}
 use Rattle.channel_calls.specs.declared.reply.Reply.{Reply}
 use Rattle.channel_interleaving.proofs.Interface.{only_sends_bring}
 use Rattle.channel_interleaving.specs.Floor.{HasPosition, HasPositions, IsQuiet}
@@ -17,6 +17,10 @@ use Rattle.channel_world.proofs.Short.{sends_of, sends_one, brings_one}
 at_most_came : {T : Type 0} (b : Bool) (x : Reply T) → accepted_by b x ≤ came_in x
 at_most_came true x = omega arith
 at_most_came false x = omega arith
+
+pub nobody_there : (ws : List Waiter) (w : Waiter) → length ws ≡ 0 → is_among w ws ≡ true → ⊥
+nobody_there [] w e there = absurd (let no : false ≡ true = there in cc)
+nobody_there (v ∷ ws) w e there = omega (arith, e)
 
 module _ {T : Type 0} where
   pub fewer_positions : (f : Floor T) (n m : ℕ) → n ≤ m → HasPositions m f → HasPositions n f

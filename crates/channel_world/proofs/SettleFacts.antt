@@ -17,7 +17,6 @@ use Rattle.channel_model.proofs.Settle.{first_there, settle_more, settle_ends, s
 use Rattle.channel_world.specs.Settled.{Polls, polls_in, most_polls, pending_on, NoneLackedMemory}
 use Rattle.channel_world.specs.declared.settle.Settled.{Settled}
 use Rattle.channel_world.proofs.Short.{weight_of, shorter, within, woken_within}
-use Rattle.channel_world.proofs.Weights.{no_more}
 
 -- ---- lists
 
@@ -31,10 +30,10 @@ first_of x (y ∷ ys) e = let same : y ≡ x = cc e in ap (λ z. z ∷ ys) same
 
 -- ---- how many polls there are at most
 
-pub enough_polls : {T : Type 0} (s : State T) (woken sends receives streams : ℕ) → woken ≡ length s.waiting.woken → pending_on Sends s ≤ sends
-    → pending_on Receives s ≤ receives → pending_on Streams s ≤ streams → most_polls s ≤ woken + (sends * (streams + 2) + 2 * receives + streams)
-enough_polls s woken sends receives streams w a b d =
-    let more = no_more (length s.waiting.woken) _ sends _ receives _ streams a b d in omega (arith, more, w)
+pub just_so_many : {T : Type 0} (s : State T) (woken sends receives streams : ℕ) → woken ≡ length s.waiting.woken → sends ≡ pending_on Sends s
+    → receives ≡ pending_on Receives s → streams ≡ pending_on Streams s
+    → woken + (sends * (streams + 2) + 2 * receives + streams) ≡ most_polls s
+just_so_many s woken sends receives streams w a b d = rw (w, a, b, d) refl
 
 -- the same of other names of these numbers
 pub few_told : (polls count told pending : ℕ) → count ≡ polls → told ≡ pending → 2 * polls ≤ pending * (pending + 1) → 2 * count ≤ told * (told + 1)

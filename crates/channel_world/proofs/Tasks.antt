@@ -1,17 +1,12 @@
 -- How many tasks a list of listeners has.
-use Rattle.std.proofs.Common.{arith, ◌≡◌, refl, sym, subst, ◌≤◌, ◌+◌, ℕ, List, [], ◌∷◌, length, Option, None, Some}
+use Rattle.std.proofs.Common.{arith, ◌≡◌, refl, sym, subst, ◌∙◌, ◌≤◌, ◌+◌, ℕ, List, [], ◌∷◌, length, Option, None, Some}
 use Rattle.std.specs.Prelude.{IfSome}
 use Rattle.std.specs.Option.{SomeIff}
-use Rattle.channel_calls.specs.Parts.{listeners}
-use Rattle.channel_calls.specs.declared.stage.Line.{Line}
-use Rattle.channel_calls.specs.declared.stage.Line.TheVariants.{Sends, Receives, Streams, Closings}
-use Rattle.channel_interleaving.specs.Floor.{parts_in}
-use Rattle.channel_interleaving.specs.declared.floor.Floor.{Floor}
-use Rattle.channel_model.specs.Lines.{Waiting, untold}
+use Rattle.channel_model.specs.Lines.{Waiting}
 use Rattle.channel_model.specs.declared.call.Call.{Call}
 use Rattle.channel_model.specs.declared.call.Call.TheVariants as call
 use Rattle.channel_model.specs.declared.name.HandleId.{HandleId}
-use Rattle.channel_world.specs.World.{at_rest, most_woken}
+use Rattle.channel_world.specs.World.{most_woken}
 use Rattle.event_listener.specs.Lists.{tasks_of}
 use Rattle.event_listener.specs.declared.key.Key.{Key}
 
@@ -20,13 +15,6 @@ pub few_tasks : {W : Type 0} (es : List (Key × Option W)) → length (tasks_of 
 few_tasks [] = omega arith
 few_tasks ((k, None) ∷ es) = let h = few_tasks es in omega (arith, h)
 few_tasks ((k, Some w) ∷ es) = let h = few_tasks es in omega (arith, h)
-
--- so no more stand untold in a line than wait on its list
-pub line_tasks : {T : Type 0} (f : Floor T) (line : Line) → length (untold line (at_rest f).waiting) ≤ length (listeners line (parts_in f).roster).waiting
-line_tasks f Sends = few_tasks (parts_in f).roster.sends.waiting
-line_tasks f Receives = few_tasks (parts_in f).roster.receives.waiting
-line_tasks f Streams = few_tasks (parts_in f).roster.streams.waiting
-line_tasks f Closings = few_tasks (parts_in f).roster.closings.waiting
 
 -- a call that closes nothing, and takes no several messages
 pub closes_nothing : {T : Type 0} (c : Call T) (l : Waiting) → ((h : HandleId) → c ≡ call.Close h → ⊥) → ((h : HandleId) → c ≡ call.Drop h → ⊥) → ((h : HandleId) (n : ℕ) → c ≡ call.RecvMany h n → ⊥) → most_woken c l ≡ 2 + length l.streams
@@ -61,3 +49,8 @@ closes_nothing (call.ReceiverCount handle) l close drop many = refl
 pub no_less : (P : Type 0) (r : Option ℕ) (least n : ℕ) → SomeIff r P n → least ≤ n → IfSome r (λ m. least ≤ m)
 no_less P None least n e le = tt
 no_less P (Some m) least n e le = subst (λ (k : ℕ). least ≤ k) (sym e.1) le
+
+-- and what it is said to be
+pub just_it : (P : Type 0) (r : Option ℕ) (so n : ℕ) → SomeIff r P n → n ≡ so → IfSome r (λ m. m ≡ so)
+just_it P None so n e same = tt
+just_it P (Some m) so n e same = e.1 ∙ same

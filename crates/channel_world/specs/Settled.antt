@@ -1,5 +1,5 @@
 -- What settling answers, and the room that it takes.
-use Rattle.std.specs.Prelude.{◌≡◌, ◌+◌, ◌*◌, ◌≤◌, ◌++◌, ℕ, List, length, map, false}
+use Rattle.std.specs.Prelude.{◌≡◌, ◌+◌, ◌*◌, ◌≤◌, ◌++◌, ℕ, List, length, map, true, false}
 use Rattle.std.specs.List.{list_any}
 use Rattle.channel_alone.specs.Ample.{lacks_memory}
 use Rattle.channel_language.specs.Text.{wants_growth}
@@ -8,11 +8,12 @@ use Rattle.channel_calls.specs.declared.stage.Line.{Line}
 use Rattle.channel_calls.specs.declared.stage.Line.TheVariants.{Sends, Receives, Streams}
 use Rattle.channel_model.specs.Awake.{AwakeIn}
 use Rattle.channel_model.specs.Laws.{woken_of_line}
-use Rattle.channel_model.specs.Lines.{untold}
+use Rattle.channel_model.specs.Lines.{is_among, untold}
 use Rattle.channel_model.specs.Refused.{Answers}
 use Rattle.channel_model.specs.Settling.{poll_of, SettlesTo}
 use Rattle.channel_model.specs.State.{State}
 use Rattle.channel_model.specs.declared.name.Waiter.{Waiter}
+use Rattle.channel_world.specs.View.{WorldView, at_rest, HasPositions}
 use Rattle.channel_world.specs.declared.settle.Settled.{Settled}
 
 module _ {T : Type 0} where
@@ -42,6 +43,11 @@ module _ {T : Type 0} where
   abbrev pub most_polls : State T → ℕ
   most_polls s =
       length s.waiting.woken + (pending_on Sends s * (pending_on Streams s + 2) + 2 * pending_on Receives s + pending_on Streams s)
+
+module _ {T : Type 0} where
+  -- Where somebody is woken the queue has a position for the message of each send that is pending. Where nobody is, nobody is polled.
+  abbrev pub HasPositionsToSettle : WorldView T → Type 0
+  HasPositionsToSettle w = (name : Waiter) → is_among name (at_rest w).waiting.woken ≡ true → HasPositions (pending_on Sends (at_rest w)) w
 
 -- However it is answered, settling makes no more polls than that, from whatever state in which nobody is left asleep.
 abbrev pub SettlingIsShort : Type 0 → Type 0

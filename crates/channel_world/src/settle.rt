@@ -34,7 +34,7 @@ fn take_room<T: Drop>(mut names: Vec<Waiter>, most: usize, alloc: Global) -> Opt
     ensures names { IfSome result (λ r. r.names.items ≡ names.items) }
     ensures polls { IfSome result (λ r. r.polls.items ≡ []) }
     ensures room { IfSome result (λ r. most ≤ vec_capacity r.names) }
-    ensures answers { IfSome result (λ r. most ≤ vec_capacity r.polls) }
+    ensures answers { IfSome result (λ r. vec_capacity r.polls ≡ most) }
 {
     match names.reserve(most) {
         Ok(()) => {}
@@ -49,15 +49,14 @@ fn take_room<T: Drop>(mut names: Vec<Waiter>, most: usize, alloc: Global) -> Opt
 impl<T: Drop> World<T> {
     ghost use Rattle.std.specs.Prelude.{◌≡◌, ◌≤◌, ◌+◌, [], ◌∷◌, true, false, length, vec_len, vec_capacity, IfOk, IfSome, OnSome, IsTrue};
     ghost use Rattle.channel_alone.specs.Ample.{lacks_memory};
-    ghost use Rattle.channel_calls.specs.declared.stage.Line.TheVariants.{Sends};
     ghost use Rattle.channel_interleaving.specs.Positions.{accepted_by, brings};
     ghost use Rattle.channel_model.specs.Answer.{Answer};
     ghost use Rattle.channel_model.specs.Laws.{count_of, is_line, line_at};
     ghost use Rattle.channel_model.specs.Lines.{is_among};
     ghost use Rattle.channel_model.specs.Refused.{Answers};
     ghost use Rattle.channel_model.specs.Settling.{poll_of};
-    ghost use Rattle.channel_world.specs.Settled.{Polls, most_polls, pending_on};
-    ghost use Rattle.channel_world.specs.View.{names_in, at_rest, has_one_place, accepted_by_now, IsQuiet, HasPositions, LeadsOn, HasPosition};
+    ghost use Rattle.channel_world.specs.Settled.{Polls, HasPositionsToSettle, most_polls, pending_on};
+    ghost use Rattle.channel_world.specs.View.{names_in, at_rest, has_one_place, accepted_by_now, IsQuiet, LeadsOn, HasPosition};
 
     /// Whether what has this name belongs to this line.
     fn is_on(&self, line: Line, name: Waiter) -> bool
@@ -81,17 +80,21 @@ impl<T: Drop> World<T> {
 
     /// How many are pending on this line, where these are woken. None where there is no such number.
     fn pending_on(&self, line: Line, woken: &Vec<Waiter>) -> Option<usize>
-        requires { woken.now.items ≡ (at_rest self.now).waiting.woken }
-        ensures { IfSome result (λ n. pending_on line (at_rest self.now) ≤ n) }
+        requires quiet { IsQuiet self.now }
+        requires woken { woken.now.items ≡ (at_rest self.now).waiting.woken }
+        ensures { IfSome result (λ n. n ≡ pending_on line (at_rest self.now)) }
     {
+        a_channel_at_rest_is_a_world::<T>();
+        self.keeps_names();
         let told = self.count_on(line, woken)?;
         self.floor.channel.waiting(line).checked_add(told)
     }
 
     /// How many polls settling makes at most, where these are woken. None where there is no such number.
     fn most_polls(&self, woken: &Vec<Waiter>) -> Option<usize>
-        requires { woken.now.items ≡ (at_rest self.now).waiting.woken }
-        ensures { IfSome result (λ n. most_polls (at_rest self.now) ≤ n) }
+        requires quiet { IsQuiet self.now }
+        requires woken { woken.now.items ≡ (at_rest self.now).waiting.woken }
+        ensures { IfSome result (λ n. n ≡ most_polls (at_rest self.now)) }
     {
         let sends = self.pending_on(Line::Sends, woken)?;
         let receives = self.pending_on(Line::Receives, woken)?;
@@ -104,11 +107,17 @@ impl<T: Drop> World<T> {
         later.checked_add(woken.len())
     }
 
-    /// Whether the queue has positions for the messages of all pending sends, where these are woken.
+    /// Whether the queue has positions for the messages of all pending sends, where these are woken. Where nobody is woken nobody is
+    /// polled, so there it needs none.
     fn has_positions_to_settle(&self, woken: &Vec<Waiter>) -> bool
-        requires { woken.now.items ≡ (at_rest self.now).waiting.woken }
-        ensures { IsTrue result → HasPositions (pending_on Sends (at_rest self.now)) self.now }
+        requires quiet { IsQuiet self.now }
+        requires woken { woken.now.items ≡ (at_rest self.now).waiting.woken }
+        ensures enough { IsTrue result → HasPositionsToSettle self.now }
+        ensures nobody { woken.now.items ≡ [] → IsTrue result }
     {
+        if woken.is_empty() {
+            return true;
+        }
         match self.pending_on(Line::Sends, woken) {
             Some(sends) => self.has_positions(sends),
             None => false,
@@ -122,14 +131,15 @@ impl<T: Drop> World<T> {
         self.floor.order.woken(&self.floor.roll, self.floor.alloc)
     }
 
-    /// Room for all that settling answers. None where it was refused, or where the queue has no positions for the messages of all
-    /// pending sends.
+    /// Room for all that settling answers. None where it was refused, or where somebody is woken and the queue has no positions for the
+    /// messages of all pending sends.
     fn room_to_settle(&self) -> Option<Room<T>>
+        requires quiet { IsQuiet self.now }
         ensures names { IfSome result (λ r. r.names.items ≡ (at_rest self.now).waiting.woken) }
         ensures polls { IfSome result (λ r. r.polls.items ≡ []) }
         ensures room { IfSome result (λ r. most_polls (at_rest self.now) ≤ vec_capacity r.names) }
-        ensures answers { IfSome result (λ r. most_polls (at_rest self.now) ≤ vec_capacity r.polls) }
-        ensures places { OnSome result (HasPositions (pending_on Sends (at_rest self.now)) self.now) }
+        ensures answers { IfSome result (λ r. vec_capacity r.polls ≡ most_polls (at_rest self.now)) }
+        ensures places { OnSome result (HasPositionsToSettle self.now) }
     {
         let Ok(names) = self.woken_names() else {
             return None;
@@ -163,11 +173,11 @@ impl<T: Drop> World<T> {
 }
 
 impl<T: Drop> World<T> {
-    ghost use Rattle.std.specs.Prelude.{◌≡◌, ◌≤◌, ◌+◌, ◌*◌, [], vec_len, IfOk, OnOk, OnErr};
+    ghost use Rattle.std.specs.Prelude.{◌≡◌, ◌≤◌, ◌+◌, ◌*◌, [], vec_len, vec_capacity, IfOk, OnOk, OnErr};
     ghost use Rattle.channel_interleaving.specs.Pending.{stands_pending, how_many};
     ghost use Rattle.channel_model.specs.Settling.{Settles, pending_count};
     ghost use Rattle.channel_world.specs.Carried.{polls_replied, LeadsTo};
-    ghost use Rattle.channel_world.specs.Asleep.{NoReceiveGoesOn, NoSendGoesOn, NoStreamGoesOn, NobodyMissesTheClosing};
+    ghost use Rattle.channel_world.specs.Asleep.{NoReceivePendsBesideAMessage, NoSendPendsBesideAPlace, NoStreamPendsBesideAMessage, NobodyPendsOnAClosed};
     ghost use Rattle.channel_world.specs.Settled.{polls_in, most_polls, NoneLackedMemory};
     ghost use Rattle.channel_world.specs.View.{names_in, at_rest, IsQuiet, Stands};
 
@@ -181,10 +191,10 @@ impl<T: Drop> World<T> {
     /// `pending()` was 1 there is one poll at most. Where `messages()` is above 0 after it no receive and no stream is pending, and no send
     /// where the channel is open and one more message fits.
     ///
-    /// Room for that many answers, and for as many names, is taken before the first poll. Where it is refused, it is `NoMemory`, and
-    /// nothing is changed. So it is, where the channel has more than one place, if the messages that were accepted and those of
-    /// the pending sends come to 2^61: only a pending send brings one. No poll is refused memory: where it goes on waiting, the node of
-    /// the listener that was told serves the next one. So a settling is refused its room, or it settles. Only once all 2^64 - 1 serial
+    /// Room for just that many answers, and for as many names, is taken before the first poll. Where it is refused, it is `NoMemory`, and
+    /// nothing is changed. So it is, where somebody is woken and the channel has more than one place, if the messages that were accepted
+    /// and those of the pending sends come to 2^61: only a pending send brings one. No poll is refused memory: where it goes on waiting,
+    /// the node of the listener that was told serves the next one. So a settling is refused its room, or it settles. Only once all 2^64 - 1 serial
     /// numbers of a list of listeners were given, the reply of a poll that would go on waiting there says that none was left, and it is
     /// pending no more; all the rest holds as before.
     ///
@@ -200,12 +210,13 @@ impl<T: Drop> World<T> {
         ensures few_pending { IfOk result (λ polls. 2 * vec_len polls
             ≤ how_many stands_pending (names_in self.old) * (how_many stands_pending (names_in self.old) + 1)) }
         ensures one_pending { IfOk result (λ polls. how_many stands_pending (names_in self.old) ≡ 1 → vec_len polls ≤ 1) }
+        ensures room { IfOk result (λ polls. vec_capacity polls ≡ most_polls (at_rest self.old)) }
         ensures ample { IfOk result (λ polls. NoneLackedMemory polls.items) }
         ensures nobody_woken { OnOk result ((at_rest self.new).waiting.woken ≡ []) }
-        ensures receives { OnOk result (NoReceiveGoesOn self.new) }
-        ensures sends { OnOk result (NoSendGoesOn self.new) }
-        ensures streams { OnOk result (NoStreamGoesOn self.new) }
-        ensures closing { OnOk result (NobodyMissesTheClosing self.new) }
+        ensures receives { OnOk result (NoReceivePendsBesideAMessage self.new) }
+        ensures sends { OnOk result (NoSendPendsBesideAPlace self.new) }
+        ensures streams { OnOk result (NoStreamPendsBesideAMessage self.new) }
+        ensures closing { OnOk result (NobodyPendsOnAClosed self.new) }
         ensures unchanged { OnErr result (self.new ≡ self.old) }
         ensures quiet { IsQuiet self.new }
         ensures leads { IfOk result (λ polls. LeadsTo self.old (polls_replied polls.items) self.new) }

@@ -1,6 +1,17 @@
-use Rattle.channel_world.proofs.Positions.{fewer_positions}
+-- From the number of pending sends; where nobody is woken there is nobody for whom a position is asked.
+use Rattle.std.proofs.Common.{arith, ◌≡◌, List, length, ap, sym, ◌∙◌, vec_len}
+use Rattle.channel_model.specs.declared.name.Waiter.{Waiter}
+use Rattle.channel_world.specs.World.{at_rest}
+use Rattle.channel_world.proofs.Positions.{fewer_positions, nobody_there}
 use Rattle.channel_world.proofs.Inside.{floor_of}
 use Rattle.channel_world.proofs.world.World.has_positions_to_settle.Goals as goal
 
-pub returns-in-Some : goal.returns-in-Some
-returns-in-Some g c = λ ok. fewer_positions (floor_of c.args.self.now) _ _ c.in-Some.ensures (c.has_positions.ensures.enough ok)
+pub returns-then-is_empty-clause-enough : goal.returns-then-is_empty-clause-enough
+returns-then-is_empty-clause-enough g c =
+    let woken = (at_rest (floor_of c.args.self.now)).waiting.woken in
+    let long : length woken ≡ vec_len c.args.woken.now = ap (λ (ws : List Waiter). length ws) (sym c.requires.woken) ∙ sym c.args.woken.now.ok.0 in
+    λ ok name there. absurd (nobody_there woken name (omega (arith, long, c.is_empty.ensures, c.if-is_empty.true)) there)
+
+pub returns-in-Some-clause-enough : goal.returns-in-Some-clause-enough
+returns-in-Some-clause-enough g c =
+    λ ok name there. let so = c.in-Some.ensures in fewer_positions (floor_of c.args.self.now) _ _ (omega (arith, so)) (c.has_positions.ensures.enough ok)

@@ -2,8 +2,8 @@
 use Rattle.std.proofs.Common.{arith, ◌+◌, ◌*◌, ◌≡◌, ◌∙◌, List, length, vec_len, ap}
 use Rattle.channel_model.specs.declared.name.Waiter.{Waiter}
 use Rattle.channel_world.specs.World.{at_rest}
-use Rattle.channel_world.proofs.SettleFacts.{enough_polls}
-use Rattle.channel_world.proofs.Tasks.{no_less}
+use Rattle.channel_world.proofs.SettleFacts.{just_so_many}
+use Rattle.channel_world.proofs.Tasks.{just_it}
 use Rattle.channel_world.proofs.Inside.{floor_of}
 use Rattle.channel_world.proofs.world.World.most_polls.Goals as goal
 
@@ -13,8 +13,8 @@ returns g c =
     let sends = c.in_ok-sends.sends in
     let receives = c.in_ok-receives.receives in
     let streams = c.in_ok-streams.streams in
-    let woken : vec_len c.args.woken.now ≡ length s.waiting.woken = c.args.woken.now.ok.0 ∙ ap (λ (ws : List Waiter). length ws) c.requires in
-    let enough = enough_polls s (vec_len c.args.woken.now) sends receives streams woken c.in_ok-sends.ensures c.in_ok-receives.ensures c.in_ok-streams.ensures in
+    let woken : vec_len c.args.woken.now ≡ length s.waiting.woken = c.args.woken.now.ok.0 ∙ ap (λ (ws : List Waiter). length ws) c.requires.woken in
+    let all = just_so_many s (vec_len c.args.woken.now) sends receives streams woken c.in_ok-sends.ensures c.in_ok-receives.ensures c.in_ok-streams.ensures in
     let sum-each = c.in_ok-each.ensures.1 in
     let by-sends = c.in_ok-by_sends.ensures.1 in
     let by-receives = c.in_ok-by_receives.ensures.1 in
@@ -22,5 +22,5 @@ returns g c =
     let sum-later = c.in_ok-later.ensures.1 in
     let each : c.in_ok-each.each ≡ streams + 2 = omega (arith, sum-each) in
     let product : sends * c.in_ok-each.each ≡ sends * (streams + 2) = ap (λ n. sends * n) each in
-    no_less _ c.checked_add-4.result _ (c.in_ok-later.later + c.len.result) c.checked_add-4.ensures
-    (omega (arith, enough, product, by-sends, by-receives, sum-others, sum-later, c.len.ensures))
+    just_it _ c.checked_add-4.result _ (c.in_ok-later.later + c.len.result) c.checked_add-4.ensures
+    (omega (arith, all, product, by-sends, by-receives, sum-others, sum-later, c.len.ensures))

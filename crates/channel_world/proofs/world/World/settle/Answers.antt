@@ -27,7 +27,7 @@ loop-names-init g c =
       leads = rw r.polls (leads_nowhere now);
       names = r.room;
       polls = r.answers;
-      places = fewer_positions now _ _ (sends_within (at_rest now) awake) r.places;
+      places = λ name there. fewer_positions now _ _ (sends_within (at_rest now) awake) (r.places name there);
     }
 
 pub poll_woken-reply-requires-clause-quiet : goal.poll_woken-reply-requires-clause-quiet
@@ -56,7 +56,7 @@ poll_woken-reply-requires-clause-limit g c =
     slice_get_read names.items (vec_len names) place name names.ok.0 (search rules) c.index-name.ensures in
     let next = next_poll (at_rest (floor_of c.args.self.now)) (at_rest (floor_of c.loop-names.self)) polls.items names.items place name c.loop-names.invariant.goes
     (c.len-in-loop-names-2.ensures ∙ polls.ok.0) here in
-    sends_positions (floor_of c.loop-names.self) name c.loop-names.invariant.quiet next.woken c.loop-names.invariant.places
+    sends_positions (floor_of c.loop-names.self) name c.loop-names.invariant.quiet next.woken (c.loop-names.invariant.places name next.woken)
 
 pub poll_woken-reply-requires-clause-room : goal.poll_woken-reply-requires-clause-room
 poll_woken-reply-requires-clause-room g c =
@@ -116,8 +116,9 @@ loop-names-preserved g c =
       leads = leads_polled (floor_of c.args.self.now) (floor_of c.loop-names.self) (floor_of c.poll_woken-reply.new.self) polls.items c.push_reserved.new.self.items _ pushed.items i.leads e.leads;
       names = omega (arith, more, a);
       polls = omega (arith, wider, b);
-      places = positions_on (floor_of c.loop-names.self) (floor_of c.poll_woken-reply.new.self) name names.items after.reply after.names.items
-          (let goes = i.goes in goes.awake) next.front e.polled e.place e.accepted i.places;
+      places = λ other woken.
+          positions_on (floor_of c.loop-names.self) (floor_of c.poll_woken-reply.new.self) name names.items after.reply after.names.items
+          (let goes = i.goes in goes.awake) next.front e.polled e.place e.accepted (i.places name next.woken);
     }
 
 pub loop-names-smaller : goal.loop-names-smaller
@@ -158,6 +159,9 @@ returns-clause-short g c =
     let end = goes_end (at_rest (floor_of c.args.self.now)) (at_rest (floor_of c.loop-names.self)) polls.items names.items c.loop-names.invariant.goes
     (let a = names.ok.0 in let b = polls.ok.0 in omega (arith, a, b, c.loop-names-test.false)) in
     let short = end.short in let b = polls.ok.0 in rw b short
+
+pub returns-clause-room : goal.returns-clause-room
+returns-clause-room g c = c.loop-names.invariant.polls
 
 pub returns-clause-ample : goal.returns-clause-ample
 returns-clause-ample g c = c.loop-names.invariant.ample

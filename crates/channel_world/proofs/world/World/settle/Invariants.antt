@@ -1,4 +1,6 @@
-use Rattle.std.proofs.Common.{◌≤◌, ◌-◌, vec_len, vec_capacity}
+use Rattle.std.proofs.Common.{◌≡◌, ◌≤◌, ◌-◌, true, vec_len, vec_capacity}
+use Rattle.channel_model.specs.Lines.{is_among}
+use Rattle.channel_model.specs.declared.name.Waiter.{Waiter}
 use Rattle.channel_world.proofs.SettleFacts.{Goes}
 use Rattle.channel_world.proofs.Short.{sends_of}
 use Rattle.channel_world.specs.Carried.{polls_replied}
@@ -13,8 +15,8 @@ invariant-loop-names g l = record {
   ample : NoneLackedMemory l.polls.items;
   leads : LeadsOn l.fn.self (polls_replied l.polls.items) l.self;
   names : most_polls (at_rest l.fn.self) ≤ vec_capacity l.names;
-  polls : most_polls (at_rest l.fn.self) ≤ vec_capacity l.polls;
-  places : HasPositions (sends_of (at_rest l.self)) l.self;
+  polls : vec_capacity l.polls ≡ most_polls (at_rest l.fn.self);
+  places : (name : Waiter) → is_among name (at_rest l.self).waiting.woken ≡ true → HasPositions (sends_of (at_rest l.self)) l.self;
 }
 
 abbrev pub decreases-loop-names : goal.decreases-loop-names
