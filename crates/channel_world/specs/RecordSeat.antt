@@ -1,9 +1,14 @@
--- What is seen of a seat: its number, and how many of its calls were accepted; and how its share of the ledger counts both.
+-- What is seen of a seat: its number, and how many of its calls were accepted; and how its share of the ledger counts both. And what is
+-- seen of a channel that comes back because a seat was missing.
 use Rattle.std.specs.Prelude.{ℕ, zero, suc, ◌+◌, ◌-◌, ◌*◌, ◌/◌, ◌^◌, List, [], ◌∷◌}
 
 pub record SeatView : Type 0 where
   pub number : ℕ
   pub calls : ℕ
+
+-- what is seen of a channel that nobody else calls: how many seats were made of it
+pub record HeldView : Type 0 where
+  pub seats : ℕ
 
 -- how many accepted calls these seats made
 abbrev pub calls_of : List SeatView → ℕ

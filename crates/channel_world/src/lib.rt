@@ -33,7 +33,8 @@ pub use channel_calls::several::Messages;
 pub use event_listener::id::EventIds;
 pub use name::{Handle, HandleId, HandleKind, OpId, Waiter};
 pub use recorded::{
-    MissingSeat, Names, Receipt, Record, RecordError, RecordSeat, RecordedChannel, SeatsUsedUp,
+    HeldChannel, MissingSeat, Names, Receipt, Record, RecordError, RecordSeat, RecordedChannel,
+    SeatsUsedUp,
 };
 pub use script::{ScriptEnd, run_script};
 pub use settle::Settled;

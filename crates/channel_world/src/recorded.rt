@@ -14,7 +14,7 @@ mod record;
 mod recording;
 mod seat;
 
-pub use channel::{MissingSeat, RecordedChannel};
+pub use channel::{HeldChannel, MissingSeat, RecordedChannel};
 pub use error::{RecordError, SeatsUsedUp};
 pub use names::Names;
 pub use receipt::Receipt;

@@ -22,8 +22,8 @@ const LEN: Call<u64> = Call::Len {
 struct Gathered {
     numbers: (u32, u32),
     third: Option<SeatsUsedUp>,
-    /// How many seats came back where one was missing.
-    back: usize,
+    /// How many seats came back where one was missing, and how many were made.
+    back: (usize, u64),
     /// How many entries the record has.
     entries: usize,
 }
@@ -46,10 +46,11 @@ fn with_first<L: Ledger, R: Wait + Abort>(
     first: RecordSeat<L>,
 ) -> usize {
     let mut first = first;
-    let _ = missing.channel.call(rt, &mut first, LEN);
-    let mut seats = missing.seats;
+    let MissingSeat { channel, mut seats } = missing;
+    let channel = channel.share();
+    let _ = channel.call(rt, &mut first, LEN);
     let _ = seats.push(first);
-    finish(rt, missing.channel, seats).len()
+    finish(rt, channel, seats).len()
 }
 
 /// A channel of a blank of three parts: two seats, of which the second is gathered first.
@@ -66,7 +67,7 @@ fn gather<L: Ledger, R: Wait + Abort + AllocGlobal>(rt: &R, blank: Blank) -> Gat
     let _ = channel.call(rt, &mut second, LEN);
     let _ = channel.call(rt, &mut first, LEN);
     let missing = without_first(rt, channel, second);
-    let back = missing.seats.len();
+    let back = (missing.seats.len(), missing.channel.seats());
     Gathered {
         numbers,
         third,
@@ -85,7 +86,7 @@ fn a_missing_seat_is_waited_for(rt: HostRuntime) {
         &Gathered {
             numbers: (0, 1),
             third: Some(SeatsUsedUp),
-            back: 1,
+            back: (1, 2),
             entries: 3,
         },
     );

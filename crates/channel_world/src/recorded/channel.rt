@@ -17,6 +17,7 @@ use crate::world::World;
 use channel_calls::error::OpenError;
 use event_listener::id::EventIds;
 use std::alloc::Global;
+use std::marker::Model;
 use std::sync::ledger::{Blank, Ledger};
 use std::sync::{Mutex, Wait};
 
@@ -31,11 +32,43 @@ pub struct RecordedChannel<T: Copy, L: Ledger> {
     inner: Mutex<Recording<T, L>>,
 }
 
+/// A recorded channel that nobody else calls, so that no seat is made of it meanwhile. Contracts see how many were made. Own to this
+/// project.
+#[derive(Drop)]
+pub struct HeldChannel<T: Copy, L: Ledger> {
+    recording: Recording<T, L>,
+}
+
+impl<T: Copy, L: Ledger> Model for HeldChannel<T, L> {
+    ghost use Rattle.channel_world.specs.RecordSeat.{HeldView};
+
+    ghost Value = { HeldView };
+
+    ghost view = { λ h. record { seats = h.recording.seats } };
+}
+
+impl<T: Copy, L: Ledger> HeldChannel<T, L> {
+    /// How many seats were made of it. Own to this project.
+    pub fn seats(&self) -> u64
+        ensures { result ≡ self.now.seats }
+    {
+        self.recording.seats()
+    }
+
+    /// The channel, for calls of its seats and for more seats. Own to this project.
+    pub fn share(self) -> RecordedChannel<T, L> {
+        let HeldChannel { recording } = self;
+        RecordedChannel {
+            inner: Mutex::new(recording),
+        }
+    }
+}
+
 /// Not every seat was gathered: the channel and the seats come back, and the channel can be used on. Own to this project.
 #[derive(Drop)]
 pub struct MissingSeat<T: Copy, L: Ledger> {
-    /// The channel.
-    pub channel: RecordedChannel<T, L>,
+    /// The channel, with the number of seats that were made of it.
+    pub channel: HeldChannel<T, L>,
     /// The seats that were gathered.
     pub seats: Vec<RecordSeat<L>>,
 }
@@ -114,7 +147,7 @@ impl<T: Copy, L: Ledger> RecordedChannel<T, L> {
         ensures idle { IfOk result (λ s. s.calls ≡ 0) }
         ensures below { IfOk result (λ s. s.number + 1 < L.parts) }
     {
-        self.inner.lock(rt).seat()
+        Recording::seat_behind(&self.inner, rt)
     }
 
     /// Makes a call from its begin to its end, with nobody else at work, and records it; the receipt is a copy of the entry. What it
@@ -142,20 +175,19 @@ impl<T: Copy, L: Ledger> RecordedChannel<T, L> {
     /// their numbers is that of the numbers from 0 on, one for each seat. A channel of which no seat was made is finished with the
     /// empty list. Where the seats have all parts of the ledger but the channel's own, none is missing.
     ///
-    /// Where a seat is missing the channel and the seats come back.
+    /// Where fewer seats are gathered than were made the channel and the seats come back.
     pub fn finish(self, seats: Vec<RecordSeat<L>>) -> Result<Record<T>, MissingSeat<T, L>>
         ensures counted { IfOk result (λ r. length r.entries ≡ calls_of seats.items) }
         ensures numbered { OnOk result (numbers_of seats.items ≡ sum_below (length seats.items)) }
         ensures gathered { L.parts ≤ length seats.items + 1 → IsOk result }
+        ensures missing { IfErr result (λ m. length m.seats.items < m.channel.seats) }
         ensures back { IfErr result (λ m. m.seats.items ≡ seats.items) }
     {
         let RecordedChannel { inner } = self;
         match inner.into_inner().finish(seats) {
             Ok(record) => Ok(record),
             Err((recording, seats)) => Err(MissingSeat {
-                channel: RecordedChannel {
-                    inner: Mutex::new(recording),
-                },
+                channel: HeldChannel { recording },
                 seats,
             }),
         }

@@ -19,6 +19,7 @@ use std::alloc::Global;
 use std::collections::VecDeque;
 use std::marker::Model;
 use std::sync::ledger::{Blank, Book, Ledger, Share};
+use std::sync::{Mutex, Wait};
 
 /// How many seats there are at most: so many numbers does a seat's have.
 const MOST_SEATS: u64 = 1 << 32;
@@ -92,8 +93,20 @@ impl<T: Copy, L: Ledger> Recording<T, L> {
         }
     }
 
+    /// One more seat of the recording behind this lock. No seat is made but by who waits for the lock: the finishing of a channel waits
+    /// for nothing, so it makes none.
+    pub(crate) fn seat_behind<R: Wait>(
+        lock: &Mutex<Self>,
+        rt: &R,
+    ) -> Result<RecordSeat<L>, SeatsUsedUp>
+        ensures idle { IfOk result (λ s. s.calls ≡ 0) }
+        ensures below { IfOk result (λ s. s.number + 1 < L.parts) }
+    {
+        lock.lock(rt).seat()
+    }
+
     /// One more seat, with one part of the ledger, in which its number is counted; the last part stays here.
-    pub(crate) fn seat(&mut self) -> Result<RecordSeat<L>, SeatsUsedUp>
+    fn seat(&mut self) -> Result<RecordSeat<L>, SeatsUsedUp>
         ensures seat { IfOk result (λ s. s ≡ new_seat self.old.seats) }
         ensures below { IfOk result (λ s. s.number + 1 < L.parts) }
         ensures made { OnOk result (self.new ≡ with_seat self.old) }
@@ -109,6 +122,13 @@ impl<T: Copy, L: Ledger> Recording<T, L> {
         self.left -= 1;
         self.made += 1;
         Ok(RecordSeat { number, mine })
+    }
+
+    /// How many seats were made.
+    pub(crate) fn seats(&self) -> u64
+        ensures { result ≡ self.now.seats }
+    {
+        self.made
     }
 
     /// Makes a call for a seat and records it. Room for its entry and its receipt is taken first.
