@@ -17,13 +17,14 @@ use Rattle.channel_interleaving.specs.Run.{Book}
 use Rattle.channel_interleaving.specs.Settle.{PollsAlone}
 use Rattle.channel_interleaving.specs.declared.floor.Floor.{Floor}
 use Rattle.channel_model.specs.Answer.{Answer}
+use Rattle.channel_model.specs.Asked.{KeysHeld}
 use Rattle.channel_model.specs.Awake.{AwakeIn}
 use Rattle.channel_model.specs.Lines.{is_among, untold}
 use Rattle.channel_model.specs.Refused.{Answers}
 use Rattle.channel_model.specs.Settling.{poll_of}
 use Rattle.channel_model.specs.State.{State}
 use Rattle.channel_model.specs.declared.name.Waiter.{Waiter}
-use Rattle.channel_refinement.specs.Refines.{KeysHeld, AreUntold}
+use Rattle.channel_refinement.specs.Refines.{AreUntold}
 use Rattle.channel_rest.specs.Lone.{PollsAnswer}
 use Rattle.channel_rest.specs.Rest.{state_at, IsWorld, RestIsAWorld}
 use Rattle.channel_steps.specs.Scene.{Scene}
