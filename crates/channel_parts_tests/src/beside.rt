@@ -62,7 +62,7 @@ impl Other {
         let refused = mem::replace(&mut cells.refused, self.called.kind.is_refused() as u32);
         let reply = self.call.step(cells, &mut Woken::new());
         cells.refused = refused;
-        events.note(self.call.last_mark(), self.called.message, by);
+        events.note(self.call.last_mark(), self.called, by);
         if let Some(reply) = reply {
             self.answers(answer_of(reply));
         }
@@ -124,12 +124,17 @@ impl Events {
         }
     }
 
-    fn note(&mut self, mark: Mark, message: u64, by: usize) {
+    fn note(&mut self, mark: Mark, called: Called, by: usize) {
         if mark == Mark::Nothing {
             return;
         }
         if let Some(place) = self.events.get_mut(self.count) {
-            *place = Some(Event { mark, message, by });
+            *place = Some(Event {
+                mark,
+                kind: called.kind,
+                message: called.message,
+                by,
+            });
             self.count = self.count.wrapping_add(1);
         }
     }

@@ -9,6 +9,7 @@ use channel_calls::stage::{Line, Side};
 #[derive(Clone, Copy)]
 pub(crate) struct Event {
     pub(crate) mark: Mark,
+    pub(crate) kind: Kind,
     pub(crate) message: u64,
     pub(crate) by: usize,
 }
@@ -69,6 +70,17 @@ impl Plain {
 
     pub(crate) fn close(&mut self) {
         self.closed = true;
+    }
+
+    /// A call of this kind closes; a drop may only where no other handle is counted.
+    fn close_by(&mut self, kind: Kind) {
+        let left = match kind {
+            Kind::DropHandle(side) => self.counted(side),
+            Kind::DropStream => self.receivers,
+            _ => 0,
+        };
+        self.broken = self.broken || left != 0;
+        self.close();
     }
 
     /// Takes the oldest message; 0 where there is none.
@@ -133,7 +145,7 @@ impl Plain {
                 taken = self.take();
                 self.append(event.message);
             }
-            Mark::Close => self.close(),
+            Mark::Close => self.close_by(event.kind),
             Mark::SenderUp => self.count_up(Side::Senders),
             Mark::SenderDown => self.count_down(Side::Senders),
             Mark::ReceiverUp => self.count_up(Side::Receivers),
