@@ -82,12 +82,7 @@ impl<T: Drop> Shared<T> {
         ensures form { form_of result.cells.shared.now ≡ form_of self.now }
         ensures trace { result.trace ≡ trace }
     {
-        let cells = SharedCells {
-            shared: self,
-            rt,
-            bed: (),
-        };
-        Seen { cells, trace }
+        Seen::cells(self, rt, (), trace)
     }
 
     /// The same for a call that blocks its thread.
@@ -100,12 +95,7 @@ impl<T: Drop> Shared<T> {
         ensures form { form_of result.cells.shared.now ≡ form_of self.now }
         ensures trace { result.trace ≡ trace }
     {
-        let cells = SharedCells {
-            shared: self,
-            rt,
-            bed: Bed::new(),
-        };
-        Seen { cells, trace }
+        Seen::cells(self, rt, Bed::new(), trace)
     }
 }
 
@@ -118,8 +108,7 @@ impl<T: Drop> Shared<T> {
         ensures form { form_of result.cells.shared.now ≡ form_of self.now }
         ensures trace { result.trace ≡ trace }
     {
-        let cells = SharedWords { shared: self };
-        Seen { cells, trace }
+        Seen::words(self, trace)
     }
 
     #[inline(always)]
