@@ -33,6 +33,7 @@ mod cells;
 mod counted;
 mod handles;
 mod link;
+mod listeners;
 mod open;
 mod polls;
 mod runtime;
