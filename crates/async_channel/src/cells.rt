@@ -51,8 +51,7 @@ pub(crate) struct SharedCells<'a, T: Drop, R: Wait, B: Drop, L: Drop = List<(), 
 }
 
 impl<'a, T: Drop, R: Wait, B: Drop, L: Listeners> ChannelCells<T, Task>
-    for SharedCells<'a, T, R, B, L>
-{
+    for SharedCells<'a, T, R, B, L> {
     ghost use Rattle.std.specs.Prelude.{◌≡◌};
     ghost use Rattle.async_channel.specs.Handles.{no_parts, form_of};
     ghost use Rattle.async_channel.specs.Sections.{Answers};

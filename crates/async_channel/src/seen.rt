@@ -188,7 +188,8 @@ impl<T, C: ChannelCells<T, Task>, S: Trace<T>> ChannelCells<T, Task> for Seen<C,
     fn register(&mut self, line: Line, key: Key, task: Task) -> Option<Task> {
         self.trace.offers(&Sight { only: () }, line, key, &task);
         let answer = self.cells.register(line, key, task);
-        self.trace.registered(&Sight { only: () }, line, key, &answer);
+        self.trace
+            .registered(&Sight { only: () }, line, key, &answer);
         answer
     }
 

@@ -41,7 +41,12 @@ impl Trace<u64> for Watcher<'_> {
 
     fn asks(&mut self, _sight: &Sight, _call: &QueueCall<u64>) {}
 
-    fn answered(&mut self, _sight: &Sight, _call: &QueueCall<u64>, _answer: &Option<QueueReply<u64>>) {
+    fn answered(
+        &mut self,
+        _sight: &Sight,
+        _call: &QueueCall<u64>,
+        _answer: &Option<QueueReply<u64>>,
+    ) {
         note(&self.tallies.answers);
     }
 
@@ -88,7 +93,8 @@ impl Trace<u64> for Watcher<'_> {
     fn sleeps(&mut self, _sight: &Sight) {}
 }
 
-/// A send and a question at once, then a receive and a closing: what was sent was received, two handles were counted, and it was open.
+/// A send and a question at once, then a receive and a closing: what was sent was received, one sender was counted, and it was
+/// open.
 fn calls<R: Threads + Wait + Copy + Send + Sync>(
     rt: &R,
     s: &Sender<u64, R, Watcher<'_>>,

@@ -96,7 +96,12 @@ impl Trace<u64> for Log {
 
     fn asks(&mut self, _sight: &Sight, _call: &QueueCall<u64>) {}
 
-    fn answered(&mut self, _sight: &Sight, _call: &QueueCall<u64>, _answer: &Option<QueueReply<u64>>) {
+    fn answered(
+        &mut self,
+        _sight: &Sight,
+        _call: &QueueCall<u64>,
+        _answer: &Option<QueueReply<u64>>,
+    ) {
         self.note(Did::Asked);
     }
 

@@ -13,8 +13,8 @@ ghost use Rattle.channel_calls.specs.declared.stage.Line.TheVariants as line;
 ghost use Rattle.async_channel.specs.Polls.{Polls};
 ghost use Rattle.async_channel.specs.Watched.{WasSeen};
 
-use crate::open::no_trace::NoTrace;
 use crate::handles::sender::Sender;
+use crate::open::no_trace::NoTrace;
 use crate::seen::Trace;
 use crate::waits::Waits;
 use event_listener::error::ListenError;

@@ -6,8 +6,8 @@ ghost use Rattle.async_channel.specs.Iter.{waits_left, tries_left};
 ghost use Rattle.async_channel.specs.Watched.{WasSeen};
 ghost use Rattle.std.specs.Prelude.{◌≡◌};
 
-use crate::open::no_trace::NoTrace;
 use crate::handles::receiver::Receiver;
+use crate::open::no_trace::NoTrace;
 use crate::seen::Trace;
 use event_listener::error::ListenError;
 use std::sync::{Forever, Wait};
@@ -38,7 +38,10 @@ impl<'a, T: Drop, R: Wait + Copy, S: Trace<T> + Copy> Iter<'a, T, R, S> {
         ensures turns { waits_left self.new ≡ waits_left self.old }
     {
         let receiver = self.receiver;
-        receiver.traced().next_blocking(&mut self.ended, receiver.watch).0
+        receiver
+            .traced()
+            .next_blocking(&mut self.ended, receiver.watch)
+            .0
     }
 }
 
@@ -80,7 +83,10 @@ impl<'a, T: Drop, R: Wait + Copy, S: Trace<T> + Copy> TryIter<'a, T, R, S> {
         ensures turns { tries_left self.new ≡ tries_left self.old }
     {
         let receiver = self.receiver;
-        receiver.traced().next_there(&mut self.ended, receiver.watch).0
+        receiver
+            .traced()
+            .next_there(&mut self.ended, receiver.watch)
+            .0
     }
 }
 

@@ -15,10 +15,10 @@ ghost use Rattle.async_channel.specs.Watched.{WasSeen};
 
 use crate::counted::Counted;
 use crate::handles::iter::{Iter, TryIter};
-use crate::open::no_trace::NoTrace;
-use crate::seen::Trace;
 use crate::handles::recv::Recv;
 use crate::handles::weak::WeakReceiver;
+use crate::open::no_trace::NoTrace;
+use crate::seen::Trace;
 use crate::traced::Traced;
 use crate::waits::Waits;
 use channel_calls::error::{HandleError, RecvError, Refused, TryRecvError};

@@ -13,9 +13,9 @@ ghost use Rattle.async_channel.specs.Handles.{new_sending, waits_on};
 ghost use Rattle.async_channel.specs.Polls.{PollsSend};
 ghost use Rattle.async_channel.specs.Watched.{WasSeen};
 
+use crate::handles::sender::Sender;
 use crate::open::no_trace::NoTrace;
 use crate::seen::Trace;
-use crate::handles::sender::Sender;
 use crate::waits::Waits;
 use channel_calls::error::{Refused, SendError};
 use futures::Future;

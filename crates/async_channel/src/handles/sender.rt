@@ -13,10 +13,10 @@ ghost use Rattle.async_channel.specs.Watched.{WasSeen};
 
 use crate::counted::Counted;
 use crate::handles::closed::Closed;
-use crate::open::no_trace::NoTrace;
-use crate::seen::Trace;
 use crate::handles::send::Send;
 use crate::handles::weak::WeakSender;
+use crate::open::no_trace::NoTrace;
+use crate::seen::Trace;
 use crate::traced::Traced;
 use channel_calls::error::{HandleError, Refused, SendError, TrySendError};
 use channel_calls::kind::OfSenders;

@@ -4,11 +4,11 @@ ghost use Rattle.channel_calls.specs.declared.stage.Side.TheVariants as side;
 ghost use Rattle.async_channel.specs.Counts.{Upgrades};
 ghost use Rattle.async_channel.specs.Watched.{WasSeen};
 
-use crate::open::no_trace::NoTrace;
-use crate::seen::Trace;
 use crate::handles::receiver::Receiver;
 use crate::handles::sender::Sender;
 use crate::link::Link;
+use crate::open::no_trace::NoTrace;
+use crate::seen::Trace;
 use channel_calls::error::HandleError;
 use std::fmt;
 use std::marker::Model;

@@ -33,7 +33,10 @@ fn one_more<T: Drop, R: Wait, K: Kind, S: Trace<T>>(
 impl<T: Drop, R: Wait + Copy, S: Trace<T> + Copy> Sender<T, R, S> {
     /// [`try_clone`](Sender::try_clone) with a trace of the caller's, which sees what it does to the channel, and nothing else. Own to
     /// this project.
-    pub fn try_clone_traced<X: Trace<T>>(&self, trace: X) -> (Result<Sender<T, R, S>, HandleError>, X)
+    pub fn try_clone_traced<X: Trace<T>>(
+        &self,
+        trace: X,
+    ) -> (Result<Sender<T, R, S>, HandleError>, X)
         ensures walked { Clones X.did side.Senders trace (result.0) (result.1) }
         ensures made { IfOk (result.0) (λ more. more ≡ self.now) }
     {
@@ -48,7 +51,10 @@ impl<T: Drop, R: Wait + Copy, S: Trace<T> + Copy> Sender<T, R, S> {
 impl<T: Drop, R: Wait + Copy, S: Trace<T> + Copy> Receiver<T, R, S> {
     /// [`try_clone`](Receiver::try_clone) with a trace of the caller's, which sees what it does to the channel, and nothing else. Own
     /// to this project.
-    pub fn try_clone_traced<X: Trace<T>>(&self, trace: X) -> (Result<Receiver<T, R, S>, HandleError>, X)
+    pub fn try_clone_traced<X: Trace<T>>(
+        &self,
+        trace: X,
+    ) -> (Result<Receiver<T, R, S>, HandleError>, X)
         ensures walked { Clones X.did side.Receivers trace (result.0) (result.1) }
         ensures made { IfOk (result.0) (λ more. more ≡ new_receiving self.now.channel) }
     {
