@@ -35,6 +35,13 @@ pub record Sending (T : Type 0) : Type 0 where
   pub message : Option T
   pub key : Option Key
 
+module _ {T L : Type 0} where
+  abbrev pub form_of : Shared T L → QueueForm
+  form_of c = c.queue.form
+
+  abbrev pub channel_of : Shared T L → Handle
+  channel_of c = record { form = form_of c; id = c.id; seal = c.seal.id }
+
 module _ {T : Type 0} where
   -- a send that has not been polled
   abbrev pub new_sending : T → Sending T
@@ -45,13 +52,7 @@ module _ {T : Type 0} where
   waits_on (Some v) p = is_pending p
   waits_on None p = false
 
-  abbrev pub form_of : Shared T → QueueForm
-  form_of c = c.queue.form
-
   -- all of it lies in the shared part
-  abbrev pub channel_of : Shared T → Handle
-  channel_of c = record { form = form_of c; id = c.id; seal = c.seal.id }
-
   abbrev pub handle_of : Link T → Handle
   handle_of l = channel_of (arc_value l.shared)
 

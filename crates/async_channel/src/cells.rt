@@ -1,5 +1,6 @@
 //! The cells of a channel that threads share.
 
+use crate::listeners::Listeners;
 use crate::shared::Shared;
 use channel_calls::cells::ChannelCells;
 use channel_calls::raised::Counters;
@@ -9,6 +10,7 @@ use concurrent_queue::call::QueueReply;
 use concurrent_queue::queue_call::QueueCall;
 use event_listener::error::ListenError;
 use event_listener::key::Key;
+use event_listener::list::List;
 use event_listener::wakes::Wakes;
 use event_listener::waking::Task;
 use std::sync::Wait;
@@ -42,13 +44,14 @@ impl Counts {
 /// A shared queue's cells, four locked lists and two shared counts. Nothing is known of what they hold, since any thread
 /// may step on them at any time. A call that blocks its thread has a bed beside them.
 #[derive(Drop)]
-pub(crate) struct SharedCells<'a, T: Drop, R: Wait, B: Drop> {
-    pub(crate) shared: &'a Shared<T>,
+pub(crate) struct SharedCells<'a, T: Drop, R: Wait, B: Drop, L: Drop = List<(), Task>> {
+    pub(crate) shared: &'a Shared<T, L>,
     pub(crate) rt: &'a R,
     pub(crate) bed: B,
 }
 
-impl<'a, T: Drop, R: Wait, B: Drop> ChannelCells<T, Task> for SharedCells<'a, T, R, B> {
+impl<'a, T: Drop, R: Wait, B: Drop, L: Listeners> ChannelCells<T, Task>
+    for SharedCells<'a, T, R, B, L> {
     ghost use Rattle.std.specs.Prelude.{◌≡◌};
     ghost use Rattle.async_channel.specs.Handles.{no_parts, form_of};
     ghost use Rattle.async_channel.specs.Sections.{Answers};
@@ -59,7 +62,7 @@ impl<'a, T: Drop, R: Wait, B: Drop> ChannelCells<T, Task> for SharedCells<'a, T,
 
     ghost has_form = { λ c f. f ≡ form_of c.shared.now };
 
-    ghost did = { λ d before now. Answers d };
+    ghost did = { λ d before now. Answers L.did d };
 
     ghost exact = { λ unknown. absurd unknown };
 

@@ -17,10 +17,14 @@
 //! Each call of a handle or an operation has one body for whatever trace of the caller's ([`Trace`]). It is proved that from the trace
 //! before to the trace after stand the deeds that the call's machine makes up to the very answer that came out, and no others. With a
 //! trace of his own a caller makes it by [`Sender::traced`] and [`Receiver::traced`], and by the functions `poll_traced`,
-//! `give_up_traced` and `upgrade_traced`. The calls without a trace are one line each: the same, with one that keeps nothing.
+//! `give_up_traced`, `try_clone_traced` and `upgrade_traced`. Only the cells tell a trace anything ([`Sight`]).
 //!
-//! Not bound so are these lines, and the methods of the shared cells, one line each. That threads together do what such steps do one
-//! after another is no contract here, and is tested. Since other threads may step in between, a handle's own contract says what holds
+//! A channel may be watched ([`bounded_watched`]): each call of its handles takes a copy of one trace. So a handle's own call, one line
+//! over that body, says the same of its own answer: between two states of that trace the machine's call was seen to give it. A channel
+//! that nobody watches has [`NoTrace`], which keeps nothing. The code is the same for both, and so is what it says.
+//!
+//! Not bound so are the methods of the shared cells, one line each. Nor is that a handle's line makes its call once, since no clause says
+//! what was not done. That threads together do what such steps do one after another is no contract here, and is tested. Since other threads may step in between, a handle's own contract says what holds
 //! whatever they do: a refused message is the one that was handed in, a pending poll has armed its context and kept its message, the
 //! capacity is as given.
 //!
@@ -33,6 +37,7 @@ mod cells;
 mod counted;
 mod handles;
 mod link;
+mod listeners;
 mod open;
 mod polls;
 mod runtime;
@@ -67,7 +72,8 @@ pub use handles::recv::Recv;
 pub use handles::send::Send;
 pub use handles::sender::Sender;
 pub use handles::weak::{WeakReceiver, WeakSender};
-pub use open::{bounded, unbounded};
+pub use open::no_trace::NoTrace;
+pub use open::{bounded, bounded_watched, unbounded, unbounded_watched};
 pub use runtime::Runtime;
-pub use seen::{Seen, Trace};
+pub use seen::{Sight, Trace};
 pub use traced::Traced;

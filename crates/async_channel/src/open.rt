@@ -1,5 +1,7 @@
 //! The opening of a channel.
 
+pub(crate) mod no_trace;
+
 ghost use Rattle.std.specs.Prelude.{◌≡◌, ◌+◌, ◌-◌, ◌^◌, ◌<◌, ◌≤◌, Some, None, IfOk, OnOk, OnErr, Err};
 ghost use Rattle.concurrent_queue.specs.Replies.{room_of};
 ghost use Rattle.concurrent_queue.specs.SharedQueue.{limit};
@@ -9,6 +11,8 @@ use crate::counted::Counted;
 use crate::handles::receiver::Receiver;
 use crate::handles::sender::Sender;
 use crate::link::Link;
+use crate::open::no_trace::NoTrace;
+use crate::seen::Trace;
 use crate::shared::Shared;
 use channel_calls::error::OpenError;
 use channel_calls::raised::Counters;
@@ -20,12 +24,13 @@ use std::sync::{Arc, Wait};
 /// The two handles of a channel over this queue. The memory is taken first, then the four identities.
 ///
 /// An identity that was taken can't be given back, so the shared part is made with the number that the first one is going to have.
-fn open<T: Drop, R: Wait + Copy>(
+fn open<T: Drop, R: Wait + Copy, S: Trace<T> + Copy>(
     rt: R,
     alloc: Global,
     queue: ConcurrentQueue<T>,
     ids: &mut EventIds,
-) -> Result<(Sender<T, R>, Receiver<T, R>), OpenError>
+    watch: S,
+) -> Result<(Sender<T, R, S>, Receiver<T, R, S>), OpenError>
     ensures sender { IfOk result (λ ends. room_of ends.0.form ≡ limit queue) }
     ensures receiver { IfOk result (λ ends. ends.1 ≡ new_receiving ends.0) }
     ensures named { IfOk result (λ ends. ends.0.id ≡ ids.old) }
@@ -49,8 +54,8 @@ fn open<T: Drop, R: Wait + Copy>(
     drop(four);
     let (sender, receiver) = opening.handles();
     Ok((
-        Sender::new(rt, Counted::first(Link { shared }, sender)),
-        Receiver::new(rt, Counted::first(Link { shared: other }, receiver)),
+        Sender::new(rt, watch, Counted::first(Link { shared }, sender)),
+        Receiver::new(rt, watch, Counted::first(Link { shared: other }, receiver)),
     ))
 }
 
@@ -81,10 +86,7 @@ pub fn bounded<T: Drop, R: Wait + Copy>(
     ensures unchanged { OnErr result (ids.new ≡ ids.old) }
     ensures used_up { result ≡ Err OpenError.IdsUsedUp → 2 ^ 64 - 1 < ids.old + 4 }
 {
-    match ConcurrentQueue::bounded(alloc, capacity) {
-        Ok(queue) => open(rt, alloc, queue, ids),
-        Err(_) => Err(OpenError::NoMemory),
-    }
+    bounded_watched(rt, alloc, capacity, ids, NoTrace::new())
 }
 
 /// Opens a channel that holds any number of messages: its first sender and its first receiver.
@@ -108,8 +110,55 @@ pub fn unbounded<T: Drop, R: Wait + Copy>(
     ensures unchanged { OnErr result (ids.new ≡ ids.old) }
     ensures used_up { result ≡ Err OpenError.IdsUsedUp → 2 ^ 64 - 1 < ids.old + 4 }
 {
+    unbounded_watched(rt, alloc, ids, NoTrace::new())
+}
+
+/// [`bounded`] with a trace that the channel is watched by: each call of its handles takes a copy of this value, and shows it what it
+/// does to the channel. One that refers to a log gets all calls of all threads there.
+///
+/// ```text
+/// let (sender, receiver) = bounded_watched(rt, alloc, 2, ids, Watcher { log: &log })?;
+/// ```
+///
+/// Own to this project.
+pub fn bounded_watched<T: Drop, R: Wait + Copy, S: Trace<T> + Copy>(
+    rt: R,
+    alloc: Global,
+    capacity: usize,
+    ids: &mut EventIds,
+    watch: S,
+) -> Result<(Sender<T, R, S>, Receiver<T, R, S>), OpenError>
+    requires { 0 < capacity }
+    ensures capacity { IfOk result (λ ends. room_of ends.0.form ≡ Some capacity) }
+    ensures receiver { IfOk result (λ ends. ends.1 ≡ new_receiving ends.0) }
+    ensures most { OnOk result (capacity ≤ 2 ^ 58) }
+    ensures named { IfOk result (λ ends. ends.0.id ≡ ids.old) }
+    ensures given { OnOk result (ids.new ≡ ids.old + 4) }
+    ensures unchanged { OnErr result (ids.new ≡ ids.old) }
+    ensures used_up { result ≡ Err OpenError.IdsUsedUp → 2 ^ 64 - 1 < ids.old + 4 }
+{
+    match ConcurrentQueue::bounded(alloc, capacity) {
+        Ok(queue) => open(rt, alloc, queue, ids, watch),
+        Err(_) => Err(OpenError::NoMemory),
+    }
+}
+
+/// [`unbounded`] with a trace that the channel is watched by, as [`bounded_watched`]. Own to this project.
+pub fn unbounded_watched<T: Drop, R: Wait + Copy, S: Trace<T> + Copy>(
+    rt: R,
+    alloc: Global,
+    ids: &mut EventIds,
+    watch: S,
+) -> Result<(Sender<T, R, S>, Receiver<T, R, S>), OpenError>
+    ensures capacity { IfOk result (λ ends. room_of ends.0.form ≡ None) }
+    ensures receiver { IfOk result (λ ends. ends.1 ≡ new_receiving ends.0) }
+    ensures named { IfOk result (λ ends. ends.0.id ≡ ids.old) }
+    ensures given { OnOk result (ids.new ≡ ids.old + 4) }
+    ensures unchanged { OnErr result (ids.new ≡ ids.old) }
+    ensures used_up { result ≡ Err OpenError.IdsUsedUp → 2 ^ 64 - 1 < ids.old + 4 }
+{
     match ConcurrentQueue::unbounded(alloc) {
-        Ok(queue) => open(rt, alloc, queue, ids),
+        Ok(queue) => open(rt, alloc, queue, ids, watch),
         Err(_) => Err(OpenError::NoMemory),
     }
 }

@@ -4,8 +4,11 @@ ghost use Rattle.std.specs.Prelude.{◌≡◌, List, Option};
 ghost use Rattle.concurrent_queue.specs.declared.queue_call.QueueCall.{QueueCall as Call};
 ghost use Rattle.event_listener.specs.declared.key.Key.{Key as Name};
 ghost use Rattle.event_listener.specs.declared.waking.Task.{Task as Waiter};
+ghost use Rattle.async_channel.specs.Handles.{form_of};
 ghost use Rattle.channel_calls.specs.Deeds.{Deed, stepped, inserted, registered, taken_off, one_told, more_told, all_told, counted, lowered, raised};
 
+use crate::cells::{SharedCells, SharedWords};
+use crate::shared::Shared;
 use channel_calls::cells::ChannelCells;
 use channel_calls::sleeps::Sleeps;
 use channel_calls::stage::{Line, Side};
@@ -16,12 +19,21 @@ use event_listener::error::ListenError;
 use event_listener::key::Key;
 use event_listener::wakes::Wakes;
 use event_listener::waking::Task;
+use std::sync::Wait;
+
+/// The right to tell a trace something. Only this file makes one, where a deed is done: so nobody else can tell a trace anything. It
+/// takes no bytes. Own to this project.
+#[derive(Drop)]
+pub struct Sight {
+    only: (),
+}
 
 /// What sees the deeds on the cells of a channel, each after it was done and with what it answered; and that a call which blocks
 /// its thread asked for a task of its own, and slept. Each method says of itself that this was seen, and nothing else: so a trace of
 /// which nothing is known but this trait can be led from one value to another by these very deeds alone.
 ///
-/// A telling and a removal are seen without whom they woke: those stay with the sink. Own to this project.
+/// Each method is lent a [`Sight`], which only the cells that do these deeds have. A telling and a removal are seen without whom they
+/// woke: those stay with the sink. Own to this project.
 pub trait Trace<T> {
     ghost use Rattle.channel_calls.specs.declared.stage.Line.{Line as Waits};
 
@@ -41,74 +53,103 @@ pub trait Trace<T> {
     ghost slept: { Self → Self → Type 0 };
 
     /// This call of the queue is to be stepped. What came of it is said next, by `answered`.
-    fn asks(&mut self, call: &QueueCall<T>)
+    fn asks(&mut self, sight: &Sight, call: &QueueCall<T>)
         ensures { asking call.now self.old self.new };
 
     /// The call of the queue that was to be stepped is this one now, and has answered or goes on.
-    fn answered(&mut self, call: &QueueCall<T>, answer: &Option<QueueReply<T>>)
+    fn answered(&mut self, sight: &Sight, call: &QueueCall<T>, answer: &Option<QueueReply<T>>)
         ensures { (before : Self) (was : Call T) → asking was before self.old → did (stepped was call.now answer.now) before self.new };
 
     /// A listener was added, or refused.
-    fn inserted(&mut self, line: Line, answer: Result<Key, ListenError>)
+    fn inserted(&mut self, sight: &Sight, line: Line, answer: Result<Key, ListenError>)
         ensures { did (inserted line answer) self.old self.new };
 
     /// This task is brought to a listener. What came of it is said next, by `registered`.
-    fn offers(&mut self, line: Line, key: Key, task: &Task)
+    fn offers(&mut self, sight: &Sight, line: Line, key: Key, task: &Task)
         ensures { offering line key task.now self.old self.new };
 
     /// The task that was brought to the listener is kept, or came back.
-    fn registered(&mut self, line: Line, key: Key, answer: &Option<Task>)
+    fn registered(&mut self, sight: &Sight, line: Line, key: Key, answer: &Option<Task>)
         ensures { (before : Self) (task : Waiter) → offering line key task before self.old → did (registered line key task answer.now) before self.new };
 
     /// A listener was taken off.
-    fn taken_off(&mut self, line: Line, key: Key)
+    fn taken_off(&mut self, sight: &Sight, line: Line, key: Key)
         ensures { (names : List Waiter) → did (taken_off line key names) self.old self.new };
 
     /// One more of those who wait was told.
-    fn one_told(&mut self, line: Line)
+    fn one_told(&mut self, sight: &Sight, line: Line)
         ensures { (names : List Waiter) → did (one_told line names) self.old self.new };
 
     /// So many more of those who wait were told.
-    fn more_told(&mut self, line: Line, count: usize)
+    fn more_told(&mut self, sight: &Sight, line: Line, count: usize)
         ensures { (names : List Waiter) → did (more_told line count names) self.old self.new };
 
     /// All who wait were told.
-    fn all_told(&mut self, line: Line)
+    fn all_told(&mut self, sight: &Sight, line: Line)
         ensures { (names : List Waiter) → did (all_told line names) self.old self.new };
 
     /// So many handles of this kind were counted.
-    fn counted(&mut self, side: Side, found: usize)
+    fn counted(&mut self, sight: &Sight, side: Side, found: usize)
         ensures { did (counted side found) self.old self.new };
 
     /// The count of handles of this kind was lowered, and was this before.
-    fn lowered(&mut self, side: Side, found: usize)
+    fn lowered(&mut self, sight: &Sight, side: Side, found: usize)
         ensures { did (lowered side found) self.old self.new };
 
     /// The count of handles of this kind was raised where it was `from`, or was not.
-    fn raised(&mut self, side: Side, from: usize, done: bool)
+    fn raised(&mut self, sight: &Sight, side: Side, from: usize, done: bool)
         ensures { did (raised side from done) self.old self.new };
 
     /// A task of the thread's own was asked for, and given or refused.
-    fn parks(&mut self, answer: &Option<Task>)
+    fn parks(&mut self, sight: &Sight, answer: &Option<Task>)
         ensures { parked answer.now self.old self.new };
 
     /// The thread slept.
-    fn sleeps(&mut self)
+    fn sleeps(&mut self, sight: &Sight)
         ensures { slept self.old self.new };
 }
 
-/// Cells, and a trace that sees each deed on them. Own to this project.
-pub struct Seen<C, S> {
-    /// The cells.
-    pub cells: C,
-    /// What sees them.
-    pub trace: S,
+/// Cells, and a trace that sees each deed on them.
+///
+/// Made here alone, and over the cells that the threads of a channel share.
+pub(crate) struct Seen<C, S> {
+    cells: C,
+    trace: S,
+}
+
+impl<'a, T: Drop, R: Wait, B: Drop, S> Seen<SharedCells<'a, T, R, B>, S> {
+    /// The cells of this channel, for a thread that may wait, with this bed or none, seen by this trace.
+    #[inline(always)]
+    pub(crate) fn cells(
+        shared: &'a Shared<T>,
+        rt: &'a R,
+        bed: B,
+        trace: S,
+    ) -> Seen<SharedCells<'a, T, R, B>, S>
+        ensures form { form_of result.cells.shared.now ≡ form_of shared.now }
+        ensures trace { result.trace ≡ trace }
+    {
+        let cells = SharedCells { shared, rt, bed };
+        Seen { cells, trace }
+    }
+}
+
+impl<'a, T: Drop, S> Seen<SharedWords<'a, T>, S> {
+    /// The words of this channel, seen by this trace.
+    #[inline(always)]
+    pub(crate) fn words(shared: &'a Shared<T>, trace: S) -> Seen<SharedWords<'a, T>, S>
+        ensures form { form_of result.cells.shared.now ≡ form_of shared.now }
+        ensures trace { result.trace ≡ trace }
+    {
+        let cells = SharedWords { shared };
+        Seen { cells, trace }
+    }
 }
 
 impl<C: Drop, S> Seen<C, S> {
     /// What saw them.
     #[inline(always)]
-    pub fn into_trace(self) -> S
+    pub(crate) fn into_trace(self) -> S
         ensures { result ≡ self.trace }
     {
         let Seen { cells, trace } = self;
@@ -130,69 +171,70 @@ impl<T, C: ChannelCells<T, Task>, S: Trace<T>> ChannelCells<T, Task> for Seen<C,
 
     #[inline(always)]
     fn step_queue(&mut self, call: &mut QueueCall<T>) -> Option<QueueReply<T>> {
-        self.trace.asks(call);
+        self.trace.asks(&Sight { only: () }, call);
         let answer = self.cells.step_queue(call);
-        self.trace.answered(call, &answer);
+        self.trace.answered(&Sight { only: () }, call, &answer);
         answer
     }
 
     #[inline(always)]
     fn insert(&mut self, line: Line) -> Result<Key, ListenError> {
         let answer = self.cells.insert(line);
-        self.trace.inserted(line, answer);
+        self.trace.inserted(&Sight { only: () }, line, answer);
         answer
     }
 
     #[inline(always)]
     fn register(&mut self, line: Line, key: Key, task: Task) -> Option<Task> {
-        self.trace.offers(line, key, &task);
+        self.trace.offers(&Sight { only: () }, line, key, &task);
         let answer = self.cells.register(line, key, task);
-        self.trace.registered(line, key, &answer);
+        self.trace
+            .registered(&Sight { only: () }, line, key, &answer);
         answer
     }
 
     #[inline(always)]
     fn remove<K: Wakes<Task>>(&mut self, line: Line, key: Key, sink: &mut K) {
         self.cells.remove(line, key, sink);
-        self.trace.taken_off(line, key);
+        self.trace.taken_off(&Sight { only: () }, line, key);
     }
 
     #[inline(always)]
     fn tell_one<K: Wakes<Task>>(&mut self, line: Line, sink: &mut K) {
         self.cells.tell_one(line, sink);
-        self.trace.one_told(line);
+        self.trace.one_told(&Sight { only: () }, line);
     }
 
     #[inline(always)]
     fn tell_more<K: Wakes<Task>>(&mut self, line: Line, count: usize, sink: &mut K) {
         self.cells.tell_more(line, count, sink);
-        self.trace.more_told(line, count);
+        self.trace.more_told(&Sight { only: () }, line, count);
     }
 
     #[inline(always)]
     fn tell_all<K: Wakes<Task>>(&mut self, line: Line, sink: &mut K) {
         self.cells.tell_all(line, sink);
-        self.trace.all_told(line);
+        self.trace.all_told(&Sight { only: () }, line);
     }
 
     #[inline(always)]
     fn count(&mut self, side: Side) -> usize {
         let found = self.cells.count(side);
-        self.trace.counted(side, found);
+        self.trace.counted(&Sight { only: () }, side, found);
         found
     }
 
     #[inline(always)]
     fn lower(&mut self, side: Side) -> usize {
         let found = self.cells.lower(side);
-        self.trace.lowered(side, found);
+        self.trace.lowered(&Sight { only: () }, side, found);
         found
     }
 
     #[inline(always)]
     fn raise(&mut self, side: Side, from: usize) -> bool {
         let done = self.cells.raise(side, from);
-        self.trace.raised(side, from, done);
+        self.trace.raised(&Sight { only: () }, side, from, done);
         done
     }
 }
@@ -205,14 +247,14 @@ impl<T, C: Sleeps<T, Task>, S: Trace<T>> Sleeps<T, Task> for Seen<C, S> {
     #[inline(always)]
     fn park(&mut self) -> Option<Task> {
         let answer = self.cells.park();
-        self.trace.parks(&answer);
+        self.trace.parks(&Sight { only: () }, &answer);
         answer
     }
 
     #[inline(always)]
     fn sleep(&mut self) {
         self.cells.sleep();
-        self.trace.sleeps();
+        self.trace.sleeps(&Sight { only: () });
     }
 }
 
@@ -223,16 +265,16 @@ impl<T, C: ChannelWords<T, Task>, S: Trace<T>> ChannelWords<T, Task> for Seen<C,
 
     #[inline(always)]
     fn step_words(&mut self, call: &mut QueueCall<T>) -> Option<QueueReply<T>> {
-        self.trace.asks(call);
+        self.trace.asks(&Sight { only: () }, call);
         let answer = self.cells.step_words(call);
-        self.trace.answered(call, &answer);
+        self.trace.answered(&Sight { only: () }, call, &answer);
         answer
     }
 
     #[inline(always)]
     fn count(&mut self, side: Side) -> usize {
         let found = self.cells.count(side);
-        self.trace.counted(side, found);
+        self.trace.counted(&Sight { only: () }, side, found);
         found
     }
 }

@@ -10,12 +10,15 @@ ghost use Rattle.async_channel.specs.Handles.{form_of};
 
 use crate::bed::Bed;
 use crate::cells::{Counts, SharedCells, SharedWords};
+use crate::listeners::Listeners;
 use crate::seen::{Seen, Trace};
 use crate::waiters::{Turn, Waiters};
 use channel_calls::questions;
 use channel_calls::raised::Counters;
 use channel_calls::stage::{Line, Side};
 use concurrent_queue::shared::queue::ConcurrentQueue;
+use event_listener::list::List;
+use event_listener::waking::Task;
 use futures::task::Source;
 use std::alloc::Global;
 use std::sync::Wait;
@@ -24,16 +27,18 @@ use std::sync::Wait;
 ///
 /// The channel's identity is here and nowhere else. The seal takes no bytes and can't be copied, and nobody can show that a new one is
 /// equal to another: so a clause can say of which channel's memory it speaks.
+///
+/// The lists are a parameter, though there is one kind: so the cells over them show each section by the very call that makes it.
 #[derive(Drop)]
-pub(crate) struct Shared<T: Drop> {
+pub(crate) struct Shared<T: Drop, L: Drop = List<(), Task>> {
     seal: Source,
     pub(crate) id: u64,
     pub(crate) alloc: Global,
     pub(crate) queue: ConcurrentQueue<T>,
-    sends: Waiters,
-    receives: Waiters,
-    streams: Waiters,
-    closings: Waiters,
+    sends: Waiters<L>,
+    receives: Waiters<L>,
+    streams: Waiters<L>,
+    closings: Waiters<L>,
     pub(crate) counts: Counts,
 }
 
@@ -53,22 +58,11 @@ impl<T: Drop> Shared<T> {
             id,
             alloc,
             queue,
-            sends: Waiters::new(alloc),
-            receives: Waiters::new(alloc),
-            streams: Waiters::new(alloc),
-            closings: Waiters::new(alloc),
+            sends: Waiters::new(List::new(alloc)),
+            receives: Waiters::new(List::new(alloc)),
+            streams: Waiters::new(List::new(alloc)),
+            closings: Waiters::new(List::new(alloc)),
             counts: Counts::new(counters),
-        }
-    }
-
-    /// The right to one section on the list of this kind.
-    #[inline(always)]
-    pub(crate) fn waiters(&self, line: Line) -> Turn<'_> {
-        match line {
-            Line::Sends => self.sends.turn(),
-            Line::Receives => self.receives.turn(),
-            Line::Streams => self.streams.turn(),
-            Line::Closings => self.closings.turn(),
         }
     }
 
@@ -82,12 +76,7 @@ impl<T: Drop> Shared<T> {
         ensures form { form_of result.cells.shared.now ≡ form_of self.now }
         ensures trace { result.trace ≡ trace }
     {
-        let cells = SharedCells {
-            shared: self,
-            rt,
-            bed: (),
-        };
-        Seen { cells, trace }
+        Seen::cells(self, rt, (), trace)
     }
 
     /// The same for a call that blocks its thread.
@@ -100,12 +89,20 @@ impl<T: Drop> Shared<T> {
         ensures form { form_of result.cells.shared.now ≡ form_of self.now }
         ensures trace { result.trace ≡ trace }
     {
-        let cells = SharedCells {
-            shared: self,
-            rt,
-            bed: Bed::new(),
-        };
-        Seen { cells, trace }
+        Seen::cells(self, rt, Bed::new(), trace)
+    }
+}
+
+impl<T: Drop, L: Listeners> Shared<T, L> {
+    /// The right to one section on the list of this kind.
+    #[inline(always)]
+    pub(crate) fn waiters(&self, line: Line) -> Turn<'_, L> {
+        match line {
+            Line::Sends => self.sends.turn(),
+            Line::Receives => self.receives.turn(),
+            Line::Streams => self.streams.turn(),
+            Line::Closings => self.closings.turn(),
+        }
     }
 }
 
@@ -118,8 +115,7 @@ impl<T: Drop> Shared<T> {
         ensures form { form_of result.cells.shared.now ≡ form_of self.now }
         ensures trace { result.trace ≡ trace }
     {
-        let cells = SharedWords { shared: self };
-        Seen { cells, trace }
+        Seen::words(self, trace)
     }
 
     #[inline(always)]

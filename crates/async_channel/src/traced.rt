@@ -2,7 +2,8 @@
 //!
 //! Each is one body for whatever trace, and makes its call on cells that show each deed to the trace that it was given. So its clause
 //! `walked` says of the trace, before and after, what was done: the deeds of the call's machine, from its first turn to the very answer
-//! that came out. That it touches nothing else, and tells the trace nothing itself, is to be read here. The calls of handles and operations are these with a trace of no size, which can't be made here.
+//! that came out. It can tell the trace nothing itself, which only the cells can. That it works on no other cells besides is to be read
+//! here. The calls of handles and operations are these with a copy of the trace that the channel is watched by, which isn't at hand here.
 
 mod counts;
 mod operations;

@@ -1,38 +1,35 @@
 //! One of a channel's four lists of listeners, behind its lock, and the sections on it.
 
-ghost use Rattle.std.specs.Prelude.{true};
-ghost use Rattle.event_listener.specs.Lists.{removed_wakes};
+ghost use Rattle.std.specs.Prelude.{List as Names};
 ghost use Rattle.event_listener.specs.Notices.{Woken};
-ghost use Rattle.event_listener.specs.declared.waking.Task.{Task};
-ghost use Rattle.channel_calls.specs.Parts.{Listeners, Registers, told_one_wakes, told_more_wakes, told_all_wakes};
+ghost use Rattle.event_listener.specs.declared.waking.Task.{Task as Waiter};
+ghost use Rattle.async_channel.specs.Sections.{OnSome, inserts, registers, removes, tells_one, tells_more, tells_all};
 
-use channel_calls::notices;
+use crate::listeners::Listeners;
 use event_listener::error::ListenError;
 use event_listener::key::Key;
-use event_listener::list::List;
 use event_listener::section::{Locked, Section};
 use event_listener::wakes::Wakes;
 use event_listener::waking::Task;
-use std::alloc::Global;
 use std::sync::Wait;
 
 /// A list of listeners behind a lock.
 #[derive(Drop)]
-pub(crate) struct Waiters {
-    list: Locked<List<(), Task>>,
+pub(crate) struct Waiters<L: Drop> {
+    list: Locked<L>,
 }
 
-impl Waiters {
-    /// A list without listeners. It takes no memory.
-    pub(crate) fn new(alloc: Global) -> Waiters {
+impl<L: Drop> Waiters<L> {
+    /// This list, behind a lock that is free.
+    pub(crate) fn new(list: L) -> Waiters<L> {
         Waiters {
-            list: Locked::new(List::new(alloc)),
+            list: Locked::new(list),
         }
     }
 
     /// The right to one section on the list.
     #[inline(always)]
-    pub(crate) fn turn(&self) -> Turn<'_> {
+    pub(crate) fn turn(&self) -> Turn<'_, L> {
         Turn {
             section: self.list.section(),
         }
@@ -40,57 +37,60 @@ impl Waiters {
 }
 
 /// The right to one section on a list. Each call uses it up, and has nothing else of the list: so it is one section, in which those
-/// who are told are woken, and a body that makes two is no program.
-pub(crate) struct Turn<'a> {
-    section: Section<'a, List<(), Task>>,
+/// who are told are woken, and a body that makes two is no program. What the section did is said of whatever lists, so it is the very
+/// call that makes it.
+pub(crate) struct Turn<'a, L> {
+    section: Section<'a, L>,
 }
 
-impl Turn<'_> {
+impl<L: Listeners> Turn<'_, L> {
     /// Adds a listener without a task.
-    pub(crate) fn insert<R: Wait>(self, rt: &R) -> Result<Key, ListenError> {
+    pub(crate) fn insert<R: Wait>(self, rt: &R) -> Result<Key, ListenError>
+        ensures { OnSome L.did (inserts result) }
+    {
         let Turn { section } = self;
         section.enter(rt).value().insert()
     }
 
     /// Gives a waiting listener its task. One that was told is taken off, and the task comes back.
     pub(crate) fn register<R: Wait>(self, rt: &R, key: Key, task: Task) -> Option<Task>
-        ensures { (found : Listeners Task) × Registers found key task result }
+        ensures { OnSome L.did (registers key task result) }
     {
         let Turn { section } = self;
-        notices::register(section.enter(rt).value(), key, task)
+        section.enter(rt).value().register(key, task)
     }
 
     /// Takes a listener off. One that was told passes its notice on.
     pub(crate) fn remove<R: Wait, S: Wakes<Task>>(self, rt: &R, key: Key, sink: &mut S)
-        ensures { (found : Listeners Task) × Woken S.wakes sink.old (removed_wakes key true found) sink.new }
+        ensures { (names : Names Waiter) × OnSome L.did (removes key names) × Woken S.wakes sink.old names sink.new }
     {
         let Turn { section } = self;
-        let _ = section.enter(rt).value().remove(key, true, sink);
+        section.enter(rt).value().remove(key, sink);
     }
 
     /// Tells one more of those who wait.
     #[inline(always)]
     pub(crate) fn tell_one<R: Wait, S: Wakes<Task>>(self, rt: &R, sink: &mut S)
-        ensures { (found : Listeners Task) × Woken S.wakes sink.old (told_one_wakes found) sink.new }
+        ensures { (names : Names Waiter) × OnSome L.did (tells_one names) × Woken S.wakes sink.old names sink.new }
     {
         let Turn { section } = self;
-        notices::tell_one(section.enter(rt).value(), sink);
+        section.enter(rt).value().tell_one(sink);
     }
 
     /// Tells so many more of those who wait.
     pub(crate) fn tell_more<R: Wait, S: Wakes<Task>>(self, rt: &R, count: usize, sink: &mut S)
-        ensures { (found : Listeners Task) × Woken S.wakes sink.old (told_more_wakes count found) sink.new }
+        ensures { (names : Names Waiter) × OnSome L.did (tells_more count names) × Woken S.wakes sink.old names sink.new }
     {
         let Turn { section } = self;
-        notices::tell_more(section.enter(rt).value(), count, sink);
+        section.enter(rt).value().tell_more(count, sink);
     }
 
     /// Tells all who wait.
     #[inline(always)]
     pub(crate) fn tell_all<R: Wait, S: Wakes<Task>>(self, rt: &R, sink: &mut S)
-        ensures { (found : Listeners Task) × Woken S.wakes sink.old (told_all_wakes found) sink.new }
+        ensures { (names : Names Waiter) × OnSome L.did (tells_all names) × Woken S.wakes sink.old names sink.new }
     {
         let Turn { section } = self;
-        notices::tell_all(section.enter(rt).value(), sink);
+        section.enter(rt).value().tell_all(sink);
     }
 }

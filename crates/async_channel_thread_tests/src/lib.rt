@@ -27,4 +27,6 @@ mod rest;
 #[cfg(test)]
 mod tally;
 #[cfg(test)]
+mod watched;
+#[cfg(test)]
 mod words;

@@ -15,7 +15,7 @@ ghost use Rattle.channel_test_helpers.specs.declared.log.Did.TheVariants as did;
 
 use async_channel::{
     Key, Line, ListenError, QueueCall, QueueReply, Receiver, RecvError, Refused, Sender, Side,
-    Task, Trace, TryRecvError, TrySendError,
+    Sight, Task, Trace, TryRecvError, TrySendError,
 };
 use std::alloc::Global;
 use std::sync::Wait;
@@ -94,55 +94,60 @@ impl Trace<u64> for Log {
 
     ghost slept = { λ a b. Notes did.Slept a b };
 
-    fn asks(&mut self, _call: &QueueCall<u64>) {}
+    fn asks(&mut self, _sight: &Sight, _call: &QueueCall<u64>) {}
 
-    fn answered(&mut self, _call: &QueueCall<u64>, _answer: &Option<QueueReply<u64>>) {
+    fn answered(
+        &mut self,
+        _sight: &Sight,
+        _call: &QueueCall<u64>,
+        _answer: &Option<QueueReply<u64>>,
+    ) {
         self.note(Did::Asked);
     }
 
-    fn inserted(&mut self, line: Line, _answer: Result<Key, ListenError>) {
+    fn inserted(&mut self, _sight: &Sight, line: Line, _answer: Result<Key, ListenError>) {
         self.note(Did::Inserted(line));
     }
 
-    fn offers(&mut self, _line: Line, _key: Key, _task: &Task) {}
+    fn offers(&mut self, _sight: &Sight, _line: Line, _key: Key, _task: &Task) {}
 
-    fn registered(&mut self, line: Line, _key: Key, _answer: &Option<Task>) {
+    fn registered(&mut self, _sight: &Sight, line: Line, _key: Key, _answer: &Option<Task>) {
         self.note(Did::Registered(line));
     }
 
-    fn taken_off(&mut self, line: Line, _key: Key) {
+    fn taken_off(&mut self, _sight: &Sight, line: Line, _key: Key) {
         self.note(Did::TakenOff(line));
     }
 
-    fn one_told(&mut self, line: Line) {
+    fn one_told(&mut self, _sight: &Sight, line: Line) {
         self.note(Did::OneTold(line));
     }
 
-    fn more_told(&mut self, line: Line, count: usize) {
+    fn more_told(&mut self, _sight: &Sight, line: Line, count: usize) {
         self.note(Did::MoreTold(line, count));
     }
 
-    fn all_told(&mut self, line: Line) {
+    fn all_told(&mut self, _sight: &Sight, line: Line) {
         self.note(Did::AllTold(line));
     }
 
-    fn counted(&mut self, side: Side, _found: usize) {
+    fn counted(&mut self, _sight: &Sight, side: Side, _found: usize) {
         self.note(Did::Counted(side));
     }
 
-    fn lowered(&mut self, side: Side, _found: usize) {
+    fn lowered(&mut self, _sight: &Sight, side: Side, _found: usize) {
         self.note(Did::Lowered(side));
     }
 
-    fn raised(&mut self, side: Side, _from: usize, done: bool) {
+    fn raised(&mut self, _sight: &Sight, side: Side, _from: usize, done: bool) {
         self.note(Did::Raised(side, done));
     }
 
-    fn parks(&mut self, _answer: &Option<Task>) {
+    fn parks(&mut self, _sight: &Sight, _answer: &Option<Task>) {
         self.note(Did::Parked);
     }
 
-    fn sleeps(&mut self) {
+    fn sleeps(&mut self, _sight: &Sight) {
         self.note(Did::Slept);
     }
 }

@@ -3,10 +3,19 @@
 ghost use Rattle.std.specs.Prelude.{◌≡◌, None, is_some};
 ghost use Rattle.futures.specs.Poll.{OnPending};
 ghost use Rattle.futures.specs.Task.{IsArmed, Keeps};
+ghost use Rattle.channel_calls.specs.Asks.{first};
+ghost use Rattle.channel_calls.specs.Calls.{closed_ask};
 ghost use Rattle.channel_calls.specs.Listed.{is_pending};
+ghost use Rattle.channel_calls.specs.Walks.{WalkedTo};
+ghost use Rattle.channel_calls.specs.declared.ask.ChannelAsk.TheVariants as ask;
+ghost use Rattle.channel_calls.specs.declared.reply.Reply.TheVariants as reply;
+ghost use Rattle.channel_calls.specs.declared.stage.Line.TheVariants as line;
+ghost use Rattle.async_channel.specs.Polls.{Polls};
+ghost use Rattle.async_channel.specs.Watched.{WasSeen};
 
-use crate::handles::no_trace::NoTrace;
 use crate::handles::sender::Sender;
+use crate::open::no_trace::NoTrace;
+use crate::seen::Trace;
 use crate::waits::Waits;
 use event_listener::error::ListenError;
 use futures::Future;
@@ -19,12 +28,12 @@ use std::sync::Wait;
 /// Each poll takes a copy of the waker first; where none is got nothing is tried, and the answer is want of memory. A poll may
 /// wait for the locks of those who wait. Dropping it gives it up. Contracts see the
 /// listener that is listed for it. As `async-channel` 2.5.0.
-pub struct Closed<'a, T: Drop, R: Wait + Copy> {
-    pub(crate) sender: &'a Sender<T, R>,
+pub struct Closed<'a, T: Drop, R: Wait + Copy, S: Trace<T> + Copy = NoTrace> {
+    pub(crate) sender: &'a Sender<T, R, S>,
     pub(crate) waits: Waits,
 }
 
-impl<'a, T: Drop, R: Wait + Copy> Model for Closed<'a, T, R> {
+impl<'a, T: Drop, R: Wait + Copy, S: Trace<T> + Copy> Model for Closed<'a, T, R, S> {
     ghost use Rattle.std.specs.Prelude.{Option};
     ghost use Rattle.event_listener.specs.declared.key.Key.{Key};
 
@@ -33,8 +42,8 @@ impl<'a, T: Drop, R: Wait + Copy> Model for Closed<'a, T, R> {
     ghost view = { λ o. o.waits.key };
 }
 
-impl<'a, T: Drop, R: Wait + Copy> Closed<'a, T, R> {
-    pub(crate) fn new(sender: &'a Sender<T, R>) -> Closed<'a, T, R>
+impl<'a, T: Drop, R: Wait + Copy, S: Trace<T> + Copy> Closed<'a, T, R, S> {
+    pub(crate) fn new(sender: &'a Sender<T, R, S>) -> Closed<'a, T, R, S>
         ensures { result ≡ None }
     {
         Closed {
@@ -48,20 +57,25 @@ impl<'a, T: Drop, R: Wait + Copy> Closed<'a, T, R> {
     /// A copy of the waker is taken first. Where none is got nothing is tried, and the answer is want of memory. It may wait for
     /// another call's end and for the locks of those who wait.
     pub fn poll(&mut self, cx: &mut Context<'_>) -> Poll<Result<(), ListenError>>
+        ensures walked { WasSeen (λ begin r end. Polls S.did (closed_ask self.old) begin r self.new end) (reply.ClosedPoll result) }
         ensures listed { is_some self.new ≡ is_pending result }
         ensures armed { OnPending result (IsArmed cx.new) }
         ensures kept { Keeps cx.old cx.new }
     {
-        self.poll_traced(cx, NoTrace).0
+        let watch = self.sender.watch;
+        self.poll_traced(cx, watch).0
     }
 
     /// Gives it up, as its drop does. It may wait for the lock of those who wait. Own to this project.
-    pub fn give_up(self) {
-        let NoTrace = self.give_up_traced(NoTrace);
+    pub fn give_up(self)
+        ensures walked { WasSeen (WalkedTo S.did (first (ask.GiveUp line.Closings None self.entry))) (reply.GivenUp None) }
+    {
+        let watch = self.sender.watch;
+        let _ = self.give_up_traced(watch);
     }
 }
 
-impl<T: Drop, R: Wait + Copy> Future for Closed<'_, T, R> {
+impl<T: Drop, R: Wait + Copy, S: Trace<T> + Copy> Future for Closed<'_, T, R, S> {
     type Output = Result<(), ListenError>;
 
     fn poll(&mut self, cx: &mut Context<'_>) -> Poll<Result<(), ListenError>> {
@@ -69,9 +83,10 @@ impl<T: Drop, R: Wait + Copy> Future for Closed<'_, T, R> {
     }
 }
 
-impl<T: Drop, R: Wait + Copy> Drop for Closed<'_, T, R> {
+impl<T: Drop, R: Wait + Copy, S: Trace<T> + Copy> Drop for Closed<'_, T, R, S> {
     fn drop(mut self) {
-        let NoTrace = self.leave(NoTrace);
+        let watch = self.sender.watch;
+        let _ = self.leave(watch);
         let Closed {
             sender: _,
             waits: _,

@@ -1,33 +1,51 @@
 //! Walks over a receiver's messages.
 
 ghost use Rattle.std.specs.Iterator.{at_most};
-ghost use Rattle.channel_calls.specs.Taking.{IsNext};
+ghost use Rattle.channel_calls.specs.Taking.{IsNext, TakesNext, WaitsForNext};
 ghost use Rattle.async_channel.specs.Iter.{waits_left, tries_left};
+ghost use Rattle.async_channel.specs.Watched.{WasSeen};
+ghost use Rattle.std.specs.Prelude.{◌≡◌};
 
-use crate::handles::no_trace::NoTrace;
 use crate::handles::receiver::Receiver;
+use crate::open::no_trace::NoTrace;
+use crate::seen::Trace;
 use event_listener::error::ListenError;
 use std::sync::{Forever, Wait};
 
 /// A receiver's messages, one after another: each is waited for. Made by [`iter`](Receiver::iter). Own to this project.
 #[derive(Drop)]
-pub struct Iter<'a, T: Drop, R: Wait + Copy> {
-    receiver: &'a Receiver<T, R>,
+pub struct Iter<'a, T: Drop, R: Wait + Copy, S: Trace<T> + Copy = NoTrace> {
+    receiver: &'a Receiver<T, R, S>,
     ended: bool,
     turns: Forever<'a, R>,
 }
 
-impl<'a, T: Drop, R: Wait + Copy> Iter<'a, T, R> {
-    pub(crate) fn new(receiver: &'a Receiver<T, R>) -> Iter<'a, T, R> {
+impl<'a, T: Drop, R: Wait + Copy, S: Trace<T> + Copy> Iter<'a, T, R, S> {
+    pub(crate) fn new(receiver: &'a Receiver<T, R, S>) -> Iter<'a, T, R, S> {
         Iter {
             receiver,
             ended: false,
             turns: receiver.rt.forever(),
         }
     }
+
+    /// The next message, waited for as by [`recv_blocking`](Receiver::recv_blocking): `None` where the channel is closed and empty, and
+    /// from then on.
+    #[inline(always)]
+    pub fn next(&mut self) -> Option<Result<T, ListenError>>
+        ensures walked { WasSeen (WaitsForNext S.did S.parked S.slept self.old.ended) result }
+        ensures end { IsNext self.old.ended result self.new.ended }
+        ensures turns { waits_left self.new ≡ waits_left self.old }
+    {
+        let receiver = self.receiver;
+        receiver
+            .traced()
+            .next_blocking(&mut self.ended, receiver.watch)
+            .0
+    }
 }
 
-impl<'a, T: Drop, R: Wait + Copy> Iterator for Iter<'a, T, R> {
+impl<'a, T: Drop, R: Wait + Copy, S: Trace<T> + Copy> Iterator for Iter<'a, T, R, S> {
     type Item = Result<T, ListenError>;
 
     ghost next_gives = { λ s item t. IsNext s.ended item t.ended };
@@ -36,30 +54,43 @@ impl<'a, T: Drop, R: Wait + Copy> Iterator for Iter<'a, T, R> {
 
     fn next(&mut self) -> Option<Result<T, ListenError>> {
         self.turns.next();
-        let receiver = self.receiver;
-        receiver.traced().next_blocking(&mut self.ended, NoTrace).0
+        Iter::next(self)
     }
 }
 
 /// The messages that a receiver finds there, one after another. Made by [`try_iter`](Receiver::try_iter). Own to this project.
 #[derive(Drop)]
-pub struct TryIter<'a, T: Drop, R: Wait + Copy> {
-    receiver: &'a Receiver<T, R>,
+pub struct TryIter<'a, T: Drop, R: Wait + Copy, S: Trace<T> + Copy = NoTrace> {
+    receiver: &'a Receiver<T, R, S>,
     ended: bool,
     turns: Forever<'a, R>,
 }
 
-impl<'a, T: Drop, R: Wait + Copy> TryIter<'a, T, R> {
-    pub(crate) fn new(receiver: &'a Receiver<T, R>) -> TryIter<'a, T, R> {
+impl<'a, T: Drop, R: Wait + Copy, S: Trace<T> + Copy> TryIter<'a, T, R, S> {
+    pub(crate) fn new(receiver: &'a Receiver<T, R, S>) -> TryIter<'a, T, R, S> {
         TryIter {
             receiver,
             ended: false,
             turns: receiver.rt.forever(),
         }
     }
+
+    /// The next message that is there, taken as by [`try_recv`](Receiver::try_recv): `None` where none is, and from then on.
+    #[inline(always)]
+    pub fn next(&mut self) -> Option<T>
+        ensures walked { WasSeen (TakesNext S.did self.old.ended) result }
+        ensures end { IsNext self.old.ended result self.new.ended }
+        ensures turns { tries_left self.new ≡ tries_left self.old }
+    {
+        let receiver = self.receiver;
+        receiver
+            .traced()
+            .next_there(&mut self.ended, receiver.watch)
+            .0
+    }
 }
 
-impl<'a, T: Drop, R: Wait + Copy> Iterator for TryIter<'a, T, R> {
+impl<'a, T: Drop, R: Wait + Copy, S: Trace<T> + Copy> Iterator for TryIter<'a, T, R, S> {
     type Item = T;
 
     ghost next_gives = { λ s item t. IsNext s.ended item t.ended };
@@ -68,7 +99,6 @@ impl<'a, T: Drop, R: Wait + Copy> Iterator for TryIter<'a, T, R> {
 
     fn next(&mut self) -> Option<T> {
         self.turns.next();
-        let receiver = self.receiver;
-        receiver.traced().next_there(&mut self.ended, NoTrace).0
+        TryIter::next(self)
     }
 }

@@ -1,10 +1,24 @@
 //! The receiving side of a channel.
 
+ghost use Rattle.channel_calls.specs.Asks.{first};
+ghost use Rattle.channel_calls.specs.Blocks.{Blocks};
+ghost use Rattle.channel_calls.specs.Turns.{nothing_kept};
+ghost use Rattle.channel_calls.specs.Walks.{WalkedTo};
+ghost use Rattle.channel_calls.specs.declared.ask.ChannelAsk.TheVariants as ask;
+ghost use Rattle.channel_calls.specs.declared.blocked.Blocked.TheVariants as blocking;
+ghost use Rattle.channel_calls.specs.declared.reply.Reply.TheVariants as reply;
+ghost use Rattle.channel_calls.specs.declared.stage.Side.TheVariants as side;
+ghost use Rattle.futures.specs.declared.task.Poll.TheVariants as poll;
+ghost use Rattle.async_channel.specs.Counts.{Clones};
+ghost use Rattle.async_channel.specs.Several.{ReceivesMany};
+ghost use Rattle.async_channel.specs.Watched.{WasSeen};
+
 use crate::counted::Counted;
 use crate::handles::iter::{Iter, TryIter};
-use crate::handles::no_trace::NoTrace;
 use crate::handles::recv::Recv;
 use crate::handles::weak::WeakReceiver;
+use crate::open::no_trace::NoTrace;
+use crate::seen::Trace;
 use crate::traced::Traced;
 use crate::waits::Waits;
 use channel_calls::error::{HandleError, RecvError, Refused, TryRecvError};
@@ -21,13 +35,14 @@ use std::sync::Wait;
 /// the channel. The drop may wait for the locks of those who wait. Contracts see a receiver as its channel: how many messages
 /// it holds at most, its identity, and the memory that its handles share; and the listener that is listed for it as a stream. As
 /// `async-channel` 2.5.0, but that it has the runtime with it.
-pub struct Receiver<T: Drop, R: Wait + Copy> {
+pub struct Receiver<T: Drop, R: Wait + Copy, S: Trace<T> + Copy = NoTrace> {
     pub(crate) counted: Counted<T, OfReceivers>,
     pub(crate) rt: R,
+    pub(crate) watch: S,
     pub(crate) waits: Waits,
 }
 
-impl<T: Drop, R: Wait + Copy> Model for Receiver<T, R> {
+impl<T: Drop, R: Wait + Copy, S: Trace<T> + Copy> Model for Receiver<T, R, S> {
     ghost use Rattle.async_channel.specs.Handles.{Receiving, handle_of};
 
     ghost Value = { Receiving };
@@ -35,18 +50,19 @@ impl<T: Drop, R: Wait + Copy> Model for Receiver<T, R> {
     ghost view = { λ h. record { channel = handle_of h.counted.link; key = h.waits.key } };
 }
 
-impl<T: Drop, R: Wait + Copy> Receiver<T, R> {
+impl<T: Drop, R: Wait + Copy, S: Trace<T> + Copy> Receiver<T, R, S> {
     ghost use Rattle.std.specs.Prelude.{◌≡◌, ◌<◌, ◌≤◌, [], false, length, Err, IfOk, IfErr, OnErr};
     ghost use Rattle.std.specs.Vec.{vec_capacity, vec_ptr};
-    ghost use Rattle.channel_calls.specs.Filling.{room_in, StandsBehind};
+    ghost use Rattle.channel_calls.specs.Filling.{Fills, room_in, StandsBehind};
     ghost use Rattle.async_channel.specs.Handles.{handle_of, new_receiving};
 
-    pub(crate) fn new(rt: R, counted: Counted<T, OfReceivers>) -> Receiver<T, R>
+    pub(crate) fn new(rt: R, watch: S, counted: Counted<T, OfReceivers>) -> Receiver<T, R, S>
         ensures { result ≡ new_receiving (handle_of counted.link) }
     {
         Receiver {
             counted,
             rt,
+            watch,
             waits: Waits::new(),
         }
     }
@@ -71,8 +87,10 @@ impl<T: Drop, R: Wait + Copy> Receiver<T, R> {
     /// let message = receiver.try_recv().ok()?; // what was sent before is still received
     /// let over = receiver.try_recv().err()?.is_closed(); // true
     /// ```
-    pub fn try_recv(&self) -> Result<T, TryRecvError> {
-        self.traced().try_recv(NoTrace).0
+    pub fn try_recv(&self) -> Result<T, TryRecvError>
+        ensures walked { WasSeen (WalkedTo S.did (first ask.TryRecv)) (reply.TryRecv result) }
+    {
+        self.traced().try_recv(self.watch).0
     }
 
     /// Takes the oldest messages, at most `limit`, in order: as many as there are, or as are wanted.
@@ -100,12 +118,13 @@ impl<T: Drop, R: Wait + Copy> Receiver<T, R> {
     /// batch.len() == 2 && batch.first() == Some(&1) && receiver.len() == 1 // true
     /// ```
     pub fn recv_many(&self, limit: usize) -> Result<Vec<T>, Refused<TryRecvError>>
+        ensures walked { WasSeen (ReceivesMany S.did limit) result }
         ensures most { IfOk result (λ messages. length messages.items ≤ limit) }
         ensures none { IfOk result (λ messages. messages.items ≡ [] → limit ≡ 0) }
         ensures wanted { OnErr result (0 < limit) }
         ensures reason { result ≡ Err (Refused.SerialsUsedUp tt) → ⊥ }
     {
-        self.traced().recv_many(limit, NoTrace).0
+        self.traced().recv_many(limit, self.watch).0
     }
 
     /// Takes the oldest messages into the room that is there, behind what is in it, in order: as many as there are, or as fit. It gives
@@ -124,6 +143,7 @@ impl<T: Drop, R: Wait + Copy> Receiver<T, R> {
     /// }
     /// ```
     pub fn recv_many_into(&self, into: &mut Vec<T>) -> Result<usize, TryRecvError>
+        ensures walked { WasSeen (λ begin r end. Fills S.did (room_in into.old) into.old.items begin r into.new.items end) result }
         ensures taken { StandsBehind into.old.items result into.new.items }
         ensures most { IfOk result (λ n. n ≤ room_in into.old) }
         ensures none { IfOk result (λ n. n ≡ 0 → room_in into.old ≡ 0) }
@@ -131,7 +151,7 @@ impl<T: Drop, R: Wait + Copy> Receiver<T, R> {
         ensures room { vec_capacity into.new ≡ vec_capacity into.old }
         ensures in_place { vec_ptr into.new ≡ vec_ptr into.old }
     {
-        self.traced().recv_many_into(into, NoTrace).0
+        self.traced().recv_many_into(into, self.watch).0
     }
 
     /// A receive that waits for a message: nothing is done until it is polled. As `async-channel` 2.5.0.
@@ -141,7 +161,7 @@ impl<T: Drop, R: Wait + Copy> Receiver<T, R> {
     /// let received = block_on(&rt, receiver.recv()).ok()?;
     /// received.ok() == Some(1) // true
     /// ```
-    pub fn recv(&self) -> Recv<'_, T, R>
+    pub fn recv(&self) -> Recv<'_, T, R, S>
         ensures { result ≡ None }
     {
         Recv::new(self)
@@ -151,8 +171,10 @@ impl<T: Drop, R: Wait + Copy> Receiver<T, R> {
     ///
     /// Refused where the channel is closed and empty, or where what a wait needs was refused: memory, or a serial of a listener.
     /// As `async-channel` 2.5.0, but for the wants.
-    pub fn recv_blocking(&self) -> Result<T, Refused<RecvError>> {
-        self.traced().recv_blocking(NoTrace).0
+    pub fn recv_blocking(&self) -> Result<T, Refused<RecvError>>
+        ensures walked { WasSeen (λ begin r end. Blocks S.did S.parked S.slept blocking.Receive begin r nothing_kept end) (reply.RecvPoll (poll.Ready result)) }
+    {
+        self.traced().recv_blocking(self.watch).0
     }
 
     /// The messages one after another, each of which is waited for as by [`recv_blocking`](Receiver::recv_blocking). It ends where the
@@ -168,68 +190,82 @@ impl<T: Drop, R: Wait + Copy> Receiver<T, R> {
     /// ```
     ///
     /// Own to this project.
-    pub fn iter(&self) -> Iter<'_, T, R> {
+    pub fn iter(&self) -> Iter<'_, T, R, S> {
         Iter::new(self)
     }
 
     /// The messages that are there, one after another, each taken as by [`try_recv`](Receiver::try_recv). It ends where none is there,
     /// whether the channel is open or closed, and stays ended though others may come. It never waits for a message, but may wait for
     /// another call's end and for the locks of those who wait. Own to this project.
-    pub fn try_iter(&self) -> TryIter<'_, T, R> {
+    pub fn try_iter(&self) -> TryIter<'_, T, R, S> {
         TryIter::new(self)
     }
 
     /// Closes the channel: nothing more is sent, and what was sent can still be received. True in the one call that closed it;
     /// all who wait are woken then. It may wait for the locks of those who wait. As `async-channel` 2.5.0.
-    pub fn close(&self) -> bool {
-        self.traced().close(NoTrace).0
+    pub fn close(&self) -> bool
+        ensures walked { WasSeen (WalkedTo S.did (first ask.Close)) (reply.Closed result) }
+    {
+        self.traced().close(self.watch).0
     }
 
     /// How many messages the channel held at a moment of the call. It may wait, since it asks again where others came between. As
     /// `async-channel` 2.5.0.
-    pub fn len(&self) -> usize {
-        self.traced().len(NoTrace).0
+    pub fn len(&self) -> usize
+        ensures walked { WasSeen (WalkedTo S.did (first ask.Len)) (reply.Count result) }
+    {
+        self.traced().len(self.watch).0
     }
 }
 
 // Questions that wait for nobody.
-impl<T: Drop, R: Wait + Copy> Receiver<T, R> {
+impl<T: Drop, R: Wait + Copy, S: Trace<T> + Copy> Receiver<T, R, S> {
     ghost use Rattle.std.specs.Prelude.{◌≡◌, ◌↔◌, IsTrue, None, false};
     ghost use Rattle.concurrent_queue.specs.Replies.{room_of};
 
     /// Whether the channel is closed. It waits for nobody. As `async-channel` 2.5.0.
-    pub fn is_closed(&self) -> bool {
-        self.traced().is_closed(NoTrace).0
+    pub fn is_closed(&self) -> bool
+        ensures walked { WasSeen (WalkedTo S.did (first ask.IsClosed)) (reply.Flag result) }
+    {
+        self.traced().is_closed(self.watch).0
     }
 
     /// Whether the channel holds no message. It waits for nobody. As `async-channel` 2.5.0.
-    pub fn is_empty(&self) -> bool {
-        self.traced().is_empty(NoTrace).0
+    pub fn is_empty(&self) -> bool
+        ensures walked { WasSeen (WalkedTo S.did (first ask.IsEmpty)) (reply.Flag result) }
+    {
+        self.traced().is_empty(self.watch).0
     }
 
     /// Whether the channel holds as many messages as it can; one without a bound never does. It waits for nobody. As
     /// `async-channel` 2.5.0.
     pub fn is_full(&self) -> bool
-        ensures { room_of self.now.channel.form ≡ None → result ≡ false }
+        ensures walked { WasSeen (WalkedTo S.did (first ask.IsFull)) (reply.Flag result) }
+        ensures bound { room_of self.now.channel.form ≡ None → result ≡ false }
     {
-        self.traced().is_full(NoTrace).0
+        self.traced().is_full(self.watch).0
     }
 
     /// How many messages the channel can hold, if there is a bound. It waits for nobody. As `async-channel` 2.5.0.
     pub fn capacity(&self) -> Option<usize>
-        ensures { result ≡ room_of self.now.channel.form }
+        ensures walked { WasSeen (WalkedTo S.did (first ask.Capacity)) (reply.Cap result) }
+        ensures room { result ≡ room_of self.now.channel.form }
     {
-        self.traced().capacity(NoTrace).0
+        self.traced().capacity(self.watch).0
     }
 
     /// How many senders live. It waits for nobody. As `async-channel` 2.5.0.
-    pub fn sender_count(&self) -> usize {
-        self.traced().sender_count(NoTrace).0
+    pub fn sender_count(&self) -> usize
+        ensures walked { WasSeen (WalkedTo S.did (first (ask.HandleCount side.Senders))) (reply.Count result) }
+    {
+        self.traced().sender_count(self.watch).0
     }
 
     /// How many receivers live. It waits for nobody. As `async-channel` 2.5.0.
-    pub fn receiver_count(&self) -> usize {
-        self.traced().receiver_count(NoTrace).0
+    pub fn receiver_count(&self) -> usize
+        ensures walked { WasSeen (WalkedTo S.did (first (ask.HandleCount side.Receivers))) (reply.Count result) }
+    {
+        self.traced().receiver_count(self.watch).0
     }
 
     /// Whether both are handles of one channel: whether the identities are equal. It waits for nobody. As
@@ -237,7 +273,7 @@ impl<T: Drop, R: Wait + Copy> Receiver<T, R> {
     ///
     /// This tells apart channels whose identities came from one `EventIds`. Each source begins with the same number, so of channels
     /// from two sources it may be true though they are two.
-    pub fn same_channel(&self, other: &Receiver<T, R>) -> bool
+    pub fn same_channel(&self, other: &Receiver<T, R, S>) -> bool
         ensures { IsTrue result ↔ (self.now.channel.id ≡ other.now.channel.id) }
     {
         self.counted.link.is_same(&other.counted.link)
@@ -245,17 +281,21 @@ impl<T: Drop, R: Wait + Copy> Receiver<T, R> {
 
     /// Whether this stream has ended: whether the channel is closed, and then whether it is empty. It waits for nobody. As
     /// `FusedStream` of `async-channel` 2.5.0 says it.
-    pub fn is_terminated(&self) -> bool {
-        self.traced().is_terminated(NoTrace).0
+    pub fn is_terminated(&self) -> bool
+        ensures walked { WasSeen (WalkedTo S.did (first ask.IsTerminated)) (reply.Flag result) }
+    {
+        self.traced().is_terminated(self.watch).0
     }
 }
 
 // As a stream.
-impl<T: Drop, R: Wait + Copy> Receiver<T, R> {
+impl<T: Drop, R: Wait + Copy, S: Trace<T> + Copy> Receiver<T, R, S> {
     ghost use Rattle.std.specs.Prelude.{◌≡◌, is_some};
     ghost use Rattle.futures.specs.Poll.{OnPending};
     ghost use Rattle.futures.specs.Task.{IsArmed, Keeps};
+    ghost use Rattle.channel_calls.specs.Calls.{next_ask};
     ghost use Rattle.channel_calls.specs.Listed.{is_pending};
+    ghost use Rattle.async_channel.specs.Polls.{Polls};
 
     /// One poll of this receiver as a stream: a listener is listed for it afterwards where it is pending, and else none.
     ///
@@ -263,17 +303,19 @@ impl<T: Drop, R: Wait + Copy> Receiver<T, R> {
     /// next item is want of memory. It may wait for another call's end and for the locks of those who wait. As `async-channel` 2.5.0,
     /// but for the refusals.
     pub fn poll_next(&mut self, cx: &mut Context<'_>) -> Poll<Option<Result<T, ListenError>>>
+        ensures walked { WasSeen (λ begin r end. Polls S.did (next_ask self.old.key) begin r self.new.key end) (reply.Next result) }
         ensures listed { is_some self.new.key ≡ is_pending result }
         ensures channel { self.new.channel ≡ self.old.channel }
         ensures armed { OnPending result (IsArmed cx.new) }
         ensures kept { Keeps cx.old cx.new }
     {
-        self.poll_next_traced(cx, NoTrace).0
+        let watch = self.watch;
+        self.poll_next_traced(cx, watch).0
     }
 }
 
 // More handles.
-impl<T: Drop, R: Wait + Copy> Receiver<T, R> {
+impl<T: Drop, R: Wait + Copy, S: Trace<T> + Copy> Receiver<T, R, S> {
     ghost use Rattle.std.specs.Prelude.{◌≡◌, IfOk, IfErr};
     ghost use Rattle.async_channel.specs.Handles.{new_receiving};
 
@@ -282,34 +324,40 @@ impl<T: Drop, R: Wait + Copy> Receiver<T, R> {
     /// Refused where more than half of `usize::MAX` receivers live, or where the ties to the shared memory are used up. Nothing is
     /// changed then: no step of a call that is refused raises the count, and what was raised can't be let go but by a handle's drop.
     /// It may wait for other clonings to end.
-    pub fn try_clone(&self) -> Result<Receiver<T, R>, HandleError>
-        ensures { IfOk result (λ more. more ≡ new_receiving self.now.channel) }
+    pub fn try_clone(&self) -> Result<Receiver<T, R, S>, HandleError>
+        ensures walked { WasSeen (Clones S.did side.Receivers) result }
+        ensures made { IfOk result (λ more. more ≡ new_receiving self.now.channel) }
     {
-        self.traced().try_clone(NoTrace).0
+        self.try_clone_traced(self.watch).0
     }
 
     /// A handle that doesn't keep the channel open. It waits for nobody, and is never refused for too many handles. As
     /// `async-channel` 2.5.0.
-    pub fn downgrade(&self) -> Result<WeakReceiver<T, R>, HandleError>
+    pub fn downgrade(&self) -> Result<WeakReceiver<T, R, S>, HandleError>
         ensures channel { IfOk result (λ weak. weak ≡ self.now.channel) }
         ensures reason { IfErr result (λ e. e ≡ HandleError.NoMemory) }
     {
         match self.counted.link.try_clone() {
-            Some(link) => Ok(WeakReceiver::new(self.rt, link)),
+            Some(link) => Ok(WeakReceiver::new(self.rt, self.watch, link)),
             None => Err(HandleError::NoMemory),
         }
     }
 }
 
-impl<T: Drop, R: Wait + Copy> fmt::Debug for Receiver<T, R> {
+impl<T: Drop, R: Wait + Copy, S: Trace<T> + Copy> fmt::Debug for Receiver<T, R, S> {
     fn fmt<W: fmt::Write>(&self, f: &mut fmt::Formatter<W>) -> fmt::Result {
         write!(f, "Receiver {{ .. }}")
     }
 }
 
-impl<T: Drop, R: Wait + Copy> Drop for Receiver<T, R> {
+impl<T: Drop, R: Wait + Copy, S: Trace<T> + Copy> Drop for Receiver<T, R, S> {
     fn drop(self) {
-        let Self { counted, rt, waits } = self;
-        let NoTrace = counted.lower(&rt, waits.key, NoTrace);
+        let Self {
+            counted,
+            rt,
+            watch,
+            waits,
+        } = self;
+        let _ = counted.lower(&rt, waits.key, watch);
     }
 }

@@ -3,11 +3,19 @@
 ghost use Rattle.std.specs.Prelude.{◌≡◌, Some, is_none, is_some};
 ghost use Rattle.futures.specs.Poll.{OnPending};
 ghost use Rattle.futures.specs.Task.{IsArmed, Keeps};
-ghost use Rattle.channel_calls.specs.Calls.{SendsOn};
+ghost use Rattle.channel_calls.specs.Asks.{first};
+ghost use Rattle.channel_calls.specs.Calls.{SendsOn, send_ask};
+ghost use Rattle.channel_calls.specs.Walks.{WalkedTo};
+ghost use Rattle.channel_calls.specs.declared.ask.ChannelAsk.TheVariants as ask;
+ghost use Rattle.channel_calls.specs.declared.reply.Reply.TheVariants as reply;
+ghost use Rattle.channel_calls.specs.declared.stage.Line.TheVariants as line;
 ghost use Rattle.async_channel.specs.Handles.{new_sending, waits_on};
+ghost use Rattle.async_channel.specs.Polls.{PollsSend};
+ghost use Rattle.async_channel.specs.Watched.{WasSeen};
 
-use crate::handles::no_trace::NoTrace;
 use crate::handles::sender::Sender;
+use crate::open::no_trace::NoTrace;
+use crate::seen::Trace;
 use crate::waits::Waits;
 use channel_calls::error::{Refused, SendError};
 use futures::Future;
@@ -19,13 +27,13 @@ use std::sync::Wait;
 /// listener that is listed for it.
 ///
 /// Dropping it gives it up. As `async-channel` 2.5.0.
-pub struct Send<'a, T: Drop, R: Wait + Copy> {
-    pub(crate) sender: &'a Sender<T, R>,
+pub struct Send<'a, T: Drop, R: Wait + Copy, S: Trace<T> + Copy = NoTrace> {
+    pub(crate) sender: &'a Sender<T, R, S>,
     pub(crate) message: Option<T>,
     pub(crate) waits: Waits,
 }
 
-impl<'a, T: Drop, R: Wait + Copy> Model for Send<'a, T, R> {
+impl<'a, T: Drop, R: Wait + Copy, S: Trace<T> + Copy> Model for Send<'a, T, R, S> {
     ghost use Rattle.async_channel.specs.Handles.{Sending};
 
     ghost Value = { Sending T };
@@ -33,8 +41,8 @@ impl<'a, T: Drop, R: Wait + Copy> Model for Send<'a, T, R> {
     ghost view = { λ s. record { message = s.message; key = s.waits.key } };
 }
 
-impl<'a, T: Drop, R: Wait + Copy> Send<'a, T, R> {
-    pub(crate) fn new(sender: &'a Sender<T, R>, message: T) -> Send<'a, T, R>
+impl<'a, T: Drop, R: Wait + Copy, S: Trace<T> + Copy> Send<'a, T, R, S> {
+    pub(crate) fn new(sender: &'a Sender<T, R, S>, message: T) -> Send<'a, T, R, S>
         ensures { result ≡ new_sending message }
     {
         Send {
@@ -50,12 +58,14 @@ impl<'a, T: Drop, R: Wait + Copy> Send<'a, T, R> {
     /// A copy of the waker is taken first. Where none is got nothing is tried, and the answer is want of memory. It may wait for
     /// another call's end and for the locks of those who wait.
     pub fn poll(&mut self, cx: &mut Context<'_>) -> Poll<Result<(), Refused<SendError<T>>>>
+        ensures walked { WasSeen (λ begin r end. PollsSend S.did (send_ask self.old.message self.old.key) begin r self.new.key self.new.message end) (reply.SendPoll result) }
         ensures message { SendsOn self.old.message result self.new.message }
         ensures listed { is_some self.new.key ≡ waits_on self.old.message result }
         ensures armed { OnPending result (IsArmed cx.new) }
         ensures kept { Keeps cx.old cx.new }
     {
-        self.poll_traced(cx, NoTrace).0
+        let watch = self.sender.watch;
+        self.poll_traced(cx, watch).0
     }
 
     /// Whether it has finished. It waits for nobody. Own to this project.
@@ -68,13 +78,15 @@ impl<'a, T: Drop, R: Wait + Copy> Send<'a, T, R> {
     /// Gives it up, as its drop does, and hands back the message of one that hasn't finished. It may wait for the lock of those
     /// who wait. Own to this project.
     pub fn give_up(self) -> Option<T>
-        ensures { result ≡ self.entry.message }
+        ensures walked { WasSeen (WalkedTo S.did (first (ask.GiveUp line.Sends self.entry.message self.entry.key))) (reply.GivenUp result) }
+        ensures message { result ≡ self.entry.message }
     {
-        self.give_up_traced(NoTrace).0
+        let watch = self.sender.watch;
+        self.give_up_traced(watch).0
     }
 }
 
-impl<T: Drop, R: Wait + Copy> Future for Send<'_, T, R> {
+impl<T: Drop, R: Wait + Copy, S: Trace<T> + Copy> Future for Send<'_, T, R, S> {
     type Output = Result<(), Refused<SendError<T>>>;
 
     ghost use Rattle.async_channel.specs.Handles.{Gives};
@@ -87,9 +99,10 @@ impl<T: Drop, R: Wait + Copy> Future for Send<'_, T, R> {
     }
 }
 
-impl<T: Drop, R: Wait + Copy> Drop for Send<'_, T, R> {
+impl<T: Drop, R: Wait + Copy, S: Trace<T> + Copy> Drop for Send<'_, T, R, S> {
     fn drop(mut self) {
-        drop(self.leave(NoTrace).0);
+        let watch = self.sender.watch;
+        drop(self.leave(watch).0);
         let Send {
             sender: _,
             message: _,

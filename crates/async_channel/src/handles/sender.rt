@@ -1,10 +1,22 @@
 //! The sending side of a channel.
 
+ghost use Rattle.channel_calls.specs.Asks.{first};
+ghost use Rattle.channel_calls.specs.Blocks.{Blocks};
+ghost use Rattle.channel_calls.specs.Tried.{sent_reply, sent_left};
+ghost use Rattle.channel_calls.specs.Walks.{WalkedTo};
+ghost use Rattle.channel_calls.specs.declared.ask.ChannelAsk.TheVariants as ask;
+ghost use Rattle.channel_calls.specs.declared.blocked.Blocked.TheVariants as blocking;
+ghost use Rattle.channel_calls.specs.declared.reply.Reply.TheVariants as reply;
+ghost use Rattle.channel_calls.specs.declared.stage.Side.TheVariants as side;
+ghost use Rattle.async_channel.specs.Counts.{Clones};
+ghost use Rattle.async_channel.specs.Watched.{WasSeen};
+
 use crate::counted::Counted;
 use crate::handles::closed::Closed;
-use crate::handles::no_trace::NoTrace;
 use crate::handles::send::Send;
 use crate::handles::weak::WeakSender;
+use crate::open::no_trace::NoTrace;
+use crate::seen::Trace;
 use crate::traced::Traced;
 use channel_calls::error::{HandleError, Refused, SendError, TrySendError};
 use channel_calls::kind::OfSenders;
@@ -17,12 +29,13 @@ use std::sync::Wait;
 /// The channel is closed once its last sender is dropped. The drop may wait for the locks of those who wait. Contracts see a
 /// sender as its channel: how many messages it holds at most, its identity, and the memory that its handles share. As
 /// `async-channel` 2.5.0, but that it has the runtime with it.
-pub struct Sender<T: Drop, R: Wait + Copy> {
+pub struct Sender<T: Drop, R: Wait + Copy, S: Trace<T> + Copy = NoTrace> {
     pub(crate) counted: Counted<T, OfSenders>,
     pub(crate) rt: R,
+    pub(crate) watch: S,
 }
 
-impl<T: Drop, R: Wait + Copy> Model for Sender<T, R> {
+impl<T: Drop, R: Wait + Copy, S: Trace<T> + Copy> Model for Sender<T, R, S> {
     ghost use Rattle.async_channel.specs.Handles.{Handle, handle_of};
 
     ghost Value = { Handle };
@@ -30,17 +43,17 @@ impl<T: Drop, R: Wait + Copy> Model for Sender<T, R> {
     ghost view = { λ h. handle_of h.counted.link };
 }
 
-impl<T: Drop, R: Wait + Copy> Sender<T, R> {
+impl<T: Drop, R: Wait + Copy, S: Trace<T> + Copy> Sender<T, R, S> {
     ghost use Rattle.std.specs.Prelude.{◌≡◌, false, None, IfOk, IfErr};
     ghost use Rattle.concurrent_queue.specs.Replies.{room_of};
     ghost use Rattle.concurrent_queue.specs.Replies.{is_bounded};
     ghost use Rattle.channel_calls.specs.Replies.{RefusesTrySend, RefusesForceSend};
     ghost use Rattle.async_channel.specs.Handles.{handle_of, new_sending, Unsent};
 
-    pub(crate) fn new(rt: R, counted: Counted<T, OfSenders>) -> Sender<T, R>
+    pub(crate) fn new(rt: R, watch: S, counted: Counted<T, OfSenders>) -> Sender<T, R, S>
         ensures { result ≡ handle_of counted.link }
     {
-        Sender { counted, rt }
+        Sender { counted, rt, watch }
     }
 
     /// The calls of this sender with a trace of the caller's, which each call takes and gives back. Own to this project.
@@ -64,9 +77,10 @@ impl<T: Drop, R: Wait + Copy> Sender<T, R> {
     /// refused.is_full() && refused.into_inner() == 2 // true
     /// ```
     pub fn try_send(&self, message: T) -> Result<(), Refused<TrySendError<T>, T>>
-        ensures { IfErr result (λ e. RefusesTrySend (is_bounded self.now.form) message e) }
+        ensures walked { WasSeen (WalkedTo S.did (first (ask.TrySend message))) (reply.TrySend result) }
+        ensures refused { IfErr result (λ e. RefusesTrySend (is_bounded self.now.form) message e) }
     {
-        self.traced().try_send(message, NoTrace).0
+        self.traced().try_send(message, self.watch).0
     }
 
     /// Sends the message; where the channel is full, its oldest message leaves for it and is answered.
@@ -81,10 +95,11 @@ impl<T: Drop, R: Wait + Copy> Sender<T, R> {
     /// oldest == Some(1) && receiver.try_recv().ok() == Some(2) // true
     /// ```
     pub fn force_send(&self, message: T) -> Result<Option<T>, Refused<SendError<T>, T>>
+        ensures walked { WasSeen (WalkedTo S.did (first (ask.ForceSend message))) (reply.ForceSend result) }
         ensures refused { IfErr result (λ e. RefusesForceSend (is_bounded self.now.form) message e) }
         ensures displaced { room_of self.now.form ≡ None → IfOk result (λ oldest. oldest ≡ None) }
     {
-        self.traced().force_send(message, NoTrace).0
+        self.traced().force_send(message, self.watch).0
     }
 
     /// A send of this message that waits for a place: nothing is done until it is polled. As `async-channel` 2.5.0.
@@ -101,14 +116,14 @@ impl<T: Drop, R: Wait + Copy> Sender<T, R> {
     ///
     /// A closed channel hands the message back in its error, which has it then, and not the send:
     /// [`into_message`](Refused::into_message).
-    pub fn send(&self, message: T) -> Send<'_, T, R>
+    pub fn send(&self, message: T) -> Send<'_, T, R, S>
         ensures { result ≡ new_sending message }
     {
         Send::new(self, message)
     }
 
     /// A wait for the channel's closing: nothing is done until it is polled. As `async-channel` 2.5.0.
-    pub fn closed(&self) -> Closed<'_, T, R>
+    pub fn closed(&self) -> Closed<'_, T, R, S>
         ensures { result ≡ None }
     {
         Closed::new(self)
@@ -119,9 +134,10 @@ impl<T: Drop, R: Wait + Copy> Sender<T, R> {
     /// A refusal hands the message back: the channel was closed, or what a send or a wait needs was refused: memory, or a serial
     /// of a listener. As `async-channel` 2.5.0, but for the wants.
     pub fn send_blocking(&self, message: T) -> Result<(), Refused<SendError<T>, T>>
-        ensures { IfErr result (λ e. Unsent e ≡ message) }
+        ensures walked { WasSeen (λ begin r end. Blocks S.did S.parked S.slept (blocking.Send message) begin r (sent_left result) end) (sent_reply result) }
+        ensures refused { IfErr result (λ e. Unsent e ≡ message) }
     {
-        self.traced().send_blocking(message, NoTrace).0
+        self.traced().send_blocking(message, self.watch).0
     }
 
     /// Closes the channel: nothing more is sent, and what was sent can still be received. True in the one call that closed it;
@@ -132,55 +148,69 @@ impl<T: Drop, R: Wait + Copy> Sender<T, R> {
     /// let second = sender.close();
     /// first && !second && sender.try_send(1).err()?.is_closed() // true
     /// ```
-    pub fn close(&self) -> bool {
-        self.traced().close(NoTrace).0
+    pub fn close(&self) -> bool
+        ensures walked { WasSeen (WalkedTo S.did (first ask.Close)) (reply.Closed result) }
+    {
+        self.traced().close(self.watch).0
     }
 
     /// How many messages the channel held at a moment of the call. It may wait, since it asks again where others came between. As
     /// `async-channel` 2.5.0.
-    pub fn len(&self) -> usize {
-        self.traced().len(NoTrace).0
+    pub fn len(&self) -> usize
+        ensures walked { WasSeen (WalkedTo S.did (first ask.Len)) (reply.Count result) }
+    {
+        self.traced().len(self.watch).0
     }
 }
 
 // Questions that wait for nobody.
-impl<T: Drop, R: Wait + Copy> Sender<T, R> {
+impl<T: Drop, R: Wait + Copy, S: Trace<T> + Copy> Sender<T, R, S> {
     ghost use Rattle.std.specs.Prelude.{◌≡◌, ◌↔◌, IsTrue, None, false};
     ghost use Rattle.concurrent_queue.specs.Replies.{room_of};
 
     /// Whether the channel is closed. It waits for nobody. As `async-channel` 2.5.0.
-    pub fn is_closed(&self) -> bool {
-        self.traced().is_closed(NoTrace).0
+    pub fn is_closed(&self) -> bool
+        ensures walked { WasSeen (WalkedTo S.did (first ask.IsClosed)) (reply.Flag result) }
+    {
+        self.traced().is_closed(self.watch).0
     }
 
     /// Whether the channel holds no message. It waits for nobody. As `async-channel` 2.5.0.
-    pub fn is_empty(&self) -> bool {
-        self.traced().is_empty(NoTrace).0
+    pub fn is_empty(&self) -> bool
+        ensures walked { WasSeen (WalkedTo S.did (first ask.IsEmpty)) (reply.Flag result) }
+    {
+        self.traced().is_empty(self.watch).0
     }
 
     /// Whether the channel holds as many messages as it can; one without a bound never does. It waits for nobody. As
     /// `async-channel` 2.5.0.
     pub fn is_full(&self) -> bool
-        ensures { room_of self.now.form ≡ None → result ≡ false }
+        ensures walked { WasSeen (WalkedTo S.did (first ask.IsFull)) (reply.Flag result) }
+        ensures bound { room_of self.now.form ≡ None → result ≡ false }
     {
-        self.traced().is_full(NoTrace).0
+        self.traced().is_full(self.watch).0
     }
 
     /// How many messages the channel can hold, if there is a bound. It waits for nobody. As `async-channel` 2.5.0.
     pub fn capacity(&self) -> Option<usize>
-        ensures { result ≡ room_of self.now.form }
+        ensures walked { WasSeen (WalkedTo S.did (first ask.Capacity)) (reply.Cap result) }
+        ensures room { result ≡ room_of self.now.form }
     {
-        self.traced().capacity(NoTrace).0
+        self.traced().capacity(self.watch).0
     }
 
     /// How many senders live. It waits for nobody. As `async-channel` 2.5.0.
-    pub fn sender_count(&self) -> usize {
-        self.traced().sender_count(NoTrace).0
+    pub fn sender_count(&self) -> usize
+        ensures walked { WasSeen (WalkedTo S.did (first (ask.HandleCount side.Senders))) (reply.Count result) }
+    {
+        self.traced().sender_count(self.watch).0
     }
 
     /// How many receivers live. It waits for nobody. As `async-channel` 2.5.0.
-    pub fn receiver_count(&self) -> usize {
-        self.traced().receiver_count(NoTrace).0
+    pub fn receiver_count(&self) -> usize
+        ensures walked { WasSeen (WalkedTo S.did (first (ask.HandleCount side.Receivers))) (reply.Count result) }
+    {
+        self.traced().receiver_count(self.watch).0
     }
 
     /// Whether both are handles of one channel: whether the identities are equal. It waits for nobody. As
@@ -188,7 +218,7 @@ impl<T: Drop, R: Wait + Copy> Sender<T, R> {
     ///
     /// This tells apart channels whose identities came from one `EventIds`. Each source begins with the same number, so of channels
     /// from two sources it may be true though they are two.
-    pub fn same_channel(&self, other: &Sender<T, R>) -> bool
+    pub fn same_channel(&self, other: &Sender<T, R, S>) -> bool
         ensures { IsTrue result ↔ (self.now.id ≡ other.now.id) }
     {
         self.counted.link.is_same(&other.counted.link)
@@ -196,7 +226,7 @@ impl<T: Drop, R: Wait + Copy> Sender<T, R> {
 }
 
 // More handles.
-impl<T: Drop, R: Wait + Copy> Sender<T, R> {
+impl<T: Drop, R: Wait + Copy, S: Trace<T> + Copy> Sender<T, R, S> {
     ghost use Rattle.std.specs.Prelude.{◌≡◌, IfOk, IfErr};
 
     /// One more sender of this channel. `Clone` of `async-channel` 2.5.0, which ends the program where this is refused.
@@ -211,34 +241,35 @@ impl<T: Drop, R: Wait + Copy> Sender<T, R> {
     /// let open = !receiver.is_closed(); // true: the second one lives
     /// drop(second); // the last one, which closes the channel
     /// ```
-    pub fn try_clone(&self) -> Result<Sender<T, R>, HandleError>
-        ensures { IfOk result (λ more. more ≡ self.now) }
+    pub fn try_clone(&self) -> Result<Sender<T, R, S>, HandleError>
+        ensures walked { WasSeen (Clones S.did side.Senders) result }
+        ensures made { IfOk result (λ more. more ≡ self.now) }
     {
-        self.traced().try_clone(NoTrace).0
+        self.try_clone_traced(self.watch).0
     }
 
     /// A handle that doesn't keep the channel open. It waits for nobody, and is never refused for too many handles. As
     /// `async-channel` 2.5.0.
-    pub fn downgrade(&self) -> Result<WeakSender<T, R>, HandleError>
+    pub fn downgrade(&self) -> Result<WeakSender<T, R, S>, HandleError>
         ensures channel { IfOk result (λ weak. weak ≡ self.now) }
         ensures reason { IfErr result (λ e. e ≡ HandleError.NoMemory) }
     {
         match self.counted.link.try_clone() {
-            Some(link) => Ok(WeakSender::new(self.rt, link)),
+            Some(link) => Ok(WeakSender::new(self.rt, self.watch, link)),
             None => Err(HandleError::NoMemory),
         }
     }
 }
 
-impl<T: Drop, R: Wait + Copy> fmt::Debug for Sender<T, R> {
+impl<T: Drop, R: Wait + Copy, S: Trace<T> + Copy> fmt::Debug for Sender<T, R, S> {
     fn fmt<W: fmt::Write>(&self, f: &mut fmt::Formatter<W>) -> fmt::Result {
         write!(f, "Sender {{ .. }}")
     }
 }
 
-impl<T: Drop, R: Wait + Copy> Drop for Sender<T, R> {
+impl<T: Drop, R: Wait + Copy, S: Trace<T> + Copy> Drop for Sender<T, R, S> {
     fn drop(self) {
-        let Self { counted, rt } = self;
-        let NoTrace = counted.lower(&rt, NoTrace);
+        let Self { counted, rt, watch } = self;
+        let _ = counted.lower(&rt, watch);
     }
 }

@@ -1,9 +1,14 @@
 //! The weak handles of a channel, which don't keep it open.
 
-use crate::handles::no_trace::NoTrace;
+ghost use Rattle.channel_calls.specs.declared.stage.Side.TheVariants as side;
+ghost use Rattle.async_channel.specs.Counts.{Upgrades};
+ghost use Rattle.async_channel.specs.Watched.{WasSeen};
+
 use crate::handles::receiver::Receiver;
 use crate::handles::sender::Sender;
 use crate::link::Link;
+use crate::open::no_trace::NoTrace;
+use crate::seen::Trace;
 use channel_calls::error::HandleError;
 use std::fmt;
 use std::marker::Model;
@@ -11,12 +16,13 @@ use std::sync::Wait;
 
 /// A sender that doesn't keep the channel open. Contracts see its channel. As `async-channel` 2.5.0.
 #[derive(Drop)]
-pub struct WeakSender<T: Drop, R: Wait + Copy> {
+pub struct WeakSender<T: Drop, R: Wait + Copy, S: Trace<T> + Copy = NoTrace> {
     pub(crate) link: Link<T>,
     pub(crate) rt: R,
+    pub(crate) watch: S,
 }
 
-impl<T: Drop, R: Wait + Copy> Model for WeakSender<T, R> {
+impl<T: Drop, R: Wait + Copy, S: Trace<T> + Copy> Model for WeakSender<T, R, S> {
     ghost use Rattle.async_channel.specs.Handles.{Handle, handle_of};
 
     ghost Value = { Handle };
@@ -24,14 +30,14 @@ impl<T: Drop, R: Wait + Copy> Model for WeakSender<T, R> {
     ghost view = { λ h. handle_of h.link };
 }
 
-impl<T: Drop, R: Wait + Copy> WeakSender<T, R> {
+impl<T: Drop, R: Wait + Copy, S: Trace<T> + Copy> WeakSender<T, R, S> {
     ghost use Rattle.std.specs.Prelude.{◌≡◌, IfOk, IfErr, IfSome};
     ghost use Rattle.async_channel.specs.Handles.{handle_of};
 
-    pub(crate) fn new(rt: R, link: Link<T>) -> WeakSender<T, R>
+    pub(crate) fn new(rt: R, watch: S, link: Link<T>) -> WeakSender<T, R, S>
         ensures { result ≡ handle_of link }
     {
-        WeakSender { link, rt }
+        WeakSender { link, rt, watch }
     }
 
     /// A sender of this channel; `None` where the channel is closed or no sender lives.
@@ -39,25 +45,26 @@ impl<T: Drop, R: Wait + Copy> WeakSender<T, R> {
     /// Refused where more than half of `usize::MAX` senders live, or where the ties to the shared memory are used up; nothing is
     /// changed then, as by `try_clone`. It may wait for other clonings to end. As `async-channel` 2.5.0, which ends the program
     /// where this is refused.
-    pub fn upgrade(&self) -> Result<Option<Sender<T, R>>, HandleError>
-        ensures { IfOk result (λ made. IfSome made (λ sender. sender ≡ self.now)) }
+    pub fn upgrade(&self) -> Result<Option<Sender<T, R, S>>, HandleError>
+        ensures walked { WasSeen (Upgrades S.did side.Senders) result }
+        ensures made { IfOk result (λ made. IfSome made (λ sender. sender ≡ self.now)) }
     {
-        self.upgrade_traced(NoTrace).0
+        self.upgrade_traced(self.watch).0
     }
 
     /// One more weak sender. It waits for nobody, and is never refused for too many handles. `Clone` of `async-channel` 2.5.0.
-    pub fn try_clone(&self) -> Result<WeakSender<T, R>, HandleError>
+    pub fn try_clone(&self) -> Result<WeakSender<T, R, S>, HandleError>
         ensures channel { IfOk result (λ more. more ≡ self.now) }
         ensures reason { IfErr result (λ e. e ≡ HandleError.NoMemory) }
     {
         match self.link.try_clone() {
-            Some(link) => Ok(WeakSender::new(self.rt, link)),
+            Some(link) => Ok(WeakSender::new(self.rt, self.watch, link)),
             None => Err(HandleError::NoMemory),
         }
     }
 }
 
-impl<T: Drop, R: Wait + Copy> fmt::Debug for WeakSender<T, R> {
+impl<T: Drop, R: Wait + Copy, S: Trace<T> + Copy> fmt::Debug for WeakSender<T, R, S> {
     fn fmt<W: fmt::Write>(&self, f: &mut fmt::Formatter<W>) -> fmt::Result {
         write!(f, "WeakSender {{ .. }}")
     }
@@ -65,12 +72,13 @@ impl<T: Drop, R: Wait + Copy> fmt::Debug for WeakSender<T, R> {
 
 /// A receiver that doesn't keep the channel open. Contracts see its channel. As `async-channel` 2.5.0.
 #[derive(Drop)]
-pub struct WeakReceiver<T: Drop, R: Wait + Copy> {
+pub struct WeakReceiver<T: Drop, R: Wait + Copy, S: Trace<T> + Copy = NoTrace> {
     pub(crate) link: Link<T>,
     pub(crate) rt: R,
+    pub(crate) watch: S,
 }
 
-impl<T: Drop, R: Wait + Copy> Model for WeakReceiver<T, R> {
+impl<T: Drop, R: Wait + Copy, S: Trace<T> + Copy> Model for WeakReceiver<T, R, S> {
     ghost use Rattle.async_channel.specs.Handles.{Handle, handle_of};
 
     ghost Value = { Handle };
@@ -78,14 +86,14 @@ impl<T: Drop, R: Wait + Copy> Model for WeakReceiver<T, R> {
     ghost view = { λ h. handle_of h.link };
 }
 
-impl<T: Drop, R: Wait + Copy> WeakReceiver<T, R> {
+impl<T: Drop, R: Wait + Copy, S: Trace<T> + Copy> WeakReceiver<T, R, S> {
     ghost use Rattle.std.specs.Prelude.{◌≡◌, IfOk, IfErr, IfSome};
     ghost use Rattle.async_channel.specs.Handles.{handle_of, new_receiving};
 
-    pub(crate) fn new(rt: R, link: Link<T>) -> WeakReceiver<T, R>
+    pub(crate) fn new(rt: R, watch: S, link: Link<T>) -> WeakReceiver<T, R, S>
         ensures { result ≡ handle_of link }
     {
-        WeakReceiver { link, rt }
+        WeakReceiver { link, rt, watch }
     }
 
     /// A receiver of this channel; `None` where the channel is closed or no receiver lives.
@@ -93,25 +101,26 @@ impl<T: Drop, R: Wait + Copy> WeakReceiver<T, R> {
     /// Refused where more than half of `usize::MAX` receivers live, or where the ties to the shared memory are used up; nothing is
     /// changed then, as by `try_clone`. It may wait for other clonings to end. As `async-channel` 2.5.0, which ends the program
     /// where this is refused.
-    pub fn upgrade(&self) -> Result<Option<Receiver<T, R>>, HandleError>
-        ensures { IfOk result (λ made. IfSome made (λ receiver. receiver ≡ new_receiving self.now)) }
+    pub fn upgrade(&self) -> Result<Option<Receiver<T, R, S>>, HandleError>
+        ensures walked { WasSeen (Upgrades S.did side.Receivers) result }
+        ensures made { IfOk result (λ made. IfSome made (λ receiver. receiver ≡ new_receiving self.now)) }
     {
-        self.upgrade_traced(NoTrace).0
+        self.upgrade_traced(self.watch).0
     }
 
     /// One more weak receiver. It waits for nobody, and is never refused for too many handles. `Clone` of `async-channel` 2.5.0.
-    pub fn try_clone(&self) -> Result<WeakReceiver<T, R>, HandleError>
+    pub fn try_clone(&self) -> Result<WeakReceiver<T, R, S>, HandleError>
         ensures channel { IfOk result (λ more. more ≡ self.now) }
         ensures reason { IfErr result (λ e. e ≡ HandleError.NoMemory) }
     {
         match self.link.try_clone() {
-            Some(link) => Ok(WeakReceiver::new(self.rt, link)),
+            Some(link) => Ok(WeakReceiver::new(self.rt, self.watch, link)),
             None => Err(HandleError::NoMemory),
         }
     }
 }
 
-impl<T: Drop, R: Wait + Copy> fmt::Debug for WeakReceiver<T, R> {
+impl<T: Drop, R: Wait + Copy, S: Trace<T> + Copy> fmt::Debug for WeakReceiver<T, R, S> {
     fn fmt<W: fmt::Write>(&self, f: &mut fmt::Formatter<W>) -> fmt::Result {
         write!(f, "WeakReceiver {{ .. }}")
     }

@@ -11,47 +11,56 @@ use crate::handles::sender::Sender;
 use crate::handles::weak::{WeakReceiver, WeakSender};
 use crate::link::Link;
 use crate::seen::Trace;
-use crate::traced::Traced;
 use channel_calls::error::HandleError;
 use channel_calls::kind::{Kind, OfReceivers, OfSenders};
 use std::sync::Wait;
 
-impl<'a, T: Drop, R: Wait + Copy, K: Kind> Traced<'a, T, R, K> {
-    /// One more of this kind is counted, with a tie of its own.
-    fn one_more<S: Trace<T>>(&self, trace: S) -> (Result<Counted<T, K>, HandleError>, S)
-        ensures walked { Clones S.did K.side trace (result.0) (result.1) }
-        ensures made { IfOk (result.0) (λ more. handle_of more.link ≡ self.now) }
-    {
-        match self.counted.link.try_clone() {
-            Some(link) => Counted::one_more(link, self.rt, trace),
-            None => (Err(HandleError::NoMemory), trace),
-        }
+/// What a clone is made of: a tie of its own, and one more of this kind counted.
+fn one_more<T: Drop, R: Wait, K: Kind, S: Trace<T>>(
+    link: &Link<T>,
+    rt: &R,
+    trace: S,
+) -> (Result<Counted<T, K>, HandleError>, S)
+    ensures walked { Clones S.did K.side trace (result.0) (result.1) }
+    ensures made { IfOk (result.0) (λ more. handle_of more.link ≡ handle_of link.now) }
+{
+    match link.try_clone() {
+        Some(link) => Counted::one_more(link, rt, trace),
+        None => (Err(HandleError::NoMemory), trace),
     }
 }
 
-impl<'a, T: Drop, R: Wait + Copy> Traced<'a, T, R, OfSenders> {
-    /// One more sender of this channel.
-    pub fn try_clone<S: Trace<T>>(&self, trace: S) -> (Result<Sender<T, R>, HandleError>, S)
-        ensures walked { Clones S.did side.Senders trace (result.0) (result.1) }
+impl<T: Drop, R: Wait + Copy, S: Trace<T> + Copy> Sender<T, R, S> {
+    /// [`try_clone`](Sender::try_clone) with a trace of the caller's, which sees what it does to the channel, and nothing else. Own to
+    /// this project.
+    pub fn try_clone_traced<X: Trace<T>>(
+        &self,
+        trace: X,
+    ) -> (Result<Sender<T, R, S>, HandleError>, X)
+        ensures walked { Clones X.did side.Senders trace (result.0) (result.1) }
         ensures made { IfOk (result.0) (λ more. more ≡ self.now) }
     {
-        let (counted, trace) = self.one_more(trace);
+        let (counted, trace) = one_more(&self.counted.link, &self.rt, trace);
         match counted {
-            Ok(counted) => (Ok(Sender::new(*self.rt, counted)), trace),
+            Ok(counted) => (Ok(Sender::new(self.rt, self.watch, counted)), trace),
             Err(error) => (Err(error), trace),
         }
     }
 }
 
-impl<'a, T: Drop, R: Wait + Copy> Traced<'a, T, R, OfReceivers> {
-    /// One more receiver of this channel.
-    pub fn try_clone<S: Trace<T>>(&self, trace: S) -> (Result<Receiver<T, R>, HandleError>, S)
-        ensures walked { Clones S.did side.Receivers trace (result.0) (result.1) }
-        ensures made { IfOk (result.0) (λ more. more ≡ new_receiving self.now) }
+impl<T: Drop, R: Wait + Copy, S: Trace<T> + Copy> Receiver<T, R, S> {
+    /// [`try_clone`](Receiver::try_clone) with a trace of the caller's, which sees what it does to the channel, and nothing else. Own
+    /// to this project.
+    pub fn try_clone_traced<X: Trace<T>>(
+        &self,
+        trace: X,
+    ) -> (Result<Receiver<T, R, S>, HandleError>, X)
+        ensures walked { Clones X.did side.Receivers trace (result.0) (result.1) }
+        ensures made { IfOk (result.0) (λ more. more ≡ new_receiving self.now.channel) }
     {
-        let (counted, trace) = self.one_more(trace);
+        let (counted, trace) = one_more(&self.counted.link, &self.rt, trace);
         match counted {
-            Ok(counted) => (Ok(Receiver::new(*self.rt, counted)), trace),
+            Ok(counted) => (Ok(Receiver::new(self.rt, self.watch, counted)), trace),
             Err(error) => (Err(error), trace),
         }
     }
@@ -72,38 +81,38 @@ fn upgraded<T: Drop, R: Wait, K: Kind, S: Trace<T>>(
     }
 }
 
-impl<T: Drop, R: Wait + Copy> WeakSender<T, R> {
+impl<T: Drop, R: Wait + Copy, S: Trace<T> + Copy> WeakSender<T, R, S> {
     /// [`upgrade`](WeakSender::upgrade) with a trace of the caller's, which sees what it does to the channel, and nothing else. Own to
     /// this project.
-    pub fn upgrade_traced<S: Trace<T>>(
+    pub fn upgrade_traced<X: Trace<T>>(
         &self,
-        trace: S,
-    ) -> (Result<Option<Sender<T, R>>, HandleError>, S)
-        ensures walked { Upgrades S.did side.Senders trace (result.0) (result.1) }
+        trace: X,
+    ) -> (Result<Option<Sender<T, R, S>>, HandleError>, X)
+        ensures walked { Upgrades X.did side.Senders trace (result.0) (result.1) }
         ensures made { IfOk (result.0) (λ made. IfSome made (λ sender. sender ≡ self.now)) }
     {
         let (counted, trace) = upgraded(&self.link, &self.rt, trace);
         match counted {
-            Ok(Some(counted)) => (Ok(Some(Sender::new(self.rt, counted))), trace),
+            Ok(Some(counted)) => (Ok(Some(Sender::new(self.rt, self.watch, counted))), trace),
             Ok(None) => (Ok(None), trace),
             Err(error) => (Err(error), trace),
         }
     }
 }
 
-impl<T: Drop, R: Wait + Copy> WeakReceiver<T, R> {
+impl<T: Drop, R: Wait + Copy, S: Trace<T> + Copy> WeakReceiver<T, R, S> {
     /// [`upgrade`](WeakReceiver::upgrade) with a trace of the caller's, which sees what it does to the channel, and nothing else. Own
     /// to this project.
-    pub fn upgrade_traced<S: Trace<T>>(
+    pub fn upgrade_traced<X: Trace<T>>(
         &self,
-        trace: S,
-    ) -> (Result<Option<Receiver<T, R>>, HandleError>, S)
-        ensures walked { Upgrades S.did side.Receivers trace (result.0) (result.1) }
+        trace: X,
+    ) -> (Result<Option<Receiver<T, R, S>>, HandleError>, X)
+        ensures walked { Upgrades X.did side.Receivers trace (result.0) (result.1) }
         ensures made { IfOk (result.0) (λ made. IfSome made (λ receiver. receiver ≡ new_receiving self.now)) }
     {
         let (counted, trace) = upgraded(&self.link, &self.rt, trace);
         match counted {
-            Ok(Some(counted)) => (Ok(Some(Receiver::new(self.rt, counted))), trace),
+            Ok(Some(counted)) => (Ok(Some(Receiver::new(self.rt, self.watch, counted))), trace),
             Ok(None) => (Ok(None), trace),
             Err(error) => (Err(error), trace),
         }

@@ -24,15 +24,15 @@ use event_listener::error::ListenError;
 use futures::task::{Context, Poll};
 use std::sync::Wait;
 
-impl<'a, T: Drop, R: Wait + Copy> Send<'a, T, R> {
+impl<'a, T: Drop, R: Wait + Copy, S: Trace<T> + Copy> Send<'a, T, R, S> {
     /// [`poll`](Send::poll) with a trace of the caller's, which sees what it does to the channel, and nothing else. Own to this project.
     #[inline(always)]
-    pub fn poll_traced<S: Trace<T>>(
+    pub fn poll_traced<X: Trace<T>>(
         &mut self,
         cx: &mut Context<'_>,
-        trace: S,
-    ) -> (Poll<Result<(), Refused<SendError<T>>>>, S)
-        ensures walked { PollsSend S.did (send_ask self.old.message self.old.key) trace (reply.SendPoll (result.0)) self.new.key self.new.message (result.1) }
+        trace: X,
+    ) -> (Poll<Result<(), Refused<SendError<T>>>>, X)
+        ensures walked { PollsSend X.did (send_ask self.old.message self.old.key) trace (reply.SendPoll (result.0)) self.new.key self.new.message (result.1) }
         ensures message { SendsOn self.old.message (result.0) self.new.message }
         ensures listed { is_some self.new.key ≡ waits_on self.old.message (result.0) }
         ensures armed { OnPending (result.0) (IsArmed cx.new) }
@@ -53,16 +53,16 @@ impl<'a, T: Drop, R: Wait + Copy> Send<'a, T, R> {
     }
 
     /// [`give_up`](Send::give_up) with a trace of the caller's. Own to this project.
-    pub fn give_up_traced<S: Trace<T>>(mut self, trace: S) -> (Option<T>, S)
-        ensures walked { WalkedTo S.did (first (ask.GiveUp line.Sends self.entry.message self.entry.key)) trace (reply.GivenUp (result.0)) (result.1) }
+    pub fn give_up_traced<X: Trace<T>>(mut self, trace: X) -> (Option<T>, X)
+        ensures walked { WalkedTo X.did (first (ask.GiveUp line.Sends self.entry.message self.entry.key)) trace (reply.GivenUp (result.0)) (result.1) }
         ensures message { result.0 ≡ self.entry.message }
     {
         self.leave(trace)
     }
 
     /// Its listener leaves, and so does its message.
-    pub(crate) fn leave<S: Trace<T>>(&mut self, trace: S) -> (Option<T>, S)
-        ensures walked { WalkedTo S.did (first (ask.GiveUp line.Sends self.old.message self.old.key)) trace (reply.GivenUp (result.0)) (result.1) }
+    pub(crate) fn leave<X: Trace<T>>(&mut self, trace: X) -> (Option<T>, X)
+        ensures walked { WalkedTo X.did (first (ask.GiveUp line.Sends self.old.message self.old.key)) trace (reply.GivenUp (result.0)) (result.1) }
         ensures message { result.0 ≡ self.old.message }
     {
         let sender = self.sender;
@@ -72,15 +72,15 @@ impl<'a, T: Drop, R: Wait + Copy> Send<'a, T, R> {
     }
 }
 
-impl<'a, T: Drop, R: Wait + Copy> Recv<'a, T, R> {
+impl<'a, T: Drop, R: Wait + Copy, S: Trace<T> + Copy> Recv<'a, T, R, S> {
     /// [`poll`](Recv::poll) with a trace of the caller's, which sees what it does to the channel, and nothing else. Own to this project.
     #[inline(always)]
-    pub fn poll_traced<S: Trace<T>>(
+    pub fn poll_traced<X: Trace<T>>(
         &mut self,
         cx: &mut Context<'_>,
-        trace: S,
-    ) -> (Poll<Result<T, Refused<RecvError>>>, S)
-        ensures walked { Polls S.did (recv_ask self.old) trace (reply.RecvPoll (result.0)) self.new (result.1) }
+        trace: X,
+    ) -> (Poll<Result<T, Refused<RecvError>>>, X)
+        ensures walked { Polls X.did (recv_ask self.old) trace (reply.RecvPoll (result.0)) self.new (result.1) }
         ensures listed { is_some self.new ≡ is_pending (result.0) }
         ensures armed { OnPending (result.0) (IsArmed cx.new) }
         ensures kept { Keeps cx.old cx.new }
@@ -91,15 +91,15 @@ impl<'a, T: Drop, R: Wait + Copy> Recv<'a, T, R> {
     }
 
     /// [`give_up`](Recv::give_up) with a trace of the caller's. Own to this project.
-    pub fn give_up_traced<S: Trace<T>>(mut self, trace: S) -> S
-        ensures walked { WalkedTo S.did (first (ask.GiveUp line.Receives None self.entry)) trace (reply.GivenUp None) result }
+    pub fn give_up_traced<X: Trace<T>>(mut self, trace: X) -> X
+        ensures walked { WalkedTo X.did (first (ask.GiveUp line.Receives None self.entry)) trace (reply.GivenUp None) result }
     {
         self.leave(trace)
     }
 
     /// Its listener leaves.
-    pub(crate) fn leave<S: Trace<T>>(&mut self, trace: S) -> S
-        ensures walked { WalkedTo S.did (first (ask.GiveUp line.Receives None self.old)) trace (reply.GivenUp None) result }
+    pub(crate) fn leave<X: Trace<T>>(&mut self, trace: X) -> X
+        ensures walked { WalkedTo X.did (first (ask.GiveUp line.Receives None self.old)) trace (reply.GivenUp None) result }
     {
         let receiver = self.receiver;
         let shared = &receiver.counted.link.shared;
@@ -107,16 +107,16 @@ impl<'a, T: Drop, R: Wait + Copy> Recv<'a, T, R> {
     }
 }
 
-impl<'a, T: Drop, R: Wait + Copy> Closed<'a, T, R> {
+impl<'a, T: Drop, R: Wait + Copy, S: Trace<T> + Copy> Closed<'a, T, R, S> {
     /// [`poll`](Closed::poll) with a trace of the caller's, which sees what it does to the channel, and nothing else. Own to this
     /// project.
     #[inline(always)]
-    pub fn poll_traced<S: Trace<T>>(
+    pub fn poll_traced<X: Trace<T>>(
         &mut self,
         cx: &mut Context<'_>,
-        trace: S,
-    ) -> (Poll<Result<(), ListenError>>, S)
-        ensures walked { Polls S.did (closed_ask self.old) trace (reply.ClosedPoll (result.0)) self.new (result.1) }
+        trace: X,
+    ) -> (Poll<Result<(), ListenError>>, X)
+        ensures walked { Polls X.did (closed_ask self.old) trace (reply.ClosedPoll (result.0)) self.new (result.1) }
         ensures listed { is_some self.new ≡ is_pending (result.0) }
         ensures armed { OnPending (result.0) (IsArmed cx.new) }
         ensures kept { Keeps cx.old cx.new }
@@ -127,15 +127,15 @@ impl<'a, T: Drop, R: Wait + Copy> Closed<'a, T, R> {
     }
 
     /// [`give_up`](Closed::give_up) with a trace of the caller's. Own to this project.
-    pub fn give_up_traced<S: Trace<T>>(mut self, trace: S) -> S
-        ensures walked { WalkedTo S.did (first (ask.GiveUp line.Closings None self.entry)) trace (reply.GivenUp None) result }
+    pub fn give_up_traced<X: Trace<T>>(mut self, trace: X) -> X
+        ensures walked { WalkedTo X.did (first (ask.GiveUp line.Closings None self.entry)) trace (reply.GivenUp None) result }
     {
         self.leave(trace)
     }
 
     /// Its listener leaves.
-    pub(crate) fn leave<S: Trace<T>>(&mut self, trace: S) -> S
-        ensures walked { WalkedTo S.did (first (ask.GiveUp line.Closings None self.old)) trace (reply.GivenUp None) result }
+    pub(crate) fn leave<X: Trace<T>>(&mut self, trace: X) -> X
+        ensures walked { WalkedTo X.did (first (ask.GiveUp line.Closings None self.old)) trace (reply.GivenUp None) result }
     {
         let sender = self.sender;
         let shared = &sender.counted.link.shared;
@@ -143,16 +143,16 @@ impl<'a, T: Drop, R: Wait + Copy> Closed<'a, T, R> {
     }
 }
 
-impl<T: Drop, R: Wait + Copy> Receiver<T, R> {
+impl<T: Drop, R: Wait + Copy, S: Trace<T> + Copy> Receiver<T, R, S> {
     /// [`poll_next`](Receiver::poll_next) with a trace of the caller's, which sees what it does to the channel, and nothing else. Own to
     /// this project.
     #[inline(always)]
-    pub fn poll_next_traced<S: Trace<T>>(
+    pub fn poll_next_traced<X: Trace<T>>(
         &mut self,
         cx: &mut Context<'_>,
-        trace: S,
-    ) -> (Poll<Option<Result<T, ListenError>>>, S)
-        ensures walked { Polls S.did (next_ask self.old.key) trace (reply.Next (result.0)) self.new.key (result.1) }
+        trace: X,
+    ) -> (Poll<Option<Result<T, ListenError>>>, X)
+        ensures walked { Polls X.did (next_ask self.old.key) trace (reply.Next (result.0)) self.new.key (result.1) }
         ensures listed { is_some self.new.key ≡ is_pending (result.0) }
         ensures channel { self.new.channel ≡ self.old.channel }
         ensures armed { OnPending (result.0) (IsArmed cx.new) }

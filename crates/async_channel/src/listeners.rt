@@ -1,0 +1,80 @@
+//! What is done in one section on a list of listeners.
+
+ghost use Rattle.std.specs.Prelude.{List as Names};
+ghost use Rattle.event_listener.specs.Notices.{Woken};
+ghost use Rattle.event_listener.specs.declared.waking.Task.{Task as Waiter};
+ghost use Rattle.async_channel.specs.Sections.{Section, inserts, registers, removes, tells_one, tells_more, tells_all};
+
+use channel_calls::notices;
+use event_listener::error::ListenError;
+use event_listener::key::Key;
+use event_listener::list::List;
+use event_listener::wakes::Wakes;
+use event_listener::waking::Task;
+
+/// A list of listeners, by what is done to it in a section. Each method says of itself that this was done, with this answer, and nothing
+/// else. So a body over lists of which nothing is known but this can show a section only by the very call that makes it.
+pub(crate) trait Listeners: Drop {
+    /// Whether this was done to the one list, so that it is the other.
+    ghost did: { Section → Self → Self → Type 0 };
+
+    /// Adds a listener without a task.
+    fn insert(&mut self) -> Result<Key, ListenError>
+        ensures { did (inserts result) self.old self.new };
+
+    /// Gives a waiting listener its task. One that was told is taken off, and the task comes back.
+    fn register(&mut self, key: Key, task: Task) -> Option<Task>
+        ensures { did (registers key task result) self.old self.new };
+
+    /// Takes a listener off. One that was told passes its notice on.
+    fn remove<K: Wakes<Task>>(&mut self, key: Key, sink: &mut K)
+        ensures { (names : Names Waiter) × did (removes key names) self.old self.new × Woken K.wakes sink.old names sink.new };
+
+    /// Tells one more of those who wait.
+    fn tell_one<K: Wakes<Task>>(&mut self, sink: &mut K)
+        ensures { (names : Names Waiter) × did (tells_one names) self.old self.new × Woken K.wakes sink.old names sink.new };
+
+    /// Tells so many more of those who wait.
+    fn tell_more<K: Wakes<Task>>(&mut self, count: usize, sink: &mut K)
+        ensures { (names : Names Waiter) × did (tells_more count names) self.old self.new × Woken K.wakes sink.old names sink.new };
+
+    /// Tells all who wait.
+    fn tell_all<K: Wakes<Task>>(&mut self, sink: &mut K)
+        ensures { (names : Names Waiter) × did (tells_all names) self.old self.new × Woken K.wakes sink.old names sink.new };
+}
+
+impl Listeners for List<(), Task> {
+    ghost use Rattle.async_channel.specs.Sections.{Sets};
+
+    ghost did = { λ section a b. Sets section a.lists b.lists };
+
+    #[inline(always)]
+    fn insert(&mut self) -> Result<Key, ListenError> {
+        List::insert(self)
+    }
+
+    #[inline(always)]
+    fn register(&mut self, key: Key, task: Task) -> Option<Task> {
+        notices::register(self, key, task)
+    }
+
+    #[inline(always)]
+    fn remove<K: Wakes<Task>>(&mut self, key: Key, sink: &mut K) {
+        let _ = List::remove(self, key, true, sink);
+    }
+
+    #[inline(always)]
+    fn tell_one<K: Wakes<Task>>(&mut self, sink: &mut K) {
+        notices::tell_one(self, sink);
+    }
+
+    #[inline(always)]
+    fn tell_more<K: Wakes<Task>>(&mut self, count: usize, sink: &mut K) {
+        notices::tell_more(self, count, sink);
+    }
+
+    #[inline(always)]
+    fn tell_all<K: Wakes<Task>>(&mut self, sink: &mut K) {
+        notices::tell_all(self, sink);
+    }
+}

@@ -1,0 +1,131 @@
+//! A channel that is watched: the calls of all its handles, on whatever thread, are told to one log.
+
+use crate::checks::expect_equal;
+use async_channel::{
+    EventIds, Key, Line, ListenError, QueueCall, QueueReply, Receiver, Sender, Side, Sight, Task,
+    Trace, bounded_watched,
+};
+use std::sync::Wait;
+use std::sync::atomic::{AtomicUsize, Ordering};
+use std::thread;
+use std::thread::Threads;
+
+/// How often the queue has answered, how many sections were made on lists, and how often a count was read or changed.
+struct Tallies {
+    answers: AtomicUsize,
+    sections: AtomicUsize,
+    counts: AtomicUsize,
+}
+
+/// What each call takes a copy of.
+#[derive(Clone, Copy)]
+struct Watcher<'a> {
+    tallies: &'a Tallies,
+}
+
+/// One more.
+fn note(tally: &AtomicUsize) {
+    let _ = tally.fetch_add(1, Ordering::SeqCst);
+}
+
+impl Trace<u64> for Watcher<'_> {
+    ghost did = { λ _ _ _. Unit {0} };
+
+    ghost asking = { λ _ _ _. Unit {0} };
+
+    ghost offering = { λ _ _ _ _ _. Unit {0} };
+
+    ghost parked = { λ _ _ _. Unit {0} };
+
+    ghost slept = { λ _ _. Unit {0} };
+
+    fn asks(&mut self, _sight: &Sight, _call: &QueueCall<u64>) {}
+
+    fn answered(
+        &mut self,
+        _sight: &Sight,
+        _call: &QueueCall<u64>,
+        _answer: &Option<QueueReply<u64>>,
+    ) {
+        note(&self.tallies.answers);
+    }
+
+    fn inserted(&mut self, _sight: &Sight, _line: Line, _answer: Result<Key, ListenError>) {
+        note(&self.tallies.sections);
+    }
+
+    fn offers(&mut self, _sight: &Sight, _line: Line, _key: Key, _task: &Task) {}
+
+    fn registered(&mut self, _sight: &Sight, _line: Line, _key: Key, _answer: &Option<Task>) {
+        note(&self.tallies.sections);
+    }
+
+    fn taken_off(&mut self, _sight: &Sight, _line: Line, _key: Key) {
+        note(&self.tallies.sections);
+    }
+
+    fn one_told(&mut self, _sight: &Sight, _line: Line) {
+        note(&self.tallies.sections);
+    }
+
+    fn more_told(&mut self, _sight: &Sight, _line: Line, _count: usize) {
+        note(&self.tallies.sections);
+    }
+
+    fn all_told(&mut self, _sight: &Sight, _line: Line) {
+        note(&self.tallies.sections);
+    }
+
+    fn counted(&mut self, _sight: &Sight, _side: Side, _found: usize) {
+        note(&self.tallies.counts);
+    }
+
+    fn lowered(&mut self, _sight: &Sight, _side: Side, _found: usize) {
+        note(&self.tallies.counts);
+    }
+
+    fn raised(&mut self, _sight: &Sight, _side: Side, _from: usize, _done: bool) {
+        note(&self.tallies.counts);
+    }
+
+    fn parks(&mut self, _sight: &Sight, _answer: &Option<Task>) {}
+
+    fn sleeps(&mut self, _sight: &Sight) {}
+}
+
+/// A send and a question at once, then a receive and a closing: what was sent was received, one sender was counted, and it was
+/// open.
+fn calls<R: Threads + Wait + Copy + Send + Sync>(
+    rt: &R,
+    s: &Sender<u64, R, Watcher<'_>>,
+    r: &Receiver<u64, R, Watcher<'_>>,
+) -> (bool, usize, Option<u64>, bool) {
+    let (sent, senders) = thread::join(rt, || s.try_send(7).is_ok(), || r.sender_count());
+    (sent, senders, r.try_recv().ok(), s.close())
+}
+
+#[test]
+fn one_log_of_all_calls(rt: HostRuntime) {
+    let tallies = Tallies {
+        answers: AtomicUsize::new(0),
+        sections: AtomicUsize::new(0),
+        counts: AtomicUsize::new(0),
+    };
+    let mut ids = EventIds::new();
+    let watch = Watcher { tallies: &tallies };
+    let (s, r) = bounded_watched(rt, rt.alloc(), 1, &mut ids, watch).expect(&rt, "memory");
+    let answers = calls(&rt, &s, &r);
+    drop((s, r));
+    let Tallies {
+        answers: asked,
+        sections,
+        counts,
+    } = tallies;
+    let told = [
+        asked.into_inner(),
+        sections.into_inner(),
+        counts.into_inner(),
+    ];
+    expect_equal(&rt, &answers, &(true, 1, Some(7), true));
+    expect_equal(&rt, &told, &[5, 7, 3]);
+}
