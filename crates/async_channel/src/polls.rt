@@ -10,7 +10,9 @@ ghost use Rattle.channel_calls.specs.Listed.{SendLists, is_pending};
 ghost use Rattle.channel_calls.specs.Walks.{WalkedTo};
 ghost use Rattle.channel_calls.specs.declared.ask.ChannelAsk.TheVariants as ask;
 ghost use Rattle.channel_calls.specs.declared.reply.Reply.TheVariants as reply;
+ghost use Rattle.async_channel.specs.Handles.{form_of};
 ghost use Rattle.async_channel.specs.Polls.{Polls, PollsSend};
+ghost use Rattle.async_channel.specs.Saw.{Saw};
 
 use crate::seen::Trace;
 use crate::shared::Shared;
@@ -33,7 +35,7 @@ impl<T: Drop> Shared<T> {
         cx: &mut Context<'_>,
         trace: S,
     ) -> (Poll<Result<(), Refused<SendError<T>>>>, Option<T>, S)
-        ensures walked { PollsSend S.did (send_ask message waits.old.key) trace (reply.SendPoll (result.0)) waits.new.key (result.1) (result.2) }
+        ensures walked { PollsSend (Saw S.did S.shown (form_of self.now)) (send_ask message waits.old.key) trace (reply.SendPoll (result.0)) waits.new.key (result.1) (result.2) }
         ensures message { SendsOn message (result.0) (result.1) }
         ensures listed { SendLists message (result.0) waits.new.key }
         ensures armed { OnPending (result.0) (IsArmed cx.new) }
@@ -56,7 +58,7 @@ impl<T: Drop> Shared<T> {
         cx: &mut Context<'_>,
         trace: S,
     ) -> (Poll<Result<T, Refused<RecvError>>>, S)
-        ensures walked { Polls S.did (recv_ask waits.old.key) trace (reply.RecvPoll (result.0)) waits.new.key (result.1) }
+        ensures walked { Polls (Saw S.did S.shown (form_of self.now)) (recv_ask waits.old.key) trace (reply.RecvPoll (result.0)) waits.new.key (result.1) }
         ensures listed { is_some waits.new.key ≡ is_pending (result.0) }
         ensures armed { OnPending (result.0) (IsArmed cx.new) }
         ensures kept { Keeps cx.old cx.new }
@@ -77,7 +79,7 @@ impl<T: Drop> Shared<T> {
         cx: &mut Context<'_>,
         trace: S,
     ) -> (Poll<Result<(), ListenError>>, S)
-        ensures walked { Polls S.did (closed_ask waits.old.key) trace (reply.ClosedPoll (result.0)) waits.new.key (result.1) }
+        ensures walked { Polls (Saw S.did S.shown (form_of self.now)) (closed_ask waits.old.key) trace (reply.ClosedPoll (result.0)) waits.new.key (result.1) }
         ensures listed { is_some waits.new.key ≡ is_pending (result.0) }
         ensures armed { OnPending (result.0) (IsArmed cx.new) }
         ensures kept { Keeps cx.old cx.new }
@@ -98,7 +100,7 @@ impl<T: Drop> Shared<T> {
         cx: &mut Context<'_>,
         trace: S,
     ) -> (Poll<Option<Result<T, ListenError>>>, S)
-        ensures walked { Polls S.did (next_ask waits.old.key) trace (reply.Next (result.0)) waits.new.key (result.1) }
+        ensures walked { Polls (Saw S.did S.shown (form_of self.now)) (next_ask waits.old.key) trace (reply.Next (result.0)) waits.new.key (result.1) }
         ensures listed { is_some waits.new.key ≡ is_pending (result.0) }
         ensures armed { OnPending (result.0) (IsArmed cx.new) }
         ensures kept { Keeps cx.old cx.new }
@@ -120,7 +122,7 @@ impl<T: Drop> Shared<T> {
         waits: &mut Waits,
         trace: S,
     ) -> (Option<T>, S)
-        ensures walked { WalkedTo S.did (first (ask.GiveUp line message waits.old.key)) trace (reply.GivenUp (result.0)) (result.1) }
+        ensures walked { WalkedTo (Saw S.did S.shown (form_of self.now)) (first (ask.GiveUp line message waits.old.key)) trace (reply.GivenUp (result.0)) (result.1) }
         ensures message { result.0 ≡ message }
         ensures listed { waits.new.key ≡ None }
     {
@@ -139,7 +141,7 @@ impl<T: Drop> Shared<T> {
         waits: &mut Waits,
         trace: S,
     ) -> S
-        ensures walked { WalkedTo S.did (first (ask.GiveUp line None waits.old.key)) trace (reply.GivenUp None) result }
+        ensures walked { WalkedTo (Saw S.did S.shown (form_of self.now)) (first (ask.GiveUp line None waits.old.key)) trace (reply.GivenUp None) result }
         ensures listed { waits.new.key ≡ None }
     {
         let (none, trace) = self.give_up(rt, line, None, waits, trace);

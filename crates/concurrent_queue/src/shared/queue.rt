@@ -9,7 +9,7 @@ use crate::cells::QueueForm;
 use crate::error::{NoMemory, PopError, PushError};
 use crate::queue_call::ahead::{call_ahead, pop_ahead, push_ahead};
 use crate::queue_call::{QueueCall, whole};
-use crate::seen::{NoTrace, Seen, Trace, see_cells, see_words};
+use crate::seen::{Lent, NoTrace, Seen, Trace, see_cells, see_words};
 use crate::shared::blocks::Blocks;
 use crate::shared::cells::{STAMPS, SharedCells, WordCells};
 use crate::shared::table::SharedTable;
@@ -336,5 +336,68 @@ impl<T: Drop, W: Copy> ConcurrentQueue<T, W> {
         let mut seen = self.words(trace);
         let reply = whole::tell(ask, &mut seen);
         (reply, seen.into_trace())
+    }
+}
+
+// The same with a trace that is lent: it sees what it would see if it were given.
+impl<T: Drop, W: Copy> ConcurrentQueue<T, W> {
+    ghost use Rattle.std.specs.Prelude.{◌≡◌};
+    ghost use Rattle.concurrent_queue.specs.SharedQueue.{form_in, IsSharedStep, IsSharedCall, IsWordsAlone};
+    ghost use Rattle.concurrent_queue.specs.Walked.{Walked, CallMakes};
+
+    #[inline(always)]
+    fn complete_lent<'a, R: Wait, S: Trace<T>>(
+        &self,
+        rt: &R,
+        call: QueueCall<T>,
+        lent: Lent<'a, S>,
+    ) -> (QueueReply<T>, Lent<'a, S>)
+        ensures same_reference { (result.1).trace.ghost_name ≡ lent.entry.trace.ghost_name }
+        ensures walked { Walked S.did (form_in self.now) call lent.entry.trace.now (result.0) (result.1).trace.now }
+        ensures answers { IsSharedCall self.now call (result.0) }
+    {
+        self.complete_seen(rt, call, lent)
+    }
+
+    #[inline(always)]
+    fn step_words_lent<'a, S: Trace<T>>(
+        &self,
+        call: &mut QueueCall<T>,
+        lent: Lent<'a, S>,
+    ) -> (Option<QueueReply<T>>, Lent<'a, S>)
+        requires { IsWordsAlone call.old }
+        ensures same_reference { (result.1).trace.ghost_name ≡ lent.entry.trace.ghost_name }
+        ensures deed { CallMakes S.did (form_in self.now) lent.entry.trace.now call.old (result.1).trace.now call.new (result.0) }
+        ensures answers { IsSharedStep self.now call.old call.new (result.0) }
+    {
+        self.step_words_seen(call, lent)
+    }
+
+    /// `complete_seen` with a trace that is lent. Own to this project.
+    #[inline(always)]
+    pub fn complete_told<R: Wait, S: Trace<T>>(
+        &self,
+        rt: &R,
+        call: QueueCall<T>,
+        trace: &mut S,
+    ) -> QueueReply<T>
+        ensures walked { Walked S.did (form_in self.now) call trace.old result trace.new }
+        ensures answers { IsSharedCall self.now call result }
+    {
+        self.complete_lent(rt, call, Lent::new(trace)).0
+    }
+
+    /// `step_words_seen` with a trace that is lent. Own to this project.
+    #[inline(always)]
+    pub fn step_words_told<S: Trace<T>>(
+        &self,
+        call: &mut QueueCall<T>,
+        trace: &mut S,
+    ) -> Option<QueueReply<T>>
+        requires { IsWordsAlone call.old }
+        ensures deed { CallMakes S.did (form_in self.now) trace.old call.old trace.new call.new result }
+        ensures answers { IsSharedStep self.now call.old call.new result }
+    {
+        self.step_words_lent(call, Lent::new(trace)).0
     }
 }
