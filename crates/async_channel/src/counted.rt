@@ -7,11 +7,11 @@ ghost use Rattle.async_channel.specs.Handles.{handle_of};
 ghost use Rattle.async_channel.specs.Saw.{Saw};
 
 use crate::link::Link;
+use crate::polls::waits::Waits;
 use crate::seen::Trace;
 use channel_calls::error::HandleError;
 use channel_calls::kind::{Kind, OfReceivers, OfSenders};
 use channel_calls::raised::{self, Raised};
-use event_listener::key::Key;
 use event_listener::waking::WakeNow;
 use std::sync::Wait;
 
@@ -87,12 +87,10 @@ impl<T: Drop> Counted<T, OfSenders> {
 impl<T: Drop> Counted<T, OfReceivers> {
     /// Drops the receiver that is counted, which lowers the count, and then the listener that it may have as a stream; the last one
     /// closes.
-    pub(crate) fn lower<R: Wait, S: Trace<T>>(self, rt: &R, stream_key: Option<Key>, trace: S) -> S
-        ensures walked { Drops (Saw S.did S.shown (handle_of self.link).form) (ask.DropReceiver stream_key) trace result }
+    pub(crate) fn lower<R: Wait, S: Trace<T>>(self, rt: &R, stream: Waits, trace: S) -> S
+        ensures walked { Drops (Saw S.did S.shown (handle_of self.link).form) (ask.DropReceiver stream.key) trace result }
     {
         let Counted { link, raised } = self;
-        let mut seen = link.shared.cells(rt, trace);
-        raised::drop_receiver(rt, raised, stream_key, &mut seen, &mut WakeNow { rt });
-        seen.into_trace()
+        link.shared.drop_receiver(rt, raised, stream, trace)
     }
 }

@@ -145,6 +145,14 @@ impl<'a, S> Lent<'a, S> {
     {
         Lent { trace }
     }
+
+    /// The trace is given back as this left it.
+    #[inline(always)]
+    pub(crate) fn end(self)
+        ensures { self.exit.0.now ≡ self.entry.trace.now }
+    {
+        let Lent { trace: _ } = self;
+    }
 }
 
 impl<T, S: Trace<T>> Trace<T> for Lent<'_, S> {

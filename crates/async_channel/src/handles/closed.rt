@@ -18,7 +18,8 @@ ghost use Rattle.async_channel.specs.Saw.{Saw};
 use crate::handles::sender::Sender;
 use crate::open::no_trace::NoTrace;
 use crate::seen::Trace;
-use crate::waits::Waits;
+use crate::polls::waits::Waits;
+use channel_calls::stage::Line;
 use event_listener::error::ListenError;
 use futures::Future;
 use futures::task::{Context, Poll};
@@ -86,12 +87,9 @@ impl<T: Drop, R: Wait + Copy, S: Trace<T> + Copy> Future for Closed<'_, T, R, S>
 }
 
 impl<T: Drop, R: Wait + Copy, S: Trace<T> + Copy> Drop for Closed<'_, T, R, S> {
-    fn drop(mut self) {
-        let watch = self.sender.watch;
-        let _ = self.leave(watch);
-        let Closed {
-            sender: _,
-            waits: _,
-        } = self;
+    fn drop(self) {
+        let Closed { sender, waits } = self;
+        let shared = &sender.counted.link.shared;
+        let _ = shared.leave(&sender.rt, Line::Closings, waits, sender.watch);
     }
 }

@@ -21,7 +21,7 @@ use crate::handles::weak::WeakReceiver;
 use crate::open::no_trace::NoTrace;
 use crate::seen::Trace;
 use crate::traced::Traced;
-use crate::waits::Waits;
+use crate::polls::waits::Waits;
 use channel_calls::error::{HandleError, RecvError, Refused, TryRecvError};
 use channel_calls::kind::OfReceivers;
 use event_listener::error::ListenError;
@@ -359,6 +359,6 @@ impl<T: Drop, R: Wait + Copy, S: Trace<T> + Copy> Drop for Receiver<T, R, S> {
             watch,
             waits,
         } = self;
-        let _ = counted.lower(&rt, waits.key, watch);
+        let _ = counted.lower(&rt, waits, watch);
     }
 }

@@ -18,8 +18,9 @@ ghost use Rattle.async_channel.specs.Saw.{Saw};
 use crate::handles::receiver::Receiver;
 use crate::open::no_trace::NoTrace;
 use crate::seen::Trace;
-use crate::waits::Waits;
+use crate::polls::waits::Waits;
 use channel_calls::error::{RecvError, Refused};
+use channel_calls::stage::Line;
 use futures::Future;
 use futures::task::{Context, Poll};
 use std::marker::Model;
@@ -86,12 +87,9 @@ impl<T: Drop, R: Wait + Copy, S: Trace<T> + Copy> Future for Recv<'_, T, R, S> {
 }
 
 impl<T: Drop, R: Wait + Copy, S: Trace<T> + Copy> Drop for Recv<'_, T, R, S> {
-    fn drop(mut self) {
-        let watch = self.receiver.watch;
-        let _ = self.leave(watch);
-        let Recv {
-            receiver: _,
-            waits: _,
-        } = self;
+    fn drop(self) {
+        let Recv { receiver, waits } = self;
+        let shared = &receiver.counted.link.shared;
+        let _ = shared.leave(&receiver.rt, Line::Receives, waits, receiver.watch);
     }
 }

@@ -17,8 +17,9 @@ ghost use Rattle.async_channel.specs.Saw.{Saw};
 use crate::handles::sender::Sender;
 use crate::open::no_trace::NoTrace;
 use crate::seen::Trace;
-use crate::waits::Waits;
+use crate::polls::waits::Waits;
 use channel_calls::error::{Refused, SendError};
+use channel_calls::stage::Line;
 use futures::Future;
 use futures::task::{Context, Poll};
 use std::marker::Model;
@@ -102,13 +103,14 @@ impl<T: Drop, R: Wait + Copy, S: Trace<T> + Copy> Future for Send<'_, T, R, S> {
 }
 
 impl<T: Drop, R: Wait + Copy, S: Trace<T> + Copy> Drop for Send<'_, T, R, S> {
-    fn drop(mut self) {
-        let watch = self.sender.watch;
-        drop(self.leave(watch).0);
+    fn drop(self) {
         let Send {
-            sender: _,
-            message: _,
-            waits: _,
+            sender,
+            message,
+            waits,
         } = self;
+        let shared = &sender.counted.link.shared;
+        let (back, _) = shared.give_up(&sender.rt, Line::Sends, message, waits, sender.watch);
+        drop(back);
     }
 }

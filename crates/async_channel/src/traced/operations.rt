@@ -18,11 +18,13 @@ use crate::handles::closed::Closed;
 use crate::handles::receiver::Receiver;
 use crate::handles::recv::Recv;
 use crate::handles::send::Send;
+use crate::polls::waits::Waits;
 use crate::seen::Trace;
 use channel_calls::error::{RecvError, Refused, SendError};
 use channel_calls::stage::Line;
 use event_listener::error::ListenError;
 use futures::task::{Context, Poll};
+use std::mem;
 use std::sync::Wait;
 
 impl<'a, T: Drop, R: Wait + Copy, S: Trace<T> + Copy> Send<'a, T, R, S> {
@@ -59,18 +61,11 @@ impl<'a, T: Drop, R: Wait + Copy, S: Trace<T> + Copy> Send<'a, T, R, S> {
         ensures walked { WalkedTo (Saw X.did X.shown self.entry.channel.form) (first (ask.GiveUp line.Sends self.entry.message self.entry.key)) trace (reply.GivenUp (result.0)) (result.1) }
         ensures message { result.0 ≡ self.entry.message }
     {
-        self.leave(trace)
-    }
-
-    /// Its listener leaves, and so does its message.
-    pub(crate) fn leave<X: Trace<T>>(&mut self, trace: X) -> (Option<T>, X)
-        ensures walked { WalkedTo (Saw X.did X.shown self.old.channel.form) (first (ask.GiveUp line.Sends self.old.message self.old.key)) trace (reply.GivenUp (result.0)) (result.1) }
-        ensures message { result.0 ≡ self.old.message }
-    {
         let sender = self.sender;
         let shared = &sender.counted.link.shared;
         let message = self.message.take();
-        shared.give_up(&sender.rt, Line::Sends, message, &mut self.waits, trace)
+        let waits = mem::replace(&mut self.waits, Waits::new());
+        shared.give_up(&sender.rt, Line::Sends, message, waits, trace)
     }
 }
 
@@ -97,16 +92,10 @@ impl<'a, T: Drop, R: Wait + Copy, S: Trace<T> + Copy> Recv<'a, T, R, S> {
     pub fn give_up_traced<X: Trace<T>>(mut self, trace: X) -> X
         ensures walked { WalkedTo (Saw X.did X.shown self.entry.channel.form) (first (ask.GiveUp line.Receives None self.entry.key)) trace (reply.GivenUp None) result }
     {
-        self.leave(trace)
-    }
-
-    /// Its listener leaves.
-    pub(crate) fn leave<X: Trace<T>>(&mut self, trace: X) -> X
-        ensures walked { WalkedTo (Saw X.did X.shown self.old.channel.form) (first (ask.GiveUp line.Receives None self.old.key)) trace (reply.GivenUp None) result }
-    {
         let receiver = self.receiver;
         let shared = &receiver.counted.link.shared;
-        shared.leave(&receiver.rt, Line::Receives, &mut self.waits, trace)
+        let waits = mem::replace(&mut self.waits, Waits::new());
+        shared.leave(&receiver.rt, Line::Receives, waits, trace)
     }
 }
 
@@ -134,16 +123,10 @@ impl<'a, T: Drop, R: Wait + Copy, S: Trace<T> + Copy> Closed<'a, T, R, S> {
     pub fn give_up_traced<X: Trace<T>>(mut self, trace: X) -> X
         ensures walked { WalkedTo (Saw X.did X.shown self.entry.channel.form) (first (ask.GiveUp line.Closings None self.entry.key)) trace (reply.GivenUp None) result }
     {
-        self.leave(trace)
-    }
-
-    /// Its listener leaves.
-    pub(crate) fn leave<X: Trace<T>>(&mut self, trace: X) -> X
-        ensures walked { WalkedTo (Saw X.did X.shown self.old.channel.form) (first (ask.GiveUp line.Closings None self.old.key)) trace (reply.GivenUp None) result }
-    {
         let sender = self.sender;
         let shared = &sender.counted.link.shared;
-        shared.leave(&sender.rt, Line::Closings, &mut self.waits, trace)
+        let waits = mem::replace(&mut self.waits, Waits::new());
+        shared.leave(&sender.rt, Line::Closings, waits, trace)
     }
 }
 

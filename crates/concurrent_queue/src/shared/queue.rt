@@ -384,7 +384,9 @@ impl<T: Drop, W: Copy> ConcurrentQueue<T, W> {
         ensures walked { Walked S.did (form_in self.now) call trace.old result trace.new }
         ensures answers { IsSharedCall self.now call result }
     {
-        self.complete_lent(rt, call, Lent::new(trace)).0
+        let (reply, lent) = self.complete_lent(rt, call, Lent::new(trace));
+        lent.end();
+        reply
     }
 
     /// `step_words_seen` with a trace that is lent. Own to this project.
@@ -398,6 +400,8 @@ impl<T: Drop, W: Copy> ConcurrentQueue<T, W> {
         ensures deed { CallMakes S.did (form_in self.now) trace.old call.old trace.new call.new result }
         ensures answers { IsSharedStep self.now call.old call.new result }
     {
-        self.step_words_lent(call, Lent::new(trace)).0
+        let (reply, lent) = self.step_words_lent(call, Lent::new(trace));
+        lent.end();
+        reply
     }
 }
