@@ -146,12 +146,14 @@ impl<'a, S> Lent<'a, S> {
         Lent { trace }
     }
 
-    /// The trace is given back as this left it.
+    /// The trace that was lent.
     #[inline(always)]
-    pub(crate) fn end(self)
-        ensures { self.exit.0.now ≡ self.entry.trace.now }
+    pub(crate) fn into_trace(self) -> &'a mut S
+        ensures same_reference { result.ghost_name ≡ self.entry.trace.ghost_name }
+        ensures unchanged { result.now ≡ self.entry.trace.now }
     {
-        let Lent { trace: _ } = self;
+        let Lent { trace } = self;
+        trace
     }
 }
 
