@@ -2,17 +2,20 @@
 
 use crate::checks::expect_equal;
 use async_channel::{
-    EventIds, Key, Line, ListenError, QueueCall, QueueReply, Receiver, Sender, Side, Sight, Task,
+    EventIds, Key, Line, ListenError, Receiver, Sender, Side, Sight, Task,
     Trace, bounded_watched,
 };
+use concurrent_queue::cells::{Slot, Word};
+use concurrent_queue::error::NoMemory;
+use concurrent_queue::seen as queue;
 use std::sync::Wait;
 use std::sync::atomic::{AtomicUsize, Ordering};
 use std::thread;
 use std::thread::Threads;
 
-/// How often the queue has answered, how many sections were made on lists, and how often a count was read or changed.
+/// How many operations were made on cells of the queue, how many sections were made on lists, and how often a count was read or changed.
 struct Tallies {
-    answers: AtomicUsize,
+    operations: AtomicUsize,
     sections: AtomicUsize,
     counts: AtomicUsize,
 }
@@ -28,10 +31,63 @@ fn note(tally: &AtomicUsize) {
     let _ = tally.fetch_add(1, Ordering::SeqCst);
 }
 
-impl Trace<u64> for Watcher<'_> {
+impl queue::Trace<u64> for Watcher<'_> {
     ghost did = { λ _ _ _. Unit {0} };
 
-    ghost asking = { λ _ _ _. Unit {0} };
+    ghost brought = { λ _ _ _ _. Unit {0} };
+
+    fn loaded(&mut self, _sight: &queue::Sight<Self>, _at: Word, _found: u64) {
+        note(&self.tallies.operations);
+    }
+
+    fn stored(&mut self, _sight: &queue::Sight<Self>, _at: Word, _value: u64) {
+        note(&self.tallies.operations);
+    }
+
+    fn exchanged(
+        &mut self,
+        _sight: &queue::Sight<Self>,
+        _at: Word,
+        _expected: u64,
+        _next: u64,
+        _answer: Result<u64, u64>,
+    ) {
+        note(&self.tallies.operations);
+    }
+
+    fn added(&mut self, _sight: &queue::Sight<Self>, _at: Word, _by: u64, _found: u64) {
+        note(&self.tallies.operations);
+    }
+
+    fn bits_set(&mut self, _sight: &queue::Sight<Self>, _at: Word, _bits: u64, _found: u64) {
+        note(&self.tallies.operations);
+    }
+
+    fn bits_kept(&mut self, _sight: &queue::Sight<Self>, _at: Word, _bits: u64, _found: u64) {
+        note(&self.tallies.operations);
+    }
+
+    fn bring(&mut self, _sight: &queue::Sight<Self>, _at: Slot, _message: &u64) {}
+
+    fn put(&mut self, _sight: &queue::Sight<Self>, _at: Slot, _done: bool) {
+        note(&self.tallies.operations);
+    }
+
+    fn taken(&mut self, _sight: &queue::Sight<Self>, _at: Slot, _found: &Option<u64>) {
+        note(&self.tallies.operations);
+    }
+
+    fn spared(&mut self, _sight: &queue::Sight<Self>, _answer: Result<u64, NoMemory>) {
+        note(&self.tallies.operations);
+    }
+
+    fn retired(&mut self, _sight: &queue::Sight<Self>, _block: u64) {
+        note(&self.tallies.operations);
+    }
+}
+
+impl Trace<u64> for Watcher<'_> {
+    ghost shown = { λ _ _ _. Unit {0} };
 
     ghost offering = { λ _ _ _ _ _. Unit {0} };
 
@@ -39,58 +95,47 @@ impl Trace<u64> for Watcher<'_> {
 
     ghost slept = { λ _ _. Unit {0} };
 
-    fn asks(&mut self, _sight: &Sight, _call: &QueueCall<u64>) {}
-
-    fn answered(
-        &mut self,
-        _sight: &Sight,
-        _call: &QueueCall<u64>,
-        _answer: &Option<QueueReply<u64>>,
-    ) {
-        note(&self.tallies.answers);
-    }
-
-    fn inserted(&mut self, _sight: &Sight, _line: Line, _answer: Result<Key, ListenError>) {
+    fn inserted(&mut self, _sight: &Sight<Self>, _line: Line, _answer: Result<Key, ListenError>) {
         note(&self.tallies.sections);
     }
 
-    fn offers(&mut self, _sight: &Sight, _line: Line, _key: Key, _task: &Task) {}
+    fn offers(&mut self, _sight: &Sight<Self>, _line: Line, _key: Key, _task: &Task) {}
 
-    fn registered(&mut self, _sight: &Sight, _line: Line, _key: Key, _answer: &Option<Task>) {
+    fn registered(&mut self, _sight: &Sight<Self>, _line: Line, _key: Key, _answer: &Option<Task>) {
         note(&self.tallies.sections);
     }
 
-    fn taken_off(&mut self, _sight: &Sight, _line: Line, _key: Key) {
+    fn taken_off(&mut self, _sight: &Sight<Self>, _line: Line, _key: Key) {
         note(&self.tallies.sections);
     }
 
-    fn one_told(&mut self, _sight: &Sight, _line: Line) {
+    fn one_told(&mut self, _sight: &Sight<Self>, _line: Line) {
         note(&self.tallies.sections);
     }
 
-    fn more_told(&mut self, _sight: &Sight, _line: Line, _count: usize) {
+    fn more_told(&mut self, _sight: &Sight<Self>, _line: Line, _count: usize) {
         note(&self.tallies.sections);
     }
 
-    fn all_told(&mut self, _sight: &Sight, _line: Line) {
+    fn all_told(&mut self, _sight: &Sight<Self>, _line: Line) {
         note(&self.tallies.sections);
     }
 
-    fn counted(&mut self, _sight: &Sight, _side: Side, _found: usize) {
+    fn counted(&mut self, _sight: &Sight<Self>, _side: Side, _found: usize) {
         note(&self.tallies.counts);
     }
 
-    fn lowered(&mut self, _sight: &Sight, _side: Side, _found: usize) {
+    fn lowered(&mut self, _sight: &Sight<Self>, _side: Side, _found: usize) {
         note(&self.tallies.counts);
     }
 
-    fn raised(&mut self, _sight: &Sight, _side: Side, _from: usize, _done: bool) {
+    fn raised(&mut self, _sight: &Sight<Self>, _side: Side, _from: usize, _done: bool) {
         note(&self.tallies.counts);
     }
 
-    fn parks(&mut self, _sight: &Sight, _answer: &Option<Task>) {}
+    fn parks(&mut self, _sight: &Sight<Self>, _answer: &Option<Task>) {}
 
-    fn sleeps(&mut self, _sight: &Sight) {}
+    fn sleeps(&mut self, _sight: &Sight<Self>) {}
 }
 
 /// A send and a question at once, then a receive and a closing: what was sent was received, one sender was counted, and it was
@@ -107,7 +152,7 @@ fn calls<R: Threads + Wait + Copy + Send + Sync>(
 #[test]
 fn one_log_of_all_calls(rt: HostRuntime) {
     let tallies = Tallies {
-        answers: AtomicUsize::new(0),
+        operations: AtomicUsize::new(0),
         sections: AtomicUsize::new(0),
         counts: AtomicUsize::new(0),
     };
@@ -117,7 +162,7 @@ fn one_log_of_all_calls(rt: HostRuntime) {
     let answers = calls(&rt, &s, &r);
     drop((s, r));
     let Tallies {
-        answers: asked,
+        operations: asked,
         sections,
         counts,
     } = tallies;

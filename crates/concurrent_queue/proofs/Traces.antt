@@ -1,5 +1,5 @@
 -- What a trace saw of a call that was made over cells which show it their deeds.
-use Rattle.std.proofs.Common.{◌≡◌, ℕ, Option, refl, sym, subst}
+use Rattle.std.proofs.Common.{◌≡◌, ◌∙◌, ℕ, Option, Some, refl, sym, subst}
 use Rattle.concurrent_queue.specs.Deeds.{Deed}
 use Rattle.concurrent_queue.specs.Walked.{StateMakes, CallMakes, WalkedFrom, first_of, standing}
 use Rattle.concurrent_queue.specs.machine.Ahead.{Leads}
@@ -10,8 +10,9 @@ use Rattle.concurrent_queue.specs.declared.cells.QueueForm.{QueueForm}
 use Rattle.concurrent_queue.specs.declared.queue_call.CallState.{CallState}
 use Rattle.concurrent_queue.specs.declared.queue_call.CallState.TheVariants.{Asked}
 use Rattle.concurrent_queue.specs.declared.queue_call.QueueCall.{QueueCall}
+use Rattle.concurrent_queue.specs.declared.seen.Lent.{Lent}
 use Rattle.concurrent_queue.specs.declared.seen.Seen.{Seen}
-use Rattle.concurrent_queue.proofs.Walks.{state_seen, leads_seen, walked_seen, walked_asking, walked_standing, walked_on}
+use Rattle.concurrent_queue.proofs.Walks.{state_seen, leads_seen, walked_seen, walked_asking, walked_standing, walked_on, step_keeps, leads_keep}
 
 -- cells of which nothing is known but their form, and a trace
 module _ {T C S : Type 0} (form_of : C → QueueForm) (did : Deed T → S → S → Type 0) where
@@ -66,3 +67,24 @@ module _ {T C S : Type 0} (form_of : C → QueueForm) (did : Deed T → S → S 
     pub standing_went_on : (at : CallState T) → ((n : ℕ) × Leads (StateMakes both now) n s (standing now at) t (standing now left)) → WalkedFrom did form left y r z → WalkedFrom did form at x r z
     standing_went_on at went rest =
         subst (λ (f : QueueForm). WalkedFrom did f at x r z) same (walked_standing did now x at z r (went_on (standing now at) went rest))
+
+-- a trace that is lent: the one that lends it sees what it sees, and stays the same one
+module _ {T S : Type 0} (did : Deed T → S → S → Type 0) where
+  abbrev lends : Deed T → Lent S → Lent S → Type 0
+  lends d a b = (b.trace.ghost_name ≡ a.trace.ghost_name) × did d a.trace.now b.trace.now
+
+  pub lent_walked : (form : QueueForm) (at : CallState T) (s t : Lent S) (r : QueueReply T) → WalkedFrom lends form at s r t → WalkedFrom did form at s.trace.now r t.trace.now
+  lent_walked form at s t r walked = walked_seen lends did (λ (l : Lent S). l.trace.now) (λ d a b h. h.1) form s at t r walked
+
+  pub lent_step : (form : QueueForm) (call next : QueueCall T) (s t : Lent S) (r : Option (QueueReply T)) → CallMakes lends form s call t next r → CallMakes did form s.trace.now call t.trace.now next r
+  lent_step form call next s t r made =
+      state_seen lends did (λ (l : Lent S). l.trace.now) (λ d a b h. h.1) form s call.state t (record { action = next.state; mark = next.mark; reply = r }) made
+
+  pub same_after_walk : (form : QueueForm) (at : CallState T) (s t : Lent S) (r : QueueReply T) → WalkedFrom lends form at s r t → t.trace.ghost_name ≡ s.trace.ghost_name
+  same_after_walk form at s t r (n, (x, y, z, m, path, last)) =
+      step_keeps lends (λ (l : Lent S). l.trace.ghost_name) (λ d a b h. h.0) form x y t (record { action = z; mark = m; reply = Some r }) last
+      ∙ leads_keep lends (λ (l : Lent S). l.trace.ghost_name) (λ d a b h. h.0) form n s at x y path
+
+  pub same_after_step : (form : QueueForm) (call next : QueueCall T) (s t : Lent S) (r : Option (QueueReply T)) → CallMakes lends form s call t next r → t.trace.ghost_name ≡ s.trace.ghost_name
+  same_after_step form call next s t r made =
+      step_keeps lends (λ (l : Lent S). l.trace.ghost_name) (λ d a b h. h.0) form s call.state t (record { action = next.state; mark = next.mark; reply = r }) made

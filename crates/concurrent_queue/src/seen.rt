@@ -130,6 +130,106 @@ impl<T> Trace<T> for NoTrace {
     fn retired(&mut self, _sight: &Sight<NoTrace>, _block: u64) {}
 }
 
+/// A trace that is lent for one call, and sees what is shown to this.
+#[derive(Drop)]
+pub(crate) struct Lent<'a, S> {
+    trace: &'a mut S,
+}
+
+impl<'a, S> Lent<'a, S> {
+    /// This very trace.
+    #[inline(always)]
+    pub(crate) fn new(trace: &'a mut S) -> Lent<'a, S>
+        ensures same_reference { result.trace.ghost_name ≡ trace.entry.ghost_name }
+        ensures unchanged { result.trace.now ≡ trace.old }
+    {
+        Lent { trace }
+    }
+
+    /// The trace that was lent.
+    #[inline(always)]
+    pub(crate) fn into_trace(self) -> &'a mut S
+        ensures same_reference { result.ghost_name ≡ self.entry.trace.ghost_name }
+        ensures unchanged { result.now ≡ self.entry.trace.now }
+    {
+        let Lent { trace } = self;
+        trace
+    }
+}
+
+impl<T, S: Trace<T>> Trace<T> for Lent<'_, S> {
+    ghost use Rattle.std.specs.Prelude.{◌≡◌};
+
+    ghost did = { λ d a b. (b.trace.ghost_name ≡ a.trace.ghost_name) × S.did d a.trace.now b.trace.now };
+
+    ghost brought = { λ at m a b. (b.trace.ghost_name ≡ a.trace.ghost_name) × S.brought at m a.trace.now b.trace.now };
+
+    #[inline(always)]
+    fn loaded(&mut self, _sight: &Sight<Self>, at: Word, found: u64) {
+        self.trace.loaded(&Sight { of: PhantomData }, at, found);
+    }
+
+    #[inline(always)]
+    fn stored(&mut self, _sight: &Sight<Self>, at: Word, value: u64) {
+        self.trace.stored(&Sight { of: PhantomData }, at, value);
+    }
+
+    #[inline(always)]
+    fn exchanged(
+        &mut self,
+        _sight: &Sight<Self>,
+        at: Word,
+        expected: u64,
+        next: u64,
+        answer: Result<u64, u64>,
+    ) {
+        self.trace
+            .exchanged(&Sight { of: PhantomData }, at, expected, next, answer);
+    }
+
+    #[inline(always)]
+    fn added(&mut self, _sight: &Sight<Self>, at: Word, by: u64, found: u64) {
+        self.trace.added(&Sight { of: PhantomData }, at, by, found);
+    }
+
+    #[inline(always)]
+    fn bits_set(&mut self, _sight: &Sight<Self>, at: Word, bits: u64, found: u64) {
+        self.trace
+            .bits_set(&Sight { of: PhantomData }, at, bits, found);
+    }
+
+    #[inline(always)]
+    fn bits_kept(&mut self, _sight: &Sight<Self>, at: Word, bits: u64, found: u64) {
+        self.trace
+            .bits_kept(&Sight { of: PhantomData }, at, bits, found);
+    }
+
+    #[inline(always)]
+    fn bring(&mut self, _sight: &Sight<Self>, at: Slot, message: &T) {
+        self.trace.bring(&Sight { of: PhantomData }, at, message);
+    }
+
+    #[inline(always)]
+    fn put(&mut self, _sight: &Sight<Self>, at: Slot, done: bool) {
+        self.trace.put(&Sight { of: PhantomData }, at, done);
+    }
+
+    #[inline(always)]
+    fn taken(&mut self, _sight: &Sight<Self>, at: Slot, found: &Option<T>) {
+        self.trace.taken(&Sight { of: PhantomData }, at, found);
+    }
+
+    #[inline(always)]
+    fn spared(&mut self, _sight: &Sight<Self>, answer: Result<u64, NoMemory>) {
+        self.trace.spared(&Sight { of: PhantomData }, answer);
+    }
+
+    #[inline(always)]
+    fn retired(&mut self, _sight: &Sight<Self>, block: u64) {
+        self.trace.retired(&Sight { of: PhantomData }, block);
+    }
+}
+
 /// Cells of a shared queue, and a trace that sees each operation on them. Nobody else can see them, or tell the trace anything.
 pub(crate) struct Seen<C, S> {
     cells: C,

@@ -9,7 +9,7 @@ use crate::cells::QueueForm;
 use crate::error::{NoMemory, PopError, PushError};
 use crate::queue_call::ahead::{call_ahead, pop_ahead, push_ahead};
 use crate::queue_call::{QueueCall, whole};
-use crate::seen::{NoTrace, Seen, Trace, see_cells, see_words};
+use crate::seen::{Lent, NoTrace, Seen, Trace, see_cells, see_words};
 use crate::shared::blocks::Blocks;
 use crate::shared::cells::{STAMPS, SharedCells, WordCells};
 use crate::shared::table::SharedTable;
@@ -336,5 +336,127 @@ impl<T: Drop, W: Copy> ConcurrentQueue<T, W> {
         let mut seen = self.words(trace);
         let reply = whole::tell(ask, &mut seen);
         (reply, seen.into_trace())
+    }
+}
+
+/// An answer, and the trace that was lent for it.
+#[derive(Drop)]
+struct Answered<'a, A: Drop, S> {
+    answer: A,
+    trace: &'a mut S,
+}
+
+// The same with a trace that is lent: it sees what it would see if it were given.
+impl<T: Drop, W: Copy> ConcurrentQueue<T, W> {
+    ghost use Rattle.std.specs.Prelude.{◌≡◌, IfSome, is_some, true};
+    ghost use Rattle.concurrent_queue.specs.SharedQueue.{form_in, IsSharedStep, IsSharedCall, IsWordsAlone};
+    ghost use Rattle.concurrent_queue.specs.Walked.{Walked, CallMakes};
+
+    #[inline(always)]
+    fn complete_lent<'a, R: Wait, S: Trace<T>>(
+        &self,
+        rt: &R,
+        call: QueueCall<T>,
+        lent: Lent<'a, S>,
+    ) -> Answered<'a, QueueReply<T>, S>
+        ensures same_reference { result.trace.ghost_name ≡ lent.entry.trace.ghost_name }
+        ensures walked { Walked S.did (form_in self.now) call lent.entry.trace.now result.answer result.trace.now }
+        ensures answers { IsSharedCall self.now call result.answer }
+    {
+        let (answer, lent) = self.complete_seen(rt, call, lent);
+        let trace = lent.into_trace();
+        Answered { answer, trace }
+    }
+
+    #[inline(always)]
+    fn step_words_lent<'a, S: Trace<T>>(
+        &self,
+        call: &mut QueueCall<T>,
+        lent: Lent<'a, S>,
+    ) -> Answered<'a, Option<QueueReply<T>>, S>
+        requires { IsWordsAlone call.old }
+        ensures same_reference { result.trace.ghost_name ≡ lent.entry.trace.ghost_name }
+        ensures deed { CallMakes S.did (form_in self.now) lent.entry.trace.now call.old result.trace.now call.new result.answer }
+        ensures answers { IsSharedStep self.now call.old call.new result.answer }
+    {
+        let (answer, lent) = self.step_words_seen(call, lent);
+        let trace = lent.into_trace();
+        Answered { answer, trace }
+    }
+
+    #[inline(always)]
+    fn complete_on<'a, R: Wait, S: Trace<T>>(
+        &self,
+        rt: &R,
+        call: QueueCall<T>,
+        trace: &'a mut S,
+        answer: &mut Option<QueueReply<T>>,
+    ) -> &'a mut S
+        ensures same_reference { result.ghost_name ≡ trace.entry.ghost_name }
+        ensures walked { IfSome answer.new (λ r. Walked S.did (form_in self.now) call trace.old r result.now) }
+        ensures answers { IfSome answer.new (λ r. IsSharedCall self.now call r) }
+        ensures some { is_some answer.new ≡ true }
+    {
+        let Answered {
+            answer: reply,
+            trace,
+        } = self.complete_lent(rt, call, Lent::new(trace));
+        *answer = Some(reply);
+        trace
+    }
+
+    /// `complete_seen` with a trace that is lent. Own to this project.
+    #[inline(always)]
+    pub fn complete_told<R: Wait, S: Trace<T>>(
+        &self,
+        rt: &R,
+        call: QueueCall<T>,
+        trace: &mut S,
+    ) -> QueueReply<T>
+        ensures walked { Walked S.did (form_in self.now) call trace.old result trace.new }
+        ensures answers { IsSharedCall self.now call result }
+    {
+        let mut answer = None;
+        let _ = self.complete_on(rt, call, trace, &mut answer);
+        match answer {
+            Some(reply) => reply,
+            None => unreachable!(),
+        }
+    }
+
+    #[inline(always)]
+    fn step_words_on<'a, S: Trace<T>>(
+        &self,
+        call: &mut QueueCall<T>,
+        trace: &'a mut S,
+        answer: &mut Option<QueueReply<T>>,
+    ) -> &'a mut S
+        requires { IsWordsAlone call.old }
+        ensures same_reference { result.ghost_name ≡ trace.entry.ghost_name }
+        ensures deed { CallMakes S.did (form_in self.now) trace.old call.old result.now call.new answer.new }
+        ensures answers { IsSharedStep self.now call.old call.new answer.new }
+    {
+        let Answered {
+            answer: reply,
+            trace,
+        } = self.step_words_lent(call, Lent::new(trace));
+        *answer = reply;
+        trace
+    }
+
+    /// `step_words_seen` with a trace that is lent. Own to this project.
+    #[inline(always)]
+    pub fn step_words_told<S: Trace<T>>(
+        &self,
+        call: &mut QueueCall<T>,
+        trace: &mut S,
+    ) -> Option<QueueReply<T>>
+        requires { IsWordsAlone call.old }
+        ensures deed { CallMakes S.did (form_in self.now) trace.old call.old trace.new call.new result }
+        ensures answers { IsSharedStep self.now call.old call.new result }
+    {
+        let mut answer = None;
+        let _ = self.step_words_on(call, trace, &mut answer);
+        answer
     }
 }
