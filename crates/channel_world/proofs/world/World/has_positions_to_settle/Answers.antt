@@ -1,5 +1,6 @@
 -- From the number of pending sends; where nobody is woken there is nobody for whom a position is asked.
 use Rattle.std.proofs.Common.{arith, ◌≡◌, List, length, ap, sym, ◌∙◌, vec_len}
+use Rattle.std.proofs.lemmas.Bool.{eqb-true}
 use Rattle.channel_model.specs.declared.name.Waiter.{Waiter}
 use Rattle.channel_world.specs.World.{at_rest}
 use Rattle.channel_world.proofs.Positions.{fewer_positions, nobody_there}
@@ -10,7 +11,8 @@ pub returns-then-is_empty-clause-enough : goal.returns-then-is_empty-clause-enou
 returns-then-is_empty-clause-enough g c =
     let woken = (at_rest (floor_of c.args.self.now)).waiting.woken in
     let long : length woken ≡ vec_len c.args.woken.now = ap (λ (ws : List Waiter). length ws) (sym c.requires.woken) ∙ sym c.args.woken.now.ok.0 in
-    λ ok name there. absurd (nobody_there woken name (omega (arith, long, c.is_empty.ensures, c.if-is_empty.true)) there)
+    let none : vec_len c.args.woken.now ≡ 0 = eqb-true (vec_len c.args.woken.now) 0 (sym c.is_empty.ensures ∙ c.if-is_empty.true) in
+    λ ok name there. absurd (nobody_there woken name (omega (arith, long, none)) there)
 
 pub returns-in-Some-clause-enough : goal.returns-in-Some-clause-enough
 returns-in-Some-clause-enough g c =
