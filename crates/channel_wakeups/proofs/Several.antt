@@ -1,5 +1,5 @@
 -- What a receive of several messages took, one more each time, and what a pop of it leaves of its pass.
-use Rattle.std.proofs.Common.{◌≡◌, ℕ, ◌+◌, ◌<◌, List, [], ◌∷◌, ◌++◌, Ok, Err, refl, subst}
+use Rattle.std.proofs.Common.{◌≡◌, ℕ, ◌+◌, ◌<◌, List, [], ◌∷◌, ◌++◌, length, Some, Ok, Err, sym, refl, ◌∙◌, subst, arith}
 use Rattle.atomic_table.specs.Seated.{TableId}
 use Rattle.concurrent_queue.specs.Walked.{WalkedFrom}
 use Rattle.concurrent_queue.specs.declared.call.QueueAsk.TheVariants as ask
@@ -10,6 +10,7 @@ use Rattle.concurrent_queue.specs.declared.error.PopError.TheVariants as pop_err
 use Rattle.concurrent_queue.specs.declared.queue_call.CallState.{CallState}
 use Rattle.concurrent_queue.specs.declared.queue_call.CallState.TheVariants.{Asked}
 use Rattle.channel_wakeups.specs.declared.cells.SlotCells.{SlotCells}
+use Rattle.channel_wakeups.specs.declared.polled.Untaken.TheVariants as untaken
 use Rattle.channel_wakeups.specs.declared.rule.Line.{Line}
 use Rattle.channel_wakeups.specs.declared.rule.Transfer.{Transfer}
 use Rattle.channel_wakeups.specs.declared.rule.Transfer.TheVariants.{Out, Saw}
@@ -17,9 +18,9 @@ use Rattle.channel_wakeups.specs.declared.rule.Sight.TheVariants.{Drained}
 use Rattle.channel_wakeups.specs.declared.stage.Stage.{Stage}
 use Rattle.channel_wakeups.specs.declared.stage.Stage.TheVariants.{Free}
 use Rattle.channel_wakeups.specs.Cells.{Did, IsOver, Popped}
-use Rattle.channel_wakeups.specs.Log.{HasTaken, NotDrained}
+use Rattle.channel_wakeups.specs.Log.{HasTaken, HasSeen, NotSeen, NotDrained}
 use Rattle.channel_wakeups.specs.Seats.{IsCall, IsPass}
-use Rattle.channel_wakeups.specs.Several.{PopMoreLeaves, TookAll}
+use Rattle.channel_wakeups.specs.Several.{NoneGathered, PopMoreLeaves, Stopped, TookAll}
 use Rattle.channel_wakeups.specs.Stages.{IsAt}
 use Rattle.channel_wakeups.specs.Views.{of_sends, of, besides, only_on, calling, idle_lines}
 use Rattle.channel_wakeups.proofs.Machine.{pops}
@@ -29,6 +30,21 @@ module _ {T : Type 0} where
   pub took_snoc : (xs : List T) (x : T) (a b c : List (Transfer T)) → TookAll xs a b → NotDrained b → HasTaken x b c → TookAll (xs ++ x ∷ []) a c
   took_snoc [] x a b c e unseen took = (c, subst (λ (l : List (Transfer T)). NotDrained l) e unseen, subst (λ (l : List (Transfer T)). HasTaken x l c) e took, refl)
   took_snoc (y ∷ ys) x a b c (m, n, t, more) unseen took = (m, n, t, took_snoc ys x m b c more unseen took)
+
+  took_none : (xs : List T) (a b : List (Transfer T)) → length xs ≡ 0 → TookAll xs a b → b ≡ a
+  took_none [] a b e took = took
+  took_none (x ∷ xs) a b e took = absurd (omega arith)
+
+  -- where nothing was taken the answer says why
+  pub none_empty : (limit n : ℕ) (xs : List T) (a b c : List (Transfer T)) → n < limit → n ≡ length xs → n ≡ 0 → TookAll xs a b → Stopped (Some pop_error.Empty) b c → NoneGathered limit untaken.Empty a c
+  none_empty limit n xs a b c less long none took (unseen, stays) =
+      let same = took_none xs a b (sym long ∙ none) took in
+      (omega arith, subst (λ (l : List (Transfer T)). NotSeen l) same unseen, stays ∙ same)
+
+  pub none_closed : (limit n : ℕ) (xs : List T) (a b c : List (Transfer T)) → n < limit → n ≡ length xs → n ≡ 0 → TookAll xs a b → Stopped (Some pop_error.Closed) b c → NoneGathered limit untaken.Closed a c
+  none_closed limit n xs a b c less long none took seen =
+      let same = took_none xs a b (sym long ∙ none) took in
+      (omega arith, subst (λ (l : List (Transfer T)). HasSeen Drained l c) same seen)
 
 module _ {T W : Type 0} (table : TableId) where
   -- a call of sends that has nothing of the slot, in the words of clauses

@@ -1,6 +1,6 @@
 //! Receives of several messages, each with a pass that is idle before it and after it.
 
-ghost use Rattle.std.specs.Prelude.{◌≡◌, ◌<◌, ◌≤◌, List, [], length, MatchResult, IfNone};
+ghost use Rattle.std.specs.Prelude.{◌≡◌, ◌<◌, ◌≤◌, List, [], length, MatchResult, IfNone, IfSome};
 ghost use Rattle.std.specs.Vec.{vec_capacity, vec_len};
 ghost use Rattle.channel_wakeups.specs.Seats.{IsCall, IsIdle};
 ghost use Rattle.channel_wakeups.specs.Several.{Gathered, NoneGathered, Stopped, TookAll};
@@ -37,6 +37,7 @@ fn take_up_to<T: Drop, W: Drop, R: Wait>(
     ensures took { (between : List (Transfer T)) × TookAll into.new.items call.me.0.log between × Stopped result.0 between result.1.me.0.log }
     ensures count { (vec_len into.new ≡ length into.new.items) × (vec_len into.new ≤ limit) }
     ensures all { IfNone result.0 (vec_len into.new ≡ limit) }
+    ensures fewer { IfSome result.0 (λ _. vec_len into.new < limit) }
 {
     for _ in 0..limit {
         let (found, next) = pop_more(rt, table, call);
@@ -50,6 +51,7 @@ fn take_up_to<T: Drop, W: Drop, R: Wait>(
 }
 
 /// Takes up to so many messages, and tells as many sends as it took.
+#[tactic(auto, using(crate::proofs::Several::none_empty, crate::proofs::Several::none_closed))]
 pub(crate) fn gather<T: Drop, W: Wake, B: Room, R: Wait>(
     rt: &R,
     table: &SlotTable<T, W>,
