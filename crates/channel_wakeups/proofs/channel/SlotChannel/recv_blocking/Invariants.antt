@@ -2,4 +2,4 @@ use Rattle.std.proofs.Common.{◌≡◌, ◌+◌}
 use Rattle.channel_wakeups.proofs.channel.SlotChannel.recv_blocking.Given as goal
 
 abbrev pub invariant-loop : goal.invariant-loop
-invariant-loop g l = (l.pass.parts + l.receive ≡ l.fn.pass.old.parts) × (l.pass.log ≡ l.fn.pass.old.log)
+invariant-loop g l = (l.pass.parts + l.receive ≡ l.fn.pass.parts) × (l.pass.log ≡ l.fn.pass.log)
