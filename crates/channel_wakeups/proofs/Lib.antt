@@ -12,3 +12,4 @@ pub mod Left
 pub mod From
 pub mod Listed
 pub mod Sections
+pub mod Several

@@ -5,3 +5,5 @@ pub mod Stages
 pub mod Cells
 pub mod Seats
 pub mod Calls
+pub mod Several
+pub mod Blocks

@@ -1,20 +1,21 @@
 //! The channel, its passes, its receives and its sends that wait.
 
-ghost use Rattle.std.specs.Prelude.{◌≡◌, ◌⊎◌, ℕ, ◌+◌, ◌-◌, ◌/◌, ◌<◌, [], ◌++◌, true, false, is_some};
+ghost use Rattle.std.specs.Prelude.{◌≡◌, ◌⊎◌, ℕ, ◌+◌, ◌-◌, ◌/◌, ◌<◌, [], ◌++◌, true, false, is_some, MatchResult};
 ghost use Rattle.atomic_table.specs.Seated.{TableId};
 ghost use Rattle.channel_wakeups.specs.Calls.{held, is_pending, is_waiting, is_watching, Closes, Displaced, Hand, IsClosed, Looked, Offers, Received, Sent, Watches};
 ghost use Rattle.channel_wakeups.specs.Seats.{IsIdle, IsTicket};
+ghost use Rattle.channel_wakeups.specs.Several.{Gathered, NoneGathered};
 ghost use Rattle.channel_wakeups.specs.Views.{everything};
 
 use crate::at_rest::{Rest, Tickets};
 use crate::cells::{Place, SlotTable};
 use crate::desk::Desk;
 use crate::place::{ListSeats, absorb, begin, share};
-use crate::polled::{Offered, Polled, Watched};
+use crate::polled::{Offered, Polled, Untaken, Watched};
 use crate::rule::{Closings, Receives, Room, Sends, Streams, Waiting};
 use crate::telling::Desks;
 use crate::wake::Wake;
-use crate::{at_rest, displacing, offers, shutting, takes, waits};
+use crate::{at_rest, displacing, gathering, offers, shutting, takes, waits};
 use atomic_table::Table;
 use concurrent_queue::{ForcePushError, PushError};
 use std::alloc::{AllocError, Global};
@@ -276,6 +277,22 @@ impl<T: Drop, W: Wake, B: Room> SlotChannel<T, W, B> {
             &mut receive.waiting,
             task,
         )
+    }
+
+    /// Takes up to so many messages: one after the other, until as many are taken, or none is there. Then it wakes as many sends that
+    /// wait untold. `Err` where it took none, though some were wanted. `NoMemory` where there was none for as many, and none was tried for.
+    /// It may wait, as `try_send` may.
+    pub fn recv_many<R: Wait>(
+        &self,
+        rt: &R,
+        pass: &mut Pass<T, W, B>,
+        alloc: Global,
+        limit: usize,
+    ) -> Result<Vec<T>, Untaken>
+        ensures pass { pass.new.parts ≡ pass.old.parts }
+        ensures gathered { MatchResult result (λ messages. Gathered limit messages.items pass.old.log pass.new.log) (λ why. NoneGathered limit why pass.old.log pass.new.log) }
+    {
+        gathering::gather(rt, &self.table, &self.sends, &mut pass.seat, alloc, limit)
     }
 
     /// Gives a receive up. If it was told, the notice goes to another one.

@@ -40,16 +40,17 @@ impl<T: Drop, W: Drop, B: Room, S: Waiting> Desk<T, W, B, S> {
         }
     }
 
-    /// A call that put a message, or took one, tells a listener, and answers for nothing more on this side. The task of who was told is
-    /// answered.
+    /// A call that answers for so many messages, or places, and one more, tells a listener, and answers for the others alone on this side.
+    /// The task of who was told is answered.
     pub(crate) fn tell(
         &mut self,
         table: &SlotTable<T, W>,
         call: Place<T, W>,
+        others: u64,
     ) -> (Option<W>, Place<T, W>)
         requires table { (table.now.shared.table_id ≡ B.table) × (0 < B.table.words) }
-        requires call { IsPass S.side B.table call call.me.0.parts (calling 1 0 0) (besides S.side call.me.0.calls) }
-        ensures idle { IsPass S.side B.table result.1 call.me.0.parts (calling 0 0 0) (besides S.side call.me.0.calls) }
+        requires call { IsPass S.side B.table call call.me.0.parts (calling (others + 1) 0 0) (besides S.side call.me.0.calls) }
+        ensures told { IsPass S.side B.table result.1 call.me.0.parts (calling others 0 0) (besides S.side call.me.0.calls) }
         ensures log { result.1.me.0.log ≡ call.me.0.log }
     {
         let task = tell_one(self.listeners.as_mut_slice());
@@ -58,7 +59,7 @@ impl<T: Drop, W: Drop, B: Room, S: Waiting> Desk<T, W, B, S> {
             &mut self.seat,
             call,
             self.listeners.as_slice(),
-            0,
+            others,
             0,
             0,
         );

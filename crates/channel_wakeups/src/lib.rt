@@ -3,10 +3,12 @@
 #![tactic(auto)]
 
 pub mod at_rest;
+mod blocking;
 mod cells;
 pub mod channel;
 mod desk;
 mod displacing;
+mod gathering;
 pub mod listeners;
 mod made;
 mod offers;
@@ -23,6 +25,6 @@ pub mod wake;
 
 pub use at_rest::Rest;
 pub use channel::{Closing, Opened, Pass, Receive, Sending, SlotChannel, Streaming, Waiter};
-pub use polled::{Offered, Polled, Watched};
+pub use polled::{Blocked, Offered, Polled, Untaken, Watched};
 pub use rule::{Closings, Receives, Room, Sends, Streams, Taking, Waiting};
-pub use wake::Wake;
+pub use wake::{Sleeper, Sleeps, Wake};

@@ -1,11 +1,12 @@
 //! The queue's push, pop and closing of one slot, made with a pass.
 
-ghost use Rattle.std.specs.Prelude.{◌≡◌, ◌<◌, true, false, IfErr, IfOk};
+ghost use Rattle.std.specs.Prelude.{◌≡◌, ◌+◌, ◌<◌, true, false, IfErr, IfOk};
 ghost use Rattle.concurrent_queue.specs.Replies.{MayAnswer};
 ghost use Rattle.concurrent_queue.specs.declared.call.QueueAsk.TheVariants as ask;
 ghost use Rattle.concurrent_queue.specs.declared.cells.QueueForm.TheVariants.{Bounded};
 ghost use Rattle.channel_wakeups.specs.Calls.{PushLeaves, ForceLeaves, PopLeaves, CloseLeaves, AskLeaves, PushRefused, PopRefused, Sent, Displaced, Found, Closes, IsClosed, to_streams, to_others};
 ghost use Rattle.channel_wakeups.specs.Seats.{IsCall, IsPass, IsIdle};
+ghost use Rattle.channel_wakeups.specs.Several.{PopMoreLeaves};
 ghost use Rattle.channel_wakeups.specs.Views.{of, of_receives, of_sends, of_closings, only_on, calling, telling};
 
 use crate::cells::{Place, SlotCells, SlotTable};
@@ -69,6 +70,26 @@ fn make_pop<T: Drop, W: Drop, S: Taking, R: Wait>(
     requires table { 0 < table.now.shared.table_id.words }
     requires call { IsCall S.side table.now.shared.table_id seat seat.me.0.parts (of S.side seat.me.0.calls).answers (of S.side seat.me.0.calls).holds 0 }
     ensures leaves { PopLeaves S.side table.now.shared.table_id seat.me.0.parts (of S.side seat.me.0.calls).holds seat.me.0.log result.0 result.1 }
+{
+    let mut cells = SlotCells {
+        table,
+        seat,
+        stage: Stage::Free,
+    };
+    let reply = complete(rt, QueueCall::pop(), &mut cells);
+    (reply, cells.into_seat())
+}
+
+/// The queue's pop on the slot once more, by a call that answers for the places of messages that it took before.
+#[inline(always)]
+fn make_pop_more<T: Drop, W: Drop, R: Wait>(
+    rt: &R,
+    table: &SlotTable<T, W>,
+    seat: Place<T, W>,
+) -> (QueueReply<T>, Place<T, W>)
+    requires table { 0 < table.now.shared.table_id.words }
+    requires call { IsCall of_sends table.now.shared.table_id seat seat.me.0.parts seat.me.0.calls.sends.answers 0 0 }
+    ensures leaves { PopMoreLeaves table.now.shared.table_id seat.me.0.parts seat.me.0.calls.sends.answers seat.me.0.log result.0 result.1 }
 {
     let mut cells = SlotCells {
         table,
@@ -184,6 +205,27 @@ pub(crate) fn pop<T: Drop, W: Drop, S: Taking, R: Wait>(
     ensures log { Found result.0 call.me.0.log result.1.me.0.log }
 {
     let (reply, call) = make_pop::<T, W, S, R>(rt, table, call);
+    match reply {
+        QueueReply::Pop(Ok(message)) => (Ok(message), call),
+        QueueReply::Pop(Err(PopError::Empty)) => (Err(PopError::Empty), call),
+        QueueReply::Pop(Err(PopError::Closed)) => (Err(PopError::Closed), call),
+        _ => unreachable!(),
+    }
+}
+
+/// Pops a message, for whose place the call answers then, besides those that it answers for already.
+pub(crate) fn pop_more<T: Drop, W: Drop, R: Wait>(
+    rt: &R,
+    table: &SlotTable<T, W>,
+    call: Place<T, W>,
+) -> (Result<T, PopError>, Place<T, W>)
+    requires table { 0 < table.now.shared.table_id.words }
+    requires call { IsCall of_sends table.now.shared.table_id call call.me.0.parts call.me.0.calls.sends.answers 0 0 }
+    ensures ok { IfOk result.0 (λ _. IsCall of_sends table.now.shared.table_id result.1 call.me.0.parts (call.me.0.calls.sends.answers + 1) 0 0) }
+    ensures err { IfErr result.0 (λ _. IsCall of_sends table.now.shared.table_id result.1 call.me.0.parts call.me.0.calls.sends.answers 0 0) }
+    ensures log { Found result.0 call.me.0.log result.1.me.0.log }
+{
+    let (reply, call) = make_pop_more(rt, table, call);
     match reply {
         QueueReply::Pop(Ok(message)) => (Ok(message), call),
         QueueReply::Pop(Err(PopError::Empty)) => (Err(PopError::Empty), call),

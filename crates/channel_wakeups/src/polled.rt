@@ -36,3 +36,23 @@ pub enum Watched {
     /// Not yet, and no memory for a listener.
     NoMemory,
 }
+
+/// Why a call that blocks its thread ended without what it waited for. A send gets its message back.
+#[derive(Debug, Drop, PartialEq, Eq)]
+pub enum Blocked<K> {
+    /// The channel is closed, and has no message left where one was waited for.
+    Closed(K),
+    /// There is no memory for a listener, or no further task of the thread.
+    NoMemory(K),
+}
+
+/// Why a receive of several messages took none.
+#[derive(Clone, Copy, Debug, PartialEq, Eq)]
+pub enum Untaken {
+    /// None was there.
+    Empty,
+    /// None is left, and the channel is closed.
+    Closed,
+    /// There is no room for as many as were wanted. None was tried for.
+    NoMemory,
+}

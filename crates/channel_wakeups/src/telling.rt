@@ -39,8 +39,30 @@ pub(crate) fn tell<T: Drop, W: Wake, B: Room, S: Waiting, R: Wait>(
     ensures idle { IsPass S.side B.table result call.me.0.parts (calling 0 0 0) (besides S.side call.me.0.calls) }
     ensures log { result.me.0.log ≡ call.me.0.log }
 {
-    let (task, call) = desk.lock(rt).tell(table, call);
+    let (task, call) = desk.lock(rt).tell(table, call, 0);
     wake(rt, task);
+    call
+}
+
+/// Tells as many who wait as the call answers for, and wakes each.
+pub(crate) fn tell_each<T: Drop, W: Wake, B: Room, S: Waiting, R: Wait>(
+    rt: &R,
+    table: &SlotTable<T, W>,
+    desk: &Mutex<Desk<T, W, B, S>>,
+    mut call: Place<T, W>,
+    count: usize,
+) -> Place<T, W>
+    requires table { (table.now.shared.table_id ≡ B.table) × (0 < B.table.words) }
+    requires call { IsPass S.side B.table call call.me.0.parts (calling count 0 0) (besides S.side call.me.0.calls) }
+    ensures idle { IsPass S.side B.table result call.me.0.parts (calling 0 0 0) (besides S.side call.me.0.calls) }
+    ensures log { result.me.0.log ≡ call.me.0.log }
+{
+    for told in 0..count {
+        let others = (count - told - 1) as u64;
+        let (task, next) = desk.lock(rt).tell(table, call, others);
+        wake(rt, task);
+        call = next;
+    }
     call
 }
 

@@ -3,11 +3,16 @@
 
 ghost use Rattle.std.specs.Prelude.{◌≡◌, ◌<◌, IfSome, true, false};
 
+mod blocked;
+mod several;
+
+pub use blocked::{block_among, close_beside_a_blocked_send};
 use channel_wakeups::{
     Closing, Offered, Opened, Pass, Polled, Receive, Rest, Room, Sending, SlotChannel, Streaming,
     Watched,
 };
 use concurrent_queue::{ForcePushError, PushError};
+pub use several::{Taken, take_several};
 use std::alloc::Global;
 use std::marker::Brand;
 use std::sync::Wait;

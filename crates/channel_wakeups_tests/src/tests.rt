@@ -1,4 +1,5 @@
 use super::*;
+use channel_wakeups::{Blocked, Untaken};
 use std::test::*;
 
 // Four threads: all that was sent came. Beside a message the last receive was told, and beside a free place the last send.
@@ -146,4 +147,36 @@ fn a_displacing_send_wakes(rt: HostRuntime) {
         closing_told: false,
     };
     assert_eq!(rt; found, Some(([true; 5], rest)));
+}
+
+// Three threads, whose calls block: all that was sent came, and whoever receives ends after the close.
+#[test]
+fn blocked_threads_are_woken(rt: HostRuntime) {
+    assert_eq!(rt; block_among(&rt, rt.alloc(), 1000), Some((1000, 499_500)));
+}
+
+// A send that blocks ends with its message when another thread closes the channel.
+#[test]
+fn a_close_ends_a_blocked_send(rt: HostRuntime) {
+    let found = close_beside_a_blocked_send(&rt, rt.alloc());
+    assert_eq!(rt; found, Some((true, Err(Blocked::Closed(2)))));
+}
+
+// Receives of several take what there is, and the send that waits for the place is told.
+#[test]
+fn several_are_taken(rt: HostRuntime) {
+    let expected = Taken {
+        open: [Ok((0, 0)), Ok((1, 7)), Err(Untaken::Empty)],
+        rest: Rest {
+            message: false,
+            closed: false,
+            receive_told: false,
+            send_told: true,
+            stream_told: false,
+            closing_told: false,
+        },
+        accepted: true,
+        closed: [Ok((1, 8)), Err(Untaken::Closed)],
+    };
+    assert_eq!(rt; take_several(&rt, rt.alloc()), Some(expected));
 }
