@@ -1,6 +1,7 @@
 //! What a thread sleeps on that a call blocks.
 
-use crate::cells::{Beds, SharedCells};
+use crate::cells::SharedCells;
+use channel_calls::sleeps::Sleeps;
 use event_listener::parker::Parker;
 use event_listener::waking::Task;
 use std::sync::{Arc, Wait};
@@ -18,11 +19,7 @@ impl Bed {
     }
 }
 
-impl<'a, T: Drop, R: Wait> Beds<T> for SharedCells<'a, T, R, Bed> {
-    ghost parked = { λ _ _ _. Unit {0} };
-
-    ghost slept = { λ _ _. Unit {0} };
-
+impl<'a, T: Drop, R: Wait> Sleeps<T, Task> for SharedCells<'a, T, R, Bed> {
     fn park(&mut self) -> Option<Task> {
         if self.bed.parker.is_none() {
             self.bed.parker = Arc::new(self.shared.alloc, Parker::new()).ok();

@@ -10,11 +10,9 @@ use std::alloc::Global;
 use std::sync::{Arc, Wait};
 
 /// The listener of a pending operation, and the cell of its task's waker, which is made at the first poll.
-///
-/// It can't be let go: what ends it is a giving up, or a stream's drop, in which the listener leaves. Nor is its listener read or changed
-/// but by the polls and these two.
+#[derive(Drop)]
 pub(crate) struct Waits {
-    key: Option<Key>,
+    pub(crate) key: Option<Key>,
     cell: Option<Arc<WakerCell>>,
 }
 
@@ -29,32 +27,9 @@ impl Waits {
         }
     }
 
-    /// The listener.
-    pub(super) fn key(&self) -> Option<Key>
-        ensures { result ≡ self.now.key }
-    {
-        self.key
-    }
-
-    /// This is its listener now, as a poll left it.
-    pub(super) fn keep(&mut self, key: Option<Key>)
-        ensures { self.new.key ≡ key }
-    {
-        self.key = key;
-    }
-
-    /// Its listener, which is to leave.
-    pub(super) fn end(self) -> Option<Key>
-        ensures { result ≡ self.key }
-    {
-        let Waits { key, cell } = self;
-        drop(cell);
-        key
-    }
-
     /// A copy of the task's waker, in the place where a telling finds it; `None` where no copy was got. It arms the context for
     /// a pending answer either way.
-    pub(super) fn arm<R: Wait>(
+    pub(crate) fn arm<R: Wait>(
         &mut self,
         rt: &R,
         alloc: Global,
