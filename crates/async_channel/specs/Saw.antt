@@ -10,7 +10,7 @@ use Rattle.concurrent_queue.specs.declared.queue_call.CallState.{CallState}
 use Rattle.concurrent_queue.specs.declared.queue_call.QueueCall.{QueueCall}
 use Rattle.channel_calls.specs.Deeds.{Deed, stepped}
 
-module _ {T W X : Type 0} (did : cell.Deed T → X → X → Type 0) where
+module _ {T X : Type 0} (did : cell.Deed T → X → X → Type 0) where
   -- a call of a queue of this form was walked by operations that were seen, these and no others: to this answer, or to where it stands now
   abbrev pub SawSteps : QueueForm → QueueCall T → X → QueueCall T → Option (QueueReply T) → X → Type 0
   SawSteps form call s next None t =
@@ -18,9 +18,10 @@ module _ {T W X : Type 0} (did : cell.Deed T → X → X → Type 0) where
       × StateMakes did form x at t (record { action = next.state; mark = next.mark; reply = None })
   SawSteps form call s next (Some r) t = whole.WalkedFrom did form call.state s r t
 
+module _ {T W X : Type 0} (did : cell.Deed T → X → X → Type 0) where
   -- of steps of the queue's call its operations were seen, and of any other deed the deed
   abbrev pub Saw : (Deed T W → X → X → Type 0) → QueueForm → Deed T W → X → X → Type 0
-  Saw shown form (stepped call next answer) s t = SawSteps form call s next answer t
+  Saw shown form (stepped call next answer) s t = SawSteps did form call s next answer t
   Saw shown form d s t = shown d s t
 
 -- of any deed but steps of the queue's call, of which the trace tells

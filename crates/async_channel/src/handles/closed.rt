@@ -65,16 +65,16 @@ impl<'a, T: Drop, R: Wait + Copy, S: Trace<T> + Copy> Closed<'a, T, R, S> {
         ensures armed { OnPending result (IsArmed cx.new) }
         ensures kept { Keeps cx.old cx.new }
     {
-        let watch = self.sender.watch;
-        self.poll_traced(cx, watch).0
+        let sender = self.sender;
+        self.poll_traced(cx, sender.watch).0
     }
 
     /// Gives it up, as its drop does. It may wait for the lock of those who wait. Own to this project.
     pub fn give_up(self)
         ensures walked { WasSeen (WalkedTo (Saw S.did S.shown self.entry.channel.form) (first (ask.GiveUp line.Closings None self.entry.key))) (reply.GivenUp None) }
     {
-        let watch = self.sender.watch;
-        let _ = self.give_up_traced(watch);
+        let sender = self.sender;
+        let _ = self.give_up_traced(sender.watch);
     }
 }
 

@@ -67,8 +67,8 @@ impl<'a, T: Drop, R: Wait + Copy, S: Trace<T> + Copy> Send<'a, T, R, S> {
         ensures armed { OnPending result (IsArmed cx.new) }
         ensures kept { Keeps cx.old cx.new }
     {
-        let watch = self.sender.watch;
-        self.poll_traced(cx, watch).0
+        let sender = self.sender;
+        self.poll_traced(cx, sender.watch).0
     }
 
     /// Whether it has finished. It waits for nobody. Own to this project.
@@ -84,8 +84,8 @@ impl<'a, T: Drop, R: Wait + Copy, S: Trace<T> + Copy> Send<'a, T, R, S> {
         ensures walked { WasSeen (WalkedTo (Saw S.did S.shown self.entry.channel.form) (first (ask.GiveUp line.Sends self.entry.message self.entry.key))) (reply.GivenUp result) }
         ensures message { result ≡ self.entry.message }
     {
-        let watch = self.sender.watch;
-        self.give_up_traced(watch).0
+        let sender = self.sender;
+        self.give_up_traced(sender.watch).0
     }
 }
 
