@@ -62,16 +62,16 @@ impl<'a, T: Drop, R: Wait + Copy, S: Trace<T> + Copy> Closed<'a, T, R, S> {
         ensures armed { OnPending result (IsArmed cx.new) }
         ensures kept { Keeps cx.old cx.new }
     {
-        let watch = self.sender.watch;
-        self.poll_traced(cx, watch).0
+        let sender = self.sender;
+        self.poll_traced(cx, sender.watch).0
     }
 
     /// Gives it up, as its drop does. It may wait for the lock of those who wait. Own to this project.
     pub fn give_up(self)
         ensures walked { WasSeen (WalkedTo S.did (first (ask.GiveUp line.Closings None self.entry))) (reply.GivenUp None) }
     {
-        let watch = self.sender.watch;
-        let _ = self.give_up_traced(watch);
+        let sender = self.sender;
+        let _ = self.give_up_traced(sender.watch);
     }
 }
 
@@ -85,8 +85,8 @@ impl<T: Drop, R: Wait + Copy, S: Trace<T> + Copy> Future for Closed<'_, T, R, S>
 
 impl<T: Drop, R: Wait + Copy, S: Trace<T> + Copy> Drop for Closed<'_, T, R, S> {
     fn drop(mut self) {
-        let watch = self.sender.watch;
-        let _ = self.leave(watch);
+        let sender = self.sender;
+        let _ = self.leave(sender.watch);
         let Closed {
             sender: _,
             waits: _,

@@ -62,16 +62,16 @@ impl<'a, T: Drop, R: Wait + Copy, S: Trace<T> + Copy> Recv<'a, T, R, S> {
         ensures armed { OnPending result (IsArmed cx.new) }
         ensures kept { Keeps cx.old cx.new }
     {
-        let watch = self.receiver.watch;
-        self.poll_traced(cx, watch).0
+        let receiver = self.receiver;
+        self.poll_traced(cx, receiver.watch).0
     }
 
     /// Gives it up, as its drop does. It may wait for the lock of those who wait. Own to this project.
     pub fn give_up(self)
         ensures walked { WasSeen (WalkedTo S.did (first (ask.GiveUp line.Receives None self.entry))) (reply.GivenUp None) }
     {
-        let watch = self.receiver.watch;
-        let _ = self.give_up_traced(watch);
+        let receiver = self.receiver;
+        let _ = self.give_up_traced(receiver.watch);
     }
 }
 
@@ -85,8 +85,8 @@ impl<T: Drop, R: Wait + Copy, S: Trace<T> + Copy> Future for Recv<'_, T, R, S> {
 
 impl<T: Drop, R: Wait + Copy, S: Trace<T> + Copy> Drop for Recv<'_, T, R, S> {
     fn drop(mut self) {
-        let watch = self.receiver.watch;
-        let _ = self.leave(watch);
+        let receiver = self.receiver;
+        let _ = self.leave(receiver.watch);
         let Recv {
             receiver: _,
             waits: _,

@@ -64,8 +64,8 @@ impl<'a, T: Drop, R: Wait + Copy, S: Trace<T> + Copy> Send<'a, T, R, S> {
         ensures armed { OnPending result (IsArmed cx.new) }
         ensures kept { Keeps cx.old cx.new }
     {
-        let watch = self.sender.watch;
-        self.poll_traced(cx, watch).0
+        let sender = self.sender;
+        self.poll_traced(cx, sender.watch).0
     }
 
     /// Whether it has finished. It waits for nobody. Own to this project.
@@ -81,8 +81,8 @@ impl<'a, T: Drop, R: Wait + Copy, S: Trace<T> + Copy> Send<'a, T, R, S> {
         ensures walked { WasSeen (WalkedTo S.did (first (ask.GiveUp line.Sends self.entry.message self.entry.key))) (reply.GivenUp result) }
         ensures message { result ≡ self.entry.message }
     {
-        let watch = self.sender.watch;
-        self.give_up_traced(watch).0
+        let sender = self.sender;
+        self.give_up_traced(sender.watch).0
     }
 }
 
@@ -101,8 +101,8 @@ impl<T: Drop, R: Wait + Copy, S: Trace<T> + Copy> Future for Send<'_, T, R, S> {
 
 impl<T: Drop, R: Wait + Copy, S: Trace<T> + Copy> Drop for Send<'_, T, R, S> {
     fn drop(mut self) {
-        let watch = self.sender.watch;
-        drop(self.leave(watch).0);
+        let sender = self.sender;
+        drop(self.leave(sender.watch).0);
         let Send {
             sender: _,
             message: _,
