@@ -2,7 +2,7 @@ use Rattle.channel_calls.specs.Asks.{first}
 use Rattle.channel_calls.specs.declared.ask.ChannelAsk.TheVariants as ask
 use Rattle.channel_calls.specs.declared.reply.Reply.TheVariants as reply
 use Rattle.async_channel.proofs.Traces.{asked_of}
-use Rattle.async_channel.proofs.shared.Shared.is_closed.Goals as goal
+use Rattle.async_channel.proofs.shared.Shared+T.is_closed.Goals as goal
 
 pub returns : goal.returns
 returns g c =
