@@ -5,6 +5,7 @@ use Rattle.concurrent_queue.specs.declared.queue_call.QueueCall.{QueueCall}
 use Rattle.event_listener.specs.declared.key.Key.{Key}
 use Rattle.event_listener.specs.declared.error.ListenError.{ListenError}
 use Rattle.event_listener.specs.declared.waking.Task.{Task}
+use Rattle.async_channel.specs.Sections.{Answers, OnList}
 use Rattle.async_channel.specs.declared.seen.Seen.{Seen}
 use Rattle.channel_calls.proofs.Interface.{carried}
 use Rattle.channel_calls.specs.Asks.{first}
@@ -97,14 +98,14 @@ module _ {T C S : Type 0} (did : Deed T Task → S → S → Type 0) where
   asked_of turn s t r x y from to walked =
       between (λ a b. WalkedTo did turn a r b) s.trace t.trace x y from to (to_seen tells did (λ (z : Seen C S). z.trace) (λ d a b h. h.1) turn s r t walked)
 
--- its cells that threads share, of whose deeds this holds, with a sink that wakes at once, and a trace: likewise
-module _ {T C S : Type 0} {holds : Deed T Task → Type 0} (did : Deed T Task → S → S → Type 0) where
+-- its cells that threads share, with a sink that wakes at once, and a trace: likewise
+module _ {T C S : Type 0} (did : Deed T Task → S → S → Type 0) where
   abbrev shares : Deed T Task → Seen C S → Seen C S → Type 0
-  shares d a b = holds d × did d a.trace b.trace
+  shares d a b = Answers OnList d × did d a.trace b.trace
 
-module _ {T C K S : Type 0} {holds : Deed T Task → Type 0} (did : Deed T Task → S → S → Type 0) where
+module _ {T C K S : Type 0} (did : Deed T Task → S → S → Type 0) where
   abbrev sees : Deed T Task → Seen C S × K → Seen C S × K → Type 0
-  sees = Done (shares {holds = holds} did) (λ (k : K) (task : Task) (l : K). Unit {0})
+  sees = Done (shares did) (λ (k : K) (task : Task) (l : K). Unit {0})
 
   abbrev trace_of : Seen C S × K → S
   trace_of z = z.0.trace
