@@ -1,7 +1,7 @@
 -- What is done in one section on a list of listeners, with its answer; and what is known of a deed on the cells that threads share: that
 -- a section did it to some list, the one that it found when it had the lock.
 use Rattle.std.specs.Prelude.{◌≡◌, ℕ, true, List, Option, Result, Ok, Err}
-use Rattle.event_listener.specs.Lists.{listened, registration, removed, removed_wakes}
+use Rattle.event_listener.specs.Lists.{ListView, listened, registration, removed, removed_wakes}
 use Rattle.event_listener.specs.declared.error.ListenError.{ListenError}
 use Rattle.event_listener.specs.declared.key.Key.{Key}
 use Rattle.event_listener.specs.declared.waking.Task.{Task}
@@ -26,6 +26,10 @@ Sets (removes key names) before after = (names ≡ removed_wakes key true before
 Sets (tells_one names) before after = (names ≡ told_one_wakes before) × (after ≡ told_one before)
 Sets (tells_more n names) before after = (names ≡ told_more_wakes n before) × (after ≡ told_more n before)
 Sets (tells_all names) before after = (names ≡ told_all_wakes before) × (after ≡ told_all before)
+
+-- the same of a list with its numbers
+abbrev pub OnList : Section → ListView Unit Task → ListView Unit Task → Type 0
+OnList section before after = Sets section before.lists after.lists
 
 module _ {L : Type 0} (did : Section → L → L → Type 0) where
   -- of whatever lists: this section found one, and did this to it

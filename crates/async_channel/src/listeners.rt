@@ -44,9 +44,9 @@ pub(crate) trait Listeners: Drop {
 }
 
 impl Listeners for List<(), Task> {
-    ghost use Rattle.async_channel.specs.Sections.{Sets};
+    ghost use Rattle.async_channel.specs.Sections.{OnList};
 
-    ghost did = { λ section a b. Sets section a.lists b.lists };
+    ghost did = { OnList };
 
     #[inline(always)]
     fn insert(&mut self) -> Result<Key, ListenError> {

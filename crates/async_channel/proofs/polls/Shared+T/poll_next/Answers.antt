@@ -3,7 +3,7 @@ use Rattle.channel_calls.specs.Calls.{next_ask}
 use Rattle.channel_calls.specs.declared.reply.Reply.TheVariants as reply
 use Rattle.async_channel.specs.Handles.{form_of}
 use Rattle.async_channel.proofs.Traces.{walked_from}
-use Rattle.async_channel.proofs.shared.Shared.poll_next.Goals as goal
+use Rattle.async_channel.proofs.polls.Shared+T.poll_next.Goals as goal
 
 pub returns-clause-walked : goal.returns-clause-walked
 returns-clause-walked g c = (

@@ -2,7 +2,7 @@ use Rattle.channel_calls.specs.Asks.{first}
 use Rattle.channel_calls.specs.declared.ask.ChannelAsk.TheVariants as ask
 use Rattle.async_channel.specs.Handles.{form_of}
 use Rattle.async_channel.proofs.Traces.{walked_to}
-use Rattle.async_channel.proofs.shared.Shared.drop_receiver.Goals as goal
+use Rattle.async_channel.proofs.polls.Shared+T.drop_receiver.Goals as goal
 
 pub returns : goal.returns
 returns g c =

@@ -3,7 +3,7 @@ use Rattle.channel_calls.specs.declared.ask.ChannelAsk.TheVariants as ask
 use Rattle.channel_calls.specs.declared.reply.Reply.TheVariants as reply
 use Rattle.async_channel.specs.Handles.{form_of}
 use Rattle.async_channel.proofs.Traces.{asked}
-use Rattle.async_channel.proofs.shared.Shared.is_terminated.Goals as goal
+use Rattle.async_channel.proofs.shared.Shared+T.is_terminated.Goals as goal
 
 pub returns : goal.returns
 returns g c =
