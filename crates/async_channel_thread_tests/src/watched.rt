@@ -162,15 +162,16 @@ fn one_log_of_all_calls(rt: HostRuntime) {
     let answers = calls(&rt, &s, &r);
     drop((s, r));
     let Tallies {
-        operations: asked,
+        operations,
         sections,
         counts,
     } = tallies;
     let told = [
-        asked.into_inner(),
+        operations.into_inner(),
         sections.into_inner(),
         counts.into_inner(),
     ];
     expect_equal(&rt, &answers, &(true, 1, Some(7), true));
-    expect_equal(&rt, &told, &[5, 7, 3]);
+    // Three operations put the message, three take it, and each of the three closings is one.
+    expect_equal(&rt, &told, &[9, 7, 3]);
 }
