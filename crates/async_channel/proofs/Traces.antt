@@ -1,16 +1,14 @@
 -- What a trace saw of a call that was made over cells which show it their deeds.
-use Rattle.std.proofs.Common.{◌≡◌, inl, inr, ℕ, zero, suc, false, Bool, true, List, Option, None, Some, Result, Ok, Err, MatchResult, refl, sym, ap, subst, ◌∙◌}
+use Rattle.std.proofs.Common.{◌≡◌, inl, inr, ℕ, zero, suc, false, Bool, true, List, Option, None, Some, Result, Ok, Err, MatchResult, sym, ap, subst, ◌∙◌}
 use Rattle.std.specs.Global.{Vec}
 use Rattle.concurrent_queue.specs.Deeds as cell
-use Rattle.concurrent_queue.specs.Walked.{CallMakes}
-use Rattle.concurrent_queue.specs.declared.call.QueueReply.{QueueReply}
 use Rattle.concurrent_queue.specs.declared.cells.QueueForm.{QueueForm}
 use Rattle.concurrent_queue.specs.declared.queue_call.QueueCall.{QueueCall}
 use Rattle.event_listener.specs.declared.key.Key.{Key}
 use Rattle.event_listener.specs.declared.error.ListenError.{ListenError}
 use Rattle.event_listener.specs.declared.waking.Task.{Task}
 use Rattle.async_channel.specs.Handles.{form_of}
-use Rattle.async_channel.specs.Saw.{Saw, SawSteps, DidBeside}
+use Rattle.async_channel.specs.Saw.{Saw, DidBeside}
 use Rattle.async_channel.specs.Sections.{Section, Answers}
 use Rattle.async_channel.specs.declared.cells.SharedCells.{SharedCells}
 use Rattle.async_channel.specs.declared.cells.SharedWords.{SharedWords}
@@ -177,12 +175,6 @@ module _ {T C S : Type 0} (form : C → QueueForm) (beside : Deed T Task → C �
   asked_of f turn s t r x y is from to walked =
       between (λ a b. WalkedTo (Saw did shown f) turn a r b) s.trace t.trace x y from to
       (to_seen tells (Saw did shown f) (λ (z : Seen C S). z.trace) (λ (z : Seen C S). form z.cells) f (λ d a b h. h.0) (told f) turn s r t is walked)
-
--- one step of the queue's call is a walk of one step
-module _ {T X : Type 0} (did : cell.Deed T → X → X → Type 0) where
-  pub one_step : (form : QueueForm) (call : QueueCall T) (s : X) (next : QueueCall T) (r : Option (QueueReply T)) (t : X) → CallMakes did form s call t next r → SawSteps did form call s next r t
-  one_step form call s next None t made = (zero, s, call.state, (refl, refl), made)
-  one_step form call s next (Some r) t made = (zero, s, call.state, next.state, next.mark, (refl, refl), made)
 
 -- the words that threads share
 module _ {T S : Type 0} (did : cell.Deed T → S → S → Type 0) (shown : Deed T Task → S → S → Type 0) where

@@ -1,5 +1,5 @@
 use Rattle.async_channel.specs.Handles.{form_of}
-use Rattle.async_channel.proofs.Traces.{one_step}
+use Rattle.async_channel.proofs.Steps.{one_step}
 use Rattle.async_channel.proofs.cells.SharedWordsWords.step_told.Goals as goal
 
 pub returns-clause-deed : goal.returns-clause-deed
