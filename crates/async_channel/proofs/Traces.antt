@@ -9,7 +9,7 @@ use Rattle.event_listener.specs.declared.error.ListenError.{ListenError}
 use Rattle.event_listener.specs.declared.waking.Task.{Task}
 use Rattle.async_channel.specs.Handles.{form_of}
 use Rattle.async_channel.specs.Saw.{Saw, DidBeside}
-use Rattle.async_channel.specs.Sections.{Section, Answers}
+use Rattle.async_channel.specs.Sections.{Answers, OnList}
 use Rattle.async_channel.specs.declared.cells.SharedCells.{SharedCells}
 use Rattle.async_channel.specs.declared.cells.SharedWords.{SharedWords}
 use Rattle.async_channel.specs.declared.seen.Seen.{Seen}
@@ -44,24 +44,24 @@ module _ {T W X Y F : Type 0} (did : Deed T W → X → X → Type 0) (seen : De
   left_keeps (Some held) s t (names, d) = keeps (taken_off held.line held.key names) s t d
 
   work_keeps : (w : Work T W) (s t : X) (m : Mark) (next : Stage (QueueCall T) T W) (r : Option (Reply T)) → WorkMakes did w s t m next r → of t ≡ of s
-  work_keeps (TellReceive e) s t m next r (names, d, x) = keeps _ s t d
-  work_keeps (TellStreams e) s t m next r (names, d, x) = keeps _ s t d
-  work_keeps (TellSend e) s t m next r (names, d, x) = keeps _ s t d
-  work_keeps (TellSends n e) s t m next r (names, d, x) = keeps _ s t d
-  work_keeps (TakeRoom n) s t m next r (turn, e, x) = ap of e
-  work_keeps (TellAll line c) s t m next r (names, d, x) = keeps _ s t d
-  work_keeps (Insert w task) s t m next r (o, d, x) = keeps _ s t d
-  work_keeps (Register w key task) s t m next r (o, d, x) = keeps _ s t d
-  work_keeps (Leave e) s t m next r (d, x) = left_keeps e.held s t d
-  work_keeps (Lower side key) s t m next r (n, d, x) = keeps _ s t d
-  work_keeps (Count side) s t m next r (n, d, x) = keeps _ s t d
-  work_keeps (Load side making) s t m next r (n, d, x) = keeps _ s t d
-  work_keeps (Raise side n making) s t m next r (b, d, x) = keeps _ s t d
+  work_keeps (TellReceive e) s t m next r h = keeps _ s t h.1
+  work_keeps (TellStreams e) s t m next r h = keeps _ s t h.1
+  work_keeps (TellSend e) s t m next r h = keeps _ s t h.1
+  work_keeps (TellSends n e) s t m next r h = keeps _ s t h.1
+  work_keeps (TakeRoom n) s t m next r h = ap of h.1
+  work_keeps (TellAll line c) s t m next r h = keeps _ s t h.1
+  work_keeps (Insert w task) s t m next r h = keeps _ s t h.1
+  work_keeps (Register w key task) s t m next r h = keeps _ s t h.1
+  work_keeps (Leave e) s t m next r h = left_keeps e.held s t h.0
+  work_keeps (Lower side key) s t m next r h = keeps _ s t h.1
+  work_keeps (Count side) s t m next r h = keeps _ s t h.1
+  work_keeps (Load side making) s t m next r h = keeps _ s t h.1
+  work_keeps (Raise side n making) s t m next r h = keeps _ s t h.1
 
   step_keeps : (a : Stage (QueueCall T) T W) (s t : X) (m : Mark) (next : Stage (QueueCall T) T W) (r : Option (Reply T)) → ChannelMakes did a s t m next r → of t ≡ of s
-  step_keeps (Trying call aim) s t m next r (after, o, d, x) = keeps _ s t d
+  step_keeps (Trying call aim) s t m next r h = keeps _ s t h.2
   step_keeps (Working w) s t m next r d = work_keeps w s t m next r d
-  step_keeps (Finished kept) s t m next r (e, x) = ap of e
+  step_keeps (Finished kept) s t m next r h = ap of h.0
 
   step_seen : (a : Stage (QueueCall T) T W) (s t : X) (m : Mark) (next : Stage (QueueCall T) T W) (r : Option (Reply T)) → of s ≡ f → ChannelMakes did a s t m next r → ChannelMakes seen a (view s) (view t) m next r
   step_seen a s t m next r h d = carried did seen s t (view s) (view t) (λ e done. shows e s t h done) (λ e. ap view e) m next r a d
@@ -168,7 +168,7 @@ module _ {T C S : Type 0} (form : C → QueueForm) (beside : Deed T Task → C �
   tells d a b = (form b.cells ≡ form a.cells) × DidBeside beside d a.cells b.cells × Saw did shown (form a.cells) d a.trace b.trace
 
   told : (f : QueueForm) (d : Deed T Task) (a b : Seen C S) → form a.cells ≡ f → tells d a b → Saw did shown f d a.trace b.trace
-  told f d a b e h = subst (λ (g : QueueForm). Saw did shown g d a.trace b.trace) e h.1.1
+  told f d a b e h = subst (λ (g : QueueForm). Saw did shown g d a.trace b.trace) e h.2
 
   -- a question made over words, from the trace that was given to the one that is given back
   asked_of : (f : QueueForm) (turn : Turn T Task) (s t : Seen C S) (r : Reply T) (x y : S) → form s.cells ≡ f → s.trace ≡ x → y ≡ t.trace → WalkedTo tells turn s r t → WalkedTo (Saw did shown f) turn x r y
@@ -188,67 +188,62 @@ module _ {T S : Type 0} (did : cell.Deed T → S → S → Type 0) (shown : Deed
   asked f turn s t r x y is from to walked = asked_of words_form answers did shown f turn s t r x y is from to walked
 
 -- likewise the cells, with a sink that wakes at once
-module _ {T R B L K S : Type 0} {lists : Section → L → L → Type 0} (did : cell.Deed T → S → S → Type 0) (shown : Deed T Task → S → S → Type 0) (f : QueueForm) where
-  abbrev C : Type 0
-  C = SharedCells T R B L
-
-  abbrev cells_form : C → QueueForm
+module _ {T R B L : Type 0} where
+  abbrev cells_form : SharedCells T R B L → QueueForm
   cells_form c = form_of c.shared.now
 
-  abbrev sections : Deed T Task → C → C → Type 0
-  sections d a b = Answers lists d
+  abbrev sections : Deed T Task → SharedCells T R B L → SharedCells T R B L → Type 0
+  sections d a b = Answers OnList d
 
-  abbrev sees : Deed T Task → Seen C S × K → Seen C S × K → Type 0
+module _ {T R B L K S : Type 0} (did : cell.Deed T → S → S → Type 0) (shown : Deed T Task → S → S → Type 0) (f : QueueForm) where
+  abbrev sees : Deed T Task → Seen (SharedCells T R B L) S × K → Seen (SharedCells T R B L) S × K → Type 0
   sees = Done (tells cells_form sections did shown) (λ (k : K) (task : Task) (l : K). Unit {0})
 
-  abbrev saw : Deed T Task → S → S → Type 0
-  saw = Saw did shown f
-
-  abbrev trace_of : Seen C S × K → S
+  abbrev trace_of : Seen (SharedCells T R B L) S × K → S
   trace_of z = z.0.trace
 
-  abbrev of : Seen C S × K → QueueForm
+  abbrev of : Seen (SharedCells T R B L) S × K → QueueForm
   of z = cells_form z.0.cells
 
-  kept_by : (d : Deed T Task) (a b : Seen C S × K) → sees d a b → of b ≡ of a
+  kept_by : (d : Deed T Task) (a b : Seen (SharedCells T R B L) S × K) → sees d a b → of b ≡ of a
   kept_by d a b h = h.0.0
 
-  showed : (d : Deed T Task) (a b : Seen C S × K) → of a ≡ f → sees d a b → saw d (trace_of a) (trace_of b)
+  showed : (d : Deed T Task) (a b : Seen (SharedCells T R B L) S × K) → of a ≡ f → sees d a b → (Saw did shown f) d (trace_of a) (trace_of b)
   showed d a b e h = told cells_form sections did shown f d a.0 b.0 e h.0
 
-  module _ (s t : Seen C S × K) (x y : S) (is : form_of s.0.cells.shared.now ≡ f) (from : s.0.trace ≡ x) (to : y ≡ t.0.trace) where
-    pub walked_from : (turn : Turn T Task) (r : Reply T) (kept : Kept T) → WalkedFrom sees turn s r kept t → WalkedFrom saw turn x r kept y
-    walked_from turn r kept walked = between (λ a b. WalkedFrom saw turn a r kept b) s.0.trace t.0.trace x y from to (from_seen sees saw trace_of of f kept_by showed turn s r kept t is walked)
+  module _ (s t : Seen (SharedCells T R B L) S × K) (x y : S) (is : form_of s.0.cells.shared.now ≡ f) (from : s.0.trace ≡ x) (to : y ≡ t.0.trace) where
+    pub walked_from : (turn : Turn T Task) (r : Reply T) (kept : Kept T) → WalkedFrom sees turn s r kept t → WalkedFrom (Saw did shown f) turn x r kept y
+    walked_from turn r kept walked = between (λ a b. WalkedFrom (Saw did shown f) turn a r kept b) s.0.trace t.0.trace x y from to (from_seen sees (Saw did shown f) trace_of of f kept_by showed turn s r kept t is walked)
 
-    pub walked_to : (turn : Turn T Task) (r : Reply T) → WalkedTo sees turn s r t → WalkedTo saw turn x r y
-    walked_to turn r walked = between (λ a b. WalkedTo saw turn a r b) s.0.trace t.0.trace x y from to (to_seen sees saw trace_of of f kept_by showed turn s r t is walked)
+    pub walked_to : (turn : Turn T Task) (r : Reply T) → WalkedTo sees turn s r t → WalkedTo (Saw did shown f) turn x r y
+    walked_to turn r walked = between (λ a b. WalkedTo (Saw did shown f) turn a r b) s.0.trace t.0.trace x y from to (to_seen sees (Saw did shown f) trace_of of f kept_by showed turn s r t is walked)
 
-    pub filled : (room : ℕ) (before after : List T) (r : Result ℕ TryRecvError) → Fills sees room before s r after t → Fills saw room before x r after y
-    filled room before after r fills = between (λ a b. Fills saw room before a r after b) s.0.trace t.0.trace x y from to (fills_seen sees saw trace_of of f kept_by showed room before s r after t is fills)
+    pub filled : (room : ℕ) (before after : List T) (r : Result ℕ TryRecvError) → Fills sees room before s r after t → Fills (Saw did shown f) room before x r after y
+    filled room before after r fills = between (λ a b. Fills (Saw did shown f) room before a r after b) s.0.trace t.0.trace x y from to (fills_seen sees (Saw did shown f) trace_of of f kept_by showed room before s r after t is fills)
 
-    pub taken : (ended : Bool) (item : Option T) → TakesNext sees ended s item t → TakesNext saw ended x item y
-    taken ended item takes = between (λ a b. TakesNext saw ended a item b) s.0.trace t.0.trace x y from to (takes_seen sees saw trace_of of f kept_by showed ended s item t is takes)
+    pub taken : (ended : Bool) (item : Option T) → TakesNext sees ended s item t → TakesNext (Saw did shown f) ended x item y
+    taken ended item takes = between (λ a b. TakesNext (Saw did shown f) ended a item b) s.0.trace t.0.trace x y from to (takes_seen sees (Saw did shown f) trace_of of f kept_by showed ended s item t is takes)
 
     pub several : (limit : ℕ) (r : Result (Vec T) (Refused TryRecvError Unit))
         → MatchResult r (λ messages. WalkedTo sees (first (ask.RecvMany limit)) s (reply.RecvMany (Ok messages.items)) t) (λ e. WalkedTo sees (first (ask.RecvMany limit)) s (reply.RecvMany (Err e)) t)
-        → MatchResult r (λ messages. WalkedTo saw (first (ask.RecvMany limit)) x (reply.RecvMany (Ok messages.items)) y) (λ e. WalkedTo saw (first (ask.RecvMany limit)) x (reply.RecvMany (Err e)) y)
+        → MatchResult r (λ messages. WalkedTo (Saw did shown f) (first (ask.RecvMany limit)) x (reply.RecvMany (Ok messages.items)) y) (λ e. WalkedTo (Saw did shown f) (first (ask.RecvMany limit)) x (reply.RecvMany (Err e)) y)
     several limit (Ok messages) walked = walked_to (first (ask.RecvMany limit)) (reply.RecvMany (Ok messages.items)) walked
     several limit (Err e) walked = walked_to (first (ask.RecvMany limit)) (reply.RecvMany (Err e)) walked
 
     -- of calls that block their thread
     module _ (parked : Option Task → S → S → Type 0) (slept : S → S → Type 0) (end : form_of t.0.cells.shared.now ≡ f) where
-      abbrev asks : Option Task → Seen C S × K → Seen C S × K → Type 0
+      abbrev asks : Option Task → Seen (SharedCells T R B L) S × K → Seen (SharedCells T R B L) S × K → Type 0
       asks = Asked (λ o a b. (cells_form b.cells ≡ cells_form a.cells) × Unit {0} × parked o a.trace b.trace)
 
-      abbrev sleeps : Seen C S × K → Seen C S × K → Type 0
+      abbrev sleeps : Seen (SharedCells T R B L) S × K → Seen (SharedCells T R B L) S × K → Type 0
       sleeps = Slept (λ a b. (cells_form b.cells ≡ cells_form a.cells) × Unit {0} × slept a.trace b.trace)
 
-      pub blocked : (call : Blocked T) (r : Reply T) (kept : Kept T) → Blocks sees asks sleeps call s r kept t → Blocks saw parked slept call x r kept y
+      pub blocked : (call : Blocked T) (r : Reply T) (kept : Kept T) → Blocks sees asks sleeps call s r kept t → Blocks (Saw did shown f) parked slept call x r kept y
       blocked call r kept blocks =
-          between (λ a b. Blocks saw parked slept call a r kept b) s.0.trace t.0.trace x y from to
-          (blocks_seen sees saw trace_of of f kept_by showed asks parked (λ o a b h. h.0.0) (λ o a b h. h.0.1.1) sleeps slept (λ a b h. h.0.0) (λ a b h. h.0.1.1) call s r kept t is end blocks)
+          between (λ a b. Blocks (Saw did shown f) parked slept call a r kept b) s.0.trace t.0.trace x y from to
+          (blocks_seen sees (Saw did shown f) trace_of of f kept_by showed asks parked (λ o a b h. h.0.0) (λ o a b h. h.0.2) sleeps slept (λ a b h. h.0.0) (λ a b h. h.0.2) call s r kept t is end blocks)
 
-      pub waited : (ended : Bool) (item : Option (Result T ListenError)) → WaitsForNext sees asks sleeps ended s item t → WaitsForNext saw parked slept ended x item y
+      pub waited : (ended : Bool) (item : Option (Result T ListenError)) → WaitsForNext sees asks sleeps ended s item t → WaitsForNext (Saw did shown f) parked slept ended x item y
       waited ended item waits =
-          between (λ a b. WaitsForNext saw parked slept ended a item b) s.0.trace t.0.trace x y from to
-          (waits_seen sees saw trace_of of f kept_by showed asks parked (λ o a b h. h.0.0) (λ o a b h. h.0.1.1) sleeps slept (λ a b h. h.0.0) (λ a b h. h.0.1.1) ended s item t is end waits)
+          between (λ a b. WaitsForNext (Saw did shown f) parked slept ended a item b) s.0.trace t.0.trace x y from to
+          (waits_seen sees (Saw did shown f) trace_of of f kept_by showed asks parked (λ o a b h. h.0.0) (λ o a b h. h.0.2) sleeps slept (λ a b h. h.0.0) (λ a b h. h.0.2) ended s item t is end waits)

@@ -9,6 +9,6 @@ returns g c =
     record {
       walked = (
         c.drop_sender.ensures.deeds.0,
-        walked_to g.S.Trace.did g.S.Trace.shown (handle_of c.args.self.link).form (c.cells-seen.result, _) (c.drop_sender.new.cells, _) c.args.trace c.into_trace.result c.cells-seen.ensures.form c.cells-seen.ensures.trace c.into_trace.ensures (first ask.DropSender) c.drop_sender.ensures.deeds.0 c.drop_sender.ensures.deeds.1,
+        walked_to g.S.Trace-2.did g.S.Trace-1.shown (handle_of c.args.self.link).form (c.cells-seen.result, _) (c.drop_sender.new.cells, _) c.args.trace c.into_trace.result c.cells-seen.ensures.form c.cells-seen.ensures.trace c.into_trace.ensures (first ask.DropSender) c.drop_sender.ensures.deeds.0 c.drop_sender.ensures.deeds.1,
       );
     }

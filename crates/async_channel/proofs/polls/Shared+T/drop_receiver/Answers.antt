@@ -9,6 +9,6 @@ returns g c =
     record {
       walked = (
         c.drop_receiver.ensures.deeds.0,
-        walked_to g.S.Trace.did g.S.Trace.shown (form_of c.args.self.now) (c.cells-seen.result, _) (c.drop_receiver.new.cells, _) c.args.trace c.into_trace.result c.cells-seen.ensures.form c.cells-seen.ensures.trace c.into_trace.ensures (first (ask.DropReceiver c.end-key.result)) c.drop_receiver.ensures.deeds.0 c.drop_receiver.ensures.deeds.1,
+        walked_to g.S.Trace-2.did g.S.Trace-1.shown (form_of c.args.self.now) (c.cells-seen.result, _) (c.drop_receiver.new.cells, _) c.args.trace c.into_trace.result c.cells-seen.ensures.form c.cells-seen.ensures.trace c.into_trace.ensures (first (ask.DropReceiver c.end-key.result)) c.drop_receiver.ensures.deeds.0 c.drop_receiver.ensures.deeds.1,
       );
     }

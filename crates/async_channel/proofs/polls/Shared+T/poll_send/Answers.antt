@@ -8,5 +8,5 @@ use Rattle.async_channel.proofs.polls.Shared+T.poll_send.Goals as goal
 pub returns-clause-walked : goal.returns-clause-walked
 returns-clause-walked g c = (
   c.arm-task.result,
-  walked_from g.S.Trace.did g.S.Trace.shown (form_of c.args.self.now) (c.cells-seen.result, _) (c.poll_send-polled.new.cells, _) c.args.trace c.into_trace.result c.cells-seen.ensures.form c.cells-seen.ensures.trace c.into_trace.ensures (first (send_ask c.args.message c.key-key.result c.arm-task.result)) (reply.SendPoll c.poll_send-polled.result.0) c.poll_send-polled.result.1 c.poll_send-polled.ensures.deeds,
+  walked_from g.S.Trace-2.did g.S.Trace-1.shown (form_of c.args.self.now) (c.cells-seen.result, _) (c.poll_send-polled.new.cells, _) c.args.trace c.into_trace.result c.cells-seen.ensures.form c.cells-seen.ensures.trace c.into_trace.ensures (first (send_ask c.args.message c.key-key.result c.arm-task.result)) (reply.SendPoll c.poll_send-polled.result.0) c.poll_send-polled.result.1 c.poll_send-polled.ensures.deeds,
 )
