@@ -5,9 +5,40 @@ use concurrent_queue::error::NoMemory;
 use concurrent_queue::seen::{Sight, Trace};
 use std::alloc::Global;
 
+/// What was done to a cell.
+#[derive(Clone, Copy, PartialEq, Eq)]
+pub(crate) enum Did {
+    Load,
+    Store,
+    Exchange,
+    Add,
+    Or,
+    And,
+    Put,
+    Take,
+    Spare,
+    Retire,
+}
+
+/// To which kind of cell.
+#[derive(Clone, Copy, PartialEq, Eq)]
+pub(crate) enum To {
+    State,
+    Head,
+    Tail,
+    Stamp,
+    HeadBlock,
+    TailBlock,
+    Next,
+    Reads,
+    Written,
+    Slot,
+    Block,
+}
+
 /// One operation: what was done, to which cell, and what it answered: what a word held, 1 where an exchange or a put was done,
 /// the message that was taken, the number of a block; 0 where it answered nothing.
-pub(crate) type Line = (&'static str, &'static str, u64);
+pub(crate) type Line = (Did, To, u64);
 
 /// What was done, in order. Where there is no memory for a line, it says so.
 #[derive(Drop)]
@@ -16,18 +47,18 @@ pub(crate) struct Log {
     is_short: bool,
 }
 
-/// What a word is called.
-fn name_of(at: Word) -> &'static str {
+/// Which kind a word is.
+fn kind_of(at: Word) -> To {
     match at {
-        Word::State => "state",
-        Word::Head => "head",
-        Word::Tail => "tail",
-        Word::Stamp(_) => "stamp",
-        Word::HeadBlock => "head block",
-        Word::TailBlock => "tail block",
-        Word::Next(_) => "next",
-        Word::Reads(_) => "reads",
-        Word::Written(_, _) => "written",
+        Word::State => To::State,
+        Word::Head => To::Head,
+        Word::Tail => To::Tail,
+        Word::Stamp(_) => To::Stamp,
+        Word::HeadBlock => To::HeadBlock,
+        Word::TailBlock => To::TailBlock,
+        Word::Next(_) => To::Next,
+        Word::Reads(_) => To::Reads,
+        Word::Written(_, _) => To::Written,
     }
 }
 
@@ -61,11 +92,11 @@ impl Trace<u64> for Log {
     ghost brought = { λ _ _ _ _. Unit {0} };
 
     fn loaded(&mut self, _sight: &Sight<Log>, at: Word, found: u64) {
-        self.note(("load", name_of(at), found));
+        self.note((Did::Load, kind_of(at), found));
     }
 
     fn stored(&mut self, _sight: &Sight<Log>, at: Word, _value: u64) {
-        self.note(("store", name_of(at), 0));
+        self.note((Did::Store, kind_of(at), 0));
     }
 
     fn exchanged(
@@ -76,36 +107,36 @@ impl Trace<u64> for Log {
         _next: u64,
         answer: Result<u64, u64>,
     ) {
-        self.note(("exchange", name_of(at), u64::from(answer.is_ok())));
+        self.note((Did::Exchange, kind_of(at), u64::from(answer.is_ok())));
     }
 
     fn added(&mut self, _sight: &Sight<Log>, at: Word, _by: u64, found: u64) {
-        self.note(("add", name_of(at), found));
+        self.note((Did::Add, kind_of(at), found));
     }
 
     fn bits_set(&mut self, _sight: &Sight<Log>, at: Word, _bits: u64, found: u64) {
-        self.note(("or", name_of(at), found));
+        self.note((Did::Or, kind_of(at), found));
     }
 
     fn bits_kept(&mut self, _sight: &Sight<Log>, at: Word, _bits: u64, found: u64) {
-        self.note(("and", name_of(at), found));
+        self.note((Did::And, kind_of(at), found));
     }
 
     fn bring(&mut self, _sight: &Sight<Log>, _at: Slot, _message: &u64) {}
 
     fn put(&mut self, _sight: &Sight<Log>, _at: Slot, done: bool) {
-        self.note(("put", "slot", u64::from(done)));
+        self.note((Did::Put, To::Slot, u64::from(done)));
     }
 
     fn taken(&mut self, _sight: &Sight<Log>, _at: Slot, found: &Option<u64>) {
-        self.note(("take", "slot", found.unwrap_or(0)));
+        self.note((Did::Take, To::Slot, found.unwrap_or(0)));
     }
 
     fn spared(&mut self, _sight: &Sight<Log>, answer: Result<u64, NoMemory>) {
-        self.note(("spare", "block", answer.unwrap_or(0)));
+        self.note((Did::Spare, To::Block, answer.unwrap_or(0)));
     }
 
     fn retired(&mut self, _sight: &Sight<Log>, block: u64) {
-        self.note(("retire", "block", block));
+        self.note((Did::Retire, To::Block, block));
     }
 }

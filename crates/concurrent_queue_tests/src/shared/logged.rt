@@ -1,7 +1,7 @@
 //! What calls of a shared queue do to its cells, as a trace of the caller's sees it.
 
 use crate::checks::{expect_equal, expect_true};
-use crate::log::{Line, Log};
+use crate::log::{Did, Line, Log, To};
 use crate::said::{Said, popped, pushed, replied};
 use crate::shared::opened;
 use concurrent_queue::call::QueueAsk;
@@ -20,38 +20,38 @@ fn has_lines(log: &Log, lines: &[Line]) -> bool {
 /// The lines of a push of 5 into one slot, of a pop of it, and of a pop of none.
 static OF_A_SLOT: [&[Line]; 3] = [
     &[
-        ("exchange", "state", 1),
-        ("put", "slot", 1),
-        ("and", "state", 3),
+        (Did::Exchange, To::State, 1),
+        (Did::Put, To::Slot, 1),
+        (Did::And, To::State, 3),
     ],
     &[
-        ("exchange", "state", 1),
-        ("take", "slot", 5),
-        ("and", "state", 1),
+        (Did::Exchange, To::State, 1),
+        (Did::Take, To::Slot, 5),
+        (Did::And, To::State, 1),
     ],
-    &[("exchange", "state", 0)],
+    &[(Did::Exchange, To::State, 0)],
 ];
 
 /// The same of a ring.
 static OF_A_RING: [&[Line]; 3] = [
     &[
-        ("load", "tail", 0),
-        ("load", "stamp", 0),
-        ("exchange", "tail", 1),
-        ("put", "slot", 1),
-        ("store", "stamp", 0),
+        (Did::Load, To::Tail, 0),
+        (Did::Load, To::Stamp, 0),
+        (Did::Exchange, To::Tail, 1),
+        (Did::Put, To::Slot, 1),
+        (Did::Store, To::Stamp, 0),
     ],
     &[
-        ("load", "head", 0),
-        ("load", "stamp", 1),
-        ("exchange", "head", 1),
-        ("take", "slot", 5),
-        ("store", "stamp", 0),
+        (Did::Load, To::Head, 0),
+        (Did::Load, To::Stamp, 1),
+        (Did::Exchange, To::Head, 1),
+        (Did::Take, To::Slot, 5),
+        (Did::Store, To::Stamp, 0),
     ],
     &[
-        ("load", "head", 1),
-        ("load", "stamp", 1),
-        ("load", "tail", 1),
+        (Did::Load, To::Head, 1),
+        (Did::Load, To::Stamp, 1),
+        (Did::Load, To::Tail, 1),
     ],
 ];
 
@@ -94,7 +94,7 @@ fn logs_of_calls_alone(rt: HostRuntime) {
 }
 
 /// How many lines of a log are of this operation and answered more than 0.
-fn count(lines: &[Line], operation: &str) -> usize {
+fn count(lines: &[Line], operation: Did) -> usize {
     let mut count = 0usize;
     for line in lines {
         if line.0 == operation && line.2 > 0 {
@@ -105,24 +105,24 @@ fn count(lines: &[Line], operation: &str) -> usize {
 }
 
 /// What was done to which cell.
-type Operation = (&'static str, &'static str);
+type Operation = (Did, To);
 
 /// The first and the last operation of a call of a ring that answered so, and how many places it won.
 fn of_a_call(said: &str) -> Option<(Operation, Operation, usize)> {
     match said {
-        "pushed" => Some((("load", "tail"), ("store", "stamp"), 1)),
-        "popped" => Some((("load", "head"), ("store", "stamp"), 1)),
-        "full" => Some((("load", "tail"), ("load", "head"), 0)),
-        "empty" => Some((("load", "head"), ("load", "tail"), 0)),
+        "pushed" => Some(((Did::Load, To::Tail), (Did::Store, To::Stamp), 1)),
+        "popped" => Some(((Did::Load, To::Head), (Did::Store, To::Stamp), 1)),
+        "full" => Some(((Did::Load, To::Tail), (Did::Load, To::Head), 0)),
+        "empty" => Some(((Did::Load, To::Head), (Did::Load, To::Tail), 0)),
         _ => None,
     }
 }
 
-/// The operation of a line; none where there is no line.
-fn operation(line: Option<&Line>) -> Operation {
+/// Whether there is a line, and it is of this operation.
+fn is_of(line: Option<&Line>, operation: Operation) -> bool {
     match line {
-        Some((done, to, _)) => (*done, *to),
-        None => ("", ""),
+        Some((done, to, _)) => *done == operation.0 && *to == operation.1,
+        None => false,
     }
 }
 
@@ -135,9 +135,9 @@ fn is_of_one_call(log: &Log, said: Said) -> bool {
     let Some((first, last, places)) = of_a_call(said.0) else {
         return false;
     };
-    let ends = operation(lines.first()) == first && operation(lines.last()) == last;
-    let went = count(lines, "put").wrapping_add(count(lines, "take"));
-    ends && count(lines, "exchange") == places && went == places
+    let ends = is_of(lines.first(), first) && is_of(lines.last(), last);
+    let went = count(lines, Did::Put).wrapping_add(count(lines, Did::Take));
+    ends && count(lines, Did::Exchange) == places && went == places
 }
 
 /// How many calls each of two threads makes.
