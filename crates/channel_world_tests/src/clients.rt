@@ -1,6 +1,6 @@
 //! Clients of a world that know nothing of it but that it is one. They are proved; nothing runs them.
 
-ghost use Rattle.std.specs.Prelude.{◌≡◌, ◌+◌, ◌*◌, ◌<◌, ◌≤◌, ℕ, List, [], ◌++◌, length, slice_get, Some, true, IfOk, vec_len};
+ghost use Rattle.std.specs.Prelude.{◌≡◌, ◌+◌, ◌*◌, ◌<◌, ◌≤◌, ℕ, List, [], ◌++◌, length, slice_get, true, IfOk, vec_len};
 ghost use Rattle.channel_calls.specs.declared.reply.Reply.{Reply};
 ghost use Rattle.channel_calls.specs.declared.stage.Line.{Line};
 ghost use Rattle.channel_interleaving.specs.Pending.{how_many, stands_pending};
@@ -11,7 +11,7 @@ ghost use Rattle.channel_model.specs.declared.name.Waiter.{Waiter};
 ghost use Rattle.channel_steps.specs.Scene.{Scene};
 ghost use Rattle.channel_world.specs.Asleep.{NobodySleeps};
 ghost use Rattle.channel_world.specs.Carried.{replied_if, LeadsTo};
-ghost use Rattle.channel_world.specs.InTurn.{accepted_on, brought_on, left_on};
+ghost use Rattle.channel_world.specs.InTurn.{accepted_on, left_on};
 ghost use Rattle.channel_world.specs.Since.{ClosesOnceWith, IsNeverFullWith};
 ghost use Rattle.channel_world.specs.StepsLeft.{EndsInFront};
 ghost use Rattle.channel_world.specs.TheEnd.{NothingComesAfter};
@@ -201,16 +201,11 @@ pub fn is_idle<T: Drop>(world: &World<T>) -> bool
     world.under_way() == 0
 }
 
-/// Looks at whatever world: what has left since a scene that it came from, as the n-th, was held there or came as the n-th. Of two messages
-/// that one party brought the first has left where the later has, and as an earlier one.
+/// Looks at whatever world: what has left since a scene that it came from, as the n-th, was held there or came as the n-th.
 pub fn leaves_in_turn<T: Drop>(world: &World<T>)
-    ensures in_turn { (s : Scene T Waiter) (replies : List (Reply T)) (led : Led s replies world.now) (n : ℕ)
+    ensures { (s : Scene T Waiter) (replies : List (Reply T)) (led : Led s replies world.now) (n : ℕ)
         → n < length (left_on led.way.run)
         → slice_get (left_on led.way.run) n ≡ slice_get (accepted_on led.way.run) n }
-    ensures of_one_party { (s : Scene T Waiter) (replies : List (Reply T)) (led : Led s replies world.now) (party i j : ℕ) (first later : T)
-        → i < j → slice_get (brought_on led.way.run) i ≡ Some (party, first)
-        → slice_get (brought_on led.way.run) j ≡ Some (party, later) → length s.now.queue.items + j < length (left_on led.way.run)
-        → slice_get (left_on led.way.run) (length s.now.queue.items + i) ≡ Some first }
 {
     by_steps_messages_leave_in_turn::<T>();
     world.keeps();

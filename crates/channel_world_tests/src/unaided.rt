@@ -48,24 +48,17 @@ pub struct Told<T> {
     pub woken: usize,
     /// How many calls are under way.
     pub under_way: usize,
-    /// How many of these are sending, are receiving, and have closed the channel.
-    pub by_kind: UnderWay,
 }
 
-/// Makes steps in whatever world, calls begun before included, wherever the list ends: then who sleeps is answered for. Beside a receive
-/// that sleeps there are no more messages than woken ones and calls under way. Beside a send, on an open channel, there are no more
-/// places than messages, woken ones, calls under way, and places that such calls have freed and not announced yet. Beside a stream and
-/// a message a call is under way, and beside anybody on a closed channel. By kind it is said too: which of the woken, and which calls.
-/// The world tells how many messages, woken ones and calls there are, and the calls by kind. So where it tells that no call is under way
-/// no stream sleeps beside a message, and no receive where it tells that nobody is woken.
+/// Makes steps in whatever world, calls begun before included, wherever the list ends: then who sleeps is answered for, in the numbers
+/// that the world tells. Beside a receive that sleeps there are no more messages than woken ones and calls under way. Beside a send, on
+/// an open channel, there are no more places than messages, woken ones, calls under way, and places that such calls have freed and not
+/// announced yet. Beside a stream and a message a call is under way, and beside anybody on a closed channel. So where the world tells
+/// that no call is under way no stream sleeps beside a message, and no receive where it tells that nobody is woken.
 pub fn step_and_look<T: Drop>(world: &mut World<T>, steps: &mut VecDeque<Step<T>>) -> Told<T>
     ensures messages { result.messages ≡ messages_in world.new }
     ensures woken { result.woken ≡ woken_among world.new }
     ensures under_way { result.under_way ≡ calls_in world.new }
-    ensures sending { result.by_kind.sending ≡ (sight_of world.new).sending }
-    ensures receiving { result.by_kind.receiving ≡ (sight_of world.new).receiving }
-    ensures closers { result.by_kind.closers ≡ (sight_of world.new).closers }
-    ensures owed { Owed (sight_of world.new) }
     ensures receives { ReceivesAreAnswered world.new }
     ensures sends { SendsAreAnswered world.new }
     ensures streams { StreamsAreAnswered world.new }
@@ -80,8 +73,18 @@ pub fn step_and_look<T: Drop>(world: &mut World<T>, steps: &mut VecDeque<Step<T>
         messages: world.messages(),
         woken: world.woken(),
         under_way: world.under_way(),
-        by_kind: world.calls_by_kind(),
     }
+}
+
+/// Looks at whatever world, calls under way or not: who sleeps is answered for by kind, and how many calls of each kind are under way.
+pub fn look_by_kind<T: Drop>(world: &World<T>) -> UnderWay
+    ensures sending { result.sending ≡ (sight_of world.now).sending }
+    ensures receiving { result.receiving ≡ (sight_of world.now).receiving }
+    ensures closers { result.closers ≡ (sight_of world.now).closers }
+    ensures owed { Owed (sight_of world.now) }
+{
+    who_sleeps_is_answered_for(world);
+    world.calls_by_kind()
 }
 
 /// Settles whatever world has no call under way, and says whether a message is held after it: then nobody receives in vain.
