@@ -63,8 +63,8 @@ impl<R: Wait + Copy> Handle<R> {
         match self {
             Handle::Sender(s) => Ok(Some(Handle::WeakSender(s.downgrade()?))),
             Handle::Receiver(r) => Ok(Some(Handle::WeakReceiver(r.downgrade()?))),
-            Handle::WeakSender(s) => Ok(s.upgrade()?.map(Handle::Sender)),
-            Handle::WeakReceiver(r) => Ok(r.upgrade()?.map(Handle::Receiver)),
+            Handle::WeakSender(s) => Ok(s.upgrade()?.map(|sender| Handle::Sender(sender))),
+            Handle::WeakReceiver(r) => Ok(r.upgrade()?.map(|receiver| Handle::Receiver(receiver))),
         }
     }
 
