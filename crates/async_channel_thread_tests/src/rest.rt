@@ -54,10 +54,35 @@ impl Went {
 }
 
 /// What a sender had accepted, and its last send with its task.
-type LastSend<'a, R> = (Went, MockTask, Sending<'a, u64, R>);
+#[derive(Drop)]
+struct LastSend<'a, R: Wait + Copy> {
+    went: Went,
+    task: MockTask,
+    send: Sending<'a, u64, R>,
+}
 
 /// What a receiver got, and its last receive with its task.
-type LastRecv<'a, R> = (Went, MockTask, Recv<'a, u64, R>);
+#[derive(Drop)]
+struct LastRecv<'a, R: Wait + Copy> {
+    went: Went,
+    task: MockTask,
+    recv: Recv<'a, u64, R>,
+}
+
+/// What the two who send have at hand.
+struct SendSide<'a, R: Wait + Copy> {
+    rt: R,
+    sender: &'a Sender<u64, R>,
+    tasks: (MockTask, MockTask),
+}
+
+/// What the two who receive have at hand.
+struct ReceiveSide<'a, R: Wait + Copy> {
+    rt: R,
+    receiver: &'a Receiver<u64, R>,
+    tally: &'a Tally,
+    tasks: (MockTask, MockTask),
+}
 
 /// A task for the next operation in the place of this one: whether one was to be had.
 fn renews<R: RandomSource + AllocGlobal>(rt: &R, task: &mut MockTask) -> bool {
@@ -87,7 +112,7 @@ where
             thread::yield_now();
         }
     }
-    (went, task, send)
+    LastSend { went, task, send }
 }
 
 fn poll_receives<'a, R>(
@@ -112,18 +137,18 @@ where
             thread::yield_now();
         }
     }
-    (went, task, recv)
+    LastRecv { went, task, recv }
 }
 
-fn two_send<R>(
-    rt: R,
-    s: &Sender<u64, R>,
-    tasks: (MockTask, MockTask),
-) -> (LastSend<'_, R>, LastSend<'_, R>)
+fn two_send<'a, R>(side: SendSide<'a, R>) -> (LastSend<'a, R>, LastSend<'a, R>)
 where
     R: Wait + Threads + Copy + RandomSource + AllocGlobal + Send + Sync,
 {
-    let (one, two) = tasks;
+    let SendSide {
+        rt,
+        sender: s,
+        tasks: (one, two),
+    } = side;
     thread::join(
         &rt,
         move || poll_sends(rt, s, 0, one),
@@ -131,16 +156,16 @@ where
     )
 }
 
-fn two_receive<'a, R>(
-    rt: R,
-    r: &'a Receiver<u64, R>,
-    tally: &Tally,
-    tasks: (MockTask, MockTask),
-) -> (LastRecv<'a, R>, LastRecv<'a, R>)
+fn two_receive<'a, R>(side: ReceiveSide<'a, R>) -> (LastRecv<'a, R>, LastRecv<'a, R>)
 where
     R: Wait + Threads + Copy + RandomSource + AllocGlobal + Send + Sync,
 {
-    let (one, two) = tasks;
+    let ReceiveSide {
+        rt,
+        receiver: r,
+        tally,
+        tasks: (one, two),
+    } = side;
     thread::join(
         &rt,
         move || poll_receives(rt, r, tally, one),
@@ -150,13 +175,13 @@ where
 
 /// Polls a send that was woken, unless it is done.
 fn settle_send<R: Wait + Copy>(sent: &mut LastSend<'_, R>, from: u64, done: &mut bool) {
-    if *done || !sent.1.is_woken() {
+    if *done || !sent.task.is_woken() {
         return;
     }
-    if sends(&sent.1, &mut sent.2) == Said::Done {
+    if sends(&sent.task, &mut sent.send) == Said::Done {
         *done = true;
-        let count = sent.0.count;
-        sent.0.note(from.wrapping_add(count));
+        let count = sent.went.count;
+        sent.went.note(from.wrapping_add(count));
     }
 }
 
@@ -167,12 +192,12 @@ fn settle_receive<R: Wait + Copy>(
     tally: &Tally,
     done: &mut bool,
 ) {
-    if *done || !got.1.is_woken() {
+    if *done || !got.task.is_woken() {
         return;
     }
-    if let Said::Got(message) = receives(&got.1, &mut got.2) {
+    if let Said::Got(message) = receives(&got.task, &mut got.recv) {
         *done = true;
-        got.0.note(message);
+        got.went.note(message);
         tally.note(&rt, message);
     }
 }
@@ -213,12 +238,20 @@ fn settles<'a, R: Wait + Copy>(
         settle_receive(rt, &mut got.0, tally, &mut done[2]);
         settle_receive(rt, &mut got.1, tally, &mut done[3]);
     }
-    let senders_still = (done[0] || !sent.0.1.is_woken()) && (done[1] || !sent.1.1.is_woken());
-    let receivers_still = (done[2] || !got.0.1.is_woken()) && (done[3] || !got.1.1.is_woken());
+    let senders_still = (done[0] || !sent.0.task.is_woken())
+        && (done[1] || !sent.1.task.is_woken());
+    let receivers_still = (done[2] || !got.0.task.is_woken())
+        && (done[3] || !got.1.task.is_woken());
     let sends_rest = done[0] && done[1] || r.is_full();
     let receives_rest = done[2] && done[3] || r.is_empty();
     let left = drain(rt, r, tally);
-    let whole = adds_up(&rt, [sent.0.0, sent.1.0], [got.0.0, got.1.0], left, tally);
+    let whole = adds_up(
+        &rt,
+        [sent.0.went, sent.1.went],
+        [got.0.went, got.1.went],
+        left,
+        tally,
+    );
     senders_still && receivers_still && sends_rest && receives_rest && whole
 }
 
@@ -232,13 +265,23 @@ fn comes_to_rest<R>(
 where
     R: Wait + Threads + Copy + RandomSource + AllocGlobal + Send + Sync,
 {
-    let (s, r) = (&ends.0, &ends.1);
+    let sending = SendSide {
+        rt,
+        sender: &ends.0,
+        tasks: senders,
+    };
+    let receiving = ReceiveSide {
+        rt,
+        receiver: &ends.1,
+        tally,
+        tasks: receivers,
+    };
     let (mut sent, mut got) = thread::join(
         &rt,
-        move || two_send(rt, s, senders),
-        move || two_receive(rt, r, tally, receivers),
+        move || two_send(sending),
+        move || two_receive(receiving),
     );
-    settles(rt, &mut sent, &mut got, r, tally)
+    settles(rt, &mut sent, &mut got, &ends.1, tally)
 }
 
 #[test]
