@@ -70,6 +70,7 @@ struct LastRecv<'a, R: Wait + Copy> {
 }
 
 /// What the two who send have at hand.
+#[derive(Drop)]
 struct SendSide<'a, R: Wait + Copy> {
     rt: R,
     sender: &'a Sender<u64, R>,
@@ -77,6 +78,7 @@ struct SendSide<'a, R: Wait + Copy> {
 }
 
 /// What the two who receive have at hand.
+#[derive(Drop)]
 struct ReceiveSide<'a, R: Wait + Copy> {
     rt: R,
     receiver: &'a Receiver<u64, R>,
