@@ -47,8 +47,10 @@ impl<T: Drop, W: Drop> Drop for PlainChannel<T, W> {
 
 impl<T: Drop, W: Drop> PlainChannel<T, W> {
     ghost use Rattle.std.specs.Prelude.{◌≡◌, length, IfOk};
+    ghost use Rattle.concurrent_queue.specs.Capacity.{capacity_of};
     ghost use Rattle.concurrent_queue.specs.Made.{CanBeMade, IsNew};
     ghost use Rattle.concurrent_queue.specs.Plain.{contents_of};
+    ghost use Rattle.concurrent_queue.specs.Step.{closed_in};
     ghost use Rattle.channel_calls.specs.Parts.{new_roster, listeners, count};
     ghost use Rattle.channel_calls.specs.Plain.{parts_of};
 
@@ -73,6 +75,23 @@ impl<T: Drop, W: Drop> PlainChannel<T, W> {
             Line::Streams => self.streams.total() - self.streams.told(),
             Line::Closings => self.closings.total() - self.closings.told(),
         }
+    }
+
+    /// How many messages fit; none where there is no bound.
+    pub fn capacity(&self) -> Option<usize>
+        ensures { result ≡ capacity_of (parts_of self.now).cells.form }
+    {
+        match self.cells.form() {
+            QueueForm::Bounded(capacity) => Some(capacity),
+            QueueForm::Unbounded => None,
+        }
+    }
+
+    /// Whether the words of its queue say that it is closed.
+    pub fn is_closed(&self) -> bool
+        ensures { result ≡ closed_in (parts_of self.now).cells }
+    {
+        self.cells.is_closed()
     }
 
     /// How many handles of this kind live.

@@ -118,7 +118,7 @@ impl<T: Drop> World<T> {
     ghost use Rattle.channel_world.specs.Headline.{Headline};
     ghost use Rattle.channel_world.specs.StepsLeft.{EndsInFront};
     ghost use Rattle.channel_world.specs.TheEnd.{NothingComesAfter};
-    ghost use Rattle.channel_world.specs.View.{names_in, messages_in, calls_in, at_rest, book_of, TellsQuiet, HasPositions, StandsIn, Stands, RanTo, IsKept};
+    ghost use Rattle.channel_world.specs.View.{names_in, messages_in, capacity_in, is_closed, calls_in, at_rest, book_of, TellsQuiet, HasPositions, StandsIn, Stands, RanTo, IsKept};
 
     /// Runs steps of any parties, from the front. The first one that is refused stays in front, with nothing of it done;
     /// `stopped` says at which place of the list, counted from 0, and why.
@@ -205,6 +205,20 @@ impl<T: Drop> World<T> {
         ensures one_place { (at_rest self.now).channel.capacity ≡ Some 1 → IsTrue result }
     {
         self.floor.has_positions(count)
+    }
+
+    /// How many messages the channel can hold; none where there is no bound. Own to this project.
+    pub fn capacity(&self) -> Option<usize>
+        ensures { result ≡ capacity_in self.now }
+    {
+        self.floor.channel.capacity()
+    }
+
+    /// Whether the channel is closed, by its cells as they are: a call that is to close it may be under way. Own to this project.
+    pub fn is_closed(&self) -> bool
+        ensures { result ≡ is_closed self.now }
+    {
+        self.floor.channel.is_closed()
     }
 
     /// How many messages the channel holds. Own to this project.

@@ -1,14 +1,14 @@
 //! Clients of a world whose promises follow from its own clauses and laws, in the numbers that it tells, with no file of proofs
 //! here. They are proved; nothing runs them.
 //!
-//! Seven promises are found so, of any type of messages. After any steps who sleeps is answered for: `step_and_look`. A run that
+//! Eight promises are found so, of any type of messages. After any steps who sleeps is answered for: `step_and_look`. A run that
 //! did not stop has used its list up: `use_up`. Beside a message that is held after settling nobody receives: `settle_and_look`.
 //! Where one is pending, settling makes one poll at most: `settle_one`. Where nobody is under way and nobody is woken, nobody sleeps
-//! beside a message: `nobody_sleeps`. Accounts are carried through calls, steps and calls: `carry` of `clients`. And a record has as many
+//! beside a message: `nobody_sleeps`; and no send where the channel is open and one more message fits: `no_send_sleeps`. Accounts are carried through calls, steps and calls: `carry` of `clients`. And a record has as many
 //! entries as the gathered seats made calls: `gather` of `recorded_channel_tests`, in `uses`.
 
 ghost use Rattle.std.specs.Prelude.{◌≡◌, ◌+◌, ◌<◌, ◌≤◌, [], length, None, Some, true, IfOk, IfSome, vec_len};
-ghost use Rattle.channel_calls.specs.declared.stage.Line.TheVariants.{Receives, Streams};
+ghost use Rattle.channel_calls.specs.declared.stage.Line.TheVariants.{Receives, Sends, Streams};
 ghost use Rattle.channel_interleaving.specs.Owed.{Owed};
 ghost use Rattle.channel_world.specs.Asleep.{woken_among, ClosingIsAnswered, NobodySleeps, ReceivesAreAnswered, SendsAreAnswered, StreamsAreAnswered};
 ghost use Rattle.channel_world.specs.View.{at_rest, calls_in, messages_in, sight_of, IsQuiet};
@@ -121,6 +121,19 @@ pub fn nobody_sleeps<T: Drop>(world: &World<T>) -> bool
 {
     who_sleeps_is_answered_for(world);
     world.under_way() == 0 && world.woken() == 0 && world.messages() > 0
+}
+
+/// Looks at whatever world, and says whether it is open and one more message fits while nobody is under way and nobody is woken: then
+/// no send sleeps.
+pub fn no_send_sleeps<T: Drop>(world: &World<T>) -> bool
+    ensures { result ≡ true → NobodySleeps Sends world.now }
+{
+    who_sleeps_is_answered_for(world);
+    let fits = match world.capacity() {
+        Some(capacity) => world.messages() < capacity as u64,
+        None => true,
+    };
+    fits && !world.is_closed() && world.under_way() == 0 && world.woken() == 0
 }
 
 /// Looks at whatever world, calls under way or not, and says whether a send that begins now has a position for its message: with

@@ -7,6 +7,7 @@ use crate::bounded::GREATEST;
 use crate::cells::{Cells, QueueForm, Slot, Word};
 use crate::error::NoMemory;
 use crate::pool::Pool;
+use crate::single::CLOSED;
 use std::alloc::{AllocError, Global};
 
 /// The cells of one owner, for each form of queue.
@@ -151,6 +152,33 @@ impl<T: Drop> Cells<T> for PlainCells<T> {
 
     fn retire(&mut self, block: u64) {
         self.pool.retire(block);
+    }
+}
+
+ghost use Rattle.concurrent_queue.specs.machine.RingWords.{ring_mark, is_marked};
+
+/// Whether the mark of a ring of this capacity is set in this word.
+fn is_marked(capacity: usize, word: u64) -> bool
+    ensures { result ≡ is_marked (ring_mark capacity) word }
+{
+    let mark = 1u128 << (64 - capacity.leading_zeros());
+    (word as u128) % (2 * mark) >= mark
+}
+
+impl<T: Drop> PlainCells<T> {
+    ghost use Rattle.std.specs.Prelude.{◌≡◌};
+    ghost use Rattle.concurrent_queue.specs.Plain.{contents_of};
+    ghost use Rattle.concurrent_queue.specs.Step.{closed_in};
+
+    /// Whether the words say that the queue is closed, by one look at one of them. Own to this project.
+    pub fn is_closed(&self) -> bool
+        ensures { result ≡ closed_in (contents_of self.now) }
+    {
+        match self.form {
+            QueueForm::Bounded(1) => self.state & CLOSED != 0,
+            QueueForm::Bounded(capacity) => is_marked(capacity, self.tail),
+            QueueForm::Unbounded => self.tail % 2 == 1,
+        }
     }
 }
 

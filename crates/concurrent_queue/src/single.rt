@@ -23,7 +23,7 @@ const LOCKED: u64 = 1;
 const PUSHED: u64 = 2;
 
 /// The queue is closed.
-const CLOSED: u64 = 4;
+pub(crate) const CLOSED: u64 = 4;
 
 /// The word of a call that holds the slot and brings a message.
 const FILLING: u64 = 3;
