@@ -112,13 +112,14 @@ pub fn at_rest_nobody_is_left_asleep<T: Drop>(world: &World<T>)
 /// Who sleeps, pending and not woken since its last poll, is answered for, in whatever world, calls under way or not. By kind that is
 /// what the headline says of each moment: a receive by woken receives, and sending and receiving calls; a send by woken sends, sending
 /// calls, and places that calls have freed and not announced yet; a stream by a sending call, and anybody on a closed channel by a call
-/// that has closed it. `calls_by_kind()` tells how many of the calls are so. No function tells how many places were freed,
-/// and how many of one line are woken.
+/// that has closed it. `calls_by_kind()` tells how many of the calls are so. No function tells how many places were freed, and how many
+/// of one line are woken.
 ///
 /// Of all calls and all woken ones, which is less, this is said in the numbers of `under_way()`, `woken()` and `messages()`, with
-/// `capacity()` and `is_closed()`. Where a receive sleeps there are no more messages than woken ones and calls under way. Where a send sleeps on an open channel this has a
-/// bound, and no more places than messages, woken ones, calls under way, and places that such calls have freed and not announced yet.
-/// Where a stream sleeps beside a message a call is under way, and where anybody sleeps on a closed channel.
+/// `capacity()` and `is_closed()`. Where a receive sleeps there are no more messages than woken ones and calls under way. Where a send
+/// sleeps on an open channel this has a bound, and no more places than messages, woken ones, calls under way, and places that such calls
+/// have freed and not announced yet. Where a stream sleeps beside a message a call is under way, and where anybody sleeps on a closed
+/// channel.
 ///
 /// So where `under_way()` and `woken()` are 0 no receive sleeps beside a message, and no send on an open channel in which one more
 /// message fits. Where `under_way()` is 0 no stream sleeps beside a message, and nobody on a closed channel. Nobody at all sleeps where

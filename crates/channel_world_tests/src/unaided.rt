@@ -4,8 +4,9 @@
 //! Eight promises are found so, of any type of messages. After any steps who sleeps is answered for: `step_and_look`. A run that
 //! did not stop has used its list up: `use_up`. Beside a message that is held after settling nobody receives: `settle_and_look`.
 //! Where one is pending, settling makes one poll at most: `settle_one`. Where nobody is under way and nobody is woken, nobody sleeps
-//! beside a message: `nobody_sleeps`; and no send where the channel is open and one more message fits: `no_send_sleeps`. Accounts are carried through calls, steps and calls: `carry` of `clients`. And a record has as many
-//! entries as the gathered seats made calls: `gather` of `recorded_channel_tests`, in `uses`.
+//! beside a message: `nobody_sleeps`. Nor does a send where the channel is open and one more message fits: `no_send_sleeps`. Accounts are
+//! carried through calls, steps and calls: `carry` of `clients`. And a record has as many entries as the gathered seats made calls:
+//! `gather` of `recorded_channel_tests`, in `uses`.
 
 ghost use Rattle.std.specs.Prelude.{◌≡◌, ◌+◌, ◌<◌, ◌≤◌, [], length, None, Some, true, IfOk, IfSome, vec_len};
 ghost use Rattle.channel_calls.specs.declared.stage.Line.TheVariants.{Receives, Sends, Streams};
