@@ -45,7 +45,6 @@ mod seen;
 mod shared;
 mod traced;
 mod waiters;
-mod waits;
 
 pub use channel_calls::ask::ChannelAsk;
 pub use channel_calls::call::ChannelCall;

@@ -5,6 +5,7 @@ ghost use Rattle.channel_calls.specs.Taking.{IsNext, TakesNext, WaitsForNext};
 ghost use Rattle.async_channel.specs.Iter.{waits_left, tries_left};
 ghost use Rattle.async_channel.specs.Watched.{WasSeen};
 ghost use Rattle.std.specs.Prelude.{◌≡◌};
+ghost use Rattle.async_channel.specs.Saw.{Saw};
 
 use crate::handles::receiver::Receiver;
 use crate::open::no_trace::NoTrace;
@@ -33,7 +34,7 @@ impl<'a, T: Drop, R: Wait + Copy, S: Trace<T> + Copy> Iter<'a, T, R, S> {
     /// from then on.
     #[inline(always)]
     pub fn next(&mut self) -> Option<Result<T, ListenError>>
-        ensures walked { WasSeen (WaitsForNext S.did S.parked S.slept self.old.ended) result }
+        ensures walked { WasSeen (WaitsForNext (Saw S.did S.shown self.old.receiver.now.channel.form) S.parked S.slept self.old.ended) result }
         ensures end { IsNext self.old.ended result self.new.ended }
         ensures turns { waits_left self.new ≡ waits_left self.old }
     {
@@ -78,7 +79,7 @@ impl<'a, T: Drop, R: Wait + Copy, S: Trace<T> + Copy> TryIter<'a, T, R, S> {
     /// The next message that is there, taken as by [`try_recv`](Receiver::try_recv): `None` where none is, and from then on.
     #[inline(always)]
     pub fn next(&mut self) -> Option<T>
-        ensures walked { WasSeen (TakesNext S.did self.old.ended) result }
+        ensures walked { WasSeen (TakesNext (Saw S.did S.shown self.old.receiver.now.channel.form) self.old.ended) result }
         ensures end { IsNext self.old.ended result self.new.ended }
         ensures turns { tries_left self.new ≡ tries_left self.old }
     {

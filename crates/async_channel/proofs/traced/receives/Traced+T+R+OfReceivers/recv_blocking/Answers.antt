@@ -1,3 +1,4 @@
+use Rattle.std.proofs.Common.{sym}
 use Rattle.futures.specs.declared.task.Poll.TheVariants as poll
 use Rattle.channel_calls.specs.Turns.{nothing_kept}
 use Rattle.channel_calls.specs.declared.blocked.Blocked.TheVariants as blocking
@@ -8,5 +9,5 @@ use Rattle.async_channel.proofs.traced.receives.Traced+T+R+OfReceivers.recv_bloc
 pub returns : goal.returns
 returns g c =
     record {
-      walked = blocked g.S.Trace.did (c.cells_and_bed-seen.result, _) (c.recv_blocking-received.new.cells, _) c.args.trace c.into_trace.result c.cells_and_bed-seen.ensures.trace c.into_trace.ensures g.S.Trace.parked g.S.Trace.slept blocking.Receive (reply.RecvPoll (poll.Ready c.recv_blocking-received.result)) nothing_kept c.recv_blocking-received.ensures.deeds;
+      walked = blocked g.S.Trace-2.did g.S.Trace-1.shown c.args.self.now.form (c.cells_and_bed-seen.result, _) (c.recv_blocking-received.new.cells, _) c.args.trace c.into_trace.result c.cells_and_bed-seen.ensures.form c.cells_and_bed-seen.ensures.trace c.into_trace.ensures g.S.Trace-1.parked g.S.Trace-1.slept (sym (c.recv_blocking-received.ensures.form c.args.self.now.form (sym c.cells_and_bed-seen.ensures.form))) blocking.Receive (reply.RecvPoll (poll.Ready c.recv_blocking-received.result)) nothing_kept c.recv_blocking-received.ensures.deeds;
     }
