@@ -5,7 +5,7 @@ use crate::notices::{register, tell_all, tell_more, tell_one};
 use crate::stage::{Line, Side};
 use crate::words::ChannelWords;
 use concurrent_queue::call::QueueReply;
-use concurrent_queue::cells::QueueForm;
+use concurrent_queue::cells::{Cells, QueueForm};
 use concurrent_queue::plain::PlainCells;
 use concurrent_queue::queue_call::QueueCall;
 use event_listener::error::ListenError;
