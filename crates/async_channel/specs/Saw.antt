@@ -24,6 +24,12 @@ module _ {T W X : Type 0} (did : cell.Deed T → X → X → Type 0) where
   Saw shown form (stepped call next answer) s t = SawSteps did form call s next answer t
   Saw shown form d s t = shown d s t
 
+module _ {T W X A : Type 0} (did : cell.Deed T → X → X → Type 0) (shown : Deed T W → X → X → Type 0) where
+  -- what a call did, said of whatever relation of deeds, and here of what its trace saw on a channel of this form. It has a name of its
+  -- own, so that a form is put for an equal one
+  unfoldable pub SeenOn : QueueForm → ((Deed T W → X → X → Type 0) → X → A → X → Type 0) → X → A → X → Type 0
+  SeenOn form Does before answer after = Does (Saw did shown form) before answer after
+
 -- of any deed but steps of the queue's call, of which the trace tells
 abbrev pub DidBeside : {T W C : Type 0} → (Deed T W → C → C → Type 0) → Deed T W → C → C → Type 0
 DidBeside did (stepped call next answer) a b = Unit {0}

@@ -4,7 +4,7 @@ ghost use Rattle.std.specs.Prelude.{◌≡◌, IfOk, IfErr, IfSome};
 ghost use Rattle.channel_calls.specs.declared.ask.ChannelAsk.TheVariants as ask;
 ghost use Rattle.async_channel.specs.Counts.{Clones, Upgrades, Drops};
 ghost use Rattle.async_channel.specs.Handles.{handle_of};
-ghost use Rattle.async_channel.specs.Saw.{Saw};
+ghost use Rattle.async_channel.specs.Saw.{Saw, SeenOn};
 
 use crate::link::Link;
 use crate::polls::waits::Waits;
@@ -38,7 +38,7 @@ impl<T: Drop, K: Kind> Counted<T, K> {
         rt: &R,
         trace: S,
     ) -> (Result<Counted<T, K>, HandleError>, S)
-        ensures walked { Clones (Saw S.did S.shown (handle_of link).form) K.side trace (result.0) (result.1) }
+        ensures walked { SeenOn S.did S.shown (handle_of link).form (λ saw. Clones saw K.side) trace (result.0) (result.1) }
         ensures made { IfOk (result.0) (λ more. handle_of more.link ≡ handle_of link) }
         ensures reason { IfErr (result.0) (λ e. e ≡ HandleError.TooMany) }
     {
@@ -57,7 +57,7 @@ impl<T: Drop, K: Kind> Counted<T, K> {
         rt: &R,
         trace: S,
     ) -> (Result<Option<Counted<T, K>>, HandleError>, S)
-        ensures walked { Upgrades (Saw S.did S.shown (handle_of link).form) K.side trace (result.0) (result.1) }
+        ensures walked { SeenOn S.did S.shown (handle_of link).form (λ saw. Upgrades saw K.side) trace (result.0) (result.1) }
         ensures made { IfOk (result.0) (λ made. IfSome made (λ more. handle_of more.link ≡ handle_of link)) }
         ensures reason { IfErr (result.0) (λ e. e ≡ HandleError.TooMany) }
     {

@@ -13,7 +13,6 @@ ghost use Rattle.channel_calls.specs.declared.stage.Line.TheVariants as line;
 ghost use Rattle.async_channel.specs.Handles.{new_listening};
 ghost use Rattle.async_channel.specs.Polls.{Polls};
 ghost use Rattle.async_channel.specs.Watched.{WasSeen};
-ghost use Rattle.async_channel.specs.Saw.{Saw};
 
 use crate::handles::sender::Sender;
 use crate::open::no_trace::NoTrace;
@@ -59,7 +58,7 @@ impl<'a, T: Drop, R: Wait + Copy, S: Trace<T> + Copy> Closed<'a, T, R, S> {
     /// A copy of the waker is taken first. Where none is got nothing is tried, and the answer is want of memory. It may wait for
     /// another call's end and for the locks of those who wait.
     pub fn poll(&mut self, cx: &mut Context<'_>) -> Poll<Result<(), ListenError>>
-        ensures walked { WasSeen (λ begin r end. Polls (Saw S.did S.shown self.old.channel.form) (closed_ask self.old.key) begin r self.new.key end) (reply.ClosedPoll result) }
+        ensures walked { WasSeen S.did S.shown self.old.channel.form (λ saw begin r end. Polls saw (closed_ask self.old.key) begin r self.new.key end) (reply.ClosedPoll result) }
         ensures listed { is_some self.new.key ≡ is_pending result }
         ensures channel { self.new.channel ≡ self.old.channel }
         ensures armed { OnPending result (IsArmed cx.new) }
@@ -71,7 +70,7 @@ impl<'a, T: Drop, R: Wait + Copy, S: Trace<T> + Copy> Closed<'a, T, R, S> {
 
     /// Gives it up, as its drop does. It may wait for the lock of those who wait. Own to this project.
     pub fn give_up(self)
-        ensures walked { WasSeen (WalkedTo (Saw S.did S.shown self.entry.channel.form) (first (ask.GiveUp line.Closings None self.entry.key))) (reply.GivenUp None) }
+        ensures walked { WasSeen S.did S.shown self.entry.channel.form (λ saw. WalkedTo saw (first (ask.GiveUp line.Closings None self.entry.key))) (reply.GivenUp None) }
     {
         let sender = self.sender;
         let _ = self.give_up_traced(sender.watch);

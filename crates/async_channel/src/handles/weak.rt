@@ -3,7 +3,6 @@
 ghost use Rattle.channel_calls.specs.declared.stage.Side.TheVariants as side;
 ghost use Rattle.async_channel.specs.Counts.{Upgrades};
 ghost use Rattle.async_channel.specs.Watched.{WasSeen};
-ghost use Rattle.async_channel.specs.Saw.{Saw};
 
 use crate::handles::receiver::Receiver;
 use crate::handles::sender::Sender;
@@ -47,7 +46,7 @@ impl<T: Drop, R: Wait + Copy, S: Trace<T> + Copy> WeakSender<T, R, S> {
     /// changed then, as by `try_clone`. It may wait for other clonings to end. As `async-channel` 2.5.0, which ends the program
     /// where this is refused.
     pub fn upgrade(&self) -> Result<Option<Sender<T, R, S>>, HandleError>
-        ensures walked { WasSeen (Upgrades (Saw S.did S.shown self.now.form) side.Senders) result }
+        ensures walked { WasSeen S.did S.shown self.now.form (λ saw. Upgrades saw side.Senders) result }
         ensures made { IfOk result (λ made. IfSome made (λ sender. sender ≡ self.now)) }
     {
         self.upgrade_traced(self.watch).0
@@ -103,7 +102,7 @@ impl<T: Drop, R: Wait + Copy, S: Trace<T> + Copy> WeakReceiver<T, R, S> {
     /// changed then, as by `try_clone`. It may wait for other clonings to end. As `async-channel` 2.5.0, which ends the program
     /// where this is refused.
     pub fn upgrade(&self) -> Result<Option<Receiver<T, R, S>>, HandleError>
-        ensures walked { WasSeen (Upgrades (Saw S.did S.shown self.now.form) side.Receivers) result }
+        ensures walked { WasSeen S.did S.shown self.now.form (λ saw. Upgrades saw side.Receivers) result }
         ensures made { IfOk result (λ made. IfSome made (λ receiver. receiver ≡ new_receiving self.now)) }
     {
         self.upgrade_traced(self.watch).0
