@@ -11,7 +11,7 @@ ghost use Rattle.channel_calls.specs.declared.blocked.Blocked.TheVariants as blo
 ghost use Rattle.channel_calls.specs.declared.reply.Reply.TheVariants as reply;
 ghost use Rattle.futures.specs.declared.task.Poll.TheVariants as poll;
 ghost use Rattle.channel_test_helpers.specs.Logs.{Logs, Notes, Operated, Operates};
-ghost use Rattle.async_channel.specs.Saw.{Saw};
+ghost use Rattle.async_channel.specs.Saw.{SeenOn};
 ghost use Rattle.channel_test_helpers.specs.declared.log.Did.TheVariants as did;
 
 use async_channel::{
@@ -215,7 +215,7 @@ pub fn try_send_logged<R: Wait + Copy>(
     message: u64,
     log: Log,
 ) -> (Result<(), Refused<TrySendError<u64>, u64>>, Log)
-    ensures { WalkedTo (Saw Operates Logs sender.now.form) (first (ask.TrySend message)) log (reply.TrySend (result.0)) (result.1) }
+    ensures { SeenOn Operates Logs sender.now.form (λ saw. WalkedTo saw (first (ask.TrySend message))) log (reply.TrySend (result.0)) (result.1) }
 {
     sender.traced().try_send(message, log)
 }
@@ -225,14 +225,14 @@ pub fn try_recv_logged<R: Wait + Copy>(
     receiver: &Receiver<u64, R>,
     log: Log,
 ) -> (Result<u64, TryRecvError>, Log)
-    ensures { WalkedTo (Saw Operates Logs receiver.now.channel.form) (first ask.TryRecv) log (reply.TryRecv (result.0)) (result.1) }
+    ensures { SeenOn Operates Logs receiver.now.channel.form (λ saw. WalkedTo saw (first ask.TryRecv)) log (reply.TryRecv (result.0)) (result.1) }
 {
     receiver.traced().try_recv(log)
 }
 
 /// A closing, written down.
 pub fn close_logged<R: Wait + Copy>(sender: &Sender<u64, R>, log: Log) -> (bool, Log)
-    ensures { WalkedTo (Saw Operates Logs sender.now.form) (first ask.Close) log (reply.Closed (result.0)) (result.1) }
+    ensures { SeenOn Operates Logs sender.now.form (λ saw. WalkedTo saw (first ask.Close)) log (reply.Closed (result.0)) (result.1) }
 {
     sender.traced().close(log)
 }
@@ -242,7 +242,7 @@ pub fn recv_blocking_logged<R: Wait + Copy>(
     receiver: &Receiver<u64, R>,
     log: Log,
 ) -> (Result<u64, Refused<RecvError>>, Log)
-    ensures { Blocks (Saw Operates Logs receiver.now.channel.form) (λ _ a b. Notes did.Parked a b) (λ a b. Notes did.Slept a b) blocking.Receive log (reply.RecvPoll (poll.Ready (result.0))) nothing_kept (result.1) }
+    ensures { SeenOn Operates Logs receiver.now.channel.form (λ saw begin r end. Blocks saw (λ _ a b. Notes did.Parked a b) (λ a b. Notes did.Slept a b) blocking.Receive begin r nothing_kept end) log (reply.RecvPoll (poll.Ready (result.0))) (result.1) }
 {
     receiver.traced().recv_blocking(log)
 }
