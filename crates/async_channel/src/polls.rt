@@ -17,8 +17,8 @@ ghost use Rattle.async_channel.specs.Handles.{form_of};
 ghost use Rattle.async_channel.specs.Polls.{Polls, PollsSend};
 ghost use Rattle.async_channel.specs.Saw.{Saw, SeenOn};
 
-use crate::seen::Trace;
 use crate::polls::waits::Waits;
+use crate::seen::Trace;
 use crate::shared::Shared;
 use channel_calls::error::{RecvError, Refused, SendError};
 use channel_calls::kind::OfReceivers;

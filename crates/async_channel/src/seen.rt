@@ -167,13 +167,15 @@ impl<T, C: Places<T>, S: Trace<T>> ChannelCells<T, Task> for Seen<C, S> {
     #[inline(always)]
     fn insert(&mut self, line: Line) -> Result<Key, ListenError> {
         let answer = self.cells.insert(line);
-        self.trace.inserted(&Sight { of: PhantomData }, line, answer);
+        self.trace
+            .inserted(&Sight { of: PhantomData }, line, answer);
         answer
     }
 
     #[inline(always)]
     fn register(&mut self, line: Line, key: Key, task: Task) -> Option<Task> {
-        self.trace.offers(&Sight { of: PhantomData }, line, key, &task);
+        self.trace
+            .offers(&Sight { of: PhantomData }, line, key, &task);
         let answer = self.cells.register(line, key, task);
         self.trace
             .registered(&Sight { of: PhantomData }, line, key, &answer);
@@ -195,7 +197,8 @@ impl<T, C: Places<T>, S: Trace<T>> ChannelCells<T, Task> for Seen<C, S> {
     #[inline(always)]
     fn tell_more<K: Wakes<Task>>(&mut self, line: Line, count: usize, sink: &mut K) {
         self.cells.tell_more(line, count, sink);
-        self.trace.more_told(&Sight { of: PhantomData }, line, count);
+        self.trace
+            .more_told(&Sight { of: PhantomData }, line, count);
     }
 
     #[inline(always)]
@@ -221,7 +224,8 @@ impl<T, C: Places<T>, S: Trace<T>> ChannelCells<T, Task> for Seen<C, S> {
     #[inline(always)]
     fn raise(&mut self, side: Side, from: usize) -> bool {
         let done = self.cells.raise(side, from);
-        self.trace.raised(&Sight { of: PhantomData }, side, from, done);
+        self.trace
+            .raised(&Sight { of: PhantomData }, side, from, done);
         done
     }
 }

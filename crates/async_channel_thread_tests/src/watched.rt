@@ -2,8 +2,7 @@
 
 use crate::checks::expect_equal;
 use async_channel::{
-    EventIds, Key, Line, ListenError, Receiver, Sender, Side, Sight, Task,
-    Trace, bounded_watched,
+    EventIds, Key, Line, ListenError, Receiver, Sender, Side, Sight, Task, Trace, bounded_watched,
 };
 use concurrent_queue::cells::{Slot, Word};
 use concurrent_queue::error::NoMemory;

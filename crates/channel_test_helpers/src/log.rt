@@ -15,8 +15,8 @@ ghost use Rattle.async_channel.specs.Saw.{SeenOn};
 ghost use Rattle.channel_test_helpers.specs.declared.log.Did.TheVariants as did;
 
 use async_channel::{
-    Key, Line, ListenError, Receiver, RecvError, Refused, Sender, Side,
-    Sight, Task, Trace, TryRecvError, TrySendError,
+    Key, Line, ListenError, Receiver, RecvError, Refused, Sender, Side, Sight, Task, Trace,
+    TryRecvError, TrySendError,
 };
 use concurrent_queue::cells::{Slot, Word};
 use concurrent_queue::error::NoMemory;

@@ -16,8 +16,8 @@ ghost use Rattle.async_channel.specs.Watched.{WasSeen};
 
 use crate::handles::receiver::Receiver;
 use crate::open::no_trace::NoTrace;
-use crate::seen::Trace;
 use crate::polls::waits::Waits;
+use crate::seen::Trace;
 use channel_calls::error::{RecvError, Refused};
 use channel_calls::stage::Line;
 use futures::Future;

@@ -15,8 +15,8 @@ ghost use Rattle.async_channel.specs.Watched.{WasSeen};
 
 use crate::handles::sender::Sender;
 use crate::open::no_trace::NoTrace;
-use crate::seen::Trace;
 use crate::polls::waits::Waits;
+use crate::seen::Trace;
 use channel_calls::error::{Refused, SendError};
 use channel_calls::stage::Line;
 use futures::Future;

@@ -79,13 +79,24 @@ impl<T> Trace<T> for NoTrace {
     ghost slept = { λ _ _. Unit {0} };
 
     #[inline(always)]
-    fn inserted(&mut self, _sight: &Sight<NoTrace>, _line: Line, _answer: Result<Key, ListenError>) {}
+    fn inserted(
+        &mut self,
+        _sight: &Sight<NoTrace>,
+        _line: Line,
+        _answer: Result<Key, ListenError>,
+    ) {}
 
     #[inline(always)]
     fn offers(&mut self, _sight: &Sight<NoTrace>, _line: Line, _key: Key, _task: &Task) {}
 
     #[inline(always)]
-    fn registered(&mut self, _sight: &Sight<NoTrace>, _line: Line, _key: Key, _answer: &Option<Task>) {}
+    fn registered(
+        &mut self,
+        _sight: &Sight<NoTrace>,
+        _line: Line,
+        _key: Key,
+        _answer: &Option<Task>,
+    ) {}
 
     #[inline(always)]
     fn taken_off(&mut self, _sight: &Sight<NoTrace>, _line: Line, _key: Key) {}

@@ -9,4 +9,4 @@ use Rattle.async_channel.proofs.counted.Counted+T+OfReceivers.lower.Goals as goa
 pub returns : goal.returns
 returns g c =
     let same : form_of c.deref.result.now ≡ (handle_of c.args.self.link).form = search rules in
-    record { walked = subst (λ (f : QueueForm). Drops (Saw g.S.Trace-2.did g.S.Trace-1.shown f) (ask.DropReceiver c.args.stream.key) c.args.trace c.drop_receiver.result) same c.drop_receiver.ensures.walked; }
+    record { walked = subst (λ (f : QueueForm). Drops (Saw g.S.Trace-2.did g.S.Trace-1.shown f) (ask.DropReceiver c.args.stream.key) c.args.trace c.drop_receiver.result) same c.drop_receiver.ensures.walked }

@@ -8,4 +8,4 @@ pub returns : goal.returns
 returns g c =
     let same : form_of c.deref.result.now ≡ c.args.self.channel.form = search rules in
     let key : c.replace-waits.result.key ≡ c.args.self.key = search rules in
-    record { walked = left_of g.X.Trace-2.did g.X.Trace-1.shown _ _ _ _ _ same line.Closings None None c.replace-waits.result.key c.args.self.key refl key c.leave.ensures.walked; }
+    record { walked = left_of g.X.Trace-2.did g.X.Trace-1.shown _ _ _ _ _ same line.Closings None None c.replace-waits.result.key c.args.self.key refl key c.leave.ensures.walked }
