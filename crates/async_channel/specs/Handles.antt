@@ -30,8 +30,18 @@ pub record Receiving : Type 0 where
 abbrev pub new_receiving : Handle → Receiving
 new_receiving h = record { channel = h; key = None }
 
--- a send: its message, which a finished one has no more, and the listener that is listed for it
+-- a receive, or a wait for the closing: its channel, and the listener that is listed for it
+pub record Listening : Type 0 where
+  pub channel : Handle
+  pub key : Option Key
+
+-- one that has not been polled
+abbrev pub new_listening : Handle → Listening
+new_listening h = record { channel = h; key = None }
+
+-- a send: its channel, its message, which a finished one has no more, and the listener that is listed for it
 pub record Sending (T : Type 0) : Type 0 where
+  pub channel : Handle
   pub message : Option T
   pub key : Option Key
 
@@ -44,8 +54,8 @@ module _ {T L : Type 0} where
 
 module _ {T : Type 0} where
   -- a send that has not been polled
-  abbrev pub new_sending : T → Sending T
-  new_sending m = record { message = Some m; key = None }
+  abbrev pub new_sending : Handle → T → Sending T
+  new_sending h m = record { channel = h; message = Some m; key = None }
 
   -- whether a listener is listed after a poll: of a send that had its message, where it waits
   abbrev pub waits_on : {A : Type 0} → Option T → Poll A → Bool

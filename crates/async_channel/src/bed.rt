@@ -1,7 +1,6 @@
 //! What a thread sleeps on that a call blocks.
 
-use crate::cells::SharedCells;
-use channel_calls::sleeps::Sleeps;
+use crate::cells::{Beds, SharedCells};
 use event_listener::parker::Parker;
 use event_listener::waking::Task;
 use std::sync::{Arc, Wait};
@@ -19,7 +18,11 @@ impl Bed {
     }
 }
 
-impl<'a, T: Drop, R: Wait> Sleeps<T, Task> for SharedCells<'a, T, R, Bed> {
+impl<'a, T: Drop, R: Wait> Beds<T> for SharedCells<'a, T, R, Bed> {
+    ghost parked = { λ _ _ _. Unit {0} };
+
+    ghost slept = { λ _ _. Unit {0} };
+
     fn park(&mut self) -> Option<Task> {
         if self.bed.parker.is_none() {
             self.bed.parker = Arc::new(self.shared.alloc, Parker::new()).ok();

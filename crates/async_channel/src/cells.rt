@@ -1,11 +1,19 @@
 //! The cells of a channel that threads share.
 
+ghost use Rattle.std.specs.Prelude.{◌≡◌, Option, List as Names};
+ghost use Rattle.concurrent_queue.specs.Replies.{Follows};
+ghost use Rattle.concurrent_queue.specs.SharedQueue.{IsWordsAlone};
+ghost use Rattle.concurrent_queue.specs.declared.cells.QueueForm.{QueueForm};
+ghost use Rattle.event_listener.specs.Notices.{Woken};
+ghost use Rattle.event_listener.specs.declared.waking.Task.{Task as Waiter};
+ghost use Rattle.channel_calls.specs.Deeds.{Deed, inserted, registered, taken_off, one_told, more_told, all_told, counted, lowered, raised};
+ghost use Rattle.async_channel.specs.Saw.{SawSteps};
+
 use crate::listeners::Listeners;
+use crate::seen::Trace;
 use crate::shared::Shared;
-use channel_calls::cells::ChannelCells;
 use channel_calls::raised::Counters;
 use channel_calls::stage::{Line, Side};
-use channel_calls::words::ChannelWords;
 use concurrent_queue::call::QueueReply;
 use concurrent_queue::queue_call::QueueCall;
 use event_listener::error::ListenError;
@@ -41,6 +49,116 @@ impl Counts {
     }
 }
 
+/// What a channel's cells are that a trace sees: each method is one call of the queue that a trace is shown, one section on a list, or one
+/// operation on a count. As of [`ChannelCells`](channel_calls::cells::ChannelCells) nothing is known of what a deed does: who promises
+/// that deeds were done has called the methods that do them, in that order.
+pub(crate) trait Places<T>: Drop {
+    /// The form of the queue; no deed changes it.
+    ghost form_of: { Self → QueueForm };
+
+    /// Whether this deed, with this answer, was done between these two. Of the steps of a queue's call the trace tells.
+    ghost did: { Deed T Waiter → Self → Self → Type 0 };
+
+    /// Steps of a call of the queue, up to its answer: their operations are shown to this trace.
+    fn step_told<S: Trace<T>>(
+        &mut self,
+        call: &mut QueueCall<T>,
+        trace: &mut S,
+    ) -> Option<QueueReply<T>>
+        ensures deed { SawSteps S.did (form_of self.old) call.old trace.old call.new result trace.new }
+        ensures answers { Follows (form_of self.old) call.old call.new result }
+        ensures form { form_of self.new ≡ form_of self.old };
+
+    /// Adds a listener without a task.
+    fn insert(&mut self, line: Line) -> Result<Key, ListenError>
+        ensures deed { did (inserted line result) self.old self.new }
+        ensures form { form_of self.new ≡ form_of self.old };
+
+    /// Gives a waiting listener its task.
+    fn register(&mut self, line: Line, key: Key, task: Task) -> Option<Task>
+        ensures deed { did (registered line key task result) self.old self.new }
+        ensures form { form_of self.new ≡ form_of self.old };
+
+    /// Takes a listener off.
+    fn remove<K: Wakes<Task>>(&mut self, line: Line, key: Key, sink: &mut K)
+        ensures deed { (names : Names Waiter) × did (taken_off line key names) self.old self.new × Woken K.wakes sink.old names sink.new }
+        ensures form { form_of self.new ≡ form_of self.old };
+
+    /// Tells one more of those who wait.
+    fn tell_one<K: Wakes<Task>>(&mut self, line: Line, sink: &mut K)
+        ensures deed { (names : Names Waiter) × did (one_told line names) self.old self.new × Woken K.wakes sink.old names sink.new }
+        ensures form { form_of self.new ≡ form_of self.old };
+
+    /// Tells so many more of those who wait, in one section.
+    fn tell_more<K: Wakes<Task>>(&mut self, line: Line, count: usize, sink: &mut K)
+        ensures deed { (names : Names Waiter) × did (more_told line count names) self.old self.new × Woken K.wakes sink.old names sink.new }
+        ensures form { form_of self.new ≡ form_of self.old };
+
+    /// Tells all who wait.
+    fn tell_all<K: Wakes<Task>>(&mut self, line: Line, sink: &mut K)
+        ensures deed { (names : Names Waiter) × did (all_told line names) self.old self.new × Woken K.wakes sink.old names sink.new }
+        ensures form { form_of self.new ≡ form_of self.old };
+
+    /// The number of handles of this kind.
+    fn count(&mut self, side: Side) -> usize
+        ensures deed { did (counted side result) self.old self.new }
+        ensures form { form_of self.new ≡ form_of self.old };
+
+    /// Lowers the number of handles of this kind by one, and gives the number before.
+    fn lower(&mut self, side: Side) -> usize
+        ensures deed { did (lowered side result) self.old self.new }
+        ensures form { form_of self.new ≡ form_of self.old };
+
+    /// Raises the number of handles of this kind by one where it is `from` and one more fits a `usize`, and tells whether it did.
+    fn raise(&mut self, side: Side, from: usize) -> bool
+        ensures deed { did (raised side from result) self.old self.new }
+        ensures form { form_of self.new ≡ form_of self.old };
+}
+
+/// The same of one that may sleep: what a call that blocks its thread sleeps on.
+pub(crate) trait Beds<T>: Places<T> {
+    /// Whether a task was asked for between these two, with this answer.
+    ghost parked: { Option Waiter → Self → Self → Type 0 };
+
+    /// Whether the thread slept between these two.
+    ghost slept: { Self → Self → Type 0 };
+
+    /// A task whose waking ends this thread's sleep; `None` where memory for it was refused.
+    fn park(&mut self) -> Option<Task>
+        ensures asked { parked result self.old self.new }
+        ensures form { Self.form_of self.new ≡ Self.form_of self.old };
+
+    /// Sleeps until such a task is woken.
+    fn sleep(&mut self)
+        ensures slept { slept self.old self.new }
+        ensures form { Self.form_of self.new ≡ Self.form_of self.old };
+}
+
+/// The words of a channel's cells that a trace sees: each method is one step that waits for nobody.
+pub(crate) trait Words<T>: Drop {
+    /// The form of the queue; no step changes it.
+    ghost form_of: { Self → QueueForm };
+
+    /// Whether this deed, with this answer, was done between these two.
+    ghost did: { Deed T Waiter → Self → Self → Type 0 };
+
+    /// One step of a call of the queue that is a question but for the length: its operation is shown to this trace.
+    fn step_told<S: Trace<T>>(
+        &mut self,
+        call: &mut QueueCall<T>,
+        trace: &mut S,
+    ) -> Option<QueueReply<T>>
+        requires alone { IsWordsAlone call.old }
+        ensures deed { SawSteps S.did (form_of self.old) call.old trace.old call.new result trace.new }
+        ensures answers { Follows (form_of self.old) call.old call.new result }
+        ensures form { form_of self.new ≡ form_of self.old };
+
+    /// The number of handles of this kind.
+    fn count(&mut self, side: Side) -> usize
+        ensures deed { did (counted side result) self.old self.new }
+        ensures form { form_of self.new ≡ form_of self.old };
+}
+
 /// A shared queue's cells, four locked lists and two shared counts. Nothing is known of what they hold, since any thread
 /// may step on them at any time. A call that blocks its thread has a bed beside them.
 #[derive(Drop)]
@@ -50,28 +168,24 @@ pub(crate) struct SharedCells<'a, T: Drop, R: Wait, B: Drop, L: Drop = List<(), 
     pub(crate) bed: B,
 }
 
-impl<'a, T: Drop, R: Wait, B: Drop, L: Listeners> ChannelCells<T, Task>
-    for SharedCells<'a, T, R, B, L> {
-    ghost use Rattle.std.specs.Prelude.{◌≡◌};
-    ghost use Rattle.async_channel.specs.Handles.{no_parts, form_of};
+impl<'a, T: Drop, R: Wait, B: Drop, L: Listeners> Places<T> for SharedCells<'a, T, R, B, L> {
+    ghost use Rattle.async_channel.specs.Handles.{form_of};
     ghost use Rattle.async_channel.specs.Sections.{Answers};
 
-    ghost known = { ⊥ };
-
-    ghost parts = { λ c. no_parts (form_of c.shared.now) };
-
-    ghost has_form = { λ c f. f ≡ form_of c.shared.now };
+    ghost form_of = { λ c. form_of c.shared.now };
 
     ghost did = { λ d before now. Answers L.did d };
-
-    ghost exact = { λ unknown. absurd unknown };
 
     // The steps of the queue's call up to its answer, one after another: nothing else of the channel's call comes between
     // them, while the steps of other threads may. The call is given away for it, so one that has answered stands in its place.
     #[inline(always)]
-    fn step_queue(&mut self, call: &mut QueueCall<T>) -> Option<QueueReply<T>> {
+    fn step_told<S: Trace<T>>(
+        &mut self,
+        call: &mut QueueCall<T>,
+        trace: &mut S,
+    ) -> Option<QueueReply<T>> {
         let whole = mem::replace(call, QueueCall::ended());
-        Some(self.shared.queue.complete(self.rt, whole))
+        Some(self.shared.queue.complete_told(self.rt, whole, trace))
     }
 
     fn insert(&mut self, line: Line) -> Result<Key, ListenError> {
@@ -126,15 +240,20 @@ pub(crate) struct SharedWords<'a, T: Drop> {
     pub(crate) shared: &'a Shared<T>,
 }
 
-impl<'a, T: Drop> ChannelWords<T, Task> for SharedWords<'a, T> {
-    ghost use Rattle.std.specs.Prelude.{◌≡◌};
+impl<'a, T: Drop> Words<T> for SharedWords<'a, T> {
     ghost use Rattle.async_channel.specs.Handles.{form_of};
 
-    ghost has_form = { λ c f. f ≡ form_of c.shared.now };
+    ghost form_of = { λ c. form_of c.shared.now };
+
+    ghost did = { λ d before now. Unit {0} };
 
     #[inline(always)]
-    fn step_words(&mut self, call: &mut QueueCall<T>) -> Option<QueueReply<T>> {
-        self.shared.queue.step_words(call)
+    fn step_told<S: Trace<T>>(
+        &mut self,
+        call: &mut QueueCall<T>,
+        trace: &mut S,
+    ) -> Option<QueueReply<T>> {
+        self.shared.queue.step_words_told(call, trace)
     }
 
     fn count(&mut self, side: Side) -> usize {

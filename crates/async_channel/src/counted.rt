@@ -4,13 +4,14 @@ ghost use Rattle.std.specs.Prelude.{◌≡◌, IfOk, IfErr, IfSome};
 ghost use Rattle.channel_calls.specs.declared.ask.ChannelAsk.TheVariants as ask;
 ghost use Rattle.async_channel.specs.Counts.{Clones, Upgrades, Drops};
 ghost use Rattle.async_channel.specs.Handles.{handle_of};
+ghost use Rattle.async_channel.specs.Saw.{Saw, SeenOn};
 
 use crate::link::Link;
+use crate::polls::waits::Waits;
 use crate::seen::Trace;
 use channel_calls::error::HandleError;
 use channel_calls::kind::{Kind, OfReceivers, OfSenders};
 use channel_calls::raised::{self, Raised};
-use event_listener::key::Key;
 use event_listener::waking::WakeNow;
 use std::sync::Wait;
 
@@ -37,7 +38,7 @@ impl<T: Drop, K: Kind> Counted<T, K> {
         rt: &R,
         trace: S,
     ) -> (Result<Counted<T, K>, HandleError>, S)
-        ensures walked { Clones S.did K.side trace (result.0) (result.1) }
+        ensures walked { SeenOn S.did S.shown (handle_of link).form (λ saw. Clones saw K.side) trace (result.0) (result.1) }
         ensures made { IfOk (result.0) (λ more. handle_of more.link ≡ handle_of link) }
         ensures reason { IfErr (result.0) (λ e. e ≡ HandleError.TooMany) }
     {
@@ -56,7 +57,7 @@ impl<T: Drop, K: Kind> Counted<T, K> {
         rt: &R,
         trace: S,
     ) -> (Result<Option<Counted<T, K>>, HandleError>, S)
-        ensures walked { Upgrades S.did K.side trace (result.0) (result.1) }
+        ensures walked { SeenOn S.did S.shown (handle_of link).form (λ saw. Upgrades saw K.side) trace (result.0) (result.1) }
         ensures made { IfOk (result.0) (λ made. IfSome made (λ more. handle_of more.link ≡ handle_of link)) }
         ensures reason { IfErr (result.0) (λ e. e ≡ HandleError.TooMany) }
     {
@@ -74,7 +75,7 @@ impl<T: Drop, K: Kind> Counted<T, K> {
 impl<T: Drop> Counted<T, OfSenders> {
     /// Drops the sender that is counted, which lowers the count; the last one closes.
     pub(crate) fn lower<R: Wait, S: Trace<T>>(self, rt: &R, trace: S) -> S
-        ensures walked { Drops S.did ask.DropSender trace result }
+        ensures walked { Drops (Saw S.did S.shown (handle_of self.link).form) ask.DropSender trace result }
     {
         let Counted { link, raised } = self;
         let mut seen = link.shared.cells(rt, trace);
@@ -86,12 +87,10 @@ impl<T: Drop> Counted<T, OfSenders> {
 impl<T: Drop> Counted<T, OfReceivers> {
     /// Drops the receiver that is counted, which lowers the count, and then the listener that it may have as a stream; the last one
     /// closes.
-    pub(crate) fn lower<R: Wait, S: Trace<T>>(self, rt: &R, stream_key: Option<Key>, trace: S) -> S
-        ensures walked { Drops S.did (ask.DropReceiver stream_key) trace result }
+    pub(crate) fn lower<R: Wait, S: Trace<T>>(self, rt: &R, stream: Waits, trace: S) -> S
+        ensures walked { Drops (Saw S.did S.shown (handle_of self.link).form) (ask.DropReceiver stream.key) trace result }
     {
         let Counted { link, raised } = self;
-        let mut seen = link.shared.cells(rt, trace);
-        raised::drop_receiver(rt, raised, stream_key, &mut seen, &mut WakeNow { rt });
-        seen.into_trace()
+        link.shared.drop_receiver(rt, raised, stream, trace)
     }
 }

@@ -23,8 +23,9 @@
 //! over that body, says the same of its own answer: between two states of that trace the machine's call was seen to give it. A channel
 //! that nobody watches has [`NoTrace`], which keeps nothing. The code is the same for both, and so is what it says.
 //!
-//! Not bound so are the methods of the shared cells, one line each. Nor is that a handle's line makes its call once, since no clause says
-//! what was not done. That threads together do what such steps do one after another is no contract here, and is tested. Since other threads may step in between, a handle's own contract says what holds
+//! Of a step of the queue's call a trace is shown the queue's own operations. Not bound is that a handle's line makes its call once, since
+//! no clause says what was not done. That threads together do what such steps do one after another is no contract here: a law of
+//! `handle_laws` ties it to one of `channel_laws`. Since other threads may step in between, a handle's own contract says what holds
 //! whatever they do: a refused message is the one that was handed in, a pending poll has armed its context and kept its message, the
 //! capacity is as given.
 //!
@@ -45,7 +46,6 @@ mod seen;
 mod shared;
 mod traced;
 mod waiters;
-mod waits;
 
 pub use channel_calls::ask::ChannelAsk;
 pub use channel_calls::call::ChannelCall;

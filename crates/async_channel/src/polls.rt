@@ -1,6 +1,8 @@
 //! One poll of each kind of operation, and the givings up: those of `channel_calls`, on the cells that threads share, with whatever
 //! trace. A poll first takes a copy of its task's waker, and keeps the listener that it is left.
 
+pub(crate) mod waits;
+
 ghost use Rattle.std.specs.Prelude.{◌≡◌, None, is_some};
 ghost use Rattle.futures.specs.Poll.{OnPending};
 ghost use Rattle.futures.specs.Task.{IsArmed, Keeps};
@@ -10,13 +12,18 @@ ghost use Rattle.channel_calls.specs.Listed.{SendLists, is_pending};
 ghost use Rattle.channel_calls.specs.Walks.{WalkedTo};
 ghost use Rattle.channel_calls.specs.declared.ask.ChannelAsk.TheVariants as ask;
 ghost use Rattle.channel_calls.specs.declared.reply.Reply.TheVariants as reply;
+ghost use Rattle.async_channel.specs.Counts.{Drops};
+ghost use Rattle.async_channel.specs.Handles.{form_of};
 ghost use Rattle.async_channel.specs.Polls.{Polls, PollsSend};
+ghost use Rattle.async_channel.specs.Saw.{Saw, SeenOn};
 
+use crate::polls::waits::Waits;
 use crate::seen::Trace;
 use crate::shared::Shared;
-use crate::waits::Waits;
 use channel_calls::error::{RecvError, Refused, SendError};
+use channel_calls::kind::OfReceivers;
 use channel_calls::polls;
+use channel_calls::raised::{self, Raised};
 use channel_calls::stage::Line;
 use event_listener::error::ListenError;
 use event_listener::waking::WakeNow;
@@ -33,18 +40,18 @@ impl<T: Drop> Shared<T> {
         cx: &mut Context<'_>,
         trace: S,
     ) -> (Poll<Result<(), Refused<SendError<T>>>>, Option<T>, S)
-        ensures walked { PollsSend S.did (send_ask message waits.old.key) trace (reply.SendPoll (result.0)) waits.new.key (result.1) (result.2) }
+        ensures walked { SeenOn S.did S.shown (form_of self.now) (λ saw begin r end. PollsSend saw (send_ask message waits.old.key) begin r waits.new.key (result.1) end) trace (reply.SendPoll (result.0)) (result.2) }
         ensures message { SendsOn message (result.0) (result.1) }
         ensures listed { SendLists message (result.0) waits.new.key }
         ensures armed { OnPending (result.0) (IsArmed cx.new) }
         ensures kept { Keeps cx.old cx.new }
     {
-        let key = waits.key;
+        let key = waits.key();
         let task = waits.arm(rt, self.alloc, cx);
         let mut seen = self.cells(rt, trace);
         let sink = &mut WakeNow { rt };
         let (polled, left) = polls::poll_send(rt, message, key, task, &mut seen, sink);
-        waits.key = left.key;
+        waits.keep(left.key);
         (polled, left.message, seen.into_trace())
     }
 
@@ -56,16 +63,16 @@ impl<T: Drop> Shared<T> {
         cx: &mut Context<'_>,
         trace: S,
     ) -> (Poll<Result<T, Refused<RecvError>>>, S)
-        ensures walked { Polls S.did (recv_ask waits.old.key) trace (reply.RecvPoll (result.0)) waits.new.key (result.1) }
+        ensures walked { SeenOn S.did S.shown (form_of self.now) (λ saw begin r end. Polls saw (recv_ask waits.old.key) begin r waits.new.key end) trace (reply.RecvPoll (result.0)) (result.1) }
         ensures listed { is_some waits.new.key ≡ is_pending (result.0) }
         ensures armed { OnPending (result.0) (IsArmed cx.new) }
         ensures kept { Keeps cx.old cx.new }
     {
-        let key = waits.key;
+        let key = waits.key();
         let task = waits.arm(rt, self.alloc, cx);
         let mut seen = self.cells(rt, trace);
         let (polled, left) = polls::poll_recv(rt, key, task, &mut seen, &mut WakeNow { rt });
-        waits.key = left.key;
+        waits.keep(left.key);
         (polled, seen.into_trace())
     }
 
@@ -77,16 +84,16 @@ impl<T: Drop> Shared<T> {
         cx: &mut Context<'_>,
         trace: S,
     ) -> (Poll<Result<(), ListenError>>, S)
-        ensures walked { Polls S.did (closed_ask waits.old.key) trace (reply.ClosedPoll (result.0)) waits.new.key (result.1) }
+        ensures walked { SeenOn S.did S.shown (form_of self.now) (λ saw begin r end. Polls saw (closed_ask waits.old.key) begin r waits.new.key end) trace (reply.ClosedPoll (result.0)) (result.1) }
         ensures listed { is_some waits.new.key ≡ is_pending (result.0) }
         ensures armed { OnPending (result.0) (IsArmed cx.new) }
         ensures kept { Keeps cx.old cx.new }
     {
-        let key = waits.key;
+        let key = waits.key();
         let task = waits.arm(rt, self.alloc, cx);
         let mut seen = self.cells(rt, trace);
         let (polled, left) = polls::poll_closed(rt, key, task, &mut seen, &mut WakeNow { rt });
-        waits.key = left.key;
+        waits.keep(left.key);
         (polled, seen.into_trace())
     }
 
@@ -98,16 +105,16 @@ impl<T: Drop> Shared<T> {
         cx: &mut Context<'_>,
         trace: S,
     ) -> (Poll<Option<Result<T, ListenError>>>, S)
-        ensures walked { Polls S.did (next_ask waits.old.key) trace (reply.Next (result.0)) waits.new.key (result.1) }
+        ensures walked { SeenOn S.did S.shown (form_of self.now) (λ saw begin r end. Polls saw (next_ask waits.old.key) begin r waits.new.key end) trace (reply.Next (result.0)) (result.1) }
         ensures listed { is_some waits.new.key ≡ is_pending (result.0) }
         ensures armed { OnPending (result.0) (IsArmed cx.new) }
         ensures kept { Keeps cx.old cx.new }
     {
-        let key = waits.key;
+        let key = waits.key();
         let task = waits.arm(rt, self.alloc, cx);
         let mut seen = self.cells(rt, trace);
         let (polled, left) = polls::poll_next(rt, key, task, &mut seen, &mut WakeNow { rt });
-        waits.key = left.key;
+        waits.keep(left.key);
         (polled, seen.into_trace())
     }
 
@@ -117,15 +124,13 @@ impl<T: Drop> Shared<T> {
         rt: &R,
         line: Line,
         message: Option<T>,
-        waits: &mut Waits,
+        waits: Waits,
         trace: S,
     ) -> (Option<T>, S)
-        ensures walked { WalkedTo S.did (first (ask.GiveUp line message waits.old.key)) trace (reply.GivenUp (result.0)) (result.1) }
+        ensures walked { SeenOn S.did S.shown (form_of self.now) (λ saw. WalkedTo saw (first (ask.GiveUp line message waits.key))) trace (reply.GivenUp (result.0)) (result.1) }
         ensures message { result.0 ≡ message }
-        ensures listed { waits.new.key ≡ None }
     {
-        let key = waits.key;
-        waits.key = None;
+        let key = waits.end();
         let mut seen = self.cells(rt, trace);
         let back = polls::give_up(rt, line, message, key, &mut seen, &mut WakeNow { rt });
         (back, seen.into_trace())
@@ -136,14 +141,30 @@ impl<T: Drop> Shared<T> {
         &self,
         rt: &R,
         line: Line,
-        waits: &mut Waits,
+        waits: Waits,
         trace: S,
     ) -> S
-        ensures walked { WalkedTo S.did (first (ask.GiveUp line None waits.old.key)) trace (reply.GivenUp None) result }
-        ensures listed { waits.new.key ≡ None }
+        ensures walked { SeenOn S.did S.shown (form_of self.now) (λ saw. WalkedTo saw (first (ask.GiveUp line None waits.key))) trace (reply.GivenUp None) result }
     {
         let (none, trace) = self.give_up(rt, line, None, waits, trace);
         drop(none);
         trace
+    }
+
+    /// Drops a receiver that is counted, which lowers the count, and then its listener leaves that it may have as a stream; the last one
+    /// closes.
+    pub(crate) fn drop_receiver<R: Wait, S: Trace<T>>(
+        &self,
+        rt: &R,
+        raised: Raised<OfReceivers>,
+        waits: Waits,
+        trace: S,
+    ) -> S
+        ensures walked { Drops (Saw S.did S.shown (form_of self.now)) (ask.DropReceiver waits.key) trace result }
+    {
+        let key = waits.end();
+        let mut seen = self.cells(rt, trace);
+        raised::drop_receiver(rt, raised, key, &mut seen, &mut WakeNow { rt });
+        seen.into_trace()
     }
 }

@@ -1,13 +1,13 @@
 //! Cells of a channel of which a caller's trace sees each deed, with its answer.
 
 ghost use Rattle.std.specs.Prelude.{◌≡◌, List, Option};
-ghost use Rattle.concurrent_queue.specs.declared.queue_call.QueueCall.{QueueCall as Call};
 ghost use Rattle.event_listener.specs.declared.key.Key.{Key as Name};
 ghost use Rattle.event_listener.specs.declared.waking.Task.{Task as Waiter};
-ghost use Rattle.async_channel.specs.Handles.{form_of};
-ghost use Rattle.channel_calls.specs.Deeds.{Deed, stepped, inserted, registered, taken_off, one_told, more_told, all_told, counted, lowered, raised};
+ghost use Rattle.async_channel.specs.Handles.{form_of, no_parts};
+ghost use Rattle.async_channel.specs.Saw.{Saw, DidBeside};
+ghost use Rattle.channel_calls.specs.Deeds.{Deed, inserted, registered, taken_off, one_told, more_told, all_told, counted, lowered, raised};
 
-use crate::cells::{SharedCells, SharedWords};
+use crate::cells::{Beds, Places, SharedCells, SharedWords, Words};
 use crate::shared::Shared;
 use channel_calls::cells::ChannelCells;
 use channel_calls::sleeps::Sleeps;
@@ -15,6 +15,7 @@ use channel_calls::stage::{Line, Side};
 use channel_calls::words::ChannelWords;
 use concurrent_queue::call::QueueReply;
 use concurrent_queue::queue_call::QueueCall;
+use concurrent_queue::seen as queue;
 use event_listener::error::ListenError;
 use event_listener::key::Key;
 use event_listener::wakes::Wakes;
@@ -23,26 +24,24 @@ use std::marker::PhantomData;
 use std::sync::Wait;
 
 /// The right to tell a trace of type `S` something. Only this file makes one, where a deed is done: so nobody else can tell that trace
-/// anything, another trace that was lent a right of its own least of all. It takes no bytes. Own to this project.
+/// anything, another trace that was lent a sight of its own least of all. It takes no bytes. Own to this project.
 #[derive(Drop)]
 pub struct Sight<S> {
     of: PhantomData<S>,
 }
 
 /// What sees the deeds on the cells of a channel, each after it was done and with what it answered; and that a call which blocks
-/// its thread asked for a task of its own, and slept. Each method says of itself that this was seen, and nothing else: so a trace of
-/// which nothing is known but this trait can be led from one value to another by these very deeds alone.
+/// its thread asked for a task of its own, and slept. Of the steps of a queue's call it sees the queue's own operations, as the trace
+/// of a queue does. Each method says of itself that this was seen, and nothing else: so a trace of which nothing is known but this trait
+/// can be led from one value to another by these very deeds alone.
 ///
-/// Each method is lent a [`Sight`], which only the cells that do these deeds have. A telling and a removal are seen without whom they
-/// woke: those stay with the sink. Own to this project.
-pub trait Trace<T> {
+/// Each method is lent a [`Sight`] of this very trace, which only the cells that do these deeds have. A telling and a removal are seen
+/// without whom they woke: those stay with the sink. Own to this project.
+pub trait Trace<T>: queue::Trace<T> {
     ghost use Rattle.channel_calls.specs.declared.stage.Line.{Line as Waits};
 
-    /// Whether this deed, with this answer, was seen between the two.
-    ghost did: { Deed T Waiter → Self → Self → Type 0 };
-
-    /// Whether a call of the queue was seen, between the two, that is to be stepped.
-    ghost asking: { Call T → Self → Self → Type 0 };
+    /// Whether this deed, with this answer, was seen between the two; no deed that is a step of a queue's call is.
+    ghost shown: { Deed T Waiter → Self → Self → Type 0 };
 
     /// Whether a task was seen on its way to this listener between the two.
     ghost offering: { Waits → Name → Waiter → Self → Self → Type 0 };
@@ -53,17 +52,9 @@ pub trait Trace<T> {
     /// Whether the thread was seen to sleep between the two.
     ghost slept: { Self → Self → Type 0 };
 
-    /// This call of the queue is to be stepped. What came of it is said next, by `answered`.
-    fn asks(&mut self, sight: &Sight<Self>, call: &QueueCall<T>)
-        ensures { asking call.now self.old self.new };
-
-    /// The call of the queue that was to be stepped is this one now, and has answered or goes on.
-    fn answered(&mut self, sight: &Sight<Self>, call: &QueueCall<T>, answer: &Option<QueueReply<T>>)
-        ensures { (before : Self) (was : Call T) → asking was before self.old → did (stepped was call.now answer.now) before self.new };
-
     /// A listener was added, or refused.
     fn inserted(&mut self, sight: &Sight<Self>, line: Line, answer: Result<Key, ListenError>)
-        ensures { did (inserted line answer) self.old self.new };
+        ensures { shown (inserted line answer) self.old self.new };
 
     /// This task is brought to a listener. What came of it is said next, by `registered`.
     fn offers(&mut self, sight: &Sight<Self>, line: Line, key: Key, task: &Task)
@@ -71,35 +62,35 @@ pub trait Trace<T> {
 
     /// The task that was brought to the listener is kept, or came back.
     fn registered(&mut self, sight: &Sight<Self>, line: Line, key: Key, answer: &Option<Task>)
-        ensures { (before : Self) (task : Waiter) → offering line key task before self.old → did (registered line key task answer.now) before self.new };
+        ensures { (before : Self) (task : Waiter) → offering line key task before self.old → shown (registered line key task answer.now) before self.new };
 
     /// A listener was taken off.
     fn taken_off(&mut self, sight: &Sight<Self>, line: Line, key: Key)
-        ensures { (names : List Waiter) → did (taken_off line key names) self.old self.new };
+        ensures { (names : List Waiter) → shown (taken_off line key names) self.old self.new };
 
     /// One more of those who wait was told.
     fn one_told(&mut self, sight: &Sight<Self>, line: Line)
-        ensures { (names : List Waiter) → did (one_told line names) self.old self.new };
+        ensures { (names : List Waiter) → shown (one_told line names) self.old self.new };
 
     /// So many more of those who wait were told.
     fn more_told(&mut self, sight: &Sight<Self>, line: Line, count: usize)
-        ensures { (names : List Waiter) → did (more_told line count names) self.old self.new };
+        ensures { (names : List Waiter) → shown (more_told line count names) self.old self.new };
 
     /// All who wait were told.
     fn all_told(&mut self, sight: &Sight<Self>, line: Line)
-        ensures { (names : List Waiter) → did (all_told line names) self.old self.new };
+        ensures { (names : List Waiter) → shown (all_told line names) self.old self.new };
 
     /// So many handles of this kind were counted.
     fn counted(&mut self, sight: &Sight<Self>, side: Side, found: usize)
-        ensures { did (counted side found) self.old self.new };
+        ensures { shown (counted side found) self.old self.new };
 
     /// The count of handles of this kind was lowered, and was this before.
     fn lowered(&mut self, sight: &Sight<Self>, side: Side, found: usize)
-        ensures { did (lowered side found) self.old self.new };
+        ensures { shown (lowered side found) self.old self.new };
 
     /// The count of handles of this kind was raised where it was `from`, or was not.
     fn raised(&mut self, sight: &Sight<Self>, side: Side, from: usize, done: bool)
-        ensures { did (raised side from done) self.old self.new };
+        ensures { shown (raised side from done) self.old self.new };
 
     /// A task of the thread's own was asked for, and given or refused.
     fn parks(&mut self, sight: &Sight<Self>, answer: &Option<Task>)
@@ -110,9 +101,7 @@ pub trait Trace<T> {
         ensures { slept self.old self.new };
 }
 
-/// Cells, and a trace that sees each deed on them.
-///
-/// Made here alone, and over the cells that the threads of a channel share.
+/// Cells that the threads of a channel share, and a trace that sees each deed on them. Made here alone.
 pub(crate) struct Seen<C, S> {
     cells: C,
     trace: S,
@@ -159,24 +148,20 @@ impl<C: Drop, S> Seen<C, S> {
     }
 }
 
-impl<T, C: ChannelCells<T, Task>, S: Trace<T>> ChannelCells<T, Task> for Seen<C, S> {
-    ghost known = { C.known };
+impl<T, C: Places<T>, S: Trace<T>> ChannelCells<T, Task> for Seen<C, S> {
+    ghost known = { ⊥ };
 
-    ghost parts = { λ s. C.parts s.cells };
+    ghost parts = { λ s. no_parts (C.form_of s.cells) };
 
-    ghost has_form = { λ s f. C.has_form s.cells f };
+    ghost has_form = { λ s f. f ≡ C.form_of s.cells };
 
-    ghost did = { λ d a b. C.did d a.cells b.cells × S.did d a.trace b.trace };
+    ghost did = { λ d a b. (C.form_of b.cells ≡ C.form_of a.cells) × DidBeside C.did d a.cells b.cells × Saw S.did S.shown (C.form_of a.cells) d a.trace b.trace };
 
-    ghost exact = { λ known d a b done. C.exact known d a.cells b.cells (done.0) };
+    ghost exact = { λ unknown. absurd unknown };
 
     #[inline(always)]
     fn step_queue(&mut self, call: &mut QueueCall<T>) -> Option<QueueReply<T>> {
-        self.trace.asks(&Sight { of: PhantomData }, call);
-        let answer = self.cells.step_queue(call);
-        self.trace
-            .answered(&Sight { of: PhantomData }, call, &answer);
-        answer
+        self.cells.step_told(call, &mut self.trace)
     }
 
     #[inline(always)]
@@ -245,10 +230,10 @@ impl<T, C: ChannelCells<T, Task>, S: Trace<T>> ChannelCells<T, Task> for Seen<C,
     }
 }
 
-impl<T, C: Sleeps<T, Task>, S: Trace<T>> Sleeps<T, Task> for Seen<C, S> {
-    ghost parked = { λ o a b. C.parked o a.cells b.cells × S.parked o a.trace b.trace };
+impl<T, C: Beds<T>, S: Trace<T>> Sleeps<T, Task> for Seen<C, S> {
+    ghost parked = { λ o a b. (C.form_of b.cells ≡ C.form_of a.cells) × C.parked o a.cells b.cells × S.parked o a.trace b.trace };
 
-    ghost slept = { λ a b. C.slept a.cells b.cells × S.slept a.trace b.trace };
+    ghost slept = { λ a b. (C.form_of b.cells ≡ C.form_of a.cells) × C.slept a.cells b.cells × S.slept a.trace b.trace };
 
     #[inline(always)]
     fn park(&mut self) -> Option<Task> {
@@ -264,18 +249,14 @@ impl<T, C: Sleeps<T, Task>, S: Trace<T>> Sleeps<T, Task> for Seen<C, S> {
     }
 }
 
-impl<T, C: ChannelWords<T, Task>, S: Trace<T>> ChannelWords<T, Task> for Seen<C, S> {
-    ghost has_form = { λ s f. C.has_form s.cells f };
+impl<T, C: Words<T>, S: Trace<T>> ChannelWords<T, Task> for Seen<C, S> {
+    ghost has_form = { λ s f. f ≡ C.form_of s.cells };
 
-    ghost did = { λ d a b. C.did d a.cells b.cells × S.did d a.trace b.trace };
+    ghost did = { λ d a b. (C.form_of b.cells ≡ C.form_of a.cells) × DidBeside C.did d a.cells b.cells × Saw S.did S.shown (C.form_of a.cells) d a.trace b.trace };
 
     #[inline(always)]
     fn step_words(&mut self, call: &mut QueueCall<T>) -> Option<QueueReply<T>> {
-        self.trace.asks(&Sight { of: PhantomData }, call);
-        let answer = self.cells.step_words(call);
-        self.trace
-            .answered(&Sight { of: PhantomData }, call, &answer);
-        answer
+        self.cells.step_told(call, &mut self.trace)
     }
 
     #[inline(always)]

@@ -7,6 +7,7 @@ ghost use Rattle.channel_calls.specs.Walks.{WalkedTo};
 ghost use Rattle.channel_calls.specs.declared.ask.ChannelAsk.TheVariants as ask;
 ghost use Rattle.channel_calls.specs.declared.reply.Reply.TheVariants as reply;
 ghost use Rattle.async_channel.specs.Handles.{form_of};
+ghost use Rattle.async_channel.specs.Saw.{SeenOn};
 
 use crate::bed::Bed;
 use crate::cells::{Counts, SharedCells, SharedWords};
@@ -120,7 +121,7 @@ impl<T: Drop> Shared<T> {
 
     #[inline(always)]
     pub(crate) fn handle_count<S: Trace<T>>(&self, side: Side, trace: S) -> (usize, S)
-        ensures walked { WalkedTo S.did (first (ask.HandleCount side)) trace (reply.Count (result.0)) (result.1) }
+        ensures walked { SeenOn S.did S.shown (form_of self.now) (λ saw. WalkedTo saw (first (ask.HandleCount side))) trace (reply.Count (result.0)) (result.1) }
     {
         let mut seen = self.words(trace);
         let count = questions::handle_count(side, &mut seen);
@@ -129,7 +130,7 @@ impl<T: Drop> Shared<T> {
 
     #[inline(always)]
     pub(crate) fn is_closed<S: Trace<T>>(&self, trace: S) -> (bool, S)
-        ensures walked { WalkedTo S.did (first ask.IsClosed) trace (reply.Flag (result.0)) (result.1) }
+        ensures walked { SeenOn S.did S.shown (form_of self.now) (λ saw. WalkedTo saw (first ask.IsClosed)) trace (reply.Flag (result.0)) (result.1) }
     {
         let mut seen = self.words(trace);
         let closed = questions::is_closed(&mut seen);
@@ -138,7 +139,7 @@ impl<T: Drop> Shared<T> {
 
     #[inline(always)]
     pub(crate) fn is_empty<S: Trace<T>>(&self, trace: S) -> (bool, S)
-        ensures walked { WalkedTo S.did (first ask.IsEmpty) trace (reply.Flag (result.0)) (result.1) }
+        ensures walked { SeenOn S.did S.shown (form_of self.now) (λ saw. WalkedTo saw (first ask.IsEmpty)) trace (reply.Flag (result.0)) (result.1) }
     {
         let mut seen = self.words(trace);
         let empty = questions::is_empty(&mut seen);
@@ -147,7 +148,7 @@ impl<T: Drop> Shared<T> {
 
     #[inline(always)]
     pub(crate) fn is_full<S: Trace<T>>(&self, trace: S) -> (bool, S)
-        ensures walked { WalkedTo S.did (first ask.IsFull) trace (reply.Flag (result.0)) (result.1) }
+        ensures walked { SeenOn S.did S.shown (form_of self.now) (λ saw. WalkedTo saw (first ask.IsFull)) trace (reply.Flag (result.0)) (result.1) }
         ensures bound { room_of (form_of self.now) ≡ None → result.0 ≡ false }
     {
         let mut seen = self.words(trace);
@@ -157,7 +158,7 @@ impl<T: Drop> Shared<T> {
 
     #[inline(always)]
     pub(crate) fn capacity<S: Trace<T>>(&self, trace: S) -> (Option<usize>, S)
-        ensures walked { WalkedTo S.did (first ask.Capacity) trace (reply.Cap (result.0)) (result.1) }
+        ensures walked { SeenOn S.did S.shown (form_of self.now) (λ saw. WalkedTo saw (first ask.Capacity)) trace (reply.Cap (result.0)) (result.1) }
         ensures room { result.0 ≡ room_of (form_of self.now) }
     {
         let mut seen = self.words(trace);
@@ -167,7 +168,7 @@ impl<T: Drop> Shared<T> {
 
     #[inline(always)]
     pub(crate) fn is_terminated<S: Trace<T>>(&self, trace: S) -> (bool, S)
-        ensures walked { WalkedTo S.did (first ask.IsTerminated) trace (reply.Flag (result.0)) (result.1) }
+        ensures walked { SeenOn S.did S.shown (form_of self.now) (λ saw. WalkedTo saw (first ask.IsTerminated)) trace (reply.Flag (result.0)) (result.1) }
     {
         let mut seen = self.words(trace);
         let ended = questions::is_terminated(&mut seen);

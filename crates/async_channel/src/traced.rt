@@ -18,6 +18,7 @@ ghost use Rattle.channel_calls.specs.declared.ask.ChannelAsk.TheVariants as ask;
 ghost use Rattle.channel_calls.specs.declared.reply.Reply.TheVariants as reply;
 ghost use Rattle.channel_calls.specs.declared.stage.Side.TheVariants as side;
 ghost use Rattle.async_channel.specs.Handles.{handle_of, form_of};
+ghost use Rattle.async_channel.specs.Saw.{SeenOn};
 
 use crate::cells::SharedCells;
 use crate::counted::Counted;
@@ -71,7 +72,7 @@ impl<'a, T: Drop, R: Wait + Copy, K: Kind> Traced<'a, T, R, K> {
     /// Closes the channel.
     #[inline(always)]
     pub fn close<S: Trace<T>>(&self, trace: S) -> (bool, S)
-        ensures walked { WalkedTo S.did (first ask.Close) trace (reply.Closed (result.0)) (result.1) }
+        ensures walked { SeenOn S.did S.shown self.now.form (λ saw. WalkedTo saw (first ask.Close)) trace (reply.Closed (result.0)) (result.1) }
     {
         let mut seen = self.cells(trace);
         let closed = calls::close(self.rt, &mut seen, &mut WakeNow { rt: self.rt });
@@ -81,7 +82,7 @@ impl<'a, T: Drop, R: Wait + Copy, K: Kind> Traced<'a, T, R, K> {
     /// How many messages the channel held at a moment of the call.
     #[inline(always)]
     pub fn len<S: Trace<T>>(&self, trace: S) -> (usize, S)
-        ensures walked { WalkedTo S.did (first ask.Len) trace (reply.Count (result.0)) (result.1) }
+        ensures walked { SeenOn S.did S.shown self.now.form (λ saw. WalkedTo saw (first ask.Len)) trace (reply.Count (result.0)) (result.1) }
     {
         let mut seen = self.cells(trace);
         let count = calls::len(self.rt, &mut seen, &mut WakeNow { rt: self.rt });
@@ -94,7 +95,7 @@ impl<'a, T: Drop, R: Wait + Copy, K: Kind> Traced<'a, T, R, K> {
     /// Whether the channel is closed.
     #[inline(always)]
     pub fn is_closed<S: Trace<T>>(&self, trace: S) -> (bool, S)
-        ensures walked { WalkedTo S.did (first ask.IsClosed) trace (reply.Flag (result.0)) (result.1) }
+        ensures walked { SeenOn S.did S.shown self.now.form (λ saw. WalkedTo saw (first ask.IsClosed)) trace (reply.Flag (result.0)) (result.1) }
     {
         self.counted.link.shared.is_closed(trace)
     }
@@ -102,7 +103,7 @@ impl<'a, T: Drop, R: Wait + Copy, K: Kind> Traced<'a, T, R, K> {
     /// Whether it holds no message.
     #[inline(always)]
     pub fn is_empty<S: Trace<T>>(&self, trace: S) -> (bool, S)
-        ensures walked { WalkedTo S.did (first ask.IsEmpty) trace (reply.Flag (result.0)) (result.1) }
+        ensures walked { SeenOn S.did S.shown self.now.form (λ saw. WalkedTo saw (first ask.IsEmpty)) trace (reply.Flag (result.0)) (result.1) }
     {
         self.counted.link.shared.is_empty(trace)
     }
@@ -110,7 +111,7 @@ impl<'a, T: Drop, R: Wait + Copy, K: Kind> Traced<'a, T, R, K> {
     /// Whether it holds as many messages as it can; one without a bound never does.
     #[inline(always)]
     pub fn is_full<S: Trace<T>>(&self, trace: S) -> (bool, S)
-        ensures walked { WalkedTo S.did (first ask.IsFull) trace (reply.Flag (result.0)) (result.1) }
+        ensures walked { SeenOn S.did S.shown self.now.form (λ saw. WalkedTo saw (first ask.IsFull)) trace (reply.Flag (result.0)) (result.1) }
         ensures bound { room_of self.now.form ≡ None → result.0 ≡ false }
     {
         self.counted.link.shared.is_full(trace)
@@ -119,7 +120,7 @@ impl<'a, T: Drop, R: Wait + Copy, K: Kind> Traced<'a, T, R, K> {
     /// How many messages it can hold, if there is a bound.
     #[inline(always)]
     pub fn capacity<S: Trace<T>>(&self, trace: S) -> (Option<usize>, S)
-        ensures walked { WalkedTo S.did (first ask.Capacity) trace (reply.Cap (result.0)) (result.1) }
+        ensures walked { SeenOn S.did S.shown self.now.form (λ saw. WalkedTo saw (first ask.Capacity)) trace (reply.Cap (result.0)) (result.1) }
         ensures room { result.0 ≡ room_of self.now.form }
     {
         self.counted.link.shared.capacity(trace)
@@ -128,7 +129,7 @@ impl<'a, T: Drop, R: Wait + Copy, K: Kind> Traced<'a, T, R, K> {
     /// How many senders live.
     #[inline(always)]
     pub fn sender_count<S: Trace<T>>(&self, trace: S) -> (usize, S)
-        ensures walked { WalkedTo S.did (first (ask.HandleCount side.Senders)) trace (reply.Count (result.0)) (result.1) }
+        ensures walked { SeenOn S.did S.shown self.now.form (λ saw. WalkedTo saw (first (ask.HandleCount side.Senders))) trace (reply.Count (result.0)) (result.1) }
     {
         self.counted.link.shared.handle_count(Side::Senders, trace)
     }
@@ -136,7 +137,7 @@ impl<'a, T: Drop, R: Wait + Copy, K: Kind> Traced<'a, T, R, K> {
     /// How many receivers live.
     #[inline(always)]
     pub fn receiver_count<S: Trace<T>>(&self, trace: S) -> (usize, S)
-        ensures walked { WalkedTo S.did (first (ask.HandleCount side.Receivers)) trace (reply.Count (result.0)) (result.1) }
+        ensures walked { SeenOn S.did S.shown self.now.form (λ saw. WalkedTo saw (first (ask.HandleCount side.Receivers))) trace (reply.Count (result.0)) (result.1) }
     {
         self.counted
             .link

@@ -13,17 +13,17 @@ use std::thread::Threads;
 
 /// Those who wait for a message are told.
 const SENT: [Did; 3] = [
-    Did::Asked,
+    Did::Operated,
     Did::OneTold(Line::Receives),
     Did::AllTold(Line::Streams),
 ];
 
 /// One who waits for a place is told.
-const RECEIVED: [Did; 2] = [Did::Asked, Did::OneTold(Line::Sends)];
+const RECEIVED: [Did; 2] = [Did::Operated, Did::OneTold(Line::Sends)];
 
 /// All who wait are told.
 const CLOSED: [Did; 5] = [
-    Did::Asked,
+    Did::Operated,
     Did::AllTold(Line::Sends),
     Did::AllTold(Line::Receives),
     Did::AllTold(Line::Streams),
@@ -31,7 +31,7 @@ const CLOSED: [Did; 5] = [
 ];
 
 /// Nothing came of it but the answer.
-const ASKED: [Did; 1] = [Did::Asked];
+const ASKED: [Did; 1] = [Did::Operated];
 
 /// Whether a send on its own wrote these lines.
 fn sends<R: Wait + Copy>(s: &Sender<u64, R>, alloc: Global, lines: &[Did]) -> bool {

@@ -2,17 +2,19 @@
 
 use crate::checks::expect_equal;
 use async_channel::{
-    EventIds, Key, Line, ListenError, QueueCall, QueueReply, Receiver, Sender, Side, Sight, Task,
-    Trace, bounded_watched,
+    EventIds, Key, Line, ListenError, Receiver, Sender, Side, Sight, Task, Trace, bounded_watched,
 };
+use concurrent_queue::cells::{Slot, Word};
+use concurrent_queue::error::NoMemory;
+use concurrent_queue::seen as queue;
 use std::sync::Wait;
 use std::sync::atomic::{AtomicUsize, Ordering};
 use std::thread;
 use std::thread::Threads;
 
-/// How often the queue has answered, how many sections were made on lists, and how often a count was read or changed.
+/// How many operations were made on cells of the queue, how many sections were made on lists, and how often a count was read or changed.
 struct Tallies {
-    answers: AtomicUsize,
+    operations: AtomicUsize,
     sections: AtomicUsize,
     counts: AtomicUsize,
 }
@@ -28,27 +30,69 @@ fn note(tally: &AtomicUsize) {
     let _ = tally.fetch_add(1, Ordering::SeqCst);
 }
 
-impl Trace<u64> for Watcher<'_> {
+impl queue::Trace<u64> for Watcher<'_> {
     ghost did = { λ _ _ _. Unit {0} };
 
-    ghost asking = { λ _ _ _. Unit {0} };
+    ghost brought = { λ _ _ _ _. Unit {0} };
+
+    fn loaded(&mut self, _sight: &queue::Sight<Self>, _at: Word, _found: u64) {
+        note(&self.tallies.operations);
+    }
+
+    fn stored(&mut self, _sight: &queue::Sight<Self>, _at: Word, _value: u64) {
+        note(&self.tallies.operations);
+    }
+
+    fn exchanged(
+        &mut self,
+        _sight: &queue::Sight<Self>,
+        _at: Word,
+        _expected: u64,
+        _next: u64,
+        _answer: Result<u64, u64>,
+    ) {
+        note(&self.tallies.operations);
+    }
+
+    fn added(&mut self, _sight: &queue::Sight<Self>, _at: Word, _by: u64, _found: u64) {
+        note(&self.tallies.operations);
+    }
+
+    fn bits_set(&mut self, _sight: &queue::Sight<Self>, _at: Word, _bits: u64, _found: u64) {
+        note(&self.tallies.operations);
+    }
+
+    fn bits_kept(&mut self, _sight: &queue::Sight<Self>, _at: Word, _bits: u64, _found: u64) {
+        note(&self.tallies.operations);
+    }
+
+    fn bring(&mut self, _sight: &queue::Sight<Self>, _at: Slot, _message: &u64) {}
+
+    fn put(&mut self, _sight: &queue::Sight<Self>, _at: Slot, _done: bool) {
+        note(&self.tallies.operations);
+    }
+
+    fn taken(&mut self, _sight: &queue::Sight<Self>, _at: Slot, _found: &Option<u64>) {
+        note(&self.tallies.operations);
+    }
+
+    fn spared(&mut self, _sight: &queue::Sight<Self>, _answer: Result<u64, NoMemory>) {
+        note(&self.tallies.operations);
+    }
+
+    fn retired(&mut self, _sight: &queue::Sight<Self>, _block: u64) {
+        note(&self.tallies.operations);
+    }
+}
+
+impl Trace<u64> for Watcher<'_> {
+    ghost shown = { λ _ _ _. Unit {0} };
 
     ghost offering = { λ _ _ _ _ _. Unit {0} };
 
     ghost parked = { λ _ _ _. Unit {0} };
 
     ghost slept = { λ _ _. Unit {0} };
-
-    fn asks(&mut self, _sight: &Sight<Self>, _call: &QueueCall<u64>) {}
-
-    fn answered(
-        &mut self,
-        _sight: &Sight<Self>,
-        _call: &QueueCall<u64>,
-        _answer: &Option<QueueReply<u64>>,
-    ) {
-        note(&self.tallies.answers);
-    }
 
     fn inserted(&mut self, _sight: &Sight<Self>, _line: Line, _answer: Result<Key, ListenError>) {
         note(&self.tallies.sections);
@@ -107,7 +151,7 @@ fn calls<R: Threads + Wait + Copy + Send + Sync>(
 #[test]
 fn one_log_of_all_calls(rt: HostRuntime) {
     let tallies = Tallies {
-        answers: AtomicUsize::new(0),
+        operations: AtomicUsize::new(0),
         sections: AtomicUsize::new(0),
         counts: AtomicUsize::new(0),
     };
@@ -117,15 +161,16 @@ fn one_log_of_all_calls(rt: HostRuntime) {
     let answers = calls(&rt, &s, &r);
     drop((s, r));
     let Tallies {
-        answers: asked,
+        operations,
         sections,
         counts,
     } = tallies;
     let told = [
-        asked.into_inner(),
+        operations.into_inner(),
         sections.into_inner(),
         counts.into_inner(),
     ];
     expect_equal(&rt, &answers, &(true, 1, Some(7), true));
-    expect_equal(&rt, &told, &[5, 7, 3]);
+    // Three operations put the message, three take it, and each of the three closings is one.
+    expect_equal(&rt, &told, &[9, 7, 3]);
 }

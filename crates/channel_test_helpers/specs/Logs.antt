@@ -1,6 +1,7 @@
 -- What a log says of a deed on a channel.
-use Rattle.std.specs.Prelude.{◌≡◌, ℕ, false, [], ◌∷◌, ◌++◌}
+use Rattle.std.specs.Prelude.{◌≡◌, ◌⊎◌, ℕ, false, [], ◌∷◌, ◌++◌}
 use Rattle.event_listener.specs.declared.waking.Task.{Task}
+use Rattle.concurrent_queue.specs.Deeds as cell
 use Rattle.channel_calls.specs.Deeds.{Deed, stepped, inserted, registered, taken_off, one_told, more_told, all_told, counted, lowered, raised}
 use Rattle.channel_test_helpers.specs.declared.log.Did.{Did}
 use Rattle.channel_test_helpers.specs.declared.log.Did.TheVariants as did
@@ -13,7 +14,7 @@ Notes it a b = b.is_short ≡ false → (a.is_short ≡ false) × (b.lines.items
 module _ {T W : Type 0} where
   -- the line of a deed
   abbrev pub line_of : Deed T W → Did
-  line_of (stepped call after answer) = did.Asked
+  line_of (stepped call after answer) = did.Operated
   line_of (inserted line answer) = did.Inserted line
   line_of (registered line key task answer) = did.Registered line
   line_of (taken_off line key names) = did.TakenOff line
@@ -27,3 +28,10 @@ module _ {T W : Type 0} where
 -- of a channel of numbers
 abbrev pub Logs : Deed ℕ Task → Log → Log → Type 0
 Logs d a b = Notes (line_of d) a b
+
+-- an operation on its queue's cells is a line, or belongs to the last one
+abbrev pub Operated : Log → Log → Type 0
+Operated a b = (b ≡ a) ⊎ Notes did.Operated a b
+
+abbrev pub Operates : cell.Deed ℕ → Log → Log → Type 0
+Operates d a b = Operated a b

@@ -10,21 +10,25 @@ ghost use Rattle.channel_calls.specs.declared.ask.ChannelAsk.TheVariants as ask;
 ghost use Rattle.channel_calls.specs.declared.blocked.Blocked.TheVariants as blocking;
 ghost use Rattle.channel_calls.specs.declared.reply.Reply.TheVariants as reply;
 ghost use Rattle.futures.specs.declared.task.Poll.TheVariants as poll;
-ghost use Rattle.channel_test_helpers.specs.Logs.{Logs, Notes};
+ghost use Rattle.channel_test_helpers.specs.Logs.{Logs, Notes, Operated, Operates};
+ghost use Rattle.async_channel.specs.Saw.{SeenOn};
 ghost use Rattle.channel_test_helpers.specs.declared.log.Did.TheVariants as did;
 
 use async_channel::{
-    Key, Line, ListenError, QueueCall, QueueReply, Receiver, RecvError, Refused, Sender, Side,
-    Sight, Task, Trace, TryRecvError, TrySendError,
+    Key, Line, ListenError, Receiver, RecvError, Refused, Sender, Side, Sight, Task, Trace,
+    TryRecvError, TrySendError,
 };
+use concurrent_queue::cells::{Slot, Word};
+use concurrent_queue::error::NoMemory;
+use concurrent_queue::seen as queue;
 use std::alloc::Global;
 use std::sync::Wait;
 
 /// One thing that a call did.
 #[derive(Clone, Copy, PartialEq, Eq, Debug)]
 pub enum Did {
-    /// The queue was asked, and has answered or is to be asked on.
-    Asked,
+    /// One operation was made on a cell of the queue, or several in a row.
+    Operated,
     /// A listener was added, or refused.
     Inserted(Line),
     /// A listener was asked, and has its task or was told.
@@ -81,29 +85,82 @@ impl Log {
     }
 }
 
+impl Log {
+    /// One line stands for several operations in a row.
+    fn note_operation(&mut self)
+        ensures { Operated self.old self.new }
+    {
+        if self.lines.last() != Some(&Did::Operated) {
+            self.note(Did::Operated);
+        }
+    }
+}
+
+impl queue::Trace<u64> for Log {
+    ghost did = { Operates };
+
+    ghost brought = { λ _ _ a b. b ≡ a };
+
+    fn loaded(&mut self, _sight: &queue::Sight<Self>, _at: Word, _found: u64) {
+        self.note_operation();
+    }
+
+    fn stored(&mut self, _sight: &queue::Sight<Self>, _at: Word, _value: u64) {
+        self.note_operation();
+    }
+
+    fn exchanged(
+        &mut self,
+        _sight: &queue::Sight<Self>,
+        _at: Word,
+        _expected: u64,
+        _next: u64,
+        _answer: Result<u64, u64>,
+    ) {
+        self.note_operation();
+    }
+
+    fn added(&mut self, _sight: &queue::Sight<Self>, _at: Word, _by: u64, _found: u64) {
+        self.note_operation();
+    }
+
+    fn bits_set(&mut self, _sight: &queue::Sight<Self>, _at: Word, _bits: u64, _found: u64) {
+        self.note_operation();
+    }
+
+    fn bits_kept(&mut self, _sight: &queue::Sight<Self>, _at: Word, _bits: u64, _found: u64) {
+        self.note_operation();
+    }
+
+    fn bring(&mut self, _sight: &queue::Sight<Self>, _at: Slot, _message: &u64) {}
+
+    fn put(&mut self, _sight: &queue::Sight<Self>, _at: Slot, _done: bool) {
+        self.note_operation();
+    }
+
+    fn taken(&mut self, _sight: &queue::Sight<Self>, _at: Slot, _found: &Option<u64>) {
+        self.note_operation();
+    }
+
+    fn spared(&mut self, _sight: &queue::Sight<Self>, _answer: Result<u64, NoMemory>) {
+        self.note_operation();
+    }
+
+    fn retired(&mut self, _sight: &queue::Sight<Self>, _block: u64) {
+        self.note_operation();
+    }
+}
+
 impl Trace<u64> for Log {
     ghost use Rattle.std.specs.Prelude.{◌≡◌};
 
-    ghost did = { λ d a b. Logs d a b };
-
-    ghost asking = { λ _ a b. b ≡ a };
+    ghost shown = { λ d a b. Logs d a b };
 
     ghost offering = { λ _ _ _ a b. b ≡ a };
 
     ghost parked = { λ _ a b. Notes did.Parked a b };
 
     ghost slept = { λ a b. Notes did.Slept a b };
-
-    fn asks(&mut self, _sight: &Sight<Self>, _call: &QueueCall<u64>) {}
-
-    fn answered(
-        &mut self,
-        _sight: &Sight<Self>,
-        _call: &QueueCall<u64>,
-        _answer: &Option<QueueReply<u64>>,
-    ) {
-        self.note(Did::Asked);
-    }
 
     fn inserted(&mut self, _sight: &Sight<Self>, line: Line, _answer: Result<Key, ListenError>) {
         self.note(Did::Inserted(line));
@@ -158,7 +215,7 @@ pub fn try_send_logged<R: Wait + Copy>(
     message: u64,
     log: Log,
 ) -> (Result<(), Refused<TrySendError<u64>, u64>>, Log)
-    ensures { WalkedTo Logs (first (ask.TrySend message)) log (reply.TrySend (result.0)) (result.1) }
+    ensures { SeenOn Operates Logs sender.now.form (λ saw. WalkedTo saw (first (ask.TrySend message))) log (reply.TrySend (result.0)) (result.1) }
 {
     sender.traced().try_send(message, log)
 }
@@ -168,14 +225,14 @@ pub fn try_recv_logged<R: Wait + Copy>(
     receiver: &Receiver<u64, R>,
     log: Log,
 ) -> (Result<u64, TryRecvError>, Log)
-    ensures { WalkedTo Logs (first ask.TryRecv) log (reply.TryRecv (result.0)) (result.1) }
+    ensures { SeenOn Operates Logs receiver.now.channel.form (λ saw. WalkedTo saw (first ask.TryRecv)) log (reply.TryRecv (result.0)) (result.1) }
 {
     receiver.traced().try_recv(log)
 }
 
 /// A closing, written down.
 pub fn close_logged<R: Wait + Copy>(sender: &Sender<u64, R>, log: Log) -> (bool, Log)
-    ensures { WalkedTo Logs (first ask.Close) log (reply.Closed (result.0)) (result.1) }
+    ensures { SeenOn Operates Logs sender.now.form (λ saw. WalkedTo saw (first ask.Close)) log (reply.Closed (result.0)) (result.1) }
 {
     sender.traced().close(log)
 }
@@ -185,7 +242,7 @@ pub fn recv_blocking_logged<R: Wait + Copy>(
     receiver: &Receiver<u64, R>,
     log: Log,
 ) -> (Result<u64, Refused<RecvError>>, Log)
-    ensures { Blocks Logs (λ _ a b. Notes did.Parked a b) (λ a b. Notes did.Slept a b) blocking.Receive log (reply.RecvPoll (poll.Ready (result.0))) nothing_kept (result.1) }
+    ensures { SeenOn Operates Logs receiver.now.channel.form (λ saw begin r end. Blocks saw (λ _ a b. Notes did.Parked a b) (λ a b. Notes did.Slept a b) blocking.Receive begin r nothing_kept end) log (reply.RecvPoll (poll.Ready (result.0))) (result.1) }
 {
     receiver.traced().recv_blocking(log)
 }

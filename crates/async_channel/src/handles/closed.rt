@@ -10,13 +10,15 @@ ghost use Rattle.channel_calls.specs.Walks.{WalkedTo};
 ghost use Rattle.channel_calls.specs.declared.ask.ChannelAsk.TheVariants as ask;
 ghost use Rattle.channel_calls.specs.declared.reply.Reply.TheVariants as reply;
 ghost use Rattle.channel_calls.specs.declared.stage.Line.TheVariants as line;
+ghost use Rattle.async_channel.specs.Handles.{new_listening};
 ghost use Rattle.async_channel.specs.Polls.{Polls};
 ghost use Rattle.async_channel.specs.Watched.{WasSeen};
 
 use crate::handles::sender::Sender;
 use crate::open::no_trace::NoTrace;
+use crate::polls::waits::Waits;
 use crate::seen::Trace;
-use crate::waits::Waits;
+use channel_calls::stage::Line;
 use event_listener::error::ListenError;
 use futures::Future;
 use futures::task::{Context, Poll};
@@ -34,17 +36,16 @@ pub struct Closed<'a, T: Drop, R: Wait + Copy, S: Trace<T> + Copy = NoTrace> {
 }
 
 impl<'a, T: Drop, R: Wait + Copy, S: Trace<T> + Copy> Model for Closed<'a, T, R, S> {
-    ghost use Rattle.std.specs.Prelude.{Option};
-    ghost use Rattle.event_listener.specs.declared.key.Key.{Key};
+    ghost use Rattle.async_channel.specs.Handles.{Listening};
 
-    ghost Value = { Option Key };
+    ghost Value = { Listening };
 
-    ghost view = { λ o. o.waits.key };
+    ghost view = { λ o. record { channel = o.sender.now; key = o.waits.key } };
 }
 
 impl<'a, T: Drop, R: Wait + Copy, S: Trace<T> + Copy> Closed<'a, T, R, S> {
     pub(crate) fn new(sender: &'a Sender<T, R, S>) -> Closed<'a, T, R, S>
-        ensures { result ≡ None }
+        ensures { result ≡ new_listening sender.now }
     {
         Closed {
             sender,
@@ -57,8 +58,9 @@ impl<'a, T: Drop, R: Wait + Copy, S: Trace<T> + Copy> Closed<'a, T, R, S> {
     /// A copy of the waker is taken first. Where none is got nothing is tried, and the answer is want of memory. It may wait for
     /// another call's end and for the locks of those who wait.
     pub fn poll(&mut self, cx: &mut Context<'_>) -> Poll<Result<(), ListenError>>
-        ensures walked { WasSeen (λ begin r end. Polls S.did (closed_ask self.old) begin r self.new end) (reply.ClosedPoll result) }
-        ensures listed { is_some self.new ≡ is_pending result }
+        ensures walked { WasSeen S.did S.shown self.old.channel.form (λ saw begin r end. Polls saw (closed_ask self.old.key) begin r self.new.key end) (reply.ClosedPoll result) }
+        ensures listed { is_some self.new.key ≡ is_pending result }
+        ensures channel { self.new.channel ≡ self.old.channel }
         ensures armed { OnPending result (IsArmed cx.new) }
         ensures kept { Keeps cx.old cx.new }
     {
@@ -68,7 +70,7 @@ impl<'a, T: Drop, R: Wait + Copy, S: Trace<T> + Copy> Closed<'a, T, R, S> {
 
     /// Gives it up, as its drop does. It may wait for the lock of those who wait. Own to this project.
     pub fn give_up(self)
-        ensures walked { WasSeen (WalkedTo S.did (first (ask.GiveUp line.Closings None self.entry))) (reply.GivenUp None) }
+        ensures walked { WasSeen S.did S.shown self.entry.channel.form (λ saw. WalkedTo saw (first (ask.GiveUp line.Closings None self.entry.key))) (reply.GivenUp None) }
     {
         let sender = self.sender;
         let _ = self.give_up_traced(sender.watch);
@@ -84,12 +86,9 @@ impl<T: Drop, R: Wait + Copy, S: Trace<T> + Copy> Future for Closed<'_, T, R, S>
 }
 
 impl<T: Drop, R: Wait + Copy, S: Trace<T> + Copy> Drop for Closed<'_, T, R, S> {
-    fn drop(mut self) {
-        let sender = self.sender;
-        let _ = self.leave(sender.watch);
-        let Closed {
-            sender: _,
-            waits: _,
-        } = self;
+    fn drop(self) {
+        let Closed { sender, waits } = self;
+        let shared = &sender.counted.link.shared;
+        let _ = shared.leave(&sender.rt, Line::Closings, waits, sender.watch);
     }
 }

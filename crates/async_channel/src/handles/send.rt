@@ -15,9 +15,10 @@ ghost use Rattle.async_channel.specs.Watched.{WasSeen};
 
 use crate::handles::sender::Sender;
 use crate::open::no_trace::NoTrace;
+use crate::polls::waits::Waits;
 use crate::seen::Trace;
-use crate::waits::Waits;
 use channel_calls::error::{Refused, SendError};
+use channel_calls::stage::Line;
 use futures::Future;
 use futures::task::{Context, Poll};
 use std::marker::Model;
@@ -38,12 +39,12 @@ impl<'a, T: Drop, R: Wait + Copy, S: Trace<T> + Copy> Model for Send<'a, T, R, S
 
     ghost Value = { Sending T };
 
-    ghost view = { λ s. record { message = s.message; key = s.waits.key } };
+    ghost view = { λ s. record { channel = s.sender.now; message = s.message; key = s.waits.key } };
 }
 
 impl<'a, T: Drop, R: Wait + Copy, S: Trace<T> + Copy> Send<'a, T, R, S> {
     pub(crate) fn new(sender: &'a Sender<T, R, S>, message: T) -> Send<'a, T, R, S>
-        ensures { result ≡ new_sending message }
+        ensures { result ≡ new_sending sender.now message }
     {
         Send {
             sender,
@@ -58,9 +59,10 @@ impl<'a, T: Drop, R: Wait + Copy, S: Trace<T> + Copy> Send<'a, T, R, S> {
     /// A copy of the waker is taken first. Where none is got nothing is tried, and the answer is want of memory. It may wait for
     /// another call's end and for the locks of those who wait.
     pub fn poll(&mut self, cx: &mut Context<'_>) -> Poll<Result<(), Refused<SendError<T>>>>
-        ensures walked { WasSeen (λ begin r end. PollsSend S.did (send_ask self.old.message self.old.key) begin r self.new.key self.new.message end) (reply.SendPoll result) }
+        ensures walked { WasSeen S.did S.shown self.old.channel.form (λ saw begin r end. PollsSend saw (send_ask self.old.message self.old.key) begin r self.new.key self.new.message end) (reply.SendPoll result) }
         ensures message { SendsOn self.old.message result self.new.message }
         ensures listed { is_some self.new.key ≡ waits_on self.old.message result }
+        ensures channel { self.new.channel ≡ self.old.channel }
         ensures armed { OnPending result (IsArmed cx.new) }
         ensures kept { Keeps cx.old cx.new }
     {
@@ -78,7 +80,7 @@ impl<'a, T: Drop, R: Wait + Copy, S: Trace<T> + Copy> Send<'a, T, R, S> {
     /// Gives it up, as its drop does, and hands back the message of one that hasn't finished. It may wait for the lock of those
     /// who wait. Own to this project.
     pub fn give_up(self) -> Option<T>
-        ensures walked { WasSeen (WalkedTo S.did (first (ask.GiveUp line.Sends self.entry.message self.entry.key))) (reply.GivenUp result) }
+        ensures walked { WasSeen S.did S.shown self.entry.channel.form (λ saw. WalkedTo saw (first (ask.GiveUp line.Sends self.entry.message self.entry.key))) (reply.GivenUp result) }
         ensures message { result ≡ self.entry.message }
     {
         let sender = self.sender;
@@ -100,13 +102,14 @@ impl<T: Drop, R: Wait + Copy, S: Trace<T> + Copy> Future for Send<'_, T, R, S> {
 }
 
 impl<T: Drop, R: Wait + Copy, S: Trace<T> + Copy> Drop for Send<'_, T, R, S> {
-    fn drop(mut self) {
-        let sender = self.sender;
-        drop(self.leave(sender.watch).0);
+    fn drop(self) {
         let Send {
-            sender: _,
-            message: _,
-            waits: _,
+            sender,
+            message,
+            waits,
         } = self;
+        let shared = &sender.counted.link.shared;
+        let (back, _) = shared.give_up(&sender.rt, Line::Sends, message, waits, sender.watch);
+        drop(back);
     }
 }

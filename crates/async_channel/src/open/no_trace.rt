@@ -2,8 +2,9 @@
 
 use crate::seen::{Sight, Trace};
 use channel_calls::stage::{Line, Side};
-use concurrent_queue::call::QueueReply;
-use concurrent_queue::queue_call::QueueCall;
+use concurrent_queue::cells::{Slot, Word};
+use concurrent_queue::error::NoMemory;
+use concurrent_queue::seen as queue;
 use event_listener::error::ListenError;
 use event_listener::key::Key;
 use event_listener::waking::Task;
@@ -22,10 +23,54 @@ impl NoTrace {
     }
 }
 
-impl<T> Trace<T> for NoTrace {
+impl<T> queue::Trace<T> for NoTrace {
     ghost did = { λ _ _ _. Unit {0} };
 
-    ghost asking = { λ _ _ _. Unit {0} };
+    ghost brought = { λ _ _ _ _. Unit {0} };
+
+    #[inline(always)]
+    fn loaded(&mut self, _sight: &queue::Sight<NoTrace>, _at: Word, _found: u64) {}
+
+    #[inline(always)]
+    fn stored(&mut self, _sight: &queue::Sight<NoTrace>, _at: Word, _value: u64) {}
+
+    #[inline(always)]
+    fn exchanged(
+        &mut self,
+        _sight: &queue::Sight<NoTrace>,
+        _at: Word,
+        _expected: u64,
+        _next: u64,
+        _answer: Result<u64, u64>,
+    ) {}
+
+    #[inline(always)]
+    fn added(&mut self, _sight: &queue::Sight<NoTrace>, _at: Word, _by: u64, _found: u64) {}
+
+    #[inline(always)]
+    fn bits_set(&mut self, _sight: &queue::Sight<NoTrace>, _at: Word, _bits: u64, _found: u64) {}
+
+    #[inline(always)]
+    fn bits_kept(&mut self, _sight: &queue::Sight<NoTrace>, _at: Word, _bits: u64, _found: u64) {}
+
+    #[inline(always)]
+    fn bring(&mut self, _sight: &queue::Sight<NoTrace>, _at: Slot, _message: &T) {}
+
+    #[inline(always)]
+    fn put(&mut self, _sight: &queue::Sight<NoTrace>, _at: Slot, _done: bool) {}
+
+    #[inline(always)]
+    fn taken(&mut self, _sight: &queue::Sight<NoTrace>, _at: Slot, _found: &Option<T>) {}
+
+    #[inline(always)]
+    fn spared(&mut self, _sight: &queue::Sight<NoTrace>, _answer: Result<u64, NoMemory>) {}
+
+    #[inline(always)]
+    fn retired(&mut self, _sight: &queue::Sight<NoTrace>, _block: u64) {}
+}
+
+impl<T> Trace<T> for NoTrace {
+    ghost shown = { λ _ _ _. Unit {0} };
 
     ghost offering = { λ _ _ _ _ _. Unit {0} };
 
@@ -34,55 +79,49 @@ impl<T> Trace<T> for NoTrace {
     ghost slept = { λ _ _. Unit {0} };
 
     #[inline(always)]
-    fn asks(&mut self, _sight: &Sight<Self>, _call: &QueueCall<T>) {}
-
-    #[inline(always)]
-    fn answered(
+    fn inserted(
         &mut self,
-        _sight: &Sight<Self>,
-        _call: &QueueCall<T>,
-        _answer: &Option<QueueReply<T>>,
+        _sight: &Sight<NoTrace>,
+        _line: Line,
+        _answer: Result<Key, ListenError>,
     ) {}
 
     #[inline(always)]
-    fn inserted(&mut self, _sight: &Sight<Self>, _line: Line, _answer: Result<Key, ListenError>) {}
-
-    #[inline(always)]
-    fn offers(&mut self, _sight: &Sight<Self>, _line: Line, _key: Key, _task: &Task) {}
+    fn offers(&mut self, _sight: &Sight<NoTrace>, _line: Line, _key: Key, _task: &Task) {}
 
     #[inline(always)]
     fn registered(
         &mut self,
-        _sight: &Sight<Self>,
+        _sight: &Sight<NoTrace>,
         _line: Line,
         _key: Key,
         _answer: &Option<Task>,
     ) {}
 
     #[inline(always)]
-    fn taken_off(&mut self, _sight: &Sight<Self>, _line: Line, _key: Key) {}
+    fn taken_off(&mut self, _sight: &Sight<NoTrace>, _line: Line, _key: Key) {}
 
     #[inline(always)]
-    fn one_told(&mut self, _sight: &Sight<Self>, _line: Line) {}
+    fn one_told(&mut self, _sight: &Sight<NoTrace>, _line: Line) {}
 
     #[inline(always)]
-    fn more_told(&mut self, _sight: &Sight<Self>, _line: Line, _count: usize) {}
+    fn more_told(&mut self, _sight: &Sight<NoTrace>, _line: Line, _count: usize) {}
 
     #[inline(always)]
-    fn all_told(&mut self, _sight: &Sight<Self>, _line: Line) {}
+    fn all_told(&mut self, _sight: &Sight<NoTrace>, _line: Line) {}
 
     #[inline(always)]
-    fn counted(&mut self, _sight: &Sight<Self>, _side: Side, _found: usize) {}
+    fn counted(&mut self, _sight: &Sight<NoTrace>, _side: Side, _found: usize) {}
 
     #[inline(always)]
-    fn lowered(&mut self, _sight: &Sight<Self>, _side: Side, _found: usize) {}
+    fn lowered(&mut self, _sight: &Sight<NoTrace>, _side: Side, _found: usize) {}
 
     #[inline(always)]
-    fn raised(&mut self, _sight: &Sight<Self>, _side: Side, _from: usize, _done: bool) {}
+    fn raised(&mut self, _sight: &Sight<NoTrace>, _side: Side, _from: usize, _done: bool) {}
 
     #[inline(always)]
-    fn parks(&mut self, _sight: &Sight<Self>, _answer: &Option<Task>) {}
+    fn parks(&mut self, _sight: &Sight<NoTrace>, _answer: &Option<Task>) {}
 
     #[inline(always)]
-    fn sleeps(&mut self, _sight: &Sight<Self>) {}
+    fn sleeps(&mut self, _sight: &Sight<NoTrace>) {}
 }

@@ -4,6 +4,7 @@ ghost use Rattle.std.specs.Prelude.{◌≡◌, IfOk, IfSome};
 ghost use Rattle.channel_calls.specs.declared.stage.Side.TheVariants as side;
 ghost use Rattle.async_channel.specs.Counts.{Clones, Upgrades};
 ghost use Rattle.async_channel.specs.Handles.{handle_of, new_receiving};
+ghost use Rattle.async_channel.specs.Saw.{SeenOn};
 
 use crate::counted::Counted;
 use crate::handles::receiver::Receiver;
@@ -21,7 +22,7 @@ fn one_more<T: Drop, R: Wait, K: Kind, S: Trace<T>>(
     rt: &R,
     trace: S,
 ) -> (Result<Counted<T, K>, HandleError>, S)
-    ensures walked { Clones S.did K.side trace (result.0) (result.1) }
+    ensures walked { SeenOn S.did S.shown (handle_of link.now).form (λ saw. Clones saw K.side) trace (result.0) (result.1) }
     ensures made { IfOk (result.0) (λ more. handle_of more.link ≡ handle_of link.now) }
 {
     match link.try_clone() {
@@ -37,7 +38,7 @@ impl<T: Drop, R: Wait + Copy, S: Trace<T> + Copy> Sender<T, R, S> {
         &self,
         trace: X,
     ) -> (Result<Sender<T, R, S>, HandleError>, X)
-        ensures walked { Clones X.did side.Senders trace (result.0) (result.1) }
+        ensures walked { SeenOn X.did X.shown self.now.form (λ saw. Clones saw side.Senders) trace (result.0) (result.1) }
         ensures made { IfOk (result.0) (λ more. more ≡ self.now) }
     {
         let (counted, trace) = one_more(&self.counted.link, &self.rt, trace);
@@ -55,7 +56,7 @@ impl<T: Drop, R: Wait + Copy, S: Trace<T> + Copy> Receiver<T, R, S> {
         &self,
         trace: X,
     ) -> (Result<Receiver<T, R, S>, HandleError>, X)
-        ensures walked { Clones X.did side.Receivers trace (result.0) (result.1) }
+        ensures walked { SeenOn X.did X.shown self.now.channel.form (λ saw. Clones saw side.Receivers) trace (result.0) (result.1) }
         ensures made { IfOk (result.0) (λ more. more ≡ new_receiving self.now.channel) }
     {
         let (counted, trace) = one_more(&self.counted.link, &self.rt, trace);
@@ -72,7 +73,7 @@ fn upgraded<T: Drop, R: Wait, K: Kind, S: Trace<T>>(
     rt: &R,
     trace: S,
 ) -> (Result<Option<Counted<T, K>>, HandleError>, S)
-    ensures walked { Upgrades S.did K.side trace (result.0) (result.1) }
+    ensures walked { SeenOn S.did S.shown (handle_of link.now).form (λ saw. Upgrades saw K.side) trace (result.0) (result.1) }
     ensures made { IfOk (result.0) (λ made. IfSome made (λ more. handle_of more.link ≡ handle_of link.now)) }
 {
     match link.try_clone() {
@@ -88,7 +89,7 @@ impl<T: Drop, R: Wait + Copy, S: Trace<T> + Copy> WeakSender<T, R, S> {
         &self,
         trace: X,
     ) -> (Result<Option<Sender<T, R, S>>, HandleError>, X)
-        ensures walked { Upgrades X.did side.Senders trace (result.0) (result.1) }
+        ensures walked { SeenOn X.did X.shown self.now.form (λ saw. Upgrades saw side.Senders) trace (result.0) (result.1) }
         ensures made { IfOk (result.0) (λ made. IfSome made (λ sender. sender ≡ self.now)) }
     {
         let (counted, trace) = upgraded(&self.link, &self.rt, trace);
@@ -107,7 +108,7 @@ impl<T: Drop, R: Wait + Copy, S: Trace<T> + Copy> WeakReceiver<T, R, S> {
         &self,
         trace: X,
     ) -> (Result<Option<Receiver<T, R, S>>, HandleError>, X)
-        ensures walked { Upgrades X.did side.Receivers trace (result.0) (result.1) }
+        ensures walked { SeenOn X.did X.shown self.now.form (λ saw. Upgrades saw side.Receivers) trace (result.0) (result.1) }
         ensures made { IfOk (result.0) (λ made. IfSome made (λ receiver. receiver ≡ new_receiving self.now)) }
     {
         let (counted, trace) = upgraded(&self.link, &self.rt, trace);

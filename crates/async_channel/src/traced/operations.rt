@@ -12,16 +12,19 @@ ghost use Rattle.channel_calls.specs.declared.reply.Reply.TheVariants as reply;
 ghost use Rattle.channel_calls.specs.declared.stage.Line.TheVariants as line;
 ghost use Rattle.async_channel.specs.Handles.{waits_on};
 ghost use Rattle.async_channel.specs.Polls.{Polls, PollsSend};
+ghost use Rattle.async_channel.specs.Saw.{SeenOn};
 
 use crate::handles::closed::Closed;
 use crate::handles::receiver::Receiver;
 use crate::handles::recv::Recv;
 use crate::handles::send::Send;
+use crate::polls::waits::Waits;
 use crate::seen::Trace;
 use channel_calls::error::{RecvError, Refused, SendError};
 use channel_calls::stage::Line;
 use event_listener::error::ListenError;
 use futures::task::{Context, Poll};
+use std::mem;
 use std::sync::Wait;
 
 impl<'a, T: Drop, R: Wait + Copy, S: Trace<T> + Copy> Send<'a, T, R, S> {
@@ -32,9 +35,10 @@ impl<'a, T: Drop, R: Wait + Copy, S: Trace<T> + Copy> Send<'a, T, R, S> {
         cx: &mut Context<'_>,
         trace: X,
     ) -> (Poll<Result<(), Refused<SendError<T>>>>, X)
-        ensures walked { PollsSend X.did (send_ask self.old.message self.old.key) trace (reply.SendPoll (result.0)) self.new.key self.new.message (result.1) }
+        ensures walked { SeenOn X.did X.shown self.old.channel.form (λ saw begin r end. PollsSend saw (send_ask self.old.message self.old.key) begin r self.new.key self.new.message end) trace (reply.SendPoll (result.0)) (result.1) }
         ensures message { SendsOn self.old.message (result.0) self.new.message }
         ensures listed { is_some self.new.key ≡ waits_on self.old.message (result.0) }
+        ensures channel { self.new.channel ≡ self.old.channel }
         ensures armed { OnPending (result.0) (IsArmed cx.new) }
         ensures kept { Keeps cx.old cx.new }
     {
@@ -48,27 +52,20 @@ impl<'a, T: Drop, R: Wait + Copy, S: Trace<T> + Copy> Send<'a, T, R, S> {
             cx,
             trace,
         );
-        self.message = left;
+        drop(mem::replace(&mut self.message, left));
         (polled, trace)
     }
 
     /// [`give_up`](Send::give_up) with a trace of the caller's. Own to this project.
     pub fn give_up_traced<X: Trace<T>>(mut self, trace: X) -> (Option<T>, X)
-        ensures walked { WalkedTo X.did (first (ask.GiveUp line.Sends self.entry.message self.entry.key)) trace (reply.GivenUp (result.0)) (result.1) }
+        ensures walked { SeenOn X.did X.shown self.entry.channel.form (λ saw. WalkedTo saw (first (ask.GiveUp line.Sends self.entry.message self.entry.key))) trace (reply.GivenUp (result.0)) (result.1) }
         ensures message { result.0 ≡ self.entry.message }
-    {
-        self.leave(trace)
-    }
-
-    /// Its listener leaves, and so does its message.
-    pub(crate) fn leave<X: Trace<T>>(&mut self, trace: X) -> (Option<T>, X)
-        ensures walked { WalkedTo X.did (first (ask.GiveUp line.Sends self.old.message self.old.key)) trace (reply.GivenUp (result.0)) (result.1) }
-        ensures message { result.0 ≡ self.old.message }
     {
         let sender = self.sender;
         let shared = &sender.counted.link.shared;
         let message = self.message.take();
-        shared.give_up(&sender.rt, Line::Sends, message, &mut self.waits, trace)
+        let waits = mem::replace(&mut self.waits, Waits::new());
+        shared.give_up(&sender.rt, Line::Sends, message, waits, trace)
     }
 }
 
@@ -80,8 +77,9 @@ impl<'a, T: Drop, R: Wait + Copy, S: Trace<T> + Copy> Recv<'a, T, R, S> {
         cx: &mut Context<'_>,
         trace: X,
     ) -> (Poll<Result<T, Refused<RecvError>>>, X)
-        ensures walked { Polls X.did (recv_ask self.old) trace (reply.RecvPoll (result.0)) self.new (result.1) }
-        ensures listed { is_some self.new ≡ is_pending (result.0) }
+        ensures walked { SeenOn X.did X.shown self.old.channel.form (λ saw begin r end. Polls saw (recv_ask self.old.key) begin r self.new.key end) trace (reply.RecvPoll (result.0)) (result.1) }
+        ensures listed { is_some self.new.key ≡ is_pending (result.0) }
+        ensures channel { self.new.channel ≡ self.old.channel }
         ensures armed { OnPending (result.0) (IsArmed cx.new) }
         ensures kept { Keeps cx.old cx.new }
     {
@@ -92,18 +90,12 @@ impl<'a, T: Drop, R: Wait + Copy, S: Trace<T> + Copy> Recv<'a, T, R, S> {
 
     /// [`give_up`](Recv::give_up) with a trace of the caller's. Own to this project.
     pub fn give_up_traced<X: Trace<T>>(mut self, trace: X) -> X
-        ensures walked { WalkedTo X.did (first (ask.GiveUp line.Receives None self.entry)) trace (reply.GivenUp None) result }
-    {
-        self.leave(trace)
-    }
-
-    /// Its listener leaves.
-    pub(crate) fn leave<X: Trace<T>>(&mut self, trace: X) -> X
-        ensures walked { WalkedTo X.did (first (ask.GiveUp line.Receives None self.old)) trace (reply.GivenUp None) result }
+        ensures walked { SeenOn X.did X.shown self.entry.channel.form (λ saw. WalkedTo saw (first (ask.GiveUp line.Receives None self.entry.key))) trace (reply.GivenUp None) result }
     {
         let receiver = self.receiver;
         let shared = &receiver.counted.link.shared;
-        shared.leave(&receiver.rt, Line::Receives, &mut self.waits, trace)
+        let waits = mem::replace(&mut self.waits, Waits::new());
+        shared.leave(&receiver.rt, Line::Receives, waits, trace)
     }
 }
 
@@ -116,8 +108,9 @@ impl<'a, T: Drop, R: Wait + Copy, S: Trace<T> + Copy> Closed<'a, T, R, S> {
         cx: &mut Context<'_>,
         trace: X,
     ) -> (Poll<Result<(), ListenError>>, X)
-        ensures walked { Polls X.did (closed_ask self.old) trace (reply.ClosedPoll (result.0)) self.new (result.1) }
-        ensures listed { is_some self.new ≡ is_pending (result.0) }
+        ensures walked { SeenOn X.did X.shown self.old.channel.form (λ saw begin r end. Polls saw (closed_ask self.old.key) begin r self.new.key end) trace (reply.ClosedPoll (result.0)) (result.1) }
+        ensures listed { is_some self.new.key ≡ is_pending (result.0) }
+        ensures channel { self.new.channel ≡ self.old.channel }
         ensures armed { OnPending (result.0) (IsArmed cx.new) }
         ensures kept { Keeps cx.old cx.new }
     {
@@ -128,18 +121,12 @@ impl<'a, T: Drop, R: Wait + Copy, S: Trace<T> + Copy> Closed<'a, T, R, S> {
 
     /// [`give_up`](Closed::give_up) with a trace of the caller's. Own to this project.
     pub fn give_up_traced<X: Trace<T>>(mut self, trace: X) -> X
-        ensures walked { WalkedTo X.did (first (ask.GiveUp line.Closings None self.entry)) trace (reply.GivenUp None) result }
-    {
-        self.leave(trace)
-    }
-
-    /// Its listener leaves.
-    pub(crate) fn leave<X: Trace<T>>(&mut self, trace: X) -> X
-        ensures walked { WalkedTo X.did (first (ask.GiveUp line.Closings None self.old)) trace (reply.GivenUp None) result }
+        ensures walked { SeenOn X.did X.shown self.entry.channel.form (λ saw. WalkedTo saw (first (ask.GiveUp line.Closings None self.entry.key))) trace (reply.GivenUp None) result }
     {
         let sender = self.sender;
         let shared = &sender.counted.link.shared;
-        shared.leave(&sender.rt, Line::Closings, &mut self.waits, trace)
+        let waits = mem::replace(&mut self.waits, Waits::new());
+        shared.leave(&sender.rt, Line::Closings, waits, trace)
     }
 }
 
@@ -152,7 +139,7 @@ impl<T: Drop, R: Wait + Copy, S: Trace<T> + Copy> Receiver<T, R, S> {
         cx: &mut Context<'_>,
         trace: X,
     ) -> (Poll<Option<Result<T, ListenError>>>, X)
-        ensures walked { Polls X.did (next_ask self.old.key) trace (reply.Next (result.0)) self.new.key (result.1) }
+        ensures walked { SeenOn X.did X.shown self.old.channel.form (λ saw begin r end. Polls saw (next_ask self.old.key) begin r self.new.key end) trace (reply.Next (result.0)) (result.1) }
         ensures listed { is_some self.new.key ≡ is_pending (result.0) }
         ensures channel { self.new.channel ≡ self.old.channel }
         ensures armed { OnPending (result.0) (IsArmed cx.new) }

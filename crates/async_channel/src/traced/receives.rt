@@ -1,6 +1,6 @@
 //! The calls of a receiver that receive.
 
-ghost use Rattle.std.specs.Prelude.{◌≡◌, ◌≤◌, ◌<◌, [], length, Ok, Err, IfOk, IfErr, OnErr, MatchResult};
+ghost use Rattle.std.specs.Prelude.{◌≡◌, ◌≤◌, ◌<◌, [], length, Ok, Err, IfOk, IfErr, OnErr};
 ghost use Rattle.std.specs.Vec.{vec_capacity, vec_ptr};
 ghost use Rattle.channel_calls.specs.Asks.{first};
 ghost use Rattle.channel_calls.specs.Blocks.{Blocks};
@@ -12,6 +12,8 @@ ghost use Rattle.channel_calls.specs.declared.ask.ChannelAsk.TheVariants as ask;
 ghost use Rattle.channel_calls.specs.declared.blocked.Blocked.TheVariants as blocking;
 ghost use Rattle.channel_calls.specs.declared.reply.Reply.TheVariants as reply;
 ghost use Rattle.futures.specs.declared.task.Poll.TheVariants as poll;
+ghost use Rattle.async_channel.specs.Saw.{SeenOn};
+ghost use Rattle.async_channel.specs.Several.{ReceivesMany};
 
 use crate::seen::Trace;
 use crate::traced::Traced;
@@ -26,7 +28,7 @@ impl<'a, T: Drop, R: Wait + Copy> Traced<'a, T, R, OfReceivers> {
     /// Takes the oldest message.
     #[inline(always)]
     pub fn try_recv<S: Trace<T>>(&self, trace: S) -> (Result<T, TryRecvError>, S)
-        ensures walked { WalkedTo S.did (first ask.TryRecv) trace (reply.TryRecv (result.0)) (result.1) }
+        ensures walked { SeenOn S.did S.shown self.now.form (λ saw. WalkedTo saw (first ask.TryRecv)) trace (reply.TryRecv (result.0)) (result.1) }
     {
         let mut seen = self.cells(trace);
         let received = calls::try_recv(self.rt, &mut seen, &mut WakeNow { rt: self.rt });
@@ -40,8 +42,7 @@ impl<'a, T: Drop, R: Wait + Copy> Traced<'a, T, R, OfReceivers> {
         limit: usize,
         trace: S,
     ) -> (Result<Vec<T>, Refused<TryRecvError>>, S)
-        ensures walked { MatchResult (result.0) (λ messages. WalkedTo S.did (first (ask.RecvMany limit)) trace (reply.RecvMany (Ok messages.items)) (result.1))
-            (λ e. WalkedTo S.did (first (ask.RecvMany limit)) trace (reply.RecvMany (Err e)) (result.1)) }
+        ensures walked { SeenOn S.did S.shown self.now.form (λ saw. ReceivesMany saw limit) trace (result.0) (result.1) }
         ensures most { IfOk (result.0) (λ messages. length messages.items ≤ limit) }
         ensures none { IfOk (result.0) (λ messages. messages.items ≡ [] → limit ≡ 0) }
         ensures wanted { OnErr (result.0) (0 < limit) }
@@ -61,7 +62,7 @@ impl<'a, T: Drop, R: Wait + Copy> Traced<'a, T, R, OfReceivers> {
         into: &mut Vec<T>,
         trace: S,
     ) -> (Result<usize, TryRecvError>, S)
-        ensures walked { Fills S.did (room_in into.old) into.old.items trace (result.0) into.new.items (result.1) }
+        ensures walked { SeenOn S.did S.shown self.now.form (λ saw begin r end. Fills saw (room_in into.old) into.old.items begin r into.new.items end) trace (result.0) (result.1) }
         ensures most { IfOk (result.0) (λ n. n ≤ room_in into.old) }
         ensures none { IfOk (result.0) (λ n. n ≡ 0 → room_in into.old ≡ 0) }
         ensures wanted { IfErr (result.0) (λ _. 0 < room_in into.old) }
@@ -77,7 +78,7 @@ impl<'a, T: Drop, R: Wait + Copy> Traced<'a, T, R, OfReceivers> {
     /// Takes the oldest message, and blocks the thread while there is none.
     #[inline(always)]
     pub fn recv_blocking<S: Trace<T>>(&self, trace: S) -> (Result<T, Refused<RecvError>>, S)
-        ensures walked { Blocks S.did S.parked S.slept blocking.Receive trace (reply.RecvPoll (poll.Ready (result.0))) nothing_kept (result.1) }
+        ensures walked { SeenOn S.did S.shown self.now.form (λ saw begin r end. Blocks saw S.parked S.slept blocking.Receive begin r nothing_kept end) trace (reply.RecvPoll (poll.Ready (result.0))) (result.1) }
     {
         let mut seen = self.counted.link.shared.cells_and_bed(self.rt, trace);
         let sink = &mut WakeNow { rt: self.rt };
@@ -88,7 +89,7 @@ impl<'a, T: Drop, R: Wait + Copy> Traced<'a, T, R, OfReceivers> {
     /// Whether this receiver as a stream has ended.
     #[inline(always)]
     pub fn is_terminated<S: Trace<T>>(&self, trace: S) -> (bool, S)
-        ensures walked { WalkedTo S.did (first ask.IsTerminated) trace (reply.Flag (result.0)) (result.1) }
+        ensures walked { SeenOn S.did S.shown self.now.form (λ saw. WalkedTo saw (first ask.IsTerminated)) trace (reply.Flag (result.0)) (result.1) }
     {
         self.counted.link.shared.is_terminated(trace)
     }
@@ -99,7 +100,7 @@ impl<'a, T: Drop, R: Wait + Copy> Traced<'a, T, R, OfReceivers> {
     /// The next message of a walk over those that are there, which has ended or not: `None` ends it.
     #[inline(always)]
     pub fn next_there<S: Trace<T>>(&self, ended: &mut bool, trace: S) -> (Option<T>, S)
-        ensures walked { TakesNext S.did ended.old trace (result.0) (result.1) }
+        ensures walked { SeenOn S.did S.shown self.now.form (λ saw. TakesNext saw ended.old) trace (result.0) (result.1) }
         ensures end { IsNext ended.old (result.0) ended.new }
     {
         let mut seen = self.cells(trace);
@@ -115,7 +116,7 @@ impl<'a, T: Drop, R: Wait + Copy> Traced<'a, T, R, OfReceivers> {
         ended: &mut bool,
         trace: S,
     ) -> (Option<Result<T, ListenError>>, S)
-        ensures walked { WaitsForNext S.did S.parked S.slept ended.old trace (result.0) (result.1) }
+        ensures walked { SeenOn S.did S.shown self.now.form (λ saw. WaitsForNext saw S.parked S.slept ended.old) trace (result.0) (result.1) }
         ensures end { IsNext ended.old (result.0) ended.new }
     {
         let mut seen = self.counted.link.shared.cells_and_bed(self.rt, trace);

@@ -1,13 +1,12 @@
-use Rattle.channel_calls.specs.Asks.{first}
+use Rattle.std.proofs.Common.{rules, ◌≡◌, subst}
+use Rattle.concurrent_queue.specs.declared.cells.QueueForm.{QueueForm}
 use Rattle.channel_calls.specs.declared.ask.ChannelAsk.TheVariants as ask
-use Rattle.async_channel.proofs.Traces.{walked_to}
+use Rattle.async_channel.specs.Counts.{Drops}
+use Rattle.async_channel.specs.Handles.{form_of, handle_of}
+use Rattle.async_channel.specs.Saw.{Saw}
 use Rattle.async_channel.proofs.counted.Counted+T+OfReceivers.lower.Goals as goal
 
 pub returns : goal.returns
 returns g c =
-    record {
-      walked = (
-        c.drop_receiver.ensures.deeds.0,
-        walked_to g.S.Trace.did (c.cells-seen.result, _) (c.drop_receiver.new.cells, _) c.args.trace c.into_trace.result c.cells-seen.ensures.trace c.into_trace.ensures (first (ask.DropReceiver c.args.stream_key)) c.drop_receiver.ensures.deeds.0 c.drop_receiver.ensures.deeds.1,
-      );
-    }
+    let same : form_of c.deref.result.now ≡ (handle_of c.args.self.link).form = search rules in
+    record { walked = subst (λ (f : QueueForm). Drops (Saw g.S.Trace-2.did g.S.Trace-1.shown f) (ask.DropReceiver c.args.stream.key) c.args.trace c.drop_receiver.result) same c.drop_receiver.ensures.walked }

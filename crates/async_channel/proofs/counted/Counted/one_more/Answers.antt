@@ -1,15 +1,22 @@
+use Rattle.std.proofs.Common.{rules, ◌≡◌}
 use Rattle.channel_calls.specs.Asks.{first}
 use Rattle.channel_calls.specs.declared.ask.ChannelAsk.TheVariants as ask
 use Rattle.async_channel.proofs.Counts.{cloned, clone_refused}
+use Rattle.async_channel.specs.Handles.{handle_of, form_of}
+use Rattle.async_channel.specs.Saw.{Saw, SeenOn}
 use Rattle.async_channel.proofs.Traces.{walked_to}
 use Rattle.async_channel.proofs.counted.Counted.one_more.Goals as goal
 
 pub returns-in-Ok-clause-walked : goal.returns-in-Ok-clause-walked
+unfolding SeenOn
 returns-in-Ok-clause-walked g c =
+    let same : form_of c.cells-seen.result.cells.shared.now ≡ (handle_of c.args.link).form = search rules in
     let deeds = c.in-Ok.ensures.deeds in
-    cloned g.S.Trace.did g.K.Kind.side c.args.trace c.into_trace-trace.result deeds.0 c.in-Ok.raised (walked_to g.S.Trace.did (c.cells-seen.result, _) (c.clone_handle-counted.new.cells, _) c.args.trace c.into_trace-trace.result c.cells-seen.ensures.trace c.into_trace-trace.ensures (first (ask.CloneHandle g.K.Kind.side)) deeds.0 deeds.1) deeds.2
+    cloned (Saw g.S.Trace-2.did g.S.Trace-1.shown (handle_of c.args.link).form) g.K.Kind.side c.args.trace c.into_trace-trace.result deeds.0 c.in-Ok.raised (walked_to g.S.Trace-2.did g.S.Trace-1.shown (handle_of c.args.link).form (c.cells-seen.result, _) (c.clone_handle-counted.new.cells, _) c.args.trace c.into_trace-trace.result same c.cells-seen.ensures.trace c.into_trace-trace.ensures (first (ask.CloneHandle g.K.Kind.side)) deeds.0 deeds.1) deeds.2
 
 pub returns-in-Err-clause-walked : goal.returns-in-Err-clause-walked
+unfolding SeenOn
 returns-in-Err-clause-walked g c =
+    let same : form_of c.cells-seen.result.cells.shared.now ≡ (handle_of c.args.link).form = search rules in
     let deeds = c.in-Err.ensures.deeds in
-    clone_refused g.S.Trace.did g.K.Kind.side c.args.trace c.into_trace-trace.result deeds.0 c.in-Err.error c.in-Err.ensures.reason (walked_to g.S.Trace.did (c.cells-seen.result, _) (c.clone_handle-counted.new.cells, _) c.args.trace c.into_trace-trace.result c.cells-seen.ensures.trace c.into_trace-trace.ensures (first (ask.CloneHandle g.K.Kind.side)) deeds.0 deeds.1) deeds.2
+    clone_refused (Saw g.S.Trace-2.did g.S.Trace-1.shown (handle_of c.args.link).form) g.K.Kind.side c.args.trace c.into_trace-trace.result deeds.0 c.in-Err.error c.in-Err.ensures.reason (walked_to g.S.Trace-2.did g.S.Trace-1.shown (handle_of c.args.link).form (c.cells-seen.result, _) (c.clone_handle-counted.new.cells, _) c.args.trace c.into_trace-trace.result same c.cells-seen.ensures.trace c.into_trace-trace.ensures (first (ask.CloneHandle g.K.Kind.side)) deeds.0 deeds.1) deeds.2

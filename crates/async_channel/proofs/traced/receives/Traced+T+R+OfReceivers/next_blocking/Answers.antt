@@ -1,6 +1,11 @@
+use Rattle.std.proofs.Common.{sym, rules, ◌≡◌}
+use Rattle.async_channel.specs.Handles.{form_of}
+use Rattle.async_channel.specs.Saw.{SeenOn}
 use Rattle.async_channel.proofs.Traces.{waited}
 use Rattle.async_channel.proofs.traced.receives.Traced+T+R+OfReceivers.next_blocking.Goals as goal
 
 pub returns-clause-walked : goal.returns-clause-walked
+unfolding SeenOn
 returns-clause-walked g c =
-    waited g.S.Trace.did (c.cells_and_bed-seen.result, _) (c.next_blocking-next.new.cells, _) c.args.trace c.into_trace.result c.cells_and_bed-seen.ensures.trace c.into_trace.ensures g.S.Trace.parked g.S.Trace.slept c.args.ended.now c.next_blocking-next.result c.next_blocking-next.ensures.deeds
+    let same : form_of c.cells_and_bed-seen.result.cells.shared.now ≡ c.args.self.now.form = search rules in
+    waited g.S.Trace-2.did g.S.Trace-1.shown c.args.self.now.form (c.cells_and_bed-seen.result, _) (c.next_blocking-next.new.cells, _) c.args.trace c.into_trace.result same c.cells_and_bed-seen.ensures.trace c.into_trace.ensures g.S.Trace-1.parked g.S.Trace-1.slept (sym (c.next_blocking-next.ensures.form c.args.self.now.form (sym same))) c.args.ended.now c.next_blocking-next.result c.next_blocking-next.ensures.deeds

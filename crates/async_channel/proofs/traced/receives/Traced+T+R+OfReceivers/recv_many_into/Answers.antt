@@ -1,6 +1,8 @@
+use Rattle.async_channel.specs.Saw.{SeenOn}
 use Rattle.async_channel.proofs.Traces.{filled}
 use Rattle.async_channel.proofs.traced.receives.Traced+T+R+OfReceivers.recv_many_into.Goals as goal
 
 pub returns-clause-walked : goal.returns-clause-walked
+unfolding SeenOn
 returns-clause-walked g c =
-    filled g.S.Trace.did (c.cells-seen.result, _) (c.recv_many_into-received.new.cells, _) c.args.trace c.into_trace.result c.cells-seen.ensures.trace c.into_trace.ensures _ _ _ c.recv_many_into-received.result c.recv_many_into-received.ensures.deeds
+    filled g.S.Trace-2.did g.S.Trace-1.shown c.args.self.now.form (c.cells-seen.result, _) (c.recv_many_into-received.new.cells, _) c.args.trace c.into_trace.result c.cells-seen.ensures.form c.cells-seen.ensures.trace c.into_trace.ensures _ _ _ c.recv_many_into-received.result c.recv_many_into-received.ensures.deeds

@@ -1,11 +1,13 @@
 use Rattle.channel_calls.specs.Asks.{first}
 use Rattle.channel_calls.specs.declared.ask.ChannelAsk.TheVariants as ask
 use Rattle.channel_calls.specs.declared.reply.Reply.TheVariants as reply
+use Rattle.async_channel.specs.Saw.{SeenOn}
 use Rattle.async_channel.proofs.Traces.{walked_to}
 use Rattle.async_channel.proofs.traced.receives.Traced+T+R+OfReceivers.try_recv.Goals as goal
 
 pub returns : goal.returns
+unfolding SeenOn
 returns g c =
     record {
-      walked = walked_to g.S.Trace.did (c.cells-seen.result, _) (c.try_recv-received.new.cells, _) c.args.trace c.into_trace.result c.cells-seen.ensures.trace c.into_trace.ensures (first ask.TryRecv) (reply.TryRecv c.try_recv-received.result) c.try_recv-received.ensures.deeds;
+      walked = walked_to g.S.Trace-2.did g.S.Trace-1.shown c.args.self.now.form (c.cells-seen.result, _) (c.try_recv-received.new.cells, _) c.args.trace c.into_trace.result c.cells-seen.ensures.form c.cells-seen.ensures.trace c.into_trace.ensures (first ask.TryRecv) (reply.TryRecv c.try_recv-received.result) c.try_recv-received.ensures.deeds;
     }

@@ -10,9 +10,11 @@ use std::alloc::Global;
 use std::sync::{Arc, Wait};
 
 /// The listener of a pending operation, and the cell of its task's waker, which is made at the first poll.
-#[derive(Drop)]
+///
+/// It can't be let go: what ends it is a giving up, or a stream's drop, in which the listener leaves. Nor is its listener read or changed
+/// but by the polls and these two.
 pub(crate) struct Waits {
-    pub(crate) key: Option<Key>,
+    key: Option<Key>,
     cell: Option<Arc<WakerCell>>,
 }
 
@@ -27,9 +29,32 @@ impl Waits {
         }
     }
 
+    /// The listener.
+    pub(super) fn key(&self) -> Option<Key>
+        ensures { result ≡ self.now.key }
+    {
+        self.key
+    }
+
+    /// This is its listener now, as a poll left it.
+    pub(super) fn keep(&mut self, key: Option<Key>)
+        ensures { self.new.key ≡ key }
+    {
+        self.key = key;
+    }
+
+    /// Its listener, which is to leave.
+    pub(super) fn end(self) -> Option<Key>
+        ensures { result ≡ self.key }
+    {
+        let Waits { key, cell } = self;
+        drop(cell);
+        key
+    }
+
     /// A copy of the task's waker, in the place where a telling finds it; `None` where no copy was got. It arms the context for
     /// a pending answer either way.
-    pub(crate) fn arm<R: Wait>(
+    pub(super) fn arm<R: Wait>(
         &mut self,
         rt: &R,
         alloc: Global,

@@ -1,0 +1,7 @@
+use Rattle.std.proofs.Common.{refl}
+use Rattle.async_channel.specs.Saw.{SeenOn}
+use Rattle.async_channel.proofs.traced.counts.one_more.Goals as goal
+
+pub returns-in-None-clause-walked : goal.returns-in-None-clause-walked
+unfolding SeenOn
+returns-in-None-clause-walked g c = refl

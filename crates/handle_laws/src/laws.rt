@@ -1,0 +1,21 @@
+//! Laws of what calls of handles show the traces that watch them. Each is the contract of a function that does nothing.
+
+ghost use Rattle.event_listener.specs.declared.waking.Task.{Task as Waiter};
+ghost use Rattle.handle_laws.specs.Events.{WalksAct, CallsAct, PollsAct, SendPollsAct, ClonesAct, UpgradesAct};
+
+use async_channel::Trace;
+
+/// What a public call of a handle or an operation says it showed the trace that its channel is watched by, or a caller's, is what
+/// `merges_are_runs` of `channel_laws` asks of its party: operations of the queue, and deeds on the lists and the counts, that are the
+/// party's next events, with the answer that came out. So where the events of many such calls come in one order in which each answer
+/// is what the channel then held, the whole is a run, and the headline holds of it. Nothing is known of the trace but that it is one.
+///
+/// Own to this project.
+pub fn walks_of_handles_act<T, S: Trace<T>>()
+    ensures walks { WalksAct {W = Waiter} S.did S.shown }
+    ensures calls { CallsAct {W = Waiter} S.did S.shown }
+    ensures polls { PollsAct {W = Waiter} S.did S.shown }
+    ensures send_polls { SendPollsAct {W = Waiter} S.did S.shown }
+    ensures clones { ClonesAct {W = Waiter} S.did S.shown }
+    ensures upgrades { UpgradesAct {W = Waiter} S.did S.shown }
+{}
