@@ -123,10 +123,10 @@ module _ {T : Type 0} where
         (those Receives + those Streams) (one_fits s.channel.capacity (length s.channel.messages) holds free.1)
         (length-append s.channel.messages (c.message ∷ [])) (omega (arith, sends, mine)) (omega (arith, receives, streams)) in
         let so = subst (λ (b : Bool). 1 + bound b s.channel.capacity (length (s.channel.messages ++ c.message ∷ [])) (those Sends) (those Receives + those Streams)
-            ≤ bound b s.channel.capacity (length s.channel.messages) (count_all (on k Sends) s.waiting) (count_all (on k Receives) s.waiting + count_all (on k Streams) s.waiting))
+        ≤ bound b s.channel.capacity (length s.channel.messages) (count_all (on k Sends) s.waiting) (count_all (on k Receives) s.waiting + count_all (on k Streams) s.waiting))
         (sym free.0) most in
         let there = subst (λ (d : ModelChannel T). 1 + most_in d (those Sends) (those Receives + those Streams)
-            ≤ most_in s.channel (count_all (on k Sends) s.waiting) (count_all (on k Receives) s.waiting + count_all (on k Streams) s.waiting))
+        ≤ most_in s.channel (count_all (on k Sends) s.waiting) (count_all (on k Receives) s.waiting + count_all (on k Streams) s.waiting))
         (sym c.channel) so in
         omega (arith, one, there)
 
@@ -154,7 +154,7 @@ module _ {T : Type 0} where
         (those Receives + those Streams) (taken s.channel.messages s.channel.closed c.message c.rest c.there)
         (omega (arith, sends)) (takers_less line own c.line_is left) in
         let there = subst (λ (d : ModelChannel T). most_in d (those Sends) (those Receives + those Streams)
-            ≤ most_in s.channel (count_all (on k Sends) s.waiting) (count_all (on k Receives) s.waiting + count_all (on k Streams) s.waiting))
+        ≤ most_in s.channel (count_all (on k Sends) s.waiting) (count_all (on k Receives) s.waiting + count_all (on k Streams) s.waiting))
         (sym c.channel) most in
         omega (arith, none, there)
 
@@ -173,7 +173,7 @@ module _ {T : Type 0} where
         let most = fewer_in s.channel.closed s.channel.capacity (length s.channel.messages) _ _ (those Sends) (those Receives + those Streams)
         sends (omega (arith, receives, streams)) in
         let there = subst (λ (d : ModelChannel T). most_in d (those Sends) (those Receives + those Streams)
-            ≤ most_in s.channel (count_all (on k Sends) s.waiting) (count_all (on k Receives) s.waiting + count_all (on k Streams) s.waiting))
+        ≤ most_in s.channel (count_all (on k Sends) s.waiting) (count_all (on k Receives) s.waiting + count_all (on k Streams) s.waiting))
         (sym c.channel) most in
         omega (arith, none, there)
 

@@ -1,6 +1,6 @@
 //! Those who are pending, and those of them who were woken, line by line; and what calls under way have taken.
 
-ghost use Rattle.std.specs.Prelude.{◌≡◌, IfSome};
+ghost use Rattle.std.specs.Prelude.{◌≡◌, ◌<◌, ◌^◌, IfSome, IsSome};
 ghost use Rattle.channel_interleaving.specs.Owed.{is_woken_on};
 ghost use Rattle.channel_interleaving.specs.Roll.{line_of_kind};
 ghost use Rattle.channel_model.specs.Laws.{same_line};
@@ -110,7 +110,8 @@ fn is_stream_woken_on(line: Line, hold: &Option<Hold>) -> bool
 
 /// How many messages these calls have taken. None where there is no such number.
 fn taken_by(doings: &Vec<Doing>) -> Option<u64>
-    ensures { IfSome result (λ n. n ≡ takings_of doings.now.items) }
+    ensures told { IfSome result (λ n. n ≡ takings_of doings.now.items) }
+    ensures known { takings_of doings.now.items < 2 ^ 64 → IsSome result }
 {
     let mut taken = 0u64;
     for k in 0..doings.len() {
@@ -120,7 +121,7 @@ fn taken_by(doings: &Vec<Doing>) -> Option<u64>
 }
 
 impl<T: Drop> World<T> {
-    ghost use Rattle.std.specs.Prelude.{◌≡◌, IfSome};
+    ghost use Rattle.std.specs.Prelude.{◌≡◌, ◌<◌, ◌^◌, IfSome, IsSome};
     ghost use Rattle.channel_interleaving.specs.Owed.{woken_on};
     ghost use Rattle.channel_world.specs.Kinds.{pending_on_line};
     ghost use Rattle.channel_world.specs.View.{names_in, taken_in};
@@ -146,14 +147,17 @@ impl<T: Drop> World<T> {
         let operations = self.floor.roll.operations.iter();
         let operations = operations.filter(|(_, x)| is_woken_on(line, *x)).count();
         let streams = self.floor.roll.handles.iter();
-        let streams = streams.filter(|(_, x)| is_stream_woken_on(line, *x)).count();
+        let streams = streams
+            .filter(|(_, x)| is_stream_woken_on(line, *x))
+            .count();
         operations + streams
     }
 
     /// How many messages the calls under way have taken: of these are the places that they have freed and not announced yet. None
     /// where there is no such number. A walk over the calls under way. Own to this project.
     pub fn taken(&self) -> Option<u64>
-        ensures { IfSome result (λ n. n ≡ taken_in self.now) }
+        ensures told { IfSome result (λ n. n ≡ taken_in self.now) }
+        ensures known { taken_in self.now < 2 ^ 64 → IsSome result }
     {
         taken_by(&self.floor.doings)
     }
