@@ -2,7 +2,7 @@
 //! here. They are proved; nothing runs them.
 //!
 //! These promises are found so, of any type of messages. After any steps who sleeps is answered for: `step_and_look`. A run that
-//! did not stop has used its list up: `use_up`. Beside a message that is held after settling nobody receives: `settle_and_look`.
+//! did not stop has used its list up: `use_up`, and so has a list of calls: `use_up_calls`. Beside a message that is held after settling nobody receives: `settle_and_look`.
 //! Where one is pending, settling makes one poll at most: `settle_one`. Where nobody is under way and nobody is woken, nobody sleeps
 //! beside a message: `nobody_sleeps`. Nor does a send where the channel is open and one more message fits: `no_send_sleeps`. By kind, calls
 //! under way or not, each of the four lines is decided by numbers: `no_send_sleeps_by_kind`, `no_receive_sleeps_by_kind`,
@@ -19,6 +19,7 @@ ghost use Rattle.channel_world.specs.View.{at_rest, calls_in, messages_in, sight
 
 use crate::clients::Settling;
 use channel_calls::stage::Line;
+use channel_world::call::{Call, CallRun};
 use channel_world::laws::who_sleeps_is_answered_for;
 use channel_world::step::{Run, Step};
 use channel_world::under_way::UnderWay;
@@ -32,6 +33,17 @@ pub fn use_up<T: Drop>(world: &mut World<T>, steps: &mut VecDeque<Step<T>>) -> R
     ensures place { IfSome result.stopped (λ s. s.place ≡ vec_len result.trace) }
 {
     world.run_steps(steps)
+}
+
+/// Makes calls in whatever world has no call under way: where the list did not stop, it is used up; and so many were made as its place
+/// says.
+pub fn use_up_calls<T: Drop>(world: &mut World<T>, calls: &mut VecDeque<Call<T>>) -> CallRun<T>
+    requires { IsQuiet world.old }
+    ensures used_up { result.stopped ≡ None → calls.new.items ≡ [] }
+    ensures made { vec_len result.done + length calls.new.items ≡ length calls.old.items }
+    ensures place { IfSome result.stopped (λ s. s.place ≡ vec_len result.done) }
+{
+    world.run_calls(calls)
 }
 
 /// Makes steps in whatever world, and says how many: they and those that are left are all.
@@ -134,11 +146,13 @@ pub fn no_send_sleeps<T: Drop>(world: &World<T>) -> bool
     ensures { result ≡ true → NobodySleeps Sends world.now }
 {
     who_sleeps_is_answered_for(world);
-    let fits = match world.capacity() {
+    if world.is_closed() || world.under_way() > 0 || world.woken() > 0 {
+        return false;
+    }
+    match world.capacity() {
         Some(capacity) => world.messages() < capacity as u64,
         None => true,
-    };
-    fits && !world.is_closed() && world.under_way() == 0 && world.woken() == 0
+    }
 }
 
 /// Looks at whatever world, calls under way or not, and says whether a send that begins now has a position for its message: with
