@@ -2,13 +2,13 @@
 //! here. They are proved; nothing runs them.
 //!
 //! These promises are found so, of any type of messages. After any steps who sleeps is answered for: `step_and_look`. A run that
-//! did not stop has used its list up: `use_up`, and so has a list of calls: `use_up_calls`. Beside a message that is held after settling nobody receives: `settle_and_look`.
-//! Where one is pending, settling makes one poll at most: `settle_one`. Where nobody is under way and nobody is woken, nobody sleeps
-//! beside a message: `nobody_sleeps`. Nor does a send where the channel is open and one more message fits: `no_send_sleeps`. By kind, calls
-//! under way or not, each of the four lines is decided by numbers: `no_send_sleeps_by_kind`, `no_receive_sleeps_by_kind`,
-//! `no_stream_sleeps`, `nobody_sleeps_where_closed`, `is_awake`. Accounts are
-//! carried through calls, steps and calls: `carry` of `clients`. And a record has as many entries as the gathered seats made calls:
-//! `gather` of `recorded_channel_tests`, in `uses`.
+//! did not stop has used its list up: `use_up`, and so has a list of calls: `use_up_calls`. Beside a message that is held after settling
+//! nobody receives: `settle_and_look`. Where one is pending, settling makes one poll at most: `settle_one`. Where nobody is under way
+//! and nobody is woken, nobody sleeps beside a message: `nobody_sleeps`. Nor does a send where the channel is open and one more message
+//! fits: `no_send_sleeps`. By kind, calls under way or not, each of the four lines is decided by numbers: `no_send_sleeps_by_kind`,
+//! `no_receive_sleeps_by_kind`, `no_stream_sleeps`, `nobody_sleeps_where_closed`, `is_awake`. Accounts are carried through calls, steps
+//! and calls: `carry` of `clients`. And a record has as many entries as the gathered seats made calls: `gather` of
+//! `recorded_channel_tests`, in `uses`.
 
 ghost use Rattle.std.specs.Prelude.{◌≡◌, ◌+◌, ◌<◌, ◌≤◌, [], length, None, Some, true, IfOk, IfSome, vec_len};
 ghost use Rattle.channel_calls.specs.declared.stage.Line.{Line};
