@@ -19,7 +19,7 @@ use Rattle.channel_interleaving.specs.Floor as place
 use Rattle.channel_interleaving.specs.Doing.{doing_of}
 use Rattle.channel_interleaving.specs.Kept.{AllKept}
 use Rattle.channel_interleaving.specs.Owners.{All}
-use Rattle.channel_interleaving.specs.Lone.{names_alone, order_alone, CallsAlone, WakesAtMost}
+use Rattle.channel_interleaving.specs.Lone.{names_alone, order_alone, BringsWithin, CallsAlone, WakesAtMost}
 use Rattle.channel_interleaving.specs.Positions.{brings, accepted_by, is_one_place, yet_in}
 use Rattle.channel_interleaving.specs.Refusal.{begin_refusal}
 use Rattle.channel_interleaving.specs.Run.{Book}
@@ -33,7 +33,7 @@ use Rattle.channel_interleaving.proofs.AccountFacts.{no_accounts, run_accounts}
 use Rattle.channel_interleaving.proofs.DoingFacts.{TookFew}
 use Rattle.channel_interleaving.proofs.OwnerBegins.{Admitted, admitted}
 use Rattle.channel_interleaving.proofs.FloorFacts.{no_parties, owned_same, owned_where, stands_in, stands_same}
-use Rattle.channel_interleaving.proofs.PlaceFacts.{Counted, counted_alone}
+use Rattle.channel_interleaving.proofs.PlaceFacts.{Counted, came_most, counted_alone}
 use Rattle.channel_interleaving.proofs.ShownFacts.{has_position}
 use Rattle.channel_interleaving.proofs.WayFacts.{no_way, lone_way}
 use Rattle.channel_interleaving.proofs.WokenFacts.{all_heard, drop_front}
@@ -80,34 +80,40 @@ module _ {T : Type 0} where
       nobody (x ∷ xs) e = absurd cc
 
   -- a call that was made alone left the messages that were counted within the positions
-  counted_then : (c : Call T) (old new : Floor T) (b : Bool) (x : Reply T) (came : ℕ) (s t : Scene T Waiter) → brings old.roll c ≡ b
-      → (s.now.queue.accepted ≤ old.accepted → Counted old.accepted b x t) → place.HasPosition c old → came ≡ accepted_by b x
+  counted_then : (old new : Floor T) (b : Bool) (x : Reply T) (came : ℕ) (s t : Scene T Waiter)
+      → (s.now.queue.accepted ≤ old.accepted → Counted old.accepted b x t) → place.HasPositions came old → came ≡ accepted_by b x
       → new.accepted ≡ min (old.accepted + came) (2 ^ 64 - 1) → new.has_one_place ≡ old.has_one_place → t.under_way ≡ []
       → HasOnePlace old ⊎ AreCounted old s → HasOnePlace new ⊎ AreCounted new t
-  counted_then c old new b x came s t e counted room same counts kept over (inl one) = inl (kept ∙ one)
-  counted_then c old new b x came s t e counted room same counts kept over (inr k) = by b refl where
-    now : Counted old.accepted b x t
-    now = counted k.accepted
-
+  counted_then old new b x came s t counted room same counts kept over (inl one) = inl (kept ∙ one)
+  counted_then old new b x came s t counted room same counts kept over (inr k) = by room where
     none : yet_in t.under_way ≡ 0
     none = ap yet_in over
 
-    counted_in : old.accepted + came < 2 ^ 61 → AreCounted new t
-    counted_in most =
+    by : place.HasPositions came old → HasOnePlace new ⊎ AreCounted new t
+    by (inl one) = inl (kept ∙ one)
+    by (inr most) =
+        let now : Counted old.accepted b x t = counted k.accepted in
         let accepted = now.accepted in
-        record { accepted = omega (arith, accepted, same, counts, most); within = omega (arith, none, counts, most) }
+        inr (record { accepted = omega (arith, accepted, same, counts, most); within = omega (arith, none, counts, most) })
 
-    brings_one : place.HasPositions (length old.parties.items + 1) old → HasOnePlace new ⊎ AreCounted new t
-    brings_one (inl one) = inl (kept ∙ one)
-    brings_one (inr left) = let one = now.most in inr (counted_in (omega (arith, left, one, same)))
+  -- where there is a position for whatever a call may bring, there is one for what it does
+  pub brings_within : (c : Call T) (f : Floor T) → place.HasPosition c f → BringsWithin c f
+  brings_within c f room s o sh all alone = by (brings f.roll c) refl where
+    one : place.HasPositions (length f.parties.items + 1) f → place.HasPositions (accepted_by true o.reply) f
+    one (inl single) = inl single
+    one (inr left) = let most = came_most o.reply in inr (omega (arith, left, most))
 
-    by : (y : Bool) → b ≡ y → HasOnePlace new ⊎ AreCounted new t
-    by true f = brings_one (room (e ∙ f))
-    by false f = let nothing = now.none f in let within = k.within in inr (counted_in (omega (arith, nothing, within, same)))
+    none : HasOnePlace f ⊎ AreCounted f s → place.HasPositions (accepted_by false o.reply) f
+    none (inl single) = inl single
+    none (inr k) = let within = k.within in inr (omega (arith, within))
+
+    by : (b : Bool) → brings f.roll c ≡ b → place.HasPositions (accepted_by b o.reply) f
+    by true e = one (room e)
+    by false e = none sh.positions
 
   pub is_called : (c : Call T) (old new : Floor T) (a : ChannelAsk T Waiter) (d : Done T) (empty full : Sink) (fresh : List Waiter) (room came : ℕ)
       → RunsInScenes Hears a (parts_in old) empty old.messages d (parts_in new) full new.messages
-      → a ≡ asks old.roll c → IsQuiet old → IsQuiet new → place.HasPosition c old → came ≡ accepted_by (brings old.roll c) d.reply
+      → a ≡ asks old.roll c → IsQuiet old → IsQuiet new → BringsWithin c old → came ≡ accepted_by (brings old.roll c) d.reply
       → new.accepted ≡ min (old.accepted + came) (2 ^ 64 - 1) → new.has_one_place ≡ old.has_one_place
       → drop (length empty.names.items) full.names.items ≡ fresh → length empty.names.items + room ≤ vec_capacity empty.names
       → WakesAtMost room c old → new.doings.items ≡ old.doings.items
@@ -129,6 +135,8 @@ module _ {T : Type 0} where
       ∙ drop_front empty.names.items r.outcome.woken) in
       let run : LoneRun s 0 (asks old.roll c) r.outcome r.after =
       subst (λ (x : ChannelAsk T Waiter). LoneRun s 0 x r.outcome r.after) asked r.run in
+      let said : came ≡ accepted_by (brings old.roll c) r.outcome.reply =
+      brought ∙ ap (λ (y : Reply T). accepted_by (brings old.roll c) y) r.reply in
       let capacity : r.after.now.queue.capacity ≡ s.now.queue.capacity =
       ap (λ (x : Channel T Waiter). x.queue.capacity) r.now ∙ r.capacity in
       record {
@@ -142,9 +150,10 @@ module _ {T : Type 0} where
         shown = record {
           shows = subst (λ ps. Represents (parts_in new) ps r.after) (sym still) r.shown;
           place = same_place ∙ (sh.place ∙ sym (ap (λ (cap : Option ℕ). is_one_place cap) capacity));
-          positions = counted_then c old new (brings old.roll c) r.outcome.reply came s r.after refl
+          positions = counted_then old new (brings old.roll c) r.outcome.reply came s r.after
               (counted_alone old.roll c old.accepted s r.after r.outcome 0 run alone r.now (none_under_way old s quiet sh))
-              place_left (brought ∙ ap (λ (y : Reply T). accepted_by (brings old.roll c) y) r.reply) counts same_place run.over sh.positions;
+              (subst (λ n. place.HasPositions n old) (sym said) (place_left s r.outcome sh all alone)) said counts same_place run.over
+              sh.positions;
           messages = r.counted sh.messages;
           doings = doings ∙ (sh.doings ∙ (ap (λ (us : List (Under T Waiter)). map doing_of us) (none_under_way old s quiet sh)
               ∙ sym (ap (λ (us : List (Under T Waiter)). map doing_of us) run.over)));

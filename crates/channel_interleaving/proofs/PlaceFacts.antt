@@ -275,7 +275,7 @@ module _ {T : Type 0} where
       let end = ap all_in run.run.ends in
       omega (arith, same, more, goes, end)
 
-  came_most : (x : Reply T) → came_in x ≤ 1
+  pub came_most : (x : Reply T) → came_in x ≤ 1
   came_most (reply.TrySend (Ok u)) = omega arith
   came_most (reply.ForceSend (Ok d)) = omega arith
   came_most (reply.SendPoll (poll.Ready (Ok u))) = omega arith

@@ -8,9 +8,10 @@ use Rattle.channel_model.specs.declared.call.Call.{Call}
 use Rattle.channel_model.specs.declared.name.Waiter.{Waiter}
 use Rattle.channel_steps.specs.Scene.{Scene}
 use Rattle.channel_interleaving.specs.Bookkeeping.{asks, errand_of, names_begun, written_back, all_woken}
-use Rattle.channel_interleaving.specs.Floor.{book_of, Shown}
+use Rattle.channel_interleaving.specs.Floor.{book_of, HasPositions, Shown}
 use Rattle.channel_interleaving.specs.Kept.{AllKept}
 use Rattle.channel_interleaving.specs.Order.{order_begun, all_moved_last, order_settled}
+use Rattle.channel_interleaving.specs.Positions.{accepted_by, brings}
 use Rattle.channel_interleaving.specs.Run.{Book}
 use Rattle.channel_interleaving.specs.declared.floor.Floor.{Floor}
 use Rattle.channel_interleaving.specs.declared.roll.Roll.{Roll}
@@ -55,3 +56,9 @@ module _ {T : Type 0} where
   WakesAtMost room c f =
       (s : Scene T Waiter) (o : Outcome T Waiter) → Shown f s → AllKept (book_of f) s
       → Alone (asks f.roll c) s.now o → length o.woken ≤ room
+
+  -- a call made alone has a position of the queue for the message that it brings in, if it does
+  abbrev pub BringsWithin : Call T → Floor T → Type 0
+  BringsWithin c f =
+      (s : Scene T Waiter) (o : Outcome T Waiter) → Shown f s → AllKept (book_of f) s
+      → Alone (asks f.roll c) s.now o → HasPositions (accepted_by (brings f.roll c) o.reply) f

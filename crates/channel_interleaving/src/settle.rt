@@ -87,8 +87,8 @@ impl<T: Drop> Floor<T> {
     ghost use Rattle.std.specs.Prelude.{◌≡◌, ◌≤◌, ◌+◌, ◌-◌, false, vec_len, vec_capacity};
     ghost use Rattle.channel_alone.specs.Ample.{lacks_memory};
     ghost use Rattle.channel_model.specs.Settling.{poll_of};
-    ghost use Rattle.channel_interleaving.specs.Floor.{AreAtWork, AreOwned, HasPosition, IsQuiet};
-    ghost use Rattle.channel_interleaving.specs.Lone.{WakesAtMost};
+    ghost use Rattle.channel_interleaving.specs.Floor.{AreAtWork, AreOwned, IsQuiet};
+    ghost use Rattle.channel_interleaving.specs.Lone.{BringsWithin, WakesAtMost};
     ghost use Rattle.channel_interleaving.specs.Positions.{accepted_by, brings};
     ghost use Rattle.channel_interleaving.specs.Settle.{IsWoken, PollsAlone};
 
@@ -97,14 +97,14 @@ impl<T: Drop> Floor<T> {
     /// A stream is polled even while a live operation borrows its receiver. The poll takes nothing: its name has its place in the
     /// order of waking, and those whom it wakes go after the given names, where there is room for them. It isn't refused memory: where
     /// it goes on waiting, the node of the listener that was told serves the next one. Once all serial numbers of a list were given,
-    /// the reply says that none was left. Only the poll of a send may bring a message, so only that needs a position of the queue.
-    /// Nothing waits. Own to this project.
+    /// the reply says that none was left. Only a send that is accepted brings a message, so only there is a position of the queue
+    /// asked for. Nothing waits. Own to this project.
     pub fn poll_alone(&mut self, name: Waiter, names: Vec<Waiter>) -> Polled<T>
         requires owned { AreOwned self.old }
         requires at_work { AreAtWork self.old }
         requires quiet { IsQuiet self.old }
         requires woken { IsWoken name self.old }
-        requires limit { HasPosition (poll_of name) self.old }
+        requires limit { BringsWithin (poll_of name) self.old }
         requires room { WakesAtMost (vec_capacity names - vec_len names) (poll_of name) self.old }
         ensures polled { PollsAlone name self.old names.items result.reply result.names.items self.new }
         ensures at_work { AreAtWork self.new }

@@ -11,6 +11,7 @@ pub mod NumberLists
 pub mod NumberFacts
 pub mod AsleepFacts
 pub mod SleepFacts
+pub mod KindFacts
 pub mod TurnFacts
 pub mod SinceFacts
 pub mod SoonFacts
@@ -28,6 +29,7 @@ pub mod Tasks
 pub mod Polls
 pub mod Weights
 pub mod Short
+pub mod ComingIn
 pub mod Positions
 pub mod SettleFacts
 pub mod ScriptLemmas

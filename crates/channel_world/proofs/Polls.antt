@@ -9,9 +9,10 @@ use Rattle.channel_calls.specs.declared.stage.Line.TheVariants.{Sends, Receives,
 use Rattle.channel_alone.specs.Alone.{Outcome, Alone}
 use Rattle.channel_interleaving.proofs.Interface.{none_under_way, no_agents}
 use Rattle.channel_interleaving.specs.Bookkeeping.{asks}
-use Rattle.channel_interleaving.specs.Floor.{parts_in, book_of, Shown, IsKept, IsQuiet}
+use Rattle.channel_interleaving.specs.Floor.{parts_in, book_of, HasPositions, Shown, IsKept, IsQuiet}
 use Rattle.channel_interleaving.specs.Kept.{AllKept}
-use Rattle.channel_interleaving.specs.Lone.{book_alone, WakesAtMost}
+use Rattle.channel_interleaving.specs.Lone.{book_alone, BringsWithin, WakesAtMost}
+use Rattle.channel_interleaving.specs.Positions.{accepted_by, brings}
 use Rattle.channel_interleaving.specs.Roll.{held_of}
 use Rattle.channel_interleaving.specs.Run.{Book}
 use Rattle.channel_interleaving.specs.Settle.{PollsAlone}
@@ -82,6 +83,11 @@ module _ {T : Type 0} (f : Floor T) (kept : IsKept f) (quiet : IsQuiet f) where
         → WakesAtMost (room - n) (poll_of w) f
     poll_wakes_few n room fits s o sh k alone =
         let most = fits _ (allowed s (record s { now = o.channel }) o sh k alone refl) in omega (arith, most)
+
+    -- and brings in no message for which there is no position
+    pub poll_brings_within : ((a : Answer T) → Answers (at_rest f) (poll_of w) a → HasPositions (accepted_by (brings f.roll (poll_of w)) a.reply) f)
+        → BringsWithin (poll_of w) f
+    poll_brings_within fits s o sh k alone = fits _ (allowed s (record s { now = o.channel }) o sh k alone refl)
 
     pub poll_answers : (g : Floor T) (before : List Waiter) (x : Reply T) (after : List Waiter) → IsQuiet g
         → PollsAlone w f before x after g → Polls w (at_rest f) before x after (at_rest g)

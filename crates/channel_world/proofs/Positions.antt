@@ -1,18 +1,20 @@
--- The positions that a settling needs: one for each send that is pending.
-use Rattle.std.proofs.Common.{arith, ◌≡◌, ◌≤◌, ◌+◌, ℕ, Bool, true, false, Some, List, [], ◌∷◌, length, slice_get, inl, inr, ap, ◌∙◌}
+-- The positions that a settling needs: one for each message that comes in.
+use Rattle.std.proofs.Common.{arith, ◌≡◌, ◌≤◌, ◌+◌, ℕ, Bool, true, false, Some, IfSome, List, [], ◌∷◌, length, slice_get, inl, inr, subst, ◌∙◌}
 use Rattle.channel_calls.specs.declared.reply.Reply.{Reply}
-use Rattle.channel_interleaving.proofs.Interface.{only_sends_bring}
-use Rattle.channel_interleaving.specs.Floor.{HasPosition, HasPositions, IsQuiet}
+use Rattle.channel_interleaving.specs.Floor.{HasPositions, IsQuiet, Stands}
 use Rattle.channel_interleaving.specs.Positions.{accepted_by, brings, came_in}
 use Rattle.channel_interleaving.specs.declared.floor.Floor.{Floor}
 use Rattle.channel_model.specs.Answer.{Answer}
 use Rattle.channel_model.specs.Awake.{AwakeIn}
 use Rattle.channel_model.specs.Lines.{is_among}
+use Rattle.channel_model.specs.Refused.{Answers}
 use Rattle.channel_model.specs.Settling.{poll_of}
 use Rattle.channel_model.specs.declared.name.Waiter.{Waiter}
 use Rattle.channel_world.specs.Settled.{Polls}
 use Rattle.channel_world.specs.World.{at_rest}
-use Rattle.channel_world.proofs.Short.{sends_of, sends_one, brings_one}
+use Rattle.channel_world.proofs.Carried.{holds_what_fits}
+use Rattle.channel_world.proofs.ComingIn.{still_in, still_less, HoldsWithin}
+use Rattle.channel_world.proofs.NumberFacts.{messages_at_rest}
 
 at_most_came : {T : Type 0} (b : Bool) (x : Reply T) → accepted_by b x ≤ came_in x
 at_most_came true x = omega arith
@@ -27,22 +29,28 @@ module _ {T : Type 0} where
   fewer_positions f n m less (inl one) = inl one
   fewer_positions f n m less (inr left) = inr (omega (arith, less, left))
 
-  -- a poll that may bring a message is that of a send: it has a position, where there is one for each pending send
-  pub sends_positions : (f : Floor T) (w : Waiter) → IsQuiet f → is_among w (at_rest f).waiting.woken ≡ true
-      → HasPositions (sends_of (at_rest f)) f → HasPosition (poll_of w) f
-  sends_positions f w quiet there left e =
-      let one = sends_one (at_rest f) w there (only_sends_bring f.roll w e) in
-      let nobody = ap length quiet in
-      fewer_positions f _ _ (omega (arith, one, nobody)) left
+  -- with no call under way no more messages are held than fit
+  holds_at_rest : (f : Floor T) → Stands f → IsQuiet f → HoldsWithin (at_rest f)
+  holds_at_rest f k quiet =
+      subst (λ n. IfSome (at_rest f).channel.capacity (λ most. n ≤ most)) (messages_at_rest f k quiet) (holds_what_fits f k)
 
-  -- and after it there is still one for each that is pending then
-  pub positions_on : (f g : Floor T) (w : Waiter) (before : List Waiter) (x : Reply T) (after : List Waiter) → AwakeIn (at_rest f)
-      → slice_get (at_rest f).waiting.woken 0 ≡ Some w → Polls w (at_rest f) before x after (at_rest g)
-      → g.has_one_place ≡ f.has_one_place → g.accepted ≤ f.accepted + accepted_by (brings f.roll (poll_of w)) x
-      → HasPositions (sends_of (at_rest f)) f → HasPositions (sends_of (at_rest g)) g
-  positions_on f g w before x after awake front polls place accepted (inl one) = inl (place ∙ one)
-  positions_on f g w before x after awake front polls place accepted (inr left) =
-      let a : Answer T = record { after = at_rest g; reply = x; woken = polls.woken } in
-      let fewer = brings_one (at_rest f) awake w a front polls.answers in
-      let most = at_most_came (brings f.roll (poll_of w)) x in
-      inr (omega (arith, left, fewer, most, accepted))
+  module _ (f : Floor T) (k : Stands f) (quiet : IsQuiet f) (awake : AwakeIn (at_rest f)) (w : Waiter)
+      (front : slice_get (at_rest f).waiting.woken 0 ≡ Some w) where
+    -- however the poll of the first of those who are woken is answered, there is a position for what it brings in
+    pub one_position : HasPositions (still_in (at_rest f)) f → (a : Answer T) → Answers (at_rest f) (poll_of w) a
+        → HasPositions (accepted_by (brings f.roll (poll_of w)) a.reply) f
+    one_position left a says =
+        let fewer = still_less (at_rest f) awake (holds_at_rest f k quiet) w a front says in
+        let most = at_most_came (brings f.roll (poll_of w)) a.reply in
+        fewer_positions f _ _ (omega (arith, fewer, most)) left
+
+    -- and after it there are still positions for what comes in then
+    pub positions_on : (g : Floor T) (before : List Waiter) (x : Reply T) (after : List Waiter) → Polls w (at_rest f) before x after (at_rest g)
+        → g.has_one_place ≡ f.has_one_place → g.accepted ≤ f.accepted + accepted_by (brings f.roll (poll_of w)) x
+        → HasPositions (still_in (at_rest f)) f → HasPositions (still_in (at_rest g)) g
+    positions_on g before x after polls place accepted (inl one) = inl (place ∙ one)
+    positions_on g before x after polls place accepted (inr left) =
+        let a : Answer T = record { after = at_rest g; reply = x; woken = polls.woken } in
+        let fewer = still_less (at_rest f) awake (holds_at_rest f k quiet) w a front polls.answers in
+        let most = at_most_came (brings f.roll (poll_of w)) x in
+        inr (omega (arith, left, fewer, most, accepted))

@@ -8,6 +8,7 @@ use Rattle.channel_calls.specs.declared.stage.Line.{Line}
 use Rattle.channel_calls.specs.declared.stage.Line.TheVariants.{Sends, Receives, Streams, Closings}
 use Rattle.channel_model.specs.Answer.{Answer, answer, replying, after_leaving, pending, space_of, Found, first, none_yet, none_ever, found, send_poll_answer, recv_poll_answer, next_answer, closed_poll_answer, poll_answer}
 use Rattle.channel_model.specs.Awake.{AwakeIn, Kind, Placed}
+use Rattle.channel_model.specs.Channel.{appended, with_messages}
 use Rattle.channel_model.specs.Laws.{is_line, line_at, line_of_operation}
 use Rattle.channel_model.specs.Lines.{Waiting, is_among, untold, told_by, after_news, gone, passed_on, left_after, told_after, standing}
 use Rattle.channel_model.specs.Names.{Names, ModelOperation, send, recv, closing, at, with_operation_changed}
@@ -28,7 +29,7 @@ use Rattle.channel_model.proofs.WaiterLemmas.{decided, none_left}
 use Rattle.channel_interleaving.specs.Positions.{came_in}
 use Rattle.futures.specs.declared.task.Poll.TheVariants.{Ready, Pending}
 use Rattle.channel_world.specs.Settled.{SettlingIsShort, most_polls, pending_on}
-use Rattle.channel_world.proofs.Weights.{on, weight, no_more, by_one, by_send, by_receive, by_stream, count_more, count_on, all_streams, fewer_kinds}
+use Rattle.channel_world.proofs.Weights.{on, weight, no_more, by_one, by_send, by_receive, by_stream, count_on, all_streams, fewer_kinds}
 
 -- ---- one poll
 
@@ -49,7 +50,7 @@ pub record Stood (l m : Waiting) (names : List Waiter) : Type 0 where
   pub same : (p : Waiter → Bool) → count_all p m ≤ count_all p l
   pub none : names ≡ []
 
-abbrev LeftOrStood : Waiter → Line → Waiting → Waiting → List Waiter → Type 0
+abbrev pub LeftOrStood : Waiter → Line → Waiting → Waiting → List Waiter → Type 0
 LeftOrStood w line l m names = Left w line l m names ⊎ Stood l m names
 
 module _ (k : Kind) (w : Waiter) (l : Waiting) (placed : Placed k l) (e : is_among w l.woken ≡ true) where
@@ -82,20 +83,20 @@ module _ (k : Kind) (w : Waiter) (l : Waiting) (placed : Placed k l) (e : is_amo
       record { fewer = fewer_left Message Sends; few = omega (arith, all, both, one, passed) }
 
   -- a receive takes a message
-  takes : LeftOrStood w Receives l (left_after Room Receives w l) (told_after Room Receives w l)
+  takes : Left w Receives l (left_after Room Receives w l) (told_after Room Receives w l)
   takes =
       let told = after_news Room l in
       let all = length-append (told_by Room l) (told_by (passed_on Receives w told) (gone w told)) in
       let one = first_one l.sends in
       let passed = few_passed Receives w told (gone w told) in
-      inl (record { fewer = fewer_left Room Receives; few = omega (arith, all, one, passed) })
+      record { fewer = fewer_left Room Receives; few = omega (arith, all, one, passed) }
 
   -- a stream takes one
-  gives : LeftOrStood w Streams l (after_news Room (gone w l)) (told_by Room (gone w l))
-  gives = inl (record {
+  gives : Left w Streams l (after_news Room (gone w l)) (told_by Room (gone w l))
+  gives = record {
     fewer = λ p. let one = count_gone_one p w l e in let same = count_news p Room (gone w l) in omega (arith, one, same);
     few = first_one (gone w l).sends;
-  })
+  }
 
   is_gone : (line : Line) → LeftOrStood w line l (gone w l) []
   is_gone line = inl (record { fewer = λ p. count_gone_one p w l e; few = omega arith })
@@ -165,16 +166,42 @@ module _ {T : Type 0} where
 
   module _ (s : State T) where
     -- who belongs to a line after it belonged to it before
-    abbrev KeepsLines : Names T → Type 0
+    abbrev pub KeepsLines : Names T → Type 0
     KeepsLines names = (line : Line) (v : Waiter) → is_line line (line_at names v) ≡ true → is_line line (line_at s.names v) ≡ true
 
-    -- it brought no message in, or is a send that left
-    abbrev Brings : Line → Waiter → Answer T → Type 0
-    Brings line w a = (came_in a.reply ≡ 0) ⊎ ((line ≡ Sends) × (came_in a.reply ≡ 1) × Left w line s.waiting a.after.waiting a.woken)
+    -- a send left, and its message came in where a place was free
+    pub record Comes (line : Line) (w : Waiter) (a : Answer T) : Type 0 where
+      pub line_is : line ≡ Sends
+      pub left : Left w line s.waiting a.after.waiting a.woken
+      pub came : came_in a.reply ≡ 1
+      pub fits : space_of s.channel ≡ Open
+      pub message : T
+      pub channel : a.after.channel ≡ appended s.channel message
 
-    -- so a poll of one of this line leaves those who wait, and the names
-    abbrev Polled : Line → Waiter → Answer T → Type 0
-    Polled line w a = LeftOrStood w line s.waiting a.after.waiting a.woken × KeepsLines a.after.names × Brings line w a
+    -- one that takes a message left with the oldest
+    pub record Takes (line : Line) (w : Waiter) (a : Answer T) : Type 0 where
+      pub line_is : (line ≡ Receives) ⊎ (line ≡ Streams)
+      pub left : Left w line s.waiting a.after.waiting a.woken
+      pub came : came_in a.reply ≡ 0
+      pub message : T
+      pub rest : List T
+      pub there : found s.channel ≡ first message rest
+      pub channel : a.after.channel ≡ with_messages s.channel rest
+
+    -- the channel is as it was
+    pub record Stays (a : Answer T) : Type 0 where
+      pub came : came_in a.reply ≡ 0
+      pub channel : a.after.channel ≡ s.channel
+
+    abbrev pub Does : Line → Waiter → Answer T → Type 0
+    Does line w a = Comes line w a ⊎ Takes line w a ⊎ Stays a
+
+    -- so a poll of one of this line leaves those who wait, the names, and the channel
+    abbrev pub Polled : Line → Waiter → Answer T → Type 0
+    Polled line w a = LeftOrStood w line s.waiting a.after.waiting a.woken × KeepsLines a.after.names × Does line w a
+
+    stays : (line : Line) (w : Waiter) (a : Answer T) → came_in a.reply ≡ 0 → a.after.channel ≡ s.channel → Does line w a
+    stays line w a came same = inr (inr (record { came = came; channel = same }))
 
     kept : KeepsLines s.names
     kept line v e = e
@@ -194,7 +221,7 @@ module _ {T : Type 0} where
               (set_elsewhere op.0 other.0 (Some (send handle None)) s.names.operations named t)) ∙ e
         ]
 
-    AllPolled : Line → Waiter → Option (Answer T) → Type 0
+    pub AllPolled : Line → Waiter → Option (Answer T) → Type 0
     AllPolled line w o = (a : Answer T) → o ≡ Some a → Polled line w a
 
     none_polled : (line : Line) (w : Waiter) → AllPolled line w None
@@ -217,7 +244,7 @@ module _ {T : Type 0} where
       out_of_line : (line : Line) (r : Reply T) → came_in r ≡ 0 → AllPolled line w (not_standing line w s r)
       out_of_line line r none =
           either_polled line w (is_among w (untold line s.waiting)) None (Some (replying (with_waiting (gone w s.waiting) s) r)) (none_polled line w)
-          (one_polled line w _ (is_gone k w s.waiting awake.placed e line, kept, inl none))
+          (one_polled line w _ (is_gone k w s.waiting awake.placed e line, kept, stays line w _ none refl))
 
       unheld : (line : Line) (lack : Lack) (x : Space) (a : Answer T) → Polled line w a → AllPolled line w (not_held lack s.channel x a)
       unheld line memory Open a h = either_polled line w (is_none s.channel.capacity) (Some a) None (one_polled line w a h) (none_polled line w)
@@ -226,29 +253,41 @@ module _ {T : Type 0} where
       unheld line serials x a h = none_polled line w
 
     module _ (awake : AwakeIn s) (op : OpId) (e : is_among (Op op) s.waiting.woken ≡ true) where
-      send_so : (handle : HandleId) (m : T) (x : Space) → at op.0 s.names.operations ≡ Some (send handle (Some m))
+      send_so : (handle : HandleId) (m : T) (x : Space) → space_of s.channel ≡ x → at op.0 s.names.operations ≡ Some (send handle (Some m))
           → Polled Sends (Op op) (send_poll_answer s op handle m x)
-      send_so handle m Open there =
-          let left = accepted (line_at s.names) (Op op) s.waiting awake.placed e in
-          (inl left, finishes op handle _ there, inr (refl, refl, left))
-      send_so handle m Filled there = (stood (line_at s.names) (Op op) s.waiting awake.placed e Sends Sends, kept, inl refl)
-      send_so handle m Shut there = (leaves (line_at s.names) (Op op) s.waiting awake.placed e Sends, finishes op handle _ there, inl refl)
+      send_so handle m Open fits there =
+          let left = accepted (line_at s.names) (Op op) s.waiting awake.placed e in (
+            inl left,
+            finishes op handle _ there,
+            inl (record { line_is = refl; left = left; came = refl; fits = fits; message = m; channel = refl }),
+          )
+      send_so handle m Filled fits there =
+          (stood (line_at s.names) (Op op) s.waiting awake.placed e Sends Sends, kept, stays Sends (Op op) _ refl refl)
+      send_so handle m Shut fits there =
+          (leaves (line_at s.names) (Op op) s.waiting awake.placed e Sends, finishes op handle _ there, stays Sends (Op op) _ refl refl)
 
-      recv_so : (x : Found T) → Polled Receives (Op op) (recv_poll_answer s op x)
-      recv_so (first m ms) = (takes (line_at s.names) (Op op) s.waiting awake.placed e, kept, inl refl)
-      recv_so none_yet = (stood (line_at s.names) (Op op) s.waiting awake.placed e Receives Receives, kept, inl refl)
-      recv_so none_ever = (leaves (line_at s.names) (Op op) s.waiting awake.placed e Receives, kept, inl refl)
+      recv_so : (x : Found T) → found s.channel ≡ x → Polled Receives (Op op) (recv_poll_answer s op x)
+      recv_so (first m ms) there =
+          let left = takes (line_at s.names) (Op op) s.waiting awake.placed e in (
+            inl left,
+            kept,
+            inr (inl (record { line_is = inl refl; left = left; came = refl; message = m; rest = ms; there = there; channel = refl })),
+          )
+      recv_so none_yet there =
+          (stood (line_at s.names) (Op op) s.waiting awake.placed e Receives Receives, kept, stays Receives (Op op) _ refl refl)
+      recv_so none_ever there = (leaves (line_at s.names) (Op op) s.waiting awake.placed e Receives, kept, stays Receives (Op op) _ refl refl)
 
       closed_so : Polled Closings (Op op) (closed_poll_answer s op)
       closed_so =
           either_way (Polled Closings (Op op)) s.channel.closed (after_leaving Nothing Closings (Op op) s (reply.ClosedPoll (Ready (Ok tt))))
-          (pending Closings (Op op) s (reply.ClosedPoll Pending)) (leaves (line_at s.names) (Op op) s.waiting awake.placed e Closings, kept, inl refl)
-          (stood (line_at s.names) (Op op) s.waiting awake.placed e Closings Closings, kept, inl refl)
+          (pending Closings (Op op) s (reply.ClosedPoll Pending))
+          (leaves (line_at s.names) (Op op) s.waiting awake.placed e Closings, kept, stays Closings (Op op) _ refl refl)
+          (stood (line_at s.names) (Op op) s.waiting awake.placed e Closings Closings, kept, stays Closings (Op op) _ refl refl)
 
       send_lacks : (lack : Lack) (x : Space) → AllPolled Sends (Op op) (send_not_polled lack s op x)
       send_lacks lack Open =
           unheld awake (Op op) e Sends lack Open (after_leaving Nothing Sends (Op op) s (reply.SendPoll (Ready (Err (refused lack)))))
-          (leaves (line_at s.names) (Op op) s.waiting awake.placed e Sends, kept, inl refl)
+          (leaves (line_at s.names) (Op op) s.waiting awake.placed e Sends, kept, stays Sends (Op op) _ refl refl)
       send_lacks lack Filled = out_of_line awake (Op op) e Sends (reply.SendPoll (Ready (Err (refused lack)))) refl
       send_lacks lack Shut = none_polled Sends (Op op)
 
@@ -264,7 +303,7 @@ module _ {T : Type 0} where
           (none_polled Closings (Op op)) (out_of_line awake (Op op) e Closings (reply.ClosedPoll (Ready (Err (not_listening lack)))) refl)
 
     -- of one that belongs to this line
-    record PolledOn (w : Waiter) : Type 0 where
+    pub record PolledOn (w : Waiter) : Type 0 where
       pub line : Line
       pub own : line_at s.names w ≡ Some line
       pub ample : Polled line w (answer s (poll_of w))
@@ -276,14 +315,14 @@ module _ {T : Type 0} where
       operation_on op (Some (send handle (Some m))) there some e = record {
         line = Sends;
         own = ap (λ (o : Option (ModelOperation T)). line_of_operation o) there;
-        ample = subst (λ (o : Option (ModelOperation T)). Polled Sends (Op op) (poll_answer s op o)) (sym there) (send_so awake op e handle m (space_of s.channel) there);
+        ample = subst (λ (o : Option (ModelOperation T)). Polled Sends (Op op) (poll_answer s op o)) (sym there) (send_so awake op e handle m (space_of s.channel) refl there);
         lacking = λ lack. subst (λ (o : Option (ModelOperation T)). AllPolled Sends (Op op) (not_polled lack s op o)) (sym there) (send_lacks awake op e lack (space_of s.channel));
       }
       operation_on op (Some (send handle None)) there some e = cc some
       operation_on op (Some (recv handle)) there some e = record {
         line = Receives;
         own = ap (λ (o : Option (ModelOperation T)). line_of_operation o) there;
-        ample = subst (λ (o : Option (ModelOperation T)). Polled Receives (Op op) (poll_answer s op o)) (sym there) (recv_so awake op e (found s.channel));
+        ample = subst (λ (o : Option (ModelOperation T)). Polled Receives (Op op) (poll_answer s op o)) (sym there) (recv_so awake op e (found s.channel) refl);
         lacking = λ lack. subst (λ (o : Option (ModelOperation T)). AllPolled Receives (Op op) (not_polled lack s op o)) (sym there) (recv_lacks awake op e lack (found s.channel));
       }
       operation_on op (Some (closing handle)) there some e = record {
@@ -294,11 +333,17 @@ module _ {T : Type 0} where
       }
       operation_on op None there some e = cc some
 
-      next_so : (r : HandleId) → is_among (Stream r) s.waiting.woken ≡ true → (x : Found T)
+      next_so : (r : HandleId) → is_among (Stream r) s.waiting.woken ≡ true → (x : Found T) → found s.channel ≡ x
           → Polled Streams (Stream r) (next_answer (with_waiting (gone (Stream r) s.waiting) s) r x)
-      next_so r e (first m ms) = (gives (line_at s.names) (Stream r) s.waiting awake.placed e, kept, inl refl)
-      next_so r e none_yet = (stood_again (line_at s.names) (Stream r) s.waiting awake.placed e, kept, inl refl)
-      next_so r e none_ever = (is_gone (line_at s.names) (Stream r) s.waiting awake.placed e Streams, kept, inl refl)
+      next_so r e (first m ms) there =
+          let left = gives (line_at s.names) (Stream r) s.waiting awake.placed e in (
+            inl left,
+            kept,
+            inr (inl (record { line_is = inr refl; left = left; came = refl; message = m; rest = ms; there = there; channel = refl })),
+          )
+      next_so r e none_yet there = (stood_again (line_at s.names) (Stream r) s.waiting awake.placed e, kept, stays Streams (Stream r) _ refl refl)
+      next_so r e none_ever there =
+          (is_gone (line_at s.names) (Stream r) s.waiting awake.placed e Streams, kept, stays Streams (Stream r) _ refl refl)
 
       next_lacks : (r : HandleId) → is_among (Stream r) s.waiting.woken ≡ true → (lack : Lack) (x : Found T)
           → AllPolled Streams (Stream r) (next_not_polled lack s (Stream r) x)
@@ -306,17 +351,17 @@ module _ {T : Type 0} where
       next_lacks r e lack none_yet = out_of_line awake (Stream r) e Streams (reply.Next (Ready (Some (Err (not_listening lack))))) refl
       next_lacks r e lack none_ever = none_polled Streams (Stream r)
 
-      polled_on : (w : Waiter) → is_among w s.waiting.woken ≡ true → PolledOn w
+      pub polled_on : (w : Waiter) → is_among w s.waiting.woken ≡ true → PolledOn w
       polled_on (Op op) e = operation_on op (at op.0 s.names.operations) refl (awake.placed.wakes (Op op) e) e
       polled_on (Stream r) e = record {
         line = Streams;
         own = refl;
-        ample = rw (not_untold (line_at s.names) Streams (Stream r) s.waiting awake.placed e) (next_so r e (found s.channel));
+        ample = rw (not_untold (line_at s.names) Streams (Stream r) s.waiting awake.placed e) (next_so r e (found s.channel) refl);
         lacking = λ lack. next_lacks r e lack (found s.channel);
       }
 
       -- however it is answered
-      polled_so : (w : Waiter) (a : Answer T) (p : PolledOn w) → Answers s (poll_of w) a → Polled p.line w a
+      pub polled_so : (w : Waiter) (a : Answer T) (p : PolledOn w) → Answers s (poll_of w) a → Polled p.line w a
       unfolding AllPolled
       polled_so w a p (inl same) = subst (λ (x : Answer T). Polled p.line w x) (sym same) p.ample
       polled_so w a p (inr (lack, is)) = p.lacking lack a is
@@ -345,44 +390,6 @@ module _ {T : Type 0} where
       let near = nearer k w s.waiting a.after.waiting a.woken (all_streams k s.waiting awake.placed) (omega (arith, next, one)) p.line p.own so.0 in
       let fewer = fewer_kinds k (line_at a.after.names) a.after.waiting so.1 in
       omega (arith, near, fewer)
-
-  -- how many sends are pending
-  pub sends_of : State T → ℕ
-  sends_of s = count_all (on (line_at s.names) Sends) s.waiting
-
-  pub sends_within : (s : State T) → AwakeIn s → sends_of s ≤ pending_on Sends s
-  unfolding sends_of
-  sends_within s awake = count_on (line_at s.names) s.waiting awake.placed Sends
-
-  -- one of them is woken
-  pub sends_one : (s : State T) (w : Waiter) → is_among w s.waiting.woken ≡ true → is_line Sends (line_at s.names w) ≡ true → 1 ≤ sends_of s
-  unfolding sends_of
-  sends_one s w there own =
-      let gone_one = count_gone_one (on (line_at s.names) Sends) w s.waiting there in
-      let one : one_if (is_line Sends (line_at s.names w)) ≡ 1 = ap (λ (b : Bool). one_if b) own in
-      omega (arith, gone_one, one)
-
-  -- a poll of the first of those who are woken brings a message in only where a send leaves
-  pub brings_one : (s : State T) → AwakeIn s → (w : Waiter) (a : Answer T) → slice_get s.waiting.woken 0 ≡ Some w → Answers s (poll_of w) a
-      → came_in a.reply + sends_of a.after ≤ sends_of s
-  unfolding sends_of
-  brings_one s awake w a front answers =
-      let p = polled_on s awake w (first_there w s.waiting.woken front) in
-      let so = polled_so s awake w a p answers in
-      let k = line_at s.names in
-      let fewer = count_more (on (line_at a.after.names) Sends) (on k Sends) (λ v e. so.1 Sends v e) a.after.waiting in
-      by k p.line p.own fewer so.0 so.2
-    where
-      by : (k : Kind) (line : Line) → k w ≡ Some line
-          → count_all (on (line_at a.after.names) Sends) a.after.waiting ≤ count_all (on k Sends) a.after.waiting
-          → LeftOrStood w line s.waiting a.after.waiting a.woken → Brings s line w a
-          → came_in a.reply + count_all (on (line_at a.after.names) Sends) a.after.waiting ≤ count_all (on k Sends) s.waiting
-      by k line own fewer lors (inr (same, one, left)) =
-          let mine : one_if (is_line Sends (k w)) ≡ 1 = ap (λ (o : Option Line). one_if (is_line Sends o)) (own ∙ ap (λ (l : Line). Some l) same) in
-          let gone_one = left.fewer (on k Sends) in
-          omega (arith, fewer, one, mine, gone_one)
-      by k line own fewer (inl left) (inl none) = let more = left.fewer (on k Sends) in omega (arith, fewer, none, more)
-      by k line own fewer (inr stood_so) (inl none) = let more = stood_so.same (on k Sends) in omega (arith, fewer, none, more)
 
   pub within : (s : State T) → AwakeIn s → weight_of s ≤ most_polls s
   unfolding weight_of

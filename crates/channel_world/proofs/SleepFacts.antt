@@ -53,7 +53,7 @@ one_by_one true b h = rw (h refl) (omega arith)
 one_by_one false true h = omega arith
 one_by_one false false h = omega arith
 
-count_both : {A : Type 0} (p : A → Bool) (xs ys : List A) → count_by p (xs ++ ys) ≡ count_by p xs + count_by p ys
+pub count_both : {A : Type 0} (p : A → Bool) (xs ys : List A) → count_by p (xs ++ ys) ≡ count_by p xs + count_by p ys
 count_both p [] ys = omega arith
 count_both p (x ∷ xs) ys =
     let rest = count_both p xs ys in
@@ -61,7 +61,7 @@ count_both p (x ∷ xs) ys =
     let all = count_first p x (xs ++ ys) in
     omega (arith, rest, first, all)
 
-count_more : {A : Type 0} (p q : A → Bool) → ((x : A) → p x ≡ true → q x ≡ true) → (xs : List A) → count_by p xs ≤ count_by q xs
+pub count_more : {A : Type 0} (p q : A → Bool) → ((x : A) → p x ≡ true → q x ≡ true) → (xs : List A) → count_by p xs ≤ count_by q xs
 count_more p q h [] = omega arith
 count_more p q h (x ∷ xs) =
     let rest = count_more p q h xs in
@@ -84,7 +84,7 @@ module _ {X : Type 0} (p : Waiter → Bool) (test : Option X → Bool) (name : �
 
 -- where one that is looked up passes the second test and not the first, which no other passes without it, fewer pass the first
 module _ {X : Type 0} (first second : Option X → Bool) (h : (o : Option X) → first o ≡ true → second o ≡ true) where
-  one_more : (n : ℕ) (o : Option X) (es : Directory X) → lookup (nat_eq n) es ≡ Some o → first o ≡ false → second o ≡ true
+  pub one_more : (n : ℕ) (o : Option X) (es : Directory X) → lookup (nat_eq n) es ≡ Some o → first o ≡ false → second o ≡ true
       → suc (count_by (λ (e : ℕ × Option X). first e.1) es) ≤ count_by (λ (e : ℕ × Option X). second e.1) es
   one_more n o [] e off on = cc e
   one_more n o (f ∷ es) e off on =
@@ -183,11 +183,11 @@ few_roles (d ∷ ds) =
 
 -- ---- places
 
-more_places : (cap : Option ℕ) (m n : ℕ) → m ≤ n → HasPlaces cap m → HasPlaces cap n
+pub more_places : (cap : Option ℕ) (m n : ℕ) → m ≤ n → HasPlaces cap m → HasPlaces cap n
 more_places None m n le h = h
 more_places (Some c) m n le h = omega (arith, le, h)
 
-none_fits : (cap : Option ℕ) (m n : ℕ) → n ≤ m → HasAPlace cap m → HasPlaces cap n → ⊥
+pub none_fits : (cap : Option ℕ) (m n : ℕ) → n ≤ m → HasAPlace cap m → HasPlaces cap n → ⊥
 none_fits None m n le fits places = places
 none_fits (Some c) m n le fits places = omega (arith, le, fits, places)
 

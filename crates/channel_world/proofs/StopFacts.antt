@@ -1,5 +1,10 @@
 -- How many steps of a list were made, and where it stopped.
 use Rattle.std.proofs.Common.{arith, ◌≡◌, ◌+◌, ℕ, List, [], ◌∷◌, length, Option, None, Some, IfSome, ap, length-append}
+use Rattle.channel_model.specs.Run.{Runs}
+use Rattle.channel_model.specs.State.{State}
+use Rattle.channel_model.specs.declared.call.Call.{Call}
+use Rattle.channel_model.specs.declared.refusal.WorldRefusal.{WorldRefusal}
+use Rattle.channel_model.specs.declared.run.Done.{Done}
 use Rattle.channel_model.specs.declared.run.Stopped.{Stopped}
 use Rattle.channel_steps.proofs.Interface.{run_entries}
 use Rattle.channel_interleaving.specs.Floor.{Stands}
@@ -31,3 +36,18 @@ module _ {T : Type 0} where
       let all = ap (λ (xs : List (Step T)). length xs) r.first in
       let both = length-append r.made left in
       omega (arith, entries, all, both)
+
+  -- a list of calls that did not stop is used up
+  pub calls_used_up : (s : State T) (calls : List (Call T)) (done : List (Done T)) (rest : List (Call T)) (t : State T) → Runs s calls done None rest t
+      → rest ≡ []
+  calls_used_up s [] [] rest t ran = ran.0
+  calls_used_up s (c ∷ calls) [] rest t ran = absurd ran.2
+  calls_used_up s [] (d ∷ done) rest t ran = absurd ran
+  calls_used_up s (c ∷ calls) (d ∷ done) rest t ran = calls_used_up ran.0 calls done rest t ran.2
+
+  -- and of each list the calls that were made and those that are left are all
+  pub calls_made : (s : State T) (calls : List (Call T)) (done : List (Done T)) (why : Option WorldRefusal) (rest : List (Call T)) (t : State T)
+      → Runs s calls done why rest t → length done + length rest ≡ length calls
+  calls_made s calls [] why rest t ran = let same = ap (λ (cs : List (Call T)). length cs) ran.0 in omega (arith, same)
+  calls_made s [] (d ∷ done) why rest t ran = absurd ran
+  calls_made s (c ∷ calls) (d ∷ done) why rest t ran = let more = calls_made ran.0 calls done why rest t ran.2 in omega (arith, more)

@@ -1,4 +1,5 @@
 pub mod World
+pub mod Kinds
 pub mod View
 pub mod StepsLeft
 pub mod Marked

@@ -1,19 +1,23 @@
 -- What settling answers, and the room that it takes.
-use Rattle.std.specs.Prelude.{◌≡◌, ◌+◌, ◌*◌, ◌≤◌, ◌++◌, ℕ, List, length, map, true, false}
+use Rattle.std.specs.Prelude.{◌≡◌, ◌+◌, ◌-◌, ◌*◌, ◌≤◌, ◌++◌, ℕ, min, List, length, map, if◌then◌else◌, true, false}
 use Rattle.std.specs.List.{list_any}
+use Rattle.std.specs.Option.{option_map_or}
 use Rattle.channel_alone.specs.Ample.{lacks_memory}
 use Rattle.channel_language.specs.Text.{wants_growth}
 use Rattle.channel_calls.specs.declared.reply.Reply.{Reply}
 use Rattle.channel_calls.specs.declared.stage.Line.{Line}
 use Rattle.channel_calls.specs.declared.stage.Line.TheVariants.{Sends, Receives, Streams}
+use Rattle.channel_interleaving.specs.Positions.{accepted_by, brings}
+use Rattle.channel_model.specs.Answer.{Answer}
 use Rattle.channel_model.specs.Awake.{AwakeIn}
+use Rattle.channel_model.specs.Channel.{ModelChannel}
 use Rattle.channel_model.specs.Laws.{woken_of_line}
 use Rattle.channel_model.specs.Lines.{is_among, untold}
 use Rattle.channel_model.specs.Refused.{Answers}
 use Rattle.channel_model.specs.Settling.{poll_of, SettlesTo}
 use Rattle.channel_model.specs.State.{State}
 use Rattle.channel_model.specs.declared.name.Waiter.{Waiter}
-use Rattle.channel_world.specs.View.{WorldView, at_rest, HasPositions}
+use Rattle.channel_world.specs.View.{WorldView, at_rest, names_in, HasPositions}
 use Rattle.channel_world.specs.declared.settle.Settled.{Settled}
 
 module _ {T : Type 0} where
@@ -45,9 +49,24 @@ module _ {T : Type 0} where
       length s.waiting.woken + (pending_on Sends s * (pending_on Streams s + 2) + 2 * pending_on Receives s + pending_on Streams s)
 
 module _ {T : Type 0} where
-  -- Where somebody is woken the queue has a position for the message of each send that is pending. Where nobody is, nobody is polled.
+  -- How many messages come in at most, where so many sends are pending, and so many who take a message each: none into a closed
+  -- channel; with a bound no more than places are free, and than are freed.
+  abbrev pub most_in : ModelChannel T → ℕ → ℕ → ℕ
+  most_in c sends takers =
+      if c.closed then 0 else option_map_or (λ capacity. min sends ((capacity - length c.messages) + takers)) c.capacity sends
+
+  -- settling accepts no more messages
+  abbrev pub most_accepted : State T → ℕ
+  most_accepted s = most_in s.channel (pending_on Sends s) (pending_on Receives s + pending_on Streams s)
+
+  -- Where somebody is woken the queue has positions for the messages that come in. Where nobody is, nobody is polled.
   abbrev pub HasPositionsToSettle : WorldView T → Type 0
-  HasPositionsToSettle w = (name : Waiter) → is_among name (at_rest w).waiting.woken ≡ true → HasPositions (pending_on Sends (at_rest w)) w
+  HasPositionsToSettle w = (name : Waiter) → is_among name (at_rest w).waiting.woken ≡ true → HasPositions (most_accepted (at_rest w)) w
+
+  -- however a poll is answered, the queue has a position for the message that it brings in, if it does
+  abbrev pub PollHasPosition : Waiter → WorldView T → Type 0
+  PollHasPosition name w =
+      (a : Answer T) → Answers (at_rest w) (poll_of name) a → HasPositions (accepted_by (brings (names_in w) (poll_of name)) a.reply) w
 
 -- However it is answered, settling makes no more polls than that, from whatever state in which nobody is left asleep.
 abbrev pub SettlingIsShort : Type 0 → Type 0

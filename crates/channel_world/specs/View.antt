@@ -8,7 +8,6 @@ use Rattle.channel_calls.specs.Plain.{parts_of}
 use Rattle.channel_calls.specs.declared.reply.Reply.{Reply}
 use Rattle.channel_calls.specs.declared.stage.Side.{Side}
 use Rattle.channel_model.specs.State.{State}
-use Rattle.channel_model.specs.declared.call.Call.{Call}
 use Rattle.channel_model.specs.declared.name.Waiter.{Waiter}
 use Rattle.channel_steps.specs.Scene.{Scene}
 use Rattle.channel_steps.specs.declared.party.Party.{Party}
@@ -23,6 +22,7 @@ use Rattle.channel_interleaving.specs.declared.floor.Floor.{Floor}
 use Rattle.channel_interleaving.specs.declared.roll.Roll.{Roll}
 use Rattle.channel_interleaving.specs.declared.step.Entry.{Entry}
 use Rattle.channel_interleaving.specs.declared.step.Step.{Step}
+use Rattle.channel_world.specs.Kinds.{takings_of}
 use Rattle.channel_world.specs.World as world
 
 pub record WorldView (T : Type 0) : Type 0 where
@@ -58,6 +58,10 @@ module _ {T : Type 0} where
   -- how many calls are under way
   abbrev pub calls_in : WorldView T → ℕ
   calls_in w = floor.calls_in w.inside
+
+  -- how many messages these calls have taken
+  abbrev pub taken_in : WorldView T → ℕ
+  taken_in w = takings_of w.inside.doings.items
 
   -- the count of senders or of receivers
   abbrev pub count_in : Side → WorldView T → ℕ
@@ -125,9 +129,6 @@ module _ {T : Type 0} where
 
   abbrev pub IsKept : WorldView T → Type 0
   IsKept w = floor.IsKept w.inside
-
-  abbrev pub HasPosition : Call T → WorldView T → Type 0
-  HasPosition c w = floor.HasPosition c w.inside
 
   abbrev pub has_one_place : WorldView T → Bool
   has_one_place w = w.inside.has_one_place

@@ -1,7 +1,7 @@
 //! Laws of a channel, in one place: of worlds, of runs of calls made one at a time, and of channels at rest. Each is the contract
 //! of a function that does nothing; who wants to use one calls it.
 
-ghost use Rattle.channel_world.specs.Asleep.{AllAreAwake, ClosingIsAnswered, NoReceiveIsLeft, NoSendIsLeft, NoSendSleepsBesideAPlace, NoStreamIsLeft, NobodyIsLeftAtRest, NobodyIsLeftOnAClosed, NobodySleepsOnAClosed, NoReceiveSleepsBesideAMessage, NoStreamSleepsBesideAMessage, ReceivesAreAnswered, SendsAreAnswered, StreamsAreAnswered};
+ghost use Rattle.channel_world.specs.Asleep.{AllAreAwake, ClosingIsAnswered, NoReceiveIsLeft, NoSendIsLeft, NoSendSleepsBesideAPlace, NoStreamIsLeft, NobodyIsLeftAtRest, NobodyIsLeftOnAClosed, NobodySleepsOnAClosed, NoReceiveSleepsBesideAMessage, NoStreamSleepsBesideAMessage, ReceivesAreAnswered, SendsAreAnswered, StreamsAreAnswered, ALineIsAwake, NobodySleepsWhereClosed, NoReceiveSleeps, NoSendSleeps, NoStreamSleeps};
 ghost use Rattle.channel_world.specs.Carried.{HoldsWhatFits, LeadsFurther, LeadsOnInTurn, StaysWhereItIs};
 ghost use Rattle.channel_world.specs.Counts.{AreByDrops, CountsAtRest, CountsLive, OpenHasBoth};
 ghost use Rattle.channel_world.specs.InTurn.{HasItsAccounts, LaterLeavesLater, LeaveInTurn, OfOnePartyInTurn, RefusedIsKeptOut, StandsAsItsState};
@@ -112,8 +112,9 @@ pub fn at_rest_nobody_is_left_asleep<T: Drop>(world: &World<T>)
 /// Who sleeps, pending and not woken since its last poll, is answered for, in whatever world, calls under way or not. By kind that is
 /// what the headline says of each moment: a receive by woken receives, and sending and receiving calls; a send by woken sends, sending
 /// calls, and places that calls have freed and not announced yet; a stream by a sending call, and anybody on a closed channel by a call
-/// that has closed it. `calls_by_kind()` tells how many of the calls are so. No function tells how many places were freed, and how many
-/// of one line are woken.
+/// that has closed it. `calls_by_kind()` tells how many of the calls are so, `woken_of(line)` how many of a line are woken, and
+/// `taken()` how many messages the calls under way have taken. Of these are the places that they have freed: which of them are not
+/// announced yet no function tells. So whether anybody of a line may sleep is decided by numbers, calls under way or not.
 ///
 /// Of all calls and all woken ones, which is less, this is said in the numbers of `under_way()`, `woken()` and `messages()`, with
 /// `capacity()` and `is_closed()`. Where a receive sleeps there are no more messages than woken ones and calls under way. Where a send
@@ -137,6 +138,11 @@ pub fn who_sleeps_is_answered_for<T: Drop>(world: &World<T>)
     ensures beside_a_place { NoSendSleepsBesideAPlace world.now }
     ensures on_a_closed { NobodySleepsOnAClosed world.now }
     ensures awake { AllAreAwake world.now }
+    ensures receive_by_kind { NoReceiveSleeps world.now }
+    ensures send_by_kind { NoSendSleeps world.now }
+    ensures stream_by_kind { NoStreamSleeps world.now }
+    ensures closing_by_kind { NobodySleepsWhereClosed world.now }
+    ensures line_by_line { ALineIsAwake world.now }
 {
     world.keeps();
     world.keeps_names();

@@ -12,6 +12,7 @@
 
 pub mod account;
 pub mod call;
+mod kinds;
 pub mod laws;
 pub mod name;
 mod party;

@@ -4,7 +4,7 @@ use super::world::World;
 use std::collections::VecDeque;
 
 impl<T: Drop> World<T> {
-    ghost use Rattle.std.specs.Prelude.{◌≡◌, ◌<◌, IfSome, IfNone, vec_len, vec_capacity};
+    ghost use Rattle.std.specs.Prelude.{◌≡◌, ◌+◌, ◌<◌, [], length, None, IfSome, IfNone, vec_len, vec_capacity};
     ghost use Rattle.std.specs.Option.{option_map};
     ghost use Rattle.channel_model.specs.Run.{Runs, MayStop};
     ghost use Rattle.channel_world.specs.Carried.{replied_in, LeadsTo};
@@ -37,6 +37,8 @@ impl<T: Drop> World<T> {
     pub fn run_calls(&mut self, calls: &mut VecDeque<Call<T>>) -> CallRun<T>
         requires quiet { IsQuiet self.old }
         ensures run { Runs (at_rest self.old) calls.old.items result.done.items (option_map (λ s. s.why) result.stopped) calls.new.items (at_rest self.new) }
+        ensures used_up { result.stopped ≡ None → calls.new.items ≡ [] }
+        ensures made { vec_len result.done + length calls.new.items ≡ length calls.old.items }
         ensures place { IfSome result.stopped (λ s. s.place ≡ vec_len result.done) }
         ensures quiet { IsQuiet self.new }
         ensures leads { LeadsTo self.old (replied_in result.done.items) self.new }

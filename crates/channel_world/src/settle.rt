@@ -55,8 +55,8 @@ impl<T: Drop> World<T> {
     ghost use Rattle.channel_model.specs.Lines.{is_among};
     ghost use Rattle.channel_model.specs.Refused.{Answers};
     ghost use Rattle.channel_model.specs.Settling.{poll_of};
-    ghost use Rattle.channel_world.specs.Settled.{Polls, HasPositionsToSettle, most_polls, pending_on};
-    ghost use Rattle.channel_world.specs.View.{names_in, at_rest, has_one_place, accepted_by_now, IsQuiet, LeadsOn, HasPosition};
+    ghost use Rattle.channel_world.specs.Settled.{Polls, PollHasPosition, HasPositionsToSettle, most_accepted, most_polls, pending_on};
+    ghost use Rattle.channel_world.specs.View.{names_in, at_rest, has_one_place, accepted_by_now, IsQuiet, LeadsOn};
 
     /// Whether what has this name belongs to this line.
     fn is_on(&self, line: Line, name: Waiter) -> bool
@@ -107,7 +107,31 @@ impl<T: Drop> World<T> {
         later.checked_add(woken.len())
     }
 
-    /// Whether the queue has positions for the messages of all pending sends, where these are woken. Where nobody is woken nobody is
+    /// How many messages settling accepts at most, where these are woken. None where there is no such number.
+    ///
+    /// Into a closed channel none comes. With a bound no more come than places are free and, by who takes a message, are freed.
+    fn most_accepted(&self, woken: &Vec<Waiter>) -> Option<usize>
+        requires quiet { IsQuiet self.now }
+        requires woken { woken.now.items ≡ (at_rest self.now).waiting.woken }
+        ensures { IfSome result (λ n. n ≡ most_accepted (at_rest self.now)) }
+    {
+        self.keeps_names();
+        if self.is_closed() {
+            return Some(0);
+        }
+        let sends = self.pending_on(Line::Sends, woken)?;
+        let Some(capacity) = self.capacity() else {
+            return Some(sends);
+        };
+        let receives = self.pending_on(Line::Receives, woken)?;
+        let streams = self.pending_on(Line::Streams, woken)?;
+        let takers = receives.checked_add(streams)?;
+        let free = (capacity as u64).saturating_sub(self.messages()) as usize;
+        let places = free.checked_add(takers)?;
+        Some(if sends < places { sends } else { places })
+    }
+
+    /// Whether the queue has positions for the messages that a settling accepts, where these are woken. Where nobody is woken nobody is
     /// polled, so there it needs none.
     fn has_positions_to_settle(&self, woken: &Vec<Waiter>) -> bool
         requires quiet { IsQuiet self.now }
@@ -118,8 +142,8 @@ impl<T: Drop> World<T> {
         if woken.is_empty() {
             return true;
         }
-        match self.pending_on(Line::Sends, woken) {
-            Some(sends) => self.has_positions(sends),
+        match self.most_accepted(woken) {
+            Some(count) => self.has_positions(count),
             None => false,
         }
     }
@@ -132,7 +156,7 @@ impl<T: Drop> World<T> {
     }
 
     /// Room for all that settling answers. None where it was refused, or where somebody is woken and the queue has no positions for the
-    /// messages of all pending sends.
+    /// messages that come in.
     fn room_to_settle(&self) -> Option<Room<T>>
         requires quiet { IsQuiet self.now }
         ensures names { IfSome result (λ r. r.names.items ≡ (at_rest self.now).waiting.woken) }
@@ -156,7 +180,7 @@ impl<T: Drop> World<T> {
     fn poll_woken(&mut self, name: Waiter, names: Vec<Waiter>) -> Polled<T>
         requires quiet { IsQuiet self.old }
         requires woken { is_among name (at_rest self.old).waiting.woken ≡ true }
-        requires limit { HasPosition (poll_of name) self.old }
+        requires limit { PollHasPosition name self.old }
         requires room { (a : Answer T) → Answers (at_rest self.old) (poll_of name) a → vec_len names + length a.woken ≤ vec_capacity names }
         ensures polled { Polls name (at_rest self.old) names.items result.reply result.names.items (at_rest self.new) }
         ensures quiet { IsQuiet self.new }
@@ -193,7 +217,8 @@ impl<T: Drop> World<T> {
     ///
     /// Room for just that many answers, and for as many names, is taken before the first poll. Where it is refused, it is `NoMemory`, and
     /// nothing is changed. So it is, where somebody is woken and the channel has more than one place, if the messages that were accepted
-    /// and those of the pending sends come to 2^61: only a pending send brings one. No poll is refused memory: where it goes on waiting,
+    /// and those that may come in come to 2^61. These are none where the channel is closed. Else they are as many as sends are pending, or
+    /// as places are free and receives and streams are pending, which is less. No poll is refused memory: where it goes on waiting,
     /// the node of the listener that was told serves the next one. So a settling is refused its room, or it settles. Only once all 2^64 - 1 serial
     /// numbers of a list of listeners were given, the reply of a poll that would go on waiting there says that none was left, and it is
     /// pending no more; all the rest holds as before.

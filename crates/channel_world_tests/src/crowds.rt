@@ -10,7 +10,7 @@ use std::collections::VecDeque;
 use std::test::Fail;
 
 /// Makes this call where none is under way. None where it is refused.
-fn make(world: &mut World<u64>, alloc: Global, call: Call<u64>) -> Option<()> {
+pub fn make(world: &mut World<u64>, alloc: Global, call: Call<u64>) -> Option<()> {
     if !world.is_quiet() {
         return None;
     }

@@ -10,6 +10,8 @@ pub mod clients;
 #[cfg(test)]
 mod crowds;
 #[cfg(test)]
+mod lines;
+#[cfg(test)]
 mod openings;
 #[cfg(test)]
 mod positions;

@@ -1,20 +1,25 @@
 //! Clients of a world whose promises follow from its own clauses and laws, in the numbers that it tells, with no file of proofs
 //! here. They are proved; nothing runs them.
 //!
-//! Eight promises are found so, of any type of messages. After any steps who sleeps is answered for: `step_and_look`. A run that
-//! did not stop has used its list up: `use_up`. Beside a message that is held after settling nobody receives: `settle_and_look`.
-//! Where one is pending, settling makes one poll at most: `settle_one`. Where nobody is under way and nobody is woken, nobody sleeps
-//! beside a message: `nobody_sleeps`. Nor does a send where the channel is open and one more message fits: `no_send_sleeps`. Accounts are
-//! carried through calls, steps and calls: `carry` of `clients`. And a record has as many entries as the gathered seats made calls:
-//! `gather` of `recorded_channel_tests`, in `uses`.
+//! These promises are found so, of any type of messages. After any steps who sleeps is answered for: `step_and_look`. A run that
+//! did not stop has used its list up: `use_up`, and so has a list of calls: `use_up_calls`. Beside a message that is held after settling
+//! nobody receives: `settle_and_look`. Where one is pending, settling makes one poll at most: `settle_one`. Where nobody is under way
+//! and nobody is woken, nobody sleeps beside a message: `nobody_sleeps`. Nor does a send where the channel is open and one more message
+//! fits: `no_send_sleeps`. By kind, calls under way or not, each of the four lines is decided by numbers: `no_send_sleeps_by_kind`,
+//! `no_receive_sleeps_by_kind`, `no_stream_sleeps`, `nobody_sleeps_where_closed`, `is_awake`. Accounts are carried through calls, steps
+//! and calls: `carry` of `clients`. And a record has as many entries as the gathered seats made calls: `gather` of
+//! `recorded_channel_tests`, in `uses`.
 
 ghost use Rattle.std.specs.Prelude.{◌≡◌, ◌+◌, ◌<◌, ◌≤◌, [], length, None, Some, true, IfOk, IfSome, vec_len};
+ghost use Rattle.channel_calls.specs.declared.stage.Line.{Line};
 ghost use Rattle.channel_calls.specs.declared.stage.Line.TheVariants.{Receives, Sends, Streams};
 ghost use Rattle.channel_interleaving.specs.Owed.{Owed};
 ghost use Rattle.channel_world.specs.Asleep.{woken_among, ClosingIsAnswered, NobodySleeps, ReceivesAreAnswered, SendsAreAnswered, StreamsAreAnswered};
 ghost use Rattle.channel_world.specs.View.{at_rest, calls_in, messages_in, sight_of, IsQuiet};
 
 use crate::clients::Settling;
+use channel_calls::stage::Line;
+use channel_world::call::{Call, CallRun};
 use channel_world::laws::who_sleeps_is_answered_for;
 use channel_world::step::{Run, Step};
 use channel_world::under_way::UnderWay;
@@ -28,6 +33,17 @@ pub fn use_up<T: Drop>(world: &mut World<T>, steps: &mut VecDeque<Step<T>>) -> R
     ensures place { IfSome result.stopped (λ s. s.place ≡ vec_len result.trace) }
 {
     world.run_steps(steps)
+}
+
+/// Makes calls in whatever world has no call under way: where the list did not stop, it is used up; and so many were made as its place
+/// says.
+pub fn use_up_calls<T: Drop>(world: &mut World<T>, calls: &mut VecDeque<Call<T>>) -> CallRun<T>
+    requires { IsQuiet world.old }
+    ensures used_up { result.stopped ≡ None → calls.new.items ≡ [] }
+    ensures made { vec_len result.done + length calls.new.items ≡ length calls.old.items }
+    ensures place { IfSome result.stopped (λ s. s.place ≡ vec_len result.done) }
+{
+    world.run_calls(calls)
 }
 
 /// Makes steps in whatever world, and says how many: they and those that are left are all.
@@ -130,11 +146,13 @@ pub fn no_send_sleeps<T: Drop>(world: &World<T>) -> bool
     ensures { result ≡ true → NobodySleeps Sends world.now }
 {
     who_sleeps_is_answered_for(world);
-    let fits = match world.capacity() {
+    if world.is_closed() || world.under_way() > 0 || world.woken() > 0 {
+        return false;
+    }
+    match world.capacity() {
         Some(capacity) => world.messages() < capacity as u64,
         None => true,
-    };
-    fits && !world.is_closed() && world.under_way() == 0 && world.woken() == 0
+    }
 }
 
 /// Looks at whatever world, calls under way or not, and says whether a send that begins now has a position for its message: with
@@ -143,4 +161,59 @@ pub fn a_send_has_a_position<T: Drop>(world: &World<T>) -> bool
     ensures { (at_rest world.now).channel.capacity ≡ Some 1 → result ≡ true }
 {
     world.has_positions(world.under_way().saturating_add(1))
+}
+
+/// Looks at whatever world, calls under way or not, and says by its numbers whether no send sleeps: it is open, and more fits than
+/// messages are held, sends woken, calls sending, and messages taken by calls under way.
+pub fn no_send_sleeps_by_kind<T: Drop>(world: &World<T>) -> bool
+    ensures { result ≡ true → NobodySleeps Sends world.now }
+{
+    who_sleeps_is_answered_for(world);
+    let Some(taken) = world.taken() else {
+        return false;
+    };
+    let calls = world.calls_by_kind();
+    let woken = world.woken_of(Line::Sends) as u64;
+    let others = woken.saturating_add((calls.sending as u64).saturating_add(taken));
+    let answered = world.messages().saturating_add(others);
+    let fits = match world.capacity() {
+        Some(capacity) => answered < capacity as u64,
+        None => true,
+    };
+    fits && !world.is_closed()
+}
+
+/// Looks at whatever world, calls under way or not, and says by its numbers whether no receive sleeps: more messages are held than
+/// receives are woken and calls sending or receiving.
+pub fn no_receive_sleeps_by_kind<T: Drop>(world: &World<T>) -> bool
+    ensures { result ≡ true → NobodySleeps Receives world.now }
+{
+    who_sleeps_is_answered_for(world);
+    let calls = world.calls_by_kind();
+    let working = (calls.sending as u64).saturating_add(calls.receiving as u64);
+    (world.woken_of(Line::Receives) as u64).saturating_add(working) < world.messages()
+}
+
+/// Looks at whatever world, calls under way or not, and says by its numbers whether no stream sleeps beside a message.
+pub fn no_stream_sleeps<T: Drop>(world: &World<T>) -> bool
+    ensures { result ≡ true → NobodySleeps Streams world.now }
+{
+    who_sleeps_is_answered_for(world);
+    world.calls_by_kind().sending == 0 && world.messages() > 0
+}
+
+/// Looks at whatever world, calls under way or not, and says by its numbers whether nobody sleeps on a closed channel.
+pub fn nobody_sleeps_where_closed<T: Drop>(world: &World<T>) -> bool
+    ensures { result ≡ true → (line : Line) → NobodySleeps line world.now }
+{
+    who_sleeps_is_answered_for(world);
+    world.calls_by_kind().closers == 0 && world.is_closed()
+}
+
+/// Looks at a line of whatever world, and says whether as many are woken as are pending: then nobody sleeps there.
+pub fn is_awake<T: Drop>(world: &World<T>, line: Line) -> bool
+    ensures { result ≡ true → NobodySleeps line world.now }
+{
+    who_sleeps_is_answered_for(world);
+    world.pending_of(line) == world.woken_of(line)
 }

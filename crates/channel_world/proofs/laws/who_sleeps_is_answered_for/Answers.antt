@@ -1,4 +1,5 @@
 -- From what is owed to who sleeps, since no name stands twice.
+use Rattle.channel_world.proofs.KindFacts.{a_line_awake, none_where_closed, no_receive_sleeps, no_send_sleeps, no_stream_sleeps}
 use Rattle.channel_world.proofs.SleepFacts.{receives_answered, sends_answered, streams_answered, closing_answered, no_receive_beside_a_message, no_stream_beside_a_message, no_send_beside_a_place, nobody_on_a_closed, all_awake}
 use Rattle.channel_world.proofs.Inside.{floor_of}
 use Rattle.channel_world.proofs.laws.who_sleeps_is_answered_for.Goals as goal
@@ -19,4 +20,9 @@ returns g c =
       beside_a_place = no_send_beside_a_place w k apart;
       on_a_closed = nobody_on_a_closed w k apart;
       awake = all_awake w k apart;
+      receive_by_kind = no_receive_sleeps w k apart;
+      send_by_kind = no_send_sleeps w k apart;
+      stream_by_kind = no_stream_sleeps w k apart;
+      closing_by_kind = none_where_closed w k apart;
+      line_by_line = a_line_awake w k apart;
     }

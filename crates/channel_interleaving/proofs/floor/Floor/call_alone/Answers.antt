@@ -1,7 +1,7 @@
 use Rattle.std.proofs.Common.{arith, Bool, List, length, drop, refl, ap, ◌∙◌}
 use Rattle.channel_interleaving.specs.Positions.{accepted_by}
 use Rattle.channel_model.specs.declared.name.Waiter.{Waiter}
-use Rattle.channel_interleaving.proofs.LoneFacts.{no_agents, is_at_rest, is_called}
+use Rattle.channel_interleaving.proofs.LoneFacts.{brings_within, no_agents, is_at_rest, is_called}
 use Rattle.channel_interleaving.proofs.OwnerBegins.{admitted}
 use Rattle.channel_interleaving.proofs.floor.Floor.call_alone.Goals as goal
 
@@ -32,7 +32,8 @@ returns-clause-ok g c =
       alloc = c.args.self.now.alloc;
     })
     c.in_ok-ask.field-0.ask c.run_alone-reply.result c.in-Ok.sink c.run_alone-reply.new.sink full c.args.room c.accepted_by.result
-    c.run_alone-reply.ensures.scenes b.ask c.requires.quiet c.requires.quiet (c.if-not-has_position.ensures.enough refl)
+    c.run_alone-reply.ensures.scenes b.ask c.requires.quiet c.requires.quiet
+    (brings_within c.args.call c.args.self.now (c.if-not-has_position.ensures.enough refl))
     (c.accepted_by.ensures ∙ ap (λ (b : Bool). accepted_by b c.run_alone-reply.result.reply) c.brings-brings.ensures) c.saturating_add-self.ensures refl
     (ap (λ (ws : List Waiter). drop (length ws) full) c.in-Ok.ensures.none)
     (let start = ap (λ (ws : List Waiter). length ws) c.in-Ok.ensures.none in omega (arith, start, c.in-Ok.ensures.room))

@@ -4,7 +4,7 @@ use Rattle.channel_interleaving.specs.Settle.{PollsAlone}
 use Rattle.channel_interleaving.proofs.LoneFacts.{call_kept, call_leads}
 use Rattle.channel_interleaving.proofs.WokenPolls.{woken_admitted}
 use Rattle.channel_model.specs.Settling.{poll_of}
-use Rattle.channel_world.proofs.Polls.{poll_wakes_few, poll_answers}
+use Rattle.channel_world.proofs.Polls.{poll_brings_within, poll_wakes_few, poll_answers}
 use Rattle.channel_world.proofs.Inside.{floor_of, inside_is}
 use Rattle.channel_world.proofs.world.World.poll_woken.Goals as goal
 
@@ -14,6 +14,13 @@ poll_alone-requires-clause-room g c =
     rw (inside_is c.self.inside.floor c.args.self.now c.self.view_is)
     (poll_wakes_few (floor_of c.args.self.now) k.kept c.requires.quiet k.few c.a_poll_of_settling_is_the_models.ensures c.args.name c.requires.woken _ _
     c.requires.room)
+
+pub poll_alone-requires-clause-limit : goal.poll_alone-requires-clause-limit
+poll_alone-requires-clause-limit g c =
+    let k = c.keeps_names.ensures in
+    rw (inside_is c.self.inside.floor c.args.self.now c.self.view_is)
+    (poll_brings_within (floor_of c.args.self.now) k.kept c.requires.quiet k.few c.a_poll_of_settling_is_the_models.ensures c.args.name c.requires.woken
+    c.requires.limit)
 
 pub invariant_of-self : goal.invariant_of-self
 invariant_of-self g c =

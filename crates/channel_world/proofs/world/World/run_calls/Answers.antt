@@ -1,10 +1,12 @@
-use Rattle.std.proofs.Common.{◌≡◌, Some, None, ◌∷◌, ◌++◌, [], rules, refl, ap, ◌∙◌}
+use Rattle.std.proofs.Common.{arith, ◌≡◌, Some, None, ◌∷◌, ◌++◌, [], rules, refl, ap, ◌∙◌}
 use Rattle.std.specs.Option.{option_to_list}
 use Rattle.channel_model.specs.Refusal.{refusal}
+use Rattle.channel_model.specs.declared.refusal.WorldRefusal.TheVariants as why
 use Rattle.channel_model.proofs.RunLemmas.{goes_on_empty, stop_in_front, stop_at_end, run_ends, run_ends_full, goes_on_by}
 use Rattle.channel_interleaving.proofs.Interface.{leads_nowhere, stands_led}
 use Rattle.channel_world.specs.World.{at_rest}
 use Rattle.channel_world.proofs.Leading.{leads_same, leads_answered, leads_still}
+use Rattle.channel_world.proofs.StopFacts.{calls_made, calls_used_up}
 use Rattle.channel_world.proofs.Inside.{floor_of}
 use Rattle.channel_world.proofs.world.World.run_calls.Goals as goal
 
@@ -66,3 +68,31 @@ returns-in-Err-clause-run g c =
 
 pub returns-clause-run : goal.returns-clause-run
 returns-clause-run g c = run_ends None c.loop-call.invariant.run (stop_at_end (at_rest (floor_of c.loop-call.self)) c.loop-call.calls.items c.in_default.ensures.item.0) refl
+
+pub returns-clause-used_up : goal.returns-clause-used_up
+returns-clause-used_up g c =
+    λ none. calls_used_up (at_rest (floor_of c.args.self.now)) c.args.calls.now.items c.loop-call.done.items c.loop-call.calls.items
+    (at_rest (floor_of c.loop-call.self)) (returns-clause-run g c)
+
+pub returns-clause-made : goal.returns-clause-made
+returns-clause-made g c =
+    let all = calls_made (at_rest (floor_of c.args.self.now)) c.args.calls.now.items c.loop-call.done.items None c.loop-call.calls.items
+    (at_rest (floor_of c.loop-call.self)) (returns-clause-run g c) in
+    let count = c.loop-call.done.ok.0 in
+    omega (arith, all, count)
+
+pub returns-in-Some-stop-clause-made : goal.returns-in-Some-stop-clause-made
+returns-in-Some-stop-clause-made g c =
+    let done = c.stop.new.done in
+    let all = calls_made (at_rest (floor_of c.args.self.now)) c.args.calls.now.items done.items (Some c.in-Some-stop.why) c.loop-call.calls.items
+    (at_rest (floor_of c.loop-call.self)) (returns-in-Some-stop-clause-run g c) in
+    let count = done.ok.0 in
+    omega (arith, all, count)
+
+pub returns-in-Err-clause-made : goal.returns-in-Err-clause-made
+returns-in-Err-clause-made g c =
+    let done = c.stop.new.done in
+    let all = calls_made (at_rest (floor_of c.args.self.now)) c.args.calls.now.items done.items (Some why.NoMemory) c.push_front_reserved.new.self.items
+    (at_rest (floor_of c.answer.new.self)) (returns-in-Err-clause-run g c) in
+    let count = done.ok.0 in
+    omega (arith, all, count)

@@ -6,11 +6,11 @@ use Rattle.channel_interleaving.proofs.FloorFacts.{stands}
 use Rattle.channel_world.specs.Settled.{polls_in}
 use Rattle.channel_world.specs.World.{at_rest}
 use Rattle.channel_world.proofs.AsleepFacts.{no_receive_goes_on, no_send_goes_on, no_stream_goes_on}
+use Rattle.channel_world.proofs.ComingIn.{still_within}
 use Rattle.channel_world.proofs.Leading.{leads_polled}
 use Rattle.channel_world.proofs.NumberFacts.{messages_at_rest, pending_at_rest}
 use Rattle.channel_world.proofs.Polls.{awake_at_rest}
-use Rattle.channel_world.proofs.Positions.{fewer_positions, sends_positions, positions_on}
-use Rattle.channel_world.proofs.Short.{sends_within}
+use Rattle.channel_world.proofs.Positions.{fewer_positions, one_position, positions_on}
 use Rattle.channel_world.proofs.SettleFacts.{ample_pushed, few_told, goes_first, goes_on, goes_pushed, goes_end, next_poll, one_poll}
 use Rattle.channel_world.proofs.Inside.{floor_of}
 use Rattle.channel_world.proofs.world.World.settle.Goals as goal
@@ -27,7 +27,7 @@ loop-names-init g c =
       leads = rw r.polls (leads_nowhere now);
       names = r.room;
       polls = r.answers;
-      places = λ name there. fewer_positions now _ _ (sends_within (at_rest now) awake) (r.places name there);
+      places = λ name there. fewer_positions now _ _ (still_within (at_rest now) awake) (r.places name there);
     }
 
 pub poll_woken-reply-requires-clause-quiet : goal.poll_woken-reply-requires-clause-quiet
@@ -56,7 +56,10 @@ poll_woken-reply-requires-clause-limit g c =
     slice_get_read names.items (vec_len names) place name names.ok.0 (search rules) c.index-name.ensures in
     let next = next_poll (at_rest (floor_of c.args.self.now)) (at_rest (floor_of c.loop-names.self)) polls.items names.items place name c.loop-names.invariant.goes
     (c.len-in-loop-names-2.ensures ∙ polls.ok.0) here in
-    sends_positions (floor_of c.loop-names.self) name c.loop-names.invariant.quiet next.woken (c.loop-names.invariant.places name next.woken)
+    let i = c.loop-names.invariant in
+    let before = stands (floor_of c.args.self.now) c.keeps_names.ensures.kept.listeners in
+    let now = stands_led (floor_of c.args.self.now) (floor_of c.loop-names.self) _ before i.leads in
+    one_position (floor_of c.loop-names.self) now i.quiet (let goes = i.goes in goes.awake) name next.front (i.places name next.woken)
 
 pub poll_woken-reply-requires-clause-room : goal.poll_woken-reply-requires-clause-room
 poll_woken-reply-requires-clause-room g c =
@@ -108,6 +111,8 @@ loop-names-preserved g c =
     let wider = pushed.capacity in
     let a = i.names in
     let b = i.polls in
+    let before = stands (floor_of c.args.self.now) c.keeps_names.ensures.kept.listeners in
+    let now = stands_led (floor_of c.args.self.now) (floor_of c.loop-names.self) _ before i.leads in
     record {
       goes = goes_pushed (at_rest (floor_of c.args.self.now)) u polls.items c.push_reserved.new.self.items name after.reply after.names.items pushed.items
           (goes_on (at_rest (floor_of c.args.self.now)) (at_rest (floor_of c.loop-names.self)) (polls_in polls.items) names.items name i.goes next.front u after.reply after.names.items e.polled);
@@ -117,8 +122,8 @@ loop-names-preserved g c =
       names = omega (arith, more, a);
       polls = omega (arith, wider, b);
       places = λ other woken.
-          positions_on (floor_of c.loop-names.self) (floor_of c.poll_woken-reply.new.self) name names.items after.reply after.names.items
-          (let goes = i.goes in goes.awake) next.front e.polled e.place e.accepted (i.places name next.woken);
+          positions_on (floor_of c.loop-names.self) now i.quiet (let goes = i.goes in goes.awake) name next.front
+          (floor_of c.poll_woken-reply.new.self) names.items after.reply after.names.items e.polled e.place e.accepted (i.places name next.woken);
     }
 
 pub loop-names-smaller : goal.loop-names-smaller

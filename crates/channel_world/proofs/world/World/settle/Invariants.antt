@@ -1,8 +1,8 @@
 use Rattle.std.proofs.Common.{◌≡◌, ◌≤◌, ◌-◌, true, vec_len, vec_capacity}
 use Rattle.channel_model.specs.Lines.{is_among}
 use Rattle.channel_model.specs.declared.name.Waiter.{Waiter}
+use Rattle.channel_world.proofs.ComingIn.{still_in}
 use Rattle.channel_world.proofs.SettleFacts.{Goes}
-use Rattle.channel_world.proofs.Short.{sends_of}
 use Rattle.channel_world.specs.Carried.{polls_replied}
 use Rattle.channel_world.specs.Settled.{polls_in, most_polls, NoneLackedMemory}
 use Rattle.channel_world.specs.View.{at_rest, HasPositions, IsQuiet, LeadsOn}
@@ -16,7 +16,7 @@ invariant-loop-names g l = record {
   leads : LeadsOn l.fn.self (polls_replied l.polls.items) l.self;
   names : most_polls (at_rest l.fn.self) ≤ vec_capacity l.names;
   polls : vec_capacity l.polls ≡ most_polls (at_rest l.fn.self);
-  places : (name : Waiter) → is_among name (at_rest l.self).waiting.woken ≡ true → HasPositions (sends_of (at_rest l.self)) l.self;
+  places : (name : Waiter) → is_among name (at_rest l.self).waiting.woken ≡ true → HasPositions (still_in (at_rest l.self)) l.self;
 }
 
 abbrev pub decreases-loop-names : goal.decreases-loop-names

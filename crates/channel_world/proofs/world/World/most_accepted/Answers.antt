@@ -1,0 +1,42 @@
+-- From the numbers of those who are pending on each line, and of the places that are free.
+use Rattle.std.proofs.Common.{arith, ◌≡◌, ◌∙◌, ◌+◌, length, false, Some, sym}
+use Rattle.channel_calls.specs.declared.stage.Line.TheVariants.{Sends, Receives, Streams}
+use Rattle.channel_interleaving.proofs.FloorFacts.{stands}
+use Rattle.channel_world.specs.Settled.{pending_on}
+use Rattle.channel_world.specs.World.{at_rest}
+use Rattle.channel_world.proofs.ComingIn.{bounded_in}
+use Rattle.channel_world.proofs.NumberFacts.{messages_at_rest}
+use Rattle.channel_world.proofs.Inside.{floor_of}
+use Rattle.channel_world.proofs.world.World.most_accepted.Goals as goal
+
+pub returns-then-sends-places : goal.returns-then-sends-places
+returns-then-sends-places g c =
+    let f = floor_of c.args.self.now in
+    let s = at_rest f in
+    let k = stands f c.keeps_names.ensures.kept.listeners in
+    let held : c.messages.result ≡ length s.channel.messages = c.messages.ensures ∙ messages_at_rest f k c.requires.quiet in
+    let is_open : s.channel.closed ≡ false = sym c.is_closed.ensures ∙ c.if-is_closed.false in
+    let bound : s.channel.capacity ≡ Some c.in-Some.capacity = sym c.capacity.ensures ∙ c.in-Some.is in
+    let all = bounded_in s.channel (pending_on Sends s) (pending_on Receives s + pending_on Streams s) c.in-Some.capacity is_open bound in
+    let sends : c.in_ok-sends.sends ≡ pending_on Sends s = c.in_ok-sends.ensures in
+    let receives : c.in_ok-receives.receives ≡ pending_on Receives s = c.in_ok-receives.ensures in
+    let streams : c.in_ok-streams.streams ≡ pending_on Streams s = c.in_ok-streams.ensures in
+    let takers = c.in_ok-takers.ensures.1 in
+    let places = c.in_ok-places.ensures.1 in
+    omega (arith, all, sends, receives, streams, takers, places, held, c.saturating_sub-free.ensures, c.if-sends-places.true)
+
+pub returns-else-sends-places : goal.returns-else-sends-places
+returns-else-sends-places g c =
+    let f = floor_of c.args.self.now in
+    let s = at_rest f in
+    let k = stands f c.keeps_names.ensures.kept.listeners in
+    let held : c.messages.result ≡ length s.channel.messages = c.messages.ensures ∙ messages_at_rest f k c.requires.quiet in
+    let is_open : s.channel.closed ≡ false = sym c.is_closed.ensures ∙ c.if-is_closed.false in
+    let bound : s.channel.capacity ≡ Some c.in-Some.capacity = sym c.capacity.ensures ∙ c.in-Some.is in
+    let all = bounded_in s.channel (pending_on Sends s) (pending_on Receives s + pending_on Streams s) c.in-Some.capacity is_open bound in
+    let sends : c.in_ok-sends.sends ≡ pending_on Sends s = c.in_ok-sends.ensures in
+    let receives : c.in_ok-receives.receives ≡ pending_on Receives s = c.in_ok-receives.ensures in
+    let streams : c.in_ok-streams.streams ≡ pending_on Streams s = c.in_ok-streams.ensures in
+    let takers = c.in_ok-takers.ensures.1 in
+    let places = c.in_ok-places.ensures.1 in
+    omega (arith, all, sends, receives, streams, takers, places, held, c.saturating_sub-free.ensures, c.if-sends-places.false)

@@ -1,0 +1,41 @@
+-- Who is pending on which line, and how many messages calls under way have taken: numbers that a world tells.
+use Rattle.std.specs.Prelude.{ℕ, ◌+◌, Bool, false, true, List, [], ◌∷◌, Option, Some, is_some}
+use Rattle.std.specs.List.{count_by}
+use Rattle.channel_calls.specs.declared.stage.Line.{Line}
+use Rattle.channel_model.specs.Laws.{same_line}
+use Rattle.channel_interleaving.specs.Owed.{all_names}
+use Rattle.channel_interleaving.specs.Owners.{Post, waits, posted, operation_post, stream_post, post}
+use Rattle.channel_interleaving.specs.declared.doing.Doing.{Doing}
+use Rattle.channel_interleaving.specs.declared.names.Hold.{Hold}
+use Rattle.channel_interleaving.specs.declared.names.Operation.{Operation}
+use Rattle.channel_interleaving.specs.declared.names.OperationKind.{OperationKind}
+use Rattle.channel_interleaving.specs.declared.names.OperationKind.TheVariants.{Send}
+use Rattle.channel_interleaving.specs.declared.roll.Roll.{Roll}
+
+-- whether one that stands so is pending on this line, woken or not
+abbrev pub is_pending_on : Line → Post → Bool
+is_pending_on line (waits h is_woken) = same_line line h.line
+is_pending_on line other = false
+
+-- how a receiver's stream stands under a name that was taken
+abbrev pub stream_stance : Option Hold → Post
+stream_stance o = posted (λ (x : Hold). stream_post x.handle.kind x.standing) (Some o)
+
+-- the messages that these calls have taken
+abbrev pub takings_of : List Doing → ℕ
+takings_of [] = 0
+takings_of (d ∷ ds) = d.taken + takings_of ds
+
+module _ {T : Type 0} where
+  -- how an operation stands
+  abbrev pub operation_stance : Option (Operation T) → Post
+  operation_stance o = posted (λ (x : Operation T). operation_post x.kind x.message x.standing) (Some o)
+
+  -- a finished send is never pending
+  abbrev pub may_pend : OperationKind → Option T → Bool
+  may_pend Send m = is_some m
+  may_pend kind m = true
+
+  -- how many are pending on this line
+  abbrev pub pending_on_line : Line → Roll T → ℕ
+  pending_on_line line r = count_by (λ w. is_pending_on line (post r w)) (all_names r)

@@ -1,0 +1,164 @@
+//! Those who are pending, and those of them who were woken, line by line; and what calls under way have taken.
+
+ghost use Rattle.std.specs.Prelude.{◌≡◌, ◌<◌, ◌^◌, IfSome, IsSome};
+ghost use Rattle.channel_interleaving.specs.Owed.{is_woken_on};
+ghost use Rattle.channel_interleaving.specs.Roll.{line_of_kind};
+ghost use Rattle.channel_model.specs.Laws.{same_line};
+ghost use Rattle.channel_world.specs.Kinds.{is_pending_on, may_pend, operation_stance, stream_stance, takings_of};
+
+use super::world::World;
+use channel_calls::stage::Line;
+use channel_interleaving::doing::Doing;
+use channel_interleaving::names::{Hold, Operation, OperationKind, Standing};
+use channel_model::name::HandleKind;
+
+/// Whether an operation of this kind waits on this line.
+fn waits_on(line: Line, kind: OperationKind) -> bool
+    ensures { result ≡ same_line line (line_of_kind kind) }
+{
+    match kind {
+        OperationKind::Send => match line {
+            Line::Sends => true,
+            Line::Receives | Line::Streams | Line::Closings => false,
+        },
+        OperationKind::Receive => match line {
+            Line::Receives => true,
+            Line::Sends | Line::Streams | Line::Closings => false,
+        },
+        OperationKind::Closing => match line {
+            Line::Closings => true,
+            Line::Sends | Line::Receives | Line::Streams => false,
+        },
+    }
+}
+
+/// Whether streams wait on this line.
+fn is_of_streams(line: Line) -> bool
+    ensures { result ≡ same_line line Line.Streams }
+{
+    match line {
+        Line::Streams => true,
+        Line::Sends | Line::Receives | Line::Closings => false,
+    }
+}
+
+/// Whether an operation may be pending: a finished send never is.
+fn may_pend<T>(operation: &Operation<T>) -> bool
+    ensures { result ≡ may_pend operation.now.kind operation.now.message }
+{
+    match operation.kind {
+        OperationKind::Send => operation.message.is_some(),
+        OperationKind::Receive | OperationKind::Closing => true,
+    }
+}
+
+/// Whether an operation is pending on this line.
+fn pends_on<T>(line: Line, operation: &Option<Operation<T>>) -> bool
+    ensures { result ≡ is_pending_on line (operation_stance operation.now) }
+{
+    match operation {
+        Some(operation) => match operation.standing {
+            Standing::Waits { .. } => may_pend(operation) && waits_on(line, operation.kind),
+            Standing::Rests | Standing::IsPolled { .. } => false,
+        },
+        None => false,
+    }
+}
+
+/// Whether an operation is pending on this line and was woken.
+fn is_woken_on<T>(line: Line, operation: &Option<Operation<T>>) -> bool
+    ensures { result ≡ is_woken_on line (operation_stance operation.now) }
+{
+    match operation {
+        Some(operation) => match operation.standing {
+            Standing::Waits { key: _, is_woken } => {
+                is_woken && may_pend(operation) && waits_on(line, operation.kind)
+            }
+            Standing::Rests | Standing::IsPolled { .. } => false,
+        },
+        None => false,
+    }
+}
+
+/// Whether a receiver's stream is pending on this line.
+fn streams_on(line: Line, hold: &Option<Hold>) -> bool
+    ensures { result ≡ is_pending_on line (stream_stance hold.now) }
+{
+    match hold {
+        Some(hold) => match (hold.handle.kind, hold.standing) {
+            (HandleKind::Receiver, Standing::Waits { .. }) => is_of_streams(line),
+            _ => false,
+        },
+        None => false,
+    }
+}
+
+/// Whether a receiver's stream is pending on this line and was woken.
+fn is_stream_woken_on(line: Line, hold: &Option<Hold>) -> bool
+    ensures { result ≡ is_woken_on line (stream_stance hold.now) }
+{
+    match hold {
+        Some(hold) => match (hold.handle.kind, hold.standing) {
+            (HandleKind::Receiver, Standing::Waits { key: _, is_woken }) => {
+                is_woken && is_of_streams(line)
+            }
+            _ => false,
+        },
+        None => false,
+    }
+}
+
+/// How many messages these calls have taken. None where there is no such number.
+fn taken_by(doings: &Vec<Doing>) -> Option<u64>
+    ensures told { IfSome result (λ n. n ≡ takings_of doings.now.items) }
+    ensures known { takings_of doings.now.items < 2 ^ 64 → IsSome result }
+{
+    let mut taken = 0u64;
+    for k in 0..doings.len() {
+        taken = taken.checked_add(doings[k].taken)?;
+    }
+    Some(taken)
+}
+
+impl<T: Drop> World<T> {
+    ghost use Rattle.std.specs.Prelude.{◌≡◌, ◌<◌, ◌^◌, IfSome, IsSome};
+    ghost use Rattle.channel_interleaving.specs.Owed.{woken_on};
+    ghost use Rattle.channel_world.specs.Kinds.{pending_on_line};
+    ghost use Rattle.channel_world.specs.View.{names_in, taken_in};
+
+    /// How many are pending on this line: they live, their last poll ended so, and no poll of them is under way. A walk over all
+    /// names. Own to this project.
+    pub fn pending_of(&self, line: Line) -> usize
+        ensures { result ≡ pending_on_line line (names_in self.now) }
+    {
+        self.keeps_names();
+        let operations = self.floor.roll.operations.iter();
+        let operations = operations.filter(|(_, x)| pends_on(line, *x)).count();
+        let streams = self.floor.roll.handles.iter();
+        let streams = streams.filter(|(_, x)| streams_on(line, *x)).count();
+        operations + streams
+    }
+
+    /// How many of those who are pending on this line were woken since their last poll. A walk over all names. Own to this project.
+    pub fn woken_of(&self, line: Line) -> usize
+        ensures { result ≡ woken_on line (names_in self.now) }
+    {
+        self.keeps_names();
+        let operations = self.floor.roll.operations.iter();
+        let operations = operations.filter(|(_, x)| is_woken_on(line, *x)).count();
+        let streams = self.floor.roll.handles.iter();
+        let streams = streams
+            .filter(|(_, x)| is_stream_woken_on(line, *x))
+            .count();
+        operations + streams
+    }
+
+    /// How many messages the calls under way have taken: of these are the places that they have freed and not announced yet. None
+    /// where there is no such number. A walk over the calls under way. Own to this project.
+    pub fn taken(&self) -> Option<u64>
+        ensures told { IfSome result (λ n. n ≡ taken_in self.now) }
+        ensures known { taken_in self.now < 2 ^ 64 → IsSome result }
+    {
+        taken_by(&self.floor.doings)
+    }
+}
