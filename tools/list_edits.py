@@ -5,11 +5,11 @@ usage, at the top of the repository: tools/list_edits.py [--check]
 
 An edit, crates/*/must-fail/*.edit, begins with a line `why: SENTENCE`: what goes wrong for whom, and which clause stands against it.
 The gate tries it for one of two reasons. It is an instance of one of BODIES below: then a line `body: WORDS` stands behind the
-sentence. Or it stands alone at a clause: then ALONE says at which. rt passes over both lines. With --check nothing is written, and the
-status is 1 where the page is not what the edits say. Either way it is 1, and a line says why, where an edit has no such sentence or not
-one reason, where it cites something by a number, where a body is not among BODIES, where nothing stands for one of them, or more edits
-than PLACES says, where two stand alone at one clause, or where a test that is named here isn't there, or one that docs/TESTED.md names
-for a wrong body that the gate leaves to tests.
+sentence. Or it stands alone at the clause that its sentence names first. rt passes over both lines. With --check nothing is written, and
+the status is 1 where the page is not what the edits say. Either way it is 1, and a line says why, where an edit has no such sentence or
+neither reason, where it cites something by a number, where a body is not among BODIES, where nothing stands for one of them, or more
+edits than PLACES says, where two of a crate stand alone at one clause, or where a test that is named here isn't there, or one that
+docs/TESTED.md names for a wrong body that the gate leaves to tests.
 """
 import glob
 import os
@@ -134,59 +134,14 @@ BODIES = {
     "between threads: two pushers win one place": [],
     "between threads: a closing tells first": [],
 }
-# Why an edit is tried that is of no body above: the clause, relation or invariant that no other edit turns.
-ALONE = {
-    ("async_channel", "ended_where_closed"): "clause `walked` of `Receiver::is_terminated`",
-    ("async_channel", "handle_drops_what_it_took"): "clause `walked` of `Receiver::try_recv`",
-    ("async_channel", "length_asked_twice"): "clause `walked` of `Traced::len`",
-    ("async_channel", "weak_one_too_many"): "clause `reason` of `Sender::downgrade`",
-    ("channel_calls", "fills_and_tells_one"): "clause `deed` of `filling::tells`",
-    ("channel_calls", "insertion_refused_unasked"): "relation `DoesPlain` of `PlainChannel::insert`",
-    ("channel_calls", "longest_list_left_out"): "the contract of `PlainChannel::most_listeners`",
-    ("channel_calls", "unsent_message_lost"): "the contract of `send_next`",
-    ("channel_calls", "woken_thread_tries_first"): "the clause of `Blocked::poll_woken`",
-    ("channel_wakeups", "blocked_receive_forgets_its_listener"): "clause `pass` of `recv_blocking`",
-    ("channel_wakeups", "blocked_send_loses_its_message"): "clause `sent` of `send_blocking`",
-    ("channel_wakeups", "no_second_look"): "clause `call` of `look_or_listen`",
-    ("channel_wakeups", "several_stop_before_the_limit"): "clause `all` of `take_up_to`",
-    ("channel_wakeups", "several_tell_one_send"): "clause `pass` of `gather`",
-    ("channel_wakeups", "slot_is_given_back_empty"): "what `unlock` requires",
-    ("channel_world", "capacity_cut_to_the_limit"): "clause `open` of `World::bounded`",
-    ("channel_world", "closed_world_says_open"): "the clause of `World::is_closed`",
-    ("channel_world", "closers_are_those_that_receive"): "clause `closers` of `World::calls_by_kind`",
-    ("channel_world", "party_steps_on_after_its_answer"): "clause `answered` of `World::run_party`",
-    ("channel_world", "record_finish_misses_while_parts_are_left"): "clause `missing` of `Recording::finish`",
-    ("channel_world", "record_seat_number_given_twice"): "the invariant of `Recording`",
-    ("channel_world", "refused_call_is_begun"): "clause `run` of `World::run_calls`",
-    ("channel_world", "settling_counts_one_too_few"): "the clause of `World::most_polls`, from below",
-    ("channel_world", "settling_past_the_positions"): "the clause of `World::has_positions_to_settle`",
-    ("channel_world", "steps_are_thrown_away"): "field `first` of `Headline`",
-    ("channel_world", "steps_over_new_blocks"): "field `run` of `Headline`",
-    ("channel_world", "stopping_place_counts_from_one"): "clause `place` of `World::run_calls`",
-    ("concurrent_queue", "cells_closed_by_the_head"): "the clause of `PlainCells::is_closed`",
-    ("concurrent_queue", "exclusive_push_loses_a_refused_message"): "clause `answer` of `Exclusive::push`",
-    ("concurrent_queue", "exclusive_try_iter_closes_the_queue"): "clause `unchanged` of `Exclusive::try_iter`",
-    ("concurrent_queue", "queue_call_pop_marked_before_its_first_step"): "clause `unmarked` of `QueueCall::pop`",
-    ("concurrent_queue", "ring_push_ahead_that_displaces"): "clause `answers` of `push_ahead`",
-    ("concurrent_queue", "ring_push_full_from_a_stale_head"): "clause `deed` of `push_head`",
-    ("concurrent_queue", "shared_guard_given_back_early"): "what `exchange` of the table asks",
-    ("concurrent_queue", "shared_pop_says_empty"): "clause `walked` of `ConcurrentQueue::pop`",
-    ("concurrent_queue", "shared_walk_without_end"): "what `Iterator` asks of `next`",
-    ("concurrent_queue", "unbounded_push_ahead_wins_by_a_store"): "clause `deeds` of `push_ahead` for blocks",
-    ("concurrent_queue", "unbounded_push_last_moves_the_tail_before_its_block"): "clause `deeds` of `push_last`",
-    ("event_listener", "half_the_room"): "clause `room` of `List::reserve`",
-    ("event_listener", "looks_and_forgets"): "clause `looks` of `List::begin`",
-    ("event_listener", "looks_uncounted"): "clause `rest` of `Nodes::find`",
-    ("event_listener", "no_room_for_its_end"): "the invariant of `Recording`, its room",
-    ("event_listener", "woken_in_reverse"): "clause `notified` of `List::tell`",
-    ("waybill", "place_waits_twice"): "the invariant of `Sink`",
-}
 # The bodies that are tried at more places than one: bodies of their own code, each of which was asked for.
 PLACES = {
     "a send tells a receive before its message is in": 3,  # the machine's send and its polled send, and straight code
     "a call is run whole at its first step": 2,  # a push, and a send with its notice
     "a closing always answers false": 2,  # the channel's call, and the line of a handle over it
 }
+# What a sentence names as standing against a wrong body: the first of it.
+CLAUSE = re.compile(r"[Aa]gainst it stands? (.*?)(?:[.;]|, |: |$)|[Tt]he ((?:clauses?|invariant) .*?)(?: refuses?|,)|(What .*? requires)")
 # What a sentence doesn't cite by its number: a rule, a paper, a section, an issue.
 CITED = re.compile(r"\b[A-Z]\d+\b|\b0[1-4]\b|\b(issue|paper|document|section|request)s? \d")
 HEAD = """# Wrong bodies that the prover refuses
@@ -245,14 +200,26 @@ def left_faults():
                 yield f"{page} names a test that isn't there: {test}"
 
 
+def clause_of(why):
+    """The clause that an edit's sentence names."""
+    found = CLAUSE.search(why)
+    return next(filter(None, found.groups()), "") if found else ""
+
+
+def alone_at(edits):
+    """The clauses of the edits that are of no body, by their crates and names."""
+    return {name: clause_of(why) for name, (why, bodies) in edits.items() if not bodies}
+
+
 def reason_faults(edits):
     """The edits that the gate tries for no reason, for two, or for that of another one."""
-    for name, (_, bodies) in edits.items():
-        if len(bodies) + (name in ALONE) != 1:
-            yield f"{'/'.join(name)} is to have one line 'body: WORDS', or else to stand in ALONE of tools/list_edits.py"
-    yield from (f"tools/list_edits.py says why {'/'.join(name)} is tried, which isn't there" for name in ALONE if name not in edits)
-    clauses = list(ALONE.values())
-    yield from (f"more edits than one stand alone at {clause}" for clause in set(clauses) if clauses.count(clause) > 1)
+    at = {}
+    for (crate, name), clause in alone_at(edits).items():
+        if not clause:
+            yield f"{crate}/{name} is of no body, and its sentence names no clause that stands against it"
+        if clause and (crate, clause) in at:
+            yield f"{crate}/{name} stands at the same as {at[crate, clause]}: {clause}"
+        at[crate, clause] = name
     tried = [body for _, bodies in edits.values() for body in bodies]
     yield from (f"too many edits stand for one body: {body}" for body in BODIES if tried.count(body) > PLACES.get(body, 1))
 
@@ -282,13 +249,13 @@ def row(body, edits):
 
 
 def page(edits):
-    alone = sum(name in ALONE for name in edits)
+    alone = alone_at(edits)
     rows = "\n".join(row(body, edits) for body in BODIES)
-    text = HEAD.format(count=len(edits), alone=alone, others=len(edits) - alone, bodies=rows)
+    text = HEAD.format(count=len(edits), alone=len(alone), others=len(edits) - len(alone), bodies=rows)
     for crate in sorted({crate for crate, _ in edits}):
         text += f"\n### `{crate}`\n\n| Edit | Why | Alone at |\n|---|---|---|\n"
-        here = [(name, why, ALONE.get((at, name), "")) for (at, name), (why, _) in edits.items() if at == crate]
-        text += "".join(f"| `{name}` | {why} | {alone} |\n" for name, why, alone in here)
+        here = [(name, why, alone.get((at, name), "")) for (at, name), (why, _) in edits.items() if at == crate]
+        text += "".join(f"| `{name}` | {why} | {clause} |\n" for name, why, clause in here)
     return text
 
 
