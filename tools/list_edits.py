@@ -4,10 +4,12 @@
 usage, at the top of the repository: tools/list_edits.py [--check]
 
 An edit, crates/*/must-fail/*.edit, begins with a line `why: SENTENCE`: what goes wrong for whom, and which clause stands against it.
-A line `body: WORDS` may come after it, where the edit is an instance of one of BODIES below. rt passes over both. With --check
-nothing is written, and the status is 1 where the page is not what the edits say. Either way it is 1, and a line says why, where an edit
-has no such sentence, where it cites something by a number, where a body is not among BODIES, where nothing stands for one of
-them, or where a test that is named here isn't there, or one that docs/TESTED.md names for a wrong body that the gate leaves to tests.
+The gate tries it for one of two reasons. It is an instance of one of BODIES below: then a line `body: WORDS` stands behind the
+sentence. Or it stands alone at the clause that its sentence names first. rt passes over both lines. With --check nothing is written, and
+the status is 1 where the page is not what the edits say. Either way it is 1, and a line says why, where an edit has no such sentence or
+neither reason, where it cites something by a number, where a body is not among BODIES, where nothing stands for one of them, or more
+edits than PLACES says, where two of a crate stand alone at one clause, or where a test that is named here isn't there, or one that
+docs/TESTED.md names for a wrong body that the gate leaves to tests.
 """
 import glob
 import os
@@ -77,6 +79,7 @@ BODIES = {
     "a closing always answers false": [],
     "a displacing send drops what it displaced": [],
     "a poll of a receive tries nothing": ["async_channel_tests/one_place_takes_one_message"],
+    "a receive in straight code tells another list than that of sends": [],
     "a receive in straight code tells no send": ["async_channel_tests/each_taking_wakes_the_next_send"],
     "a send in straight code tells no receive": ["async_channel_tests/a_told_receive_that_leaves_passes_its_notice_on"],
     "a send in straight code tells the streams twice": [],
@@ -99,13 +102,53 @@ BODIES = {
     "`is_terminated` asks empty before closed": [],
     "a clone is of a fresh channel with the same number": [],
     "a listener stands in a list of its own": [],
+    # Asked for of shared queues: what other threads may see between two operations.
+    "a push into a ring wins its place by a store": [],
+    "a pop of one slot loads, compares and stores": [],
+    "a pop of a ring loads the tail first": [],
+    "a pop of blocks loads the tail first": [],
+    "the two writes of a block's turn are exchanged": [],
+    "one call of a shared queue is two": [],
+    # Asked for of listeners.
+    "a listener that is told stays linked among those that wait": [],
+    "a run of listeners is told whose last one keeps its link to those that wait": [],
+    "a removal of the last told one leaves it as the end of its chain": [],
+    "a recorded event hands out an empty record": [],
+    # Asked for of worlds and their records.
+    "a record is never finished": [],
+    "all seats of a record have one number": [],
+    "a recorded channel hands out another place than it stored": [],
+    "a recorded channel hands out other woken names than it stored": [],
+    "a settling asks for more room than its polls may need": [],
+    # Asked for of waybills.
+    "an unpack drops the token": [],
+    "a pass learns what nobody knows": [],
+    "a pass forgets what it packs": [],
+    "a check of numbers passes a message out of turn": [],
+    "a parcel is unpacked at another office": [],
+    # Asked for of the channel whose wake-ups are proved between threads, at its own code.
+    "between threads: a send tells nobody": [],
+    "between threads: a receive pends without a second try": [],
+    "between threads: a notice is not passed on": [],
+    "between threads: a notice is swallowed": [],
+    "between threads: two pushers win one place": [],
+    "between threads: a closing tells first": [],
 }
+# The bodies that are tried at more places than one: bodies of their own code, each of which was asked for.
+PLACES = {
+    "a send tells a receive before its message is in": 3,  # the machine's send and its polled send, and straight code
+    "a call is run whole at its first step": 2,  # a push, and a send with its notice
+    "a closing always answers false": 2,  # the channel's call, and the line of a handle over it
+}
+# What a sentence names as standing against a wrong body: the first of it.
+CLAUSE = re.compile(r"[Aa]gainst it stands? (.*?)(?:[.;]|, |: |$)|[Tt]he ((?:clauses?|invariant) .*?)(?: refuses?|,)|(What .*? requires)")
 # What a sentence doesn't cite by its number: a rule, a paper, a section, an issue.
 CITED = re.compile(r"\b[A-Z]\d+\b|\b0[1-4]\b|\b(issue|paper|document|section|request)s? \d")
 HEAD = """# Wrong bodies that the prover refuses
 
 Made by `tools/list_edits.py` of the first lines of the edits `crates/*/must-fail/*.edit`, not by hand. Each edit changes a body so that it
-does something wrong, still compiles, and is tried by the gate: the prover has to refuse it. There are {count} of them.
+does something wrong, still compiles, and is tried by the gate: the prover has to refuse it. There are {count} of them:
+{others} stand for bodies of the first table, {alone} alone at a clause.
 
 ## Against what a channel has to be safe from
 
@@ -115,7 +158,9 @@ does something wrong, still compiles, and is tried by the gate: the prover has t
 
 ## Crate by crate
 
-What goes wrong for whom, and what stands against it.
+What goes wrong for whom, and what stands against it. An edit that is of no body above turns a clause that no other one turns, or not so:
+the last column says which. What tests see of other wrong bodies is in
+[TESTED.md](TESTED.md#wrong-bodies-that-the-gate-leaves-to-tests).
 """
 
 
@@ -155,8 +200,33 @@ def left_faults():
                 yield f"{page} names a test that isn't there: {test}"
 
 
+def clause_of(why):
+    """The clause that an edit's sentence names."""
+    found = CLAUSE.search(why)
+    return next(filter(None, found.groups()), "") if found else ""
+
+
+def alone_at(edits):
+    """The clauses of the edits that are of no body, by their crates and names."""
+    return {name: clause_of(why) for name, (why, bodies) in edits.items() if not bodies}
+
+
+def reason_faults(edits):
+    """The edits that the gate tries for no reason, for two, or for that of another one."""
+    at = {}
+    for (crate, name), clause in alone_at(edits).items():
+        if not clause:
+            yield f"{crate}/{name} is of no body, and its sentence names no clause that stands against it"
+        if clause and (crate, clause) in at:
+            yield f"{crate}/{name} stands at the same as {at[crate, clause]}: {clause}"
+        at[crate, clause] = name
+    tried = [body for _, bodies in edits.values() for body in bodies]
+    yield from (f"too many edits stand for one body: {body}" for body in BODIES if tried.count(body) > PLACES.get(body, 1))
+
+
 def faults(edits):
     yield from left_faults()
+    yield from reason_faults(edits)
     for (crate, name), (why, bodies) in edits.items():
         if not why.endswith("."):
             yield f"{crate}/{name} has no line 'why: SENTENCE' in front"
@@ -179,10 +249,13 @@ def row(body, edits):
 
 
 def page(edits):
-    text = HEAD.format(count=len(edits), bodies="\n".join(row(body, edits) for body in BODIES))
+    alone = alone_at(edits)
+    rows = "\n".join(row(body, edits) for body in BODIES)
+    text = HEAD.format(count=len(edits), alone=len(alone), others=len(edits) - len(alone), bodies=rows)
     for crate in sorted({crate for crate, _ in edits}):
-        text += f"\n### `{crate}`\n\n| Edit | Why |\n|---|---|\n"
-        text += "".join(f"| `{name}` | {why} |\n" for (at, name), (why, _) in edits.items() if at == crate)
+        text += f"\n### `{crate}`\n\n| Edit | Why | Alone at |\n|---|---|---|\n"
+        here = [(name, why, alone.get((at, name), "")) for (at, name), (why, _) in edits.items() if at == crate]
+        text += "".join(f"| `{name}` | {why} | {clause} |\n" for name, why, clause in here)
     return text
 
 

@@ -32,6 +32,9 @@ TEXTS = [
     ("channel_world_tests", "call_rows", "REFUSED", "`World::run_calls` that stops (`channel_rows`)", "rows::refused"),
     ("channel_world_tests", "call_rows", "BOTH", "`World::run_calls` and `World::run_steps` in turn (`channel_rows`)", "rows::both"),
     ("channel_world_tests", "call_rows", "SETTLINGS", "`World::settle` (`channel_rows`)", "rows::settlings"),
+    ("history_checker_tests", "history_rows", "ORDERS", "`judge` over logs of calls of one message each (`histories`)", "rows::orders"),
+    ("history_checker_tests", "history_rows", "SEVERAL", "`judge`, and `History::fault`, over logs with receives of several (`histories`)", "rows::several"),
+    ("history_checker_tests", "history_rows", "RESTS", "`Rest::is_right` (`histories`)", "rows::rests"),
 ]
 TEXT = re.compile(r'const (\w+): &str = "(\n[^"]*^row [^"]*)"', re.M)
 HEAD = """# Where the worked rows stand

@@ -5,8 +5,8 @@
 #[cfg(test)]
 mod checks;
 #[cfg(test)]
-mod orders;
+mod histories;
 #[cfg(test)]
-mod rests;
+mod history_rows;
 #[cfg(test)]
-mod several;
+mod rows;
