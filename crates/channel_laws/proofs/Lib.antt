@@ -37,9 +37,9 @@ pub mod MarkedFacts
 pub mod EndFacts
 mod BridgeLeads
 mod Bridge
-mod BridgeWalks
+pub mod BridgeWalks
 mod BridgeRow
-mod BridgeBlocks
+pub mod BridgeBlocks
 mod BridgeHeadline
 mod TaskLists
 mod TaskTurns

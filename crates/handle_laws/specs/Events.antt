@@ -1,65 +1,124 @@
 -- What a call of a handle says that its trace saw, as the next events of a party in a merge.
-use Rattle.std.specs.Prelude.{List, ◌∷◌, ◌++◌, map, Option, None, Some, Result, Ok}
+use Rattle.std.specs.Prelude.{◌⊎◌, ℕ, List, [], ◌∷◌, ◌++◌, map, Bool, Option, None, Some, Result, Ok, Err}
+use Rattle.std.specs.Global.{Vec}
 use Rattle.concurrent_queue.specs.Deeds as cell
 use Rattle.concurrent_queue.specs.declared.cells.QueueForm.{QueueForm}
+use Rattle.concurrent_queue.specs.declared.queue_call.QueueCall.{QueueCall}
 use Rattle.event_listener.specs.declared.key.Key.{Key}
 use Rattle.channel_calls.specs.Asks.{first}
+use Rattle.channel_calls.specs.Blocks.{Blocks}
 use Rattle.channel_calls.specs.Deeds.{Deed}
+use Rattle.channel_calls.specs.Filling.{Fills}
+use Rattle.channel_calls.specs.Taking.{TakesNext}
 use Rattle.channel_calls.specs.Turns.{leaving}
-use Rattle.channel_calls.specs.Walks.{WalkedFrom, WalkedTo}
+use Rattle.channel_calls.specs.Walks.{Takes, Leads, WalkedFrom, WalkedTo}
 use Rattle.channel_calls.specs.declared.ask.ChannelAsk.{ChannelAsk}
-use Rattle.channel_calls.specs.declared.ask.ChannelAsk.TheVariants.{CloneHandle, Upgrade}
+use Rattle.channel_calls.specs.declared.ask.ChannelAsk.TheVariants.{CloneHandle, Upgrade, RecvMany, TryRecv}
+use Rattle.channel_calls.specs.declared.blocked.Blocked.{Blocked}
 use Rattle.channel_calls.specs.declared.error.HandleError.{HandleError}
+use Rattle.channel_calls.specs.declared.error.Refused.{Refused}
+use Rattle.channel_calls.specs.declared.error.TryRecvError.{TryRecvError}
 use Rattle.channel_calls.specs.declared.reply.Reply.{Reply}
 use Rattle.channel_calls.specs.declared.reply.Reply.TheVariants as reply
 use Rattle.channel_calls.specs.declared.stage.Kept.{Kept}
 use Rattle.channel_calls.specs.declared.stage.Side.{Side}
+use Rattle.channel_calls.specs.declared.stage.Stage.{Stage}
 use Rattle.channel_laws.specs.Bridge.{Act, Event, begins, does, Given, Acts, Along}
+use Rattle.channel_laws.specs.BridgeBlocks.{InCalls, IsLeft, Rested}
 use Rattle.async_channel.specs.Counts.{Clones, Upgrades}
 use Rattle.async_channel.specs.Polls.{Polls, PollsSend}
 use Rattle.async_channel.specs.Saw.{Saw, SeenOn}
+use Rattle.async_channel.specs.Several.{ReceivesMany}
 
-module _ {T W X : Type 0} (did : cell.Deed T → X → X → Type 0) (shown : Deed T W → X → X → Type 0) where
+module _ {T W X : Type 0} (cells_did : cell.Deed T → X → X → Type 0) (saw : Deed T W → X → X → Type 0) where
   -- operations of a queue of this form and deeds on lists and counts were seen, one after another, from the one state of the trace to
   -- the other. They are the next events of a party that makes this call: it is given this answer, whatever the party does then
   abbrev pub HasEvents : QueueForm → ChannelAsk T W → X → Reply T → Kept T → X → Type 0
   HasEvents form ask s r kept t =
-      (os : List (Act T W)) × Along shown did os s t
+      (os : List (Act T W)) × Along saw cells_did os s t
       × ((xs : List (Event T W)) (more : List (Given T)) → Acts form None xs more → Acts form None (begins ask ∷ map does os ++ xs) (record { reply = r; kept = kept } ∷ more))
 
-  -- so it is of a call that was seen to be walked to its answer
+  -- they are the last events of a party whose call makes no more steps
+  abbrev pub HasLastEvents : QueueForm → ChannelAsk T W → X → X → Type 0
+  HasLastEvents form ask s t = (os : List (Act T W)) × Along saw cells_did os s t × Acts form None (begins ask ∷ map does os) []
+
+module _ {T W X : Type 0} (did : cell.Deed T → X → X → Type 0) (shown : Deed T W → X → X → Type 0) where
+  -- a call that was seen to be walked to its answer has such events
   abbrev pub WalksAct : Type 0
   WalksAct =
       (form : QueueForm) (ask : ChannelAsk T W) (s : X) (r : Reply T) (kept : Kept T) (t : X)
-      → WalkedFrom (Saw did shown form) (first ask) s r kept t → HasEvents form ask s r kept t
+      → WalkedFrom (Saw did shown form) (first ask) s r kept t → HasEvents did (Saw did shown form) form ask s r kept t
 
   -- as the clauses of handles say it: of a call that no operation makes, of a poll, and of a poll of a send
   abbrev pub CallsAct : Type 0
   CallsAct =
       (form : QueueForm) (ask : ChannelAsk T W) (s : X) (r : Reply T) (t : X)
-      → SeenOn did shown form (λ saw. WalkedTo saw (first ask)) s r t → (kept : Kept T) × HasEvents form ask s r kept t
+      → SeenOn did shown form (λ saw. WalkedTo saw (first ask)) s r t → (kept : Kept T) × HasEvents did (Saw did shown form) form ask s r kept t
 
   abbrev pub PollsAct : Type 0
   PollsAct =
       (form : QueueForm) (asks : Option W → ChannelAsk T W) (s : X) (r : Reply T) (key : Option Key) (t : X)
       → SeenOn did shown form (λ saw begin a end. Polls saw asks begin a key end) s r t
-      → (message : Option T) × (task : Option W) × HasEvents form (asks task) s r (leaving key message) t
+      → (message : Option T) × (task : Option W) × HasEvents did (Saw did shown form) form (asks task) s r (leaving key message) t
 
   abbrev pub SendPollsAct : Type 0
   SendPollsAct =
       (form : QueueForm) (asks : Option W → ChannelAsk T W) (s : X) (r : Reply T) (key : Option Key) (message : Option T) (t : X)
       → SeenOn did shown form (λ saw begin a end. PollsSend saw asks begin a key message end) s r t
-      → (task : Option W) × HasEvents form (asks task) s r (leaving key message) t
+      → (task : Option W) × HasEvents did (Saw did shown form) form (asks task) s r (leaving key message) t
 
   -- of a clone and of an upgrade that made a handle
   abbrev pub ClonesAct : Type 0
   ClonesAct =
       (form : QueueForm) (side : Side) (s t : X)
       → SeenOn {A = Result Unit HandleError} did shown form (λ saw. Clones saw side) s (Ok (record {})) t
-      → (kept : Kept T) × HasEvents form (CloneHandle side) s reply.Made kept t
+      → (kept : Kept T) × HasEvents did (Saw did shown form) form (CloneHandle side) s reply.Made kept t
 
   abbrev pub UpgradesAct : Type 0
   UpgradesAct =
       (form : QueueForm) (side : Side) (s t : X)
       → SeenOn {A = Result (Option Unit) HandleError} did shown form (λ saw. Upgrades saw side) s (Ok (Some (record {}))) t
-      → (kept : Kept T) × HasEvents form (Upgrade side) s reply.Made kept t
+      → (kept : Kept T) × HasEvents did (Saw did shown form) form (Upgrade side) s reply.Made kept t
+
+  -- of a receive of several messages, into a list of its own and into one that is there
+  abbrev pub SeveralAct : Type 0
+  SeveralAct =
+      (form : QueueForm) (limit : ℕ) (s : X) (r : Result (Vec T) (Refused TryRecvError Unit)) (t : X)
+      → SeenOn did shown form (λ saw. ReceivesMany saw limit) s r t
+      → (answer : Result (List T) (Refused TryRecvError Unit)) × (kept : Kept T) × HasEvents did (Saw did shown form) form (RecvMany limit) s (reply.RecvMany answer) kept t
+
+  abbrev pub FillsAct : Type 0
+  FillsAct =
+      (form : QueueForm) (room : ℕ) (before : List T) (s : X) (r : Result ℕ TryRecvError) (after : List T) (t : X)
+      → SeenOn did shown form (λ saw begin a end. Fills saw room before begin a after end) s r t
+      → (answer : Result (List T) (Refused TryRecvError Unit)) × (kept : Kept T) × HasEvents did (Saw did shown form) form (RecvMany room) s (reply.RecvMany answer) kept t
+
+  -- of a message that a walk gives which doesn't wait and has not ended
+  abbrev pub TakesAct : Type 0
+  TakesAct =
+      (form : QueueForm) (ended : Bool) (s : X) (item : T) (t : X)
+      → SeenOn did shown form (λ saw. TakesNext saw ended) s (Some item) t
+      → (kept : Kept T) × HasEvents did (Saw did shown form) form TryRecv s (reply.TryRecv (Ok item)) kept t
+
+module _ {T W X : Type 0} (did : cell.Deed T → X → X → Type 0) (shown : Deed T W → X → X → Type 0) (parked : Option W → X → X → Type 0) (slept : X → X → Type 0) where
+  -- what was seen of a call that blocks its thread, a deed on a list behind what the thread rested before it
+  abbrev pub SawRested : QueueForm → Deed T W → X → X → Type 0
+  SawRested form = Rested (Saw did shown form) parked slept
+
+  -- such a call made whole calls one after another; who has no task of its own may take any for the first poll
+  abbrev pub BlocksAct : Type 0
+  BlocksAct =
+      (form : QueueForm) (b : Blocked T) (task : W) (s : X) (r : Reply T) (kept : Kept T) (t : X)
+      → SeenOn did shown form (λ saw begin a end. Blocks saw parked slept b begin a kept end) s r t
+      → InCalls (SawRested form) b s r kept t ⊎ IsLeft (SawRested form) b s r kept t
+
+  -- each of which has its events, as has the first poll that stands for ever where no task was given
+  abbrev pub RestedAct : Type 0
+  RestedAct =
+      (form : QueueForm) (ask : ChannelAsk T W) (s : X) (r : Reply T) (kept : Kept T) (t : X)
+      → WalkedFrom (SawRested form) (first ask) s r kept t → HasEvents did (SawRested form) form ask s r kept t
+
+  abbrev pub StandsAct : Type 0
+  StandsAct =
+      (form : QueueForm) (ask : ChannelAsk T W) (a b : Stage (QueueCall T) T W) (n : ℕ) (s t : X)
+      → Takes (first ask) a None → Leads (SawRested form) n s a t b → HasLastEvents did (SawRested form) form ask s t

@@ -1,7 +1,7 @@
 //! Laws of what calls of handles show the traces that watch them. Each is the contract of a function that does nothing.
 
 ghost use Rattle.event_listener.specs.declared.waking.Task.{Task as Waiter};
-ghost use Rattle.handle_laws.specs.Events.{WalksAct, CallsAct, PollsAct, SendPollsAct, ClonesAct, UpgradesAct};
+ghost use Rattle.handle_laws.specs.Events.{WalksAct, CallsAct, PollsAct, SendPollsAct, ClonesAct, UpgradesAct, SeveralAct, FillsAct, TakesAct, BlocksAct, RestedAct, StandsAct};
 
 use async_channel::Trace;
 
@@ -9,6 +9,11 @@ use async_channel::Trace;
 /// `merges_are_runs` of `channel_laws` asks of its party: operations of the queue, and deeds on the lists and the counts, that are the
 /// party's next events, with the answer that came out. So where the events of many such calls come in one order in which each answer
 /// is what the channel then held, the whole is a run, and the headline holds of it. Nothing is known of the trace but that it is one.
+///
+/// A call that blocks its thread made whole calls one after another: some that don't wait, a first poll, and polls that ask their
+/// listener first. Before a section on a list it may have asked for a task and slept. Each of these calls has its events. Where it was
+/// refused its task before it ever slept, its first poll stands for ever where it was to register, and a poll that is refused its
+/// task is made beside it, as by another party. A walk that waits for each message is such a call an item.
 ///
 /// Own to this project.
 pub fn walks_of_handles_act<T, S: Trace<T>>()
@@ -18,4 +23,10 @@ pub fn walks_of_handles_act<T, S: Trace<T>>()
     ensures send_polls { SendPollsAct {W = Waiter} S.did S.shown }
     ensures clones { ClonesAct {W = Waiter} S.did S.shown }
     ensures upgrades { UpgradesAct {W = Waiter} S.did S.shown }
+    ensures several { SeveralAct {W = Waiter} S.did S.shown }
+    ensures fills { FillsAct {W = Waiter} S.did S.shown }
+    ensures takes { TakesAct {W = Waiter} S.did S.shown }
+    ensures blocks { BlocksAct {W = Waiter} S.did S.shown S.parked S.slept }
+    ensures rested { RestedAct {W = Waiter} S.did S.shown S.parked S.slept }
+    ensures stands { StandsAct {W = Waiter} S.did S.shown S.parked S.slept }
 {}
