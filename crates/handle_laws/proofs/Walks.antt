@@ -5,7 +5,7 @@ use Rattle.concurrent_queue.specs.declared.call.QueueReply.{QueueReply}
 use Rattle.concurrent_queue.specs.declared.cells.QueueForm.{QueueForm}
 use Rattle.concurrent_queue.specs.declared.queue_call.QueueCall.{QueueCall}
 use Rattle.channel_calls.specs.Deeds.{Deed}
-use Rattle.channel_laws.specs.Bridge.{QueueWalks, QueueIsWalked}
+use Rattle.channel_laws.specs.Bridge.{QueueWalks}
 use Rattle.async_channel.specs.Saw.{Saw, SawSteps}
 use Rattle.channel_laws.proofs.BridgeWalks as bridge
 use Rattle.handle_laws.specs.Events.{WalksAct, SawRested, RestedAct, StandsAct}

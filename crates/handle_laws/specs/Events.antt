@@ -1,5 +1,5 @@
 -- What a call of a handle says that its trace saw, as the next events of a party in a merge.
-use Rattle.std.specs.Prelude.{◌⊎◌, ℕ, List, [], ◌∷◌, ◌++◌, map, Bool, Option, None, Some, Result, Ok, Err}
+use Rattle.std.specs.Prelude.{◌⊎◌, ℕ, List, [], ◌∷◌, ◌++◌, map, Bool, Option, None, Some, Result, Ok}
 use Rattle.std.specs.Global.{Vec}
 use Rattle.concurrent_queue.specs.Deeds as cell
 use Rattle.concurrent_queue.specs.declared.cells.QueueForm.{QueueForm}

@@ -1,11 +1,8 @@
 -- From the walk that each clause names.
-use Rattle.std.proofs.Common.{List, Option, Some, Result, Ok, Err, ℕ, Bool, true, false}
-use Rattle.std.specs.Global.{Vec}
+use Rattle.std.proofs.Common.{◌≡◌, None, Some, Ok, Err, true, false}
 use Rattle.channel_calls.specs.Turns.{leaving}
 use Rattle.channel_calls.specs.declared.ask.ChannelAsk.TheVariants.{CloneHandle, Upgrade, RecvMany, TryRecv}
-use Rattle.channel_calls.specs.declared.error.Refused.{Refused}
 use Rattle.channel_calls.specs.declared.error.Refused.TheVariants.{Plain}
-use Rattle.channel_calls.specs.declared.error.TryRecvError.{TryRecvError}
 use Rattle.channel_calls.specs.declared.reply.Reply.TheVariants as reply
 use Rattle.channel_laws.proofs.BridgeBlocks.{blocks_in_calls}
 use Rattle.handle_laws.specs.Events.{SeveralAct, FillsAct, TakesAct}
@@ -30,7 +27,7 @@ module _ {T W X : Type 0} (did : cell.Deed T → X → X → Type 0) (shown : De
 
   takes : TakesAct did shown
   unfolding SeenOn
-  takes form true s item t (none, is) = search none
+  takes form true s item t (none, is) = absurd (let no : Some item ≡ None = none in cc)
   takes form false s item t (kept, walked) = (kept, walks_act did shown form TryRecv s (reply.TryRecv (Ok item)) kept t walked)
 
 pub returns : goal.returns
