@@ -4,6 +4,7 @@ use mathlib.Core.Option as home
 use mathlib.Core.Option.{some, none}
 use lib.ListN.{get_elem?}
 use Rattle.channel_wakeups.specs.declared.listeners.Listener.{Listener}
+use Rattle.channel_wakeups.specs.declared.rule.Handles.{Handles}
 use Rattle.channel_wakeups.specs.declared.rule.Line.{Line}
 use Rattle.channel_wakeups.specs.declared.rule.Lines.{Lines}
 use Rattle.channel_wakeups.specs.declared.rule.Roll.{Roll}
@@ -11,7 +12,7 @@ use Rattle.channel_wakeups.specs.declared.rule.Rolls.{Rolls}
 use Rattle.channel_wakeups.specs.declared.rule.View.{View}
 use Rattle.channel_wakeups.specs.declared.rule.Transfer.{Transfer}
 use Rattle.channel_wakeups.specs.Lists.{told, waits, listed}
-use Rattle.channel_wakeups.specs.Views.{Side, of_receives, of_sends, of_streams, of_closings, Duty, to_one, to_all, of, roll, pass, won_place, no_place, no_send, won_message, no_message, no_more, all_owing, still_open, found_closed, only, is_key, listing, wanted, messages, places, Owed, empty, full, out, Ordered, Kept, Fair}
+use Rattle.channel_wakeups.specs.Views.{Side, of_receives, of_sends, of_streams, of_closings, Duty, to_one, to_all, of, closed_by, handed, settled, roll, pass, won_place, no_place, no_send, won_message, no_message, no_more, all_owing, still_open, found_closed, only, is_key, listing, wanted, messages, places, Owed, empty, full, out, Ordered, Kept, Fair}
 use Rattle.channel_wakeups.proofs.Sums.{only_some, only_zero, owed_by, turned, Goes, Sights, Places, Tickets, Logs, put_else, took_else}
 
 pub no_home : {T : Type 0} (x : Option T) → some x ≡ none → ⊥
@@ -241,6 +242,20 @@ gives_turns w x e c same to_all of_sends = as_before (wanted to_all of_sends w e
 gives_turns w x true c same to_all of_streams = as_before 1 c.streams.tells c.streams.holds
 gives_turns w x false c same to_all of_streams = inr (inr (omega arith, omega arith, refl))
 gives_turns w x e c same to_all of_closings = as_before (wanted to_all of_closings w e) c.closings.tells c.closings.holds
+
+-- other handles are nothing that the law of a side counts
+pub of_handed : (h : Handles) (l : Lines) (s : Side) → of s (handed h l) ≡ of s l
+of_handed h l of_receives = refl
+of_handed h l of_sends = refl
+of_handed h l of_streams = refl
+of_handed h l of_closings = refl
+
+pub handed_turns : (w : ℕ) (e : Bool) (h : Handles) (c : Lines) (d : Duty) (s : Side) → Turns d s w w e e c (handed h c)
+handed_turns w e h c d s = subst (λ (x : Line). Way (wanted d s w e) (wanted d s w e) (by_call d (of s c)) (by_call d x) (of s c).holds x.holds) (sym (of_handed h c s)) (gives_turns w w e c refl d s)
+
+-- the channel was found closed, so no closing is owed any more
+pub settles : (w : ℕ) (c : Lines) (d : Duty) (s : Side) → Turns d s w w true true c (settled c)
+settles w c d s = handed_turns w true (closed_by c.hands) c d s
 
 -- the tickets stay
 abbrev pub SameTickets : Lines → Lines → Type 0

@@ -21,9 +21,10 @@ use Rattle.channel_wakeups.specs.declared.stage.Stage.{Stage}
 use Rattle.channel_wakeups.specs.declared.stage.Stage.TheVariants.{Free}
 use Rattle.channel_wakeups.specs.Calls.{PushLeaves, ForceLeaves, PopLeaves, CloseLeaves, AskLeaves}
 use Rattle.channel_wakeups.specs.Cells.{Did, IsOver, Pushed, Forced, Popped, HasClosed, HasAsked}
+use Rattle.channel_wakeups.specs.Counts.{IsHolding}
 use Rattle.channel_wakeups.specs.Seats.{IsCall, IsPass, IsIdle}
 use Rattle.channel_wakeups.specs.Stages.{IsAt}
-use Rattle.channel_wakeups.specs.Views.{Side, of_receives, of_sends, of_streams, of_closings, of, besides, with_line, only_on, calling, idle, idle_lines, won_place, all_owing}
+use Rattle.channel_wakeups.specs.Views.{Side, of_receives, of_sends, of_streams, of_closings, of, besides, with_line, only_on, calling, idle, idle_lines, handed, hands, won_place, all_owing}
 use Rattle.channel_wakeups.proofs.Sides.{of_with, only_besides, takes_so, view_of}
 use Rattle.channel_wakeups.proofs.Machine.{pushes, forces, pops, closes, asks}
 
@@ -86,16 +87,16 @@ module _ {T W : Type 0} (table : TableId) where
   leaves_pop s which p a h log (reply.Count y) c some_part left at = elim left [ ]
   leaves_pop s which p a h log (reply.Cap y) c some_part left at = elim left [ ]
 
-  leaves_close : (p : ℕ) (log : List (Transfer T)) (r : QueueReply T) (c : SlotCells T W) → 0 < p → HasClosed table p idle_lines log r c → IsAt c.stage c.seat.me → CloseLeaves table p log r c.seat
-  leaves_close p log (reply.Close true) c some_part (unshut, left) at =
+  leaves_close : (p n : ℕ) (log : List (Transfer T)) (r : QueueReply T) (c : SlotCells T W) → 0 < p → HasClosed table p (handed (hands 0 0 n) idle_lines) log r c → IsAt c.stage c.seat.me → CloseLeaves table p log r c.seat
+  leaves_close p n log (reply.Close true) c some_part (unshut, left) at =
       (over of_receives p (all_owing idle_lines) (log ++ Saw Shut ∷ []) c some_part left at, unshut, logged p (all_owing idle_lines) (log ++ Saw Shut ∷ []) c left)
-  leaves_close p log (reply.Close false) c some_part left at = (over of_receives p idle_lines (log ++ Saw Seen ∷ []) c some_part left at, logged p idle_lines (log ++ Saw Seen ∷ []) c left)
-  leaves_close p log (reply.Push y) c some_part left at = elim left [ ]
-  leaves_close p log (reply.Force y) c some_part left at = elim left [ ]
-  leaves_close p log (reply.Pop y) c some_part left at = elim left [ ]
-  leaves_close p log (reply.Flag y) c some_part left at = elim left [ ]
-  leaves_close p log (reply.Count y) c some_part left at = elim left [ ]
-  leaves_close p log (reply.Cap y) c some_part left at = elim left [ ]
+  leaves_close p n log (reply.Close false) c some_part left at = (over of_receives p idle_lines (log ++ Saw Seen ∷ []) c some_part left at, logged p idle_lines (log ++ Saw Seen ∷ []) c left)
+  leaves_close p n log (reply.Push y) c some_part left at = elim left [ ]
+  leaves_close p n log (reply.Force y) c some_part left at = elim left [ ]
+  leaves_close p n log (reply.Pop y) c some_part left at = elim left [ ]
+  leaves_close p n log (reply.Flag y) c some_part left at = elim left [ ]
+  leaves_close p n log (reply.Count y) c some_part left at = elim left [ ]
+  leaves_close p n log (reply.Cap y) c some_part left at = elim left [ ]
 
   leaves_ask : (p a h : ℕ) (log : List (Transfer T)) (r : QueueReply T) (c : SlotCells T W) → 0 < p → HasAsked table p (only_on of_closings (calling a h 0)) log r c → IsAt c.stage c.seat.me → AskLeaves table p h log r c.seat
   leaves_ask p a h log (reply.Flag true) c some_part left at =
@@ -126,11 +127,11 @@ module _ {T W : Type 0} (table : TableId) where
       let is = view_of side b.seat.me.0 p (calling a h 0) idle_lines calls in
       leaves_pop side which p a h b.seat.me.0.log r c calls.5 (pops table p (only_on side (calling a h 0)) b.seat.me.0.log b c r (i, free_stage, is) (subst (λ (s : CallState T). WalkedFrom Did (Bounded 1) s b r c) asks_so walked)) held
 
-  pub close_leaves : (p : ℕ) (at : CallState T) (b c : SlotCells T W) (r : QueueReply T) → IsIdle table b.seat p → b.stage ≡ Free → at ≡ Asked ask.Close → WalkedFrom Did (Bounded 1) at b r c → IsAt c.stage c.seat.me
+  pub close_leaves : (p n : ℕ) (at : CallState T) (b c : SlotCells T W) (r : QueueReply T) → IsHolding (hands 0 0 n) table b.seat p → b.stage ≡ Free → at ≡ Asked ask.Close → WalkedFrom Did (Bounded 1) at b r c → IsAt c.stage c.seat.me
       → CloseLeaves table p b.seat.me.0.log r c.seat
-  close_leaves p at b c r (i, none_out, calls) free_stage asks_so walked held =
-      let is = view_of of_receives b.seat.me.0 p idle idle_lines calls in
-      leaves_close p b.seat.me.0.log r c calls.5 (closes table p idle_lines b.seat.me.0.log b c r (i, free_stage, is) (subst (λ (s : CallState T). WalkedFrom Did (Bounded 1) s b r c) asks_so walked)) held
+  close_leaves p n at b c r (i, none_out, calls) free_stage asks_so walked held =
+      let is = view_of of_receives b.seat.me.0 p idle (handed (hands 0 0 n) idle_lines) calls in
+      leaves_close p n b.seat.me.0.log r c calls.5 (closes table p (handed (hands 0 0 n) idle_lines) b.seat.me.0.log b c r (i, free_stage, is) (subst (λ (s : CallState T). WalkedFrom Did (Bounded 1) s b r c) asks_so walked)) held
 
   pub ask_leaves : (p a h : ℕ) (at : CallState T) (b c : SlotCells T W) (r : QueueReply T) → IsCall of_closings table b.seat p a h 0 → b.stage ≡ Free → at ≡ Asked ask.IsClosed → WalkedFrom Did (Bounded 1) at b r c → IsAt c.stage c.seat.me
       → AskLeaves table p h b.seat.me.0.log r c.seat

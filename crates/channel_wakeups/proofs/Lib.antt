@@ -1,6 +1,7 @@
 pub mod Sides
 pub mod Sums
 pub mod Logs
+pub mod Hands
 pub mod History
 pub mod Received
 pub mod Laws
@@ -13,3 +14,4 @@ pub mod From
 pub mod Listed
 pub mod Sections
 pub mod Several
+pub mod Counts

@@ -9,6 +9,8 @@ use Rattle.atomic_table.specs.Table.{Me, Act, Valid, carried_after, homes_after,
 use Rattle.atomic_table.proofs.Lists.{set_again}
 use Rattle.concurrent_queue.specs.machine.Single.{clear}
 use Rattle.channel_wakeups.specs.declared.listeners.Listener.{Listener}
+use Rattle.channel_wakeups.specs.declared.rule.Kind.{Kind}
+use Rattle.channel_wakeups.specs.declared.rule.Kind.TheVariants.{OfSenders, OfReceivers}
 use Rattle.channel_wakeups.specs.declared.rule.Line.{Line}
 use Rattle.channel_wakeups.specs.declared.rule.Lines.{Lines}
 use Rattle.channel_wakeups.specs.declared.rule.Rolls.{Rolls}
@@ -19,12 +21,13 @@ use Rattle.channel_wakeups.specs.declared.rule.Sight.{Sight}
 use Rattle.channel_wakeups.specs.declared.rule.Sight.TheVariants.{Shut, Seen, Drained}
 use Rattle.channel_wakeups.specs.Lists.{total, listed}
 use Rattle.channel_wakeups.specs.Log.{Weight, puts, each, held}
-use Rattle.channel_wakeups.specs.Views.{Side, Duty, to_one, to_all, of, roll, listing, with_line, with_roll, pass, changed, won_place, no_place, no_send, won_message, no_message, no_more, all_owing, still_open, found_closed, closer, saw_open, only, is_key, here_of, listed_of, tickets_of, locks_of, owns_of, puts_of, word_of, wanted, messages, places, IsSlot, empty, full, out, Ordered, Kept, Woken, Known, MissesPlace, AtHome, fills, displaces, wins, unlocks, shuts, sees, Fair}
+use Rattle.channel_wakeups.specs.Views.{all_words, Side, Duty, to_one, to_all, count_of, of, roll, listing, with_line, with_roll, pass, changed, won_place, no_place, no_send, won_message, no_message, no_more, settled, all_owing, still_open, found_closed, closer, saw_open, only, is_key, here_of, listed_of, tickets_of, locks_of, owns_of, puts_of, word_of, wanted, messages, places, IsSlot, empty, full, out, Ordered, Kept, Counted, Woken, Known, MissesPlace, AtHome, fills, displaces, wins, unlocks, shuts, sees, Fair}
 use Rattle.channel_wakeups.proofs.Sums.{only_some, others, others_free, was, turned, Goes, Tickets, Logs, put_else, took_else}
 use Rattle.channel_wakeups.proofs.Logs.{puts_append, same_logs, saw_logs, put_logs, take_logs, comes_next, goes_next, not_seen, not_drained, sights_stay, sights_same, moved, sights_seen, sights_drained, sights_shut}
 use Rattle.channel_wakeups.proofs.History.{agrees_append, agrees_saw, order_stays, order_grows}
+use Rattle.channel_wakeups.proofs.Hands.{hands_with, Carries, counted_kept, carries_all, carries_same, carries_more}
 use Rattle.channel_wakeups.proofs.Sides.{of_with, roll_with, which, Untouched}
-use Rattle.channel_wakeups.proofs.Laws.{no_home, no_true, no_empty, fills_place, displaced_place, wins_place, filled_place, emptied_place, fills_turns, displaces_turns, refused_turns, shut_out_turns, wins_turns, rests_turns, drains_turns, shuts_turns, open_turns, closed_turns, gives_turns, Turns, SameTickets, turned_kept, lasts_by, fair_lasts, fair_tickets}
+use Rattle.channel_wakeups.proofs.Laws.{no_home, no_true, no_empty, fills_place, displaced_place, wins_place, filled_place, emptied_place, fills_turns, displaces_turns, refused_turns, shut_out_turns, wins_turns, rests_turns, drains_turns, shuts_turns, open_turns, closed_turns, gives_turns, settles, Turns, SameTickets, turned_kept, lasts_by, fair_lasts, fair_tickets}
 
 -- what the operations make of the word
 abbrev swap : ℕ → ℕ → ℕ → ℕ
@@ -47,19 +50,36 @@ module _ {T W : Type 0} where
   abbrev pub Outcome : (ℕ → ℕ) → (ℕ → Me (Option T) (View T W) → Type 0) → Me (Option T) (View T W) → ℕ → List (View T W) → ℕ → home.Option (Option T) → Type 0
   Outcome f then me id views word slot =
       (w : View T W) × (a : Act (Option T)) × (r : home.Option (Option T)) × (base : ℕ) × (shut : Bool) × Valid (slot ∷ []) me.1 a × (homes_after (slot ∷ []) me.1 a ≡ r ∷ []) × (f word ≡ word_of base shut) × Kept base shut r (set views id w)
-      × then word (w, carried_after me.1 a)
+      × ((k : Kind) → Carries k me.0 w) × then word (w, carried_after me.1 a)
+
+  -- of what is known of the counts too
+  pub by_all : (f : ℕ → ℕ) (then : ℕ → Me (Option T) (View T W) → Type 0) (slots id : ℕ) (me : Me (Option T) (View T W))
+      → ((base : ℕ) (shut : Bool) (slot : home.Option (Option T)) (senders receivers : ℕ) (views : List (View T W)) → Kept base shut slot views → Counted senders OfSenders views → Counted receivers OfReceivers views → get_elem? views id ≡ some me.0
+      → Outcome f then me id views (word_of base shut) slot) → Allows Woken slots id me 0 f then
+  by_all f then slots id me go s h wide at small =
+      let r = go h.0 h.1 h.2 h.3 h.4 s.views h.7 h.8 h.9 at in (
+        r.0,
+        r.1,
+        subst (λ (hs : List (home.Option (Option T))). Valid hs me.1 r.1) (sym h.6) r.5,
+        (
+          r.3,
+          r.4,
+          r.2,
+          h.3,
+          h.4,
+          ap (λ (ws : List ℕ). slice_set ws 0 (f (slice_index ws 0))) h.5 ∙ ap (λ (n : ℕ). all_words n h.3 h.4) r.7,
+          ap (λ (hs : List (home.Option (Option T))). homes_after hs me.1 r.1) h.6 ∙ r.6,
+          r.8,
+          counted_kept h.3 OfSenders s.views id me.0 r.0 at (r.9 OfSenders) h.8,
+          counted_kept h.4 OfReceivers s.views id me.0 r.0 at (r.9 OfReceivers) h.9,
+        ),
+        subst (λ (n : ℕ). then n (r.0, carried_after me.1 r.1)) (sym (ap (λ (ws : List ℕ). slice_index ws 0) h.5)) r.10,
+      )
 
   pub by_rule : (f : ℕ → ℕ) (then : ℕ → Me (Option T) (View T W) → Type 0) (slots id : ℕ) (me : Me (Option T) (View T W))
       → ((base : ℕ) (shut : Bool) (slot : home.Option (Option T)) (views : List (View T W)) → Kept base shut slot views → get_elem? views id ≡ some me.0 → Outcome f then me id views (word_of base shut) slot)
       → Allows Woken slots id me 0 f then
-  by_rule f then slots id me go s h wide at small =
-      let r = go h.0 h.1 h.2 s.views h.5 at in (
-        r.0,
-        r.1,
-        subst (λ (hs : List (home.Option (Option T))). Valid hs me.1 r.1) (sym h.4) r.5,
-        (r.3, r.4, r.2, ap (λ (ws : List ℕ). slice_set ws 0 (f (slice_index ws 0))) h.3 ∙ ap (λ (n : ℕ). n ∷ []) r.7, ap (λ (hs : List (home.Option (Option T))). homes_after hs me.1 r.1) h.4 ∙ r.6, r.8),
-        subst (λ (n : ℕ). then n (r.0, carried_after me.1 r.1)) (sym (ap (λ (ws : List ℕ). slice_index ws 0) h.3)) r.9,
-      )
+  by_rule f then slots id me go = by_all f then slots id me (λ base shut slot senders receivers views k cs cr at. go base shut slot views k at)
 
   -- the state and the slot are these
   as_is : (f : ℕ → ℕ) (then : ℕ → Me (Option T) (View T W) → Type 0) (me : Me (Option T) (View T W)) (id : ℕ) (views : List (View T W)) (base n : ℕ) (shut : Bool) (slot s : home.Option (Option T)) → base ≡ n → slot ≡ s
@@ -71,7 +91,7 @@ module _ {T W : Type 0} where
   pub unchanged : (then : ℕ → Me (Option T) (View T W) → Type 0) (f : ℕ → ℕ) (me : Me (Option T) (View T W)) (id : ℕ) (views : List (View T W)) (base : ℕ) (shut : Bool) (slot : home.Option (Option T)) → get_elem? views id ≡ some me.0 → f (word_of base shut) ≡ word_of base shut → then (word_of base shut) me
       → Kept base shut slot views → Outcome f then me id views (word_of base shut) slot
   unchanged then f me id views base shut slot at same tells k =
-      (me.0, keeps, slot, base, shut, tt, refl, same, subst (Kept base shut slot) (sym (set_again views id me.0 at)) k, tells)
+      (me.0, keeps, slot, base, shut, tt, refl, same, subst (Kept base shut slot) (sym (set_again views id me.0 at)) k, (λ j. carries_all j me.0), tells)
 
   -- ---- the history, where a message is taken out, and where one is put in
 
@@ -101,7 +121,7 @@ module _ {T W : Type 0} where
       → Ordered s views → Ordered r (set views id (pass p n i m lg))
   order_same p o n l i m lg s r id views at slot = order_stays views id (pass p o l m lg) (pass p n i m lg) at s r refl (λ h i a. a) slot
 
-  order_saw : (p o n : ℕ) (l i : Lines) (m : Rolls W) (lg : List (Transfer T)) (e : Sight) (s : home.Option (Option T)) (id : ℕ) (views : List (View T W)) → get_elem? views id ≡ some (pass p o l m lg) → Ordered s views → Ordered s (set views id (pass p n i m (lg ++ Saw e ∷ [])))
+  pub order_saw : (p o n : ℕ) (l i : Lines) (m : Rolls W) (lg : List (Transfer T)) (e : Sight) (s : home.Option (Option T)) (id : ℕ) (views : List (View T W)) → get_elem? views id ≡ some (pass p o l m lg) → Ordered s views → Ordered s (set views id (pass p n i m (lg ++ Saw e ∷ [])))
   order_saw p o n l i m lg e s id views at =
       order_stays views id (pass p o l m lg) (pass p n i m (lg ++ Saw e ∷ [])) at s s (let a = puts_append each lg (Saw e ∷ []) in let b : puts each (lg ++ Saw e ∷ []) ≡ puts each lg = omega arith in (λ k. only p (b k)))
       (λ h i a. agrees_saw h lg e a) (λ x e. e)
@@ -128,6 +148,7 @@ module _ {T W : Type 0} where
       turned_kept n n false false views id p 0 0 l (no_place l) m lg lg some_part at slot slot (refl, refl, refl, refl) (λ a o z i. i) (refused_turns n l none_left)
           (logs_stay p 0 0 l (no_place l) m lg slot slot id views (λ n f. refl)) (order_same p 0 0 l (no_place l) m lg slot slot id views at (λ x e. e))
           (sights_stay n n false (pass p 0 l m lg) (pass p 0 (no_place l) m lg) (λ f. refl) (λ z. z.1)) k,
+      (λ j. carries_same j p 0 0 l (no_place l) m lg refl),
       missed (pass p 0 (no_place l) m lg, []) (inr (inl (is_open, is_full, home, not_seen views id (pass p 0 l m lg) at some_part (messages n) k.closings, refl))),
     )
 
@@ -146,6 +167,7 @@ module _ {T W : Type 0} where
       turned_kept n n true true views id p 0 0 l (no_send l) m lg (lg ++ Saw Seen ∷ []) some_part at slot slot (refl, refl, refl, refl) (λ a o z i. i) (shut_out_turns n l)
           (saw_logs W (put_else views id) (took_else views id) slot slot Seen p 0 0 l (no_send l) m lg (λ n f. refl)) (order_saw p 0 0 l (no_send l) m lg Seen slot id views at)
           (sights_seen n p 0 0 l (no_send l) m lg some_part) k,
+      (λ j. carries_more j p 0 0 l (no_send l) m lg some_part (Saw Seen) refl refl refl refl refl (inr (omega arith))),
       missed (pass p 0 (no_send l) m (lg ++ Saw Seen ∷ []), []) (inl (is_closed, refl)),
     )
 
@@ -182,6 +204,7 @@ module _ {T W : Type 0} where
           turned_kept 0 3 false false views id p 0 3 l (won_place l) m lg lg some_part at (some None) none (refl, refl, refl, refl) (fills_place T W p l (won_place l) m lg some_part) (fills_turns l)
               (logs_stay p 0 3 l (won_place l) m lg (some None) none id views (λ n f. refl)) (order_same p 0 3 l (won_place l) m lg (some None) none id views at (λ x e. absurd (no_home (Some x) (sym e))))
               (λ seen closings. (closings.0, closings.1, λ more. absurd (no_true ((closings.2 more).0)))) kn,
+          (λ j. carries_same j p 0 3 l (won_place l) m lg refl),
           inl (refl, not_seen views id (pass p 0 l m lg) at some_part 0 kn.closings, refl),
         )) k
     fills_at base true slot views k at (empty e d c) =
@@ -229,6 +252,7 @@ module _ {T W : Type 0} where
           (takes_order p 3 l (won_place l) m lg x id views some_part at)
           (sights_stay 2 3 false (pass p 0 l m lg) (pass p 3 (won_place l) m (lg ++ Out (total (puts_of each) views - 1) x ∷ []))
           (sights_same p 0 3 l (won_place l) m lg (lg ++ Out (total (puts_of each) views - 1) x ∷ []) (moved lg (Out (total (puts_of each) views - 1) x) (λ f. refl))) (λ z. z.1)) kn,
+      (λ j. carries_more j p 0 3 l (won_place l) m lg some_part (Out (total (puts_of each) views - 1) x) refl refl refl refl refl (inl (omega arith))),
       inl (refl, not_seen views id (pass p 0 l m lg) at some_part 1 kn.closings, (x, total (puts_of each) views - 1, goes_next views id (pass p 0 l m lg) at some_part x kn.balance, refl)),
     )
 
@@ -276,6 +300,7 @@ module _ {T W : Type 0} where
       turned_kept n n false false views id p 0 0 l (no_message l) m lg lg some_part at slot slot (refl, refl, refl, refl) (λ a o z i. i) (rests_turns n l none_left)
           (logs_stay p 0 0 l (no_message l) m lg slot slot id views (λ n f. refl)) (order_same p 0 0 l (no_message l) m lg slot slot id views at (λ x e. e))
           (sights_stay n n false (pass p 0 l m lg) (pass p 0 (no_message l) m lg) (λ f. refl) (λ z. z.1)) k,
+      (λ j. carries_same j p 0 0 l (no_message l) m lg refl),
       inr (other, inr (inl (is_empty, is_open, not_seen views id (pass p 0 l m lg) at some_part (messages n) k.closings, refl))),
     )
 
@@ -293,6 +318,7 @@ module _ {T W : Type 0} where
       turned_kept n n true true views id p 0 0 l (no_more l) m lg (lg ++ Saw Drained ∷ []) some_part at slot slot (refl, refl, refl, refl) (λ a o z i. i) (drains_turns n l none_left)
           (saw_logs W (put_else views id) (took_else views id) slot slot Drained p 0 0 l (no_more l) m lg (λ n f. refl)) (order_saw p 0 0 l (no_more l) m lg Drained slot id views at)
           (sights_drained n p 0 0 l (no_more l) m lg some_part none_left) k,
+      (λ j. carries_more j p 0 0 l (no_more l) m lg some_part (Saw Drained) refl refl refl refl refl (inr (omega arith))),
       inr (other, inr (inr (is_empty, is_closed, refl))),
     )
 
@@ -318,6 +344,7 @@ module _ {T W : Type 0} where
           (takes_order p 1 l (won_message l) m lg x id views some_part at)
           (sights_stay 2 1 shut (pass p 0 l m lg) (pass p 1 (won_message l) m (lg ++ Out (total (puts_of each) views - 1) x ∷ []))
           (sights_same p 0 1 l (won_message l) m lg (lg ++ Out (total (puts_of each) views - 1) x ∷ []) (moved lg (Out (total (puts_of each) views - 1) x) (λ f. refl))) (λ z. refl)) kn,
+      (λ j. carries_more j p 0 1 l (won_message l) m lg some_part (Out (total (puts_of each) views - 1) x) refl refl refl refl refl (inl (omega arith))),
       inl (is, not_drained views id (pass p 0 l m lg) at some_part shut 1 (omega arith) kn.closings, (x, total (puts_of each) views - 1, goes_next views id (pass p 0 l m lg) at some_part x kn.balance, refl)),
     )
 
@@ -368,9 +395,9 @@ module _ {T W : Type 0} where
 
   module _ (slots id p : ℕ) (l : Lines) (m : Rolls W) (lg : List (Transfer T)) (some_part : 0 < p) where
     -- a call that found the channel closed notes it
-    notes : (f : ℕ → ℕ) (then : ℕ → Known T W → Type 0) (i : Lines) (n : ℕ) (slot : home.Option (Option T)) (views : List (View T W)) → get_elem? views id ≡ some (pass p 0 l m lg) → f (n + 4) ≡ n + 4 → SameTickets l i
+    notes : (f : ℕ → ℕ) (then : ℕ → Known T W → Type 0) (i : Lines) (n : ℕ) (slot : home.Option (Option T)) (views : List (View T W)) → get_elem? views id ≡ some (pass p 0 l m lg) → f (n + 4) ≡ n + 4 → SameTickets l i → ((k : Kind) → count_of k i.hands ≡ count_of k l.hands)
         → ((d : Duty) (s : Side) → Turns d s n n true true l i) → then (n + 4) (pass p 0 i m (lg ++ Saw Seen ∷ []), []) → Kept n true slot views → Outcome f then (pass p 0 l m lg, []) id views (n + 4) slot
-    notes f then i n slot views at same tickets turns tells k = (
+    notes f then i n slot views at same tickets held turns tells k = (
       pass p 0 i m (lg ++ Saw Seen ∷ []),
       keeps,
       slot,
@@ -382,8 +409,13 @@ module _ {T W : Type 0} where
       turned_kept n n true true views id p 0 0 l i m lg (lg ++ Saw Seen ∷ []) some_part at slot slot tickets (λ a o z i. i) turns
           (saw_logs W (put_else views id) (took_else views id) slot slot Seen p 0 0 l i m lg (λ n f. refl)) (order_saw p 0 0 l i m lg Seen slot id views at)
           (sights_seen n p 0 0 l i m lg some_part) k,
+      (λ j. carries_more j p 0 0 l i m lg some_part (Saw Seen) (held j) refl refl refl refl (inr (omega arith))),
       tells,
     )
+
+    still_held : (k : Kind) → count_of k (settled l).hands ≡ count_of k l.hands
+    still_held OfSenders = refl
+    still_held OfReceivers = refl
 
     abbrev HasShut : ℕ → Known T W → Type 0
     HasShut = shuts {T = T} (step slots 0 4 0 none) (pass p 0 l m lg, [])
@@ -402,11 +434,12 @@ module _ {T W : Type 0} where
       turned_kept n n false true views id p 0 0 l (all_owing l) m lg (lg ++ Saw Shut ∷ []) some_part at slot slot (refl, refl, refl, refl) (λ a o z i. i) (shuts_turns n l)
           (saw_logs W (put_else views id) (took_else views id) slot slot Shut p 0 0 l (all_owing l) m lg (λ n f. refl)) (order_saw p 0 0 l (all_owing l) m lg Shut slot id views at)
           (sights_shut n p 0 0 l (all_owing l) m lg some_part) k,
+      (λ j. carries_more j p 0 0 l (all_owing l) m lg some_part (Saw Shut) (still_held j) refl refl refl refl (inr (omega arith))),
       inl (is_open, not_seen views id (pass p 0 l m lg) at some_part (messages n) k.closings, refl),
     )
 
     shuts_again : (n : ℕ) (slot : home.Option (Option T)) (views : List (View T W)) → get_elem? views id ≡ some (pass p 0 l m lg) → shut_bit (n + 4) ≡ n + 4 → clear (n + 4) 4 ≡ false → Kept n true slot views → Outcome shut_bit HasShut (pass p 0 l m lg, []) id views (n + 4) slot
-    shuts_again n slot views at same is_closed k = notes shut_bit HasShut l n slot views at same (refl, refl, refl, refl) (gives_turns n n true l refl) (inr (is_closed, refl)) k
+    shuts_again n slot views at same is_closed k = notes shut_bit HasShut (settled l) n slot views at same (refl, refl, refl, refl) still_held (settles n l) (inr (is_closed, refl)) k
 
     shuts_at : (base : ℕ) (shut : Bool) (slot : home.Option (Option T)) (views : List (View T W)) → Kept base shut slot views → get_elem? views id ≡ some (pass p 0 l m lg) → IsSlot base slot (total locks_of views) (total owns_of views) → Outcome shut_bit HasShut (pass p 0 l m lg, []) id views (word_of base shut) slot
     shuts_at base false slot views k at (empty e d c) = as_is shut_bit HasShut (pass p 0 l m lg, []) id views base 0 false slot slot e refl (λ kn. shuts_first 0 slot views at refl refl kn) k
@@ -437,11 +470,12 @@ module _ {T W : Type 0} where
       turned_kept n n false false views id p 0 0 l (still_open l) m lg lg some_part at slot slot (refl, refl, refl, refl) (λ a o z i. i) (open_turns n l)
           (logs_stay p 0 0 l (still_open l) m lg slot slot id views (λ n f. refl)) (order_same p 0 0 l (still_open l) m lg slot slot id views at (λ x e. e))
           (sights_stay n n false (pass p 0 l m lg) (pass p 0 (still_open l) m lg) (λ f. refl) (λ z. z.1)) k,
+      (λ j. carries_same j p 0 0 l (still_open l) m lg refl),
       inl (is_open, not_seen views id (pass p 0 l m lg) at some_part (messages n) k.closings, refl),
     )
 
     sees_closed : (n : ℕ) (slot : home.Option (Option T)) (views : List (View T W)) → get_elem? views id ≡ some (pass p 0 l m lg) → same_word (n + 4) ≡ n + 4 → clear (n + 4) 4 ≡ false → Kept n true slot views → Outcome same_word HasLooked (pass p 0 l m lg, []) id views (n + 4) slot
-    sees_closed n slot views at same is_closed k = notes same_word HasLooked (found_closed l) n slot views at same (refl, refl, refl, refl) (closed_turns n l) (inr (is_closed, refl)) k
+    sees_closed n slot views at same is_closed k = notes same_word HasLooked (found_closed l) n slot views at same (refl, refl, refl, refl) (λ j. refl) (closed_turns n l) (inr (is_closed, refl)) k
 
     sees_at : (base : ℕ) (shut : Bool) (slot : home.Option (Option T)) (views : List (View T W)) → Kept base shut slot views → get_elem? views id ≡ some (pass p 0 l m lg) → IsSlot base slot (total locks_of views) (total owns_of views) → Outcome same_word HasLooked (pass p 0 l m lg, []) id views (word_of base shut) slot
     sees_at base false slot views k at (empty e d c) = as_is same_word HasLooked (pass p 0 l m lg, []) id views base 0 false slot slot e refl (λ kn. sees_open 0 slot views at refl kn) k
@@ -495,6 +529,7 @@ module _ {T W : Type 0} where
         (put_logs W (put_else views id) (took_else views id) (total (puts_of each) views) p 3 0 l l m x lg some_part (was (puts_of each) refl views id (pass p 3 l m lg) at))
         (gives_order p 3 l l m lg x id views some_part at)
         (sights_stay 3 2 shut (pass p 3 l m lg) (pass p 0 l m (lg ++ In (total (puts_of each) views) x ∷ [])) (sights_same p 3 0 l l m lg (lg ++ In (total (puts_of each) views) x ∷ []) (moved lg (In (total (puts_of each) views) x) (λ f. refl))) (λ z. z.1)) kn,
+    (λ j. carries_more j p 3 0 l l m lg some_part (In (total (puts_of each) views) x) refl refl refl refl refl (inl (omega arith))),
     let next = comes_next views id (pass p 3 l m lg) at some_part none kn.balance in
         (total (puts_of each) views, next.0, next.1, refl),
   )
@@ -526,6 +561,7 @@ module _ {T W : Type 0} where
     turned_kept 1 0 shut shut views id p 1 0 l l m lg lg some_part at none (some None) (refl, refl, refl, refl) (emptied_place T W p l m lg some_part) (gives_turns 1 0 shut l refl)
         (logs_stay p 1 0 l l m lg none (some None) id views (λ n f. refl)) (order_same p 1 0 l l m lg none (some None) id views at (λ x e. absurd (no_empty x e)))
         (sights_stay 1 0 shut (pass p 1 l m lg) (pass p 0 l m lg) (λ f. refl) (λ z. refl)) kn,
+    (λ j. carries_same j p 1 0 l l m lg refl),
     let next = comes_next views id (pass p 1 l m lg) at some_part none kn.balance in
         (total (puts_of each) views, next.0, next.1, refl),
   )
@@ -591,7 +627,12 @@ module _ {T W : Type 0} where
         (same_logs W (put_else views id) (took_else views id) slot slot v (changed side v m ms) (λ n f. refl) refl refl)
         (order_stays views id v (changed side v m ms) at slot slot refl (λ h i a. a) (λ x e. e)) (sights_stay w w shut v (changed side v m ms) (λ f. refl) (λ z. z.1)) k
 
+  carries_changed : (k : Kind) (v : View T W) (side : Side) (m : Line) (ms : List (Listener W)) → Carries k v (changed side v m ms)
+  carries_changed k v side m ms =
+      let e = hands_with side m v.calls in
+      ((λ j. count_of k (e j)), refl, refl, refl, refl, omega arith, inl (let c : only v.parts (with_line side m v.calls).hands.closes ≡ only v.parts v.calls.hands.closes = (λ j. only v.parts (e j).closes) in omega arith))
+
   pub aims : (slots id : ℕ) (me : Known T W) (side : Side) (m : Line) (ms : List (Listener W)) → 0 < me.0.parts → (roll side me.0.rolls).here ≡ 1 → Fair (of side me.0.calls) (roll side me.0.rolls).listeners m ms
       → Allows {S = Option T} Woken slots id me 0 (λ n. n) (λ n k. k ≡ (changed side me.0 m ms, me.1))
   aims slots id me side m ms some_part here fair =
-      by_rule (λ n. n) (λ n k. k ≡ (changed side me.0 m ms, me.1)) slots id me (λ base shut slot views k at. (changed side me.0 m ms, keeps, slot, base, shut, tt, refl, refl, changes side me.0 m ms some_part here fair base shut views id at slot k, refl))
+      by_rule (λ n. n) (λ n k. k ≡ (changed side me.0 m ms, me.1)) slots id me (λ base shut slot views k at. (changed side me.0 m ms, keeps, slot, base, shut, tt, refl, refl, changes side me.0 m ms some_part here fair base shut views id at slot k, (λ j. carries_changed j me.0 side m ms), refl))

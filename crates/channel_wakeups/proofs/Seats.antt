@@ -4,19 +4,27 @@ use mathlib.Core.Option as home
 use mathlib.Core.Option.{some, none}
 use lib.ListN.{get_elem?}
 use Rattle.atomic_table.specs.Table.{step, Allows, Splits, Joins, Enters, opening}
+use Rattle.channel_wakeups.specs.declared.rule.Handles.{Handles}
+use Rattle.channel_wakeups.specs.declared.rule.Kind.{Kind}
+use Rattle.channel_wakeups.specs.declared.rule.Kind.TheVariants.{OfSenders, OfReceivers}
 use Rattle.channel_wakeups.specs.declared.rule.Line.{Line}
+use Rattle.channel_wakeups.specs.declared.rule.Lines.{Lines}
 use Rattle.channel_wakeups.specs.declared.rule.Roll.{Roll}
+use Rattle.channel_wakeups.specs.declared.rule.Rolls.{Rolls}
 use Rattle.channel_wakeups.specs.declared.rule.View.{View}
 use Rattle.channel_wakeups.specs.Lists.{total, told, waits, listed}
-use Rattle.channel_wakeups.specs.Views.{Side, of_receives, of_sends, of_streams, of_closings, Duty, to_one, to_all, of, roll, idle, idle_lines, no_roll, no_rolls, with_roll, calling, ticketed, nobody, pass, everything, entered, stays, comes_out, without, alone, absorbed, kept_half, given_half, one_ticket, ticket_is, no_ticket, ticket_of, with_ticket, only, is_key, parts_of, here_of, answered_of, holds_of, sights_of, locks_of, owns_of, waits_of, listed_of, tickets_of, puts_of, takes_of, word_of, messages, has_message, is_shut, due, wanted, Owed, IsSlot, empty, full, out, AllAgree, Ordered, Kept, Woken, Known, HasAll, learns}
+use Rattle.channel_wakeups.specs.Views.{all_words, Side, of_receives, of_sends, of_streams, of_closings, Duty, to_one, to_all, of, roll, idle, idle_lines, no_roll, no_rolls, with_roll, calling, ticketed, nobody, pass, everything, entered, stays, comes_out, without, alone, absorbed, kept_half, given_half, one_ticket, ticket_is, no_ticket, ticket_of, with_ticket, only, is_key, parts_of, here_of, answered_of, holds_of, sights_of, locks_of, owns_of, waits_of, listed_of, tickets_of, puts_of, takes_of, word_of, messages, has_message, is_shut, due, wanted, Owed, IsSlot, empty, full, out, AllAgree, Ordered, Kept, Counted, handed, count_of, handles_of, closes_of, Woken, Known, HasAll, learns}
 use Rattle.channel_wakeups.proofs.Sides.{of_with, roll_with, idle_ticket, none_there, which, Untouched}
 use Rattle.channel_wakeups.proofs.Sums.{at_nobody, balanced_by, closings_by, only_none, only_some, only_zero, owed_by, slot_by, none_here, none_both, none_waits, none_listed, none_tickets, none_answered, others, was, total_set, total_snoc, by_itself}
-use Rattle.channel_wakeups.specs.Log.{Weight, puts, takes, sights, each, Agrees, IsHistory, Balanced, Accounts, Closings}
+use Rattle.channel_wakeups.specs.Counts.{one_hand, fewer_hands, lone_handle, coupled, uncoupled}
+use Rattle.channel_wakeups.specs.Log.{Weight, puts, takes, sights, each, each_sight, raised_of, lowered_of, last_of, gone_of, is_none, Leaves, Tallied, Agrees, IsHistory, Balanced, Accounts, Closings}
 use Rattle.channel_wakeups.specs.declared.rule.Sight.{Sight}
 use Rattle.channel_wakeups.proofs.Logs.{puts_append, takes_append, sights_append}
+use Rattle.channel_wakeups.proofs.Hands.{none_of, hands_with}
+use Rattle.channel_wakeups.proofs.Laws.{of_handed}
 use Rattle.channel_wakeups.proofs.History.{agrees_append, agrees_at, agrees_beside, agrees_set, agrees_snoc}
 use Rattle.channel_wakeups.proofs.Laws.{no_empty}
-use Rattle.channel_wakeups.proofs.Moves.{by_rule, unchanged}
+use Rattle.channel_wakeups.proofs.Moves.{by_all, unchanged}
 use Rattle.channel_wakeups.specs.declared.rule.Transfer.{Transfer}
 
 -- all that is counted of a side
@@ -27,7 +35,8 @@ data LineSum : Type 0 where
 
 -- all that is counted
 data Sum (T : Type 0) : Type 0 where
-  parts locks owns : Sum T
+  parts locks owns closing : Sum T
+  handing : Kind → Sum T
   putting taking : Weight T → Sum T
   seeing : (Sight → ℕ) → Sum T
   on : Side → LineSum → Sum T
@@ -47,6 +56,8 @@ module _ {T W : Type 0} where
   sum_of parts v = parts_of v
   sum_of locks v = locks_of v
   sum_of owns v = owns_of v
+  sum_of closing v = closes_of v
+  sum_of (handing k) v = handles_of k v
   sum_of (putting f) v = puts_of f v
   sum_of (taking f) v = takes_of f v
   sum_of (seeing f) v = sights_of f v
@@ -70,6 +81,8 @@ nothing : (T W : Type 0) (k : Sum T) → sum_of {W = W} k nobody ≡ 0
 nothing T W parts = refl
 nothing T W locks = refl
 nothing T W owns = refl
+nothing T W closing = refl
+nothing T W (handing k) = none_of k
 nothing T W (putting f) = refl
 nothing T W (taking f) = refl
 nothing T W (seeing f) = refl
@@ -106,32 +119,61 @@ module _ {T W : Type 0} where
           let n = sym (each (putting Rattle.channel_wakeups.specs.Log.each)) in
           (h, (counted ∙ n, λ x e. subst (λ (m : ℕ). get_elem? h (m - 1) ≡ some x) n (last x e)), agree h agrees)
 
+  -- and so do the counts
+  same_counts : (n : ℕ) (k : Kind) (vs ws : List (View T W)) → ((s : Sum T) → total (sum_of s) ws ≡ total (sum_of s) vs) → Counted n k vs → Counted n k ws
+  same_counts n k vs ws each c =
+      let h = each (handing k) in
+      let r = each (seeing (raised_of k)) in
+      let l = each (seeing (lowered_of k)) in
+      let a = each (seeing (last_of k)) in
+      let g = each (seeing (gone_of k)) in
+      let e = each (seeing each_sight) in
+      let o = each closing in
+      let there = c.there in
+      let ever = c.ever in
+      let last_so = c.last in
+      record {
+        there = omega arith;
+        ever = omega arith;
+        last = omega arith;
+        gone = λ some_gone. c.gone (omega arith);
+        ends = λ none. ⊎_elim (λ (x : 0 < total (sights_of each_sight) vs). inl (omega arith)) (λ (x : 0 < total closes_of vs). inr (omega arith)) (c.ends none);
+      }
+
   joins : (id : ℕ) (v : View T W) (other : ℕ) (w both : View T W) → ((k : Sum T) → sum_of k both ≡ sum_of k v + sum_of k w) → ((h : List T) → Agrees h v.log → Agrees h w.log → Agrees h both.log) → Joins {S = Option T} Woken id v other w both nobody
-  joins id v other w both adds merges s h at apart there = (
-    h.0,
-    h.1,
-    h.2,
-    h.3,
-    h.4,
-    same h.0 h.1 h.2 s.views (set (set s.views id both) other nobody)
-        (λ k.
-        let e = nothing T W k in
-        let a = adds k in
-        omega (arith, total_set (sum_of k) s.views id v both at, total_set (sum_of k) (set s.views id both) other w nobody there))
-        (λ g a. agrees_set g (set s.views id both) other nobody tt (agrees_set g s.views id both (merges g (agrees_at g s.views id v at a) (agrees_beside g s.views id other both w apart there a)) a))
+  joins id v other w both adds merges s h at apart there =
+      let e : (k : Sum T) → total (sum_of k) (set (set s.views id both) other nobody) ≡ total (sum_of k) s.views = (λ k.
+      let z = nothing T W k in
+      let a = adds k in
+      omega (arith, total_set (sum_of k) s.views id v both at, total_set (sum_of k) (set s.views id both) other w nobody there)) in (
+        h.0,
+        h.1,
+        h.2,
+        h.3,
+        h.4,
         h.5,
-  )
+        h.6,
+        same h.0 h.1 h.2 s.views (set (set s.views id both) other nobody) e
+            (λ g a. agrees_set g (set s.views id both) other nobody tt (agrees_set g s.views id both (merges g (agrees_at g s.views id v at a) (agrees_beside g s.views id other both w apart there a)) a))
+            h.7,
+        same_counts h.3 OfSenders s.views (set (set s.views id both) other nobody) e h.8,
+        same_counts h.4 OfReceivers s.views (set (set s.views id both) other nobody) e h.9,
+      )
 
   splits : (id : ℕ) (v l r : View T W) → ((k : Sum T) → sum_of k l + sum_of k r ≡ sum_of k v) → ((h : List T) → Agrees h v.log → Agrees h l.log × Agrees h r.log) → Splits {S = Option T} Woken id v l r
-  splits id v l r adds parts_of_log s h at = (
-    h.0,
-    h.1,
-    h.2,
-    h.3,
-    h.4,
-    same h.0 h.1 h.2 s.views (set s.views id l ++ r ∷ []) (λ k. let a = adds k in omega (arith, total_set (sum_of k) s.views id v l at, total_snoc (sum_of k) (set s.views id l) r))
-        (λ g a. let b = parts_of_log g (agrees_at g s.views id v at a) in agrees_snoc g (set s.views id l) r b.1 (agrees_set g s.views id l b.0 a)) h.5,
-  )
+  splits id v l r adds parts_of_log s h at =
+      let e : (k : Sum T) → total (sum_of k) (set s.views id l ++ r ∷ []) ≡ total (sum_of k) s.views = (λ k. let a = adds k in omega (arith, total_set (sum_of k) s.views id v l at, total_snoc (sum_of k) (set s.views id l) r)) in (
+        h.0,
+        h.1,
+        h.2,
+        h.3,
+        h.4,
+        h.5,
+        h.6,
+        same h.0 h.1 h.2 s.views (set s.views id l ++ r ∷ []) e (λ g a. let b = parts_of_log g (agrees_at g s.views id v at a) in agrees_snoc g (set s.views id l) r b.1 (agrees_set g s.views id l b.0 a)) h.7,
+        same_counts h.3 OfSenders s.views (set s.views id l ++ r ∷ []) e h.8,
+        same_counts h.4 OfReceivers s.views (set s.views id l ++ r ∷ []) e h.9,
+      )
 
 -- ---- a pass goes into a list's seat, and comes out of it
 
@@ -153,6 +195,8 @@ module _ {T W : Type 0} where
       adds parts = omega arith
       adds locks = let z = only_none v.parts (only v.owns 1) no_part in omega arith
       adds owns = let z = only_none v.parts v.owns no_part in omega arith
+      adds closing = let z = only_none v.parts v.calls.hands.closes no_part in omega arith
+      adds (handing k) = let z : count_of k v.calls.hands ≡ 0 = (λ j. count_of k (no_call j).hands) ∙ none_of k in omega arith
       adds (putting f) = let z = only_none v.parts (puts f v.log) no_part in omega arith
       adds (taking f) = let z = only_none v.parts (takes f v.log) no_part in omega arith
       adds (seeing f) = let z = only_none v.parts (sights f v.log) no_part in omega arith
@@ -176,6 +220,8 @@ module _ {T W : Type 0} where
       adds parts = omega arith
       adds locks = omega arith
       adds owns = omega arith
+      adds closing = omega arith
+      adds (handing k) = let z = none_of k in omega arith
       adds (putting f) = omega arith
       adds (taking f) = omega arith
       adds (seeing f) = omega arith
@@ -216,6 +262,8 @@ module _ {T W : Type 0} where
       adds parts = omega arith
       adds locks = let z = only_none v.parts (only v.owns 1) no_part in omega arith
       adds owns = let z = only_none v.parts v.owns no_part in omega arith
+      adds closing = let z = only_none v.parts v.calls.hands.closes no_part in omega arith
+      adds (handing k) = let y = none_of k in let z : count_of k v.calls.hands ≡ 0 = (λ j. count_of k (no_call j).hands) ∙ none_of k in omega arith
       adds (putting f) = let z = only_none v.parts (puts f v.log) no_part in omega arith
       adds (taking f) = let z = only_none v.parts (takes f v.log) no_part in omega arith
       adds (seeing f) = let z = only_none v.parts (sights f v.log) no_part in omega arith
@@ -233,6 +281,8 @@ module _ {T W : Type 0} where
       adds parts = refl
       adds locks = omega (arith, only_zero (p + q), only_zero p, only_zero q)
       adds owns = omega (arith, only_zero (p + q), only_zero p, only_zero q)
+      adds closing = omega (arith, only_zero (p + q), only_zero p, only_zero q)
+      adds (handing k) = let z = none_of k in omega arith
       adds (putting f) = omega (arith, puts_append f lg mg, only_some (p + q) (puts f (lg ++ mg)) (omega arith), only_some p (puts f lg) sp, only_some q (puts f mg) sq)
       adds (taking f) = omega (arith, takes_append f lg mg, only_some (p + q) (takes f (lg ++ mg)) (omega arith), only_some p (takes f lg) sp, only_some q (takes f mg) sq)
       adds (seeing f) = omega (arith, sights_append f lg mg, only_some (p + q) (sights f (lg ++ mg)) (omega arith), only_some p (sights f lg) sp, only_some q (sights f mg) sq)
@@ -245,6 +295,8 @@ module _ {T W : Type 0} where
       adds parts = omega arith
       adds locks = omega (arith, only_zero (p - p / 2), only_zero (p / 2), only_zero p)
       adds owns = omega (arith, only_zero (p - p / 2), only_zero (p / 2), only_zero p)
+      adds closing = omega (arith, only_zero (p - p / 2), only_zero (p / 2), only_zero p)
+      adds (handing k) = let z = none_of k in omega arith
       adds (putting f) = omega (arith, only_some (p - p / 2) (puts f lg) (omega arith), only_zero (p / 2), only_some p (puts f lg) (omega arith))
       adds (taking f) = omega (arith, only_some (p - p / 2) (takes f lg) (omega arith), only_zero (p / 2), only_some p (takes f lg) (omega arith))
       adds (seeing f) = omega (arith, only_some (p - p / 2) (sights f lg) (omega arith), only_zero (p / 2), only_some p (sights f lg) (omega arith))
@@ -303,6 +355,16 @@ module _ {T W : Type 0} where
     ticket_adds e parts = e
     ticket_adds e locks = omega (arith, only_some p (only v.owns 1) some_part, only_some q (only v.owns 1) more)
     ticket_adds e owns = omega (arith, only_some p v.owns some_part, only_some q v.owns more)
+    ticket_adds e closing =
+        let a : closes_of (ticket_is side p 0 v) ≡ only p v.calls.hands.closes = (λ j. only p (hands_with side (ticketed 0 (of side v.calls)) v.calls j).closes) in
+        let b : closes_of (one_ticket {T = T} {W = W} side t) ≡ 0 = (λ j. (hands_with side (calling 0 0 t) idle_lines j).closes) in
+        let c : closes_of (ticket_is side q t v) ≡ only q v.calls.hands.closes = (λ j. only q (hands_with side (ticketed t (of side v.calls)) v.calls j).closes) in
+        omega (arith, only_some p v.calls.hands.closes some_part, only_some q v.calls.hands.closes more)
+    ticket_adds e (handing k) =
+        let a : handles_of k (ticket_is side p 0 v) ≡ count_of k v.calls.hands = (λ j. count_of k (hands_with side (ticketed 0 (of side v.calls)) v.calls j)) in
+        let b : handles_of k (one_ticket {T = T} {W = W} side t) ≡ 0 = (λ j. count_of k (hands_with side (calling 0 0 t) idle_lines j)) ∙ none_of k in
+        let c : handles_of k (ticket_is side q t v) ≡ count_of k v.calls.hands = (λ j. count_of k (hands_with side (ticketed t (of side v.calls)) v.calls j)) in
+        omega arith
     ticket_adds e (putting f) = omega (arith, only_some p (puts f v.log) some_part, only_some q (puts f v.log) more)
     ticket_adds e (taking f) = omega (arith, only_some p (takes f v.log) some_part, only_some q (takes f v.log) more)
     ticket_adds e (seeing f) = omega (arith, only_some p (sights f v.log) some_part, only_some q (sights f v.log) more)
@@ -329,16 +391,87 @@ module _ {T W : Type 0} where
           let bare : sum_of k (ticket_is s v.parts 0 v) ≡ sum_of k v = ap (λ (u : View T W). sum_of k u) (ap (λ (n : ℕ). ticket_is s v.parts n v) (sym untied) ∙ as_it_is s v) in
           its ∙ sym (ticket_adds s v v.parts (v.parts + 1) t some_part (omega arith) refl k) ∙ (λ i. bare i + sum_of {W = W} k (one_ticket s t))
 
+-- ---- a handle is taken in, and given out
+
+fewer_and_one : (k j : Kind) (h : Handles) → 0 < count_of k h → count_of j (fewer_hands k h) + count_of j (one_hand k) ≡ count_of j h
+fewer_and_one OfSenders OfSenders h positive = omega arith
+fewer_and_one OfSenders OfReceivers h positive = omega arith
+fewer_and_one OfReceivers OfSenders h positive = omega arith
+fewer_and_one OfReceivers OfReceivers h positive = omega arith
+
+fewer_closes : (k : Kind) (h : Handles) → (fewer_hands k h).closes ≡ h.closes
+fewer_closes OfSenders h = refl
+fewer_closes OfReceivers h = refl
+
+module _ {W : Type 0} where
+  -- the line of a side with other handles, and that of a handle by itself
+  line_and_none : (s : Side) (x : LineSum) (p : ℕ) (h g : Handles) (c : Lines) (r : Rolls W) → line_sum x p (of s (handed h c)) (roll s r) + line_sum {W = W} x 0 (of s (handed g idle_lines)) (roll s no_rolls) ≡ line_sum x p (of s c) (roll s r)
+  line_and_none s x p h g c r =
+      let a = line_by x p _ _ (roll s r) (roll s r) (of_handed h c s) refl in
+      let b = line_by {W = W} x 0 _ _ (roll s no_rolls) (roll s no_rolls) (of_handed g idle_lines s) refl in
+      let z = nowhere W s x 0 in
+      omega arith
+
+module _ {T W : Type 0} where
+  pub uncouples : (k : Kind) (id : ℕ) (v : View T W) → 0 < count_of k v.calls.hands → Splits {S = Option T} Woken id v (uncoupled k v) (lone_handle k)
+  uncouples k id v positive = splits id v (uncoupled k v) (lone_handle k) adds (λ g b. (b, tt))
+    where
+      adds : (x : Sum T) → sum_of x (uncoupled k v) + sum_of {W = W} x (lone_handle k) ≡ sum_of x v
+      adds parts = omega arith
+      adds locks = omega arith
+      adds owns = omega arith
+      adds closing = let e : closes_of (uncoupled k v) ≡ closes_of v = (λ j. only v.parts (fewer_closes k v.calls.hands j)) in omega arith
+      adds (handing j) = fewer_and_one k j v.calls.hands positive
+      adds (putting f) = omega arith
+      adds (taking f) = omega arith
+      adds (seeing f) = omega arith
+      adds (on s x) = line_and_none s x v.parts (fewer_hands k v.calls.hands) (one_hand k) v.calls v.rolls
+
+  pub couples : (k : Kind) (id : ℕ) (v : View T W) (port : ℕ) → Joins {S = Option T} Woken id v port (lone_handle k) (coupled v (lone_handle k)) nobody
+  couples k id v port = joins id v port (lone_handle k) (coupled v (lone_handle k)) adds (λ g b c. b)
+    where
+      adds : (x : Sum T) → sum_of x (coupled v (lone_handle k)) ≡ sum_of x v + sum_of {W = W} x (lone_handle k)
+      adds parts = omega arith
+      adds locks = omega arith
+      adds owns = omega arith
+      adds closing = omega arith
+      adds (handing OfSenders) = refl
+      adds (handing OfReceivers) = refl
+      adds (putting f) = omega arith
+      adds (taking f) = omega arith
+      adds (seeing f) = omega arith
+      adds (on s x) = let e = line_and_none s x v.parts (coupled v (lone_handle {T = T} {W = W} k)).calls.hands (one_hand k) v.calls v.rolls in
+          let a = line_by x v.parts (of s (coupled v (lone_handle {T = T} {W = W} k)).calls) (of s v.calls) (roll s v.rolls) (roll s v.rolls) (of_handed (coupled v (lone_handle {T = T} {W = W} k)).calls.hands v.calls s) refl in
+          omega arith
+
 module _ {T W : Type 0} where
   -- a new seat that has nothing
   pub blank : (slots : ℕ) → Enters {S = Option T} {V = View T W} Woken slots 0 (λ n w. w ≡ nobody)
   blank slots s h wide small =
-      (nobody, (h.0, h.1, h.2, h.3, h.4, same h.0 h.1 h.2 s.views (s.views ++ nobody ∷ []) (λ k. let e = nothing T W k in omega (arith, total_snoc (sum_of k) s.views nobody)) (λ g a. agrees_snoc g s.views nobody tt a) h.5), refl)
+      let e : (k : Sum T) → total (sum_of k) (s.views ++ nobody ∷ []) ≡ total (sum_of k) s.views = (λ k. let z = nothing T W k in omega (arith, total_snoc (sum_of k) s.views nobody)) in (
+        nobody,
+        (
+          h.0,
+          h.1,
+          h.2,
+          h.3,
+          h.4,
+          h.5,
+          h.6,
+          same h.0 h.1 h.2 s.views (s.views ++ nobody ∷ []) e (λ g a. agrees_snoc g s.views nobody tt a) h.7,
+          same_counts h.3 OfSenders s.views (s.views ++ nobody ∷ []) e h.8,
+          same_counts h.4 OfReceivers s.views (s.views ++ nobody ∷ []) e h.9,
+        ),
+        refl,
+      )
 
   -- the start: there is no message, and nobody waits
-  pub begins : Woken {T = T} {W = W} (opening (0 ∷ []) (None ∷ []) everything)
-  begins = (0, false, some None, refl, refl, record { whole = refl; one = one_list; place = empty refl refl refl; owed = nobody_waits; closings = (refl, (λ more. absurd (omega arith)), λ more. absurd (omega arith)); tickets = no_tickets; balance = ((λ k. ((λ less. absurd (omega arith)), λ more. refl)), λ f. refl); order = ([], (refl, λ x e. absurd (no_empty x e)), (tt, tt)) })
+  pub begins : Woken {T = T} {W = W} (opening (all_words 0 1 1) (None ∷ []) everything)
+  begins = (0, false, some None, 1, 1, refl, refl, record { whole = refl; one = one_list; place = empty refl refl refl; owed = nobody_waits; closings = (refl, (λ more. absurd (omega arith)), λ more. absurd (omega arith)); tickets = no_tickets; balance = ((λ k. ((λ less. absurd (omega arith)), λ more. refl)), λ f. refl); order = ([], (refl, λ x e. absurd (no_empty x e)), (tt, tt)) }, one_each OfSenders refl, one_each OfReceivers refl)
     where
+      one_each : (k : Kind) → total (handles_of k) (everything {T = T} {W = W} ∷ []) ≡ 1 → Counted 1 k (everything {T = T} {W = W} ∷ [])
+      one_each k is_one = record { there = is_one; ever = refl; last = refl; gone = λ some_gone. absurd (omega arith); ends = λ none. absurd (omega arith) }
+
       one_list : (s : Side) → total (here_of s) (everything {T = T} {W = W} ∷ []) ≡ 1
       one_list of_receives = refl
       one_list of_sends = refl
@@ -435,17 +568,36 @@ module _ {T W : Type 0} where
           ⊎_elim (λ (c : wanted to_all s base shut ≤ total (answered_of to_all s) vs). omega arith) (λ (c : 0 < total (holds_of s key) vs). absurd (omega arith)) (k.owed to_all s key (omega arith)),
         )
 
+    -- what all saw is what this one did
+    whole_sights : (f : Sight → ℕ) → total (sights_of f) vs ≡ sights f v.log
+    whole_sights f =
+        let o = none_here (sights_of f) parts_of (set vs id nobody) (λ x e. only_none x.parts (sights f x.log) e) no_others in
+        let w = was (sights_of f) refl vs id v at in
+        let mine = all.0 in
+        let y = only_some v.parts (sights f v.log) (omega arith) in
+        omega arith
+
+    -- how many handles of a kind are left, and that the channel is closed where none is
+    whole_tally : (n : ℕ) (j : Kind) → Counted n j vs → Leaves shut j n v.log
+    whole_tally n j c =
+        let ever = c.ever in
+        let last_so = c.last in
+        let lo = whole_sights (lowered_of j) in
+        let ra = whole_sights (raised_of j) in
+        let la = whole_sights (last_of j) in
+        let go = whole_sights (gone_of j) in
+        let o = none_here closes_of parts_of (set vs id nobody) (λ x e. only_none x.parts x.calls.hands.closes e) no_others in
+        let w = was closes_of refl vs id v at in
+        let none_owed : closes_of v ≡ 0 = (λ i. only v.parts (all.6 i)) ∙ only_zero v.parts in (
+          omega arith,
+          omega arith,
+          (λ some_gone. c.gone (omega arith)),
+          λ none_left. ⊎_elim (λ (x : 0 < total (sights_of each_sight) vs). k.closings.1 x) (λ (x : 0 < total closes_of vs). absurd (omega arith)) (c.ends none_left),
+        )
+
     -- what is known of the closing
     whole_closings : Closings shut (messages base) (λ f. sights f v.log)
-    whole_closings = closings_by shut (messages base) (λ f. total (sights_of f) vs) (λ f. sights f v.log) mine_all k.closings
-      where
-        mine_all : (f : Sight → ℕ) → total (sights_of f) vs ≡ sights f v.log
-        mine_all f =
-            let o = none_here (sights_of f) parts_of (set vs id nobody) (λ x e. only_none x.parts (sights f x.log) e) no_others in
-            let w = was (sights_of f) refl vs id v at in
-            let mine = all.0 in
-            let y = only_some v.parts (sights f v.log) (omega arith) in
-            omega arith
+    whole_closings = closings_by shut (messages base) (λ f. total (sights_of f) vs) (λ f. sights f v.log) whole_sights k.closings
 
     whole_ticket : (key : ℕ) → is_key key (of s v.calls).ticket ≤ listed key (roll s v.rolls).listeners
     whole_ticket key =
@@ -462,7 +614,7 @@ module _ {T W : Type 0} where
   abbrev Rests : Side → View T W → ℕ → Type 0
   Rests s v word =
       ((key : ℕ) → 0 < waits key (roll s v.rolls).listeners → due s (has_message word) (is_shut word) ≤ told (roll s v.rolls).listeners) × ((key : ℕ) → is_key key (of s v.calls).ticket ≤ listed key (roll s v.rolls).listeners)
-      × ((slot : Option T) × (is_some slot ≡ has_message word) × Accounts slot v.log) × Closings (is_shut word) (cond (has_message word) 1 0) (λ f. sights f v.log)
+      × ((slot : Option T) × (is_some slot ≡ has_message word) × Accounts slot v.log) × Closings (is_shut word) (cond (has_message word) 1 0) (λ f. sights f v.log) × Tallied (is_shut word) v.log
 
 -- the word of a slot at home says whether a message is there, and whether the channel is closed
 says : (message shut : Bool) → (has_message (word_of (cond message 2 0) shut) ≡ message) × (is_shut (word_of (cond message 2 0) shut) ≡ shut)
@@ -492,8 +644,9 @@ due_by of_closings message true t one all = absurd (omega arith)
 module _ {T W : Type 0} where
   -- what is known of the state says the same of the word
   rests : (s : Side) (base : ℕ) (shut : Bool) (v : View T W) (held : Option T) → base ≡ cond (is_some held) 2 0 → ((key : ℕ) → 0 < waits key (roll s v.rolls).listeners → (wanted to_one s base shut ≤ told (roll s v.rolls).listeners) × (wanted to_all s base shut ≡ 0))
-      → ((key : ℕ) → is_key key (of s v.calls).ticket ≤ listed key (roll s v.rolls).listeners) → Accounts held v.log → Closings shut (messages base) (λ f. sights f v.log) → Rests s v (word_of base shut)
-  rests s base shut v held is law tied accounts closings =
+      → ((key : ℕ) → is_key key (of s v.calls).ticket ≤ listed key (roll s v.rolls).listeners) → Accounts held v.log → Closings shut (messages base) (λ f. sights f v.log)
+      → Tallied shut v.log → Rests s v (word_of base shut)
+  rests s base shut v held is law tied accounts closings tally =
       let m = says (is_some held) shut in
       subst (λ (n : ℕ). Rests s v (word_of n shut)) (sym is) (
         (λ key some_waiting. subst (λ (b : Bool). due s b (is_shut (word_of (cond (is_some held) 2 0) shut)) ≤ told (roll s v.rolls).listeners) (sym m.0)
@@ -504,15 +657,23 @@ module _ {T W : Type 0} where
         subst (λ (b : Bool). Closings b (cond (has_message (word_of (cond (is_some held) 2 0) shut)) 1 0) (λ f. sights f v.log)) (sym m.1)
             (subst (λ (b : Bool). Closings shut (cond b 1 0) (λ f. sights f v.log)) (sym m.0)
             (subst (λ (n : ℕ). Closings shut n (λ f. sights f v.log)) (ap messages is ∙ counts (is_some held)) closings)),
+        subst (λ (b : Bool). Tallied b v.log) (sym m.1) tally,
       )
 
   -- the seat is as it was, and knows this
-  learned : (s : Side) (base : ℕ) (shut : Bool) (slot : home.Option (Option T)) (views : List (View T W)) (id : ℕ) (v : View T W) → Kept base shut slot views → get_elem? views id ≡ some v → HasAll s v → Rests s v (word_of base shut)
-  learned s base shut slot views id v k at all =
+  learned : (s : Side) (base : ℕ) (shut : Bool) (slot : home.Option (Option T)) (views : List (View T W)) (id : ℕ) (v : View T W) → Kept base shut slot views → (senders receivers : ℕ) → Counted senders OfSenders views → Counted receivers OfReceivers views → get_elem? views id ≡ some v → HasAll s v → Rests s v (word_of base shut)
+  learned s base shut slot views id v k senders receivers cs cr at all =
       let log = whole_log s base shut slot views id v k at all in
-      rests s base shut v log.0 log.1 (whole_law s base shut slot views id v k at all) (whole_ticket s base shut slot views id v k at all) log.2 (whole_closings s base shut slot views id v k at all)
+      rests s base shut v log.0 log.1 (whole_law s base shut slot views id v k at all) (whole_ticket s base shut slot views id v k at all) log.2 (whole_closings s base shut slot views id v k at all) tallied
+    where
+      left_of : (j : Kind) → (n : ℕ) × Leaves shut j n v.log
+      left_of OfSenders = (senders, whole_tally s base shut slot views id v k at all senders OfSenders cs)
+      left_of OfReceivers = (receivers, whole_tally s base shut slot views id v k at all receivers OfReceivers cr)
+
+      tallied : Tallied shut v.log
+      tallied = record { left = left_of }
 
   pub learns_so : (s : Side) (slots id : ℕ) (me : Known T W) → Allows Woken slots id me 0 (λ n. n) (λ n m. learns s (step slots 0 0 0 none) me n m)
   learns_so s slots id me =
-      by_rule (λ n. n) (λ n m. learns s (step slots 0 0 0 none) me n m) slots id me (λ base shut slot views k at.
-      unchanged (λ n m. learns s (step slots 0 0 0 none) me n m) (λ n. n) me id views base shut slot at refl (refl, λ all. learned s base shut slot views id me.0 k at all) k)
+      by_all (λ n. n) (λ n m. learns s (step slots 0 0 0 none) me n m) slots id me (λ base shut slot senders receivers views k cs cr at.
+      unchanged (λ n m. learns s (step slots 0 0 0 none) me n m) (λ n. n) me id views base shut slot at refl (refl, λ all. learned s base shut slot views id me.0 k senders receivers cs cr at all) k)

@@ -18,7 +18,7 @@ use Rattle.concurrent_queue.specs.declared.error.PushError.TheVariants as push_e
 use Rattle.concurrent_queue.specs.declared.error.ForcePushError.TheVariants as force_error
 use Rattle.concurrent_queue.specs.declared.error.PopError.TheVariants as pop_error
 use Rattle.channel_wakeups.specs.Log.{PutBefore, TookBefore, MayTake, NotSeen, NotDrained}
-use Rattle.channel_wakeups.specs.Views.{pass, AtHome, idle_lines, no_rolls, won_place, no_place, no_send, won_message, no_message, no_more, all_owing, still_open, found_closed, closer, noted, saw_open, saw_closed}
+use Rattle.channel_wakeups.specs.Views.{pass, AtHome, idle_lines, no_rolls, won_place, no_place, no_send, won_message, no_message, no_more, settled, all_owing, still_open, found_closed, closer, noted, saw_open, saw_closed}
 use Rattle.channel_wakeups.specs.Stages.{filling, displacing, taken_from, refused, shut_out, taking, resting, draining, giving}
 
 module _ {T W : Type 0} where
@@ -128,7 +128,7 @@ module _ {T W : Type 0} where
   -- a call that closes has answered: it closed the channel, and has every line in hand to tell all; or it was closed
   abbrev pub HasClosed : TableId → ℕ → Lines → List (Transfer T) → QueueReply T → SlotCells T W → Type 0
   HasClosed table p l log (reply.Close true) c = NotSeen log × IsOver table p (all_owing l) (log ++ Saw Shut ∷ []) c
-  HasClosed table p l log (reply.Close false) c = IsOver table p l (log ++ Saw Seen ∷ []) c
+  HasClosed table p l log (reply.Close false) c = IsOver table p (settled l) (log ++ Saw Seen ∷ []) c
   HasClosed table p l log _ c = ⊥
 
   -- a question whether the channel is closed has been answered

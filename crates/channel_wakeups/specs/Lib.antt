@@ -6,4 +6,5 @@ pub mod Cells
 pub mod Seats
 pub mod Calls
 pub mod Several
+pub mod Counts
 pub mod Blocks

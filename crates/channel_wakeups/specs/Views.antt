@@ -3,6 +3,9 @@ use Rattle.std.specs.Prelude.{◌≡◌, ◌⊎◌, ℕ, zero, suc, ◌+◌, ◌
 use mathlib.Core.Option as home
 use Rattle.atomic_table.specs.Table.{State, Me, Step}
 use Rattle.atomic_table.specs.Seated.{TableId}
+use Rattle.channel_wakeups.specs.declared.rule.Handles.{Handles}
+use Rattle.channel_wakeups.specs.declared.rule.Kind.{Kind}
+use Rattle.channel_wakeups.specs.declared.rule.Kind.TheVariants.{OfSenders, OfReceivers}
 use Rattle.channel_wakeups.specs.declared.rule.Line.{Line}
 use Rattle.channel_wakeups.specs.declared.rule.Lines.{Lines}
 use Rattle.channel_wakeups.specs.declared.rule.Roll.{Roll}
@@ -15,7 +18,7 @@ use Rattle.channel_wakeups.specs.declared.rule.Sight.TheVariants.{Shut, Seen, Dr
 use Rattle.concurrent_queue.specs.machine.Single.{clear}
 use Rattle.channel_wakeups.specs.declared.listeners.Listener.{Listener}
 use Rattle.channel_wakeups.specs.Lists.{total, told, waits, listed, is_this}
-use Rattle.channel_wakeups.specs.Log.{Weight, puts, takes, sights, each, Agrees, IsHistory, Balanced, Accounts, PutBefore, TookBefore, Closings, NotSeen, NotDrained}
+use Rattle.channel_wakeups.specs.Log.{Weight, puts, takes, sights, each, each_sight, raised_of, lowered_of, last_of, gone_of, is_none, Tallied, Agrees, IsHistory, Balanced, Accounts, PutBefore, TookBefore, Closings, NotSeen, NotDrained}
 
 abbrev pub no_table : TableId
 no_table = record { words = 0; slots = 0; views_name = 0; atom = 0; block = 0; offset = 0; slot_names = [] }
@@ -75,8 +78,34 @@ owing l = call_line l.answers l.holds l.ticket (l.tells + 1)
 
 -- ---- the lines of all sides
 
+-- handles of senders and of receivers, and closings that are owed
+abbrev pub hands : ℕ → ℕ → ℕ → Handles
+hands senders receivers closes = record { senders = senders; receivers = receivers; closes = closes }
+
+abbrev pub no_hands : Handles
+no_hands = hands 0 0 0
+
+abbrev pub count_of : Kind → Handles → ℕ
+count_of OfSenders h = h.senders
+count_of OfReceivers h = h.receivers
+
+-- with another count of a kind; and with no closing owed
+abbrev pub with_count : Kind → ℕ → Handles → Handles
+with_count OfSenders n h = hands n h.receivers h.closes
+with_count OfReceivers n h = hands h.senders n h.closes
+
+abbrev pub closed_by : Handles → Handles
+closed_by h = hands h.senders h.receivers 0
+
+abbrev pub lines_with : Handles → Line → Line → Line → Line → Lines
+lines_with h receives sends streams closings = record { receives = receives; sends = sends; streams = streams; closings = closings; hands = h }
+
 abbrev pub lines : Line → Line → Line → Line → Lines
-lines receives sends streams closings = record { receives = receives; sends = sends; streams = streams; closings = closings }
+lines receives sends streams closings = lines_with no_hands receives sends streams closings
+
+-- the same lines with other handles
+abbrev pub handed : Handles → Lines → Lines
+handed h c = lines_with h c.receives c.sends c.streams c.closings
 
 abbrev pub idle_lines : Lines
 idle_lines = lines idle idle idle idle
@@ -89,10 +118,10 @@ of of_closings c = c.closings
 
 -- with another line on a side; with none; and with one alone
 abbrev pub with_line : Side → Line → Lines → Lines
-with_line of_receives l c = lines l c.sends c.streams c.closings
-with_line of_sends l c = lines c.receives l c.streams c.closings
-with_line of_streams l c = lines c.receives c.sends l c.closings
-with_line of_closings l c = lines c.receives c.sends c.streams l
+with_line of_receives l c = lines_with c.hands l c.sends c.streams c.closings
+with_line of_sends l c = lines_with c.hands c.receives l c.streams c.closings
+with_line of_streams l c = lines_with c.hands c.receives c.sends l c.closings
+with_line of_closings l c = lines_with c.hands c.receives c.sends c.streams l
 
 abbrev pub besides : Side → Lines → Lines
 besides s c = with_line s idle c
@@ -109,7 +138,7 @@ tickets_alone c = lines (calling 0 0 c.receives.ticket) (calling 0 0 c.sends.tic
 -- a push won the slot: it answers for a message, and has the line of streams in hand to tell all; or there was no place; or the channel
 -- was closed
 abbrev pub won_place : Lines → Lines
-won_place c = lines (answering c.receives) (ended c.sends) (owing c.streams) c.closings
+won_place c = lines_with c.hands (answering c.receives) (ended c.sends) (owing c.streams) c.closings
 
 abbrev pub no_place : Lines → Lines
 no_place c = with_line of_sends (ended c.sends) c
@@ -119,17 +148,21 @@ no_send c = with_line of_sends (resolved c.sends) c
 
 -- a pop won the message, and answers for its place; or there was no message; or there will be none
 abbrev pub won_message : Lines → Lines
-won_message c = lines (resolved c.receives) (answering c.sends) (resolved c.streams) c.closings
+won_message c = lines_with c.hands (resolved c.receives) (answering c.sends) (resolved c.streams) c.closings
 
 abbrev pub no_message : Lines → Lines
-no_message c = lines (ended c.receives) c.sends (ended c.streams) c.closings
+no_message c = lines_with c.hands (ended c.receives) c.sends (ended c.streams) c.closings
 
 abbrev pub no_more : Lines → Lines
-no_more c = lines (resolved c.receives) c.sends (resolved c.streams) c.closings
+no_more c = lines_with c.hands (resolved c.receives) c.sends (resolved c.streams) c.closings
 
--- a call closed the channel: it has every line in hand to tell all; or it looked, and the channel was open; or closed
+-- a call closed the channel: it has every line in hand to tell all, and owes no closing any more; or it found it closed; or it looked,
+-- and the channel was open; or closed
+abbrev pub settled : Lines → Lines
+settled c = handed (closed_by c.hands) c
+
 abbrev pub all_owing : Lines → Lines
-all_owing c = lines (owing c.receives) (owing c.sends) (owing c.streams) (owing c.closings)
+all_owing c = lines_with (closed_by c.hands) (owing c.receives) (owing c.sends) (owing c.streams) (owing c.closings)
 
 abbrev pub still_open : Lines → Lines
 still_open c = with_line of_closings (ended c.closings) c
@@ -173,9 +206,9 @@ module _ {T W : Type 0} where
   abbrev pub nobody : View T W
   nobody = pass 0 0 idle_lines no_rolls []
 
-  -- the first seat: it has all parts and all lists
+  -- the first seat: it has all parts and all lists, and a handle of each kind
   abbrev pub everything : View T W
-  everything = pass 1024 0 idle_lines (rolls (listing []) (listing []) (listing []) (listing [])) []
+  everything = pass 1024 0 (handed (hands 1 1 0) idle_lines) (rolls (listing []) (listing []) (listing []) (listing [])) []
 
   -- with another line and another list on a side
   abbrev pub changed : Side → View T W → Line → List (Listener W) → View T W
@@ -270,6 +303,13 @@ module _ {T W : Type 0} where
   abbrev pub sights_of : (Sight → ℕ) → View T W → ℕ
   sights_of f v = only v.parts (sights f v.log)
 
+  -- the handles of a kind, and the closings that calls owe
+  abbrev pub handles_of : Kind → View T W → ℕ
+  handles_of k v = count_of k v.calls.hands
+
+  abbrev pub closes_of : View T W → ℕ
+  closes_of v = only v.parts v.calls.hands.closes
+
   -- each message of each log stands in the history under its number
   abbrev pub AllAgree : List T → List (View T W) → Type 0
   AllAgree history [] = Unit {0}
@@ -285,6 +325,13 @@ module _ {T W : Type 0} where
 abbrev pub word_of : ℕ → Bool → ℕ
 word_of base false = base
 word_of base true = base + 4
+
+-- the words of the table: that of the queue, and a count of handles of each kind. They lie so far apart that they share no cache line
+abbrev pub spare : List ℕ
+spare = 0 ∷ 0 ∷ 0 ∷ 0 ∷ 0 ∷ 0 ∷ 0 ∷ 0 ∷ 0 ∷ 0 ∷ 0 ∷ 0 ∷ 0 ∷ 0 ∷ 0 ∷ []
+
+abbrev pub all_words : ℕ → ℕ → ℕ → List ℕ
+all_words word senders receivers = word ∷ (spare ++ senders ∷ (spare ++ receivers ∷ []))
 
 -- 1 where the channel is closed
 abbrev pub shut_count : Bool → ℕ
@@ -347,6 +394,15 @@ pub record Kept {T W : Type 0} (base : ℕ) (shut : Bool) (slot : home.Option (O
   pub order : Ordered slot views
   pub closings : Closings shut (messages base) (λ f. total (sights_of f) views)
 
+-- THE COUNTS: the word of a kind counts its handles, which are 1 at first, one more for each raising, and one less for each lowering. It is
+-- none where one lowering was to none, and stays so. Then the channel was found closed, or a call owes its closing
+pub record Counted {T W : Type 0} (n : ℕ) (k : Kind) (views : List (View T W)) : Type 0 where
+  pub there : total (handles_of k) views ≡ n
+  pub ever : n + total (sights_of (lowered_of k)) views ≡ 1 + total (sights_of (raised_of k)) views
+  pub last : total (sights_of (last_of k)) views ≡ is_none n
+  pub gone : 0 < total (sights_of (gone_of k)) views → n ≡ 0
+  pub ends : n ≡ 0 → (0 < total (sights_of each_sight) views) ⊎ (0 < total closes_of views)
+
 module _ {T : Type 0} where
   -- the log of who has the slot, with its message put in, if there is one
   abbrev pub given : ℕ → List (ℕ × Option T) → List (Transfer T) → List (Transfer T)
@@ -359,11 +415,13 @@ Known T W = Me (Option T) (View T W)
 
 -- the seat has every part and the list of this side, and no call is under way
 abbrev pub HasAll : {T W : Type 0} → Side → View T W → Type 0
-HasAll s v = (v.parts ≡ 1024) × ((roll s v.rolls).here ≡ 1) × ((of s v.calls).answers ≡ 0) × ((of s v.calls).holds ≡ 0) × (v.owns ≡ 0) × ((of s v.calls).tells ≡ 0)
+HasAll s v = (v.parts ≡ 1024) × ((roll s v.rolls).here ≡ 1) × ((of s v.calls).answers ≡ 0) × ((of s v.calls).holds ≡ 0) × (v.owns ≡ 0) × ((of s v.calls).tells ≡ 0) × (v.calls.hands.closes ≡ 0)
 
 module _ {T W : Type 0} where
   abbrev pub Woken : State (Option T) (View T W) → Type 0
-  Woken s = (base : ℕ) × (shut : Bool) × (slot : home.Option (Option T)) × (s.words ≡ word_of base shut ∷ []) × (s.homes ≡ slot ∷ []) × Kept base shut slot s.views
+  Woken s =
+      (base : ℕ) × (shut : Bool) × (slot : home.Option (Option T)) × (senders : ℕ) × (receivers : ℕ) × (s.words ≡ all_words (word_of base shut) senders receivers) × (s.homes ≡ slot ∷ []) × Kept base shut slot s.views
+      × Counted senders OfSenders s.views × Counted receivers OfReceivers s.views
 
   -- a pass whose call knows the word to be n while it has the slot, or 0, with other lines and another log
   abbrev pub stepped : ℕ → Lines → List (Transfer T) → View T W → View T W
@@ -409,7 +467,7 @@ module _ {T W : Type 0} where
   closer v = stepped v.owns (all_owing v.calls) (v.log ++ Saw Shut ∷ []) v
 
   abbrev pub noted : View T W → View T W
-  noted v = stepped v.owns v.calls (v.log ++ Saw Seen ∷ []) v
+  noted v = stepped v.owns (settled v.calls) (v.log ++ Saw Seen ∷ []) v
 
   abbrev pub shuts : Step (Option T) → Known T W → ℕ → Known T W → Type 0
   shuts st m found m' =
@@ -435,7 +493,7 @@ module _ {T W : Type 0} where
       (m' ≡ m)
       × (HasAll s m.0 → ((key : ℕ) → 0 < waits key (roll s m.0.rolls).listeners → due s (has_message found) (is_shut found) ≤ told (roll s m.0.rolls).listeners)
       × ((key : ℕ) → is_key key (of s m.0.calls).ticket ≤ listed key (roll s m.0.rolls).listeners) × ((slot : Option T) × (is_some slot ≡ has_message found) × Accounts slot m.0.log)
-      × Closings (is_shut found) (cond (has_message found) 1 0) (λ f. sights f m.0.log))
+      × Closings (is_shut found) (cond (has_message found) 1 0) (λ f. sights f m.0.log) × Tallied (is_shut found) m.0.log)
 
 module _ {W : Type 0} where
   -- what a section may make of its call's line l and of its list ls: whoever waits has its listener in hand, or waited before, beside as

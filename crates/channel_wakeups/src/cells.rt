@@ -8,7 +8,7 @@ use crate::stage::Stage;
 use atomic_table::{Seat, Table};
 use std::alloc::Global;
 
-/// One word, the state of the queue of one slot, and the slot.
+/// The word of the queue of one slot, the counts of handles, and the slot.
 pub(crate) type SlotTable<T, W> = Table<Option<T>, View<T, W>, (), Answered, Global>;
 
 /// What is known of the table from one place. It has no bytes.

@@ -3,6 +3,7 @@
 ghost use Rattle.std.specs.Prelude.{◌≡◌, ◌⊎◌, ℕ, ◌+◌, ◌-◌, ◌/◌, ◌<◌, [], ◌++◌, true, false, is_some, MatchResult};
 ghost use Rattle.atomic_table.specs.Seated.{TableId};
 ghost use Rattle.channel_wakeups.specs.Calls.{held, is_pending, is_waiting, is_watching, Closes, Displaced, Hand, IsClosed, Looked, Offers, Received, Sent, Watches};
+ghost use Rattle.channel_wakeups.specs.Counts.{IsHandle};
 ghost use Rattle.channel_wakeups.specs.Seats.{IsIdle, IsTicket};
 ghost use Rattle.channel_wakeups.specs.Several.{Gathered, NoneGathered};
 ghost use Rattle.channel_wakeups.specs.Views.{everything};
@@ -12,7 +13,9 @@ use crate::cells::{Place, SlotTable};
 use crate::desk::Desk;
 use crate::place::{ListSeats, absorb, begin, share};
 use crate::polled::{Offered, Polled, Untaken, Watched};
-use crate::rule::{Closings, Receives, Room, Sends, Streams, Waiting};
+use crate::rule::{
+    APART, Closings, Counting, Receivers, Receives, Room, Senders, Sends, Streams, Waiting,
+};
 use crate::telling::Desks;
 use crate::wake::Wake;
 use crate::{at_rest, displacing, gathering, offers, shutting, takes, waits};
@@ -35,7 +38,7 @@ impl<T: Drop, W: Drop> Model for Opened<T, W> {
 
     ghost view = { λ o. o.table.shared.table_id };
 
-    ghost invariant = { λ o. (0 < o.table.shared.table_id.words) × (o.seat.table_id ≡ o.table.shared.table_id) × (o.seat.me ≡ (everything, [])) };
+    ghost invariant = { λ o. (0 < o.table.shared.table_id.words) × (32 < o.table.shared.table_id.words) × (o.seat.table_id ≡ o.table.shared.table_id) × (o.seat.me ≡ (everything, [])) };
 }
 
 /// A channel of one slot in room `B`, whose receives and sends wait with tasks of type `W`.
@@ -53,7 +56,7 @@ impl<T: Drop, W: Drop, B: Room> Model for SlotChannel<T, W, B> {
 
     ghost view = { λ c. tt };
 
-    ghost invariant = { λ c. (c.table.shared.table_id ≡ B.table) × (0 < B.table.words) };
+    ghost invariant = { λ c. (c.table.shared.table_id ≡ B.table) × (0 < B.table.words) × (32 < B.table.words) };
 }
 
 /// What a thread calls with, and which has no call under way: so many parts of the right to know the whole, and a log of what was put
@@ -70,6 +73,34 @@ impl<T: Drop, W: Drop, B: Room> Model for Pass<T, W, B> {
     ghost view = { λ p. record { parts = p.seat.me.0.parts; log = p.seat.me.0.log } };
 
     ghost invariant = { λ p. IsIdle B.table p.seat p.seat.me.0.parts };
+}
+
+/// A handle of a sender, or of a receiver, which is counted. It has no bytes. One that is dropped, and not let go, is counted on.
+#[derive(Drop)]
+pub struct Handle<T: Drop, W: Drop, B: Room, K: Counting> {
+    pub(crate) seat: Place<T, W>,
+    pub(crate) room: PhantomData<(B, K)>,
+}
+
+impl<T: Drop, W: Drop, B: Room, K: Counting> Model for Handle<T, W, B, K> {
+    ghost Value = { Unit {0} };
+
+    ghost view = { λ h. tt };
+
+    ghost invariant = { λ h. IsHandle K.kind B.table h.seat };
+}
+
+/// A handle of a sender.
+pub type Sender<T, W, B> = Handle<T, W, B, Senders>;
+
+/// A handle of a receiver.
+pub type Receiver<T, W, B> = Handle<T, W, B, Receivers>;
+
+/// The first handles of a channel, one of each kind.
+#[derive(Drop)]
+pub struct FirstHandles<T: Drop, W: Drop, B: Room> {
+    pub sender: Sender<T, W, B>,
+    pub receiver: Receiver<T, W, B>,
 }
 
 /// The listener of a receive, or a send, that is pending. While there is one, the list has a listener under its key.
@@ -108,20 +139,23 @@ pub type Streaming<T, W, B> = Waiter<T, W, B, Streams>;
 pub type Closing<T, W, B> = Waiter<T, W, B, Closings>;
 
 impl<T: Drop, W: Drop> Opened<T, W> {
-    /// A channel with no message. `Err` where there is no memory for its word and its slot.
+    /// A channel with no message. `Err` where there is no memory for its words and its slot.
     pub fn new(alloc: Global) -> Result<Opened<T, W>, AllocError> {
-        let (table, seat) = Table::vacant(alloc, &[0], 1, &())?;
+        let mut words = [0; 2 * APART + 1];
+        words[APART] = 1;
+        words[2 * APART] = 1;
+        let (table, seat) = Table::vacant(alloc, &words, 1, &())?;
         Ok(Opened { alloc, table, seat })
     }
 
-    /// The channel and its first pass in a room: values of a room fit one another and no other's.
-    pub fn enter<B: Room>(self) -> (SlotChannel<T, W, B>, Pass<T, W, B>)
+    /// The channel, its first pass and its first handles, in a room: values of a room fit one another and no other's.
+    pub fn enter<B: Room>(self) -> (SlotChannel<T, W, B>, Pass<T, W, B>, FirstHandles<T, W, B>)
         requires { self ≡ B.table }
         ensures parts { result.1.parts ≡ 1024 }
         ensures log { result.1.log ≡ [] }
     {
         let Opened { alloc, table, seat } = self;
-        let (pass, lists) = begin(&table, seat);
+        let (pass, lists, (sender, receiver)) = begin(&table, seat);
         let ListSeats {
             receives,
             sends,
@@ -139,7 +173,17 @@ impl<T: Drop, W: Drop> Opened<T, W> {
             seat: pass,
             room: PhantomData,
         };
-        (channel, pass)
+        let handles = FirstHandles {
+            sender: Handle {
+                seat: sender,
+                room: PhantomData,
+            },
+            receiver: Handle {
+                seat: receiver,
+                room: PhantomData,
+            },
+        };
+        (channel, pass, handles)
     }
 }
 
@@ -155,7 +199,7 @@ impl<T: Drop, W: Drop, B: Room, S: Waiting> Waiter<T, W, B, S> {
 impl<T: Drop, W: Drop, B: Room> SlotChannel<T, W, B> {
     /// The lists.
     #[inline(always)]
-    fn desks(&self) -> Desks<T, W, B> {
+    pub(crate) fn desks(&self) -> Desks<T, W, B> {
         Desks {
             receives: &self.receives,
             sends: &self.sends,
@@ -189,8 +233,8 @@ impl<T: Drop, W: Wake, B: Room> SlotChannel<T, W, B> {
     }
 
     /// Puts the message into the slot if it is empty, and wakes the first receive and all streams that wait untold. `Err` hands the
-    /// message back: the slot was full, or the channel is closed. It may wait, for the lock of the list and while another call is between the operations
-    /// that it needs to take a message out.
+    /// message back: the slot was full, or the channel is closed. It may wait, for the lock of the list and while another call is between the
+    /// operations that it needs to take a message out.
     pub fn try_send<R: Wait>(
         &self,
         rt: &R,

@@ -9,6 +9,7 @@ pub mod channel;
 mod desk;
 mod displacing;
 mod gathering;
+mod handles;
 pub mod listeners;
 mod made;
 mod offers;
@@ -24,7 +25,12 @@ mod waits;
 pub mod wake;
 
 pub use at_rest::Rest;
-pub use channel::{Closing, Opened, Pass, Receive, Sending, SlotChannel, Streaming, Waiter};
-pub use polled::{Blocked, Offered, Polled, Untaken, Watched};
-pub use rule::{Closings, Receives, Room, Sends, Streams, Taking, Waiting};
+pub use channel::{
+    Closing, FirstHandles, Handle, Opened, Pass, Receive, Receiver, Sender, Sending, SlotChannel,
+    Streaming, Waiter,
+};
+pub use polled::{Blocked, Offered, Polled, Untaken, Upgrade, Watched};
+pub use rule::{
+    Closings, Counting, Receivers, Receives, Room, Senders, Sends, Streams, Taking, Waiting,
+};
 pub use wake::{Sleeper, Sleeps, Wake};

@@ -5,9 +5,10 @@ ghost use Rattle.concurrent_queue.specs.Replies.{MayAnswer};
 ghost use Rattle.concurrent_queue.specs.declared.call.QueueAsk.TheVariants as ask;
 ghost use Rattle.concurrent_queue.specs.declared.cells.QueueForm.TheVariants.{Bounded};
 ghost use Rattle.channel_wakeups.specs.Calls.{PushLeaves, ForceLeaves, PopLeaves, CloseLeaves, AskLeaves, PushRefused, PopRefused, Sent, Displaced, Found, Closes, IsClosed, to_streams, to_others};
+ghost use Rattle.channel_wakeups.specs.Counts.{IsHolding};
 ghost use Rattle.channel_wakeups.specs.Seats.{IsCall, IsPass, IsIdle};
 ghost use Rattle.channel_wakeups.specs.Several.{PopMoreLeaves};
-ghost use Rattle.channel_wakeups.specs.Views.{of, of_receives, of_sends, of_closings, only_on, calling, telling};
+ghost use Rattle.channel_wakeups.specs.Views.{of, of_receives, of_sends, of_closings, hands, only_on, calling, telling};
 
 use crate::cells::{Place, SlotCells, SlotTable};
 use crate::rule::Taking;
@@ -108,7 +109,7 @@ fn make_close<T: Drop, W: Drop, R: Wait>(
     seat: Place<T, W>,
 ) -> (QueueReply<T>, Place<T, W>)
     requires table { 0 < table.now.shared.table_id.words }
-    requires idle { IsIdle table.now.shared.table_id seat seat.me.0.parts }
+    requires call { IsHolding (hands 0 0 seat.me.0.calls.hands.closes) table.now.shared.table_id seat seat.me.0.parts }
     ensures leaves { CloseLeaves table.now.shared.table_id seat.me.0.parts seat.me.0.log result.0 result.1 }
 {
     let mut cells = SlotCells {
@@ -234,14 +235,14 @@ pub(crate) fn pop_more<T: Drop, W: Drop, R: Wait>(
     }
 }
 
-/// Closes the channel: `true` where it was open. Then the call has every line in hand to tell all.
+/// Closes the channel, by a call that may owe it: `true` where it was open. Then the call has every line in hand to tell all.
 pub(crate) fn shut<T: Drop, W: Drop, R: Wait>(
     rt: &R,
     table: &SlotTable<T, W>,
     call: Place<T, W>,
 ) -> (bool, Place<T, W>)
     requires table { 0 < table.now.shared.table_id.words }
-    requires call { IsIdle table.now.shared.table_id call call.me.0.parts }
+    requires call { IsHolding (hands 0 0 call.me.0.calls.hands.closes) table.now.shared.table_id call call.me.0.parts }
     ensures first { result.0 ≡ true → IsPass of_receives table.now.shared.table_id result.1 call.me.0.parts (telling 1) to_others }
     ensures other { result.0 ≡ false → IsIdle table.now.shared.table_id result.1 call.me.0.parts }
     ensures log { Closes result.0 call.me.0.log result.1.me.0.log }

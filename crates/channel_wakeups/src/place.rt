@@ -1,16 +1,20 @@
-//! What is done to the seats of a channel's table besides the steps of the machine. Each function is one plain load, `begin` four and `section` three.
+//! What is done to the seats of a channel's table besides the steps of the machine. Each function is one plain load, `begin` six and
+//! `section` three.
 
 ghost use Rattle.std.specs.Prelude.{◌≡◌, ℕ, ◌+◌, ◌-◌, ◌/◌, ◌<◌, ◌≤◌, [], ◌++◌, true, false};
 ghost use Rattle.channel_wakeups.specs.Calls.{Looked};
+ghost use Rattle.channel_wakeups.specs.Counts.{IsHandle};
+ghost use Rattle.channel_wakeups.specs.declared.rule.Kind.TheVariants.{OfReceivers, OfSenders};
 ghost use Rattle.channel_wakeups.specs.Lists.{told, waits, listed};
 ghost use Rattle.channel_wakeups.specs.Seats.{IsCall, IsIdle, IsPass, IsTicket, IsList, Calls, Lists};
 ghost use Rattle.channel_wakeups.specs.Views.{of, besides, roll, call_line, calling, changed, comes_out, entered, stays, alone, without, is_key, everything, due, of_receives, of_sends, of_streams, of_closings, idle_lines, HasAll, Fair};
 
 use crate::cells::{Place, SlotTable};
+use crate::handles::uncouple;
 use crate::listeners::Listener;
 use crate::rule::{
-    Absorbs, Aim, Becomes, Blank, Closings, Divides, Enters, GivesTicket, Learns, Leaves, Sends,
-    Shares, Streams, TakesTicket, Waiting,
+    Absorbs, Aim, Becomes, Blank, Closings, Divides, Enters, GivesTicket, Learns, Leaves,
+    Receivers, Senders, Sends, Shares, Streams, TakesTicket, Waiting,
 };
 use std::marker::Brand;
 
@@ -110,11 +114,11 @@ pub(crate) struct ListSeats<T: Drop, W: Drop> {
     pub(crate) closings: Place<T, W>,
 }
 
-/// The first seat becomes the first pass and the seats of the lists.
+/// The first seat becomes the first pass, the seats of the lists, and the first handles: a sender's and a receiver's.
 pub(crate) fn begin<T: Drop, W: Drop>(
     table: &SlotTable<T, W>,
     mut seat: Place<T, W>,
-) -> (Place<T, W>, ListSeats<T, W>)
+) -> (Place<T, W>, ListSeats<T, W>, (Place<T, W>, Place<T, W>))
     requires table { 0 < table.now.shared.table_id.words }
     requires seat { (seat.table_id ≡ table.now.shared.table_id) × (seat.me ≡ (everything, [])) }
     ensures pass { IsIdle table.now.shared.table_id result.0 1024 × (result.0.me.0.log ≡ []) }
@@ -122,8 +126,11 @@ pub(crate) fn begin<T: Drop, W: Drop>(
     ensures sends { IsList of_sends table.now.shared.table_id result.1.sends × (result.1.sends.me.0.rolls.sends.listeners ≡ []) }
     ensures streams { IsList of_streams table.now.shared.table_id result.1.streams × (result.1.streams.me.0.rolls.streams.listeners ≡ []) }
     ensures closings { IsList of_closings table.now.shared.table_id result.1.closings × (result.1.closings.me.0.rolls.closings.listeners ≡ []) }
+    ensures handles { IsHandle OfSenders table.now.shared.table_id result.2.0 × IsHandle OfReceivers table.now.shared.table_id result.2.1 }
 {
-    let pass = leave(table, &mut seat);
+    let mut pass = leave(table, &mut seat);
+    let sender = uncouple::<T, W, Senders>(table, &mut pass);
+    let receiver = uncouple::<T, W, Receivers>(table, &mut pass);
     let sends = divide::<T, W, Sends>(table, &mut seat);
     let streams = divide::<T, W, Streams>(table, &mut seat);
     let closings = divide::<T, W, Closings>(table, &mut seat);
@@ -133,7 +140,7 @@ pub(crate) fn begin<T: Drop, W: Drop>(
         streams,
         closings,
     };
-    (pass, lists)
+    (pass, lists, (sender, receiver))
 }
 
 /// A pass gives half of its parts to a new one.

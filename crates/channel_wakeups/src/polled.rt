@@ -56,3 +56,14 @@ pub enum Untaken {
     /// There is no room for as many as were wanted. None was tried for.
     NoMemory,
 }
+
+/// What became of an upgrade.
+#[derive(Drop)]
+pub enum Upgrade<H> {
+    /// A handle more.
+    Made(H),
+    /// The channel is closed, or there is no such handle any more.
+    Gone,
+    /// There are too many.
+    TooMany,
+}

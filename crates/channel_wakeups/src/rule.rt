@@ -84,6 +84,57 @@ impl Taking for Streams {
     ghost takes = { inr refl };
 }
 
+/// Words that lie so far apart share no cache line.
+pub(crate) const APART: usize = 16;
+
+/// Whose handles are counted.
+#[derive(Clone, Copy)]
+pub enum Kind {
+    OfSenders,
+    OfReceivers,
+}
+
+/// Handles of one kind, which are counted in a word of their own.
+pub trait Counting {
+    ghost use Rattle.std.specs.Prelude.{◌≡◌};
+    ghost use Rattle.channel_wakeups.specs.declared.rule.Kind.{Kind};
+    ghost use Rattle.channel_wakeups.specs.Counts.{word_for};
+
+    ghost kind: { Kind };
+
+    /// The word that counts them.
+    fn word() -> usize
+        ensures { result ≡ word_for Self.kind };
+}
+
+/// Handles of senders.
+pub struct Senders;
+
+impl Counting for Senders {
+    ghost use Rattle.channel_wakeups.specs.declared.rule.Kind.TheVariants.{OfSenders};
+
+    ghost kind = { OfSenders };
+
+    #[inline(always)]
+    fn word() -> usize {
+        APART
+    }
+}
+
+/// Handles of receivers.
+pub struct Receivers;
+
+impl Counting for Receivers {
+    ghost use Rattle.channel_wakeups.specs.declared.rule.Kind.TheVariants.{OfReceivers};
+
+    ghost kind = { OfReceivers };
+
+    #[inline(always)]
+    fn word() -> usize {
+        2 * APART
+    }
+}
+
 /// What a section makes of its call's line and of its list.
 pub(crate) trait Aim<W> {
     ghost use Rattle.std.specs.Prelude.{List};
@@ -104,11 +155,17 @@ impl<W> Aim<W> for Brand {
     ghost listeners = { [] };
 }
 
-/// What a pass saw of the closing: its own call closed the channel, or found it closed, or found it closed and without a message.
+/// What a pass saw of the closing: its own call closed the channel, or found it closed, or found it closed and without a message. And what
+/// it did to a count of handles: it raised it, or lowered it, or lowered it to none; or it found none, or too many.
 pub enum Sight {
     Shut,
     Seen,
     Drained,
+    Raised(Kind),
+    Lowered(Kind),
+    Last(Kind),
+    Gone(Kind),
+    Crowded(Kind),
 }
 
 /// What was done with a pass: a message was put in or taken out, under its number, or something was seen of the closing.
@@ -127,12 +184,20 @@ pub struct Line {
     pub tells: u64,
 }
 
-/// The same of each side.
+/// How many handles of each kind lie with a seat, and how many closings its call owes, since it let the last one go. No value is made.
+pub struct Handles {
+    pub senders: u64,
+    pub receivers: u64,
+    pub closes: u64,
+}
+
+/// The same of each side, and the handles.
 pub struct Lines {
     pub receives: Line,
     pub sends: Line,
     pub streams: Line,
     pub closings: Line,
+    pub hands: Handles,
 }
 
 /// A list where it lies with a seat, with all its listeners; else 0 and none. No value is made.
@@ -161,8 +226,8 @@ pub struct View<T, W> {
 
 /// The rule: where a receive's listener waits untold that no call has in hand, there are no more messages than told listeners of receives
 /// and calls that answer for one; so too of sends and free places. Where a stream's listener waits so beside a message, or any listener in
-/// a closed channel, a call has its line in hand to tell all. And what was put in is what was taken out and what the slot holds, in one
-/// order.
+/// a closed channel, a call has its line in hand to tell all. Where a count of handles is none, the channel was found closed, or a call
+/// owes its closing. And what was put in is what was taken out and what the slot holds, in one order.
 pub struct Answered;
 
 impl<T, W> TableRule<Option<T>, View<T, W>, ()> for Answered {
@@ -340,6 +405,75 @@ impl<T, W, S: Waiting> Play<Option<T>, View<T, W>> for Learns<S> {
     ghost use Rattle.channel_wakeups.specs.Views.{learns};
 
     ghost then = { learns S.side };
+}
+
+/// A pass takes a handle in.
+pub(crate) struct Couples;
+
+impl<T, W> Join<View<T, W>> for Couples {
+    ghost use Rattle.channel_wakeups.specs.Views.{nobody};
+    ghost use Rattle.channel_wakeups.specs.Counts.{coupled};
+
+    ghost both = { coupled };
+
+    ghost spent = { nobody };
+}
+
+/// A pass gives a handle out.
+pub(crate) struct Uncouples<K> {
+    of: PhantomData<K>,
+}
+
+impl<T, W, K: Counting> Split<View<T, W>> for Uncouples<K> {
+    ghost use Rattle.channel_wakeups.specs.Counts.{uncoupled, lone_handle};
+
+    ghost left = { uncoupled K.kind };
+
+    ghost right = { λ _. lone_handle K.kind };
+}
+
+/// A count is raised from what it was found to be, or it is another by now.
+pub(crate) struct Raises<K> {
+    of: PhantomData<K>,
+}
+
+impl<T, W, K: Counting> Play<Option<T>, View<T, W>> for Raises<K> {
+    ghost use Rattle.channel_wakeups.specs.Counts.{raises};
+
+    ghost then = { raises K.kind };
+}
+
+/// A count is lowered. Who lowered it to none owes a closing.
+pub(crate) struct Lowers<K> {
+    of: PhantomData<K>,
+}
+
+impl<T, W, K: Counting> Play<Option<T>, View<T, W>> for Lowers<K> {
+    ghost use Rattle.channel_wakeups.specs.Counts.{lowers};
+
+    ghost then = { lowers K.kind };
+}
+
+/// A count is looked at, whether it is too great.
+pub(crate) struct Measures<K> {
+    of: PhantomData<K>,
+}
+
+impl<T, W, K: Counting> Play<Option<T>, View<T, W>> for Measures<K> {
+    ghost use Rattle.channel_wakeups.specs.Counts.{measures};
+
+    ghost then = { measures K.kind };
+}
+
+/// A count is looked at, whether it is none besides.
+pub(crate) struct Asks<K> {
+    of: PhantomData<K>,
+}
+
+impl<T, W, K: Counting> Play<Option<T>, View<T, W>> for Asks<K> {
+    ghost use Rattle.channel_wakeups.specs.Counts.{counts};
+
+    ghost then = { counts K.kind };
 }
 
 /// A new seat that has nothing.

@@ -2,8 +2,9 @@
 
 ghost use Rattle.std.specs.Prelude.{◌≡◌, ◌+◌, ◌-◌, ◌<◌, is_some};
 ghost use Rattle.channel_wakeups.specs.Calls.{held, is_watching, Closes, IsClosed, Watches};
+ghost use Rattle.channel_wakeups.specs.Counts.{IsHolding};
 ghost use Rattle.channel_wakeups.specs.Seats.{IsCall, IsIdle};
-ghost use Rattle.channel_wakeups.specs.Views.{of_closings};
+ghost use Rattle.channel_wakeups.specs.Views.{hands, of_closings};
 
 use crate::cells::{Place, SlotTable};
 use crate::channel::Ticket;
@@ -18,7 +19,32 @@ use crate::wake::Wake;
 use std::mem;
 use std::sync::{Mutex, Wait};
 
-/// Closes the channel. Who is the first tells all sends that wait, then all receives, all streams, and all who wait for the closing alone.
+/// Closes the channel, by a call that may owe it. Who is the first tells all sends that wait, then all receives, all streams, and all who
+/// wait for the closing alone.
+pub(crate) fn close_now<T: Drop, W: Wake, B: Room, R: Wait>(
+    rt: &R,
+    table: &SlotTable<T, W>,
+    desks: &Desks<T, W, B>,
+    call: Place<T, W>,
+) -> (bool, Place<T, W>)
+    requires table { (table.now.shared.table_id ≡ B.table) × (0 < B.table.words) }
+    requires call { IsHolding (hands 0 0 call.me.0.calls.hands.closes) B.table call call.me.0.parts }
+    ensures idle { IsIdle B.table result.1 call.me.0.parts }
+    ensures answers { Closes result.0 call.me.0.log result.1.me.0.log }
+{
+    let (first, call) = shut(rt, table, call);
+    if !first {
+        return (false, call);
+    }
+    let call = tell_all(rt, table, desks.sends, call);
+    let call = tell_all(rt, table, desks.receives, call);
+    let call = tell_all(rt, table, desks.streams, call);
+    let call = tell_all(rt, table, desks.closings, call);
+    (true, call)
+}
+
+/// Closes the channel.
+#[tactic(auto, using(crate::proofs::From::idle_holds))]
 pub(crate) fn close<T: Drop, W: Wake, B: Room, R: Wait>(
     rt: &R,
     table: &SlotTable<T, W>,
@@ -31,16 +57,9 @@ pub(crate) fn close<T: Drop, W: Wake, B: Room, R: Wait>(
     ensures answers { Closes result pass.old.me.0.log pass.new.me.0.log }
 {
     let call = mem::replace(pass, blank(table));
-    let (first, call) = shut(rt, table, call);
-    if !first {
-        *pass = call;
-        return false;
-    }
-    let call = tell_all(rt, table, desks.sends, call);
-    let call = tell_all(rt, table, desks.receives, call);
-    let call = tell_all(rt, table, desks.streams, call);
-    *pass = tell_all(rt, table, desks.closings, call);
-    true
+    let (first, call) = close_now(rt, table, desks, call);
+    *pass = call;
+    first
 }
 
 /// Whether the channel is closed.

@@ -82,7 +82,7 @@ fn block_among_in<B: Room + Send + Sync, R: Threads + Wait + Sync>(
     requires { opened ≡ B.table }
 {
     let (me, you, other) = threads;
-    let (channel, mut all) = opened.enter::<B>();
+    let (channel, mut all, _handles) = opened.enter::<B>();
     let one = channel.another(&mut all);
     let two = channel.another(&mut all);
     let shared = &channel;
@@ -147,7 +147,7 @@ fn close_beside_a_blocked_send_in<B: Room + Send + Sync, R: Threads + Wait + Syn
 ) -> (bool, Result<(), Blocked<u64>>)
     requires { opened ≡ B.table }
 {
-    let (channel, mut all) = opened.enter::<B>();
+    let (channel, mut all, _handles) = opened.enter::<B>();
     let one = channel.another(&mut all);
     let shared = &channel;
     thread::join(

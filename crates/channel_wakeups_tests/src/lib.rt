@@ -4,6 +4,7 @@
 ghost use Rattle.std.specs.Prelude.{◌≡◌, ◌<◌, IfSome, true, false};
 
 mod blocked;
+mod counted;
 mod several;
 
 pub use blocked::{block_among, close_beside_a_blocked_send};
@@ -12,6 +13,7 @@ use channel_wakeups::{
     Watched,
 };
 use concurrent_queue::{ForcePushError, PushError};
+pub use counted::{let_all_go, let_two_go};
 pub use several::{Taken, take_several};
 use std::alloc::Global;
 use std::marker::Brand;
@@ -172,7 +174,7 @@ fn rush_in<B: Room + Send + Sync, R: Threads + Wait + Sync>(
     ensures receive { result.receive_pending ≡ true → result.full.message ≡ true → result.full.receive_told ≡ true }
     ensures send { result.send_pending ≡ true → result.empty.message ≡ false → result.empty.send_told ≡ true }
 {
-    let (channel, mut all) = opened.enter::<B>();
+    let (channel, mut all, _handles) = opened.enter::<B>();
     let sum = all_at_once(rt, &channel, &mut all, count);
     let (receive_pending, full) = beside_a_message(rt, &channel, &mut all);
     let (send_pending, empty) = beside_a_place(rt, &channel, &mut all);
@@ -483,7 +485,7 @@ fn close_among_in<B: Room + Send + Sync, R: Threads + Wait + Sync>(
 ) -> Closed
     requires { opened ≡ B.table }
 {
-    let (channel, mut all) = opened.enter::<B>();
+    let (channel, mut all, _handles) = opened.enter::<B>();
     let (lost, told) = end_all(rt, &channel, &mut all, patience);
     let mut receive = Receive::new();
     let mut send = Sending::new();
@@ -518,7 +520,7 @@ fn close_beside_a_receive_in<B: Room, R: Wait>(
     requires { opened ≡ B.table }
     ensures told { result.0 ≡ true → result.2.closed ≡ true → result.2.receive_told ≡ true }
 {
-    let (channel, mut all) = opened.enter::<B>();
+    let (channel, mut all, _handles) = opened.enter::<B>();
     let mut receive = Receive::new();
     let mut send = Sending::new();
     let polled = channel.poll_recv(rt, &mut all, &mut receive, ());
@@ -555,7 +557,7 @@ fn close_beside_a_send_in<B: Room, R: Wait>(
     requires { opened ≡ B.table }
     ensures told { result.0 ≡ true → result.2.closed ≡ true → result.2.send_told ≡ true }
 {
-    let (channel, mut all) = opened.enter::<B>();
+    let (channel, mut all, _handles) = opened.enter::<B>();
     let mut receive = Receive::new();
     let mut send = Sending::new();
     let _ = channel.try_send(rt, &mut all, 7);
@@ -609,7 +611,7 @@ fn message_beside_a_stream_in<B: Room, R: Wait>(rt: &R, opened: Opened<u64, ()>)
     requires { opened ≡ B.table }
     ensures told { result.waited ≡ true → result.rest.message ≡ true → (result.rest.stream_told ≡ true) × (result.rest.receive_told ≡ true) }
 {
-    let (channel, mut all) = opened.enter::<B>();
+    let (channel, mut all, _handles) = opened.enter::<B>();
     let mut receive = Receive::new();
     let mut send = Sending::new();
     let mut stream = Streaming::new();
@@ -657,7 +659,7 @@ fn close_beside_a_stream_in<B: Room, R: Wait>(rt: &R, opened: Opened<u64, ()>) -
     requires { opened ≡ B.table }
     ensures told { result.0 ≡ true → result.1.closed ≡ true → (result.1.stream_told ≡ true) × (result.1.closing_told ≡ true) }
 {
-    let (channel, mut all) = opened.enter::<B>();
+    let (channel, mut all, _handles) = opened.enter::<B>();
     let mut receive = Receive::new();
     let mut send = Sending::new();
     let mut stream = Streaming::new();
@@ -697,7 +699,7 @@ pub fn close_beside_a_stream<R: Wait>(rt: &R, alloc: Global) -> Option<(bool, Re
 fn displace_in<B: Room, R: Wait>(rt: &R, opened: Opened<u64, ()>) -> ([bool; 5], Rest)
     requires { opened ≡ B.table }
 {
-    let (channel, mut all) = opened.enter::<B>();
+    let (channel, mut all, _handles) = opened.enter::<B>();
     let mut receive = Receive::new();
     let mut send = Sending::new();
     let mut stream = Streaming::new();

@@ -43,7 +43,7 @@ pub struct Taken {
 fn take_several_in<B: Room, R: Wait>(rt: &R, opened: Opened<u64, ()>, alloc: Global) -> Taken
     requires { opened ≡ B.table }
 {
-    let (channel, mut all) = opened.enter::<B>();
+    let (channel, mut all, _handles) = opened.enter::<B>();
     let mut send = Sending::new();
     let _ = channel.try_send(rt, &mut all, 7);
     let _ = channel.poll_send(rt, &mut all, &mut send, 8, ());

@@ -180,3 +180,26 @@ fn several_are_taken(rt: HostRuntime) {
     };
     assert_eq!(rt; take_several(&rt, rt.alloc()), Some(expected));
 }
+
+// Whoever lets the last sender go closes the channel, and a receive that waits is told and ends.
+#[test]
+fn the_last_sender_closes(rt: HostRuntime) {
+    let rest = Rest {
+        message: false,
+        closed: true,
+        receive_told: true,
+        send_told: false,
+        stream_told: false,
+        closing_told: false,
+    };
+    let found = let_all_go(&rt, rt.alloc());
+    assert_eq!(rt; found, Some(([false, false, true], rest, [true, true])));
+}
+
+// Two threads let the last two senders go at once, and one of them closes the channel.
+#[test]
+fn one_of_two_is_the_last(rt: HostRuntime) {
+    for _ in 0..100 {
+        assert_eq!(rt; let_two_go(&rt, rt.alloc()), Some((true, true)));
+    }
+}
