@@ -139,6 +139,12 @@ PLACES = {
     "a send tells a receive before its message is in": 3,  # the machine's send and its polled send, and straight code
     "a call is run whole at its first step": 2,  # a push, and a send with its notice
     "a closing always answers false": 2,  # the channel's call, and the line of a handle over it
+    # the counts of a channel, and those that are words of a table
+    "the drop of the last sender lowers the count and doesn't close": 2,
+    "a clone counts nothing": 2,
+    "a clone that was counted is refused": 2,
+    "an upgrade that counted answers that there is none": 2,
+    "a drop that lowers nothing": 2,
 }
 # What a sentence names as standing against a wrong body: the first of it.
 CLAUSE = re.compile(r"[Aa]gainst it stands? (.*?)(?:[.;]|, |: |$)|[Tt]he ((?:clauses?|invariant) .*?)(?: refuses?|,)|(What .*? requires)")
