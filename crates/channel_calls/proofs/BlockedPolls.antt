@@ -15,7 +15,7 @@ use Rattle.futures.specs.declared.task.Poll.{Poll}
 use Rattle.futures.specs.declared.task.Poll.TheVariants.{Ready}
 use Rattle.channel_calls.specs.Answered.{sent_next, received_next, polled_next, over}
 use Rattle.channel_calls.specs.Asks.{first}
-use Rattle.channel_calls.specs.Blocks.{waiting_of, at_once, not_yet, poll_woken, still_waits, AnswersAtFirst, Listens}
+use Rattle.channel_calls.specs.Blocks.{waiting_of, at_once, not_yet, poll_woken, still_waits, Looks, AnswersAtFirst, Listens, Blocks}
 use Rattle.channel_calls.specs.Deeds.{Deed, stepped, inserted, taken_off}
 use Rattle.channel_calls.specs.Listed.{pends}
 use Rattle.channel_calls.specs.Marks.{mark_of_queue}
@@ -23,6 +23,7 @@ use Rattle.channel_calls.specs.Replies.{RefusesTrySend, MayGive, MayPoll}
 use Rattle.channel_calls.specs.Tried.{polled, IsOver, sent_by, received_by, tried_turn, Comes}
 use Rattle.channel_calls.specs.Turns.{line_of, message_of, leaving, nothing_kept, says, again, unlistened, refused_reply}
 use Rattle.channel_calls.specs.Walks.{Takes, ChannelMakes, Leads, WalkedFrom, WalkedTo}
+use Rattle.channel_calls.specs.declared.ask.ChannelAsk.{ChannelAsk}
 use Rattle.channel_calls.specs.declared.ask.ChannelAsk.TheVariants as ask
 use Rattle.channel_calls.specs.declared.blocked.Blocked.{Blocked}
 use Rattle.channel_calls.specs.declared.blocked.Blocked.TheVariants.{Send, Receive}
@@ -325,6 +326,15 @@ module _ {T W X : Type 0} (did : Deed T W → X → X → Type 0) (b c : Blocked
   looked_as h =
       subst (λ (z : Blocked T). IfErr o (λ left. WalkedTo did (first (at_once z)) s (not_yet z) t)) (sym is)
       (subst (λ (z : Result (Given T) (Blocked T)). IfErr z (λ left. WalkedTo did (first (at_once c)) s (not_yet c) t)) (sym same) h)
+
+-- ---- a look before a call that blocks
+module _ {T W X : Type 0} (did : Deed T W → X → X → Type 0) (b : Blocked T) (s x : X) (look : let a : ChannelAsk T W = at_once b in WalkedTo did (first a) s (not_yet b) x) where
+  looks_on : (n : ℕ) (t : X) → Looks did n b x t → Looks did (suc n) b s t
+  looks_on zero t e = (s, refl, subst (λ (z : X). let a : ChannelAsk T W = at_once b in WalkedTo did (first a) s (not_yet b) z) (sym e) look)
+  looks_on (suc n) t (y, path, last) = (y, looks_on n y path, last)
+
+  pub blocks_on : (asked : Option W → X → X → Type 0) (slept : X → X → Type 0) (r : Reply T) (kept : Kept T) (t : X) → Blocks did asked slept b x r kept t → Blocks did asked slept b s r kept t
+  blocks_on asked slept r kept t (n, y, path, on) = (suc n, y, looks_on n y path, on)
 
 -- ---- a first poll
 module _ {T W X : Type 0} (did : Deed T W → X → X → Type 0) (b : Blocked T) where

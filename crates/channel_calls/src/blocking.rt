@@ -75,8 +75,42 @@ fn received_by<T: Drop>(received: Result<T, TryRecvError>) -> Result<Given<T>, B
     Ok(polled(Reply::RecvPoll(Poll::Ready(answer)), None))
 }
 
-/// The try of a poll: it is over, or has to wait.
+/// The try of a poll that sends: it is over, or has to wait.
 #[inline(always)]
+fn tries_to_send<T: Drop, W: Drop, R: Wait, C: Sleeps<T, W>, S: Wakes<W>>(
+    rt: &R,
+    message: T,
+    cells: &mut C,
+    sink: &mut S,
+) -> Result<Given<T>, Blocked<T>>
+    requires form { (f : QueueForm) × C.has_form cells.old f }
+    ensures comes { (key : Option Name) (task : W) → Comes (Done C.did S.wakes) (again (waiting_of (blocking.Send message)) key task) (cells.old, sink.old) (tried_turn (line_of (waiting_of (blocking.Send message))) result key task) (cells.new, sink.new) }
+    ensures looked { IfErr result (λ left. WalkedTo (Done C.did S.wakes) (first (at_once (blocking.Send message))) (cells.old, sink.old) (not_yet (blocking.Send message)) (cells.new, sink.new)) }
+    ensures same { IfErr result (λ left. left ≡ blocking.Send message) }
+    ensures over { IfOk result (λ given. IsOver (blocking.Send message) given) }
+    ensures form { (f : QueueForm) → C.has_form cells.old f → C.has_form cells.new f }
+{
+    sent_by(try_send(rt, message, cells, sink))
+}
+
+/// The try of a poll that receives: it is over, or has to wait.
+#[inline(always)]
+fn tries_to_receive<T: Drop, W: Drop, R: Wait, C: Sleeps<T, W>, S: Wakes<W>>(
+    rt: &R,
+    cells: &mut C,
+    sink: &mut S,
+) -> Result<Given<T>, Blocked<T>>
+    requires form { (f : QueueForm) × C.has_form cells.old f }
+    ensures comes { (key : Option Name) (task : W) → Comes (Done C.did S.wakes) (again (waiting_of {T = T} blocking.Receive) key task) (cells.old, sink.old) (tried_turn (line_of (waiting_of {T = T} blocking.Receive)) result key task) (cells.new, sink.new) }
+    ensures looked { IfErr result (λ left. WalkedTo (Done C.did S.wakes) (first (at_once {T = T} blocking.Receive)) (cells.old, sink.old) (not_yet {T = T} blocking.Receive) (cells.new, sink.new)) }
+    ensures same { IfErr result (λ left. left ≡ blocking.Receive) }
+    ensures over { IfOk result (λ given. IsOver {T = T} blocking.Receive given) }
+    ensures form { (f : QueueForm) → C.has_form cells.old f → C.has_form cells.new f }
+{
+    received_by(try_recv(rt, cells, sink))
+}
+
+/// The try of a poll: it is over, or has to wait.
 fn tries<T: Drop, W: Drop, R: Wait, C: Sleeps<T, W>, S: Wakes<W>>(
     rt: &R,
     call: Blocked<T>,
@@ -91,13 +125,13 @@ fn tries<T: Drop, W: Drop, R: Wait, C: Sleeps<T, W>, S: Wakes<W>>(
     ensures form { (f : QueueForm) → C.has_form cells.old f → C.has_form cells.new f }
 {
     match call {
-        Blocked::Send(message) => sent_by(try_send(rt, message, cells, sink)),
-        Blocked::Receive => received_by(try_recv(rt, cells, sink)),
+        Blocked::Send(message) => tries_to_send(rt, message, cells, sink),
+        Blocked::Receive => tries_to_receive(rt, cells, sink),
     }
 }
 
-/// Tries some times, since what it waits for mostly comes sooner than a listener would be in: what it came to, or that it has to wait.
-#[inline(always)]
+/// Tries some times more, with a pause before each, since what it waits for mostly comes sooner than a listener would be in: what it came
+/// to, or that it has to wait.
 fn looks<T: Drop, W: Drop, R: Wait, C: Sleeps<T, W>, S: Wakes<W>>(
     rt: &R,
     call: Blocked<T>,
@@ -114,13 +148,13 @@ fn looks<T: Drop, W: Drop, R: Wait, C: Sleeps<T, W>, S: Wakes<W>>(
     let mut call = call;
     let backoff = Backoff::new();
     for _ in rt.forever() {
-        match tries(rt, call, cells, sink) {
-            Ok(given) => return Ok(given),
-            Err(left) => call = left,
-        }
         backoff.snooze();
         if backoff.is_completed() {
             return Err(call);
+        }
+        match tries(rt, call, cells, sink) {
+            Ok(given) => return Ok(given),
+            Err(left) => call = left,
         }
     }
     unreachable!()
@@ -253,8 +287,7 @@ fn sleeps<T: Drop, W: Drop, R: Wait, C: Sleeps<T, W>, S: Wakes<W>>(
     unreachable!()
 }
 
-/// Makes a call that blocks its thread up to its answer.
-#[inline(always)]
+/// Makes a call that blocks its thread up to its answer. It was tried once, apart: that goes through mostly, and needs nothing of this.
 fn blocks<T: Drop, W: Drop, R: Wait, C: Sleeps<T, W>, S: Wakes<W>>(
     rt: &R,
     call: Blocked<T>,
@@ -295,6 +328,36 @@ fn answered<T: Drop>(
     }
 }
 
+/// What a send that blocks answers, by its last poll.
+#[inline(always)]
+fn sent<T: Drop>(given: Given<T>) -> Result<(), Refused<SendError<T>, T>>
+    requires over { (v : T) × IsOver (blocking.Send v) given }
+    ensures reply { sent_reply result ≡ given.reply }
+    ensures left { sent_left result ≡ given.kept }
+    ensures back { (v : T) → IsOver (blocking.Send v) given → IfErr result (λ e. handed_back e ≡ v) }
+{
+    let Given { reply, kept } = given;
+    match reply {
+        Reply::SendPoll(Poll::Ready(answer)) => answered(answer, kept.message),
+        _ => unreachable!(),
+    }
+}
+
+/// What a receive that blocks answers, by its last poll.
+#[inline(always)]
+fn taken<T: Drop>(given: Given<T>) -> Result<T, Refused<RecvError>>
+    requires over { IsOver blocking.Receive given }
+    ensures reply { reply.RecvPoll (poll.Ready result) ≡ given.reply }
+    ensures left { given.kept ≡ nothing_kept }
+{
+    let Given { reply, kept } = given;
+    drop(kept);
+    match reply {
+        Reply::RecvPoll(Poll::Ready(answer)) => answer,
+        _ => unreachable!(),
+    }
+}
+
 /// Sends, and sleeps while there is no place.
 #[inline(always)]
 pub fn send_blocking<T: Drop, W: Drop, R: Wait, C: Sleeps<T, W>, S: Wakes<W>>(
@@ -308,10 +371,9 @@ pub fn send_blocking<T: Drop, W: Drop, R: Wait, C: Sleeps<T, W>, S: Wakes<W>>(
     ensures message { IfErr result (λ e. handed_back e ≡ message) }
     ensures form { (f : QueueForm) → C.has_form cells.old f → C.has_form cells.new f }
 {
-    let Given { reply, kept } = blocks(rt, Blocked::Send(message), cells, sink);
-    match reply {
-        Reply::SendPoll(Poll::Ready(answer)) => answered(answer, kept.message),
-        _ => unreachable!(),
+    match tries_to_send(rt, message, cells, sink) {
+        Ok(given) => sent(given),
+        Err(call) => sent(blocks(rt, call, cells, sink)),
     }
 }
 
@@ -326,10 +388,8 @@ pub fn recv_blocking<T: Drop, W: Drop, R: Wait, C: Sleeps<T, W>, S: Wakes<W>>(
     ensures deeds { Blocks (Done C.did S.wakes) (Asked C.parked) (Slept C.slept) blocking.Receive (cells.old, sink.old) (reply.RecvPoll (poll.Ready result)) nothing_kept (cells.new, sink.new) }
     ensures form { (f : QueueForm) → C.has_form cells.old f → C.has_form cells.new f }
 {
-    let Given { reply, kept } = blocks(rt, Blocked::Receive, cells, sink);
-    drop(kept);
-    match reply {
-        Reply::RecvPoll(Poll::Ready(answer)) => answer,
-        _ => unreachable!(),
+    match tries_to_receive(rt, cells, sink) {
+        Ok(given) => taken(given),
+        Err(call) => taken(blocks(rt, call, cells, sink)),
     }
 }

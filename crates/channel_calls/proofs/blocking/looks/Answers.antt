@@ -19,11 +19,8 @@ returns-in-Ok-clause-looks g c =
 
 pub returns-then-is_completed-clause-looks : goal.returns-then-is_completed-clause-looks
 returns-then-is_completed-clause-looks g c =
-    let did = Done g.C.ChannelCells.did g.S.Wakes.wakes in
     let here : g.row.C.Denot × g.row.S.Denot = (c.loop.cells, c.loop.sink) in
-    let there : g.row.C.Denot × g.row.S.Denot = (c.tries.new.cells, c.tries.new.sink) in
-    let looked = subst (λ (b : Blocked g.row.T.Denot). let a : ChannelAsk g.row.T.Denot g.row.W.Denot = at_once b in WalkedTo did (first a) here (not_yet b) there) c.loop.invariant.2 c.in-Err.ensures.looked in
-    (suc c.loop.invariant.0.0, there, (here, c.loop.invariant.0.1, looked), refl)
+    (c.loop.invariant.0.0, here, c.loop.invariant.0.1, refl)
 
 pub loop-preserved : goal.loop-preserved
 loop-preserved g c =

@@ -1,24 +1,38 @@
-use Rattle.std.proofs.Common.{◌≡◌, rules, sym, ◌∙◌, subst}
-use Rattle.futures.specs.declared.task.Poll.TheVariants.{Ready}
+use Rattle.std.proofs.Common.{inl, refl, sym, subst}
 use Rattle.channel_calls.specs.Blocks.{Asked, Slept, Blocks}
 use Rattle.channel_calls.specs.Deeds.{Done}
 use Rattle.channel_calls.specs.Tried.{sent_left}
+use Rattle.channel_calls.specs.declared.blocked.Blocked.{Blocked}
 use Rattle.channel_calls.specs.declared.blocked.Blocked.TheVariants.{Send}
 use Rattle.channel_calls.specs.declared.reply.Reply.{Reply}
-use Rattle.channel_calls.specs.declared.reply.Reply.TheVariants.{SendPoll}
 use Rattle.channel_calls.specs.declared.stage.Kept.{Kept}
-use Rattle.channel_calls.proofs.BlockedPolls.{left_of}
+use Rattle.channel_calls.proofs.BlockedPolls as polls
 use Rattle.channel_calls.proofs.blocking.send_blocking.Goals as goal
 
-pub returns-clause-deeds : goal.returns-clause-deeds
-returns-clause-deeds g c =
+pub returns-in-Ok-clause-deeds : goal.returns-in-Ok-clause-deeds
+returns-in-Ok-clause-deeds g c =
     let did = Done g.C.ChannelCells.did g.S.Wakes.wakes in
     let asked = Asked {S = g.row.S.Denot} g.C.Sleeps.parked in
     let slept = Slept {S = g.row.S.Denot} g.C.Sleeps.slept in
     let start : g.row.C.Denot × g.row.S.Denot = (c.args.cells.now, c.args.sink.now) in
-    let end : g.row.C.Denot × g.row.S.Denot = (c.blocks-reply.new.cells, c.blocks-reply.new.sink) in
-    let given = c.blocks-reply.result in
+    let end : g.row.C.Denot × g.row.S.Denot = (c.tries_to_send.new.cells, c.tries_to_send.new.sink) in
+    let given = c.in-Ok.given in
     let call = Send c.args.message in
-    let is : given.reply ≡ SendPoll (Ready c.in-SendPoll-Ready.answer) = search rules in
-    subst (λ (r : Reply g.row.T.Denot). Blocks did asked slept call start r (sent_left c.answered.result) end) (is ∙ sym c.answered.ensures.reply)
-    (subst (λ (k : Kept g.row.T.Denot). Blocks did asked slept call start given.reply k end) (left_of call given c.blocks-reply.ensures.over ∙ sym c.answered.ensures.left) c.blocks-reply.ensures.deeds)
+    subst (λ (r : Reply g.row.T.Denot). Blocks did asked slept call start r (sent_left c.sent.result) end) (sym c.sent.ensures.reply)
+    (subst (λ (k : Kept g.row.T.Denot). Blocks did asked slept call start given.reply k end) (sym c.sent.ensures.left)
+    (0, start, refl, inl (polls.begun_over did call start given end c.in-Ok.ensures.over c.in-Ok.ensures.comes)))
+
+pub returns-in-Err-clause-deeds : goal.returns-in-Err-clause-deeds
+returns-in-Err-clause-deeds g c =
+    let did = Done g.C.ChannelCells.did g.S.Wakes.wakes in
+    let asked = Asked {S = g.row.S.Denot} g.C.Sleeps.parked in
+    let slept = Slept {S = g.row.S.Denot} g.C.Sleeps.slept in
+    let start : g.row.C.Denot × g.row.S.Denot = (c.args.cells.now, c.args.sink.now) in
+    let tried : g.row.C.Denot × g.row.S.Denot = (c.tries_to_send.new.cells, c.tries_to_send.new.sink) in
+    let end : g.row.C.Denot × g.row.S.Denot = (c.blocks-in-Err.new.cells, c.blocks-in-Err.new.sink) in
+    let given = c.blocks-in-Err.result in
+    let call = Send c.args.message in
+    let on = subst (λ (b : Blocked g.row.T.Denot). Blocks did asked slept b tried given.reply given.kept end) c.in-Err.ensures.same c.blocks-in-Err.ensures.deeds in
+    subst (λ (r : Reply g.row.T.Denot). Blocks did asked slept call start r (sent_left c.sent-in-Err.result) end) (sym c.sent-in-Err.ensures.reply)
+    (subst (λ (k : Kept g.row.T.Denot). Blocks did asked slept call start given.reply k end) (sym c.sent-in-Err.ensures.left)
+    (polls.blocks_on did call start tried c.in-Err.ensures.looked asked slept given.reply given.kept end on))

@@ -1,4 +1,4 @@
-use Rattle.std.proofs.Common.{arith, ◌≡◌, ℕ, ◌-◌, ◌<◌, List, ◌++◌, Ok, Err, sym, ap, ◌∙◌, subst}
+use Rattle.std.proofs.Common.{arith, ◌≡◌, ℕ, ◌<◌, List, ◌++◌, Ok, Err, sym, ap, ◌∙◌, subst}
 use Rattle.channel_calls.specs.Asks.{first}
 use Rattle.channel_calls.specs.Deeds.{Done}
 use Rattle.channel_calls.specs.Filling.{room_in}
