@@ -7,7 +7,7 @@ use Rattle.concurrent_queue.specs.declared.queue_call.QueueCall.{QueueCall}
 use Rattle.event_listener.specs.declared.key.Key.{Key}
 use Rattle.event_listener.specs.declared.error.ListenError.{ListenError}
 use Rattle.event_listener.specs.declared.waking.Task.{Task}
-use Rattle.async_channel.specs.Handles.{form_of}
+use Rattle.async_channel.specs.Handles.{Handle, form_of}
 use Rattle.async_channel.specs.Counts.{CloneRefused, UpgradeRefused, Clones, Upgrades}
 use Rattle.async_channel.specs.Polls.{Polls, PollsSend}
 use Rattle.async_channel.specs.Saw.{Saw, SeenOn, DidBeside}
@@ -256,13 +256,13 @@ module _ {T R B L K S : Type 0} (did : cell.Deed T → S → S → Type 0) (show
           between (λ a b. WaitsForNext (Saw did shown f) parked slept ended a item b) s.0.trace t.0.trace x y from to
           (waits_seen sees (Saw did shown f) trace_of of f kept_by showed asks parked (λ o a b h. h.0.0) (λ o a b h. h.0.2) sleeps slept (λ a b h. h.0.0) (λ a b h. h.0.2) ended s item t is end waits)
 
--- what was seen on a channel of a form was seen on one of an equal form
-module _ {T W X A : Type 0} (did : cell.Deed T → X → X → Type 0) (shown : Deed T W → X → X → Type 0) (Does : (Deed T W → X → X → Type 0) → X → A → X → Type 0) where
-  pub of_form : (f g : QueueForm) (s : X) (r : A) (t : X) → f ≡ g → SeenOn did shown f Does s r t → SeenOn did shown g Does s r t
-  of_form f g s r t e seen = subst (λ (h : QueueForm). SeenOn did shown h Does s r t) e seen
+-- what was seen on a channel was seen on one that is equal
+module _ {T W X A : Type 0} (did : cell.Deed T → X → X → Type 0) (shown : Deed T W → X → X → Type 0) (entered : ℕ → X → X → Type 0) (Does : (Deed T W → X → X → Type 0) → X → A → X → Type 0) where
+  pub of_equal : (f g : Handle) (s : X) (r : A) (t : X) → f ≡ g → SeenOn did shown entered f Does s r t → SeenOn did shown entered g Does s r t
+  of_equal f g s r t e seen = subst (λ (h : Handle). SeenOn did shown entered h Does s r t) e seen
 
-  pub watched : (f g : QueueForm) (s : X) (r : A) (t : X) → f ≡ g → SeenOn did shown f Does s r t → WasSeen did shown g Does r
-  watched f g s r t e seen = (s, t, of_form f g s r t e seen)
+  pub watched : (f g : Handle) (s : X) (r : A) (t : X) → f ≡ g → SeenOn did shown entered f Does s r t → WasSeen did shown entered g Does r
+  watched f g s r t e seen = (s, t, of_equal f g s r t e seen)
 
 module _ {T W X : Type 0} where
   -- a poll that was left this listener, from one that it had
@@ -271,66 +271,66 @@ module _ {T W X : Type 0} where
   poll_kept saw asks k l task s r kept next t is left walked =
       (task, subst (λ (n : Option Key). WalkedFrom saw (first (asks l task)) s r (leaving n kept.message) t) (sym left) (subst (λ (x : Option Key). WalkedFrom saw (first (asks x task)) s r kept t) is walked))
 
-module _ {T W X : Type 0} (did : cell.Deed T → X → X → Type 0) (shown : Deed T W → X → X → Type 0) where
+module _ {T W X : Type 0} (did : cell.Deed T → X → X → Type 0) (shown : Deed T W → X → X → Type 0) (entered : ℕ → X → X → Type 0) where
   -- of a receive of several: what was taken stands behind what was there
-  pub stands_behind : (form : QueueForm) (room : ℕ) (before : List T) (s : X) (r : Result ℕ TryRecvError) (after : List T) (t : X)
-      → SeenOn did shown form (λ saw begin a end. Fills saw room before begin a after end) s r t → StandsBehind before r after
+  pub stands_behind : (channel : Handle) (room : ℕ) (before : List T) (s : X) (r : Result ℕ TryRecvError) (after : List T) (t : X)
+      → SeenOn did shown entered channel (λ saw begin a end. Fills saw room before begin a after end) s r t → StandsBehind before r after
   unfolding SeenOn
-  stands_behind form room before s (Ok n) after t (taken, stands, (count, walked)) = (taken, stands, count)
-  stands_behind form room before s (Err e) after t (taken, stands, (none, walked)) =
+  stands_behind channel room before s (Ok n) after t (here, enters, (taken, stands, (count, walked))) = (taken, stands, count)
+  stands_behind channel room before s (Err e) after t (here, enters, (taken, stands, (none, walked))) =
       stands ∙ ap (λ (l : List T). before ++ l) none ∙ append-nil before
 
   -- a clone and an upgrade, whatever is made of what was counted
-  module _ {A : Type 0} (f g : QueueForm) (side : Side) (s t : X) (is : f ≡ g) where
-    pub clone_made : {B : Type 0} (r : Result A HandleError) (a : A) (b : B) → r ≡ Ok a → SeenOn did shown f (λ saw. Clones saw side) s r t → SeenOn did shown g (λ saw. Clones saw side) s (Ok b) t
+  module _ {A : Type 0} (f g : Handle) (side : Side) (s t : X) (is : f ≡ g) where
+    pub clone_made : {B : Type 0} (r : Result A HandleError) (a : A) (b : B) → r ≡ Ok a → SeenOn did shown entered f (λ saw. Clones saw side) s r t → SeenOn did shown entered g (λ saw. Clones saw side) s (Ok b) t
     unfolding SeenOn
     clone_made r a b ok h =
-        subst (λ (x : QueueForm). WalkedTo (Saw did shown x) (first (ask.CloneHandle side)) s reply.Made t) is
-        (subst (λ (x : Result A HandleError). Clones (Saw did shown f) side s x t) ok h)
+        subst (λ (x : Handle). (here : X) × entered x.seal s here × WalkedTo (Saw did shown x.form) (first (ask.CloneHandle side)) here reply.Made t) is
+        (h.0, h.1, subst (λ (x : Result A HandleError). Clones (Saw did shown f.form) side h.0 x t) ok h.2)
 
-    pub clone_not : (B : Type 0) (r : Result A HandleError) (e : HandleError) → r ≡ Err e → SeenOn did shown f (λ saw. Clones saw side) s r t → SeenOn {A = Result B HandleError} did shown g (λ saw. Clones saw side) s (Err e) t
+    pub clone_not : (B : Type 0) (r : Result A HandleError) (e : HandleError) → r ≡ Err e → SeenOn did shown entered f (λ saw. Clones saw side) s r t → SeenOn {A = Result B HandleError} did shown entered g (λ saw. Clones saw side) s (Err e) t
     unfolding SeenOn
     clone_not B r e err h =
-        subst (λ (x : QueueForm). CloneRefused (Saw did shown x) side s e t) is
-        (subst (λ (x : Result A HandleError). Clones (Saw did shown f) side s x t) err h)
+        subst (λ (x : Handle). (here : X) × entered x.seal s here × CloneRefused (Saw did shown x.form) side here e t) is
+        (h.0, h.1, subst (λ (x : Result A HandleError). Clones (Saw did shown f.form) side h.0 x t) err h.2)
 
-    pub upgrade_made : {B : Type 0} (r : Result (Option A) HandleError) (a : A) (b : B) → r ≡ Ok (Some a) → SeenOn did shown f (λ saw. Upgrades saw side) s r t → SeenOn did shown g (λ saw. Upgrades saw side) s (Ok (Some b)) t
+    pub upgrade_made : {B : Type 0} (r : Result (Option A) HandleError) (a : A) (b : B) → r ≡ Ok (Some a) → SeenOn did shown entered f (λ saw. Upgrades saw side) s r t → SeenOn did shown entered g (λ saw. Upgrades saw side) s (Ok (Some b)) t
     unfolding SeenOn
     upgrade_made r a b ok h =
-        subst (λ (x : QueueForm). WalkedTo (Saw did shown x) (first (ask.Upgrade side)) s reply.Made t) is
-        (subst (λ (x : Result (Option A) HandleError). Upgrades (Saw did shown f) side s x t) ok h)
+        subst (λ (x : Handle). (here : X) × entered x.seal s here × WalkedTo (Saw did shown x.form) (first (ask.Upgrade side)) here reply.Made t) is
+        (h.0, h.1, subst (λ (x : Result (Option A) HandleError). Upgrades (Saw did shown f.form) side h.0 x t) ok h.2)
 
-    pub upgrade_none : (B : Type 0) (r : Result (Option A) HandleError) → r ≡ Ok None → SeenOn did shown f (λ saw. Upgrades saw side) s r t → SeenOn {A = Result (Option B) HandleError} did shown g (λ saw. Upgrades saw side) s (Ok None) t
+    pub upgrade_none : (B : Type 0) (r : Result (Option A) HandleError) → r ≡ Ok None → SeenOn did shown entered f (λ saw. Upgrades saw side) s r t → SeenOn {A = Result (Option B) HandleError} did shown entered g (λ saw. Upgrades saw side) s (Ok None) t
     unfolding SeenOn
     upgrade_none B r ok h =
-        subst (λ (x : QueueForm). WalkedTo (Saw did shown x) (first (ask.Upgrade side)) s reply.NotMade t) is
-        (subst (λ (x : Result (Option A) HandleError). Upgrades (Saw did shown f) side s x t) ok h)
+        subst (λ (x : Handle). (here : X) × entered x.seal s here × WalkedTo (Saw did shown x.form) (first (ask.Upgrade side)) here reply.NotMade t) is
+        (h.0, h.1, subst (λ (x : Result (Option A) HandleError). Upgrades (Saw did shown f.form) side h.0 x t) ok h.2)
 
-    pub upgrade_not : (B : Type 0) (r : Result (Option A) HandleError) (e : HandleError) → r ≡ Err e → SeenOn did shown f (λ saw. Upgrades saw side) s r t → SeenOn {A = Result (Option B) HandleError} did shown g (λ saw. Upgrades saw side) s (Err e) t
+    pub upgrade_not : (B : Type 0) (r : Result (Option A) HandleError) (e : HandleError) → r ≡ Err e → SeenOn did shown entered f (λ saw. Upgrades saw side) s r t → SeenOn {A = Result (Option B) HandleError} did shown entered g (λ saw. Upgrades saw side) s (Err e) t
     unfolding SeenOn
     upgrade_not B r e err h =
-        subst (λ (x : QueueForm). UpgradeRefused (Saw did shown x) side s e t) is
-        (subst (λ (x : Result (Option A) HandleError). Upgrades (Saw did shown f) side s x t) err h)
+        subst (λ (x : Handle). (here : X) × entered x.seal s here × UpgradeRefused (Saw did shown x.form) side here e t) is
+        (h.0, h.1, subst (λ (x : Result (Option A) HandleError). Upgrades (Saw did shown f.form) side h.0 x t) err h.2)
 
   -- a poll and a giving up, by the listener and the message that the operation has
-  module _ (f g : QueueForm) (s : X) (r : Reply T) (t : X) (is : f ≡ g) where
+  module _ (f g : Handle) (s : X) (r : Reply T) (t : X) (is : f ≡ g) where
     pub polls_of : (asks : Option Key → Option W → ChannelAsk T W) (k l next : Option Key) → k ≡ l
-        → SeenOn did shown f (λ saw begin a end. Polls saw (asks k) begin a next end) s r t → SeenOn did shown g (λ saw begin a end. Polls saw (asks l) begin a next end) s r t
+        → SeenOn did shown entered f (λ saw begin a end. Polls saw (asks k) begin a next end) s r t → SeenOn did shown entered g (λ saw begin a end. Polls saw (asks l) begin a next end) s r t
     polls_of asks k l next e h =
-        subst (λ (x : QueueForm). SeenOn did shown x (λ saw begin a end. Polls saw (asks l) begin a next end) s r t) is
-        (subst (λ (x : Option Key). SeenOn did shown f (λ saw begin a end. Polls saw (asks x) begin a next end) s r t) e h)
+        subst (λ (x : Handle). SeenOn did shown entered x (λ saw begin a end. Polls saw (asks l) begin a next end) s r t) is
+        (subst (λ (x : Option Key). SeenOn did shown entered f (λ saw begin a end. Polls saw (asks x) begin a next end) s r t) e h)
 
     pub sends_of : (m n : Option T) (k l next : Option Key) (left kept : Option T) → m ≡ n → k ≡ l → left ≡ kept
-        → SeenOn did shown f (λ saw begin a end. PollsSend saw (send_ask m k) begin a next left end) s r t → SeenOn did shown g (λ saw begin a end. PollsSend saw (send_ask n l) begin a next kept end) s r t
+        → SeenOn did shown entered f (λ saw begin a end. PollsSend saw (send_ask m k) begin a next left end) s r t → SeenOn did shown entered g (λ saw begin a end. PollsSend saw (send_ask n l) begin a next kept end) s r t
     sends_of m n k l next left kept same e stays h =
-        subst (λ (x : QueueForm). SeenOn did shown x (λ saw begin a end. PollsSend saw (send_ask n l) begin a next kept end) s r t) is
-        (subst (λ (x : Option T). SeenOn did shown f (λ saw begin a end. PollsSend saw (send_ask n l) begin a next x end) s r t) stays
-        (subst (λ (x : Option Key). SeenOn did shown f (λ saw begin a end. PollsSend saw (send_ask n x) begin a next left end) s r t) e
-        (subst (λ (x : Option T). SeenOn did shown f (λ saw begin a end. PollsSend saw (send_ask x k) begin a next left end) s r t) same h)))
+        subst (λ (x : Handle). SeenOn did shown entered x (λ saw begin a end. PollsSend saw (send_ask n l) begin a next kept end) s r t) is
+        (subst (λ (x : Option T). SeenOn did shown entered f (λ saw begin a end. PollsSend saw (send_ask n l) begin a next x end) s r t) stays
+        (subst (λ (x : Option Key). SeenOn did shown entered f (λ saw begin a end. PollsSend saw (send_ask n x) begin a next left end) s r t) e
+        (subst (λ (x : Option T). SeenOn did shown entered f (λ saw begin a end. PollsSend saw (send_ask x k) begin a next left end) s r t) same h)))
 
     pub left_of : (line : Line) (m n : Option T) (k l : Option Key) → m ≡ n → k ≡ l
-        → SeenOn did shown f (λ saw. WalkedTo saw (first (ask.GiveUp line m k))) s r t → SeenOn did shown g (λ saw. WalkedTo saw (first (ask.GiveUp line n l))) s r t
+        → SeenOn did shown entered f (λ saw. WalkedTo saw (first (ask.GiveUp line m k))) s r t → SeenOn did shown entered g (λ saw. WalkedTo saw (first (ask.GiveUp line n l))) s r t
     left_of line m n k l same e h =
-        subst (λ (x : QueueForm). SeenOn did shown x (λ saw. WalkedTo saw (first (ask.GiveUp line n l))) s r t) is
-        (subst (λ (x : Option Key). SeenOn did shown f (λ saw. WalkedTo saw (first (ask.GiveUp line n x))) s r t) e
-        (subst (λ (x : Option T). SeenOn did shown f (λ saw. WalkedTo saw (first (ask.GiveUp line x k))) s r t) same h))
+        subst (λ (x : Handle). SeenOn did shown entered x (λ saw. WalkedTo saw (first (ask.GiveUp line n l))) s r t) is
+        (subst (λ (x : Option Key). SeenOn did shown entered f (λ saw. WalkedTo saw (first (ask.GiveUp line n x))) s r t) e
+        (subst (λ (x : Option T). SeenOn did shown entered f (λ saw. WalkedTo saw (first (ask.GiveUp line x k))) s r t) same h))

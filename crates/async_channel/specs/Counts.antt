@@ -33,5 +33,5 @@ module _ {T W X : Type 0} (did : Deed T W → X → X → Type 0) where
   Upgrades side s (Err e) t = UpgradeRefused side s e t
 
   -- whatever a drop answers, which nobody hears
-  abbrev pub Drops : ChannelAsk T W → X → X → Type 0
-  Drops ask s t = (r : Reply T) × WalkedTo did (first ask) s r t
+  abbrev pub Drops : ChannelAsk T W → X → Unit {0} → X → Type 0
+  Drops ask s u t = (r : Reply T) × WalkedTo did (first ask) s r t

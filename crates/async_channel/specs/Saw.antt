@@ -8,6 +8,7 @@ use Rattle.concurrent_queue.specs.declared.call.QueueReply.{QueueReply}
 use Rattle.concurrent_queue.specs.declared.cells.QueueForm.{QueueForm}
 use Rattle.concurrent_queue.specs.declared.queue_call.CallState.{CallState}
 use Rattle.concurrent_queue.specs.declared.queue_call.QueueCall.{QueueCall}
+use Rattle.async_channel.specs.Handles.{Handle}
 use Rattle.channel_calls.specs.Deeds.{Deed, stepped}
 
 module _ {T X : Type 0} (did : cell.Deed T → X → X → Type 0) where
@@ -24,11 +25,11 @@ module _ {T W X : Type 0} (did : cell.Deed T → X → X → Type 0) where
   Saw shown form (stepped call next answer) s t = SawSteps did form call s next answer t
   Saw shown form d s t = shown d s t
 
-module _ {T W X A : Type 0} (did : cell.Deed T → X → X → Type 0) (shown : Deed T W → X → X → Type 0) where
-  -- what a call did, said of whatever relation of deeds, and here of what its trace saw on a channel of this form. It has a name of its
-  -- own, so that a form is put for an equal one
-  unfoldable pub SeenOn : QueueForm → ((Deed T W → X → X → Type 0) → X → A → X → Type 0) → X → A → X → Type 0
-  SeenOn form Does before answer after = Does (Saw did shown form) before answer after
+module _ {T W X A : Type 0} (did : cell.Deed T → X → X → Type 0) (shown : Deed T W → X → X → Type 0) (entered : ℕ → X → X → Type 0) where
+  -- the trace saw a call begin on this channel, by its seal; and then what the call did, said of whatever relation of deeds, and here of
+  -- what was seen. A call on another channel shows that one's seal. It has a name of its own, so that a channel is put for an equal one
+  unfoldable pub SeenOn : Handle → ((Deed T W → X → X → Type 0) → X → A → X → Type 0) → X → A → X → Type 0
+  SeenOn channel Does before answer after = (here : X) × entered channel.seal before here × Does (Saw did shown channel.form) here answer after
 
 -- of any deed but steps of the queue's call, of which the trace tells
 abbrev pub DidBeside : {T W C : Type 0} → (Deed T W → C → C → Type 0) → Deed T W → C → C → Type 0

@@ -200,14 +200,17 @@ impl<'a, T: Drop, R: Wait, B: Drop, L: Listeners> Places<T> for SharedCells<'a, 
         self.shared.waiters(line).remove(self.rt, key, sink);
     }
 
+    #[inline(always)]
     fn tell_one<S: Wakes<Task>>(&mut self, line: Line, sink: &mut S) {
         self.shared.waiters(line).tell_one(self.rt, sink);
     }
 
+    #[inline(always)]
     fn tell_more<S: Wakes<Task>>(&mut self, line: Line, count: usize, sink: &mut S) {
         self.shared.waiters(line).tell_more(self.rt, count, sink);
     }
 
+    #[inline(always)]
     fn tell_all<S: Wakes<Task>>(&mut self, line: Line, sink: &mut S) {
         self.shared.waiters(line).tell_all(self.rt, sink);
     }

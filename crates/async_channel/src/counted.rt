@@ -4,7 +4,7 @@ ghost use Rattle.std.specs.Prelude.{◌≡◌, IfOk, IfErr, IfSome};
 ghost use Rattle.channel_calls.specs.declared.ask.ChannelAsk.TheVariants as ask;
 ghost use Rattle.async_channel.specs.Counts.{Clones, Upgrades, Drops};
 ghost use Rattle.async_channel.specs.Handles.{handle_of};
-ghost use Rattle.async_channel.specs.Saw.{Saw, SeenOn};
+ghost use Rattle.async_channel.specs.Saw.{SeenOn};
 
 use crate::link::Link;
 use crate::polls::waits::Waits;
@@ -38,7 +38,7 @@ impl<T: Drop, K: Kind> Counted<T, K> {
         rt: &R,
         trace: S,
     ) -> (Result<Counted<T, K>, HandleError>, S)
-        ensures walked { SeenOn S.did S.shown (handle_of link).form (λ saw. Clones saw K.side) trace (result.0) (result.1) }
+        ensures walked { SeenOn S.did S.shown S.entered (handle_of link) (λ saw. Clones saw K.side) trace (result.0) (result.1) }
         ensures made { IfOk (result.0) (λ more. handle_of more.link ≡ handle_of link) }
         ensures reason { IfErr (result.0) (λ e. e ≡ HandleError.TooMany) }
     {
@@ -57,7 +57,7 @@ impl<T: Drop, K: Kind> Counted<T, K> {
         rt: &R,
         trace: S,
     ) -> (Result<Option<Counted<T, K>>, HandleError>, S)
-        ensures walked { SeenOn S.did S.shown (handle_of link).form (λ saw. Upgrades saw K.side) trace (result.0) (result.1) }
+        ensures walked { SeenOn S.did S.shown S.entered (handle_of link) (λ saw. Upgrades saw K.side) trace (result.0) (result.1) }
         ensures made { IfOk (result.0) (λ made. IfSome made (λ more. handle_of more.link ≡ handle_of link)) }
         ensures reason { IfErr (result.0) (λ e. e ≡ HandleError.TooMany) }
     {
@@ -75,7 +75,7 @@ impl<T: Drop, K: Kind> Counted<T, K> {
 impl<T: Drop> Counted<T, OfSenders> {
     /// Drops the sender that is counted, which lowers the count; the last one closes.
     pub(crate) fn lower<R: Wait, S: Trace<T>>(self, rt: &R, trace: S) -> S
-        ensures walked { Drops (Saw S.did S.shown (handle_of self.link).form) ask.DropSender trace result }
+        ensures walked { SeenOn S.did S.shown S.entered (handle_of self.link) (λ saw. Drops saw ask.DropSender) trace tt result }
     {
         let Counted { link, raised } = self;
         let mut seen = link.shared.cells(rt, trace);
@@ -88,7 +88,7 @@ impl<T: Drop> Counted<T, OfReceivers> {
     /// Drops the receiver that is counted, which lowers the count, and then the listener that it may have as a stream; the last one
     /// closes.
     pub(crate) fn lower<R: Wait, S: Trace<T>>(self, rt: &R, stream: Waits, trace: S) -> S
-        ensures walked { Drops (Saw S.did S.shown (handle_of self.link).form) (ask.DropReceiver stream.key) trace result }
+        ensures walked { SeenOn S.did S.shown S.entered (handle_of self.link) (λ saw. Drops saw (ask.DropReceiver stream.key)) trace tt result }
     {
         let Counted { link, raised } = self;
         link.shared.drop_receiver(rt, raised, stream, trace)

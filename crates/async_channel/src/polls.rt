@@ -13,9 +13,9 @@ ghost use Rattle.channel_calls.specs.Walks.{WalkedTo};
 ghost use Rattle.channel_calls.specs.declared.ask.ChannelAsk.TheVariants as ask;
 ghost use Rattle.channel_calls.specs.declared.reply.Reply.TheVariants as reply;
 ghost use Rattle.async_channel.specs.Counts.{Drops};
-ghost use Rattle.async_channel.specs.Handles.{form_of};
+ghost use Rattle.async_channel.specs.Handles.{channel_of};
 ghost use Rattle.async_channel.specs.Polls.{Polls, PollsSend};
-ghost use Rattle.async_channel.specs.Saw.{Saw, SeenOn};
+ghost use Rattle.async_channel.specs.Saw.{SeenOn};
 
 use crate::polls::waits::Waits;
 use crate::seen::Trace;
@@ -40,7 +40,7 @@ impl<T: Drop> Shared<T> {
         cx: &mut Context<'_>,
         trace: S,
     ) -> (Poll<Result<(), Refused<SendError<T>>>>, Option<T>, S)
-        ensures walked { SeenOn S.did S.shown (form_of self.now) (λ saw begin r end. PollsSend saw (send_ask message waits.old.key) begin r waits.new.key (result.1) end) trace (reply.SendPoll (result.0)) (result.2) }
+        ensures walked { SeenOn S.did S.shown S.entered (channel_of self.now) (λ saw begin r end. PollsSend saw (send_ask message waits.old.key) begin r waits.new.key (result.1) end) trace (reply.SendPoll (result.0)) (result.2) }
         ensures message { SendsOn message (result.0) (result.1) }
         ensures listed { SendLists message (result.0) waits.new.key }
         ensures armed { OnPending (result.0) (IsArmed cx.new) }
@@ -63,7 +63,7 @@ impl<T: Drop> Shared<T> {
         cx: &mut Context<'_>,
         trace: S,
     ) -> (Poll<Result<T, Refused<RecvError>>>, S)
-        ensures walked { SeenOn S.did S.shown (form_of self.now) (λ saw begin r end. Polls saw (recv_ask waits.old.key) begin r waits.new.key end) trace (reply.RecvPoll (result.0)) (result.1) }
+        ensures walked { SeenOn S.did S.shown S.entered (channel_of self.now) (λ saw begin r end. Polls saw (recv_ask waits.old.key) begin r waits.new.key end) trace (reply.RecvPoll (result.0)) (result.1) }
         ensures listed { is_some waits.new.key ≡ is_pending (result.0) }
         ensures armed { OnPending (result.0) (IsArmed cx.new) }
         ensures kept { Keeps cx.old cx.new }
@@ -84,7 +84,7 @@ impl<T: Drop> Shared<T> {
         cx: &mut Context<'_>,
         trace: S,
     ) -> (Poll<Result<(), ListenError>>, S)
-        ensures walked { SeenOn S.did S.shown (form_of self.now) (λ saw begin r end. Polls saw (closed_ask waits.old.key) begin r waits.new.key end) trace (reply.ClosedPoll (result.0)) (result.1) }
+        ensures walked { SeenOn S.did S.shown S.entered (channel_of self.now) (λ saw begin r end. Polls saw (closed_ask waits.old.key) begin r waits.new.key end) trace (reply.ClosedPoll (result.0)) (result.1) }
         ensures listed { is_some waits.new.key ≡ is_pending (result.0) }
         ensures armed { OnPending (result.0) (IsArmed cx.new) }
         ensures kept { Keeps cx.old cx.new }
@@ -105,7 +105,7 @@ impl<T: Drop> Shared<T> {
         cx: &mut Context<'_>,
         trace: S,
     ) -> (Poll<Option<Result<T, ListenError>>>, S)
-        ensures walked { SeenOn S.did S.shown (form_of self.now) (λ saw begin r end. Polls saw (next_ask waits.old.key) begin r waits.new.key end) trace (reply.Next (result.0)) (result.1) }
+        ensures walked { SeenOn S.did S.shown S.entered (channel_of self.now) (λ saw begin r end. Polls saw (next_ask waits.old.key) begin r waits.new.key end) trace (reply.Next (result.0)) (result.1) }
         ensures listed { is_some waits.new.key ≡ is_pending (result.0) }
         ensures armed { OnPending (result.0) (IsArmed cx.new) }
         ensures kept { Keeps cx.old cx.new }
@@ -127,7 +127,7 @@ impl<T: Drop> Shared<T> {
         waits: Waits,
         trace: S,
     ) -> (Option<T>, S)
-        ensures walked { SeenOn S.did S.shown (form_of self.now) (λ saw. WalkedTo saw (first (ask.GiveUp line message waits.key))) trace (reply.GivenUp (result.0)) (result.1) }
+        ensures walked { SeenOn S.did S.shown S.entered (channel_of self.now) (λ saw. WalkedTo saw (first (ask.GiveUp line message waits.key))) trace (reply.GivenUp (result.0)) (result.1) }
         ensures message { result.0 ≡ message }
     {
         let key = waits.end();
@@ -144,7 +144,7 @@ impl<T: Drop> Shared<T> {
         waits: Waits,
         trace: S,
     ) -> S
-        ensures walked { SeenOn S.did S.shown (form_of self.now) (λ saw. WalkedTo saw (first (ask.GiveUp line None waits.key))) trace (reply.GivenUp None) result }
+        ensures walked { SeenOn S.did S.shown S.entered (channel_of self.now) (λ saw. WalkedTo saw (first (ask.GiveUp line None waits.key))) trace (reply.GivenUp None) result }
     {
         let (none, trace) = self.give_up(rt, line, None, waits, trace);
         drop(none);
@@ -160,7 +160,7 @@ impl<T: Drop> Shared<T> {
         waits: Waits,
         trace: S,
     ) -> S
-        ensures walked { Drops (Saw S.did S.shown (form_of self.now)) (ask.DropReceiver waits.key) trace result }
+        ensures walked { SeenOn S.did S.shown S.entered (channel_of self.now) (λ saw. Drops saw (ask.DropReceiver waits.key)) trace tt result }
     {
         let key = waits.end();
         let mut seen = self.cells(rt, trace);

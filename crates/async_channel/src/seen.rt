@@ -3,7 +3,7 @@
 ghost use Rattle.std.specs.Prelude.{◌≡◌, List, Option};
 ghost use Rattle.event_listener.specs.declared.key.Key.{Key as Name};
 ghost use Rattle.event_listener.specs.declared.waking.Task.{Task as Waiter};
-ghost use Rattle.async_channel.specs.Handles.{form_of, no_parts};
+ghost use Rattle.async_channel.specs.Handles.{channel_of, form_of, no_parts};
 ghost use Rattle.async_channel.specs.Saw.{Saw, DidBeside};
 ghost use Rattle.channel_calls.specs.Deeds.{Deed, inserted, registered, taken_off, one_told, more_told, all_told, counted, lowered, raised};
 
@@ -20,6 +20,7 @@ use event_listener::error::ListenError;
 use event_listener::key::Key;
 use event_listener::wakes::Wakes;
 use event_listener::waking::Task;
+use futures::task::Source;
 use std::marker::PhantomData;
 use std::sync::Wait;
 
@@ -38,7 +39,11 @@ pub struct Sight<S> {
 /// Each method is lent a [`Sight`] of this very trace, which only the cells that do these deeds have. A telling and a removal are seen
 /// without whom they woke: those stay with the sink. Own to this project.
 pub trait Trace<T>: queue::Trace<T> {
+    ghost use Rattle.std.specs.Prelude.{ℕ};
     ghost use Rattle.channel_calls.specs.declared.stage.Line.{Line as Waits};
+
+    /// Whether a call was seen to begin, between the two, on the channel with this seal.
+    ghost entered: { ℕ → Self → Self → Type 0 };
 
     /// Whether this deed, with this answer, was seen between the two; no deed that is a step of a queue's call is.
     ghost shown: { Deed T Waiter → Self → Self → Type 0 };
@@ -51,6 +56,10 @@ pub trait Trace<T>: queue::Trace<T> {
 
     /// Whether the thread was seen to sleep between the two.
     ghost slept: { Self → Self → Type 0 };
+
+    /// A call begins on the channel with this seal: all that is seen up to the next beginning is done to that channel.
+    fn enters(&mut self, sight: &Sight<Self>, seal: &Source)
+        ensures { entered seal.now.id self.old self.new };
 
     /// A listener was added, or refused.
     fn inserted(&mut self, sight: &Sight<Self>, line: Line, answer: Result<Key, ListenError>)
@@ -107,8 +116,8 @@ pub(crate) struct Seen<C, S> {
     trace: S,
 }
 
-impl<'a, T: Drop, R: Wait, B: Drop, S> Seen<SharedCells<'a, T, R, B>, S> {
-    /// The cells of this channel, for a thread that may wait, with this bed or none, seen by this trace.
+impl<'a, T: Drop, R: Wait, B: Drop, S: Trace<T>> Seen<SharedCells<'a, T, R, B>, S> {
+    /// The cells of this channel, for a thread that may wait, with this bed or none, seen by this trace, which sees whose they are.
     #[inline(always)]
     pub(crate) fn cells(
         shared: &'a Shared<T>,
@@ -117,20 +126,24 @@ impl<'a, T: Drop, R: Wait, B: Drop, S> Seen<SharedCells<'a, T, R, B>, S> {
         trace: S,
     ) -> Seen<SharedCells<'a, T, R, B>, S>
         ensures form { form_of result.cells.shared.now ≡ form_of shared.now }
-        ensures trace { result.trace ≡ trace }
+        ensures trace { S.entered (channel_of shared.now).seal trace result.trace }
     {
+        let mut trace = trace;
+        trace.enters(&Sight { of: PhantomData }, &shared.seal);
         let cells = SharedCells { shared, rt, bed };
         Seen { cells, trace }
     }
 }
 
-impl<'a, T: Drop, S> Seen<SharedWords<'a, T>, S> {
-    /// The words of this channel, seen by this trace.
+impl<'a, T: Drop, S: Trace<T>> Seen<SharedWords<'a, T>, S> {
+    /// The words of this channel, seen by this trace, which sees whose they are.
     #[inline(always)]
     pub(crate) fn words(shared: &'a Shared<T>, trace: S) -> Seen<SharedWords<'a, T>, S>
         ensures form { form_of result.cells.shared.now ≡ form_of shared.now }
-        ensures trace { result.trace ≡ trace }
+        ensures trace { S.entered (channel_of shared.now).seal trace result.trace }
     {
+        let mut trace = trace;
+        trace.enters(&Sight { of: PhantomData }, &shared.seal);
         let cells = SharedWords { shared };
         Seen { cells, trace }
     }

@@ -6,7 +6,7 @@ ghost use Rattle.channel_calls.specs.Asks.{first};
 ghost use Rattle.channel_calls.specs.Walks.{WalkedTo};
 ghost use Rattle.channel_calls.specs.declared.ask.ChannelAsk.TheVariants as ask;
 ghost use Rattle.channel_calls.specs.declared.reply.Reply.TheVariants as reply;
-ghost use Rattle.async_channel.specs.Handles.{form_of};
+ghost use Rattle.async_channel.specs.Handles.{channel_of, form_of};
 ghost use Rattle.async_channel.specs.Saw.{SeenOn};
 
 use crate::bed::Bed;
@@ -32,7 +32,7 @@ use std::sync::Wait;
 /// The lists are a parameter, though there is one kind: so the cells over them show each section by the very call that makes it.
 #[derive(Drop)]
 pub(crate) struct Shared<T: Drop, L: Drop = List<(), Task>> {
-    seal: Source,
+    pub(crate) seal: Source,
     pub(crate) id: u64,
     pub(crate) alloc: Global,
     pub(crate) queue: ConcurrentQueue<T>,
@@ -69,26 +69,26 @@ impl<T: Drop> Shared<T> {
 
     /// The cells of the channel, for a thread that may wait, seen by this trace.
     #[inline(always)]
-    pub(crate) fn cells<'a, R: Wait, S>(
+    pub(crate) fn cells<'a, R: Wait, S: Trace<T>>(
         &'a self,
         rt: &'a R,
         trace: S,
     ) -> Seen<SharedCells<'a, T, R, ()>, S>
         ensures form { form_of result.cells.shared.now ≡ form_of self.now }
-        ensures trace { result.trace ≡ trace }
+        ensures trace { S.entered (channel_of self.now).seal trace result.trace }
     {
         Seen::cells(self, rt, (), trace)
     }
 
     /// The same for a call that blocks its thread.
     #[inline(always)]
-    pub(crate) fn cells_and_bed<'a, R: Wait, S>(
+    pub(crate) fn cells_and_bed<'a, R: Wait, S: Trace<T>>(
         &'a self,
         rt: &'a R,
         trace: S,
     ) -> Seen<SharedCells<'a, T, R, Bed>, S>
         ensures form { form_of result.cells.shared.now ≡ form_of self.now }
-        ensures trace { result.trace ≡ trace }
+        ensures trace { S.entered (channel_of self.now).seal trace result.trace }
     {
         Seen::cells(self, rt, Bed::new(), trace)
     }
@@ -112,16 +112,16 @@ impl<T: Drop, L: Listeners> Shared<T, L> {
 impl<T: Drop> Shared<T> {
     /// The words of the channel, seen by this trace.
     #[inline(always)]
-    fn words<S>(&self, trace: S) -> Seen<SharedWords<'_, T>, S>
+    fn words<S: Trace<T>>(&self, trace: S) -> Seen<SharedWords<'_, T>, S>
         ensures form { form_of result.cells.shared.now ≡ form_of self.now }
-        ensures trace { result.trace ≡ trace }
+        ensures trace { S.entered (channel_of self.now).seal trace result.trace }
     {
         Seen::words(self, trace)
     }
 
     #[inline(always)]
     pub(crate) fn handle_count<S: Trace<T>>(&self, side: Side, trace: S) -> (usize, S)
-        ensures walked { SeenOn S.did S.shown (form_of self.now) (λ saw. WalkedTo saw (first (ask.HandleCount side))) trace (reply.Count (result.0)) (result.1) }
+        ensures walked { SeenOn S.did S.shown S.entered (channel_of self.now) (λ saw. WalkedTo saw (first (ask.HandleCount side))) trace (reply.Count (result.0)) (result.1) }
     {
         let mut seen = self.words(trace);
         let count = questions::handle_count(side, &mut seen);
@@ -130,7 +130,7 @@ impl<T: Drop> Shared<T> {
 
     #[inline(always)]
     pub(crate) fn is_closed<S: Trace<T>>(&self, trace: S) -> (bool, S)
-        ensures walked { SeenOn S.did S.shown (form_of self.now) (λ saw. WalkedTo saw (first ask.IsClosed)) trace (reply.Flag (result.0)) (result.1) }
+        ensures walked { SeenOn S.did S.shown S.entered (channel_of self.now) (λ saw. WalkedTo saw (first ask.IsClosed)) trace (reply.Flag (result.0)) (result.1) }
     {
         let mut seen = self.words(trace);
         let closed = questions::is_closed(&mut seen);
@@ -139,7 +139,7 @@ impl<T: Drop> Shared<T> {
 
     #[inline(always)]
     pub(crate) fn is_empty<S: Trace<T>>(&self, trace: S) -> (bool, S)
-        ensures walked { SeenOn S.did S.shown (form_of self.now) (λ saw. WalkedTo saw (first ask.IsEmpty)) trace (reply.Flag (result.0)) (result.1) }
+        ensures walked { SeenOn S.did S.shown S.entered (channel_of self.now) (λ saw. WalkedTo saw (first ask.IsEmpty)) trace (reply.Flag (result.0)) (result.1) }
     {
         let mut seen = self.words(trace);
         let empty = questions::is_empty(&mut seen);
@@ -148,7 +148,7 @@ impl<T: Drop> Shared<T> {
 
     #[inline(always)]
     pub(crate) fn is_full<S: Trace<T>>(&self, trace: S) -> (bool, S)
-        ensures walked { SeenOn S.did S.shown (form_of self.now) (λ saw. WalkedTo saw (first ask.IsFull)) trace (reply.Flag (result.0)) (result.1) }
+        ensures walked { SeenOn S.did S.shown S.entered (channel_of self.now) (λ saw. WalkedTo saw (first ask.IsFull)) trace (reply.Flag (result.0)) (result.1) }
         ensures bound { room_of (form_of self.now) ≡ None → result.0 ≡ false }
     {
         let mut seen = self.words(trace);
@@ -158,7 +158,7 @@ impl<T: Drop> Shared<T> {
 
     #[inline(always)]
     pub(crate) fn capacity<S: Trace<T>>(&self, trace: S) -> (Option<usize>, S)
-        ensures walked { SeenOn S.did S.shown (form_of self.now) (λ saw. WalkedTo saw (first ask.Capacity)) trace (reply.Cap (result.0)) (result.1) }
+        ensures walked { SeenOn S.did S.shown S.entered (channel_of self.now) (λ saw. WalkedTo saw (first ask.Capacity)) trace (reply.Cap (result.0)) (result.1) }
         ensures room { result.0 ≡ room_of (form_of self.now) }
     {
         let mut seen = self.words(trace);
@@ -168,7 +168,7 @@ impl<T: Drop> Shared<T> {
 
     #[inline(always)]
     pub(crate) fn is_terminated<S: Trace<T>>(&self, trace: S) -> (bool, S)
-        ensures walked { SeenOn S.did S.shown (form_of self.now) (λ saw. WalkedTo saw (first ask.IsTerminated)) trace (reply.Flag (result.0)) (result.1) }
+        ensures walked { SeenOn S.did S.shown S.entered (channel_of self.now) (λ saw. WalkedTo saw (first ask.IsTerminated)) trace (reply.Flag (result.0)) (result.1) }
     {
         let mut seen = self.words(trace);
         let ended = questions::is_terminated(&mut seen);

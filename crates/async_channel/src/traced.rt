@@ -62,9 +62,9 @@ impl<'a, T: Drop, R: Wait + Copy, K: Kind> Traced<'a, T, R, K> {
 
     /// The cells of the channel, seen by this trace.
     #[inline(always)]
-    fn cells<S>(&self, trace: S) -> Seen<SharedCells<'a, T, R, ()>, S>
+    fn cells<S: Trace<T>>(&self, trace: S) -> Seen<SharedCells<'a, T, R, ()>, S>
         ensures form { form_of result.cells.shared.now ≡ self.now.form }
-        ensures trace { result.trace ≡ trace }
+        ensures trace { S.entered self.now.seal trace result.trace }
     {
         self.counted.link.shared.cells(self.rt, trace)
     }
@@ -72,7 +72,7 @@ impl<'a, T: Drop, R: Wait + Copy, K: Kind> Traced<'a, T, R, K> {
     /// Closes the channel.
     #[inline(always)]
     pub fn close<S: Trace<T>>(&self, trace: S) -> (bool, S)
-        ensures walked { SeenOn S.did S.shown self.now.form (λ saw. WalkedTo saw (first ask.Close)) trace (reply.Closed (result.0)) (result.1) }
+        ensures walked { SeenOn S.did S.shown S.entered self.now (λ saw. WalkedTo saw (first ask.Close)) trace (reply.Closed (result.0)) (result.1) }
     {
         let mut seen = self.cells(trace);
         let closed = calls::close(self.rt, &mut seen, &mut WakeNow { rt: self.rt });
@@ -82,7 +82,7 @@ impl<'a, T: Drop, R: Wait + Copy, K: Kind> Traced<'a, T, R, K> {
     /// How many messages the channel held at a moment of the call.
     #[inline(always)]
     pub fn len<S: Trace<T>>(&self, trace: S) -> (usize, S)
-        ensures walked { SeenOn S.did S.shown self.now.form (λ saw. WalkedTo saw (first ask.Len)) trace (reply.Count (result.0)) (result.1) }
+        ensures walked { SeenOn S.did S.shown S.entered self.now (λ saw. WalkedTo saw (first ask.Len)) trace (reply.Count (result.0)) (result.1) }
     {
         let mut seen = self.cells(trace);
         let count = calls::len(self.rt, &mut seen, &mut WakeNow { rt: self.rt });
@@ -95,7 +95,7 @@ impl<'a, T: Drop, R: Wait + Copy, K: Kind> Traced<'a, T, R, K> {
     /// Whether the channel is closed.
     #[inline(always)]
     pub fn is_closed<S: Trace<T>>(&self, trace: S) -> (bool, S)
-        ensures walked { SeenOn S.did S.shown self.now.form (λ saw. WalkedTo saw (first ask.IsClosed)) trace (reply.Flag (result.0)) (result.1) }
+        ensures walked { SeenOn S.did S.shown S.entered self.now (λ saw. WalkedTo saw (first ask.IsClosed)) trace (reply.Flag (result.0)) (result.1) }
     {
         self.counted.link.shared.is_closed(trace)
     }
@@ -103,7 +103,7 @@ impl<'a, T: Drop, R: Wait + Copy, K: Kind> Traced<'a, T, R, K> {
     /// Whether it holds no message.
     #[inline(always)]
     pub fn is_empty<S: Trace<T>>(&self, trace: S) -> (bool, S)
-        ensures walked { SeenOn S.did S.shown self.now.form (λ saw. WalkedTo saw (first ask.IsEmpty)) trace (reply.Flag (result.0)) (result.1) }
+        ensures walked { SeenOn S.did S.shown S.entered self.now (λ saw. WalkedTo saw (first ask.IsEmpty)) trace (reply.Flag (result.0)) (result.1) }
     {
         self.counted.link.shared.is_empty(trace)
     }
@@ -111,7 +111,7 @@ impl<'a, T: Drop, R: Wait + Copy, K: Kind> Traced<'a, T, R, K> {
     /// Whether it holds as many messages as it can; one without a bound never does.
     #[inline(always)]
     pub fn is_full<S: Trace<T>>(&self, trace: S) -> (bool, S)
-        ensures walked { SeenOn S.did S.shown self.now.form (λ saw. WalkedTo saw (first ask.IsFull)) trace (reply.Flag (result.0)) (result.1) }
+        ensures walked { SeenOn S.did S.shown S.entered self.now (λ saw. WalkedTo saw (first ask.IsFull)) trace (reply.Flag (result.0)) (result.1) }
         ensures bound { room_of self.now.form ≡ None → result.0 ≡ false }
     {
         self.counted.link.shared.is_full(trace)
@@ -120,7 +120,7 @@ impl<'a, T: Drop, R: Wait + Copy, K: Kind> Traced<'a, T, R, K> {
     /// How many messages it can hold, if there is a bound.
     #[inline(always)]
     pub fn capacity<S: Trace<T>>(&self, trace: S) -> (Option<usize>, S)
-        ensures walked { SeenOn S.did S.shown self.now.form (λ saw. WalkedTo saw (first ask.Capacity)) trace (reply.Cap (result.0)) (result.1) }
+        ensures walked { SeenOn S.did S.shown S.entered self.now (λ saw. WalkedTo saw (first ask.Capacity)) trace (reply.Cap (result.0)) (result.1) }
         ensures room { result.0 ≡ room_of self.now.form }
     {
         self.counted.link.shared.capacity(trace)
@@ -129,7 +129,7 @@ impl<'a, T: Drop, R: Wait + Copy, K: Kind> Traced<'a, T, R, K> {
     /// How many senders live.
     #[inline(always)]
     pub fn sender_count<S: Trace<T>>(&self, trace: S) -> (usize, S)
-        ensures walked { SeenOn S.did S.shown self.now.form (λ saw. WalkedTo saw (first (ask.HandleCount side.Senders))) trace (reply.Count (result.0)) (result.1) }
+        ensures walked { SeenOn S.did S.shown S.entered self.now (λ saw. WalkedTo saw (first (ask.HandleCount side.Senders))) trace (reply.Count (result.0)) (result.1) }
     {
         self.counted.link.shared.handle_count(Side::Senders, trace)
     }
@@ -137,7 +137,7 @@ impl<'a, T: Drop, R: Wait + Copy, K: Kind> Traced<'a, T, R, K> {
     /// How many receivers live.
     #[inline(always)]
     pub fn receiver_count<S: Trace<T>>(&self, trace: S) -> (usize, S)
-        ensures walked { SeenOn S.did S.shown self.now.form (λ saw. WalkedTo saw (first (ask.HandleCount side.Receivers))) trace (reply.Count (result.0)) (result.1) }
+        ensures walked { SeenOn S.did S.shown S.entered self.now (λ saw. WalkedTo saw (first (ask.HandleCount side.Receivers))) trace (reply.Count (result.0)) (result.1) }
     {
         self.counted
             .link

@@ -7,13 +7,16 @@ use async_channel::{
 use concurrent_queue::cells::{Slot, Word};
 use concurrent_queue::error::NoMemory;
 use concurrent_queue::seen as queue;
+use futures::task::Source;
 use std::sync::Wait;
 use std::sync::atomic::{AtomicUsize, Ordering};
 use std::thread;
 use std::thread::Threads;
 
-/// How many operations were made on cells of the queue, how many sections were made on lists, and how often a count was read or changed.
+/// How many calls began, how many operations were made on cells of the queue, how many sections were made on lists, and how often a count
+/// was read or changed.
 struct Tallies {
+    beginnings: AtomicUsize,
     operations: AtomicUsize,
     sections: AtomicUsize,
     counts: AtomicUsize,
@@ -86,6 +89,8 @@ impl queue::Trace<u64> for Watcher<'_> {
 }
 
 impl Trace<u64> for Watcher<'_> {
+    ghost entered = { λ _ _ _. Unit {0} };
+
     ghost shown = { λ _ _ _. Unit {0} };
 
     ghost offering = { λ _ _ _ _ _. Unit {0} };
@@ -93,6 +98,10 @@ impl Trace<u64> for Watcher<'_> {
     ghost parked = { λ _ _ _. Unit {0} };
 
     ghost slept = { λ _ _. Unit {0} };
+
+    fn enters(&mut self, _sight: &Sight<Self>, _seal: &Source) {
+        note(&self.tallies.beginnings);
+    }
 
     fn inserted(&mut self, _sight: &Sight<Self>, _line: Line, _answer: Result<Key, ListenError>) {
         note(&self.tallies.sections);
@@ -151,6 +160,7 @@ fn calls<R: Threads + Wait + Copy + Send + Sync>(
 #[test]
 fn one_log_of_all_calls(rt: HostRuntime) {
     let tallies = Tallies {
+        beginnings: AtomicUsize::new(0),
         operations: AtomicUsize::new(0),
         sections: AtomicUsize::new(0),
         counts: AtomicUsize::new(0),
@@ -161,16 +171,18 @@ fn one_log_of_all_calls(rt: HostRuntime) {
     let answers = calls(&rt, &s, &r);
     drop((s, r));
     let Tallies {
+        beginnings,
         operations,
         sections,
         counts,
     } = tallies;
     let told = [
+        beginnings.into_inner(),
         operations.into_inner(),
         sections.into_inner(),
         counts.into_inner(),
     ];
     expect_equal(&rt, &answers, &(true, 1, Some(7), true));
-    // Three operations put the message, three take it, and each of the three closings is one.
-    expect_equal(&rt, &told, &[9, 7, 3]);
+    // Six calls, of which two are the drops. Three operations put the message, three take it, and each of the three closings is one.
+    expect_equal(&rt, &told, &[6, 9, 7, 3]);
 }

@@ -35,3 +35,7 @@ Operated a b = (b ≡ a) ⊎ Notes did.Operated a b
 
 abbrev pub Operates : cell.Deed ℕ → Log → Log → Type 0
 Operates d a b = Operated a b
+
+-- the beginning of a call is no line
+abbrev pub Enters : ℕ → Log → Log → Type 0
+Enters seal a b = b ≡ a

@@ -10,7 +10,7 @@ ghost use Rattle.channel_calls.specs.declared.ask.ChannelAsk.TheVariants as ask;
 ghost use Rattle.channel_calls.specs.declared.blocked.Blocked.TheVariants as blocking;
 ghost use Rattle.channel_calls.specs.declared.reply.Reply.TheVariants as reply;
 ghost use Rattle.futures.specs.declared.task.Poll.TheVariants as poll;
-ghost use Rattle.channel_test_helpers.specs.Logs.{Logs, Notes, Operated, Operates};
+ghost use Rattle.channel_test_helpers.specs.Logs.{Enters, Logs, Notes, Operated, Operates};
 ghost use Rattle.async_channel.specs.Saw.{SeenOn};
 ghost use Rattle.channel_test_helpers.specs.declared.log.Did.TheVariants as did;
 
@@ -21,6 +21,7 @@ use async_channel::{
 use concurrent_queue::cells::{Slot, Word};
 use concurrent_queue::error::NoMemory;
 use concurrent_queue::seen as queue;
+use futures::task::Source;
 use std::alloc::Global;
 use std::sync::Wait;
 
@@ -154,6 +155,8 @@ impl queue::Trace<u64> for Log {
 impl Trace<u64> for Log {
     ghost use Rattle.std.specs.Prelude.{◌≡◌};
 
+    ghost entered = { Enters };
+
     ghost shown = { λ d a b. Logs d a b };
 
     ghost offering = { λ _ _ _ a b. b ≡ a };
@@ -161,6 +164,8 @@ impl Trace<u64> for Log {
     ghost parked = { λ _ a b. Notes did.Parked a b };
 
     ghost slept = { λ a b. Notes did.Slept a b };
+
+    fn enters(&mut self, _sight: &Sight<Self>, _seal: &Source) {}
 
     fn inserted(&mut self, _sight: &Sight<Self>, line: Line, _answer: Result<Key, ListenError>) {
         self.note(Did::Inserted(line));
@@ -215,7 +220,7 @@ pub fn try_send_logged<R: Wait + Copy>(
     message: u64,
     log: Log,
 ) -> (Result<(), Refused<TrySendError<u64>, u64>>, Log)
-    ensures { SeenOn Operates Logs sender.now.form (λ saw. WalkedTo saw (first (ask.TrySend message))) log (reply.TrySend (result.0)) (result.1) }
+    ensures { SeenOn Operates Logs Enters sender.now (λ saw. WalkedTo saw (first (ask.TrySend message))) log (reply.TrySend (result.0)) (result.1) }
 {
     sender.traced().try_send(message, log)
 }
@@ -225,14 +230,14 @@ pub fn try_recv_logged<R: Wait + Copy>(
     receiver: &Receiver<u64, R>,
     log: Log,
 ) -> (Result<u64, TryRecvError>, Log)
-    ensures { SeenOn Operates Logs receiver.now.channel.form (λ saw. WalkedTo saw (first ask.TryRecv)) log (reply.TryRecv (result.0)) (result.1) }
+    ensures { SeenOn Operates Logs Enters receiver.now.channel (λ saw. WalkedTo saw (first ask.TryRecv)) log (reply.TryRecv (result.0)) (result.1) }
 {
     receiver.traced().try_recv(log)
 }
 
 /// A closing, written down.
 pub fn close_logged<R: Wait + Copy>(sender: &Sender<u64, R>, log: Log) -> (bool, Log)
-    ensures { SeenOn Operates Logs sender.now.form (λ saw. WalkedTo saw (first ask.Close)) log (reply.Closed (result.0)) (result.1) }
+    ensures { SeenOn Operates Logs Enters sender.now (λ saw. WalkedTo saw (first ask.Close)) log (reply.Closed (result.0)) (result.1) }
 {
     sender.traced().close(log)
 }
@@ -242,7 +247,7 @@ pub fn recv_blocking_logged<R: Wait + Copy>(
     receiver: &Receiver<u64, R>,
     log: Log,
 ) -> (Result<u64, Refused<RecvError>>, Log)
-    ensures { SeenOn Operates Logs receiver.now.channel.form (λ saw begin r end. Blocks saw (λ _ a b. Notes did.Parked a b) (λ a b. Notes did.Slept a b) blocking.Receive begin r nothing_kept end) log (reply.RecvPoll (poll.Ready (result.0))) (result.1) }
+    ensures { SeenOn Operates Logs Enters receiver.now.channel (λ saw begin r end. Blocks saw (λ _ a b. Notes did.Parked a b) (λ a b. Notes did.Slept a b) blocking.Receive begin r nothing_kept end) log (reply.RecvPoll (poll.Ready (result.0))) (result.1) }
 {
     receiver.traced().recv_blocking(log)
 }

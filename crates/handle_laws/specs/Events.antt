@@ -26,6 +26,7 @@ use Rattle.channel_calls.specs.declared.stage.Stage.{Stage}
 use Rattle.channel_laws.specs.Bridge.{Act, Event, begins, does, Given, Acts, Along}
 use Rattle.channel_laws.specs.BridgeBlocks.{InCalls, IsLeft, Rested}
 use Rattle.async_channel.specs.Counts.{Clones, Upgrades}
+use Rattle.async_channel.specs.Handles.{Handle}
 use Rattle.async_channel.specs.Polls.{Polls, PollsSend}
 use Rattle.async_channel.specs.Saw.{Saw, SeenOn}
 use Rattle.async_channel.specs.Several.{ReceivesMany}
@@ -49,56 +50,57 @@ module _ {T W X : Type 0} (did : cell.Deed T → X → X → Type 0) (shown : De
       (form : QueueForm) (ask : ChannelAsk T W) (s : X) (r : Reply T) (kept : Kept T) (t : X)
       → WalkedFrom (Saw did shown form) (first ask) s r kept t → HasEvents did (Saw did shown form) form ask s r kept t
 
-  -- as the clauses of handles say it: of a call that no operation makes, of a poll, and of a poll of a send
+module _ {T W X : Type 0} (did : cell.Deed T → X → X → Type 0) (shown : Deed T W → X → X → Type 0) (entered : ℕ → X → X → Type 0) where
+  -- as the clauses of handles say it, behind the call's beginning on this channel: of a call that no operation makes, of a poll, and of a poll of a send
   abbrev pub CallsAct : Type 0
   CallsAct =
-      (form : QueueForm) (ask : ChannelAsk T W) (s : X) (r : Reply T) (t : X)
-      → SeenOn did shown form (λ saw. WalkedTo saw (first ask)) s r t → (kept : Kept T) × HasEvents did (Saw did shown form) form ask s r kept t
+      (channel : Handle) (ask : ChannelAsk T W) (s : X) (r : Reply T) (t : X)
+      → SeenOn did shown entered channel (λ saw. WalkedTo saw (first ask)) s r t → (here : X) × entered channel.seal s here × (kept : Kept T) × HasEvents did (Saw did shown channel.form) channel.form ask here r kept t
 
   abbrev pub PollsAct : Type 0
   PollsAct =
-      (form : QueueForm) (asks : Option W → ChannelAsk T W) (s : X) (r : Reply T) (key : Option Key) (t : X)
-      → SeenOn did shown form (λ saw begin a end. Polls saw asks begin a key end) s r t
-      → (message : Option T) × (task : Option W) × HasEvents did (Saw did shown form) form (asks task) s r (leaving key message) t
+      (channel : Handle) (asks : Option W → ChannelAsk T W) (s : X) (r : Reply T) (key : Option Key) (t : X)
+      → SeenOn did shown entered channel (λ saw begin a end. Polls saw asks begin a key end) s r t
+      → (here : X) × entered channel.seal s here × (message : Option T) × (task : Option W) × HasEvents did (Saw did shown channel.form) channel.form (asks task) here r (leaving key message) t
 
   abbrev pub SendPollsAct : Type 0
   SendPollsAct =
-      (form : QueueForm) (asks : Option W → ChannelAsk T W) (s : X) (r : Reply T) (key : Option Key) (message : Option T) (t : X)
-      → SeenOn did shown form (λ saw begin a end. PollsSend saw asks begin a key message end) s r t
-      → (task : Option W) × HasEvents did (Saw did shown form) form (asks task) s r (leaving key message) t
+      (channel : Handle) (asks : Option W → ChannelAsk T W) (s : X) (r : Reply T) (key : Option Key) (message : Option T) (t : X)
+      → SeenOn did shown entered channel (λ saw begin a end. PollsSend saw asks begin a key message end) s r t
+      → (here : X) × entered channel.seal s here × (task : Option W) × HasEvents did (Saw did shown channel.form) channel.form (asks task) here r (leaving key message) t
 
   -- of a clone and of an upgrade that made a handle
   abbrev pub ClonesAct : Type 0
   ClonesAct =
-      (form : QueueForm) (side : Side) (s t : X)
-      → SeenOn {A = Result Unit HandleError} did shown form (λ saw. Clones saw side) s (Ok (record {})) t
-      → (kept : Kept T) × HasEvents did (Saw did shown form) form (CloneHandle side) s reply.Made kept t
+      (channel : Handle) (side : Side) (s t : X)
+      → SeenOn {A = Result Unit HandleError} did shown entered channel (λ saw. Clones saw side) s (Ok (record {})) t
+      → (here : X) × entered channel.seal s here × (kept : Kept T) × HasEvents did (Saw did shown channel.form) channel.form (CloneHandle side) here reply.Made kept t
 
   abbrev pub UpgradesAct : Type 0
   UpgradesAct =
-      (form : QueueForm) (side : Side) (s t : X)
-      → SeenOn {A = Result (Option Unit) HandleError} did shown form (λ saw. Upgrades saw side) s (Ok (Some (record {}))) t
-      → (kept : Kept T) × HasEvents did (Saw did shown form) form (Upgrade side) s reply.Made kept t
+      (channel : Handle) (side : Side) (s t : X)
+      → SeenOn {A = Result (Option Unit) HandleError} did shown entered channel (λ saw. Upgrades saw side) s (Ok (Some (record {}))) t
+      → (here : X) × entered channel.seal s here × (kept : Kept T) × HasEvents did (Saw did shown channel.form) channel.form (Upgrade side) here reply.Made kept t
 
   -- of a receive of several messages, into a list of its own and into one that is there
   abbrev pub SeveralAct : Type 0
   SeveralAct =
-      (form : QueueForm) (limit : ℕ) (s : X) (r : Result (Vec T) (Refused TryRecvError Unit)) (t : X)
-      → SeenOn did shown form (λ saw. ReceivesMany saw limit) s r t
-      → (answer : Result (List T) (Refused TryRecvError Unit)) × (kept : Kept T) × HasEvents did (Saw did shown form) form (RecvMany limit) s (reply.RecvMany answer) kept t
+      (channel : Handle) (limit : ℕ) (s : X) (r : Result (Vec T) (Refused TryRecvError Unit)) (t : X)
+      → SeenOn did shown entered channel (λ saw. ReceivesMany saw limit) s r t
+      → (here : X) × entered channel.seal s here × (answer : Result (List T) (Refused TryRecvError Unit)) × (kept : Kept T) × HasEvents did (Saw did shown channel.form) channel.form (RecvMany limit) here (reply.RecvMany answer) kept t
 
   abbrev pub FillsAct : Type 0
   FillsAct =
-      (form : QueueForm) (room : ℕ) (before : List T) (s : X) (r : Result ℕ TryRecvError) (after : List T) (t : X)
-      → SeenOn did shown form (λ saw begin a end. Fills saw room before begin a after end) s r t
-      → (answer : Result (List T) (Refused TryRecvError Unit)) × (kept : Kept T) × HasEvents did (Saw did shown form) form (RecvMany room) s (reply.RecvMany answer) kept t
+      (channel : Handle) (room : ℕ) (before : List T) (s : X) (r : Result ℕ TryRecvError) (after : List T) (t : X)
+      → SeenOn did shown entered channel (λ saw begin a end. Fills saw room before begin a after end) s r t
+      → (here : X) × entered channel.seal s here × (answer : Result (List T) (Refused TryRecvError Unit)) × (kept : Kept T) × HasEvents did (Saw did shown channel.form) channel.form (RecvMany room) here (reply.RecvMany answer) kept t
 
   -- of a message that a walk gives which doesn't wait and has not ended
   abbrev pub TakesAct : Type 0
   TakesAct =
-      (form : QueueForm) (ended : Bool) (s : X) (item : T) (t : X)
-      → SeenOn did shown form (λ saw. TakesNext saw ended) s (Some item) t
-      → (kept : Kept T) × HasEvents did (Saw did shown form) form TryRecv s (reply.TryRecv (Ok item)) kept t
+      (channel : Handle) (ended : Bool) (s : X) (item : T) (t : X)
+      → SeenOn did shown entered channel (λ saw. TakesNext saw ended) s (Some item) t
+      → (here : X) × entered channel.seal s here × (kept : Kept T) × HasEvents did (Saw did shown channel.form) channel.form TryRecv here (reply.TryRecv (Ok item)) kept t
 
 module _ {T W X : Type 0} (did : cell.Deed T → X → X → Type 0) (shown : Deed T W → X → X → Type 0) (parked : Option W → X → X → Type 0) (slept : X → X → Type 0) where
   -- what was seen of a call that blocks its thread, a deed on a list behind what the thread rested before it
@@ -106,11 +108,11 @@ module _ {T W X : Type 0} (did : cell.Deed T → X → X → Type 0) (shown : De
   SawRested form = Rested (Saw did shown form) parked slept
 
   -- such a call made whole calls one after another; who has no task of its own may take any for the first poll
-  abbrev pub BlocksAct : Type 0
-  BlocksAct =
-      (form : QueueForm) (b : Blocked T) (task : W) (s : X) (r : Reply T) (kept : Kept T) (t : X)
-      → SeenOn did shown form (λ saw begin a end. Blocks saw parked slept b begin a kept end) s r t
-      → InCalls (SawRested form) b s r kept t ⊎ IsLeft (SawRested form) b s r kept t
+  abbrev pub BlocksAct : (ℕ → X → X → Type 0) → Type 0
+  BlocksAct entered =
+      (channel : Handle) (b : Blocked T) (task : W) (s : X) (r : Reply T) (kept : Kept T) (t : X)
+      → SeenOn did shown entered channel (λ saw begin a end. Blocks saw parked slept b begin a kept end) s r t
+      → (here : X) × entered channel.seal s here × (InCalls (SawRested channel.form) b here r kept t ⊎ IsLeft (SawRested channel.form) b here r kept t)
 
   -- each of which has its events, as has the first poll that stands for ever where no task was given
   abbrev pub RestedAct : Type 0

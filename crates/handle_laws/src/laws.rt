@@ -9,6 +9,7 @@ use async_channel::Trace;
 /// `merges_are_runs` of `channel_laws` asks of its party: operations of the queue, and deeds on the lists and the counts, that are the
 /// party's next events, with the answer that came out. So where the events of many such calls come in one order in which each answer
 /// is what the channel then held, the whole is a run, and the headline holds of it. Nothing is known of the trace but that it is one.
+/// Before these the trace saw the call begin on the handle's own channel, by its seal, and on no other.
 ///
 /// A call that blocks its thread made whole calls one after another: some that don't wait, a first poll, and polls that ask their
 /// listener first. Before a section on a list it may have asked for a task and slept. Each of these calls has its events. Where it was
@@ -18,15 +19,15 @@ use async_channel::Trace;
 /// Own to this project.
 pub fn walks_of_handles_act<T, S: Trace<T>>()
     ensures walks { WalksAct {W = Waiter} S.did S.shown }
-    ensures calls { CallsAct {W = Waiter} S.did S.shown }
-    ensures polls { PollsAct {W = Waiter} S.did S.shown }
-    ensures send_polls { SendPollsAct {W = Waiter} S.did S.shown }
-    ensures clones { ClonesAct {W = Waiter} S.did S.shown }
-    ensures upgrades { UpgradesAct {W = Waiter} S.did S.shown }
-    ensures several { SeveralAct {W = Waiter} S.did S.shown }
-    ensures fills { FillsAct {W = Waiter} S.did S.shown }
-    ensures takes { TakesAct {W = Waiter} S.did S.shown }
-    ensures blocks { BlocksAct {W = Waiter} S.did S.shown S.parked S.slept }
+    ensures calls { CallsAct {W = Waiter} S.did S.shown S.entered }
+    ensures polls { PollsAct {W = Waiter} S.did S.shown S.entered }
+    ensures send_polls { SendPollsAct {W = Waiter} S.did S.shown S.entered }
+    ensures clones { ClonesAct {W = Waiter} S.did S.shown S.entered }
+    ensures upgrades { UpgradesAct {W = Waiter} S.did S.shown S.entered }
+    ensures several { SeveralAct {W = Waiter} S.did S.shown S.entered }
+    ensures fills { FillsAct {W = Waiter} S.did S.shown S.entered }
+    ensures takes { TakesAct {W = Waiter} S.did S.shown S.entered }
+    ensures blocks { BlocksAct {W = Waiter} S.did S.shown S.parked S.slept S.entered }
     ensures rested { RestedAct {W = Waiter} S.did S.shown S.parked S.slept }
     ensures stands { StandsAct {W = Waiter} S.did S.shown S.parked S.slept }
 {}

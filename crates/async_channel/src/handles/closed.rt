@@ -58,7 +58,7 @@ impl<'a, T: Drop, R: Wait + Copy, S: Trace<T> + Copy> Closed<'a, T, R, S> {
     /// A copy of the waker is taken first. Where none is got nothing is tried, and the answer is want of memory. It may wait for
     /// another call's end and for the locks of those who wait.
     pub fn poll(&mut self, cx: &mut Context<'_>) -> Poll<Result<(), ListenError>>
-        ensures walked { WasSeen S.did S.shown self.old.channel.form (λ saw begin r end. Polls saw (closed_ask self.old.key) begin r self.new.key end) (reply.ClosedPoll result) }
+        ensures walked { WasSeen S.did S.shown S.entered self.old.channel (λ saw begin r end. Polls saw (closed_ask self.old.key) begin r self.new.key end) (reply.ClosedPoll result) }
         ensures listed { is_some self.new.key ≡ is_pending result }
         ensures channel { self.new.channel ≡ self.old.channel }
         ensures armed { OnPending result (IsArmed cx.new) }
@@ -70,7 +70,7 @@ impl<'a, T: Drop, R: Wait + Copy, S: Trace<T> + Copy> Closed<'a, T, R, S> {
 
     /// Gives it up, as its drop does. It may wait for the lock of those who wait. Own to this project.
     pub fn give_up(self)
-        ensures walked { WasSeen S.did S.shown self.entry.channel.form (λ saw. WalkedTo saw (first (ask.GiveUp line.Closings None self.entry.key))) (reply.GivenUp None) }
+        ensures walked { WasSeen S.did S.shown S.entered self.entry.channel (λ saw. WalkedTo saw (first (ask.GiveUp line.Closings None self.entry.key))) (reply.GivenUp None) }
     {
         let sender = self.sender;
         let _ = self.give_up_traced(sender.watch);

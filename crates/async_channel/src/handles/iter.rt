@@ -33,7 +33,7 @@ impl<'a, T: Drop, R: Wait + Copy, S: Trace<T> + Copy> Iter<'a, T, R, S> {
     /// from then on.
     #[inline(always)]
     pub fn next(&mut self) -> Option<Result<T, ListenError>>
-        ensures walked { WasSeen S.did S.shown self.old.receiver.now.channel.form (λ saw. WaitsForNext saw S.parked S.slept self.old.ended) result }
+        ensures walked { WasSeen S.did S.shown S.entered self.old.receiver.now.channel (λ saw. WaitsForNext saw S.parked S.slept self.old.ended) result }
         ensures end { IsNext self.old.ended result self.new.ended }
         ensures turns { waits_left self.new ≡ waits_left self.old }
     {
@@ -78,7 +78,7 @@ impl<'a, T: Drop, R: Wait + Copy, S: Trace<T> + Copy> TryIter<'a, T, R, S> {
     /// The next message that is there, taken as by [`try_recv`](Receiver::try_recv): `None` where none is, and from then on.
     #[inline(always)]
     pub fn next(&mut self) -> Option<T>
-        ensures walked { WasSeen S.did S.shown self.old.receiver.now.channel.form (λ saw. TakesNext saw self.old.ended) result }
+        ensures walked { WasSeen S.did S.shown S.entered self.old.receiver.now.channel (λ saw. TakesNext saw self.old.ended) result }
         ensures end { IsNext self.old.ended result self.new.ended }
         ensures turns { tries_left self.new ≡ tries_left self.old }
     {

@@ -88,7 +88,7 @@ impl<T: Drop, R: Wait + Copy, S: Trace<T> + Copy> Receiver<T, R, S> {
     /// let over = receiver.try_recv().err()?.is_closed(); // true
     /// ```
     pub fn try_recv(&self) -> Result<T, TryRecvError>
-        ensures walked { WasSeen S.did S.shown self.now.channel.form (λ saw. WalkedTo saw (first ask.TryRecv)) (reply.TryRecv result) }
+        ensures walked { WasSeen S.did S.shown S.entered self.now.channel (λ saw. WalkedTo saw (first ask.TryRecv)) (reply.TryRecv result) }
     {
         self.traced().try_recv(self.watch).0
     }
@@ -118,7 +118,7 @@ impl<T: Drop, R: Wait + Copy, S: Trace<T> + Copy> Receiver<T, R, S> {
     /// batch.len() == 2 && batch.first() == Some(&1) && receiver.len() == 1 // true
     /// ```
     pub fn recv_many(&self, limit: usize) -> Result<Vec<T>, Refused<TryRecvError>>
-        ensures walked { WasSeen S.did S.shown self.now.channel.form (λ saw. ReceivesMany saw limit) result }
+        ensures walked { WasSeen S.did S.shown S.entered self.now.channel (λ saw. ReceivesMany saw limit) result }
         ensures most { IfOk result (λ messages. length messages.items ≤ limit) }
         ensures none { IfOk result (λ messages. messages.items ≡ [] → limit ≡ 0) }
         ensures wanted { OnErr result (0 < limit) }
@@ -143,7 +143,7 @@ impl<T: Drop, R: Wait + Copy, S: Trace<T> + Copy> Receiver<T, R, S> {
     /// }
     /// ```
     pub fn recv_many_into(&self, into: &mut Vec<T>) -> Result<usize, TryRecvError>
-        ensures walked { WasSeen S.did S.shown self.now.channel.form (λ saw begin r end. Fills saw (room_in into.old) into.old.items begin r into.new.items end) result }
+        ensures walked { WasSeen S.did S.shown S.entered self.now.channel (λ saw begin r end. Fills saw (room_in into.old) into.old.items begin r into.new.items end) result }
         ensures taken { StandsBehind into.old.items result into.new.items }
         ensures most { IfOk result (λ n. n ≤ room_in into.old) }
         ensures none { IfOk result (λ n. n ≡ 0 → room_in into.old ≡ 0) }
@@ -172,7 +172,7 @@ impl<T: Drop, R: Wait + Copy, S: Trace<T> + Copy> Receiver<T, R, S> {
     /// Refused where the channel is closed and empty, or where what a wait needs was refused: memory, or a serial of a listener.
     /// As `async-channel` 2.5.0, but for the wants.
     pub fn recv_blocking(&self) -> Result<T, Refused<RecvError>>
-        ensures walked { WasSeen S.did S.shown self.now.channel.form (λ saw begin r end. Blocks saw S.parked S.slept blocking.Receive begin r nothing_kept end) (reply.RecvPoll (poll.Ready result)) }
+        ensures walked { WasSeen S.did S.shown S.entered self.now.channel (λ saw begin r end. Blocks saw S.parked S.slept blocking.Receive begin r nothing_kept end) (reply.RecvPoll (poll.Ready result)) }
     {
         self.traced().recv_blocking(self.watch).0
     }
@@ -204,7 +204,7 @@ impl<T: Drop, R: Wait + Copy, S: Trace<T> + Copy> Receiver<T, R, S> {
     /// Closes the channel: nothing more is sent, and what was sent can still be received. True in the one call that closed it;
     /// all who wait are woken then. It may wait for the locks of those who wait. As `async-channel` 2.5.0.
     pub fn close(&self) -> bool
-        ensures walked { WasSeen S.did S.shown self.now.channel.form (λ saw. WalkedTo saw (first ask.Close)) (reply.Closed result) }
+        ensures walked { WasSeen S.did S.shown S.entered self.now.channel (λ saw. WalkedTo saw (first ask.Close)) (reply.Closed result) }
     {
         self.traced().close(self.watch).0
     }
@@ -212,7 +212,7 @@ impl<T: Drop, R: Wait + Copy, S: Trace<T> + Copy> Receiver<T, R, S> {
     /// How many messages the channel held at a moment of the call. It may wait, since it asks again where others came between. As
     /// `async-channel` 2.5.0.
     pub fn len(&self) -> usize
-        ensures walked { WasSeen S.did S.shown self.now.channel.form (λ saw. WalkedTo saw (first ask.Len)) (reply.Count result) }
+        ensures walked { WasSeen S.did S.shown S.entered self.now.channel (λ saw. WalkedTo saw (first ask.Len)) (reply.Count result) }
     {
         self.traced().len(self.watch).0
     }
@@ -225,14 +225,14 @@ impl<T: Drop, R: Wait + Copy, S: Trace<T> + Copy> Receiver<T, R, S> {
 
     /// Whether the channel is closed. It waits for nobody. As `async-channel` 2.5.0.
     pub fn is_closed(&self) -> bool
-        ensures walked { WasSeen S.did S.shown self.now.channel.form (λ saw. WalkedTo saw (first ask.IsClosed)) (reply.Flag result) }
+        ensures walked { WasSeen S.did S.shown S.entered self.now.channel (λ saw. WalkedTo saw (first ask.IsClosed)) (reply.Flag result) }
     {
         self.traced().is_closed(self.watch).0
     }
 
     /// Whether the channel holds no message. It waits for nobody. As `async-channel` 2.5.0.
     pub fn is_empty(&self) -> bool
-        ensures walked { WasSeen S.did S.shown self.now.channel.form (λ saw. WalkedTo saw (first ask.IsEmpty)) (reply.Flag result) }
+        ensures walked { WasSeen S.did S.shown S.entered self.now.channel (λ saw. WalkedTo saw (first ask.IsEmpty)) (reply.Flag result) }
     {
         self.traced().is_empty(self.watch).0
     }
@@ -240,7 +240,7 @@ impl<T: Drop, R: Wait + Copy, S: Trace<T> + Copy> Receiver<T, R, S> {
     /// Whether the channel holds as many messages as it can; one without a bound never does. It waits for nobody. As
     /// `async-channel` 2.5.0.
     pub fn is_full(&self) -> bool
-        ensures walked { WasSeen S.did S.shown self.now.channel.form (λ saw. WalkedTo saw (first ask.IsFull)) (reply.Flag result) }
+        ensures walked { WasSeen S.did S.shown S.entered self.now.channel (λ saw. WalkedTo saw (first ask.IsFull)) (reply.Flag result) }
         ensures bound { room_of self.now.channel.form ≡ None → result ≡ false }
     {
         self.traced().is_full(self.watch).0
@@ -248,7 +248,7 @@ impl<T: Drop, R: Wait + Copy, S: Trace<T> + Copy> Receiver<T, R, S> {
 
     /// How many messages the channel can hold, if there is a bound. It waits for nobody. As `async-channel` 2.5.0.
     pub fn capacity(&self) -> Option<usize>
-        ensures walked { WasSeen S.did S.shown self.now.channel.form (λ saw. WalkedTo saw (first ask.Capacity)) (reply.Cap result) }
+        ensures walked { WasSeen S.did S.shown S.entered self.now.channel (λ saw. WalkedTo saw (first ask.Capacity)) (reply.Cap result) }
         ensures room { result ≡ room_of self.now.channel.form }
     {
         self.traced().capacity(self.watch).0
@@ -256,14 +256,14 @@ impl<T: Drop, R: Wait + Copy, S: Trace<T> + Copy> Receiver<T, R, S> {
 
     /// How many senders live. It waits for nobody. As `async-channel` 2.5.0.
     pub fn sender_count(&self) -> usize
-        ensures walked { WasSeen S.did S.shown self.now.channel.form (λ saw. WalkedTo saw (first (ask.HandleCount side.Senders))) (reply.Count result) }
+        ensures walked { WasSeen S.did S.shown S.entered self.now.channel (λ saw. WalkedTo saw (first (ask.HandleCount side.Senders))) (reply.Count result) }
     {
         self.traced().sender_count(self.watch).0
     }
 
     /// How many receivers live. It waits for nobody. As `async-channel` 2.5.0.
     pub fn receiver_count(&self) -> usize
-        ensures walked { WasSeen S.did S.shown self.now.channel.form (λ saw. WalkedTo saw (first (ask.HandleCount side.Receivers))) (reply.Count result) }
+        ensures walked { WasSeen S.did S.shown S.entered self.now.channel (λ saw. WalkedTo saw (first (ask.HandleCount side.Receivers))) (reply.Count result) }
     {
         self.traced().receiver_count(self.watch).0
     }
@@ -282,7 +282,7 @@ impl<T: Drop, R: Wait + Copy, S: Trace<T> + Copy> Receiver<T, R, S> {
     /// Whether this stream has ended: whether the channel is closed, and then whether it is empty. It waits for nobody. As
     /// `FusedStream` of `async-channel` 2.5.0 says it.
     pub fn is_terminated(&self) -> bool
-        ensures walked { WasSeen S.did S.shown self.now.channel.form (λ saw. WalkedTo saw (first ask.IsTerminated)) (reply.Flag result) }
+        ensures walked { WasSeen S.did S.shown S.entered self.now.channel (λ saw. WalkedTo saw (first ask.IsTerminated)) (reply.Flag result) }
     {
         self.traced().is_terminated(self.watch).0
     }
@@ -303,7 +303,7 @@ impl<T: Drop, R: Wait + Copy, S: Trace<T> + Copy> Receiver<T, R, S> {
     /// next item is want of memory. It may wait for another call's end and for the locks of those who wait. As `async-channel` 2.5.0,
     /// but for the refusals.
     pub fn poll_next(&mut self, cx: &mut Context<'_>) -> Poll<Option<Result<T, ListenError>>>
-        ensures walked { WasSeen S.did S.shown self.old.channel.form (λ saw begin r end. Polls saw (next_ask self.old.key) begin r self.new.key end) (reply.Next result) }
+        ensures walked { WasSeen S.did S.shown S.entered self.old.channel (λ saw begin r end. Polls saw (next_ask self.old.key) begin r self.new.key end) (reply.Next result) }
         ensures listed { is_some self.new.key ≡ is_pending result }
         ensures channel { self.new.channel ≡ self.old.channel }
         ensures armed { OnPending result (IsArmed cx.new) }
@@ -325,7 +325,7 @@ impl<T: Drop, R: Wait + Copy, S: Trace<T> + Copy> Receiver<T, R, S> {
     /// changed then: no step of a call that is refused raises the count, and what was raised can't be let go but by a handle's drop.
     /// It may wait for other clonings to end.
     pub fn try_clone(&self) -> Result<Receiver<T, R, S>, HandleError>
-        ensures walked { WasSeen S.did S.shown self.now.channel.form (λ saw. Clones saw side.Receivers) result }
+        ensures walked { WasSeen S.did S.shown S.entered self.now.channel (λ saw. Clones saw side.Receivers) result }
         ensures made { IfOk result (λ more. more ≡ new_receiving self.now.channel) }
     {
         self.try_clone_traced(self.watch).0

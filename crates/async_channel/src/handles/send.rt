@@ -59,7 +59,7 @@ impl<'a, T: Drop, R: Wait + Copy, S: Trace<T> + Copy> Send<'a, T, R, S> {
     /// A copy of the waker is taken first. Where none is got nothing is tried, and the answer is want of memory. It may wait for
     /// another call's end and for the locks of those who wait.
     pub fn poll(&mut self, cx: &mut Context<'_>) -> Poll<Result<(), Refused<SendError<T>>>>
-        ensures walked { WasSeen S.did S.shown self.old.channel.form (λ saw begin r end. PollsSend saw (send_ask self.old.message self.old.key) begin r self.new.key self.new.message end) (reply.SendPoll result) }
+        ensures walked { WasSeen S.did S.shown S.entered self.old.channel (λ saw begin r end. PollsSend saw (send_ask self.old.message self.old.key) begin r self.new.key self.new.message end) (reply.SendPoll result) }
         ensures message { SendsOn self.old.message result self.new.message }
         ensures listed { is_some self.new.key ≡ waits_on self.old.message result }
         ensures channel { self.new.channel ≡ self.old.channel }
@@ -80,7 +80,7 @@ impl<'a, T: Drop, R: Wait + Copy, S: Trace<T> + Copy> Send<'a, T, R, S> {
     /// Gives it up, as its drop does, and hands back the message of one that hasn't finished. It may wait for the lock of those
     /// who wait. Own to this project.
     pub fn give_up(self) -> Option<T>
-        ensures walked { WasSeen S.did S.shown self.entry.channel.form (λ saw. WalkedTo saw (first (ask.GiveUp line.Sends self.entry.message self.entry.key))) (reply.GivenUp result) }
+        ensures walked { WasSeen S.did S.shown S.entered self.entry.channel (λ saw. WalkedTo saw (first (ask.GiveUp line.Sends self.entry.message self.entry.key))) (reply.GivenUp result) }
         ensures message { result ≡ self.entry.message }
     {
         let sender = self.sender;

@@ -77,7 +77,7 @@ impl<T: Drop, R: Wait + Copy, S: Trace<T> + Copy> Sender<T, R, S> {
     /// refused.is_full() && refused.into_inner() == 2 // true
     /// ```
     pub fn try_send(&self, message: T) -> Result<(), Refused<TrySendError<T>, T>>
-        ensures walked { WasSeen S.did S.shown self.now.form (λ saw. WalkedTo saw (first (ask.TrySend message))) (reply.TrySend result) }
+        ensures walked { WasSeen S.did S.shown S.entered self.now (λ saw. WalkedTo saw (first (ask.TrySend message))) (reply.TrySend result) }
         ensures refused { IfErr result (λ e. RefusesTrySend (is_bounded self.now.form) message e) }
     {
         self.traced().try_send(message, self.watch).0
@@ -95,7 +95,7 @@ impl<T: Drop, R: Wait + Copy, S: Trace<T> + Copy> Sender<T, R, S> {
     /// oldest == Some(1) && receiver.try_recv().ok() == Some(2) // true
     /// ```
     pub fn force_send(&self, message: T) -> Result<Option<T>, Refused<SendError<T>, T>>
-        ensures walked { WasSeen S.did S.shown self.now.form (λ saw. WalkedTo saw (first (ask.ForceSend message))) (reply.ForceSend result) }
+        ensures walked { WasSeen S.did S.shown S.entered self.now (λ saw. WalkedTo saw (first (ask.ForceSend message))) (reply.ForceSend result) }
         ensures refused { IfErr result (λ e. RefusesForceSend (is_bounded self.now.form) message e) }
         ensures displaced { room_of self.now.form ≡ None → IfOk result (λ oldest. oldest ≡ None) }
     {
@@ -134,7 +134,7 @@ impl<T: Drop, R: Wait + Copy, S: Trace<T> + Copy> Sender<T, R, S> {
     /// A refusal hands the message back: the channel was closed, or what a send or a wait needs was refused: memory, or a serial
     /// of a listener. As `async-channel` 2.5.0, but for the wants.
     pub fn send_blocking(&self, message: T) -> Result<(), Refused<SendError<T>, T>>
-        ensures walked { WasSeen S.did S.shown self.now.form (λ saw begin r end. Blocks saw S.parked S.slept (blocking.Send message) begin r (sent_left result) end) (sent_reply result) }
+        ensures walked { WasSeen S.did S.shown S.entered self.now (λ saw begin r end. Blocks saw S.parked S.slept (blocking.Send message) begin r (sent_left result) end) (sent_reply result) }
         ensures refused { IfErr result (λ e. Unsent e ≡ message) }
     {
         self.traced().send_blocking(message, self.watch).0
@@ -149,7 +149,7 @@ impl<T: Drop, R: Wait + Copy, S: Trace<T> + Copy> Sender<T, R, S> {
     /// first && !second && sender.try_send(1).err()?.is_closed() // true
     /// ```
     pub fn close(&self) -> bool
-        ensures walked { WasSeen S.did S.shown self.now.form (λ saw. WalkedTo saw (first ask.Close)) (reply.Closed result) }
+        ensures walked { WasSeen S.did S.shown S.entered self.now (λ saw. WalkedTo saw (first ask.Close)) (reply.Closed result) }
     {
         self.traced().close(self.watch).0
     }
@@ -157,7 +157,7 @@ impl<T: Drop, R: Wait + Copy, S: Trace<T> + Copy> Sender<T, R, S> {
     /// How many messages the channel held at a moment of the call. It may wait, since it asks again where others came between. As
     /// `async-channel` 2.5.0.
     pub fn len(&self) -> usize
-        ensures walked { WasSeen S.did S.shown self.now.form (λ saw. WalkedTo saw (first ask.Len)) (reply.Count result) }
+        ensures walked { WasSeen S.did S.shown S.entered self.now (λ saw. WalkedTo saw (first ask.Len)) (reply.Count result) }
     {
         self.traced().len(self.watch).0
     }
@@ -170,14 +170,14 @@ impl<T: Drop, R: Wait + Copy, S: Trace<T> + Copy> Sender<T, R, S> {
 
     /// Whether the channel is closed. It waits for nobody. As `async-channel` 2.5.0.
     pub fn is_closed(&self) -> bool
-        ensures walked { WasSeen S.did S.shown self.now.form (λ saw. WalkedTo saw (first ask.IsClosed)) (reply.Flag result) }
+        ensures walked { WasSeen S.did S.shown S.entered self.now (λ saw. WalkedTo saw (first ask.IsClosed)) (reply.Flag result) }
     {
         self.traced().is_closed(self.watch).0
     }
 
     /// Whether the channel holds no message. It waits for nobody. As `async-channel` 2.5.0.
     pub fn is_empty(&self) -> bool
-        ensures walked { WasSeen S.did S.shown self.now.form (λ saw. WalkedTo saw (first ask.IsEmpty)) (reply.Flag result) }
+        ensures walked { WasSeen S.did S.shown S.entered self.now (λ saw. WalkedTo saw (first ask.IsEmpty)) (reply.Flag result) }
     {
         self.traced().is_empty(self.watch).0
     }
@@ -185,7 +185,7 @@ impl<T: Drop, R: Wait + Copy, S: Trace<T> + Copy> Sender<T, R, S> {
     /// Whether the channel holds as many messages as it can; one without a bound never does. It waits for nobody. As
     /// `async-channel` 2.5.0.
     pub fn is_full(&self) -> bool
-        ensures walked { WasSeen S.did S.shown self.now.form (λ saw. WalkedTo saw (first ask.IsFull)) (reply.Flag result) }
+        ensures walked { WasSeen S.did S.shown S.entered self.now (λ saw. WalkedTo saw (first ask.IsFull)) (reply.Flag result) }
         ensures bound { room_of self.now.form ≡ None → result ≡ false }
     {
         self.traced().is_full(self.watch).0
@@ -193,7 +193,7 @@ impl<T: Drop, R: Wait + Copy, S: Trace<T> + Copy> Sender<T, R, S> {
 
     /// How many messages the channel can hold, if there is a bound. It waits for nobody. As `async-channel` 2.5.0.
     pub fn capacity(&self) -> Option<usize>
-        ensures walked { WasSeen S.did S.shown self.now.form (λ saw. WalkedTo saw (first ask.Capacity)) (reply.Cap result) }
+        ensures walked { WasSeen S.did S.shown S.entered self.now (λ saw. WalkedTo saw (first ask.Capacity)) (reply.Cap result) }
         ensures room { result ≡ room_of self.now.form }
     {
         self.traced().capacity(self.watch).0
@@ -201,14 +201,14 @@ impl<T: Drop, R: Wait + Copy, S: Trace<T> + Copy> Sender<T, R, S> {
 
     /// How many senders live. It waits for nobody. As `async-channel` 2.5.0.
     pub fn sender_count(&self) -> usize
-        ensures walked { WasSeen S.did S.shown self.now.form (λ saw. WalkedTo saw (first (ask.HandleCount side.Senders))) (reply.Count result) }
+        ensures walked { WasSeen S.did S.shown S.entered self.now (λ saw. WalkedTo saw (first (ask.HandleCount side.Senders))) (reply.Count result) }
     {
         self.traced().sender_count(self.watch).0
     }
 
     /// How many receivers live. It waits for nobody. As `async-channel` 2.5.0.
     pub fn receiver_count(&self) -> usize
-        ensures walked { WasSeen S.did S.shown self.now.form (λ saw. WalkedTo saw (first (ask.HandleCount side.Receivers))) (reply.Count result) }
+        ensures walked { WasSeen S.did S.shown S.entered self.now (λ saw. WalkedTo saw (first (ask.HandleCount side.Receivers))) (reply.Count result) }
     {
         self.traced().receiver_count(self.watch).0
     }
@@ -242,7 +242,7 @@ impl<T: Drop, R: Wait + Copy, S: Trace<T> + Copy> Sender<T, R, S> {
     /// drop(second); // the last one, which closes the channel
     /// ```
     pub fn try_clone(&self) -> Result<Sender<T, R, S>, HandleError>
-        ensures walked { WasSeen S.did S.shown self.now.form (λ saw. Clones saw side.Senders) result }
+        ensures walked { WasSeen S.did S.shown S.entered self.now (λ saw. Clones saw side.Senders) result }
         ensures made { IfOk result (λ more. more ≡ self.now) }
     {
         self.try_clone_traced(self.watch).0

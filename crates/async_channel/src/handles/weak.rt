@@ -46,7 +46,7 @@ impl<T: Drop, R: Wait + Copy, S: Trace<T> + Copy> WeakSender<T, R, S> {
     /// changed then, as by `try_clone`. It may wait for other clonings to end. As `async-channel` 2.5.0, which ends the program
     /// where this is refused.
     pub fn upgrade(&self) -> Result<Option<Sender<T, R, S>>, HandleError>
-        ensures walked { WasSeen S.did S.shown self.now.form (λ saw. Upgrades saw side.Senders) result }
+        ensures walked { WasSeen S.did S.shown S.entered self.now (λ saw. Upgrades saw side.Senders) result }
         ensures made { IfOk result (λ made. IfSome made (λ sender. sender ≡ self.now)) }
     {
         self.upgrade_traced(self.watch).0
@@ -102,7 +102,7 @@ impl<T: Drop, R: Wait + Copy, S: Trace<T> + Copy> WeakReceiver<T, R, S> {
     /// changed then, as by `try_clone`. It may wait for other clonings to end. As `async-channel` 2.5.0, which ends the program
     /// where this is refused.
     pub fn upgrade(&self) -> Result<Option<Receiver<T, R, S>>, HandleError>
-        ensures walked { WasSeen S.did S.shown self.now.form (λ saw. Upgrades saw side.Receivers) result }
+        ensures walked { WasSeen S.did S.shown S.entered self.now (λ saw. Upgrades saw side.Receivers) result }
         ensures made { IfOk result (λ made. IfSome made (λ receiver. receiver ≡ new_receiving self.now)) }
     {
         self.upgrade_traced(self.watch).0

@@ -8,6 +8,7 @@ use concurrent_queue::seen as queue;
 use event_listener::error::ListenError;
 use event_listener::key::Key;
 use event_listener::waking::Task;
+use futures::task::Source;
 
 /// The trace of a channel that nobody watches: it keeps nothing. It has no size, and seeing by it takes no instruction. Only the opening
 /// of a channel makes one. Own to this project.
@@ -70,6 +71,8 @@ impl<T> queue::Trace<T> for NoTrace {
 }
 
 impl<T> Trace<T> for NoTrace {
+    ghost entered = { λ _ _ _. Unit {0} };
+
     ghost shown = { λ _ _ _. Unit {0} };
 
     ghost offering = { λ _ _ _ _ _. Unit {0} };
@@ -77,6 +80,9 @@ impl<T> Trace<T> for NoTrace {
     ghost parked = { λ _ _ _. Unit {0} };
 
     ghost slept = { λ _ _. Unit {0} };
+
+    #[inline(always)]
+    fn enters(&mut self, _sight: &Sight<NoTrace>, _seal: &Source) {}
 
     #[inline(always)]
     fn inserted(

@@ -16,18 +16,25 @@ use channel_calls::error::HandleError;
 use channel_calls::kind::{Kind, OfReceivers, OfSenders};
 use std::sync::Wait;
 
+/// A call that does nothing to its channel but to begin.
+fn enters<T: Drop, R: Wait, S: Trace<T>>(link: &Link<T>, rt: &R, trace: S) -> S
+    ensures { S.entered (handle_of link.now).seal trace result }
+{
+    link.shared.cells(rt, trace).into_trace()
+}
+
 /// What a clone is made of: a tie of its own, and one more of this kind counted.
 fn one_more<T: Drop, R: Wait, K: Kind, S: Trace<T>>(
     link: &Link<T>,
     rt: &R,
     trace: S,
 ) -> (Result<Counted<T, K>, HandleError>, S)
-    ensures walked { SeenOn S.did S.shown (handle_of link.now).form (λ saw. Clones saw K.side) trace (result.0) (result.1) }
+    ensures walked { SeenOn S.did S.shown S.entered (handle_of link.now) (λ saw. Clones saw K.side) trace (result.0) (result.1) }
     ensures made { IfOk (result.0) (λ more. handle_of more.link ≡ handle_of link.now) }
 {
     match link.try_clone() {
         Some(link) => Counted::one_more(link, rt, trace),
-        None => (Err(HandleError::NoMemory), trace),
+        None => (Err(HandleError::NoMemory), enters(link, rt, trace)),
     }
 }
 
@@ -38,7 +45,7 @@ impl<T: Drop, R: Wait + Copy, S: Trace<T> + Copy> Sender<T, R, S> {
         &self,
         trace: X,
     ) -> (Result<Sender<T, R, S>, HandleError>, X)
-        ensures walked { SeenOn X.did X.shown self.now.form (λ saw. Clones saw side.Senders) trace (result.0) (result.1) }
+        ensures walked { SeenOn X.did X.shown X.entered self.now (λ saw. Clones saw side.Senders) trace (result.0) (result.1) }
         ensures made { IfOk (result.0) (λ more. more ≡ self.now) }
     {
         let (counted, trace) = one_more(&self.counted.link, &self.rt, trace);
@@ -56,7 +63,7 @@ impl<T: Drop, R: Wait + Copy, S: Trace<T> + Copy> Receiver<T, R, S> {
         &self,
         trace: X,
     ) -> (Result<Receiver<T, R, S>, HandleError>, X)
-        ensures walked { SeenOn X.did X.shown self.now.channel.form (λ saw. Clones saw side.Receivers) trace (result.0) (result.1) }
+        ensures walked { SeenOn X.did X.shown X.entered self.now.channel (λ saw. Clones saw side.Receivers) trace (result.0) (result.1) }
         ensures made { IfOk (result.0) (λ more. more ≡ new_receiving self.now.channel) }
     {
         let (counted, trace) = one_more(&self.counted.link, &self.rt, trace);
@@ -73,12 +80,12 @@ fn upgraded<T: Drop, R: Wait, K: Kind, S: Trace<T>>(
     rt: &R,
     trace: S,
 ) -> (Result<Option<Counted<T, K>>, HandleError>, S)
-    ensures walked { SeenOn S.did S.shown (handle_of link.now).form (λ saw. Upgrades saw K.side) trace (result.0) (result.1) }
+    ensures walked { SeenOn S.did S.shown S.entered (handle_of link.now) (λ saw. Upgrades saw K.side) trace (result.0) (result.1) }
     ensures made { IfOk (result.0) (λ made. IfSome made (λ more. handle_of more.link ≡ handle_of link.now)) }
 {
     match link.try_clone() {
         Some(link) => Counted::upgraded(link, rt, trace),
-        None => (Err(HandleError::NoMemory), trace),
+        None => (Err(HandleError::NoMemory), enters(link, rt, trace)),
     }
 }
 
@@ -89,7 +96,7 @@ impl<T: Drop, R: Wait + Copy, S: Trace<T> + Copy> WeakSender<T, R, S> {
         &self,
         trace: X,
     ) -> (Result<Option<Sender<T, R, S>>, HandleError>, X)
-        ensures walked { SeenOn X.did X.shown self.now.form (λ saw. Upgrades saw side.Senders) trace (result.0) (result.1) }
+        ensures walked { SeenOn X.did X.shown X.entered self.now (λ saw. Upgrades saw side.Senders) trace (result.0) (result.1) }
         ensures made { IfOk (result.0) (λ made. IfSome made (λ sender. sender ≡ self.now)) }
     {
         let (counted, trace) = upgraded(&self.link, &self.rt, trace);
@@ -108,7 +115,7 @@ impl<T: Drop, R: Wait + Copy, S: Trace<T> + Copy> WeakReceiver<T, R, S> {
         &self,
         trace: X,
     ) -> (Result<Option<Receiver<T, R, S>>, HandleError>, X)
-        ensures walked { SeenOn X.did X.shown self.now.form (λ saw. Upgrades saw side.Receivers) trace (result.0) (result.1) }
+        ensures walked { SeenOn X.did X.shown X.entered self.now (λ saw. Upgrades saw side.Receivers) trace (result.0) (result.1) }
         ensures made { IfOk (result.0) (λ made. IfSome made (λ receiver. receiver ≡ new_receiving self.now)) }
     {
         let (counted, trace) = upgraded(&self.link, &self.rt, trace);

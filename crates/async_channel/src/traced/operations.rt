@@ -35,7 +35,7 @@ impl<'a, T: Drop, R: Wait + Copy, S: Trace<T> + Copy> Send<'a, T, R, S> {
         cx: &mut Context<'_>,
         trace: X,
     ) -> (Poll<Result<(), Refused<SendError<T>>>>, X)
-        ensures walked { SeenOn X.did X.shown self.old.channel.form (λ saw begin r end. PollsSend saw (send_ask self.old.message self.old.key) begin r self.new.key self.new.message end) trace (reply.SendPoll (result.0)) (result.1) }
+        ensures walked { SeenOn X.did X.shown X.entered self.old.channel (λ saw begin r end. PollsSend saw (send_ask self.old.message self.old.key) begin r self.new.key self.new.message end) trace (reply.SendPoll (result.0)) (result.1) }
         ensures message { SendsOn self.old.message (result.0) self.new.message }
         ensures listed { is_some self.new.key ≡ waits_on self.old.message (result.0) }
         ensures channel { self.new.channel ≡ self.old.channel }
@@ -58,7 +58,7 @@ impl<'a, T: Drop, R: Wait + Copy, S: Trace<T> + Copy> Send<'a, T, R, S> {
 
     /// [`give_up`](Send::give_up) with a trace of the caller's. Own to this project.
     pub fn give_up_traced<X: Trace<T>>(mut self, trace: X) -> (Option<T>, X)
-        ensures walked { SeenOn X.did X.shown self.entry.channel.form (λ saw. WalkedTo saw (first (ask.GiveUp line.Sends self.entry.message self.entry.key))) trace (reply.GivenUp (result.0)) (result.1) }
+        ensures walked { SeenOn X.did X.shown X.entered self.entry.channel (λ saw. WalkedTo saw (first (ask.GiveUp line.Sends self.entry.message self.entry.key))) trace (reply.GivenUp (result.0)) (result.1) }
         ensures message { result.0 ≡ self.entry.message }
     {
         let sender = self.sender;
@@ -77,7 +77,7 @@ impl<'a, T: Drop, R: Wait + Copy, S: Trace<T> + Copy> Recv<'a, T, R, S> {
         cx: &mut Context<'_>,
         trace: X,
     ) -> (Poll<Result<T, Refused<RecvError>>>, X)
-        ensures walked { SeenOn X.did X.shown self.old.channel.form (λ saw begin r end. Polls saw (recv_ask self.old.key) begin r self.new.key end) trace (reply.RecvPoll (result.0)) (result.1) }
+        ensures walked { SeenOn X.did X.shown X.entered self.old.channel (λ saw begin r end. Polls saw (recv_ask self.old.key) begin r self.new.key end) trace (reply.RecvPoll (result.0)) (result.1) }
         ensures listed { is_some self.new.key ≡ is_pending (result.0) }
         ensures channel { self.new.channel ≡ self.old.channel }
         ensures armed { OnPending (result.0) (IsArmed cx.new) }
@@ -90,7 +90,7 @@ impl<'a, T: Drop, R: Wait + Copy, S: Trace<T> + Copy> Recv<'a, T, R, S> {
 
     /// [`give_up`](Recv::give_up) with a trace of the caller's. Own to this project.
     pub fn give_up_traced<X: Trace<T>>(mut self, trace: X) -> X
-        ensures walked { SeenOn X.did X.shown self.entry.channel.form (λ saw. WalkedTo saw (first (ask.GiveUp line.Receives None self.entry.key))) trace (reply.GivenUp None) result }
+        ensures walked { SeenOn X.did X.shown X.entered self.entry.channel (λ saw. WalkedTo saw (first (ask.GiveUp line.Receives None self.entry.key))) trace (reply.GivenUp None) result }
     {
         let receiver = self.receiver;
         let shared = &receiver.counted.link.shared;
@@ -108,7 +108,7 @@ impl<'a, T: Drop, R: Wait + Copy, S: Trace<T> + Copy> Closed<'a, T, R, S> {
         cx: &mut Context<'_>,
         trace: X,
     ) -> (Poll<Result<(), ListenError>>, X)
-        ensures walked { SeenOn X.did X.shown self.old.channel.form (λ saw begin r end. Polls saw (closed_ask self.old.key) begin r self.new.key end) trace (reply.ClosedPoll (result.0)) (result.1) }
+        ensures walked { SeenOn X.did X.shown X.entered self.old.channel (λ saw begin r end. Polls saw (closed_ask self.old.key) begin r self.new.key end) trace (reply.ClosedPoll (result.0)) (result.1) }
         ensures listed { is_some self.new.key ≡ is_pending (result.0) }
         ensures channel { self.new.channel ≡ self.old.channel }
         ensures armed { OnPending (result.0) (IsArmed cx.new) }
@@ -121,7 +121,7 @@ impl<'a, T: Drop, R: Wait + Copy, S: Trace<T> + Copy> Closed<'a, T, R, S> {
 
     /// [`give_up`](Closed::give_up) with a trace of the caller's. Own to this project.
     pub fn give_up_traced<X: Trace<T>>(mut self, trace: X) -> X
-        ensures walked { SeenOn X.did X.shown self.entry.channel.form (λ saw. WalkedTo saw (first (ask.GiveUp line.Closings None self.entry.key))) trace (reply.GivenUp None) result }
+        ensures walked { SeenOn X.did X.shown X.entered self.entry.channel (λ saw. WalkedTo saw (first (ask.GiveUp line.Closings None self.entry.key))) trace (reply.GivenUp None) result }
     {
         let sender = self.sender;
         let shared = &sender.counted.link.shared;
@@ -139,7 +139,7 @@ impl<T: Drop, R: Wait + Copy, S: Trace<T> + Copy> Receiver<T, R, S> {
         cx: &mut Context<'_>,
         trace: X,
     ) -> (Poll<Option<Result<T, ListenError>>>, X)
-        ensures walked { SeenOn X.did X.shown self.old.channel.form (λ saw begin r end. Polls saw (next_ask self.old.key) begin r self.new.key end) trace (reply.Next (result.0)) (result.1) }
+        ensures walked { SeenOn X.did X.shown X.entered self.old.channel (λ saw begin r end. Polls saw (next_ask self.old.key) begin r self.new.key end) trace (reply.Next (result.0)) (result.1) }
         ensures listed { is_some self.new.key ≡ is_pending (result.0) }
         ensures channel { self.new.channel ≡ self.old.channel }
         ensures armed { OnPending (result.0) (IsArmed cx.new) }

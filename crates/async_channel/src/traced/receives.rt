@@ -28,7 +28,7 @@ impl<'a, T: Drop, R: Wait + Copy> Traced<'a, T, R, OfReceivers> {
     /// Takes the oldest message.
     #[inline(always)]
     pub fn try_recv<S: Trace<T>>(&self, trace: S) -> (Result<T, TryRecvError>, S)
-        ensures walked { SeenOn S.did S.shown self.now.form (λ saw. WalkedTo saw (first ask.TryRecv)) trace (reply.TryRecv (result.0)) (result.1) }
+        ensures walked { SeenOn S.did S.shown S.entered self.now (λ saw. WalkedTo saw (first ask.TryRecv)) trace (reply.TryRecv (result.0)) (result.1) }
     {
         let mut seen = self.cells(trace);
         let received = calls::try_recv(self.rt, &mut seen, &mut WakeNow { rt: self.rt });
@@ -42,7 +42,7 @@ impl<'a, T: Drop, R: Wait + Copy> Traced<'a, T, R, OfReceivers> {
         limit: usize,
         trace: S,
     ) -> (Result<Vec<T>, Refused<TryRecvError>>, S)
-        ensures walked { SeenOn S.did S.shown self.now.form (λ saw. ReceivesMany saw limit) trace (result.0) (result.1) }
+        ensures walked { SeenOn S.did S.shown S.entered self.now (λ saw. ReceivesMany saw limit) trace (result.0) (result.1) }
         ensures most { IfOk (result.0) (λ messages. length messages.items ≤ limit) }
         ensures none { IfOk (result.0) (λ messages. messages.items ≡ [] → limit ≡ 0) }
         ensures wanted { OnErr (result.0) (0 < limit) }
@@ -62,7 +62,7 @@ impl<'a, T: Drop, R: Wait + Copy> Traced<'a, T, R, OfReceivers> {
         into: &mut Vec<T>,
         trace: S,
     ) -> (Result<usize, TryRecvError>, S)
-        ensures walked { SeenOn S.did S.shown self.now.form (λ saw begin r end. Fills saw (room_in into.old) into.old.items begin r into.new.items end) trace (result.0) (result.1) }
+        ensures walked { SeenOn S.did S.shown S.entered self.now (λ saw begin r end. Fills saw (room_in into.old) into.old.items begin r into.new.items end) trace (result.0) (result.1) }
         ensures most { IfOk (result.0) (λ n. n ≤ room_in into.old) }
         ensures none { IfOk (result.0) (λ n. n ≡ 0 → room_in into.old ≡ 0) }
         ensures wanted { IfErr (result.0) (λ _. 0 < room_in into.old) }
@@ -78,7 +78,7 @@ impl<'a, T: Drop, R: Wait + Copy> Traced<'a, T, R, OfReceivers> {
     /// Takes the oldest message, and blocks the thread while there is none.
     #[inline(always)]
     pub fn recv_blocking<S: Trace<T>>(&self, trace: S) -> (Result<T, Refused<RecvError>>, S)
-        ensures walked { SeenOn S.did S.shown self.now.form (λ saw begin r end. Blocks saw S.parked S.slept blocking.Receive begin r nothing_kept end) trace (reply.RecvPoll (poll.Ready (result.0))) (result.1) }
+        ensures walked { SeenOn S.did S.shown S.entered self.now (λ saw begin r end. Blocks saw S.parked S.slept blocking.Receive begin r nothing_kept end) trace (reply.RecvPoll (poll.Ready (result.0))) (result.1) }
     {
         let mut seen = self.counted.link.shared.cells_and_bed(self.rt, trace);
         let sink = &mut WakeNow { rt: self.rt };
@@ -89,7 +89,7 @@ impl<'a, T: Drop, R: Wait + Copy> Traced<'a, T, R, OfReceivers> {
     /// Whether this receiver as a stream has ended.
     #[inline(always)]
     pub fn is_terminated<S: Trace<T>>(&self, trace: S) -> (bool, S)
-        ensures walked { SeenOn S.did S.shown self.now.form (λ saw. WalkedTo saw (first ask.IsTerminated)) trace (reply.Flag (result.0)) (result.1) }
+        ensures walked { SeenOn S.did S.shown S.entered self.now (λ saw. WalkedTo saw (first ask.IsTerminated)) trace (reply.Flag (result.0)) (result.1) }
     {
         self.counted.link.shared.is_terminated(trace)
     }
@@ -100,7 +100,7 @@ impl<'a, T: Drop, R: Wait + Copy> Traced<'a, T, R, OfReceivers> {
     /// The next message of a walk over those that are there, which has ended or not: `None` ends it.
     #[inline(always)]
     pub fn next_there<S: Trace<T>>(&self, ended: &mut bool, trace: S) -> (Option<T>, S)
-        ensures walked { SeenOn S.did S.shown self.now.form (λ saw. TakesNext saw ended.old) trace (result.0) (result.1) }
+        ensures walked { SeenOn S.did S.shown S.entered self.now (λ saw. TakesNext saw ended.old) trace (result.0) (result.1) }
         ensures end { IsNext ended.old (result.0) ended.new }
     {
         let mut seen = self.cells(trace);
@@ -116,7 +116,7 @@ impl<'a, T: Drop, R: Wait + Copy> Traced<'a, T, R, OfReceivers> {
         ended: &mut bool,
         trace: S,
     ) -> (Option<Result<T, ListenError>>, S)
-        ensures walked { SeenOn S.did S.shown self.now.form (λ saw. WaitsForNext saw S.parked S.slept ended.old) trace (result.0) (result.1) }
+        ensures walked { SeenOn S.did S.shown S.entered self.now (λ saw. WaitsForNext saw S.parked S.slept ended.old) trace (result.0) (result.1) }
         ensures end { IsNext ended.old (result.0) ended.new }
     {
         let mut seen = self.counted.link.shared.cells_and_bed(self.rt, trace);

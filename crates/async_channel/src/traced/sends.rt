@@ -29,7 +29,7 @@ impl<'a, T: Drop, R: Wait + Copy> Traced<'a, T, R, OfSenders> {
         message: T,
         trace: S,
     ) -> (Result<(), Refused<TrySendError<T>, T>>, S)
-        ensures walked { SeenOn S.did S.shown self.now.form (λ saw. WalkedTo saw (first (ask.TrySend message))) trace (reply.TrySend (result.0)) (result.1) }
+        ensures walked { SeenOn S.did S.shown S.entered self.now (λ saw. WalkedTo saw (first (ask.TrySend message))) trace (reply.TrySend (result.0)) (result.1) }
         ensures refused { IfErr (result.0) (λ e. RefusesTrySend (is_bounded self.now.form) message e) }
     {
         let mut seen = self.cells(trace);
@@ -44,7 +44,7 @@ impl<'a, T: Drop, R: Wait + Copy> Traced<'a, T, R, OfSenders> {
         message: T,
         trace: S,
     ) -> (Result<Option<T>, Refused<SendError<T>, T>>, S)
-        ensures walked { SeenOn S.did S.shown self.now.form (λ saw. WalkedTo saw (first (ask.ForceSend message))) trace (reply.ForceSend (result.0)) (result.1) }
+        ensures walked { SeenOn S.did S.shown S.entered self.now (λ saw. WalkedTo saw (first (ask.ForceSend message))) trace (reply.ForceSend (result.0)) (result.1) }
         ensures refused { IfErr (result.0) (λ e. RefusesForceSend (is_bounded self.now.form) message e) }
         ensures displaced { room_of self.now.form ≡ None → IfOk (result.0) (λ oldest. oldest ≡ None) }
     {
@@ -60,7 +60,7 @@ impl<'a, T: Drop, R: Wait + Copy> Traced<'a, T, R, OfSenders> {
         message: T,
         trace: S,
     ) -> (Result<(), Refused<SendError<T>, T>>, S)
-        ensures walked { SeenOn S.did S.shown self.now.form (λ saw begin r end. Blocks saw S.parked S.slept (blocking.Send message) begin r (sent_left (result.0)) end) trace (sent_reply (result.0)) (result.1) }
+        ensures walked { SeenOn S.did S.shown S.entered self.now (λ saw begin r end. Blocks saw S.parked S.slept (blocking.Send message) begin r (sent_left (result.0)) end) trace (sent_reply (result.0)) (result.1) }
         ensures refused { IfErr (result.0) (λ e. Unsent e ≡ message) }
     {
         let mut seen = self.counted.link.shared.cells_and_bed(self.rt, trace);

@@ -1,4 +1,4 @@
-use Rattle.std.proofs.Common.{rules, ◌≡◌}
+use Rattle.std.proofs.Common.{refl, rules, ◌≡◌}
 use Rattle.channel_calls.specs.Asks.{first}
 use Rattle.channel_calls.specs.declared.ask.ChannelAsk.TheVariants as ask
 use Rattle.async_channel.proofs.Counts.{cloned, clone_refused}
@@ -11,12 +11,14 @@ pub returns-in-Ok-clause-walked : goal.returns-in-Ok-clause-walked
 unfolding SeenOn
 returns-in-Ok-clause-walked g c =
     let same : form_of c.cells-seen.result.cells.shared.now ≡ (handle_of c.args.link).form = search rules in
+    let enters : g.S.Trace-1.entered (handle_of c.args.link).seal c.args.trace c.cells-seen.result.trace = search rules in
     let deeds = c.in-Ok.ensures.deeds in
-    cloned (Saw g.S.Trace-2.did g.S.Trace-1.shown (handle_of c.args.link).form) g.K.Kind.side c.args.trace c.into_trace-trace.result deeds.0 c.in-Ok.raised (walked_to g.S.Trace-2.did g.S.Trace-1.shown (handle_of c.args.link).form (c.cells-seen.result, _) (c.clone_handle-counted.new.cells, _) c.args.trace c.into_trace-trace.result same c.cells-seen.ensures.trace c.into_trace-trace.ensures (first (ask.CloneHandle g.K.Kind.side)) deeds.0 deeds.1) deeds.2
+    (c.cells-seen.result.trace, enters, cloned (Saw g.S.Trace-2.did g.S.Trace-1.shown (handle_of c.args.link).form) g.K.Kind.side c.cells-seen.result.trace c.into_trace-trace.result deeds.0 c.in-Ok.raised (walked_to g.S.Trace-2.did g.S.Trace-1.shown (handle_of c.args.link).form (c.cells-seen.result, _) (c.clone_handle-counted.new.cells, _) c.cells-seen.result.trace c.into_trace-trace.result same refl c.into_trace-trace.ensures (first (ask.CloneHandle g.K.Kind.side)) deeds.0 deeds.1) deeds.2)
 
 pub returns-in-Err-clause-walked : goal.returns-in-Err-clause-walked
 unfolding SeenOn
 returns-in-Err-clause-walked g c =
     let same : form_of c.cells-seen.result.cells.shared.now ≡ (handle_of c.args.link).form = search rules in
+    let enters : g.S.Trace-1.entered (handle_of c.args.link).seal c.args.trace c.cells-seen.result.trace = search rules in
     let deeds = c.in-Err.ensures.deeds in
-    clone_refused (Saw g.S.Trace-2.did g.S.Trace-1.shown (handle_of c.args.link).form) g.K.Kind.side c.args.trace c.into_trace-trace.result deeds.0 c.in-Err.error c.in-Err.ensures.reason (walked_to g.S.Trace-2.did g.S.Trace-1.shown (handle_of c.args.link).form (c.cells-seen.result, _) (c.clone_handle-counted.new.cells, _) c.args.trace c.into_trace-trace.result same c.cells-seen.ensures.trace c.into_trace-trace.ensures (first (ask.CloneHandle g.K.Kind.side)) deeds.0 deeds.1) deeds.2
+    (c.cells-seen.result.trace, enters, clone_refused (Saw g.S.Trace-2.did g.S.Trace-1.shown (handle_of c.args.link).form) g.K.Kind.side c.cells-seen.result.trace c.into_trace-trace.result deeds.0 c.in-Err.error c.in-Err.ensures.reason (walked_to g.S.Trace-2.did g.S.Trace-1.shown (handle_of c.args.link).form (c.cells-seen.result, _) (c.clone_handle-counted.new.cells, _) c.cells-seen.result.trace c.into_trace-trace.result same refl c.into_trace-trace.ensures (first (ask.CloneHandle g.K.Kind.side)) deeds.0 deeds.1) deeds.2)

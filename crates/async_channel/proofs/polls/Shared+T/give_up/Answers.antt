@@ -1,4 +1,4 @@
-use Rattle.std.proofs.Common.{subst}
+use Rattle.std.proofs.Common.{refl, subst}
 use Rattle.std.specs.Prelude.{Option}
 use Rattle.event_listener.specs.declared.key.Key.{Key}
 use Rattle.channel_calls.specs.Asks.{first}
@@ -13,5 +13,5 @@ use Rattle.async_channel.proofs.polls.Shared+T.give_up.Goals as goal
 pub returns-clause-walked : goal.returns-clause-walked
 unfolding SeenOn
 returns-clause-walked g c =
-    let walked = walked_to g.S.Trace-2.did g.S.Trace-1.shown (form_of c.args.self.now) (c.cells-seen.result, _) (c.give_up-back.new.cells, _) c.args.trace c.into_trace.result c.cells-seen.ensures.form c.cells-seen.ensures.trace c.into_trace.ensures (first (ask.GiveUp c.args.line c.args.message c.end-key.result)) (reply.GivenUp c.give_up-back.result) c.give_up-back.ensures.deeds in
-    subst (λ (k : Option Key). WalkedTo (Saw g.S.Trace-2.did g.S.Trace-1.shown (form_of c.args.self.now)) (first (ask.GiveUp c.args.line c.args.message k)) c.args.trace (reply.GivenUp c.give_up-back.result) c.into_trace.result) c.end-key.ensures walked
+    let walked = walked_to g.S.Trace-2.did g.S.Trace-1.shown (form_of c.args.self.now) (c.cells-seen.result, _) (c.give_up-back.new.cells, _) c.cells-seen.result.trace c.into_trace.result c.cells-seen.ensures.form refl c.into_trace.ensures (first (ask.GiveUp c.args.line c.args.message c.end-key.result)) (reply.GivenUp c.give_up-back.result) c.give_up-back.ensures.deeds in
+    (c.cells-seen.result.trace, c.cells-seen.ensures.trace, subst (λ (k : Option Key). WalkedTo (Saw g.S.Trace-2.did g.S.Trace-1.shown (form_of c.args.self.now)) (first (ask.GiveUp c.args.line c.args.message k)) c.cells-seen.result.trace (reply.GivenUp c.give_up-back.result) c.into_trace.result) c.end-key.ensures walked)

@@ -1,3 +1,4 @@
+use Rattle.std.proofs.Common.{refl}
 use Rattle.channel_calls.specs.Asks.{first}
 use Rattle.channel_calls.specs.declared.ask.ChannelAsk.TheVariants as ask
 use Rattle.channel_calls.specs.declared.reply.Reply.TheVariants as reply
@@ -10,5 +11,5 @@ pub returns : goal.returns
 unfolding SeenOn
 returns g c =
     record {
-      walked = asked g.S.Trace-2.did g.S.Trace-1.shown (form_of c.args.self.now) (first ask.IsEmpty) c.words-seen.result c.is_empty-empty.new.words (reply.Flag c.is_empty-empty.result) c.args.trace c.into_trace.result c.words-seen.ensures.form c.words-seen.ensures.trace c.into_trace.ensures c.is_empty-empty.ensures.deeds;
+      walked = (c.words-seen.result.trace, c.words-seen.ensures.trace, asked g.S.Trace-2.did g.S.Trace-1.shown (form_of c.args.self.now) (first ask.IsEmpty) c.words-seen.result c.is_empty-empty.new.words (reply.Flag c.is_empty-empty.result) c.words-seen.result.trace c.into_trace.result c.words-seen.ensures.form refl c.into_trace.ensures c.is_empty-empty.ensures.deeds);
     }

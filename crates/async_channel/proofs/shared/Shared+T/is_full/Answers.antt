@@ -1,3 +1,4 @@
+use Rattle.std.proofs.Common.{refl}
 use Rattle.channel_calls.specs.Asks.{first}
 use Rattle.channel_calls.specs.declared.ask.ChannelAsk.TheVariants as ask
 use Rattle.channel_calls.specs.declared.reply.Reply.TheVariants as reply
@@ -9,4 +10,4 @@ use Rattle.async_channel.proofs.shared.Shared+T.is_full.Goals as goal
 pub returns-clause-walked : goal.returns-clause-walked
 unfolding SeenOn
 returns-clause-walked g c =
-    asked g.S.Trace-2.did g.S.Trace-1.shown (form_of c.args.self.now) (first ask.IsFull) c.words-seen.result c.is_full-full.new.words (reply.Flag c.is_full-full.result) c.args.trace c.into_trace.result c.words-seen.ensures.form c.words-seen.ensures.trace c.into_trace.ensures c.is_full-full.ensures.deeds
+    (c.words-seen.result.trace, c.words-seen.ensures.trace, asked g.S.Trace-2.did g.S.Trace-1.shown (form_of c.args.self.now) (first ask.IsFull) c.words-seen.result c.is_full-full.new.words (reply.Flag c.is_full-full.result) c.words-seen.result.trace c.into_trace.result c.words-seen.ensures.form refl c.into_trace.ensures c.is_full-full.ensures.deeds)

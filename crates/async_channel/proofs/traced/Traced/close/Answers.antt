@@ -1,3 +1,4 @@
+use Rattle.std.proofs.Common.{refl}
 use Rattle.channel_calls.specs.Asks.{first}
 use Rattle.channel_calls.specs.declared.ask.ChannelAsk.TheVariants as ask
 use Rattle.channel_calls.specs.declared.reply.Reply.TheVariants as reply
@@ -9,5 +10,5 @@ pub returns : goal.returns
 unfolding SeenOn
 returns g c =
     record {
-      walked = walked_to g.S.Trace-2.did g.S.Trace-1.shown c.args.self.now.form (c.cells-seen.result, _) (c.close-closed.new.cells, _) c.args.trace c.into_trace.result c.cells-seen.ensures.form c.cells-seen.ensures.trace c.into_trace.ensures (first ask.Close) (reply.Closed c.close-closed.result) c.close-closed.ensures.deeds;
+      walked = (c.cells-seen.result.trace, c.cells-seen.ensures.trace, walked_to g.S.Trace-2.did g.S.Trace-1.shown c.args.self.now.form (c.cells-seen.result, _) (c.close-closed.new.cells, _) c.cells-seen.result.trace c.into_trace.result c.cells-seen.ensures.form refl c.into_trace.ensures (first ask.Close) (reply.Closed c.close-closed.result) c.close-closed.ensures.deeds);
     }

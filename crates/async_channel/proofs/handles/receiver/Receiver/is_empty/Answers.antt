@@ -1,7 +1,5 @@
-use Rattle.std.proofs.Common.{ap}
-use Rattle.async_channel.specs.Handles.{Handle}
 use Rattle.async_channel.proofs.Traces.{watched}
 use Rattle.async_channel.proofs.handles.receiver.Receiver.is_empty.Goals as goal
 
 pub returns : goal.returns
-returns g c = record { walked = watched g.S.Trace-2.did g.S.Trace-1.shown _ _ _ _ _ _ (ap (λ (h : Handle). h.form) c.traced.ensures) c.is_empty.ensures.walked }
+returns g c = record { walked = watched g.S.Trace-2.did g.S.Trace-1.shown g.S.Trace-1.entered _ _ _ _ _ _ c.traced.ensures c.is_empty.ensures.walked }

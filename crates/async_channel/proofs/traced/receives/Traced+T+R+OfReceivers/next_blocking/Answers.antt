@@ -1,4 +1,4 @@
-use Rattle.std.proofs.Common.{sym, rules, ◌≡◌}
+use Rattle.std.proofs.Common.{refl, sym, rules, ◌≡◌}
 use Rattle.async_channel.specs.Handles.{form_of}
 use Rattle.async_channel.specs.Saw.{SeenOn}
 use Rattle.async_channel.proofs.Traces.{waited}
@@ -8,4 +8,5 @@ pub returns-clause-walked : goal.returns-clause-walked
 unfolding SeenOn
 returns-clause-walked g c =
     let same : form_of c.cells_and_bed-seen.result.cells.shared.now ≡ c.args.self.now.form = search rules in
-    waited g.S.Trace-2.did g.S.Trace-1.shown c.args.self.now.form (c.cells_and_bed-seen.result, _) (c.next_blocking-next.new.cells, _) c.args.trace c.into_trace.result same c.cells_and_bed-seen.ensures.trace c.into_trace.ensures g.S.Trace-1.parked g.S.Trace-1.slept (sym (c.next_blocking-next.ensures.form c.args.self.now.form (sym same))) c.args.ended.now c.next_blocking-next.result c.next_blocking-next.ensures.deeds
+    let enters : g.S.Trace-1.entered c.args.self.now.seal c.args.trace c.cells_and_bed-seen.result.trace = search rules in
+    (c.cells_and_bed-seen.result.trace, enters, waited g.S.Trace-2.did g.S.Trace-1.shown c.args.self.now.form (c.cells_and_bed-seen.result, _) (c.next_blocking-next.new.cells, _) c.cells_and_bed-seen.result.trace c.into_trace.result same refl c.into_trace.ensures g.S.Trace-1.parked g.S.Trace-1.slept (sym (c.next_blocking-next.ensures.form c.args.self.now.form (sym same))) c.args.ended.now c.next_blocking-next.result c.next_blocking-next.ensures.deeds)

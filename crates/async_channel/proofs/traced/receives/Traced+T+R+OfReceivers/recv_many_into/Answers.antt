@@ -1,3 +1,4 @@
+use Rattle.std.proofs.Common.{refl}
 use Rattle.async_channel.specs.Saw.{SeenOn}
 use Rattle.async_channel.proofs.Traces.{filled}
 use Rattle.async_channel.proofs.traced.receives.Traced+T+R+OfReceivers.recv_many_into.Goals as goal
@@ -5,4 +6,4 @@ use Rattle.async_channel.proofs.traced.receives.Traced+T+R+OfReceivers.recv_many
 pub returns-clause-walked : goal.returns-clause-walked
 unfolding SeenOn
 returns-clause-walked g c =
-    filled g.S.Trace-2.did g.S.Trace-1.shown c.args.self.now.form (c.cells-seen.result, _) (c.recv_many_into-received.new.cells, _) c.args.trace c.into_trace.result c.cells-seen.ensures.form c.cells-seen.ensures.trace c.into_trace.ensures _ _ _ c.recv_many_into-received.result c.recv_many_into-received.ensures.deeds
+    (c.cells-seen.result.trace, c.cells-seen.ensures.trace, filled g.S.Trace-2.did g.S.Trace-1.shown c.args.self.now.form (c.cells-seen.result, _) (c.recv_many_into-received.new.cells, _) c.cells-seen.result.trace c.into_trace.result c.cells-seen.ensures.form refl c.into_trace.ensures _ _ _ c.recv_many_into-received.result c.recv_many_into-received.ensures.deeds)
