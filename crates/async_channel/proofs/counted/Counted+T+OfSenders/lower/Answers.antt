@@ -12,8 +12,12 @@ returns g c =
     let same : form_of c.cells-seen.result.cells.shared.now ≡ (handle_of c.args.self.link).form = search rules in
     let enters : g.S.Trace-1.entered (handle_of c.args.self.link).seal c.args.trace c.cells-seen.result.trace = search rules in
     record {
-      walked = (c.cells-seen.result.trace, enters, (
-        c.drop_sender.ensures.deeds.0,
-        walked_to g.S.Trace-2.did g.S.Trace-1.shown (handle_of c.args.self.link).form (c.cells-seen.result, _) (c.drop_sender.new.cells, _) c.cells-seen.result.trace c.into_trace.result same refl c.into_trace.ensures (first ask.DropSender) c.drop_sender.ensures.deeds.0 c.drop_sender.ensures.deeds.1,
-      ));
+      walked = (
+        c.cells-seen.result.trace,
+        enters,
+        (
+          c.drop_sender.ensures.deeds.0,
+          walked_to g.S.Trace-2.did g.S.Trace-1.shown (handle_of c.args.self.link).form (c.cells-seen.result, _) (c.drop_sender.new.cells, _) c.cells-seen.result.trace c.into_trace.result same refl c.into_trace.ensures (first ask.DropSender) c.drop_sender.ensures.deeds.0 c.drop_sender.ensures.deeds.1,
+        ),
+      );
     }
