@@ -20,6 +20,7 @@ use Rattle.channel_steps.specs.declared.run.Step.{Step}
 use Rattle.channel_steps.specs.declared.run.Step.TheVariants as step
 use Rattle.channel_steps.proofs.Interface.{each_says, few_left, hold_still}
 use Rattle.channel_steps.proofs.StartFacts.{new_shown}
+use Rattle.channel_laws.specs.Amounts.{HoldsListener}
 use Rattle.channel_laws.specs.Bounds.{BoundSound}
 use Rattle.channel_laws.specs.Bridge.{MergeMoment, NextMoment, Happening, steps_of, opened_parts, just_opened, LastsFor, MergesAreRuns}
 use Rattle.channel_laws.specs.BridgeEnd.{NewCallsGiveNothing, NoMessageAfter}
@@ -97,8 +98,8 @@ module _ {T W S : Type 0} where
         in_order = k.order;
         fits = k.bound.fits;
         begun = all_begin m.scene.now m.scene.under_way sh.known;
-        receives = pending_owed Receives tt MessagesAreFew counts_for_receives m.scene k.sound.receives.owed;
-        sends = pending_owed Sends tt PlacesAreFew counts_for_sends m.scene k.sound.sends.owed;
+        receives = pending_owed Receives MessagesAreFew counts_for_receives (HoldsListener Receives) (λ c. ⊥) m.scene k.sound.receives.owed;
+        sends = pending_owed Sends PlacesAreFew counts_for_sends (HoldsListener Sends) (λ c. ⊥) m.scene k.sound.sends.owed;
         streams = streams.pending_owed m.scene k.sound.streams.owed;
         closing = closings.pending_owed m.scene k.sound.closing.owed;
         words = words_say m.parts m.parties m.scene sh;

@@ -18,7 +18,7 @@ use Rattle.event_listener.specs.declared.key.Key.{Key}
 use Rattle.channel_steps.specs.Known.{all_from, ToldAt}
 use Rattle.channel_steps.specs.Moments.{MarkedMoment, with_marked, Shut}
 use Rattle.channel_steps.specs.Tellings.{Telling, one_of, more_of, all_of, owed_for, owed_takings, takings, owed_besides, owed}
-use Rattle.channel_laws.specs.Closings.{HasClosed}
+use Rattle.channel_laws.specs.Closings.{HasClosed, HasToTell}
 use Rattle.channel_laws.specs.Ends.{IsStill}
 use Rattle.channel_laws.specs.Waits.{Waits}
 use Rattle.channel_laws.proofs.ClosedMoves.{worked_spares}
@@ -90,6 +90,10 @@ module _ {T W : Type 0} where
       has_owed ds (subst (λ (ts : List Telling). IsAmong (all_of Closings) ts) h
       (among_right (all_of Closings) told (all_from line) (closings_last line)))
 
+  pub told_has_closed : (line : Line) (told : List Telling) (at : Stage (Phase T) T W) (ds : List (MarkedMoment T W)) → ToldAt told at ds → HasToTell line at → HasClosed ds
+  told_has_closed line told (Working (TellAll next closer)) ds h tells = teller_has_closed told next closer ds h
+  told_has_closed line told at ds h tells = absurd tells
+
   -- ---- marks
 
   had_or_last : (ds : List (MarkedMoment T W)) (d : MarkedMoment T W) → HasClosed (ds ++ d ∷ []) → HasClosed ds ⊎ (d.mark ≡ Close)
@@ -126,12 +130,3 @@ module _ {T W : Type 0} where
   close_shuts c (Working w) e r s g closes = let k = worked_spares c w e r s g in absurd (subst IsStill closes k.1)
   close_shuts c (Finished kept) e r s g closes =
       absurd (let never : Nothing ≡ Close = sym (ap (λ (z : Effect T W). z.mark) g.0) ∙ closes in cc)
-
-  -- ---- all of a list
-
-  pub nobody_left : (line : Line) (key : Key) (c : Channel T W)
-      → Waits line key (let e : Effect T W = tells_all line c in e.channel) → ⊥
-  nobody_left Sends key c w = w
-  nobody_left Receives key c w = w
-  nobody_left Streams key c w = w
-  nobody_left Closings key c w = w

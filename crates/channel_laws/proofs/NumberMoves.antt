@@ -21,7 +21,7 @@ use Rattle.channel_laws.specs.Amounts.{is_trying, is_trying_anew}
 use Rattle.channel_laws.specs.Receives.{has_appended}
 use Rattle.channel_laws.specs.Sends.{has_taken, has_displaced}
 use Rattle.channel_laws.proofs.Closed.{one_fewer}
-use Rattle.channel_laws.proofs.StreamMoves.{IsPush}
+use Rattle.channel_laws.proofs.AskFacts.{IsPush, MayTake}
 use Rattle.channel_laws.proofs.TotalFacts.{left_over}
 
 module _ {T : Type 0} where
@@ -38,11 +38,14 @@ module _ {T : Type 0} where
   one_replaced q v = length-append (drop 1 q.items) (v ∷ [])
 
   module _ (q : Queue T) (v : T) where
-    pub push_brings : (m : QueueMark) (s t : queue.Stage T) → ContinuesPush q m s t
-        → number (ask.Push v) s m q + has_appended s ≤ length q.items + has_appended t
-    push_brings Nothing (trying b) t g = let k = ap has_appended g in omega (arith, k)
-    push_brings Nothing (appended None) t g = let k = ap has_appended g in omega (arith, k)
-    push_brings Append (trying b) t g = let k = ap has_appended g.2 in let n = one_appended q v in omega (arith, k, n)
+    -- who brings a message has it in from then on
+    abbrev Brings : QueueAsk T → QueueMark → queue.Stage T → queue.Stage T → Type 0
+    Brings a m s t = (number a s m q + has_appended s ≤ length q.items + has_appended t) × (has_appended s ≤ has_appended t)
+
+    pub push_brings : (m : QueueMark) (s t : queue.Stage T) → ContinuesPush q m s t → Brings (ask.Push v) m s t
+    push_brings Nothing (trying b) t g = let k = ap has_appended g in (omega (arith, k), omega arith)
+    push_brings Nothing (appended None) t g = let k = ap has_appended g in (omega (arith, k), omega (arith, k))
+    push_brings Append (trying b) t g = let k = ap has_appended g.2 in let n = one_appended q v in (omega (arith, k, n), omega arith)
     push_brings m s t g = absurd g
 
     pub push_fills : (m : QueueMark) (s t : queue.Stage T) → ContinuesPush q m s t
@@ -53,19 +56,18 @@ module _ {T : Type 0} where
     push_fills Append (trying b) t g = let n = one_appended q v in (omega (arith, n), omega (arith, n))
     push_fills m s t g = absurd g
 
-    pub force_brings : (m : QueueMark) (s t : queue.Stage T) → ContinuesForce q m s t
-        → number (ask.ForcePush v) s m q + has_appended s ≤ length q.items + has_appended t
-    force_brings Nothing (trying b) t g = let k = ap has_appended g in omega (arith, k)
-    force_brings Nothing (displaced d) t g = let k = ap has_appended g in omega (arith, k)
-    force_brings Nothing (appended o) t g = let k = ap has_appended g in omega (arith, k)
-    force_brings Append (trying b) t g = let k = ap has_appended g.2 in let n = one_appended q v in omega (arith, k, n)
-    force_brings Append (displaced d) t g = let k = ap has_appended g.2 in let n = one_appended q v in omega (arith, k, n)
+    pub force_brings : (m : QueueMark) (s t : queue.Stage T) → ContinuesForce q m s t → Brings (ask.ForcePush v) m s t
+    force_brings Nothing (trying b) t g = let k = ap has_appended g in (omega (arith, k), omega arith)
+    force_brings Nothing (displaced d) t g = let k = ap has_appended g in (omega (arith, k), omega arith)
+    force_brings Nothing (appended o) t g = let k = ap has_appended g in (omega (arith, k), omega (arith, k))
+    force_brings Append (trying b) t g = let k = ap has_appended g.2 in let n = one_appended q v in (omega (arith, k, n), omega arith)
+    force_brings Append (displaced d) t g = let k = ap has_appended g.2 in let n = one_appended q v in (omega (arith, k, n), omega arith)
     force_brings Replace (trying b) t g =
         let k = ap has_appended g.5 in
         let n = one_replaced q v in
         let f = one_fewer q g.0 g.1 in
-        omega (arith, k, n, f)
-    force_brings TakeDisplaced (trying b) t g = let f = one_fewer q g.0 g.1 in omega (arith, f)
+        (omega (arith, k, n, f), omega arith)
+    force_brings TakeDisplaced (trying b) t g = let f = one_fewer q g.0 g.1 in (omega (arith, f), omega arith)
     force_brings m s t g = absurd g
 
     pub force_fills : (m : QueueMark) (s t : queue.Stage T) → ContinuesForce q m s t
@@ -81,12 +83,6 @@ module _ {T : Type 0} where
         omega (arith, n, f)
     force_fills TakeDisplaced (trying b) t g = let k = ap has_displaced g.5 in let f = one_fewer q g.0 g.1 in omega (arith, k, f)
     force_fills m s t g = absurd g
-
-  -- a call that may take a message
-  abbrev pub MayTake : QueueAsk T → Type 0
-  MayTake (ask.ForcePush v) = Unit {0}
-  MayTake ask.Pop = Unit {0}
-  MayTake a = ⊥
 
   -- ---- pops
 
