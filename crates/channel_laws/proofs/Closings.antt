@@ -10,7 +10,7 @@ use Rattle.channel_steps.specs.declared.party.Entry.{Entry}
 use Rattle.channel_steps.specs.declared.run.Step.{Step}
 use Rattle.channel_steps.proofs.Interface.{known_next}
 use Rattle.channel_laws.specs.Closings.{HasClosed, HasToTell, LooksAgain, ClosingIsOwed, PendingIsOwedTheClosing, AnswersClosed, ClosingSound, ClosingStaysOwed, EachRunOwesTheClosing}
-use Rattle.channel_laws.specs.Waits.{Waits, WaitApart, Any}
+use Rattle.channel_laws.specs.Waits.{WaitApart, Any}
 use Rattle.channel_laws.proofs.AllOwed.{as_counts, as_calls}
 use Rattle.channel_laws.proofs.AnyFacts.{any_but}
 use Rattle.channel_laws.proofs.ClosingMoves.{counts_for_closing, counts_tell, tell_counts, TellsIt, OpenOrTold, closing_ledger}

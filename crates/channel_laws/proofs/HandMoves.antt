@@ -11,11 +11,10 @@ use Rattle.concurrent_queue.specs.declared.error.PopError.TheVariants as pop_err
 use Rattle.concurrent_queue.specs.declared.error.PushError.TheVariants as push_error
 use Rattle.event_listener.specs.declared.key.Key.{Key}
 use Rattle.channel_calls.specs.Answered.{polled_next}
-use Rattle.channel_calls.specs.Moves.{Channel, Effect, queued, leaves, removes, Turned, Moves}
+use Rattle.channel_calls.specs.Moves.{Channel, Effect, queued, Turned, Moves}
 use Rattle.channel_calls.specs.declared.ask.ChannelAsk.{ChannelAsk}
 use Rattle.channel_calls.specs.declared.reply.Reply.{Reply}
 use Rattle.channel_calls.specs.declared.stage.Aim.TheVariants as aim
-use Rattle.channel_calls.specs.declared.stage.Held.{Held}
 use Rattle.channel_calls.specs.declared.stage.Line.{Line}
 use Rattle.channel_calls.specs.declared.stage.Line.TheVariants.{Sends, Receives}
 use Rattle.channel_calls.specs.declared.stage.Stage.{Stage}

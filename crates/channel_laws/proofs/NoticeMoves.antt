@@ -4,7 +4,7 @@ use Rattle.concurrent_queue.specs.Queue.{Phase}
 use Rattle.concurrent_queue.specs.declared.call.QueueMark.{QueueMark}
 use Rattle.concurrent_queue.specs.declared.call.QueueMark.TheVariants as queue
 use Rattle.channel_calls.specs.Marks.{mark_of_queue}
-use Rattle.channel_calls.specs.Moves.{Channel, Effect, queued, tells_all, Moves}
+use Rattle.channel_calls.specs.Moves.{Channel, Effect, queued, Moves}
 use Rattle.channel_calls.specs.declared.mark.Mark.{Mark}
 use Rattle.channel_calls.specs.declared.mark.Mark.TheVariants.{Nothing, Append, Replace, Close}
 use Rattle.channel_calls.specs.declared.reply.Reply.{Reply}
@@ -14,13 +14,11 @@ use Rattle.channel_calls.specs.declared.stage.Line.TheVariants.{Sends, Receives,
 use Rattle.channel_calls.specs.declared.stage.Stage.{Stage}
 use Rattle.channel_calls.specs.declared.stage.Stage.TheVariants.{Trying, Working, Finished}
 use Rattle.channel_calls.specs.declared.stage.Work.TheVariants.{TellAll}
-use Rattle.event_listener.specs.declared.key.Key.{Key}
 use Rattle.channel_steps.specs.Known.{all_from, ToldAt}
 use Rattle.channel_steps.specs.Moments.{MarkedMoment, with_marked, Shut}
 use Rattle.channel_steps.specs.Tellings.{Telling, one_of, more_of, all_of, owed_for, owed_takings, takings, owed_besides, owed}
 use Rattle.channel_laws.specs.Closings.{HasClosed, HasToTell}
 use Rattle.channel_laws.specs.Ends.{IsStill}
-use Rattle.channel_laws.specs.Waits.{Waits}
 use Rattle.channel_laws.proofs.ClosedMoves.{worked_spares}
 
 -- ---- tellings

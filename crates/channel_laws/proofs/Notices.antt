@@ -1,5 +1,5 @@
 -- How those who were told were told, over runs.
-use Rattle.std.proofs.Common.{◌≡◌, ℕ, Bool, true, false, List, [], Option, ◌⊎◌, inl, inr, refl, sym, ◌∙◌, subst}
+use Rattle.std.proofs.Common.{◌≡◌, ℕ, Bool, true, false, List, Option, ◌⊎◌, inl, inr, refl, sym, ◌∙◌, subst}
 use Rattle.concurrent_queue.specs.Queue.{Phase}
 use Rattle.event_listener.specs.declared.key.Key.{Key}
 use Rattle.channel_calls.specs.Moves.{Channel, Effect, tells_all, Moves}
@@ -23,7 +23,7 @@ use Rattle.channel_steps.proofs.Interface.{known_next}
 use Rattle.channel_laws.specs.Closings.{HasClosed, LooksAgain}
 use Rattle.channel_laws.specs.Ends.{Each}
 use Rattle.channel_laws.specs.Notices.{MayBeTold, IsOneByOne, EachTold, AnyTold, told_of, TellingsSound, TellingsStayFit, TellingsAlwaysFit}
-use Rattle.channel_laws.specs.Waits.{Waits, WaitApart, Any}
+use Rattle.channel_laws.specs.Waits.{Waits, Any}
 use Rattle.channel_laws.proofs.AnyFacts.{any_mine, any_steps, any_begins}
 use Rattle.channel_laws.proofs.Closed.{shut_does}
 use Rattle.channel_laws.proofs.Closings.{new_apart}

@@ -1,6 +1,6 @@
 -- On a list that is told one at a time, a step on lists pays: as many more are told as the call counts for less.
-use Rattle.std.proofs.Common.{◌≡◌, ℕ, ◌+◌, ◌≤◌, false, Option, None, ◌⊎◌, inl, inr, refl, ap, arith, List, length}
-use Rattle.concurrent_queue.specs.Queue.{Queue, Phase}
+use Rattle.std.proofs.Common.{◌≡◌, ℕ, ◌+◌, ◌≤◌, false, Option, None, ◌⊎◌, inl, inr, refl, arith, List, length}
+use Rattle.concurrent_queue.specs.Queue.{Phase}
 use Rattle.event_listener.specs.declared.key.Key.{Key}
 use Rattle.channel_calls.specs.Moves.{Channel, Effect, Worked}
 use Rattle.channel_calls.specs.Turns.{line_of, again}

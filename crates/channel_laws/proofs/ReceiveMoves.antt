@@ -13,7 +13,7 @@ use Rattle.concurrent_queue.specs.declared.error.PushError.TheVariants as push_e
 use Rattle.concurrent_queue.specs.declared.error.ForcePushError.TheVariants as force_error
 use Rattle.event_listener.specs.declared.key.Key.{Key}
 use Rattle.channel_calls.specs.Answered.{answered_next}
-use Rattle.channel_calls.specs.Moves.{Channel, Effect, queued, Turned, Moves}
+use Rattle.channel_calls.specs.Moves.{Channel, Effect, queued, Moves}
 use Rattle.channel_calls.specs.Turns.{line_of, again}
 use Rattle.channel_calls.specs.declared.ask.ChannelAsk.{ChannelAsk}
 use Rattle.channel_calls.specs.declared.ask.ChannelAsk.TheVariants as channel
@@ -27,8 +27,8 @@ use Rattle.channel_calls.specs.declared.stage.Stage.TheVariants.{Trying, Working
 use Rattle.channel_calls.specs.declared.stage.Waiting.{Waiting}
 use Rattle.channel_calls.specs.declared.stage.Waiting.TheVariants as waiting
 use Rattle.channel_calls.specs.declared.stage.Work.{Work}
-use Rattle.channel_calls.specs.declared.stage.Work.TheVariants.{TellReceive, Register}
-use Rattle.channel_steps.specs.Known.{TriesFor, IsFor, WorkAt, StageAt}
+use Rattle.channel_calls.specs.declared.stage.Work.TheVariants.{TellReceive}
+use Rattle.channel_steps.specs.Known.{TriesFor, IsFor, StageAt}
 use Rattle.channel_steps.specs.Moments.{MarkedMoment}
 use Rattle.channel_laws.specs.Amounts.{HoldsListener}
 use Rattle.channel_laws.specs.Notices.{AnyTold, told_of}

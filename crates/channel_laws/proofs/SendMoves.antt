@@ -18,7 +18,7 @@ use Rattle.concurrent_queue.specs.declared.error.PushError.TheVariants as push_e
 use Rattle.concurrent_queue.specs.declared.error.ForcePushError.TheVariants as force_error
 use Rattle.event_listener.specs.declared.key.Key.{Key}
 use Rattle.channel_calls.specs.Answered.{answered_next, gathered_next, short_next}
-use Rattle.channel_calls.specs.Moves.{Channel, Effect, queued, Turned, Moves}
+use Rattle.channel_calls.specs.Moves.{Channel, Effect, queued, Moves}
 use Rattle.channel_calls.specs.Turns.{line_of, again}
 use Rattle.channel_calls.specs.declared.ask.ChannelAsk.{ChannelAsk}
 use Rattle.channel_calls.specs.declared.ask.ChannelAsk.TheVariants as channel
@@ -26,15 +26,14 @@ use Rattle.channel_calls.specs.declared.ask.Loan.{Loan}
 use Rattle.channel_calls.specs.declared.reply.Reply.{Reply}
 use Rattle.channel_calls.specs.declared.stage.Aim.{Aim}
 use Rattle.channel_calls.specs.declared.stage.Aim.TheVariants as aim
-use Rattle.channel_calls.specs.declared.stage.Closer.TheVariants as closer
 use Rattle.channel_calls.specs.declared.stage.Line.TheVariants.{Sends, Receives, Streams, Closings}
 use Rattle.channel_calls.specs.declared.stage.Stage.{Stage}
 use Rattle.channel_calls.specs.declared.stage.Stage.TheVariants.{Trying, Working, Finished}
 use Rattle.channel_calls.specs.declared.stage.Waiting.{Waiting}
 use Rattle.channel_calls.specs.declared.stage.Waiting.TheVariants as waiting
 use Rattle.channel_calls.specs.declared.stage.Work.{Work}
-use Rattle.channel_calls.specs.declared.stage.Work.TheVariants.{TellSend, TellSends, Register}
-use Rattle.channel_steps.specs.Known.{TriesFor, IsFor, WorkAt, StageAt}
+use Rattle.channel_calls.specs.declared.stage.Work.TheVariants.{TellSend, TellSends}
+use Rattle.channel_steps.specs.Known.{TriesFor, IsFor, StageAt}
 use Rattle.channel_steps.specs.Moments.{MarkedMoment, Shut}
 use Rattle.channel_laws.specs.Amounts.{HoldsListener}
 use Rattle.channel_laws.specs.Notices.{AnyTold, told_of}

@@ -1,5 +1,5 @@
 -- Waiting streams over runs.
-use Rattle.std.proofs.Common.{ℕ, List, [], Option, ◌⊎◌, inl, inr, refl}
+use Rattle.std.proofs.Common.{ℕ, List, Option, ◌⊎◌, inl, inr, refl}
 use Rattle.channel_calls.specs.declared.stage.Line.TheVariants.{Streams}
 use Rattle.channel_steps.specs.Run.{Next, new_scene}
 use Rattle.channel_steps.specs.Scene.{Scene}

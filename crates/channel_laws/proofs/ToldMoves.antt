@@ -1,26 +1,21 @@
 -- What a step does to those of a list that were told.
-use Rattle.std.proofs.Common.{◌≡◌, ℕ, ◌+◌, ◌-◌, ◌≤◌, Bool, true, false, if◌then◌else◌, List, [], length, Option, None, Some, ◌⊎◌, inl, inr, refl, sym, ap, subst, arith}
+use Rattle.std.proofs.Common.{◌≡◌, ℕ, ◌+◌, ◌≤◌, Bool, true, false, if◌then◌else◌, length, Option, None, ◌⊎◌, inl, inr, refl, sym, ap, subst, arith}
 use Rattle.concurrent_queue.specs.Queue.{Phase}
-use Rattle.event_listener.specs.Lists.{listened, registration, removed, removed_wakes}
+use Rattle.event_listener.specs.Lists.{registration, removed}
 use Rattle.event_listener.specs.declared.key.Key.{Key}
-use Rattle.channel_calls.specs.Marks.{up, down}
-use Rattle.channel_calls.specs.Moves.{Channel, Effect, queued, untouched, on_line, on_count, leaves, Turned, Worked, Moves}
-use Rattle.channel_calls.specs.Parts.{Listeners, listeners, count, is_raised, told_one, told_one_wakes, told_more, told_more_wakes, told_all, told_all_wakes, waits}
+use Rattle.channel_calls.specs.Moves.{Channel, Effect, Turned, Worked, Moves}
+use Rattle.channel_calls.specs.Parts.{Listeners, listeners, waits}
 use Rattle.channel_calls.specs.Turns.{line_of, again, pends_by}
-use Rattle.channel_calls.specs.declared.mark.Mark.{Mark}
 use Rattle.channel_calls.specs.declared.reply.Reply.{Reply}
-use Rattle.channel_calls.specs.declared.stage.Held.{Held}
 use Rattle.channel_calls.specs.declared.stage.Line.{Line}
-use Rattle.channel_calls.specs.declared.stage.Line.TheVariants.{Sends, Receives, Streams, Closings}
-use Rattle.channel_calls.specs.declared.stage.Side.{Side}
-use Rattle.channel_calls.specs.declared.stage.Side.TheVariants.{Senders, Receivers}
+use Rattle.channel_calls.specs.declared.stage.Line.TheVariants.{Sends, Receives, Streams}
 use Rattle.channel_calls.specs.declared.stage.Stage.{Stage}
 use Rattle.channel_calls.specs.declared.stage.Stage.TheVariants.{Trying, Working, Finished}
 use Rattle.channel_calls.specs.declared.stage.Ending.{Ending}
 use Rattle.channel_calls.specs.declared.stage.Waiting.{Waiting}
 use Rattle.channel_calls.specs.declared.stage.Work.{Work}
-use Rattle.channel_calls.specs.declared.stage.Work.TheVariants.{TellReceive, TellStreams, TellSend, TellSends, TakeRoom, TellAll, Insert, Register, Leave, Lower, Count, Load, Raise}
-use Rattle.channel_laws.specs.Notices.{IsOneByOne, AnyTold, told_of}
+use Rattle.channel_calls.specs.declared.stage.Work.TheVariants.{TellReceive, TellStreams, TellSend, TellSends, TellAll, Insert, Register, Leave}
+use Rattle.channel_laws.specs.Notices.{AnyTold, told_of}
 use Rattle.channel_laws.specs.Waits.{IsIn}
 use Rattle.channel_laws.proofs.Sections.{Touched, TellsOthers, Section, section}
 use Rattle.channel_laws.proofs.ToldFacts.{any_told_one, any_told_more, any_told_all, any_after_removal, any_registration, told_one_counts, told_more_counts, removed_counts, registered_counts}
