@@ -1,14 +1,7 @@
 -- Where one call tells all of a list, who waits there is owed no number: there is no cause, or a call is to tell. As numbers that is
 -- the one law of `Owed`, in which such a call counts for one.
 use Rattle.std.proofs.Common.{◌≡◌, ℕ, zero, suc, ◌≤◌, List, [], ◌∷◌, ◌⊎◌, inl, inr, refl, arith}
-use Rattle.concurrent_queue.specs.Queue.{Phase}
-use Rattle.event_listener.specs.declared.key.Key.{Key}
-use Rattle.channel_calls.specs.Moves.{Channel}
-use Rattle.channel_calls.specs.declared.ask.ChannelAsk.{ChannelAsk}
-use Rattle.channel_calls.specs.declared.stage.Stage.{Stage}
-use Rattle.channel_steps.specs.Scene.{Under, Scene, Known, AllKnown}
-use Rattle.channel_laws.specs.Amounts.{total}
-use Rattle.channel_laws.specs.Waits.{Any}
+use Rattle.channel_laws.proofs.Words.{Phase, Key, Channel, ChannelAsk, Stage, Under, Scene, Known, AllKnown, total, Any}
 use Rattle.channel_laws.proofs.AnyFacts.{any_weaker}
 
 module _ {T W : Type 0} (Free : Channel T W → Type 0) (Tells : Under T W → Type 0) (Holds : Key → Stage (Phase T) T W → Type 0)

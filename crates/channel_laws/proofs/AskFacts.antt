@@ -1,54 +1,16 @@
 -- What a call asks of the queue, and the two ways of a step of the queue's call.
 use Rattle.std.proofs.Common.{◌≡◌, true, List, Option, None, Some, ◌⊎◌, inl, inr, refl, ap, ◌∙◌, subst}
-use Rattle.concurrent_queue.specs.Queue.{Queue, Phase, trying, IsOpen, AnswersTo, Continues, Answers}
+use Rattle.channel_laws.proofs.Words.{Queue, Phase, trying, IsOpen, AnswersTo, Continues, Answers, QueueAsk, QueueMark, Nothing, QueueReply, Key, answered_next, Channel, Effect, leaves, Turned, leaving, ChannelAsk, Reply, Aim, Ending, Held, Line, Sends, Receives, Streams, Closings, Stage, Trying, Working, Turn, Works, Ends, Leave, TriesFor, MarkedMoment, removes, IsSending, Waits, WaitApart}
 use Rattle.concurrent_queue.specs.Queue as queue
-use Rattle.concurrent_queue.specs.declared.call.QueueAsk.{QueueAsk}
 use Rattle.concurrent_queue.specs.declared.call.QueueAsk.TheVariants as ask
-use Rattle.concurrent_queue.specs.declared.call.QueueMark.{QueueMark}
-use Rattle.concurrent_queue.specs.declared.call.QueueMark.TheVariants.{Nothing, Close}
-use Rattle.concurrent_queue.specs.declared.call.QueueReply.{QueueReply}
+use Rattle.concurrent_queue.specs.declared.call.QueueMark.TheVariants.{Close}
 use Rattle.concurrent_queue.specs.declared.call.QueueReply.TheVariants as answer
-use Rattle.event_listener.specs.declared.key.Key.{Key}
-use Rattle.channel_calls.specs.Answered.{answered_next}
-use Rattle.channel_calls.specs.Moves.{Channel, Effect, leaves, removes, Turned}
-use Rattle.channel_calls.specs.Turns.{leaving}
-use Rattle.channel_calls.specs.declared.ask.ChannelAsk.{ChannelAsk}
 use Rattle.channel_calls.specs.declared.ask.ChannelAsk.TheVariants as channel
-use Rattle.channel_calls.specs.declared.reply.Reply.{Reply}
-use Rattle.channel_calls.specs.declared.stage.Aim.{Aim}
 use Rattle.channel_calls.specs.declared.stage.Aim.TheVariants as aim
 use Rattle.channel_calls.specs.declared.stage.Closer.TheVariants as closer
-use Rattle.channel_calls.specs.declared.stage.Ending.{Ending}
-use Rattle.channel_calls.specs.declared.stage.Held.{Held}
-use Rattle.channel_calls.specs.declared.stage.Line.{Line}
-use Rattle.channel_calls.specs.declared.stage.Line.TheVariants.{Sends, Receives, Streams, Closings}
-use Rattle.channel_calls.specs.declared.stage.Stage.{Stage}
-use Rattle.channel_calls.specs.declared.stage.Stage.TheVariants.{Trying, Working}
-use Rattle.channel_calls.specs.declared.stage.Turn.{Turn}
-use Rattle.channel_calls.specs.declared.stage.Turn.TheVariants.{Works, Ends}
-use Rattle.channel_calls.specs.declared.stage.Work.TheVariants.{Leave}
-use Rattle.channel_steps.specs.Known.{TriesFor}
-use Rattle.channel_steps.specs.Moments.{MarkedMoment}
-use Rattle.channel_laws.specs.Streams.{IsSending}
-use Rattle.channel_laws.specs.Waits.{Waits, WaitApart}
 use Rattle.channel_laws.proofs.ListFacts.{removed_leaves}
 
 module _ {T : Type 0} where
-  -- an answer comes by a step with no mark, or it is that of a call that has closed
-  pub answer_marks : (q : Queue T) (a : QueueAsk T) (m : QueueMark) (r : QueueReply T) (s : queue.Stage T) → AnswersTo q a m r s
-      → (m ≡ Nothing) ⊎ ((m ≡ Close) × (a ≡ ask.Close) × (r ≡ answer.Close true) × IsOpen q)
-  answer_marks q a Nothing r s h = inl refl
-  answer_marks q ask.Close Close (answer.Close true) (trying b) h = inr (refl, refl, refl, h)
-  answer_marks q (ask.Push v) m r s h = absurd h
-  answer_marks q (ask.ForcePush v) m r s h = absurd h
-  answer_marks q ask.Pop m r s h = absurd h
-  answer_marks q ask.Close m r s h = absurd h
-  answer_marks q ask.IsClosed m r s h = absurd h
-  answer_marks q ask.IsEmpty m r s h = absurd h
-  answer_marks q ask.IsFull m r s h = absurd h
-  answer_marks q ask.Len m r s h = absurd h
-  answer_marks q ask.Capacity m r s h = absurd h
-
   -- a push, of either kind
   abbrev pub IsPush : QueueAsk T → Type 0
   IsPush (ask.Push v) = Unit {0}

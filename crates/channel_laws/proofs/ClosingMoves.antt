@@ -1,39 +1,16 @@
 -- Each step pays for what it closes, as those count it who wait on a closed channel: it is open, or a call is to tell their list.
 use Rattle.std.proofs.Common.{◌≡◌, ℕ, ◌+◌, ◌-◌, ◌≤◌, Bool, true, false, if◌then◌else◌, List, Option, None, Some, Ok, Err, ◌⊎◌, inl, inr, refl, sym, ap, ◌∙◌, subst, arith}
-use Rattle.concurrent_queue.specs.Queue.{Queue, Phase, trying, appended, taken, marked, is_displaced, IsOpen, IsShut, may_refuse_at, seen_after, ContinuesPush, ContinuesPop, ContinuesBy, AnswersPush, AnswersPop, AnswersShut, AnswersTo}
+use Rattle.channel_laws.proofs.Words.{Queue, Phase, trying, appended, taken, marked, is_displaced, IsOpen, IsShut, ContinuesPush, ContinuesPop, ContinuesBy, AnswersPush, AnswersPop, AnswersTo, QueueAsk, QueueMark, Nothing, QueueReply, Key, answered_next, polled_next, Channel, Effect, queued, tells_all, Turned, Moves, told_all_next, ChannelAsk, Reply, Aim, Closer, Line, Sends, Receives, Streams, Closings, Stage, Trying, Working, Finished, Turn, Works, Work, TellSend, TellAll, Leave, TriesFor, StageAt, MarkedMoment, Open, Shut, Under, may_refuse_at, seen_after, AnswersShut, place, HasClosed, HasNoCauseToWait, HasToTell, LooksAgain, Waits, WaitApart}
 use Rattle.concurrent_queue.specs.Queue as queue
-use Rattle.concurrent_queue.specs.declared.call.QueueAsk.{QueueAsk}
 use Rattle.concurrent_queue.specs.declared.call.QueueAsk.TheVariants as ask
-use Rattle.concurrent_queue.specs.declared.call.QueueMark.{QueueMark}
-use Rattle.concurrent_queue.specs.declared.call.QueueMark.TheVariants.{Nothing, Append, Take, Close}
-use Rattle.concurrent_queue.specs.declared.call.QueueReply.{QueueReply}
+use Rattle.concurrent_queue.specs.declared.call.QueueMark.TheVariants.{Append, Take, Close}
 use Rattle.concurrent_queue.specs.declared.call.QueueReply.TheVariants as answer
 use Rattle.concurrent_queue.specs.declared.error.PopError.TheVariants as pop_error
 use Rattle.concurrent_queue.specs.declared.error.PushError.TheVariants as push_error
-use Rattle.event_listener.specs.declared.key.Key.{Key}
-use Rattle.channel_calls.specs.Answered.{answered_next, polled_next}
-use Rattle.channel_calls.specs.Moves.{Channel, Effect, queued, tells_all, Turned, Moves}
-use Rattle.channel_calls.specs.Turns.{told_all_next}
-use Rattle.channel_calls.specs.declared.ask.ChannelAsk.{ChannelAsk}
-use Rattle.channel_calls.specs.declared.reply.Reply.{Reply}
-use Rattle.channel_calls.specs.declared.stage.Aim.{Aim}
 use Rattle.channel_calls.specs.declared.stage.Aim.TheVariants as aim
-use Rattle.channel_calls.specs.declared.stage.Closer.{Closer}
-use Rattle.channel_calls.specs.declared.stage.Line.{Line}
-use Rattle.channel_calls.specs.declared.stage.Line.TheVariants.{Sends, Receives, Streams, Closings}
-use Rattle.channel_calls.specs.declared.stage.Stage.{Stage}
-use Rattle.channel_calls.specs.declared.stage.Stage.TheVariants.{Trying, Working, Finished}
-use Rattle.channel_calls.specs.declared.stage.Turn.{Turn}
-use Rattle.channel_calls.specs.declared.stage.Turn.TheVariants.{Works}
-use Rattle.channel_calls.specs.declared.stage.Work.{Work}
-use Rattle.channel_calls.specs.declared.stage.Work.TheVariants.{TellSend, TellAll, Leave}
-use Rattle.channel_steps.specs.Known.{TriesFor, StageAt}
-use Rattle.channel_steps.specs.Moments.{MarkedMoment, Open, Shut}
-use Rattle.channel_steps.specs.Scene.{Under}
-use Rattle.channel_laws.specs.Closings.{place, HasClosed, HasNoCauseToWait, HasToTell, LooksAgain}
-use Rattle.channel_laws.specs.Waits.{Waits, WaitApart}
+use Rattle.channel_steps.proofs.Interface.{answer_marks}
 use Rattle.channel_laws.proofs.AllOwed.{FreeOrTold}
-use Rattle.channel_laws.proofs.AskFacts.{How, IsClose, closes_by, answer_marks, poll_asks, held_by, leaves_next, has_left}
+use Rattle.channel_laws.proofs.AskFacts.{How, IsClose, closes_by, poll_asks, held_by, leaves_next, has_left}
 use Rattle.channel_laws.proofs.ClosedMoves.{worked_spares}
 use Rattle.channel_laws.proofs.ListMoves.{Tries}
 use Rattle.channel_laws.proofs.NumberMoves.{weigh_turn, turned_weighs}

@@ -1,16 +1,7 @@
 -- Those who wait on a closed channel, over runs.
 use Rattle.std.proofs.Common.{◌≡◌, ℕ, ◌≤◌, Bool, true, false, List, Option, ◌⊎◌, inl, inr, refl, sym, ◌∙◌}
-use Rattle.event_listener.specs.declared.key.Key.{Key}
-use Rattle.channel_calls.specs.declared.stage.Line.{Line}
-use Rattle.channel_calls.specs.declared.stage.Line.TheVariants.{Sends, Receives, Streams, Closings}
-use Rattle.channel_steps.specs.Moments.{Open, Shut}
-use Rattle.channel_steps.specs.Run.{Next, new_scene}
-use Rattle.channel_steps.specs.Scene.{Under, Scene, Known}
-use Rattle.channel_steps.specs.declared.party.Entry.{Entry}
-use Rattle.channel_steps.specs.declared.run.Step.{Step}
+use Rattle.channel_laws.proofs.Words.{Key, Line, Sends, Receives, Streams, Closings, Open, Shut, Next, new_scene, Under, Scene, Known, Entry, Step, HasClosed, HasToTell, LooksAgain, ClosingIsOwed, PendingIsOwedTheClosing, AnswersClosed, ClosingSound, ClosingStaysOwed, EachRunOwesTheClosing, WaitApart, Any}
 use Rattle.channel_steps.proofs.Interface.{known_next}
-use Rattle.channel_laws.specs.Closings.{HasClosed, HasToTell, LooksAgain, ClosingIsOwed, PendingIsOwedTheClosing, AnswersClosed, ClosingSound, ClosingStaysOwed, EachRunOwesTheClosing}
-use Rattle.channel_laws.specs.Waits.{WaitApart, Any}
 use Rattle.channel_laws.proofs.AllOwed.{as_counts, as_calls}
 use Rattle.channel_laws.proofs.AnyFacts.{any_but}
 use Rattle.channel_laws.proofs.ClosingMoves.{counts_for_closing, counts_tell, tell_counts, TellsIt, OpenOrTold, closing_ledger}

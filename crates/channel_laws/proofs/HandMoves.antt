@@ -1,33 +1,11 @@
 -- A poll that has a listener in hand keeps it, leaves the list, or finds cause to wait.
 use Rattle.std.proofs.Common.{◌≡◌, true, List, [], Option, None, Some, Ok, Err, ◌⊎◌, inl, inr, refl, sym, ap, ◌∙◌, subst}
-use Rattle.concurrent_queue.specs.Queue.{Queue, Phase, trying, appended, taken, is_filled, AnswersPush, AnswersPop, AnswersTo}
+use Rattle.channel_laws.proofs.Words.{Queue, Phase, trying, appended, taken, is_filled, AnswersPush, AnswersPop, AnswersTo, QueueAsk, QueueMark, Nothing, QueueReply, Key, polled_next, Channel, Effect, queued, Turned, Moves, ChannelAsk, Reply, Line, Sends, Receives, Stage, Trying, Working, Turn, Works, TellReceive, TellStreams, TellSend, Leave, TriesFor, StageAt, MarkedMoment, HoldsListener, LooksAgain, IsOneByOne, Waits, WaitApart}
 use Rattle.concurrent_queue.specs.Queue as queue
-use Rattle.concurrent_queue.specs.declared.call.QueueAsk.{QueueAsk}
-use Rattle.concurrent_queue.specs.declared.call.QueueMark.{QueueMark}
-use Rattle.concurrent_queue.specs.declared.call.QueueMark.TheVariants.{Nothing}
-use Rattle.concurrent_queue.specs.declared.call.QueueReply.{QueueReply}
 use Rattle.concurrent_queue.specs.declared.call.QueueReply.TheVariants as answer
 use Rattle.concurrent_queue.specs.declared.error.PopError.TheVariants as pop_error
 use Rattle.concurrent_queue.specs.declared.error.PushError.TheVariants as push_error
-use Rattle.event_listener.specs.declared.key.Key.{Key}
-use Rattle.channel_calls.specs.Answered.{polled_next}
-use Rattle.channel_calls.specs.Moves.{Channel, Effect, queued, Turned, Moves}
-use Rattle.channel_calls.specs.declared.ask.ChannelAsk.{ChannelAsk}
-use Rattle.channel_calls.specs.declared.reply.Reply.{Reply}
 use Rattle.channel_calls.specs.declared.stage.Aim.TheVariants as aim
-use Rattle.channel_calls.specs.declared.stage.Line.{Line}
-use Rattle.channel_calls.specs.declared.stage.Line.TheVariants.{Sends, Receives}
-use Rattle.channel_calls.specs.declared.stage.Stage.{Stage}
-use Rattle.channel_calls.specs.declared.stage.Stage.TheVariants.{Trying, Working}
-use Rattle.channel_calls.specs.declared.stage.Turn.{Turn}
-use Rattle.channel_calls.specs.declared.stage.Turn.TheVariants.{Works}
-use Rattle.channel_calls.specs.declared.stage.Work.TheVariants.{TellReceive, TellStreams, TellSend, Leave}
-use Rattle.channel_steps.specs.Known.{TriesFor, StageAt}
-use Rattle.channel_steps.specs.Moments.{MarkedMoment}
-use Rattle.channel_laws.specs.Amounts.{HoldsListener}
-use Rattle.channel_laws.specs.Closings.{LooksAgain}
-use Rattle.channel_laws.specs.Notices.{IsOneByOne}
-use Rattle.channel_laws.specs.Waits.{Waits, WaitApart}
 use Rattle.channel_laws.proofs.AskFacts.{How, poll_asks, held_by, leaves_next, has_left}
 use Rattle.channel_laws.proofs.ListMoves.{Tries}
 

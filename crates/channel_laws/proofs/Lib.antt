@@ -1,3 +1,4 @@
+mod Words
 pub mod EachFacts
 pub mod AnyFacts
 pub mod ClosedMoves

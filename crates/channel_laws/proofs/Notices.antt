@@ -1,29 +1,10 @@
 -- How those who were told were told, over runs.
 use Rattle.std.proofs.Common.{◌≡◌, ℕ, Bool, true, false, List, Option, ◌⊎◌, inl, inr, refl, sym, ◌∙◌, subst}
-use Rattle.concurrent_queue.specs.Queue.{Phase}
-use Rattle.event_listener.specs.declared.key.Key.{Key}
-use Rattle.channel_calls.specs.Moves.{Channel, Effect, tells_all, Moves}
-use Rattle.channel_calls.specs.declared.ask.ChannelAsk.{ChannelAsk}
+use Rattle.channel_laws.proofs.Words.{Phase, Key, Channel, Effect, tells_all, Moves, ChannelAsk, Reply, Line, Sends, Receives, Streams, Closings, Stage, Working, TellReceive, TellStreams, TellSend, TellSends, TellAll, ToldAt, MarkedMoment, Open, Shut, Scene, Steps, Known, Telling, Next, Begins, new_scene, Entry, Step, HasClosed, LooksAgain, MayBeTold, IsOneByOne, EachTold, AnyTold, told_of, TellingsSound, TellingsStayFit, TellingsAlwaysFit, Waits, Any}
 use Rattle.channel_calls.specs.declared.mark.Mark.TheVariants as mark
-use Rattle.channel_calls.specs.declared.reply.Reply.{Reply}
-use Rattle.channel_calls.specs.declared.stage.Line.{Line}
-use Rattle.channel_calls.specs.declared.stage.Line.TheVariants.{Sends, Receives, Streams, Closings}
-use Rattle.channel_calls.specs.declared.stage.Stage.{Stage}
-use Rattle.channel_calls.specs.declared.stage.Stage.TheVariants.{Working}
-use Rattle.channel_calls.specs.declared.stage.Work.TheVariants.{TellReceive, TellStreams, TellSend, TellSends, TellAll}
-use Rattle.channel_steps.specs.Known.{ToldAt}
-use Rattle.channel_steps.specs.Moments.{MarkedMoment, Open, Shut}
-use Rattle.channel_steps.specs.Scene.{Scene, Steps, Known}
-use Rattle.channel_steps.specs.Tellings.{Telling}
-use Rattle.channel_steps.specs.Run.{Next, Begins, new_scene}
-use Rattle.channel_steps.specs.declared.party.Entry.{Entry}
-use Rattle.channel_steps.specs.declared.run.Step.{Step}
 use Rattle.channel_steps.specs.declared.run.Step.TheVariants as step
 use Rattle.channel_steps.proofs.Interface.{known_next}
-use Rattle.channel_laws.specs.Closings.{HasClosed, LooksAgain}
 use Rattle.channel_laws.specs.Ends.{Each}
-use Rattle.channel_laws.specs.Notices.{MayBeTold, IsOneByOne, EachTold, AnyTold, told_of, TellingsSound, TellingsStayFit, TellingsAlwaysFit}
-use Rattle.channel_laws.specs.Waits.{Waits, Any}
 use Rattle.channel_laws.proofs.AnyFacts.{any_mine, any_steps, any_begins}
 use Rattle.channel_laws.proofs.Closed.{shut_does}
 use Rattle.channel_laws.proofs.Closings.{new_apart}

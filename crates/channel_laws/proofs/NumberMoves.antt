@@ -1,25 +1,11 @@
 -- How many messages there are after a step of the queue's call, and what the call counts for by its turn.
 use Rattle.std.proofs.Common.{◌≡◌, ℕ, ◌+◌, ◌≤◌, Bool, [], ◌∷◌, ◌++◌, length, drop, Option, None, Some, refl, ap, ◌∙◌, arith, length-append}
-use Rattle.concurrent_queue.specs.Queue.{Queue, Phase, trying, displaced, appended, taken, asked, marked, is_displaced, ContinuesPush, ContinuesForce, ContinuesPop, ContinuesBy, AnswersTo}
+use Rattle.channel_laws.proofs.Words.{Queue, Phase, trying, displaced, appended, taken, asked, marked, is_displaced, ContinuesPush, ContinuesForce, ContinuesPop, ContinuesBy, AnswersTo, QueueAsk, QueueMark, Nothing, QueueReply, Key, Turned, ChannelAsk, Reply, Line, Stage, Trying, Working, Turn, Tries, Works, Ends, is_trying, is_trying_anew, has_appended, has_taken, has_displaced}
 use Rattle.concurrent_queue.specs.Queue as queue
-use Rattle.concurrent_queue.specs.declared.call.QueueAsk.{QueueAsk}
 use Rattle.concurrent_queue.specs.declared.call.QueueAsk.TheVariants as ask
-use Rattle.concurrent_queue.specs.declared.call.QueueMark.{QueueMark}
-use Rattle.concurrent_queue.specs.declared.call.QueueMark.TheVariants.{Nothing, Append, Take, TakeDisplaced, Replace, Close}
-use Rattle.concurrent_queue.specs.declared.call.QueueReply.{QueueReply}
-use Rattle.event_listener.specs.declared.key.Key.{Key}
-use Rattle.channel_calls.specs.Moves.{Turned}
-use Rattle.channel_calls.specs.declared.ask.ChannelAsk.{ChannelAsk}
-use Rattle.channel_calls.specs.declared.reply.Reply.{Reply}
+use Rattle.concurrent_queue.specs.declared.call.QueueMark.TheVariants.{Append, Take, TakeDisplaced, Replace, Close}
 use Rattle.channel_calls.specs.declared.stage.Aim.TheVariants as aim
-use Rattle.channel_calls.specs.declared.stage.Line.{Line}
-use Rattle.channel_calls.specs.declared.stage.Stage.{Stage}
-use Rattle.channel_calls.specs.declared.stage.Stage.TheVariants.{Trying, Working}
-use Rattle.channel_calls.specs.declared.stage.Turn.{Turn}
-use Rattle.channel_calls.specs.declared.stage.Turn.TheVariants.{Tries, Works, Ends}
-use Rattle.channel_laws.specs.Amounts.{is_trying, is_trying_anew}
-use Rattle.channel_laws.specs.Receives.{has_appended}
-use Rattle.channel_laws.specs.Sends.{has_taken, has_displaced}
+use Rattle.channel_steps.proofs.Interface.{answered_by}
 use Rattle.channel_laws.proofs.Closed.{one_fewer}
 use Rattle.channel_laws.proofs.AskFacts.{IsPush, MayTake}
 use Rattle.channel_laws.proofs.TotalFacts.{left_over}
@@ -126,27 +112,12 @@ module _ {T : Type 0} where
     goes_no_fewer a m s t never g = absurd g
 
     -- no answer brings or takes one
-    pub answers_same_number : (a : QueueAsk T) (m : QueueMark) (r : QueueReply T) (s : queue.Stage T) → AnswersTo q a m r s
-        → number a s m q ≡ length q.items
-    answers_same_number a Nothing r s h = refl
-    answers_same_number a Close r s h = refl
-    answers_same_number (ask.Push v) m r s h = absurd h
-    answers_same_number (ask.ForcePush v) m r s h = absurd h
-    answers_same_number ask.Pop m r s h = absurd h
-    answers_same_number ask.Close m r s h = absurd h
-    answers_same_number ask.IsClosed m r s h = absurd h
-    answers_same_number ask.IsEmpty m r s h = absurd h
-    answers_same_number ask.IsFull m r s h = absurd h
-    answers_same_number ask.Len m r s h = absurd h
-    answers_same_number ask.Capacity m r s h = absurd h
+    pub answers_same_number : (a : QueueAsk T) (m : QueueMark) (r : QueueReply T) (s : queue.Stage T) → AnswersTo q a m r s → number a s m q ≡ length q.items
+    answers_same_number a m r s h = answered_by q (λ z. number a s z q ≡ length q.items) refl (λ was. refl) a m r s h
 
     pub capacity_same : (a : QueueAsk T) (b : Bool) (m : QueueMark) → (marked a b m q).capacity ≡ q.capacity
     capacity_same a b Nothing = refl
-    capacity_same a b Append = refl
-    capacity_same a b Take = refl
-    capacity_same a b TakeDisplaced = refl
-    capacity_same a b Replace = refl
-    capacity_same a b Close = refl
+    capacity_same a b m = refl
 
 module _ {T W : Type 0} where
   -- a poll's try counts for one at most

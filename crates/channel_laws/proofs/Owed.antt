@@ -1,22 +1,8 @@
 -- Who waits on a list, over one step of a run: one law, for whatever list, whatever is enough for those who wait on it, and whatever
 -- the calls under way count for.
 use Rattle.std.proofs.Common.{◌≡◌, ℕ, ◌+◌, ◌≤◌, List, Option, None, ◌⊎◌, inl, inr, sym, subst}
-use Rattle.concurrent_queue.specs.Queue.{Phase}
-use Rattle.event_listener.specs.declared.key.Key.{Key}
-use Rattle.channel_calls.specs.Moves.{Channel, Effect, Moves}
-use Rattle.channel_calls.specs.declared.ask.ChannelAsk.{ChannelAsk}
-use Rattle.channel_calls.specs.declared.reply.Reply.{Reply}
-use Rattle.channel_calls.specs.declared.stage.Line.{Line}
-use Rattle.channel_calls.specs.declared.stage.Stage.{Stage}
-use Rattle.channel_steps.specs.Known.{StageAt}
-use Rattle.channel_steps.specs.Moments.{MarkedMoment}
-use Rattle.channel_steps.specs.Run.{Next, Begins}
-use Rattle.channel_steps.specs.Scene.{Scene, Steps, Known, AllKnown}
-use Rattle.channel_steps.specs.declared.party.Entry.{Entry}
-use Rattle.channel_steps.specs.declared.run.Step.{Step}
+use Rattle.channel_laws.proofs.Words.{Phase, Key, Channel, Effect, Moves, ChannelAsk, Reply, Line, Stage, StageAt, MarkedMoment, Next, Begins, Scene, Steps, Known, AllKnown, Entry, Step, total, AreOwed, PendingAreOwed, Waits, WaitApart, Any}
 use Rattle.channel_steps.specs.declared.run.Step.TheVariants as step
-use Rattle.channel_laws.specs.Amounts.{total, AreOwed, PendingAreOwed}
-use Rattle.channel_laws.specs.Waits.{Waits, WaitApart, Any}
 use Rattle.channel_laws.proofs.AnyFacts.{any_none, any_mine, any_steps, any_begins}
 use Rattle.channel_laws.proofs.EachFacts.{of_mine, each_known}
 use Rattle.channel_laws.proofs.ListMoves.{Tries, moved_lists, waited}

@@ -1,27 +1,6 @@
 -- On a list that is told one at a time, a step on lists pays: as many more are told as the call counts for less.
 use Rattle.std.proofs.Common.{◌≡◌, ℕ, ◌+◌, ◌≤◌, false, Option, None, ◌⊎◌, inl, inr, refl, arith, List, length}
-use Rattle.concurrent_queue.specs.Queue.{Phase}
-use Rattle.event_listener.specs.declared.key.Key.{Key}
-use Rattle.channel_calls.specs.Moves.{Channel, Effect, Worked}
-use Rattle.channel_calls.specs.Turns.{line_of, again}
-use Rattle.channel_calls.specs.declared.ask.ChannelAsk.{ChannelAsk}
-use Rattle.channel_calls.specs.declared.reply.Reply.{Reply}
-use Rattle.channel_calls.specs.declared.stage.Line.{Line}
-use Rattle.channel_calls.specs.declared.stage.Stage.{Stage}
-use Rattle.channel_calls.specs.declared.stage.Stage.TheVariants.{Working}
-use Rattle.channel_calls.specs.declared.stage.Waiting.{Waiting}
-use Rattle.channel_calls.specs.declared.stage.Work.{Work}
-use Rattle.channel_calls.specs.declared.stage.Work.TheVariants.{Register}
-use Rattle.channel_steps.specs.Known.{IsFor, WorkAt}
-use Rattle.channel_steps.specs.Moments.{MarkedMoment}
-use Rattle.channel_steps.specs.Run.{Next}
-use Rattle.channel_steps.specs.Scene.{Scene}
-use Rattle.channel_steps.specs.declared.party.Entry.{Entry}
-use Rattle.channel_steps.specs.declared.run.Step.{Step}
-use Rattle.channel_laws.specs.Amounts.{HoldsListener, AreOwed}
-use Rattle.channel_laws.specs.Closings.{LooksAgain}
-use Rattle.channel_laws.specs.Notices.{IsOneByOne, AnyTold, told_of, TellingsSound}
-use Rattle.channel_laws.specs.Waits.{Waits, Any}
+use Rattle.channel_laws.proofs.Words.{Phase, Key, Channel, Effect, Worked, line_of, again, ChannelAsk, Reply, Line, Stage, Working, Waiting, Work, Register, IsFor, WorkAt, MarkedMoment, Next, Scene, Entry, Step, HoldsListener, AreOwed, LooksAgain, IsOneByOne, AnyTold, told_of, TellingsSound, Waits, Any}
 use Rattle.channel_laws.proofs.AnyFacts.{any_weaker}
 use Rattle.channel_laws.proofs.HandMoves.{HasCause, HoldsOrWaits, looks_holds, holds_on, newcomer_holds}
 use Rattle.channel_laws.proofs.NumberMoves.{weigh_turn, turned_weighs}

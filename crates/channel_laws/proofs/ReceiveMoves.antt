@@ -1,40 +1,15 @@
 -- Each step pays for what it brings or uses up, as those count it who wait for a message.
 use Rattle.std.proofs.Common.{◌≡◌, ℕ, ◌+◌, ◌≤◌, false, List, [], length, Option, None, Some, Ok, Err, ◌⊎◌, inl, inr, refl, sym, ap, subst, arith}
-use Rattle.concurrent_queue.specs.Queue.{Queue, Phase, trying, appended, taken, marked, is_displaced, AnswersPush, AnswersForce, AnswersPop, AnswersTo, ContinuesBy}
+use Rattle.channel_laws.proofs.Words.{Queue, Phase, trying, appended, taken, marked, is_displaced, AnswersPush, AnswersForce, AnswersPop, AnswersTo, ContinuesBy, QueueAsk, QueueMark, Nothing, QueueReply, Key, answered_next, Channel, Effect, queued, Moves, line_of, again, ChannelAsk, Loan, Reply, Aim, Sends, Receives, Streams, Closings, Stage, Trying, Working, Finished, Waiting, Work, TellReceive, TriesFor, IsFor, StageAt, MarkedMoment, HoldsListener, AnyTold, told_of, is_to_tell_receive, counts_for_receives, MessagesAreFew, IsSending, Waits}
 use Rattle.concurrent_queue.specs.Queue as queue
-use Rattle.concurrent_queue.specs.declared.call.QueueAsk.{QueueAsk}
 use Rattle.concurrent_queue.specs.declared.call.QueueAsk.TheVariants as ask
-use Rattle.concurrent_queue.specs.declared.call.QueueMark.{QueueMark}
-use Rattle.concurrent_queue.specs.declared.call.QueueMark.TheVariants.{Nothing}
-use Rattle.concurrent_queue.specs.declared.call.QueueReply.{QueueReply}
 use Rattle.concurrent_queue.specs.declared.call.QueueReply.TheVariants as answer
 use Rattle.concurrent_queue.specs.declared.error.PopError.TheVariants as pop_error
 use Rattle.concurrent_queue.specs.declared.error.PushError.TheVariants as push_error
 use Rattle.concurrent_queue.specs.declared.error.ForcePushError.TheVariants as force_error
-use Rattle.event_listener.specs.declared.key.Key.{Key}
-use Rattle.channel_calls.specs.Answered.{answered_next}
-use Rattle.channel_calls.specs.Moves.{Channel, Effect, queued, Moves}
-use Rattle.channel_calls.specs.Turns.{line_of, again}
-use Rattle.channel_calls.specs.declared.ask.ChannelAsk.{ChannelAsk}
 use Rattle.channel_calls.specs.declared.ask.ChannelAsk.TheVariants as channel
-use Rattle.channel_calls.specs.declared.ask.Loan.{Loan}
-use Rattle.channel_calls.specs.declared.reply.Reply.{Reply}
-use Rattle.channel_calls.specs.declared.stage.Aim.{Aim}
 use Rattle.channel_calls.specs.declared.stage.Aim.TheVariants as aim
-use Rattle.channel_calls.specs.declared.stage.Line.TheVariants.{Sends, Receives, Streams, Closings}
-use Rattle.channel_calls.specs.declared.stage.Stage.{Stage}
-use Rattle.channel_calls.specs.declared.stage.Stage.TheVariants.{Trying, Working, Finished}
-use Rattle.channel_calls.specs.declared.stage.Waiting.{Waiting}
 use Rattle.channel_calls.specs.declared.stage.Waiting.TheVariants as waiting
-use Rattle.channel_calls.specs.declared.stage.Work.{Work}
-use Rattle.channel_calls.specs.declared.stage.Work.TheVariants.{TellReceive}
-use Rattle.channel_steps.specs.Known.{TriesFor, IsFor, StageAt}
-use Rattle.channel_steps.specs.Moments.{MarkedMoment}
-use Rattle.channel_laws.specs.Amounts.{HoldsListener}
-use Rattle.channel_laws.specs.Notices.{AnyTold, told_of}
-use Rattle.channel_laws.specs.Receives.{is_to_tell_receive, counts_for_receives, MessagesAreFew}
-use Rattle.channel_laws.specs.Streams.{IsSending}
-use Rattle.channel_laws.specs.Waits.{Waits}
 use Rattle.channel_laws.proofs.AskFacts.{How, push_sends}
 use Rattle.channel_laws.proofs.ClosedMoves.{worked_spares}
 use Rattle.channel_laws.proofs.HandMoves.{HasCause}

@@ -1,24 +1,6 @@
 -- What a step on lists and counts does to each of the four lists: nothing, or what its work does to the one that it touches.
 use Rattle.std.proofs.Common.{◌≡◌, ℕ, ◌+◌, ◌-◌, Bool, true, false, if◌then◌else◌, List, [], Option, None, Some, ◌⊎◌, inl, inr, refl, sym, ap, ◌∙◌, subst}
-use Rattle.concurrent_queue.specs.Queue.{Phase}
-use Rattle.event_listener.specs.Lists.{kind_of, listened, registration, removed}
-use Rattle.event_listener.specs.declared.key.Key.{Key}
-use Rattle.channel_calls.specs.Marks.{up, down}
-use Rattle.channel_calls.specs.Moves.{Channel, Effect, untouched, on_line, on_count, leaves, Turned, Worked}
-use Rattle.channel_calls.specs.Parts.{Listeners, listeners, count, is_raised, told_one, told_more, told_all, waits}
-use Rattle.channel_calls.specs.Turns.{line_of, again, pends_by}
-use Rattle.channel_calls.specs.declared.mark.Mark.{Mark}
-use Rattle.channel_calls.specs.declared.reply.Reply.{Reply}
-use Rattle.channel_calls.specs.declared.stage.Ending.{Ending}
-use Rattle.channel_calls.specs.declared.stage.Held.{Held}
-use Rattle.channel_calls.specs.declared.stage.Line.{Line}
-use Rattle.channel_calls.specs.declared.stage.Line.TheVariants.{Sends, Receives, Streams, Closings}
-use Rattle.channel_calls.specs.declared.stage.Side.{Side}
-use Rattle.channel_calls.specs.declared.stage.Side.TheVariants.{Senders}
-use Rattle.channel_calls.specs.declared.stage.Stage.{Stage}
-use Rattle.channel_calls.specs.declared.stage.Waiting.{Waiting}
-use Rattle.channel_calls.specs.declared.stage.Work.{Work}
-use Rattle.channel_calls.specs.declared.stage.Work.TheVariants.{TellReceive, TellStreams, TellSend, TellSends, TakeRoom, TellAll, Insert, Register, Leave, Lower, Count, Load, Raise}
+use Rattle.channel_laws.proofs.Words.{Phase, kind_of, listened, registration, removed, Key, up, down, Channel, Effect, untouched, on_line, on_count, leaves, Turned, Worked, Listeners, listeners, count, is_raised, told_one, told_more, told_all, waits, line_of, again, pends_by, Mark, Reply, Ending, Held, Line, Sends, Receives, Streams, Closings, Side, Senders, Stage, Waiting, Work, TellReceive, TellStreams, TellSend, TellSends, TakeRoom, TellAll, Insert, Register, Leave, Lower, Count, Load, Raise}
 
 module _ {T W : Type 0} where
   -- what a work does to this list, from l to l'
@@ -124,7 +106,6 @@ module _ {T W : Type 0} where
     section (TellStreams x) g = made line Streams (λ l. told_all l) _ c e g.0
     section (TellSend x) g = made line Sends (λ l. told_one l) _ c e g.0
     section (TellSends n x) g = made line Sends (λ l. told_more n l) _ c e g.0
-    section (TakeRoom n) g = inl (same_as line c e (untouched c) g.0 refl, tt)
     section (TellAll at closer) g = made line at (λ l. told_all l) _ c e g.0
     section (Insert w task) (inl g) = inserted w task g.0 g.3 (made_with line (line_of w) (λ l. listened g.0 l) [] c e g.2 (λ l. kind_of l g.0 ≡ None) g.1)
     section (Insert w task) (inr g) = inl (same_as line c e (untouched c) g.1 refl, tt)
@@ -132,6 +113,5 @@ module _ {T W : Type 0} where
         registered w key task (made_with line (line_of w) (λ l. registration key task l) [] c e g.0 (λ l. Turned (if waits key l then pends_by w key else again w None task) r s) g.1)
     section (Leave x) g = left x x.held g.0
     section (Lower side key) g = inl (same_as line c e _ g.0 (on_counts line side (count side c.roster - 1) (down side) c), tt)
-    section (Count side) g = inl (same_as line c e (untouched c) g.0 refl, tt)
-    section (Load side making) g = inl (same_as line c e (untouched c) g.0 refl, tt)
     section (Raise side n making) g = inl (same_as line c e _ g.0 (on_raise line (is_raised side n c.roster) side n c), tt)
+    section w g = inl (same_as line c e (untouched c) g.0 refl, tt)

@@ -1,12 +1,6 @@
 -- Waiting sends over runs.
 use Rattle.std.proofs.Common.{ℕ, List, Option}
-use Rattle.channel_calls.specs.declared.stage.Line.TheVariants.{Sends}
-use Rattle.channel_steps.specs.Run.{Next, new_scene}
-use Rattle.channel_steps.specs.Scene.{Scene}
-use Rattle.channel_steps.specs.declared.party.Entry.{Entry}
-use Rattle.channel_steps.specs.declared.run.Step.{Step}
-use Rattle.channel_laws.specs.Amounts.{HoldsListener}
-use Rattle.channel_laws.specs.Sends.{counts_for_sends, PlacesAreFew, SendsSound, SendsStayOwed, NoSendIsForgotten}
+use Rattle.channel_laws.proofs.Words.{Sends, Next, new_scene, Scene, Entry, Step, HoldsListener, counts_for_sends, PlacesAreFew, SendsSound, SendsStayOwed, NoSendIsForgotten}
 use Rattle.channel_laws.proofs.Notices.{tellings_next, tellings_new}
 use Rattle.channel_laws.proofs.RunFacts.{kept_long}
 use Rattle.channel_laws.proofs.Owed.{pending_owed}

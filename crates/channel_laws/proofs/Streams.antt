@@ -1,13 +1,7 @@
 -- Waiting streams over runs.
 use Rattle.std.proofs.Common.{ℕ, List, Option, ◌⊎◌, inl, inr, refl}
-use Rattle.channel_calls.specs.declared.stage.Line.TheVariants.{Streams}
-use Rattle.channel_steps.specs.Run.{Next, new_scene}
-use Rattle.channel_steps.specs.Scene.{Scene}
-use Rattle.channel_steps.specs.declared.party.Entry.{Entry}
-use Rattle.channel_steps.specs.declared.run.Step.{Step}
+use Rattle.channel_laws.proofs.Words.{Streams, Next, new_scene, Scene, Entry, Step, IsSending, IsBringing, HasInHand, PendingStreamsAreOwed, AnswersFor, StreamsAreOwed, StreamsSound, StreamsStayOwed, NoStreamIsForgotten, Any}
 use Rattle.channel_steps.proofs.Interface.{known_next}
-use Rattle.channel_laws.specs.Streams.{IsSending, IsBringing, HasInHand, PendingStreamsAreOwed, AnswersFor, StreamsAreOwed, StreamsSound, StreamsStayOwed, NoStreamIsForgotten}
-use Rattle.channel_laws.specs.Waits.{Any}
 use Rattle.channel_laws.proofs.AllOwed.{as_counts, as_calls}
 use Rattle.channel_laws.proofs.AnyFacts.{any_but}
 use Rattle.channel_laws.proofs.ListMoves.{apart_next}

@@ -1,22 +1,6 @@
 -- What a step does to those of a list that were told.
 use Rattle.std.proofs.Common.{◌≡◌, ℕ, ◌+◌, ◌≤◌, Bool, true, false, if◌then◌else◌, length, Option, None, ◌⊎◌, inl, inr, refl, sym, ap, subst, arith}
-use Rattle.concurrent_queue.specs.Queue.{Phase}
-use Rattle.event_listener.specs.Lists.{registration, removed}
-use Rattle.event_listener.specs.declared.key.Key.{Key}
-use Rattle.channel_calls.specs.Moves.{Channel, Effect, Turned, Worked, Moves}
-use Rattle.channel_calls.specs.Parts.{Listeners, listeners, waits}
-use Rattle.channel_calls.specs.Turns.{line_of, again, pends_by}
-use Rattle.channel_calls.specs.declared.reply.Reply.{Reply}
-use Rattle.channel_calls.specs.declared.stage.Line.{Line}
-use Rattle.channel_calls.specs.declared.stage.Line.TheVariants.{Sends, Receives, Streams}
-use Rattle.channel_calls.specs.declared.stage.Stage.{Stage}
-use Rattle.channel_calls.specs.declared.stage.Stage.TheVariants.{Trying, Working, Finished}
-use Rattle.channel_calls.specs.declared.stage.Ending.{Ending}
-use Rattle.channel_calls.specs.declared.stage.Waiting.{Waiting}
-use Rattle.channel_calls.specs.declared.stage.Work.{Work}
-use Rattle.channel_calls.specs.declared.stage.Work.TheVariants.{TellReceive, TellStreams, TellSend, TellSends, TellAll, Insert, Register, Leave}
-use Rattle.channel_laws.specs.Notices.{AnyTold, told_of}
-use Rattle.channel_laws.specs.Waits.{IsIn}
+use Rattle.channel_laws.proofs.Words.{Phase, registration, removed, Key, Channel, Effect, Turned, Worked, Moves, Listeners, listeners, waits, line_of, again, pends_by, Reply, Line, Sends, Receives, Streams, Stage, Trying, Working, Finished, Ending, Waiting, Work, TellReceive, TellStreams, TellSend, TellSends, TellAll, Insert, Register, Leave, AnyTold, told_of, IsIn}
 use Rattle.channel_laws.proofs.Sections.{Touched, TellsOthers, Section, section}
 use Rattle.channel_laws.proofs.ToldFacts.{any_told_one, any_told_more, any_told_all, any_after_removal, any_registration, told_one_counts, told_more_counts, removed_counts, registered_counts}
 
