@@ -1,10 +1,7 @@
 -- What a call asks of the queue, and the two ways of a step of the queue's call.
-use Rattle.std.proofs.Common.{◌≡◌, true, List, Option, None, Some, ◌⊎◌, inl, inr, refl, ap, ◌∙◌, subst}
-use Rattle.channel_laws.proofs.Words.{Queue, Phase, trying, IsOpen, AnswersTo, Continues, Answers, QueueAsk, QueueMark, Nothing, QueueReply, Key, answered_next, Channel, Effect, leaves, Turned, leaving, ChannelAsk, Reply, Aim, Ending, Held, Line, Sends, Receives, Streams, Closings, Stage, Trying, Working, Turn, Works, Ends, Leave, TriesFor, MarkedMoment, removes, IsSending, Waits, WaitApart}
-use Rattle.concurrent_queue.specs.Queue as queue
+use Rattle.std.proofs.Common.{◌≡◌, List, Option, None, Some, ◌⊎◌, refl, ap, ◌∙◌, subst}
+use Rattle.channel_laws.proofs.Words.{Phase, Continues, Answers, QueueAsk, QueueMark, QueueReply, Key, answered_next, Channel, Effect, leaves, Turned, leaving, ChannelAsk, Reply, Aim, Ending, Held, Line, Sends, Receives, Streams, Closings, Stage, Trying, Working, Turn, Works, Ends, Leave, TriesFor, MarkedMoment, removes, IsSending, Waits, WaitApart}
 use Rattle.concurrent_queue.specs.declared.call.QueueAsk.TheVariants as ask
-use Rattle.concurrent_queue.specs.declared.call.QueueMark.TheVariants.{Close}
-use Rattle.concurrent_queue.specs.declared.call.QueueReply.TheVariants as answer
 use Rattle.channel_calls.specs.declared.ask.ChannelAsk.TheVariants as channel
 use Rattle.channel_calls.specs.declared.stage.Aim.TheVariants as aim
 use Rattle.channel_calls.specs.declared.stage.Closer.TheVariants as closer

@@ -5,7 +5,6 @@ use Rattle.channel_laws.proofs.Words.{Queue, Phase, trying, displaced, is_filled
 use Rattle.concurrent_queue.specs.Queue as queue
 use Rattle.concurrent_queue.specs.declared.call.QueueAsk.TheVariants as ask
 use Rattle.concurrent_queue.specs.declared.call.QueueMark.TheVariants.{Append, Take, TakeDisplaced, Replace, Close}
-use Rattle.concurrent_queue.specs.declared.call.QueueReply.TheVariants as answer
 use Rattle.channel_calls.specs.declared.mark.Mark.TheVariants as mark
 use Rattle.channel_steps.proofs.Interface.{answered_by}
 use Rattle.channel_laws.proofs.ClosedMoves.{worked_spares}

@@ -2,7 +2,7 @@
 use Rattle.std.proofs.Common.{◌≡◌, ℕ, ◌==◌, Bool, true, false, List, [], ◌∷◌, ◌++◌, map, Option, None, Some, Ok, Err, MatchOption, slice_set, if◌then◌else◌, refl, sym, ap, ◌∙◌, subst}
 use Rattle.std.specs.List.{remove}
 use Rattle.concurrent_queue.specs.Bridge as queue
-use Rattle.channel_laws.proofs.Words.{Contents, asked, QueueReply, QueueForm, QueueCall, first, kept_by, Deed, stepped, inserted, registered, taken_off, one_told, more_told, all_told, counted, lowered, raised, Done, Does, Parts, Takes, Leaves, WorkMakes, ChannelMakes, ChannelAsk, Mark, Reply, Held, Stage, Trying, Working, Finished, Work, TellReceive, TellStreams, TellSend, TellSends, TakeRoom, TellAll, Insert, Register, Leave, Lower, Count, Load, Raise, HasBegun, Under, Scene, Sitting, Represents, StepsAt, HasParty, under_of, Entry, Party, IsChannelStep, IsNewCall, parties_after, left_by, Act, on_queue, on_roster, on_nothing, Event, begins, Happening, Given, Notes, Acts, own, step_of, steps_of, given_by, given_to, Changes, InOneOrder, IsIdle}
+use Rattle.channel_laws.proofs.Words.{Contents, asked, QueueReply, QueueForm, QueueCall, first, kept_by, Deed, stepped, Done, Does, Parts, Takes, Leaves, WorkMakes, ChannelMakes, ChannelAsk, Mark, Reply, Held, Stage, Trying, Working, Finished, Work, TellReceive, TellStreams, TellSend, TellSends, TakeRoom, TellAll, Insert, Register, Leave, Lower, Count, Load, Raise, HasBegun, Under, Scene, Sitting, Represents, StepsAt, HasParty, under_of, Entry, Party, IsChannelStep, IsNewCall, parties_after, left_by, Act, on_queue, on_roster, on_nothing, Event, begins, Happening, Given, Notes, Acts, own, step_of, steps_of, given_by, given_to, Changes, InOneOrder, IsIdle}
 use Rattle.concurrent_queue.specs.Deeds as cell
 use Rattle.concurrent_queue.specs.declared.call.QueueAsk.TheVariants as queue_ask
 use Rattle.concurrent_queue.proofs.Bridge.{call_noted, change_keeps_form}

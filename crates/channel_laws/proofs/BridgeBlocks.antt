@@ -1,6 +1,6 @@
 -- A call that blocks its thread makes whole calls.
 use Rattle.std.proofs.Common.{◌≡◌, ◌⊎◌, inl, inr, ℕ, zero, suc, Option, None, Some, refl, sym, subst}
-use Rattle.channel_laws.proofs.Words.{QueueCall, Key, first, Deed, again, line_of, Takes, Leaves, WorkMakes, ChannelMakes, Leads, Mark, Reply, Ending, Held, Kept, Stage, Trying, Working, Finished, Turn, Works, Waiting, Work, TellReceive, TellStreams, TellSend, TellSends, TakeRoom, TellAll, Insert, Register, Leave, Lower, Count, Load, Raise, is_refused, waiting_of, at_once, not_yet, poll_woken, still_waits, Looks, AnswersAtFirst, Listens, Round, Rounds, Wakens, SleepsOn, message_of, Walked, WalkedFrom, Blocked, Send, Receive, first_poll, poll_refused, PollsInTurn, InCalls, IsLeft, Rests, Rested, BlocksInCalls}
+use Rattle.channel_laws.proofs.Words.{QueueCall, Key, first, Deed, again, line_of, Takes, Leaves, WorkMakes, ChannelMakes, Leads, Mark, Reply, Ending, Held, Kept, Stage, Trying, Working, Finished, Turn, Works, Waiting, Work, Register, Leave, is_refused, waiting_of, at_once, not_yet, poll_woken, still_waits, Looks, AnswersAtFirst, Listens, Round, Rounds, Wakens, SleepsOn, message_of, Walked, WalkedFrom, Blocked, Send, Receive, first_poll, poll_refused, PollsInTurn, InCalls, IsLeft, Rests, Rested, BlocksInCalls}
 use Rattle.channel_calls.proofs.Walking.{walks_on}
 
 module _ {T W : Type 0} where

@@ -2,11 +2,10 @@
 use Rattle.std.proofs.Common.{◌≡◌, ℕ, ◌+◌, ◌-◌, ◌/◌, ◌%◌, ◌<◌, ◌≤◌, ◌⊎◌, ⊎_elim, Bool, true, false, if◌then◌else◌, ◌==◌, ◌&&◌, not, nat_lt, List, [], ◌∷◌, length, map, Option, None, Some, slice_get, refl, sym, ap, ◌∙◌, subst, inl, inr, arith}
 use Rattle.std.proofs.lemmas.Bool.{false≢true}
 use Rattle.std.proofs.lemmas.Bool.Decides.{nat_tests}
-use Rattle.channel_laws.proofs.Words.{Contents, block_at, Queue, Phase, Seat, AreAt, IsAtBlocks, FitsForm, Place, Each, start, owed, one_if, number, position, KnowsBlocks, same, owes, BlocksSeat, BlocksMeans, owners, Denotes, act_of, seat_of, IsChain, begin, QueueAsk, QueueForm, Bounded, Unbounded, CallState, Asked, Single, Ring, Blocks, UnboundedAction, UnboundedCall, MayHave, SoundBlocks, Duty, link, turn_head, turn_tail, TurnsTheHead, Turns, first_named, pair_linked, NamesTheHead, Links, AreBlocks, ChainBy}
+use Rattle.channel_laws.proofs.Words.{Contents, block_at, Queue, Phase, Seat, AreAt, IsAtBlocks, FitsForm, Place, Each, start, owed, one_if, number, position, KnowsBlocks, same, owes, BlocksSeat, BlocksMeans, owners, Denotes, act_of, seat_of, IsChain, begin, QueueAsk, QueueForm, Bounded, Unbounded, CallState, Asked, Blocks, UnboundedAction, UnboundedCall, MayHave, SoundBlocks, Duty, link, turn_head, turn_tail, TurnsTheHead, Turns, first_named, pair_linked, NamesTheHead, Links, AreBlocks, ChainBy}
 use Rattle.concurrent_queue.specs.Step.{FitsAt}
 use Rattle.concurrent_queue.specs.machine.BlocksState.{Blocks as BlocksNumbers}
 use Rattle.concurrent_queue.specs.declared.call.QueueAsk.TheVariants as ask
-use Rattle.concurrent_queue.specs.declared.queue_call.CallState.TheVariants.{Finished}
 use Rattle.concurrent_queue.specs.declared.unbounded.action.UnboundedAction.TheVariants as blocks
 use Rattle.channel_laws.proofs.PutFacts.{some_is, by_bool, by_eq, same_not, taken_all, taken_full, get_inside, head_number}
 

@@ -1,10 +1,9 @@
 -- What a step may do to a closed channel.
-use Rattle.std.proofs.Common.{◌≡◌, ℕ, ◌+◌, Bool, true, false, if◌then◌else◌, List, [], ◌∷◌, Option, None, Some, ◌⊎◌, inl, inr, refl, sym, ap, ◌∙◌, subst}
-use Rattle.channel_laws.proofs.Words.{Queue, Phase, trying, displaced, IsOpen, IsShut, IsDrained, IsOldest, is_displaced, ContinuesPush, ContinuesForce, ContinuesPop, ContinuesBy, Continues, AnswersTo, Answers, QueueAsk, QueueMark, Nothing, QueueReply, up, down, Channel, Effect, queued, untouched, on_count, leaves, Worked, Moves, is_raised, Mark, Reply, Held, Side, Senders, Receivers, Stage, Trying, Working, Finished, Work, TellReceive, TellStreams, TellSend, TellSends, TakeRoom, TellAll, Insert, Register, Leave, Lower, Count, Load, Raise, Spent, IsStill}
+use Rattle.std.proofs.Common.{◌≡◌, true, false, List, [], ◌∷◌, Option, ◌⊎◌, inl, inr, refl, sym, ap, ◌∙◌, subst}
+use Rattle.channel_laws.proofs.Words.{Queue, Phase, trying, displaced, IsOpen, IsShut, IsDrained, IsOldest, is_displaced, ContinuesPush, ContinuesForce, ContinuesPop, ContinuesBy, Continues, AnswersTo, Answers, QueueAsk, QueueMark, Nothing, QueueReply, Channel, Effect, queued, untouched, Worked, Moves, Mark, Reply, Stage, Trying, Working, Finished, Work, Spent, IsStill}
 use Rattle.concurrent_queue.specs.Queue as queue
 use Rattle.concurrent_queue.specs.declared.call.QueueAsk.TheVariants as ask
 use Rattle.concurrent_queue.specs.declared.call.QueueMark.TheVariants.{Append, Take, TakeDisplaced, Replace, Close}
-use Rattle.concurrent_queue.specs.declared.call.QueueReply.TheVariants as answer
 use Rattle.channel_calls.specs.declared.mark.Mark.TheVariants as mark
 use Rattle.channel_steps.proofs.Interface.{answered_by}
 use Rattle.channel_steps.proofs.MoveFacts.{IsOther}

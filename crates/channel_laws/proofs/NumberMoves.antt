@@ -3,7 +3,7 @@ use Rattle.std.proofs.Common.{◌≡◌, ℕ, ◌+◌, ◌≤◌, Bool, [], ◌�
 use Rattle.channel_laws.proofs.Words.{Queue, Phase, trying, displaced, appended, taken, asked, marked, is_displaced, ContinuesPush, ContinuesForce, ContinuesPop, ContinuesBy, AnswersTo, QueueAsk, QueueMark, Nothing, QueueReply, Key, Turned, ChannelAsk, Reply, Line, Stage, Trying, Working, Turn, Tries, Works, Ends, is_trying, is_trying_anew, has_appended, has_taken, has_displaced}
 use Rattle.concurrent_queue.specs.Queue as queue
 use Rattle.concurrent_queue.specs.declared.call.QueueAsk.TheVariants as ask
-use Rattle.concurrent_queue.specs.declared.call.QueueMark.TheVariants.{Append, Take, TakeDisplaced, Replace, Close}
+use Rattle.concurrent_queue.specs.declared.call.QueueMark.TheVariants.{Append, Take, TakeDisplaced, Replace}
 use Rattle.channel_calls.specs.declared.stage.Aim.TheVariants as aim
 use Rattle.channel_steps.proofs.Interface.{answered_by}
 use Rattle.channel_laws.proofs.Closed.{one_fewer}

@@ -13,7 +13,6 @@ use Rattle.concurrent_queue.specs.machine.RingCalls.{owes as ring_owes}
 use Rattle.concurrent_queue.specs.machine.BlocksState.{Blocks as BlocksNumbers}
 use Rattle.concurrent_queue.specs.declared.bounded.RingAction.TheVariants as ring
 use Rattle.concurrent_queue.specs.declared.call.QueueAsk.TheVariants as ask
-use Rattle.concurrent_queue.specs.declared.queue_call.CallState.TheVariants.{Finished}
 use Rattle.concurrent_queue.specs.declared.single.SingleAction.TheVariants as single
 use Rattle.concurrent_queue.specs.declared.unbounded.action.UnboundedAction.TheVariants as blocks
 use Rattle.concurrent_queue.proofs.RingPlaces.{near_same, turn-index, pos-div}

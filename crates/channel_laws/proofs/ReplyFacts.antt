@@ -1,6 +1,6 @@
 -- What a reply that says the end, and one that gives a message, say of their call.
 use Rattle.std.proofs.Common.{◌≡◌, List, [], ◌∷◌, ◌++◌, length, Option, None, Some, Ok, Err, ◌⊎◌, inl, inr, sym, subst}
-use Rattle.channel_laws.proofs.Words.{is_filled, Ready, Channel, count, ChannelAsk, Mark, Append, Take, Replace, SenderUp, SenderDown, ReceiverUp, ReceiverDown, Reply, Kept, Line, Sends, Receives, Streams, Closings, MarkedMoment, with_marked, Spent, Once, Took, TookAll, Replaced, Displaced, Row, Under, MayFinish, refused_reply, TrySend, ForceSend, TryRecv, RecvMany, PollSend, PollFinishedSend, PollRecv, PollClosed, PollNext, RefusePoll, GiveUp, DropSender, DropReceiver, CloneHandle, Upgrade, HandleCount, IsClosed, IsEmpty, IsFull, Len, Capacity, IsTerminated, SendIsTerminated, SameChannel, Make, DropWeak, RecvError, TrySendRow, ForceSendRow, TryRecvRow, SeveralRow, SendPollRow, RecvPollRow, ClosedPollRow, NextRow, CloseRow, CloneRow, UpgradeRow, FlagRow, CountRow, CapacityRow, TerminatedRow, is_empty, StillDeeds, IsStill, SaysTheEnd, GivesMessage, Replies}
+use Rattle.channel_laws.proofs.Words.{is_filled, Ready, Channel, count, ChannelAsk, Mark, Append, Take, Replace, SenderUp, SenderDown, ReceiverUp, ReceiverDown, Reply, Kept, Line, Sends, Receives, Streams, Closings, MarkedMoment, with_marked, Spent, Once, Took, TookAll, Replaced, Displaced, Row, Under, MayFinish, refused_reply, TrySend, ForceSend, TryRecv, RecvMany, PollSend, PollRecv, PollClosed, PollNext, RefusePoll, CloneHandle, Upgrade, HandleCount, IsClosed, IsEmpty, IsFull, Len, Capacity, IsTerminated, RecvError, TrySendRow, ForceSendRow, TryRecvRow, SeveralRow, SendPollRow, RecvPollRow, ClosedPollRow, NextRow, CloseRow, CloneRow, UpgradeRow, FlagRow, CountRow, CapacityRow, TerminatedRow, is_empty, StillDeeds, IsStill, SaysTheEnd, GivesMessage, Replies}
 use Rattle.event_listener.specs.declared.error.ListenError.TheVariants as listen_error
 use Rattle.channel_calls.specs.declared.ask.ChannelAsk.TheVariants.{Close}
 use Rattle.channel_calls.specs.declared.error.Refused.TheVariants as refused

@@ -1,6 +1,6 @@
 -- Other tasks put for those of a merge.
 use Rattle.std.proofs.Common.{◌≡◌, ℕ, ◌==◌, Bool, true, false, if◌then◌else◌, List, [], ◌∷◌, map, Option, None, Some, option_map, refl, sym, ap, subst, ◌∙◌}
-use Rattle.channel_laws.proofs.Words.{QueueForm, QueueCall, first, Deed, stepped, inserted, registered, taken_off, one_told, more_told, all_told, counted, lowered, raised, Parts, Roster, Takes, ChannelMakes, Mark, Reply, Kept, Stage, Turn, Act, on_queue, on_roster, on_nothing, Event, begins, Happening, Given, Notes, Acts, own, Changes, InOneOrder, WakesSo, MergesHaveAnyTasks, roster_by, parts_by, deed_by, act_by, stage_by, event_by, all_by}
+use Rattle.channel_laws.proofs.Words.{QueueForm, QueueCall, first, Deed, stepped, Parts, Roster, Takes, ChannelMakes, Mark, Reply, Kept, Stage, Turn, Act, on_queue, on_roster, on_nothing, Event, begins, Happening, Given, Notes, Acts, own, Changes, InOneOrder, WakesSo, MergesHaveAnyTasks, roster_by, parts_by, deed_by, act_by, stage_by, event_by, all_by}
 use Rattle.channel_laws.specs.Bridge.{does}
 use Rattle.channel_laws.proofs.TaskCells.{done_so}
 use Rattle.channel_laws.proofs.TaskTurns.{first_alike, kept_alike, takes}

@@ -1,6 +1,6 @@
 -- Over steps: on a channel without a bound no send listens.
 use Rattle.std.proofs.Common.{◌≡◌, ℕ, zero, suc, ◌+◌, ◌-◌, Bool, true, false, if◌then◌else◌, List, Option, None, Some, inl, inr, refl, sym, ap, ◌∙◌, subst}
-use Rattle.channel_laws.proofs.Words.{Phase, registration, removed, up, Channel, Effect, queued, untouched, on_count, tells_one, tells_more, tells_all, listens, registers, leaves, lowers, Moves, Listeners, Roster, listeners, with_listeners, count, with_count, is_raised, told_one, told_more, told_all, ChannelAsk, line_of, Mark, Reply, Held, Line, Sends, Receives, Streams, Closings, Side, Senders, Receivers, Stage, Trying, Working, Finished, TellReceive, TellStreams, TellSend, TellSends, TakeRoom, TellAll, Insert, Register, Leave, Lower, Count, Load, Raise, StageAt, MarkedMoment, Next, new_scene, Scene, Known, AllKnown, Entry, Step, raises, nobody_listens, AllOf, NoSendListens, SendsUnlisted}
+use Rattle.channel_laws.proofs.Words.{Phase, registration, removed, up, Channel, Effect, queued, untouched, on_count, tells_one, tells_more, tells_all, listens, registers, leaves, lowers, Moves, Listeners, Roster, listeners, with_listeners, count, with_count, is_raised, told_one, told_more, told_all, ChannelAsk, line_of, Mark, Reply, Held, Line, Sends, Receives, Streams, Closings, Side, Senders, Receivers, Stage, Trying, Working, TellReceive, TellStreams, TellSend, TellSends, TellAll, Insert, Register, Leave, Lower, Raise, StageAt, MarkedMoment, Next, new_scene, Scene, Known, AllKnown, Entry, Step, raises, nobody_listens, AllOf, NoSendListens, SendsUnlisted}
 use Rattle.channel_calls.specs.declared.stage.Waiting.TheVariants as waiting
 use Rattle.channel_steps.specs.declared.run.Step.TheVariants as step
 use Rattle.channel_laws.proofs.Bounds.{bound_new, bound_next, capacity_next, never_crowded}
