@@ -1,12 +1,7 @@
 -- One of the calls under way, before and after a step.
 use Rattle.std.proofs.Common.{◌≡◌, ℕ, List, [], ◌∷◌, ◌++◌, map, Option, None, Some, ◌⊎◌, inl, inr, sym, subst}
-use Rattle.channel_calls.specs.declared.ask.ChannelAsk.{ChannelAsk}
-use Rattle.channel_calls.specs.declared.reply.Reply.{Reply}
-use Rattle.channel_steps.specs.Scene.{Under, Scene, Steps, sees, does, unless_ended}
-use Rattle.channel_steps.specs.Run.{Begins, call_begun}
-use Rattle.channel_steps.specs.declared.party.Entry.{Entry}
+use Rattle.channel_laws.proofs.Words.{ChannelAsk, Reply, Under, Scene, Steps, sees, does, unless_ended, Begins, call_begun, Entry, Any}
 use Rattle.channel_laws.specs.Ends.{Each}
-use Rattle.channel_laws.specs.Waits.{Any}
 
 module _ {T W : Type 0} where
   -- one of them is so or so, and none is so

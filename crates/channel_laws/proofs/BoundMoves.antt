@@ -1,22 +1,12 @@
 -- What a step does to the number of messages, to the capacity and to the flag.
 use Rattle.std.proofs.Common.{arith, ◌≡◌, ℕ, ◌+◌, ◌≤◌, ◌==◌, Bool, true, false, List, [], ◌∷◌, length, drop, Option, Some, ◌⊎◌, inl, inr, refl, sym, ap, ◌∙◌, subst, length-append}
 use Rattle.std.proofs.lemmas.Bool.Decides.{nat_tests}
-use Rattle.concurrent_queue.specs.Queue.{Queue, Phase, trying, displaced, is_filled, is_full_at, IsOpen, IsOldest, message, marked, is_displaced, ContinuesPush, ContinuesForce, ContinuesPop, ContinuesBy, Continues, AnswersTo, Answers}
+use Rattle.channel_laws.proofs.Words.{Queue, Phase, trying, displaced, is_filled, is_full_at, IsOpen, IsOldest, message, marked, is_displaced, ContinuesPush, ContinuesForce, ContinuesPop, ContinuesBy, Continues, AnswersTo, Answers, QueueAsk, QueueMark, Nothing, QueueReply, Channel, Effect, queued, Moves, Mark, Reply, Stage, Trying, Working, Finished, IsWithinBound, IsStill}
 use Rattle.concurrent_queue.specs.Queue as queue
-use Rattle.concurrent_queue.specs.declared.call.QueueAsk.{QueueAsk}
 use Rattle.concurrent_queue.specs.declared.call.QueueAsk.TheVariants as ask
-use Rattle.concurrent_queue.specs.declared.call.QueueMark.{QueueMark}
-use Rattle.concurrent_queue.specs.declared.call.QueueMark.TheVariants.{Nothing, Append, Take, TakeDisplaced, Replace, Close}
-use Rattle.concurrent_queue.specs.declared.call.QueueReply.{QueueReply}
-use Rattle.concurrent_queue.specs.declared.call.QueueReply.TheVariants as answer
-use Rattle.channel_calls.specs.Moves.{Channel, Effect, queued, Moves}
-use Rattle.channel_calls.specs.declared.mark.Mark.{Mark}
+use Rattle.concurrent_queue.specs.declared.call.QueueMark.TheVariants.{Append, Take, TakeDisplaced, Replace, Close}
 use Rattle.channel_calls.specs.declared.mark.Mark.TheVariants as mark
-use Rattle.channel_calls.specs.declared.reply.Reply.{Reply}
-use Rattle.channel_calls.specs.declared.stage.Stage.{Stage}
-use Rattle.channel_calls.specs.declared.stage.Stage.TheVariants.{Trying, Working, Finished}
-use Rattle.channel_laws.specs.Bounds.{IsWithinBound}
-use Rattle.channel_laws.specs.Ends.{IsStill}
+use Rattle.channel_steps.proofs.Interface.{answered_by}
 use Rattle.channel_laws.proofs.ClosedMoves.{worked_spares}
 
 room_left : (n c : ℕ) → (n == c) ≡ false → n ≤ c → n + 1 ≤ c
@@ -60,17 +50,7 @@ module _ {T : Type 0} where
     goes_says a m s t g = absurd g
 
     answers_says : (a : QueueAsk T) (m : QueueMark) (r : QueueReply T) (s : queue.Stage T) → AnswersTo q a m r s → Says m q
-    answers_says a Nothing r s h = tt
-    answers_says ask.Close Close (answer.Close true) (trying b) h = h
-    answers_says (ask.Push v) m r s h = absurd h
-    answers_says (ask.ForcePush v) m r s h = absurd h
-    answers_says ask.Pop m r s h = absurd h
-    answers_says ask.Close m r s h = absurd h
-    answers_says ask.IsClosed m r s h = absurd h
-    answers_says ask.IsEmpty m r s h = absurd h
-    answers_says ask.IsFull m r s h = absurd h
-    answers_says ask.Len m r s h = absurd h
-    answers_says ask.Capacity m r s h = absurd h
+    answers_says a m r s h = answered_by q (λ z. Says z q) tt (λ was. was) a m r s h
 
   tried_says : (q : Queue T) (f : Phase T) (m : QueueMark) (a b : Type 0)
       → (a → (f' : Phase T) × Continues q f m f') → (b → (x : QueueReply T) × Answers q f m x) → a ⊎ b → Says m q
@@ -81,11 +61,7 @@ module _ {T : Type 0} where
 
   same_limit : (a : QueueAsk T) (b : Bool) (m : QueueMark) (q : Queue T) → (marked a b m q).capacity ≡ q.capacity
   same_limit a b Nothing q = refl
-  same_limit a b Append q = refl
-  same_limit a b Take q = refl
-  same_limit a b TakeDisplaced q = refl
-  same_limit a b Replace q = refl
-  same_limit a b Close q = refl
+  same_limit a b m q = refl
 
   one_message : (a : QueueAsk T) → length (message a) ≤ 1
   one_message (ask.Push v) = omega arith
@@ -149,12 +125,10 @@ module _ {T W : Type 0} where
     flag = by m;
   } where
     of : (n : QueueMark) → Says n c.queue → (let e : Effect T W = queued f n c in SaysOf e.mark c)
-    of Nothing h = tt
-    of Append h = tt
-    of Take h = tt
     of TakeDisplaced h = h
     of Replace h = h.1
     of Close h = h
+    of w h = tt
 
     by : (n : QueueMark) → (let e : Effect T W = queued f n c in FlagOf e.mark c e.channel)
     by Nothing = refl

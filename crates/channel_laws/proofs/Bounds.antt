@@ -1,26 +1,12 @@
 -- Over runs: no more messages than fit, never full without a bound, and closed once.
 use Rattle.std.proofs.Common.{arith, ◌≡◌, ℕ, true, false, List, [], ◌∷◌, ◌++◌, Option, None, Some, Err, inl, inr, refl, sym, ap, ◌∙◌, subst}
-use Rattle.concurrent_queue.specs.Queue.{is_filled, is_full_at}
-use Rattle.channel_calls.specs.Moves.{Channel}
-use Rattle.channel_calls.specs.declared.ask.ChannelAsk.{ChannelAsk}
+use Rattle.channel_laws.proofs.Words.{is_filled, is_full_at, Channel, ChannelAsk, Mark, Reply, Kept, Sends, Receives, Streams, Closings, Row, MarkedMoment, Once, Next, IsRun, NextScene, new_scene, Under, Scene, Steps, MayFinish, does, Entry, Step, Crowded, IsDisplacing, SaysFull, NoneFull, IsWithinBound, AllOf, BoundSound, BoundsStay, NeverOverfull, EachUnboundedRunIsNeverFull, Replies}
 use Rattle.channel_calls.specs.declared.ask.ChannelAsk.TheVariants as ask
 use Rattle.channel_calls.specs.declared.error.Refused.TheVariants as refused
 use Rattle.channel_calls.specs.declared.error.TrySendError.TheVariants as try_send_error
-use Rattle.channel_calls.specs.declared.mark.Mark.{Mark}
 use Rattle.channel_calls.specs.declared.mark.Mark.TheVariants as mark
-use Rattle.channel_calls.specs.declared.reply.Reply.{Reply}
 use Rattle.channel_calls.specs.declared.reply.Reply.TheVariants as reply
-use Rattle.channel_calls.specs.declared.stage.Kept.{Kept}
-use Rattle.channel_calls.specs.declared.stage.Line.TheVariants.{Sends, Receives, Streams, Closings}
-use Rattle.channel_steps.specs.Answers.{Row}
-use Rattle.channel_steps.specs.Moments.{MarkedMoment, Crowded, Once}
-use Rattle.channel_steps.specs.Run.{Next, IsRun, NextScene, new_scene}
-use Rattle.channel_steps.specs.Scene.{Under, Scene, Steps, MayFinish, does}
-use Rattle.channel_steps.specs.declared.party.Entry.{Entry}
-use Rattle.channel_steps.specs.declared.run.Step.{Step}
 use Rattle.channel_steps.specs.declared.run.Step.TheVariants as step
-use Rattle.channel_laws.specs.Bounds.{IsDisplacing, SaysFull, NoneFull, IsWithinBound, AllOf, BoundSound, BoundsStay, NeverOverfull, EachUnboundedRunIsNeverFull}
-use Rattle.channel_laws.specs.Ends.{Replies}
 use Rattle.channel_laws.proofs.BoundMoves.{Bounded, SaysOf, moves_bounded}
 use Rattle.channel_laws.proofs.EachFacts.{of_mine, each_steps, each_begins}
 use Rattle.channel_steps.proofs.Interface.{run_so}

@@ -2,41 +2,19 @@
 use Rattle.std.proofs.Common.{◌≡◌, ℕ, ◌==◌, Bool, true, false, List, [], ◌∷◌, ◌++◌, map, Option, None, Some, Ok, Err, MatchOption, slice_set, if◌then◌else◌, refl, sym, ap, ◌∙◌, subst}
 use Rattle.std.specs.List.{remove}
 use Rattle.concurrent_queue.specs.Bridge as queue
-use Rattle.concurrent_queue.specs.Contents.{Contents}
+use Rattle.channel_laws.proofs.Words.{Contents, asked, QueueReply, QueueForm, QueueCall, first, kept_by, Deed, stepped, Done, Does, Parts, Takes, Leaves, WorkMakes, ChannelMakes, ChannelAsk, Mark, Reply, Held, Stage, Trying, Working, Finished, Work, TellReceive, TellStreams, TellSend, TellSends, TakeRoom, TellAll, Insert, Register, Leave, Lower, Count, Load, Raise, HasBegun, Under, Scene, Sitting, Represents, StepsAt, HasParty, under_of, Entry, Party, IsChannelStep, IsNewCall, parties_after, left_by, Act, on_queue, on_roster, on_nothing, Event, begins, Happening, Given, Notes, Acts, own, step_of, steps_of, given_by, given_to, Changes, InOneOrder, IsIdle}
 use Rattle.concurrent_queue.specs.Deeds as cell
-use Rattle.concurrent_queue.specs.Queue.{asked}
 use Rattle.concurrent_queue.specs.declared.call.QueueAsk.TheVariants as queue_ask
-use Rattle.concurrent_queue.specs.declared.call.QueueReply.{QueueReply}
-use Rattle.concurrent_queue.specs.declared.cells.QueueForm.{QueueForm}
-use Rattle.concurrent_queue.specs.declared.queue_call.QueueCall.{QueueCall}
 use Rattle.concurrent_queue.proofs.Bridge.{call_noted, change_keeps_form}
 use Rattle.concurrent_queue.proofs.Callers.{is_same, is_other, itself, either, call_of, place_of, AllApart, has_at, begun_mine, begun_other, begun_apart, set_mine, set_other, set_apart, gone_other, gone_mine, gone_apart}
 use Rattle.channel_calls.proofs.Interface.{carried, exact_step}
 use Rattle.channel_calls.proofs.Walking.{taken_of}
-use Rattle.channel_calls.specs.Asks.{first, kept_by}
-use Rattle.channel_calls.specs.Deeds.{Deed, stepped, inserted, registered, taken_off, one_told, more_told, all_told, counted, lowered, raised, Done}
-use Rattle.channel_calls.specs.Effects.{Does}
-use Rattle.channel_calls.specs.Moves.{IsChannelStep, IsNewCall}
-use Rattle.channel_calls.specs.Parts.{Parts}
-use Rattle.channel_calls.specs.Walks.{Takes, Leaves, WorkMakes, ChannelMakes}
-use Rattle.channel_calls.specs.declared.ask.ChannelAsk.{ChannelAsk}
-use Rattle.channel_calls.specs.declared.mark.Mark.{Mark}
 use Rattle.channel_calls.specs.declared.mark.Mark.TheVariants.{Nothing}
-use Rattle.channel_calls.specs.declared.reply.Reply.{Reply}
-use Rattle.channel_calls.specs.declared.stage.Held.{Held}
-use Rattle.channel_calls.specs.declared.stage.Stage.{Stage}
-use Rattle.channel_calls.specs.declared.stage.Stage.TheVariants.{Trying, Working, Finished}
-use Rattle.channel_calls.specs.declared.stage.Work.{Work}
-use Rattle.channel_calls.specs.declared.stage.Work.TheVariants.{TellReceive, TellStreams, TellSend, TellSends, TakeRoom, TellAll, Insert, Register, Leave, Lower, Count, Load, Raise}
-use Rattle.channel_steps.specs.Run.{HasBegun}
-use Rattle.channel_steps.specs.Scene.{Under, Scene, Sitting, Represents, StepsAt, HasParty, under_of, parties_after, left_by}
-use Rattle.channel_steps.specs.declared.party.Entry.{Entry}
-use Rattle.channel_steps.specs.declared.party.Party.{Party}
 use Rattle.channel_steps.specs.declared.run.Step.TheVariants as step
 use Rattle.channel_steps.proofs.RunFacts as runs
 use Rattle.channel_steps.proofs.SceneFacts.{stepped_at, made_at}
-use Rattle.channel_laws.specs.Bridge.{Act, on_queue, on_roster, on_nothing, Event, begins, does, Happening, Given, Notes, Acts, own, step_of, steps_of, given_by, given_to, Changes, InOneOrder}
-use Rattle.channel_laws.specs.Ends.{Each, IsIdle}
+use Rattle.channel_laws.specs.Bridge.{does}
+use Rattle.channel_laws.specs.Ends.{Each}
 use Rattle.channel_laws.proofs.BridgeLeads.{id_of, of, StepLeadsOn, GoThrough, leads_begun, leads_stepped, through_none, through_more}
 
 -- ---- a step that was noted, over cells that it changes
@@ -68,15 +46,7 @@ module _ {T W S : Type 0} (wakes : S → W → S → Type 0) (form : QueueForm) 
 
   noted : (d : Deed T W) (o : Act T W) → Notes form d on_nothing o → Changes wakes (does o) c e → did d c e
   noted (stepped call next answer) o is h = tried call next answer o is h
-  noted (inserted line x) o is h = on o _ is h
-  noted (registered line key task x) o is h = on o _ is h
-  noted (taken_off line key names) o is h = on o _ is h
-  noted (one_told line names) o is h = on o _ is h
-  noted (more_told line n names) o is h = on o _ is h
-  noted (all_told line names) o is h = on o _ is h
-  noted (counted side n) o is h = on o _ is h
-  noted (lowered side n) o is h = on o _ is h
-  noted (raised side n x) o is h = on o _ is h
+  noted w o is h = on o _ is h
 
   made : (at : Stage (QueueCall T) T W) (o : Act T W) (m : Mark) (next : Stage (QueueCall T) T W) (r : Option (Reply T)) → ChannelMakes (Notes form) at on_nothing o m next r → Changes wakes (does o) c e → ChannelMakes did at c e m next r
   made at o m next r n h = carried (Notes form) did on_nothing o c e (λ d is. noted d o is h) (λ is. none o is h) m next r at n

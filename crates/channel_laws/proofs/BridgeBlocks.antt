@@ -1,28 +1,7 @@
 -- A call that blocks its thread makes whole calls.
 use Rattle.std.proofs.Common.{◌≡◌, ◌⊎◌, inl, inr, ℕ, zero, suc, Option, None, Some, refl, sym, subst}
-use Rattle.concurrent_queue.specs.declared.queue_call.QueueCall.{QueueCall}
-use Rattle.event_listener.specs.declared.key.Key.{Key}
-use Rattle.channel_calls.specs.Asks.{first, is_refused}
-use Rattle.channel_calls.specs.Blocks.{waiting_of, at_once, not_yet, poll_woken, still_waits, Looks, AnswersAtFirst, Listens, Round, Rounds, Wakens, SleepsOn}
-use Rattle.channel_calls.specs.Deeds.{Deed}
-use Rattle.channel_calls.specs.Turns.{again, line_of, message_of}
-use Rattle.channel_calls.specs.Walks.{Takes, Leaves, WorkMakes, ChannelMakes, Leads, Walked, WalkedFrom}
-use Rattle.channel_calls.specs.declared.blocked.Blocked.{Blocked}
-use Rattle.channel_calls.specs.declared.blocked.Blocked.TheVariants.{Send, Receive}
-use Rattle.channel_calls.specs.declared.mark.Mark.{Mark}
-use Rattle.channel_calls.specs.declared.reply.Reply.{Reply}
-use Rattle.channel_calls.specs.declared.stage.Ending.{Ending}
-use Rattle.channel_calls.specs.declared.stage.Held.{Held}
-use Rattle.channel_calls.specs.declared.stage.Kept.{Kept}
-use Rattle.channel_calls.specs.declared.stage.Stage.{Stage}
-use Rattle.channel_calls.specs.declared.stage.Stage.TheVariants.{Trying, Working, Finished}
-use Rattle.channel_calls.specs.declared.stage.Turn.{Turn}
-use Rattle.channel_calls.specs.declared.stage.Turn.TheVariants.{Works}
-use Rattle.channel_calls.specs.declared.stage.Waiting.{Waiting}
-use Rattle.channel_calls.specs.declared.stage.Work.{Work}
-use Rattle.channel_calls.specs.declared.stage.Work.TheVariants.{TellReceive, TellStreams, TellSend, TellSends, TakeRoom, TellAll, Insert, Register, Leave, Lower, Count, Load, Raise}
+use Rattle.channel_laws.proofs.Words.{QueueCall, Key, first, Deed, again, line_of, Takes, Leaves, WorkMakes, ChannelMakes, Leads, Mark, Reply, Ending, Held, Kept, Stage, Trying, Working, Finished, Turn, Works, Waiting, Work, Register, Leave, is_refused, waiting_of, at_once, not_yet, poll_woken, still_waits, Looks, AnswersAtFirst, Listens, Round, Rounds, Wakens, SleepsOn, message_of, Walked, WalkedFrom, Blocked, Send, Receive, first_poll, poll_refused, PollsInTurn, InCalls, IsLeft, Rests, Rested, BlocksInCalls}
 use Rattle.channel_calls.proofs.Walking.{walks_on}
-use Rattle.channel_laws.specs.BridgeBlocks.{first_poll, poll_refused, PollsInTurn, InCalls, IsLeft, Rests, Rested, BlocksInCalls}
 
 module _ {T W : Type 0} where
   first_is : (b : Blocked T) (task : W) → first (first_poll b task) ≡ again (waiting_of b) None task
@@ -51,19 +30,9 @@ module _ {T W X : Type 0} (did : Deed T W → X → X → Type 0) (asked : Optio
   left (Some held) s t (names, h) = (names, (zero, s, refl, h))
 
   worked : (w : Work T W) (s t : X) (m : Mark) (next : Stage (QueueCall T) T W) (r : Option (Reply T)) → WorkMakes did w s t m next r → WorkMakes after w s t m next r
-  worked (TellReceive e) s t m next r h = h
-  worked (TellStreams e) s t m next r h = h
-  worked (TellSend e) s t m next r h = h
-  worked (TellSends n e) s t m next r h = h
-  worked (TakeRoom n) s t m next r h = h
-  worked (TellAll line c) s t m next r h = h
-  worked (Insert w task) s t m next r h = h
   worked (Register w key task) s t m next r (o, h, k) = (o, (zero, s, refl, h), k)
   worked (Leave e) s t m next r (h, k) = (left e.held s t h, k)
-  worked (Lower side key) s t m next r h = h
-  worked (Count side) s t m next r h = h
-  worked (Load side making) s t m next r h = h
-  worked (Raise side n making) s t m next r h = h
+  worked w s t m next r h = h
 
   made : (at : Stage (QueueCall T) T W) (s t : X) (m : Mark) (next : Stage (QueueCall T) T W) (r : Option (Reply T)) → ChannelMakes did at s t m next r → ChannelMakes after at s t m next r
   made (Trying call aim) s t m next r h = h

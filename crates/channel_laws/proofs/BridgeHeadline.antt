@@ -4,32 +4,10 @@ use Rattle.std.specs.List.{remove}
 use Rattle.std.proofs.lemmas.List.{length-map}
 use Rattle.concurrent_queue.proofs.Callers.{is_same}
 use Rattle.concurrent_queue.proofs.Bridge.{new_is}
-use Rattle.concurrent_queue.specs.Capacity.{capacity_of}
-use Rattle.concurrent_queue.specs.Made.{IsNew, new_cells}
-use Rattle.concurrent_queue.specs.declared.cells.QueueForm.{QueueForm}
-use Rattle.event_listener.specs.Notices.{Woken}
-use Rattle.channel_calls.specs.Moves.{Channel}
-use Rattle.channel_calls.specs.declared.ask.ChannelAsk.{ChannelAsk}
-use Rattle.channel_calls.specs.declared.reply.Reply.{Reply}
-use Rattle.channel_steps.specs.Left.{all_left, most_left}
-use Rattle.channel_steps.specs.Moments.{Spent}
-use Rattle.channel_steps.specs.Run.{EachStep, end_of, HasRange, Next, new_scene}
-use Rattle.channel_steps.specs.Scene.{Under, Scene, Represents, brought, does, gone_by, came_by, wanted_at, OthersQuiet, sees, unless_ended}
-use Rattle.channel_steps.specs.declared.party.Entry.{Entry}
-use Rattle.channel_steps.specs.declared.run.Step.{Step}
+use Rattle.channel_laws.proofs.Words.{QueueForm, Woken, Channel, ChannelAsk, Reply, Spent, HasRange, Next, new_scene, Under, Scene, Represents, brought, does, gone_by, came_by, OthersQuiet, sees, unless_ended, Entry, Step, Sends, Receives, capacity_of, IsNew, new_cells, all_left, most_left, EachStep, end_of, wanted_at, HoldsListener, BoundSound, MergeMoment, NextMoment, Happening, steps_of, opened_parts, just_opened, LastsFor, MergesAreRuns, NewCallsGiveNothing, NoMessageAfter, MergeMomentSays, MergeBeginSays, MergeWorkSays, MergeCallSays, MergeStepSays, MergesKeepTheHeadline, MergeEndsInARow, OthersQuietAt, steps_in_a_row, left_to, FewStepsLeft, SaysTheEnd, Replies, AddUp, brought_by, MessagesAreFew, counts_for_receives, PlacesAreFew, counts_for_sends, AllSound}
 use Rattle.channel_steps.specs.declared.run.Step.TheVariants as step
 use Rattle.channel_steps.proofs.Interface.{each_says, few_left, hold_still}
 use Rattle.channel_steps.proofs.StartFacts.{new_shown}
-use Rattle.channel_laws.specs.Bounds.{BoundSound}
-use Rattle.channel_laws.specs.Bridge.{MergeMoment, NextMoment, Happening, steps_of, opened_parts, just_opened, LastsFor, MergesAreRuns}
-use Rattle.channel_laws.specs.BridgeEnd.{NewCallsGiveNothing, NoMessageAfter}
-use Rattle.channel_laws.specs.BridgeHeadline.{MergeMomentSays, MergeBeginSays, MergeWorkSays, MergeCallSays, MergeStepSays, MergesKeepTheHeadline}
-use Rattle.channel_laws.specs.BridgeMoments.{MergeEndsInARow, OthersQuietAt, steps_in_a_row, left_to, FewStepsLeft}
-use Rattle.channel_laws.specs.Ends.{SaysTheEnd, Replies}
-use Rattle.channel_laws.specs.Marked.{AddUp, brought_by}
-use Rattle.channel_laws.specs.Receives.{MessagesAreFew, counts_for_receives}
-use Rattle.channel_laws.specs.Sends.{PlacesAreFew, counts_for_sends}
-use Rattle.channel_laws.specs.Sound.{AllSound}
 use Rattle.channel_laws.proofs.Bounds.{bound_new, bound_next}
 use Rattle.channel_laws.proofs.Bridge.{merge}
 use Rattle.channel_laws.proofs.BridgeLeads.{Leads, next_moment, scenes_of}
@@ -42,7 +20,6 @@ use Rattle.channel_laws.proofs.MarkedFacts.{came_is, step_marked}
 use Rattle.channel_laws.proofs.Owed.{pending_owed}
 use Rattle.channel_laws.proofs.Streams as streams
 use Rattle.channel_laws.proofs.WordsFacts.{words_say}
-use Rattle.channel_calls.specs.declared.stage.Line.TheVariants.{Sends, Receives}
 
 module _ {T : Type 0} where
   no_reply : (e : Entry T) → e.reply ≡ None → Replies SaysTheEnd e.reply → ⊥
@@ -97,8 +74,8 @@ module _ {T W S : Type 0} where
         in_order = k.order;
         fits = k.bound.fits;
         begun = all_begin m.scene.now m.scene.under_way sh.known;
-        receives = pending_owed Receives tt MessagesAreFew counts_for_receives m.scene k.sound.receives.owed;
-        sends = pending_owed Sends tt PlacesAreFew counts_for_sends m.scene k.sound.sends.owed;
+        receives = pending_owed Receives MessagesAreFew counts_for_receives (HoldsListener Receives) (λ c. ⊥) m.scene k.sound.receives.owed;
+        sends = pending_owed Sends PlacesAreFew counts_for_sends (HoldsListener Sends) (λ c. ⊥) m.scene k.sound.sends.owed;
         streams = streams.pending_owed m.scene k.sound.streams.owed;
         closing = closings.pending_owed m.scene k.sound.closing.owed;
         words = words_say m.parts m.parties m.scene sh;
@@ -189,10 +166,7 @@ module _ {T W S : Type 0} (wakes : S → W → S → Type 0) where
       let l = h.0 in
       let first = stays_over m.scene (step.Step p) e l.names n.scene l.next over in
       give_nothing n xs es ns h.1 first.0
-  give_nothing m [] [] (n ∷ ns) h over = absurd h
-  give_nothing m [] (e ∷ es) ns h over = absurd h
-  give_nothing m (x ∷ xs) [] ns h over = absurd h
-  give_nothing m (x ∷ xs) (e ∷ es) [] h over = absurd h
+  give_nothing m x y ns h over = absurd h
 
   nothing_comes : (m : MergeMoment T W S) (xs : List (Step T W)) (es : List (Entry T)) (ns : List (MergeMoment T W S)) → StaysSo m.scene
       → EachStep (Leads wakes) m xs es ns → NoMessageAfter xs es
@@ -202,10 +176,7 @@ module _ {T W S : Type 0} (wakes : S → W → S → Type 0) where
         λ ended. give_nothing n xs es ns h.1 (says_end m x e n h.0 k ended),
         nothing_comes n xs es ns (kept_next m.scene x e l.names n.scene l.next k) h.1,
       )
-  nothing_comes m [] [] (n ∷ ns) k h = absurd h
-  nothing_comes m [] (e ∷ es) ns k h = absurd h
-  nothing_comes m (x ∷ xs) [] ns k h = absurd h
-  nothing_comes m (x ∷ xs) (e ∷ es) [] k h = absurd h
+  nothing_comes m x y ns k h = absurd h
 
 -- ---- steps in a row
 
@@ -262,10 +233,7 @@ module _ {T W S : Type 0} (wakes : S → W → S → Type 0) where
           (subst (λ (j : ℕ). slice_get n.scene.under_way j ≡ Some after) place is.there) (s.whose ∙ is_same q p same)
           (subst (λ (j : ℕ). OthersQuiet n.scene.now (remove n.scene.under_way j)) place still) in
           omega (arith, less, rest)
-  row_left k p u m [] [] (n ∷ ns) h there his free = absurd h
-  row_left k p u m [] (e ∷ es) ns h there his free = absurd h
-  row_left k p u m (x ∷ xs) [] ns h there his free = absurd h
-  row_left k p u m (x ∷ xs) (e ∷ es) [] h there his free = absurd h
+  row_left k p u m x y ns h there his free = absurd h
 
   few_now : (m : MergeMoment T W S) → Represents m.parts m.parties m.scene → FewStepsLeft m
   few_now m sh = few_at (all_left m.parts m.parties) m.scene.under_way (few_left m.parts m.parties m.scene sh)
@@ -281,10 +249,7 @@ module _ {T W S : Type 0} (wakes : S → W → S → Type 0) where
             omega (arith, row, most),
         end_in_a_row n xs es ns l.shows h.1,
       )
-  end_in_a_row m [] [] (n ∷ ns) sh h = absurd h
-  end_in_a_row m [] (e ∷ es) ns sh h = absurd h
-  end_in_a_row m (x ∷ xs) [] ns sh h = absurd h
-  end_in_a_row m (x ∷ xs) (e ∷ es) [] sh h = absurd h
+  end_in_a_row m x y ns sh h = absurd h
 
 -- ---- a merge
 

@@ -1,24 +1,11 @@
 -- What a step of a party leads to, with the parties before it and after it.
 use Rattle.std.proofs.Common.{◌≡◌, ℕ, zero, suc, ◌<◌, ◌==◌, Bool, true, false, if◌then◌else◌, List, [], ◌∷◌, ◌++◌, map, length, slice_get, None, Some, refl, sym, ap, ◌∙◌, subst}
-use Rattle.concurrent_queue.specs.Queue.{IsInRange}
-use Rattle.concurrent_queue.specs.declared.queue_call.QueueCall.{QueueCall}
+use Rattle.channel_laws.proofs.Words.{QueueCall, Woken, Parts, ChannelAsk, Stage, HasBegun, Next, NextScene, HasRange, IsRun, Scene, OthersQuiet, Represents, StepsAt, HasParty, Under, Sitting, under_of, Entry, Party, Step, IsInRange, Touches, blocks_after, MergeMoment, NextMoment, left_to, IsIdle}
 use Rattle.concurrent_queue.proofs.Callers.{AllApart, is_same, is_other, none_has, place_of}
-use Rattle.event_listener.specs.Notices.{Woken}
-use Rattle.channel_calls.specs.Parts.{Parts}
-use Rattle.channel_calls.specs.declared.ask.ChannelAsk.{ChannelAsk}
-use Rattle.channel_calls.specs.declared.stage.Stage.{Stage}
-use Rattle.channel_steps.specs.Run.{HasBegun, Touches, Next, NextScene, HasRange, IsRun}
-use Rattle.channel_steps.specs.Scene.{Scene, OthersQuiet, Represents, StepsAt, HasParty, Under, Sitting, under_of, blocks_after}
-use Rattle.channel_steps.specs.declared.party.Entry.{Entry}
-use Rattle.channel_steps.specs.declared.party.Party.{Party}
-use Rattle.channel_steps.specs.declared.run.Step.{Step}
 use Rattle.channel_steps.specs.declared.run.Step.TheVariants as step
 use Rattle.channel_steps.proofs.Interface.{blocks_begun, run_seen}
 use Rattle.channel_steps.proofs.MoveFacts.{in_range}
 use Rattle.channel_steps.proofs.RunFacts.{next_range}
-use Rattle.channel_laws.specs.Bridge.{MergeMoment, NextMoment}
-use Rattle.channel_laws.specs.BridgeMoments.{left_to}
-use Rattle.channel_laws.specs.Ends.{IsIdle}
 
 module _ {T W : Type 0} where
   abbrev pub id_of : Party T W → ℕ

@@ -1,18 +1,8 @@
 -- Two clones of a sender, merged.
 use Rattle.std.proofs.Common.{◌≡◌, ℕ, ◌==◌, ◌<◌, ◌^◌, Bool, true, false, [], None, Some, inr, refl, subst, arith}
-use Rattle.concurrent_queue.specs.declared.cells.QueueForm.{QueueForm}
+use Rattle.channel_laws.proofs.Words.{QueueForm, up, Parts, new_roster, with_count, with_roster, nothing_kept, Senders, Working, Finished, Load, Raise, Made, Clone, Acts, own, opened_parts, InOneOrder, two_clones, parts_of_three, given_made, both_made, TwoClonesMerge}
 use Rattle.concurrent_queue.proofs.Callers.{is_same}
-use Rattle.channel_calls.specs.Marks.{up}
-use Rattle.channel_calls.specs.Parts.{Parts, new_roster, with_count, with_roster}
-use Rattle.channel_calls.specs.Turns.{nothing_kept}
 use Rattle.channel_calls.specs.declared.mark.Mark.TheVariants.{Nothing}
-use Rattle.channel_calls.specs.declared.reply.Reply.TheVariants.{Made}
-use Rattle.channel_calls.specs.declared.stage.Making.TheVariants.{Clone}
-use Rattle.channel_calls.specs.declared.stage.Side.TheVariants.{Senders}
-use Rattle.channel_calls.specs.declared.stage.Stage.TheVariants.{Working, Finished}
-use Rattle.channel_calls.specs.declared.stage.Work.TheVariants.{Load, Raise}
-use Rattle.channel_laws.specs.Bridge.{Acts, own, opened_parts, InOneOrder}
-use Rattle.channel_laws.specs.BridgeRow.{two_clones, parts_of_three, given_made, both_made, TwoClonesMerge}
 
 module _ (T W : Type 0) (form : QueueForm) where
   first : Acts {T = T} {W = W} form None (own 1 two_clones) given_made

@@ -2,27 +2,10 @@
 use Rattle.std.proofs.Common.{◌≡◌, ℕ, zero, suc, List, [], ◌∷◌, ◌++◌, map, Option, None, Some, MatchOption, refl, ap, subst}
 use Rattle.concurrent_queue.specs.Bridge as queue
 use Rattle.concurrent_queue.specs.Deeds as cell
-use Rattle.concurrent_queue.specs.Walked.{StateMakes}
-use Rattle.concurrent_queue.specs.declared.call.QueueMark.{QueueMark}
-use Rattle.concurrent_queue.specs.declared.call.QueueReply.{QueueReply}
-use Rattle.concurrent_queue.specs.declared.cells.QueueForm.{QueueForm}
-use Rattle.concurrent_queue.specs.declared.queue_call.CallState.{CallState}
-use Rattle.concurrent_queue.specs.declared.queue_call.QueueCall.{QueueCall}
+use Rattle.channel_laws.proofs.Words.{QueueMark, QueueReply, QueueForm, CallState, QueueCall, kept_by, Deed, mark_of_queue, Heard, Leaves, WorkMakes, ChannelMakes, Leads, Mark, Reply, Aim, Held, Stage, Trying, Working, Finished, Work, TellReceive, TellStreams, TellSend, TellSends, TakeRoom, TellAll, Insert, Register, Leave, Lower, Count, Load, Raise, StateMakes, Act, on_queue, on_roster, on_nothing, Event, Given, Notes, Acts, QueueIsWalked, Along, StandsAct, WalksAct}
 use Rattle.concurrent_queue.specs.machine.Ahead as cells
 use Rattle.concurrent_queue.proofs.Bridge as queue_facts
-use Rattle.channel_calls.specs.Asks.{kept_by}
-use Rattle.channel_calls.specs.Deeds.{Deed}
-use Rattle.channel_calls.specs.Marks.{mark_of_queue}
-use Rattle.channel_calls.specs.Walks.{Heard, Leaves, WorkMakes, ChannelMakes, Leads}
-use Rattle.channel_calls.specs.declared.mark.Mark.{Mark}
-use Rattle.channel_calls.specs.declared.reply.Reply.{Reply}
-use Rattle.channel_calls.specs.declared.stage.Aim.{Aim}
-use Rattle.channel_calls.specs.declared.stage.Held.{Held}
-use Rattle.channel_calls.specs.declared.stage.Stage.{Stage}
-use Rattle.channel_calls.specs.declared.stage.Stage.TheVariants.{Trying, Working, Finished}
-use Rattle.channel_calls.specs.declared.stage.Work.{Work}
-use Rattle.channel_calls.specs.declared.stage.Work.TheVariants.{TellReceive, TellStreams, TellSend, TellSends, TakeRoom, TellAll, Insert, Register, Leave, Lower, Count, Load, Raise}
-use Rattle.channel_laws.specs.Bridge.{Act, on_queue, on_roster, on_nothing, Event, does, Given, Notes, Acts, QueueIsWalked, Along, StandsAct, WalksAct}
+use Rattle.channel_laws.specs.Bridge.{does}
 
 module _ {T W X : Type 0} (did : Deed T W → X → X → Type 0) (cells_did : cell.Deed T → X → X → Type 0) (form : QueueForm) where
   along_both : (os ps : List (Act T W)) (s m t : X) → Along did cells_did os s m → Along did cells_did ps m t → Along did cells_did (os ++ ps) s t

@@ -2,28 +2,12 @@
 use Rattle.std.proofs.Common.{◌≡◌, ℕ, ◌+◌, ◌-◌, ◌/◌, ◌%◌, ◌<◌, ◌≤◌, ◌⊎◌, ⊎_elim, Bool, true, false, if◌then◌else◌, ◌==◌, ◌&&◌, not, nat_lt, List, [], ◌∷◌, length, map, Option, None, Some, slice_get, refl, sym, ap, ◌∙◌, subst, inl, inr, arith}
 use Rattle.std.proofs.lemmas.Bool.{false≢true}
 use Rattle.std.proofs.lemmas.Bool.Decides.{nat_tests}
-use Rattle.concurrent_queue.specs.Contents.{Contents, block_at}
-use Rattle.concurrent_queue.specs.Queue.{Queue, Phase}
-use Rattle.concurrent_queue.specs.Step.{Seat, AreAt, IsAtBlocks, FitsForm, FitsAt}
-use Rattle.concurrent_queue.specs.machine.Places.{Place, Each}
-use Rattle.concurrent_queue.specs.machine.BlocksState.{Blocks as BlocksNumbers, SoundBlocks, Duty, link, start, turn_head, turn_tail, owed, one_if, number, position}
-use Rattle.concurrent_queue.specs.machine.BlocksCalls.{KnowsBlocks, same, owes}
-use Rattle.concurrent_queue.specs.machine.BlocksMoves.{BlocksSeat, BlocksMeans, owners}
-use Rattle.concurrent_queue.specs.machine.BlocksDenotes.{Denotes, act_of}
-use Rattle.concurrent_queue.specs.machine.BlocksForm.{seat_of, IsChain}
-use Rattle.concurrent_queue.specs.machine.BlocksWords.{begin}
-use Rattle.concurrent_queue.specs.declared.call.QueueAsk.{QueueAsk}
+use Rattle.channel_laws.proofs.Words.{Contents, block_at, Queue, Phase, Seat, AreAt, IsAtBlocks, FitsForm, Place, Each, start, owed, one_if, number, position, KnowsBlocks, same, owes, BlocksSeat, BlocksMeans, owners, Denotes, act_of, seat_of, IsChain, begin, QueueAsk, QueueForm, Bounded, Unbounded, CallState, Asked, Blocks, UnboundedAction, UnboundedCall, MayHave, SoundBlocks, Duty, link, turn_head, turn_tail, TurnsTheHead, Turns, first_named, pair_linked, NamesTheHead, Links, AreBlocks, ChainBy}
+use Rattle.concurrent_queue.specs.Step.{FitsAt}
+use Rattle.concurrent_queue.specs.machine.BlocksState.{Blocks as BlocksNumbers}
 use Rattle.concurrent_queue.specs.declared.call.QueueAsk.TheVariants as ask
-use Rattle.concurrent_queue.specs.declared.cells.QueueForm.{QueueForm}
-use Rattle.concurrent_queue.specs.declared.cells.QueueForm.TheVariants.{Bounded, Unbounded}
-use Rattle.concurrent_queue.specs.declared.queue_call.CallState.{CallState}
-use Rattle.concurrent_queue.specs.declared.queue_call.CallState.TheVariants.{Asked, Single, Ring, Blocks, Finished}
-use Rattle.concurrent_queue.specs.declared.unbounded.action.UnboundedAction.{UnboundedAction}
 use Rattle.concurrent_queue.specs.declared.unbounded.action.UnboundedAction.TheVariants as blocks
-use Rattle.concurrent_queue.specs.declared.unbounded.action.UnboundedCall.{UnboundedCall}
-use Rattle.channel_steps.specs.Scene.{MayHave}
 use Rattle.channel_laws.proofs.PutFacts.{some_is, by_bool, by_eq, same_not, taken_all, taken_full, get_inside, head_number}
-use Rattle.channel_laws.specs.Chained.{TurnsTheHead, Turns, first_named, pair_linked, NamesTheHead, Links, AreBlocks, ChainBy}
 
 none_some : {A : Type 0} {x : A} → None ≡ Some x → ⊥
 none_some e = absurd cc
@@ -53,10 +37,9 @@ module _ {T : Type 0} where
       → Q a.action → P s)
       → (ss : List (Seat T)) (ps : List (Place (UnboundedCall T) T)) → AreAt IsAtBlocks ss ps → SomePlace Q ps → SomeSeat ss P
   to_seat Q P is [] [] h g = absurd g
-  to_seat Q P is [] (p ∷ ps) h g = absurd h
-  to_seat Q P is (s ∷ ss) [] h g = absurd h
   to_seat Q P is (s ∷ ss) (p ∷ ps) h (inl g) = inl (is s.call.state p.action h.0.0 g)
   to_seat Q P is (s ∷ ss) (p ∷ ps) h (inr g) = inr (to_seat Q P is ss ps h.1 g)
+  to_seat x y is z w h g = absurd h
 
   names_is : (b : ℕ) (s : CallState T) (a : UnboundedCall T) → IsAtBlocks s a → first_named a.action ≡ Some b → NamesTheHead b s
   names_is b (Blocks y) a e g = subst (λ (z : UnboundedCall T). first_named z.action ≡ Some b) e g
@@ -65,9 +48,7 @@ module _ {T : Type 0} where
       start_none : (k : QueueAsk T) → first_named (begin k).action ≡ Some b → ⊥
       start_none (ask.Push v) h = absurd cc
       start_none k h = absurd cc
-  names_is b (Single y) a e g = absurd e
-  names_is b (Ring y) a e g = absurd e
-  names_is b Finished a e g = absurd e
+  names_is b x a e g = absurd e
 
   links_is : (b d : ℕ) (s : CallState T) (a : UnboundedCall T) → IsAtBlocks s a → pair_linked a.action ≡ Some (b, d) → Links b d s
   links_is b d (Blocks y) a e g = subst (λ (z : UnboundedCall T). pair_linked z.action ≡ Some (b, d)) e g
@@ -76,9 +57,7 @@ module _ {T : Type 0} where
       start_none : (k : QueueAsk T) → pair_linked (begin k).action ≡ Some (b, d) → ⊥
       start_none (ask.Push v) h = absurd cc
       start_none k h = absurd cc
-  links_is b d (Single y) a e g = absurd e
-  links_is b d (Ring y) a e g = absurd e
-  links_is b d Finished a e g = absurd e
+  links_is b d x a e g = absurd e
 
   turns_is : (stored : Bool) (s : CallState T) (a : UnboundedCall T) → IsAtBlocks s a → TurnsTheHead stored a.action → Turns stored s
   turns_is stored (Blocks y) a e g = subst (λ (z : UnboundedCall T). TurnsTheHead stored z.action) e g
@@ -89,9 +68,7 @@ module _ {T : Type 0} where
       start_none false (ask.Push v) h = h
       start_none true k h = h
       start_none false k h = h
-  turns_is stored (Single y) a e g = absurd e
-  turns_is stored (Ring y) a e g = absurd e
-  turns_is stored Finished a e g = absurd e
+  turns_is stored x a e g = absurd e
 
   module _ (r : BlocksNumbers T) where
     -- a call that owes this
@@ -206,12 +183,11 @@ module _ {T : Type 0} where
         → ((r.first ≡ r.head / 31 + 1) × SomeSeat ts (Turns true))
         ⊎ ((r.first ≡ r.head / 31) × (1 ≤ r.first) × ((r.block (r.first - 1)).retired ≡ false) × SomeSeat ts (Turns false))
     by_whom [] [] h g = absurd g
-    by_whom [] (t ∷ ts) h g = absurd h
-    by_whom (p ∷ qs) [] h g = absurd h
     by_whom (p ∷ qs) (t ∷ ts) h (inl (inl g)) = inl (g.0, inl (turns_is true t.call.state p.action h.0.0 g.1))
     by_whom (p ∷ qs) (t ∷ ts) h (inl (inr g)) = inr (g.0, g.1, g.2, inl (turns_is false t.call.state p.action h.0.0 g.3))
     by_whom (p ∷ qs) (t ∷ ts) h (inr g) =
         ⊎_elim (λ x. inl (x.0, inr x.1)) (λ x. inr (x.0, x.1, x.2, inr x.3)) (by_whom qs ts h.1 g)
+    by_whom x y h g = absurd h
 
     head_at : HeadAt
     head_at = by_bool r.head_turns

@@ -1,25 +1,10 @@
 -- A closed channel over runs.
 use Rattle.std.proofs.Common.{◌≡◌, ℕ, ◌+◌, ◌≤◌, Bool, false, if◌then◌else◌, List, ◌∷◌, length, drop, Option, refl, sym, ap, subst, arith, length-append}
-use Rattle.concurrent_queue.specs.Queue.{Queue, Phase, IsShut, IsOldest, message, after, is_displaced}
-use Rattle.concurrent_queue.specs.declared.call.QueueAsk.{QueueAsk}
+use Rattle.channel_laws.proofs.Words.{Queue, Phase, IsShut, IsOldest, message, is_displaced, QueueAsk, QueueMark, Channel, Effect, queued, Moves, Mark, Append, Take, TakeDisplaced, Replace, Close, Reply, Aim, Stage, Trying, Working, Finished, Shut, Scene, Steps, Next, IsRun, NextScene, Entry, Step, after, IsStill, within, MayStillDo, ClosingIsForGood}
 use Rattle.concurrent_queue.specs.declared.call.QueueAsk.TheVariants as ask
-use Rattle.concurrent_queue.specs.declared.call.QueueMark.{QueueMark}
 use Rattle.concurrent_queue.specs.declared.call.QueueMark.TheVariants as queue
-use Rattle.channel_calls.specs.Moves.{Channel, Effect, queued, Moves}
-use Rattle.channel_calls.specs.declared.mark.Mark.{Mark}
-use Rattle.channel_calls.specs.declared.mark.Mark.TheVariants.{Append, Take, TakeDisplaced, Replace, Close}
-use Rattle.channel_calls.specs.declared.reply.Reply.{Reply}
-use Rattle.channel_calls.specs.declared.stage.Aim.{Aim}
-use Rattle.channel_calls.specs.declared.stage.Stage.{Stage}
-use Rattle.channel_calls.specs.declared.stage.Stage.TheVariants.{Trying, Working, Finished}
-use Rattle.channel_steps.specs.Moments.{Shut}
-use Rattle.channel_steps.specs.Scene.{Scene, Steps}
-use Rattle.channel_steps.specs.Run.{Next, IsRun, NextScene}
-use Rattle.channel_steps.specs.declared.party.Entry.{Entry}
-use Rattle.channel_steps.specs.declared.run.Step.{Step}
 use Rattle.channel_steps.specs.declared.run.Step.TheVariants as step
-use Rattle.channel_laws.specs.Ends.{IsStill}
-use Rattle.channel_laws.specs.Closed.{one_if, within, MayStillDo, ClosingIsForGood}
+use Rattle.channel_laws.specs.Closed.{one_if}
 use Rattle.channel_steps.proofs.Interface.{run_so}
 use Rattle.channel_laws.proofs.ClosedMoves.{MayMark, tried_may, worked_spares}
 
@@ -55,8 +40,7 @@ module _ {T : Type 0} where
       let n = one_fewer q h.0 h.1 in
       let before : one_if q.coming ≡ 0 = ap one_if h.2 in
       (shut, omega (arith, n, before))
-  keeps_marked q f queue.Replace shut h = absurd h
-  keeps_marked q f queue.Close shut h = absurd h
+  keeps_marked q f x shut h = absurd h
 
 module _ {T W : Type 0} where
   -- what a step does to a closed channel
@@ -64,12 +48,10 @@ module _ {T W : Type 0} where
   Does c at e = Keeps c.queue e.channel.queue × MayStillDo e.mark c at
 
   may_mark : (c : Channel T W) (f : Phase T) (aim : Aim T W) (m : QueueMark) → MayMark m f.stage c.queue → MayStillDo (let e : Effect T W = queued f m c in e.mark) c (Trying f aim)
-  may_mark c f aim queue.Nothing h = tt
   may_mark c f aim queue.Append h = h
-  may_mark c f aim queue.Take h = tt
-  may_mark c f aim queue.TakeDisplaced h = tt
   may_mark c f aim queue.Replace h = h
   may_mark c f aim queue.Close h = h
+  may_mark c f aim w h = tt
 
   still_may : (c : Channel T W) (at : Stage (Phase T) T W) (m : Mark) → IsStill m → MayStillDo m c at
   still_may c at Append h = absurd h

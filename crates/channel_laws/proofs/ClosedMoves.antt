@@ -1,34 +1,22 @@
 -- What a step may do to a closed channel.
-use Rattle.std.proofs.Common.{◌≡◌, ℕ, ◌+◌, Bool, true, false, if◌then◌else◌, List, [], ◌∷◌, Option, None, Some, ◌⊎◌, inl, inr, refl, sym, ap, ◌∙◌, subst}
-use Rattle.concurrent_queue.specs.Queue.{Queue, Phase, trying, displaced, IsOpen, IsShut, IsDrained, IsOldest, is_displaced, ContinuesPush, ContinuesForce, ContinuesPop, ContinuesBy, Continues, AnswersTo, Answers}
+use Rattle.std.proofs.Common.{◌≡◌, true, false, List, [], ◌∷◌, Option, ◌⊎◌, inl, inr, refl, sym, ap, ◌∙◌, subst}
+use Rattle.channel_laws.proofs.Words.{Queue, Phase, trying, displaced, IsOpen, IsShut, IsDrained, IsOldest, is_displaced, ContinuesPush, ContinuesForce, ContinuesPop, ContinuesBy, Continues, AnswersTo, Answers, QueueAsk, QueueMark, Nothing, QueueReply, Channel, Effect, queued, untouched, Worked, Moves, Mark, Reply, Stage, Trying, Working, Finished, Work, Spent, IsStill}
 use Rattle.concurrent_queue.specs.Queue as queue
-use Rattle.concurrent_queue.specs.declared.call.QueueAsk.{QueueAsk}
 use Rattle.concurrent_queue.specs.declared.call.QueueAsk.TheVariants as ask
-use Rattle.concurrent_queue.specs.declared.call.QueueMark.{QueueMark}
-use Rattle.concurrent_queue.specs.declared.call.QueueMark.TheVariants.{Nothing, Append, Take, TakeDisplaced, Replace, Close}
-use Rattle.concurrent_queue.specs.declared.call.QueueReply.{QueueReply}
-use Rattle.concurrent_queue.specs.declared.call.QueueReply.TheVariants as answer
-use Rattle.channel_calls.specs.Marks.{up, down}
-use Rattle.channel_calls.specs.Moves.{Channel, Effect, queued, untouched, on_count, leaves, Worked, Moves}
-use Rattle.channel_calls.specs.Parts.{is_raised}
-use Rattle.channel_calls.specs.declared.reply.Reply.{Reply}
-use Rattle.channel_calls.specs.declared.stage.Held.{Held}
-use Rattle.channel_calls.specs.declared.stage.Side.{Side}
-use Rattle.channel_calls.specs.declared.stage.Side.TheVariants.{Senders, Receivers}
-use Rattle.channel_calls.specs.declared.stage.Stage.{Stage}
-use Rattle.channel_calls.specs.declared.stage.Stage.TheVariants.{Trying, Working, Finished}
-use Rattle.channel_calls.specs.declared.stage.Work.{Work}
-use Rattle.channel_calls.specs.declared.stage.Work.TheVariants.{TellReceive, TellStreams, TellSend, TellSends, TakeRoom, TellAll, Insert, Register, Leave, Lower, Count, Load, Raise}
-use Rattle.channel_steps.specs.Moments.{Spent}
-use Rattle.channel_laws.specs.Ends.{IsStill}
+use Rattle.concurrent_queue.specs.declared.call.QueueMark.TheVariants.{Append, Take, TakeDisplaced, Replace, Close}
+use Rattle.channel_calls.specs.declared.mark.Mark.TheVariants as mark
+use Rattle.channel_steps.proofs.Interface.{answered_by}
+use Rattle.channel_steps.proofs.MoveFacts.{IsOther}
+use Rattle.channel_steps.proofs.MoveFacts as move_facts
 
-still_up : (side : Side) → IsStill (up side)
-still_up Senders = tt
-still_up Receivers = tt
-
-still_down : (side : Side) → IsStill (down side)
-still_down Senders = tt
-still_down Receivers = tt
+-- a mark of no queue is still
+other_still : (m : Mark) → IsOther m → IsStill m
+other_still mark.Nothing h = tt
+other_still mark.SenderUp h = tt
+other_still mark.SenderDown h = tt
+other_still mark.ReceiverUp h = tt
+other_still mark.ReceiverDown h = tt
+other_still m h = absurd h
 
 module _ {T : Type 0} where
   -- ---- the queue's call
@@ -74,25 +62,14 @@ module _ {T : Type 0} where
     goes_may a m s t g = absurd g
 
     answers_may : (a : QueueAsk T) (m : QueueMark) (r : QueueReply T) (s : queue.Stage T) → AnswersTo q a m r s → MayMark m s q
-    answers_may a Nothing r s h = tt
-    answers_may ask.Close Close (answer.Close true) (trying b) h = absurd (not_open h)
-    answers_may (ask.Push v) m r s h = absurd h
-    answers_may (ask.ForcePush v) m r s h = absurd h
-    answers_may ask.Pop m r s h = absurd h
-    answers_may ask.Close m r s h = absurd h
-    answers_may ask.IsClosed m r s h = absurd h
-    answers_may ask.IsEmpty m r s h = absurd h
-    answers_may ask.IsFull m r s h = absurd h
-    answers_may ask.Len m r s h = absurd h
-    answers_may ask.Capacity m r s h = absurd h
+    answers_may a m r s h = answered_by q (λ z. MayMark z s q) tt (λ was. absurd (not_open was)) a m r s h
 
   drained_nothing : (q : Queue T) (m : QueueMark) (s : queue.Stage T) → IsDrained q → MayMark m s q → m ≡ Nothing
   drained_nothing q Nothing s d h = refl
   drained_nothing q Append s d h = absurd (let no : true ≡ false = sym h.0 ∙ d.1 in cc)
   drained_nothing q Take s d (v, (rest, e)) = absurd (let no : [] ≡ v ∷ rest = sym d.0 ∙ e in cc)
   drained_nothing q TakeDisplaced s d h = absurd (let rest : List T = h.1.0 in let v : T = h.0 in let no : [] ≡ v ∷ rest = sym d.0 ∙ h.1.1 in cc)
-  drained_nothing q Replace s d h = absurd h
-  drained_nothing q Close s d h = absurd h
+  drained_nothing q x s d h = absurd h
 
 module _ {T W : Type 0} where
   -- ---- a step on a list or a count
@@ -104,29 +81,8 @@ module _ {T W : Type 0} where
   spares_as : (c : Channel T W) (e e' : Effect T W) → e ≡ e' → Spares c e' → Spares c e
   spares_as c e e' same h = subst (λ (x : Effect T W). Spares c x) (sym same) h
 
-  leaves_spares : (h : Option Held) (c : Channel T W) → Spares c (leaves h c)
-  leaves_spares None c = (refl, tt)
-  leaves_spares (Some h) c = (refl, tt)
-
-  raises_spares : (b : Bool) (side : Side) (n : ℕ) (c : Channel T W) → Spares c (if b then on_count side (n + 1) (up side) c else untouched c)
-  raises_spares true side n c = (refl, still_up side)
-  raises_spares false side n c = (refl, tt)
-
   pub worked_spares : (c : Channel T W) (w : Work T W) (e : Effect T W) (r : Option (Reply T)) (s : Stage (Phase T) T W) → Worked c w e r s → Spares c e
-  worked_spares c (TellReceive x) e r s h = spares_as c e _ h.0 (refl, tt)
-  worked_spares c (TellStreams x) e r s h = spares_as c e _ h.0 (refl, tt)
-  worked_spares c (TellSend x) e r s h = spares_as c e _ h.0 (refl, tt)
-  worked_spares c (TellSends n x) e r s h = spares_as c e _ h.0 (refl, tt)
-  worked_spares c (TakeRoom n) e r s h = spares_as c e _ h.0 (refl, tt)
-  worked_spares c (TellAll line closer) e r s h = spares_as c e _ h.0 (refl, tt)
-  worked_spares c (Insert w task) e r s (inl h) = spares_as c e _ h.2 (refl, tt)
-  worked_spares c (Insert w task) e r s (inr h) = spares_as c e _ h.1 (refl, tt)
-  worked_spares c (Register w key task) e r s h = spares_as c e _ h.0 (refl, tt)
-  worked_spares c (Leave x) e r s h = spares_as c e _ h.0 (leaves_spares x.held c)
-  worked_spares c (Lower side key) e r s h = spares_as c e _ h.0 (refl, still_down side)
-  worked_spares c (Count side) e r s h = spares_as c e _ h.0 (refl, tt)
-  worked_spares c (Load side making) e r s h = spares_as c e _ h.0 (refl, tt)
-  worked_spares c (Raise side n making) e r s h = spares_as c e _ h.0 (raises_spares (is_raised side n c.roster) side n c)
+  worked_spares c w e r s h = let k = move_facts.worked_spares c w e r s h in (k.0, other_still e.mark k.1)
 
   -- ---- any step
 

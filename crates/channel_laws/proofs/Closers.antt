@@ -1,22 +1,10 @@
 -- Of all closes of a run one at most closes the channel: each that says so has its own mark.
 use Rattle.std.proofs.Common.{arith, ◌≡◌, ℕ, ◌+◌, ◌≤◌, Bool, true, false, List, [], ◌∷◌, ◌++◌, map, Option, None, Some, refl, ap}
-use Rattle.channel_calls.specs.Moves.{Channel}
-use Rattle.channel_calls.specs.declared.ask.ChannelAsk.{ChannelAsk}
+use Rattle.channel_laws.proofs.Words.{Channel, ChannelAsk, Mark, Close, Reply, Kept, Sends, Receives, Streams, Closings, Row, MarkedMoment, with_marked, ClosedIt, Next, IsRun, NextScene, new_scene, call_begun, Under, Scene, Steps, MayFinish, sees, does, unless_ended, Entry, Step, one_if_closed, closings_in, EachRunClosesOnce}
 use Rattle.channel_calls.specs.declared.ask.ChannelAsk.TheVariants as ask
-use Rattle.channel_calls.specs.declared.mark.Mark.{Mark}
-use Rattle.channel_calls.specs.declared.mark.Mark.TheVariants.{Nothing, Close}
-use Rattle.channel_calls.specs.declared.reply.Reply.{Reply}
+use Rattle.channel_calls.specs.declared.mark.Mark.TheVariants.{Nothing}
 use Rattle.channel_calls.specs.declared.reply.Reply.TheVariants as reply
-use Rattle.channel_calls.specs.declared.stage.Kept.{Kept}
-use Rattle.channel_calls.specs.declared.stage.Line.TheVariants.{Sends, Receives, Streams, Closings}
-use Rattle.channel_steps.specs.Answers.{Row}
-use Rattle.channel_steps.specs.Moments.{MarkedMoment, with_marked, ClosedIt}
-use Rattle.channel_steps.specs.Run.{Next, IsRun, NextScene, new_scene, call_begun}
-use Rattle.channel_steps.specs.Scene.{Under, Scene, Steps, MayFinish, sees, does, unless_ended}
-use Rattle.channel_steps.specs.declared.party.Entry.{Entry}
-use Rattle.channel_steps.specs.declared.run.Step.{Step}
 use Rattle.channel_steps.specs.declared.run.Step.TheVariants as step
-use Rattle.channel_laws.specs.Bounds.{one_if_closed, closings_in, EachRunClosesOnce}
 use Rattle.channel_steps.proofs.Interface.{run_so}
 use Rattle.channel_laws.proofs.BoundMoves.{SaysOf, FlagOf}
 use Rattle.channel_laws.proofs.Bounds.{step_bounded}
@@ -62,9 +50,8 @@ module _ {T W : Type 0} where
   -- ---- the end of a call
 
   closed_marks : (ds : List (MarkedMoment T W)) → ClosedIt ds → 1 ≤ marks_in ds
-  closed_marks [] h = absurd h
   closed_marks (d ∷ []) h = let one : one_if_close d.mark ≡ 1 = ap one_if_close h.0 in omega (arith, one)
-  closed_marks (d ∷ e ∷ ds) h = absurd h
+  closed_marks x h = absurd h
 
   pub row_closed : (a : ChannelAsk T W) (ds : List (MarkedMoment T W)) (seen : List (Channel T W)) → Row a ds seen (reply.Closed true) → ClosedIt ds
   row_closed ask.Close ds seen h = h

@@ -1,88 +1,47 @@
 -- Those who wait on a closed channel, over runs.
-use Rattle.std.proofs.Common.{ℕ, List, Option, ◌⊎◌, inl, inr, refl, sym, subst}
-use Rattle.event_listener.specs.declared.key.Key.{Key}
-use Rattle.channel_calls.specs.Moves.{Channel, Effect}
-use Rattle.channel_calls.specs.declared.stage.Line.{Line}
-use Rattle.channel_calls.specs.declared.stage.Line.TheVariants.{Sends, Receives, Streams, Closings}
-use Rattle.channel_steps.specs.Moments.{MarkedMoment, with_marked, Shut}
-use Rattle.channel_steps.specs.Scene.{Under, Scene, Steps, Known, sees}
-use Rattle.channel_steps.specs.Run.{Next, new_scene}
-use Rattle.channel_steps.specs.declared.party.Entry.{Entry}
-use Rattle.channel_steps.specs.declared.run.Step.{Step}
-use Rattle.channel_steps.specs.declared.run.Step.TheVariants as step
+use Rattle.std.proofs.Common.{◌≡◌, ℕ, ◌≤◌, Bool, true, false, List, Option, ◌⊎◌, inl, inr, refl, sym, ◌∙◌}
+use Rattle.channel_laws.proofs.Words.{Key, Line, Sends, Receives, Streams, Closings, Open, Shut, Next, new_scene, Under, Scene, Known, Entry, Step, HasClosed, HasToTell, LooksAgain, ClosingIsOwed, PendingIsOwedTheClosing, AnswersClosed, ClosingSound, ClosingStaysOwed, EachRunOwesTheClosing, WaitApart, Any}
 use Rattle.channel_steps.proofs.Interface.{known_next}
-use Rattle.channel_laws.specs.Waits.{Waits, WaitApart, Any}
-use Rattle.channel_laws.specs.Closings.{HasClosed, HasToTell, LooksAgain, ClosingIsOwed, PendingIsOwedTheClosing, AnswersClosed, ClosingSound, ClosingStaysOwed, EachRunOwesTheClosing}
-use Rattle.channel_laws.proofs.AnyFacts.{any_but, any_mine, any_steps, any_begins}
+use Rattle.channel_laws.proofs.AllOwed.{as_counts, as_calls}
+use Rattle.channel_laws.proofs.AnyFacts.{any_but}
+use Rattle.channel_laws.proofs.ClosingMoves.{counts_for_closing, counts_tell, tell_counts, TellsIt, OpenOrTold, closing_ledger}
+use Rattle.channel_laws.proofs.ListMoves.{apart_next}
+use Rattle.channel_laws.proofs.NoticeMoves.{told_has_closed}
+use Rattle.channel_laws.proofs.Owed.{owed_next}
 use Rattle.channel_laws.proofs.RunFacts.{kept_long}
-use Rattle.channel_laws.proofs.EachFacts.{of_mine, each_known}
-use Rattle.channel_laws.proofs.ListMoves.{Tries, moved_lists, waited, stays_apart}
-use Rattle.channel_laws.proofs.ClosingMoves.{GoesOnFor, has_still, has_now, answering_on, shut_before, newcomer_looks}
 
 module _ {T W : Type 0} where
-  -- ---- one step
+  module _ (line : Line) (s : Scene T W) (key : Key) where
+    abbrev IsAnswered : Type 0
+    IsAnswered = Any (AnswersClosed line key) s.under_way
 
-  module _ (s t : Scene T W) (p : ℕ) (e : Entry T) (names : List W) (st : Steps s p e names t) (sound : ClosingSound s) where
-    abbrev effect : Effect T W
-    effect = record { channel = t.now; mark = e.mark; woken = names }
+    -- where it is closed a call answers for him; so it is open, or one does
+    open_or : (Shut s.now → IsAnswered) → Open s.now ⊎ IsAnswered
+    open_or f = by s.now.queue.closed refl
+      where
+        by : (b : Bool) → s.now.queue.closed ≡ b → Open s.now ⊎ IsAnswered
+        by true shut = inr (f shut)
+        by false unshut = inl unshut
 
-    abbrev done : List (MarkedMoment T W)
-    done = with_marked st.mine.marks e.mark s.now st.mine.seen
+    but_shut : Shut s.now → Open s.now ⊎ IsAnswered → IsAnswered
+    but_shut shut (inl unshut) = absurd (let never : true ≡ false = sym shut ∙ unshut in cc)
+    but_shut shut (inr h) = h
 
-    mine_known : Known s.now st.mine
-    mine_known = of_mine (Known s.now) s t p e names st (each_known s.now s.under_way sound.known)
-
-    module _ (line : Line) (key : Key) (shut : Shut t.now) (w : Waits line key t.now) where
-      abbrev Answered : Type 0
-      Answered = Any (AnswersClosed line key) t.under_way
-
-      stays : (u : Under T W) → AnswersClosed line key u → AnswersClosed line key (sees t.now u)
-      stays u h = h
-
-      goes_on : GoesOnFor done line key e.reply st.at_now → Answered
-      goes_on h = any_mine (AnswersClosed line key) s t p e names st stays h.0 h.1
-
-      one_of_them : Shut s.now → Answered ⊎ AnswersClosed line key st.mine → Answered
-      one_of_them before (inl h) = h
-      one_of_them before (inr h) =
-          let k = mine_known in
-          goes_on (answering_on done s.now st.mine.ask st.mine.at st.mine.marks st.mine.seen effect e.reply st.at_now line key k.stands st.moves before (sound.apart line) w (has_still st.mine.marks e.mark s.now st.mine.seen) h)
-
-      waited_or_new : Shut s.now → Waits line key s.now ⊎ Tries line s.now effect e.reply st.at_now key → Answered
-      waited_or_new before (inl h) = one_of_them before (any_steps (AnswersClosed line key) s t p e names st stays (sound.owed line key before h))
-      waited_or_new before (inr h) = goes_on (newcomer_looks done s.now effect e.reply st.at_now line key h)
-
-      closed_or_closes : Shut s.now ⊎ GoesOnFor done line key e.reply st.at_now → Answered
-      closed_or_closes (inl before) =
-          waited_or_new before (waited line s.now effect e.reply st.at_now key (moved_lists line s.now st.mine.at effect e.reply st.at_now st.moves) w)
-      closed_or_closes (inr h) = goes_on h
-
-      answered_after : Answered
-      answered_after =
-          let k = mine_known in
-          closed_or_closes (shut_before done s.now st.mine.ask st.mine.at st.mine.marks st.mine.seen effect e.reply st.at_now line key (has_now st.mine.marks e.mark s.now st.mine.seen) k.stands st.moves shut)
-
-    apart_after : (line : Line) → WaitApart line t.now
-    apart_after line = stays_apart line s.now effect e.reply st.at_now (moved_lists line s.now st.mine.at effect e.reply st.at_now st.moves) (sound.apart line)
+  -- who is to tell all of a list has closed
+  tells_it : (line : Line) (s : Scene T W) (u : Under T W) → Known s.now u → 1 ≤ counts_for_closing line u.ask u.at → TellsIt line u
+  tells_it line s u known h = let tells = counts_tell line u.ask u.at h in (told_has_closed line u.told u.at u.marks known.tells tells, tells)
 
   pub sound_next : (s : Scene T W) (x : Step T W) (e : Entry T) (names : List W) (t : Scene T W) → Next s x e names t → ClosingSound s → ClosingSound t
-  sound_next s (step.Begin p ask) e names t n sound =
-      let k = known_next s (step.Begin p ask) e names t n sound.known sound.balanced in
-      let b = n.0 in
+  sound_next s x e names t n sound =
+      let k = known_next s x e names t n sound.known sound.balanced in
       record {
         known = k.0;
         balanced = k.1;
-        apart = λ line. subst (λ (c : Channel T W). WaitApart line c) (sym b.now) (sound.apart line);
-        owed = λ line key shut w. any_begins (AnswersClosed line key) s t p ask e b
-            (sound.owed line key (subst (λ (c : Channel T W). Shut c) b.now shut) (subst (λ (c : Channel T W). Waits line key c) b.now w));
-      }
-  sound_next s (step.Step p) e names t n sound =
-      let k = known_next s (step.Step p) e names t n sound.known sound.balanced in
-      record {
-        known = k.0;
-        balanced = k.1;
-        apart = apart_after s t p e names n sound;
-        owed = λ line key shut w. answered_after s t p e names n sound line key shut w;
+        apart = λ line. apart_next line s x e names t n (sound.apart line);
+        owed = λ line key shut w. but_shut line t key shut (as_calls Open (TellsIt line) (LooksAgain line) (counts_for_closing line) t key (λ u h. tells_it line t u h) k.0
+            (owed_next line (OpenOrTold line) (counts_for_closing line) (LooksAgain line) (λ c. ⊥) (closing_ledger line) s x e names t n sound.known (sound.apart line) (λ d. absurd d)
+            (λ key w. as_counts Open (TellsIt line) (LooksAgain line) (counts_for_closing line) s key (λ u h. tell_counts line u.ask u.at h.1)
+            (open_or line s key (λ shut. sound.owed line key shut w))) key w));
       }
 
 module _ (T W : Type 0) where

@@ -1,11 +1,6 @@
 -- What holds of each call under way, after a call begins or makes a step.
 use Rattle.std.proofs.Common.{ℕ, List, [], ◌∷◌, ◌++◌, map, Option, None, Some, sym, subst}
-use Rattle.channel_calls.specs.Moves.{Channel}
-use Rattle.channel_calls.specs.declared.ask.ChannelAsk.{ChannelAsk}
-use Rattle.channel_calls.specs.declared.reply.Reply.{Reply}
-use Rattle.channel_steps.specs.Scene.{Under, Scene, Steps, Known, AllKnown, sees, does, unless_ended}
-use Rattle.channel_steps.specs.Run.{Begins, call_begun}
-use Rattle.channel_steps.specs.declared.party.Entry.{Entry}
+use Rattle.channel_laws.proofs.Words.{Channel, ChannelAsk, Reply, Under, Scene, Steps, Known, AllKnown, sees, does, unless_ended, Begins, call_begun, Entry}
 use Rattle.channel_laws.specs.Ends.{Each}
 
 module _ {T W : Type 0} where

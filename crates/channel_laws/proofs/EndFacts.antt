@@ -1,10 +1,7 @@
 -- What a call says at its end.
 use Rattle.std.proofs.Common.{Option, None, Some}
 use Rattle.std.specs.Prelude.{IfSome}
-use Rattle.channel_calls.specs.declared.reply.Reply.{Reply}
-use Rattle.channel_calls.specs.declared.stage.Kept.{Kept}
-use Rattle.channel_steps.specs.Scene.{Under, Finishes, MayFinish}
-use Rattle.channel_laws.specs.EndSays.{EndSays}
+use Rattle.channel_laws.proofs.Words.{Reply, Kept, Under, MayFinish, Finishes, EndSays}
 
 module _ {T W : Type 0} where
   end_says : (u : Under T W) (r : Reply T) (left : Option (Kept T)) → Finishes u r left → EndSays u r left

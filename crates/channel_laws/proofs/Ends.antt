@@ -1,18 +1,8 @@
 -- What is over stays over, over runs.
 use Rattle.std.proofs.Common.{◌≡◌, ℕ, List, [], ◌∷◌, ◌++◌, ◌⊎◌, inl, inr, refl, sym, ap, ◌∙◌, subst, append-nil}
-use Rattle.concurrent_queue.specs.Queue.{Queue, IsShut, IsDrained}
-use Rattle.channel_calls.specs.Moves.{Channel}
-use Rattle.channel_calls.specs.declared.ask.ChannelAsk.{ChannelAsk}
-use Rattle.channel_calls.specs.declared.mark.Mark.{Mark}
-use Rattle.channel_calls.specs.declared.mark.Mark.TheVariants.{Append, Take, TakeDisplaced, Replace, Close}
-use Rattle.channel_steps.specs.Moments.{Spent, Once}
-use Rattle.channel_steps.specs.Scene.{Under, Scene, Steps, does, gone_by, came_by}
-use Rattle.channel_steps.specs.Run.{Next, IsRun, NextScene}
-use Rattle.channel_steps.specs.declared.party.Entry.{Entry}
-use Rattle.channel_steps.specs.declared.run.Step.{Step}
+use Rattle.channel_laws.proofs.Words.{Queue, IsShut, IsDrained, Channel, ChannelAsk, Mark, Append, Take, TakeDisplaced, Replace, Close, Spent, Once, Under, Scene, Steps, does, gone_by, came_by, Next, IsRun, NextScene, Entry, Step, IsStill, GivesMessage, Replies, KnowsTheEnd, GetsNothing, StaysOver, EndIsForGood, EndIsKnown, NothingComesAfterTheEnd, StillDeeds}
 use Rattle.channel_steps.specs.declared.run.Step.TheVariants as step
-use Rattle.channel_laws.specs.Ends.{IsStill, GivesMessage, Replies, Each, KnowsTheEnd, GetsNothing, StaysOver, EndIsForGood, EndIsKnown, NothingComesAfterTheEnd}
-use Rattle.channel_laws.specs.Over.{StillDeeds}
+use Rattle.channel_laws.specs.Ends.{Each}
 use Rattle.channel_steps.proofs.Interface.{run_so}
 use Rattle.channel_laws.proofs.EachFacts.{of_mine, each_steps, each_begins}
 use Rattle.channel_laws.proofs.RunFacts.{kept_long}

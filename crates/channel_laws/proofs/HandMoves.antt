@@ -1,37 +1,13 @@
 -- A poll that has a listener in hand keeps it, leaves the list, or finds cause to wait.
 use Rattle.std.proofs.Common.{◌≡◌, true, List, [], Option, None, Some, Ok, Err, ◌⊎◌, inl, inr, refl, sym, ap, ◌∙◌, subst}
-use Rattle.concurrent_queue.specs.Queue.{Queue, Phase, trying, appended, taken, is_filled, AnswersPush, AnswersPop, AnswersTo}
+use Rattle.channel_laws.proofs.Words.{Queue, Phase, trying, appended, taken, is_filled, AnswersPush, AnswersPop, AnswersTo, QueueAsk, QueueMark, Nothing, QueueReply, Key, polled_next, Channel, Effect, queued, Turned, Moves, ChannelAsk, Reply, Line, Sends, Receives, Stage, Trying, Working, Turn, Works, TellReceive, TellStreams, TellSend, Leave, TriesFor, StageAt, MarkedMoment, HoldsListener, LooksAgain, IsOneByOne, Waits, WaitApart}
 use Rattle.concurrent_queue.specs.Queue as queue
-use Rattle.concurrent_queue.specs.declared.call.QueueAsk.{QueueAsk}
-use Rattle.concurrent_queue.specs.declared.call.QueueMark.{QueueMark}
-use Rattle.concurrent_queue.specs.declared.call.QueueMark.TheVariants.{Nothing}
-use Rattle.concurrent_queue.specs.declared.call.QueueReply.{QueueReply}
 use Rattle.concurrent_queue.specs.declared.call.QueueReply.TheVariants as answer
 use Rattle.concurrent_queue.specs.declared.error.PopError.TheVariants as pop_error
 use Rattle.concurrent_queue.specs.declared.error.PushError.TheVariants as push_error
-use Rattle.event_listener.specs.declared.key.Key.{Key}
-use Rattle.channel_calls.specs.Answered.{polled_next}
-use Rattle.channel_calls.specs.Moves.{Channel, Effect, queued, leaves, removes, Turned, Moves}
-use Rattle.channel_calls.specs.declared.ask.ChannelAsk.{ChannelAsk}
-use Rattle.channel_calls.specs.declared.reply.Reply.{Reply}
 use Rattle.channel_calls.specs.declared.stage.Aim.TheVariants as aim
-use Rattle.channel_calls.specs.declared.stage.Held.{Held}
-use Rattle.channel_calls.specs.declared.stage.Line.{Line}
-use Rattle.channel_calls.specs.declared.stage.Line.TheVariants.{Sends, Receives}
-use Rattle.channel_calls.specs.declared.stage.Stage.{Stage}
-use Rattle.channel_calls.specs.declared.stage.Stage.TheVariants.{Trying, Working}
-use Rattle.channel_calls.specs.declared.stage.Turn.{Turn}
-use Rattle.channel_calls.specs.declared.stage.Turn.TheVariants.{Works}
-use Rattle.channel_calls.specs.declared.stage.Work.TheVariants.{TellReceive, TellStreams, TellSend, Leave}
-use Rattle.channel_steps.specs.Known.{TriesFor, StageAt}
-use Rattle.channel_steps.specs.Moments.{MarkedMoment}
-use Rattle.channel_laws.specs.Amounts.{HoldsListener}
-use Rattle.channel_laws.specs.Closings.{LooksAgain}
-use Rattle.channel_laws.specs.Notices.{IsOneByOne}
-use Rattle.channel_laws.specs.Waits.{Waits, WaitApart}
-use Rattle.channel_laws.proofs.ClosingMoves.{sends_push, receives_pop, left_line}
+use Rattle.channel_laws.proofs.AskFacts.{How, poll_asks, held_by, leaves_next, has_left}
 use Rattle.channel_laws.proofs.ListMoves.{Tries}
-use Rattle.channel_laws.proofs.StreamMoves.{How, leaves_next}
 
 module _ {T : Type 0} where
   -- what a refusal found: no messages, or no free place
@@ -54,6 +30,9 @@ module _ {T W : Type 0} where
   abbrev pub StillHolds : Line → Key → Option (Reply T) → Stage (Phase T) T W → Type 0
   StillHolds line key r s = (r ≡ None) × HoldsListener line key s
 
+  holds_at : (line : Line) (key : Key) (at : Stage (Phase T) T W) (r : Option (Reply T)) (s : Stage (Phase T) T W) → HoldsListener line key at → (r ≡ None) × (s ≡ at) → StillHolds line key r s
+  holds_at line key at r s h t = (t.0, subst (λ (z : Stage (Phase T) T W). HoldsListener line key z) (sym t.1) h)
+
   pub newcomer_holds : (c : Channel T W) (e : Effect T W) (r : Option (Reply T)) (s : Stage (Phase T) T W) (line : Line)
       (key : Key) → Tries line c e r s key → StillHolds line key r s
   newcomer_holds c e r s line key (w, task, at, turned) =
@@ -63,19 +42,15 @@ module _ {T W : Type 0} where
 
   -- it has its answer, and drops its listener at the end
   abbrev DropsLater : Line → Key → Turn T W → Type 0
-  DropsLater line key (Works (TellReceive x)) = x.held ≡ Some (record { line = line; key = key })
-  DropsLater line key (Works (TellSend x)) = x.held ≡ Some (record { line = line; key = key })
-  DropsLater line key (Works (Leave x)) = x.held ≡ Some (record { line = line; key = key })
+  DropsLater line key (Works (TellReceive x)) = x.held ≡ Some (held_by line key)
+  DropsLater line key (Works (TellSend x)) = x.held ≡ Some (held_by line key)
+  DropsLater line key (Works (Leave x)) = x.held ≡ Some (held_by line key)
   DropsLater line key turn = ⊥
 
-  turned_holds : (line : Line) (key : Key) (turn : Turn T W) (r : Option (Reply T)) (s : Stage (Phase T) T W)
-      → DropsLater line key turn → Turned turn r s → StillHolds line key r s
-  turned_holds line key (Works (TellReceive x)) r s h t =
-      (t.0, subst (λ (z : Stage (Phase T) T W). HoldsListener line key z) (sym t.1) h)
-  turned_holds line key (Works (TellSend x)) r s h t =
-      (t.0, subst (λ (z : Stage (Phase T) T W). HoldsListener line key z) (sym t.1) h)
-  turned_holds line key (Works (Leave x)) r s h t =
-      (t.0, subst (λ (z : Stage (Phase T) T W). HoldsListener line key z) (sym t.1) h)
+  turned_holds : (line : Line) (key : Key) (turn : Turn T W) (r : Option (Reply T)) (s : Stage (Phase T) T W) → DropsLater line key turn → Turned turn r s → StillHolds line key r s
+  turned_holds line key (Works (TellReceive x)) r s h t = holds_at line key (Working (TellReceive x)) r s h t
+  turned_holds line key (Works (TellSend x)) r s h t = holds_at line key (Working (TellSend x)) r s h t
+  turned_holds line key (Works (Leave x)) r s h t = holds_at line key (Working (Leave x)) r s h t
   turned_holds line key turn r s h t = absurd h
 
   module _ (q : Queue T) (k : Key) (task : W) where
@@ -100,10 +75,10 @@ module _ {T W : Type 0} where
         → TriesFor x (aim.Poll line (Some k) task) a ds seen → AnswersTo q a m reply s
         → DropsLater line k (polled_next line reply (Some k) task) ⊎ ((m ≡ Nothing) × HasCause line q)
     poll_answered Sends one x a ds seen m reply s h ans =
-        let p = sends_push x (Some k) task a ds seen h in push_answered p.0 m reply s
+        let p = poll_asks x Sends (Some k) task a ds seen h in push_answered p.0 m reply s
         (subst (λ (z : QueueAsk T). AnswersTo q z m reply s) p.1 ans)
     poll_answered Receives one x a ds seen m reply s h ans =
-        pop_answered m reply s (subst (λ (z : QueueAsk T). AnswersTo q z m reply s) (receives_pop x (Some k) task a ds seen h)
+        pop_answered m reply s (subst (λ (z : QueueAsk T). AnswersTo q z m reply s) (poll_asks x Receives (Some k) task a ds seen h)
         ans)
     poll_answered line one x a ds seen m reply s h ans = absurd one
 
@@ -136,27 +111,16 @@ module _ {T W : Type 0} where
   module _ (line : Line) (key : Key) (one : IsOneByOne line) (c : Channel T W) (x : ChannelAsk T W) (ds : List (MarkedMoment T W))
       (seen : List (Channel T W)) (e : Effect T W) (r : Option (Reply T)) (s : Stage (Phase T) T W) where
     polls_at : (f : Phase T) (at : Line) (k : Key) (task : W) (m : QueueMark) → e ≡ queued f m c → at ≡ line → k ≡ key
-        → TriesFor x (aim.Poll at (Some k) task) f.ask ds seen → How c f (aim.Poll at (Some k) task) m r s
-        → HoldsOrWaits line key e r s
+        → TriesFor x (aim.Poll at (Some k) task) f.ask ds seen → How c f (aim.Poll at (Some k) task) m r s → HoldsOrWaits line key e r s
     polls_at f at k task m effect a b h how =
-        polls line key one c x f task m ds seen e r s effect
-        (subst (λ (z : Line). TriesFor x (aim.Poll z (Some key) task) f.ask ds seen) a
-        (subst (λ (z : Key). TriesFor x (aim.Poll at (Some z) task) f.ask ds seen) b h))
-        (subst (λ (z : Line). How c f (aim.Poll z (Some key) task) m r s) a
-        (subst (λ (z : Key). How c f (aim.Poll at (Some z) task) m r s) b how))
+        subst (λ (z : Line). HoldsOrWaits z key e r s) a (subst (λ (z : Key). HoldsOrWaits at z e r s) b
+        (polls at k (subst IsOneByOne (sym a) one) c x f task m ds seen e r s effect h how))
 
     pub holds_on : (at : Stage (Phase T) T W) → StageAt c x at ds seen → Moves c at e r s → HoldsListener line key at
         → WaitApart line c → Waits line key e.channel → HoldsOrWaits line key e r s
     holds_on (Trying f (aim.Poll at (Some k) task)) st g h apart w = polls_at f at k task g.mark g.effect h.0 h.1 st.0 g.how
-    holds_on (Working (TellReceive z)) st g h apart w =
-        inl (g.1.0, subst (λ (at : Stage (Phase T) T W). HoldsListener line key at) (sym g.1.1) h)
-    holds_on (Working (TellStreams z)) st g h apart w =
-        let t = leaves_next z z.held (record { line = line; key = key }) r s h g.1 in
-        inl (t.0, subst (λ (at : Stage (Phase T) T W). HoldsListener line key at) (sym t.1) h)
-    holds_on (Working (TellSend z)) st g h apart w =
-        let t = leaves_next z z.held (record { line = line; key = key }) r s h g.1 in
-        inl (t.0, subst (λ (at : Stage (Phase T) T W). HoldsListener line key at) (sym t.1) h)
-    holds_on (Working (Leave z)) st g h apart w =
-        let same : e ≡ removes (record { line = line; key = key }) c = g.0 ∙ ap (λ (o : Option Held). leaves o c) h in
-        absurd (left_line line key c apart (subst (λ (z : Effect T W). Waits line key z.channel) same w))
+    holds_on (Working (TellReceive z)) st g h apart w = inl (holds_at line key (Working (TellStreams z)) r s h g.1)
+    holds_on (Working (TellStreams z)) st g h apart w = inl (holds_at line key (Working (Leave z)) r s h (leaves_next z z.held (held_by line key) r s h g.1))
+    holds_on (Working (TellSend z)) st g h apart w = inl (holds_at line key (Working (Leave z)) r s h (leaves_next z z.held (held_by line key) r s h g.1))
+    holds_on (Working (Leave z)) st g h apart w = absurd (has_left line key c z.held e h g.0 apart w)
     holds_on at st g h apart w = absurd h

@@ -1,14 +1,7 @@
 -- What a layer above may use: whoever waits in a channel that was just opened is answered for, and stays so over every entry
 -- of a run; and what is over stays over.
 use Rattle.std.proofs.Common.{ℕ, List, Option}
-use Rattle.channel_steps.specs.Run.{Next, new_scene}
-use Rattle.channel_steps.specs.Moments.{Shut, Spent}
-use Rattle.channel_steps.specs.Scene.{Scene, Steps}
-use Rattle.channel_steps.specs.declared.party.Entry.{Entry}
-use Rattle.channel_steps.specs.declared.run.Step.{Step}
-use Rattle.channel_laws.specs.Ends.{IsStill, GivesMessage, SaysTheEnd, Replies}
-use Rattle.channel_laws.specs.Over.{AllSpent}
-use Rattle.channel_laws.specs.Sound.{AllSound}
+use Rattle.channel_laws.proofs.Words.{Next, new_scene, Shut, Spent, Scene, Steps, Entry, Step, IsStill, GivesMessage, SaysTheEnd, Replies, AllSpent, AllSound}
 use Rattle.channel_laws.proofs.Closed.{next_keeps}
 use Rattle.channel_laws.proofs.Closings as closings
 use Rattle.channel_laws.proofs.Notices.{tellings_new}

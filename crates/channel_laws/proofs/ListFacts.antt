@@ -2,10 +2,7 @@
 use Rattle.std.proofs.Common.{◌≡◌, ℕ, zero, suc, Bool, true, false, if◌then◌else◌, List, [], ◌∷◌, ◌++◌, length, drop, take, Option, None, Some, is_some, ◌⊎◌, inl, inr, refl, sym, ap, ◌∙◌, subst, arith}
 use Rattle.std.proofs.lemmas.Bool.Decides.{nat_tests}
 use Rattle.std.specs.Map.{lookup, remove_entry, set_value}
-use Rattle.event_listener.specs.Lists.{Notice, same_key, told_as, waits_as, kind_of, without, with_task, moved, passed, registration, removed}
-use Rattle.event_listener.specs.declared.key.Key.{Key}
-use Rattle.channel_calls.specs.Parts.{Listeners, told_one, told_more, told_all}
-use Rattle.channel_laws.specs.Waits.{IsIn, Apart}
+use Rattle.channel_laws.proofs.Words.{Notice, same_key, told_as, waits_as, kind_of, without, with_task, moved, passed, registration, removed, Key, Listeners, told_one, told_more, told_all, IsIn, Apart}
 use mathlib.Core.Bool.{cond}
 
 same_is : (a b : Key) → same_key a b ≡ true → a ≡ b

@@ -1,40 +1,16 @@
 -- Of what is known of a call under way follows which marks it has made.
 use Rattle.std.proofs.Common.{arith, ◌≡◌, ◌≤◌, ◌+◌, ℕ, length, true, false, List, [], ◌∷◌, ◌++◌, None, Some, Ok, Err, inl, inr, ◌⊎◌, refl, sym, ap, ◌∙◌, subst, append-nil}
-use Rattle.concurrent_queue.specs.Queue.{trying, displaced, appended, taken, read, measured}
+use Rattle.channel_laws.proofs.Words.{trying, displaced, appended, taken, QueueAsk, Ready, Pending, up, down, Channel, ChannelAsk, Mark, Append, Take, TakeDisplaced, Replace, Close, Reply, Aim, Sends, Receives, Streams, Closings, Side, Senders, Receivers, Stage, Trying, Working, Finished, Work, TellReceive, TellStreams, TellSend, TellSends, TellAll, Leave, Ending, closer_ending, Phase, Row, TriesFor, TryAt, TriesAt, WorkAt, StageAt, MarkedMoment, Appended, Took, TookAll, Replaced, Displaced, ClosedIt, Under, Known, AllKnown, read, measured, HasTaken, Answered, MadeRoom, CountRaised, Upgraded, LeftLast, Dropped, AreTakings, AreMarksOf, marks_of, BeginsItsMarks}
 use Rattle.concurrent_queue.specs.Queue as queue
-use Rattle.concurrent_queue.specs.declared.call.QueueAsk.{QueueAsk}
 use Rattle.concurrent_queue.specs.declared.call.QueueAsk.TheVariants as q
-use Rattle.futures.specs.declared.task.Poll.TheVariants.{Ready, Pending}
-use Rattle.channel_calls.specs.Marks.{up, down}
-use Rattle.channel_calls.specs.Moves.{Channel}
-use Rattle.channel_calls.specs.declared.ask.ChannelAsk.{ChannelAsk}
 use Rattle.channel_calls.specs.declared.ask.ChannelAsk.TheVariants as ask
 use Rattle.channel_calls.specs.declared.error.Refused.TheVariants as refused
 use Rattle.channel_calls.specs.declared.error.TrySendError.TheVariants as try_send_error
 use Rattle.channel_calls.specs.declared.error.TryRecvError.TheVariants as try_recv_error
-use Rattle.channel_calls.specs.declared.mark.Mark.{Mark}
-use Rattle.channel_calls.specs.declared.mark.Mark.TheVariants.{Append, Take, TakeDisplaced, Replace, Close}
-use Rattle.channel_calls.specs.declared.reply.Reply.{Reply}
 use Rattle.channel_calls.specs.declared.reply.Reply.TheVariants as reply
-use Rattle.channel_calls.specs.declared.stage.Aim.{Aim}
 use Rattle.channel_calls.specs.declared.stage.Aim.TheVariants as aim
 use Rattle.channel_calls.specs.declared.stage.Closer.TheVariants as closer
-use Rattle.channel_calls.specs.declared.stage.Line.TheVariants.{Sends, Receives, Streams, Closings}
-use Rattle.channel_calls.specs.declared.stage.Side.{Side}
-use Rattle.channel_calls.specs.declared.stage.Side.TheVariants.{Senders, Receivers}
-use Rattle.channel_calls.specs.declared.stage.Stage.{Stage}
-use Rattle.channel_calls.specs.declared.stage.Stage.TheVariants.{Trying, Working, Finished}
-use Rattle.channel_calls.specs.declared.stage.Work.{Work}
-use Rattle.channel_calls.specs.declared.stage.Work.TheVariants.{TellReceive, TellStreams, TellSend, TellSends, TakeRoom, TellAll, Insert, Register, Leave, Lower, Count, Load, Raise}
-use Rattle.channel_calls.specs.declared.stage.Ending.{Ending}
-use Rattle.channel_calls.specs.Turns.{closer_ending}
-use Rattle.concurrent_queue.specs.Queue.{Phase}
-use Rattle.channel_steps.specs.Answers.{Row}
-use Rattle.channel_steps.specs.Known.{TriesFor, TryAt, TriesAt, HasTaken, WorkAt, StageAt, Answered}
-use Rattle.channel_steps.specs.Moments.{MarkedMoment, Appended, Took, TookAll, Replaced, MadeRoom, Displaced, ClosedIt, CountRaised, Upgraded, LeftLast, Dropped}
-use Rattle.channel_steps.specs.Scene.{Under, Known, AllKnown}
 use Rattle.channel_laws.specs.Ends.{Each}
-use Rattle.channel_laws.specs.Marks.{AreTakings, AreMarksOf, marks_of, BeginsItsMarks}
 
 -- takings, so many at most
 abbrev FewTakings : ℕ → List Mark → Type 0
@@ -64,76 +40,63 @@ module _ {T W : Type 0} where
   no_marks ds e = ap (λ (x : List (MarkedMoment T W)). marks_of x) e
 
   appended_marks : (ds : List (MarkedMoment T W)) → Appended ds → marks_of ds ≡ Append ∷ []
-  appended_marks [] h = absurd h
   appended_marks (d ∷ []) h = ap (λ (m : Mark). m ∷ []) h.0
-  appended_marks (d ∷ e ∷ ds) h = absurd h
+  appended_marks x h = absurd h
 
   took_marks : (ds : List (MarkedMoment T W)) (v : T) → Took ds v → marks_of ds ≡ Take ∷ []
-  took_marks [] v h = absurd h
   took_marks (d ∷ []) v h = ap (λ (m : Mark). m ∷ []) h.0
-  took_marks (d ∷ e ∷ ds) v h = absurd h
+  took_marks x v h = absurd h
 
   no_takings : (n : ℕ) (ds : List (MarkedMoment T W)) → ds ≡ [] → FewTakings n (marks_of ds)
   no_takings n ds e = subst (λ (ms : List Mark). FewTakings n ms) (sym (no_marks ds e)) (tt, omega arith)
 
   all_takings : (n : ℕ) (ds : List (MarkedMoment T W)) (vs : List T) → TookAll ds vs → length vs ≤ n → FewTakings n (marks_of ds)
   all_takings n [] [] h few = (tt, few)
-  all_takings n [] (v ∷ vs) h few = absurd h
-  all_takings n (d ∷ ds) [] h few = absurd h
   all_takings n (d ∷ ds) (v ∷ vs) h few =
       let rest = all_takings (length vs) ds vs h.2 (omega arith) in ((h.0, rest.0), let less = rest.1 in omega (arith, less, few))
+  all_takings n x y h few = absurd h
 
   more_takings : (n : ℕ) (before mine : List (MarkedMoment T W)) (vs : List T) → TookAll before vs → FewTakings 1 (marks_of mine) → length vs + 1 ≤ n
       → FewTakings n (marks_of (before ++ mine))
   more_takings n [] mine [] h one few = (one.0, let less = one.1 in omega (arith, less, few))
-  more_takings n [] mine (v ∷ vs) h one few = absurd h
-  more_takings n (d ∷ before) mine [] h one few = absurd h
   more_takings n (d ∷ before) mine (v ∷ vs) h one few =
       let rest = more_takings (length vs + 1) before mine vs h.2 one (omega arith) in
       ((h.0, rest.0), let less = rest.1 in omega (arith, less, few))
+  more_takings n x mine y h one few = absurd h
 
   replaced_marks : (ds : List (MarkedMoment T W)) (v : T) → Replaced ds v → marks_of ds ≡ Replace ∷ []
-  replaced_marks [] v h = absurd h
   replaced_marks (d ∷ []) v h = ap (λ (m : Mark). m ∷ []) h.0
-  replaced_marks (d ∷ e ∷ ds) v h = absurd h
+  replaced_marks x v h = absurd h
 
   room_marks : (ds : List (MarkedMoment T W)) (v : T) → MadeRoom ds v → marks_of ds ≡ TakeDisplaced ∷ []
-  room_marks [] v h = absurd h
   room_marks (d ∷ []) v h = ap (λ (m : Mark). m ∷ []) h.0
-  room_marks (d ∷ e ∷ ds) v h = absurd h
+  room_marks x v h = absurd h
 
   displaced_marks : (ds : List (MarkedMoment T W)) (v : T) → Displaced ds v → marks_of ds ≡ TakeDisplaced ∷ Append ∷ []
-  displaced_marks [] v h = absurd h
-  displaced_marks (d ∷ []) v h = absurd h
   displaced_marks (d ∷ e ∷ []) v h = ap (λ (m : Mark). m ∷ e.mark ∷ []) h.0.0 ∙ ap (λ (m : Mark). TakeDisplaced ∷ m ∷ []) h.1
-  displaced_marks (d ∷ e ∷ f ∷ ds) v h = absurd h
+  displaced_marks x v h = absurd h
 
   closed_marks : (ds : List (MarkedMoment T W)) → ClosedIt ds → marks_of ds ≡ Close ∷ []
-  closed_marks [] h = absurd h
   closed_marks (d ∷ []) h = ap (λ (m : Mark). m ∷ []) h.0
-  closed_marks (d ∷ e ∷ ds) h = absurd h
+  closed_marks x h = absurd h
 
   raised_marks : (side : Side) (ds : List (MarkedMoment T W)) → CountRaised side ds → marks_of ds ≡ up side ∷ []
-  raised_marks side [] h = absurd h
   raised_marks side (d ∷ []) h = ap (λ (m : Mark). m ∷ []) h.0
-  raised_marks side (d ∷ e ∷ ds) h = absurd h
+  raised_marks side x h = absurd h
 
   upgraded_marks : (side : Side) (ds : List (MarkedMoment T W)) → Upgraded side ds → marks_of ds ≡ up side ∷ []
-  upgraded_marks side [] h = absurd h
   upgraded_marks side (d ∷ []) h = ap (λ (m : Mark). m ∷ []) h.0
-  upgraded_marks side (d ∷ e ∷ ds) h = absurd h
+  upgraded_marks side x h = absurd h
 
   left_marks : (side : Side) (ds : List (MarkedMoment T W)) (seen : List (Channel T W)) → LeftLast side ds seen → marks_of ds ≡ down side ∷ []
-  left_marks side [] seen h = absurd h
   left_marks side (d ∷ []) seen h = ap (λ (m : Mark). m ∷ []) h.0
-  left_marks side (d ∷ e ∷ ds) seen h = absurd h
+  left_marks side x seen h = absurd h
 
   dropped_marks : (side : Side) (ds : List (MarkedMoment T W)) (seen : List (Channel T W)) → Dropped side ds seen
       → (marks_of ds ≡ down side ∷ []) ⊎ (marks_of ds ≡ down side ∷ Close ∷ [])
-  dropped_marks side [] seen h = absurd h
   dropped_marks side (d ∷ []) seen h = inl (ap (λ (m : Mark). m ∷ []) h.0)
   dropped_marks side (d ∷ e ∷ []) seen h = inr (ap (λ (m : Mark). m ∷ e.mark ∷ []) h.0 ∙ ap (λ (m : Mark). down side ∷ m ∷ []) h.2)
-  dropped_marks side (d ∷ e ∷ f ∷ ds) seen h = absurd h
+  dropped_marks side x seen h = absurd h
 
   -- ---- a call that has answered
 
@@ -303,15 +266,9 @@ module _ {T W : Type 0} where
   works a (TellStreams x) ds seen h = answered a x ds seen h
   works a (TellSend x) ds seen h = answered a x ds seen h
   works a (TellSends n x) ds seen h = answered a x ds seen h
-  works a (TakeRoom n) ds seen h = nothing a ds h.1
   works a (TellAll line y) ds seen h = answered a (closer_ending y true) ds seen h
-  works a (Insert w task) ds seen h = nothing a ds h.1
-  works a (Register w key task) ds seen h = nothing a ds h.1
   works a (Leave x) ds seen h = answered a x ds seen h
-  works a (Lower side key) ds seen h = nothing a ds h.1
-  works a (Count side) ds seen h = nothing a ds h.1
-  works a (Load side m) ds seen h = nothing a ds h.1
-  works a (Raise side n m) ds seen h = nothing a ds h.1
+  works a w ds seen h = nothing a ds h.1
 
   stages : (now : Channel T W) (a : ChannelAsk T W) (at : Stage (Phase T) T W) (ds : List (MarkedMoment T W)) (seen : List (Channel T W))
       → StageAt now a at ds seen → Begun a ds

@@ -1,34 +1,11 @@
 -- What a step does to the plain channel.
 use Rattle.std.proofs.Common.{arith, ◌≡◌, ℕ, ◌+◌, ◌-◌, ◌^◌, ◌==◌, ◌&&◌, nat_lt, Bool, true, false, if◌then◌else◌, take, drop, List, [], ◌∷◌, ◌++◌, None, Some, Option, inl, inr, refl, sym, ap, ◌∙◌, subst, append-nil, append_assoc}
 use Rattle.std.proofs.lemmas.Bool.Decides.{nat_tests}
-use Rattle.concurrent_queue.specs.Queue.{Phase, message}
-use Rattle.concurrent_queue.specs.declared.call.QueueMark.{QueueMark}
+use Rattle.channel_laws.proofs.Words.{Phase, message, QueueMark, listened, registration, removed, removed_wakes, Key, up, Effect, queued, untouched, on_line, tells_one, tells_more, tells_all, listens, registers, leaves, lowers, Worked, Moves, Listeners, listeners, count, is_raised, told_one, told_one_wakes, told_more, told_more_wakes, told_all, told_all_wakes, line_of, ChannelAsk, Mark, Append, Take, TakeDisplaced, Replace, Close, SenderUp, SenderDown, ReceiverUp, ReceiverDown, Reply, Held, Line, Sends, Receives, Streams, Closings, Side, Senders, Receivers, Stage, Trying, Working, Finished, Waiting, Work, TellReceive, TellStreams, TellSend, TellSends, TellAll, Insert, Register, Leave, Lower, Raise, Scene, Steps, brought, gone_by, came_by, Entry, Inserts, ModelChannel, plain, brought_by, AddUp}
 use Rattle.concurrent_queue.specs.declared.call.QueueMark.TheVariants as queue
-use Rattle.event_listener.specs.Lists.{listened, registration, removed, removed_wakes}
-use Rattle.event_listener.specs.declared.key.Key.{Key}
-use Rattle.channel_calls.specs.Marks.{up}
 use Rattle.channel_calls.specs.Moves as moves
-use Rattle.channel_calls.specs.Moves.{Effect, queued, untouched, on_line, tells_one, tells_more, tells_all, listens, registers, leaves, lowers, Inserts, Worked, Moves}
-use Rattle.channel_calls.specs.Parts.{Listeners, listeners, count, is_raised, told_one, told_one_wakes, told_more, told_more_wakes, told_all, told_all_wakes}
-use Rattle.channel_calls.specs.Turns.{line_of}
-use Rattle.channel_calls.specs.declared.ask.ChannelAsk.{ChannelAsk}
-use Rattle.channel_calls.specs.declared.mark.Mark.{Mark}
-use Rattle.channel_calls.specs.declared.mark.Mark.TheVariants.{Nothing, Append, Take, TakeDisplaced, Replace, Close, SenderUp, SenderDown, ReceiverUp, ReceiverDown}
-use Rattle.channel_calls.specs.declared.reply.Reply.{Reply}
-use Rattle.channel_calls.specs.declared.stage.Held.{Held}
-use Rattle.channel_calls.specs.declared.stage.Line.{Line}
-use Rattle.channel_calls.specs.declared.stage.Line.TheVariants.{Sends, Receives, Streams, Closings}
-use Rattle.channel_calls.specs.declared.stage.Side.{Side}
-use Rattle.channel_calls.specs.declared.stage.Side.TheVariants.{Senders, Receivers}
-use Rattle.channel_calls.specs.declared.stage.Stage.{Stage}
-use Rattle.channel_calls.specs.declared.stage.Stage.TheVariants.{Trying, Working, Finished}
-use Rattle.channel_calls.specs.declared.stage.Waiting.{Waiting}
-use Rattle.channel_calls.specs.declared.stage.Work.{Work}
-use Rattle.channel_calls.specs.declared.stage.Work.TheVariants.{TellReceive, TellStreams, TellSend, TellSends, TakeRoom, TellAll, Insert, Register, Leave, Lower, Count, Load, Raise}
-use Rattle.channel_model.specs.Channel.{ModelChannel}
-use Rattle.channel_steps.specs.Scene.{Scene, Steps, brought, gone_by, came_by}
-use Rattle.channel_steps.specs.declared.party.Entry.{Entry}
-use Rattle.channel_laws.specs.Marked.{plain, marked, brought_by, AddUp}
+use Rattle.channel_calls.specs.declared.mark.Mark.TheVariants.{Nothing}
+use Rattle.channel_laws.specs.Marked.{marked}
 
 -- ---- the effect of a step
 
@@ -41,12 +18,9 @@ module _ {T W : Type 0} where
   as_it c e e' same h = subst (λ (x : Effect T W). Does c x) (sym same) h
 
   by_queue : (f : Phase T) (m : QueueMark) (c : moves.Channel T W) → Does c (queued f m c)
-  by_queue f queue.Nothing c = ([], refl)
   by_queue f queue.Append c = (message f.ask, refl)
-  by_queue f queue.Take c = ([], refl)
-  by_queue f queue.TakeDisplaced c = ([], refl)
   by_queue f queue.Replace c = (message f.ask, refl)
-  by_queue f queue.Close c = ([], refl)
+  by_queue f w c = ([], refl)
 
   by_line : (line : Line) (l : Listeners W) (names : List W) (c : moves.Channel T W) → Does c (on_line line l names c)
   by_line Sends l names c = ([], refl)
@@ -106,15 +80,13 @@ module _ {T W : Type 0} where
   by_work c (TellStreams x) e r s h = as_it c e _ h.0 (by_all Streams c)
   by_work c (TellSend x) e r s h = as_it c e _ h.0 (by_one Sends c)
   by_work c (TellSends n x) e r s h = as_it c e _ h.0 (by_more n Sends c)
-  by_work c (TakeRoom n) e r s h = as_it c e _ h.0 (by_none c)
   by_work c (TellAll line closer) e r s h = as_it c e _ h.0 (by_all line c)
   by_work c (Insert w task) e r s h = by_inserting c w task e r s h
   by_work c (Register w key task) e r s h = as_it c e _ h.0 (by_registering (line_of w) key task c)
   by_work c (Leave x) e r s h = as_it c e _ h.0 (by_leaving x.held c)
   by_work c (Lower side key) e r s h = as_it c e _ h.0 (by_lowering side c)
-  by_work c (Count side) e r s h = as_it c e _ h.0 (by_none c)
-  by_work c (Load side making) e r s h = as_it c e _ h.0 (by_none c)
   by_work c (Raise side n making) e r s h = as_it c e _ h.0 (raised_or side n c (is_raised side n c.roster) refl)
+  by_work c w e r s h = as_it c e _ h.0 (by_none c)
 
   by_stage : (c : moves.Channel T W) (at : Stage (Phase T) T W) (e : Effect T W) (r : Option (Reply T)) (s : Stage (Phase T) T W)
       → Moves c at e r s → Does c e
@@ -148,16 +120,11 @@ module _ {T : Type 0} where
 module _ {T W : Type 0} where
   messages_are : (m : Mark) (a : ChannelAsk T W) (c : ModelChannel T) (ys : List T)
       → gone_by m c.messages ++ ys ≡ c.messages ++ came_by m a → ys ≡ (marked m (brought a) c).messages
-  messages_are Nothing a c ys e = e ∙ append-nil c.messages
   messages_are Append a c ys e = e
   messages_are Take a c ys e = left_is c.messages ys e
   messages_are TakeDisplaced a c ys e = left_is c.messages ys e
   messages_are Replace a c ys e = without_first c.messages ys (brought a) e
-  messages_are Close a c ys e = e ∙ append-nil c.messages
-  messages_are SenderUp a c ys e = e ∙ append-nil c.messages
-  messages_are SenderDown a c ys e = e ∙ append-nil c.messages
-  messages_are ReceiverUp a c ys e = e ∙ append-nil c.messages
-  messages_are ReceiverDown a c ys e = e ∙ append-nil c.messages
+  messages_are w a c ys e = e ∙ append-nil c.messages
 
   -- a step does to the plain channel what its mark says
   pub step_marked : (s : Scene T W) (p : ℕ) (e : Entry T) (names : List W) (t : Scene T W) (st : Steps s p e names t)

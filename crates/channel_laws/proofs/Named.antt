@@ -1,11 +1,8 @@
 -- A merge whose calls are given names beside their tasks keeps the headline with the names.
 use Rattle.std.proofs.Common.{◌≡◌, ℕ, suc, List, [], ◌∷◌, map, length, refl, sym, ap, subst, ◌∙◌}
-use Rattle.channel_calls.specs.declared.ask.ChannelAsk.{ChannelAsk}
-use Rattle.channel_steps.specs.declared.run.Step.{Step}
+use Rattle.channel_laws.proofs.Words.{ChannelAsk, Step, Event, begins, Happening, LastsFor, step_of, steps_of, WakesFor, WakesNamed, task_of, name_of, with_asked, asks_of, step_asking, steps_asking, NamedMergesKeepTheHeadline, parts_by, ask_by, event_by, all_by}
 use Rattle.channel_steps.specs.declared.run.Step.TheVariants as step
-use Rattle.channel_laws.specs.Bridge.{Event, begins, does, Happening, LastsFor, step_of, steps_of}
-use Rattle.channel_laws.specs.Named.{WakesFor, WakesNamed, task_of, name_of, with_asked, asks_of, step_asking, steps_asking, NamedMergesKeepTheHeadline}
-use Rattle.channel_laws.specs.Tasks.{parts_by, ask_by, event_by, all_by}
+use Rattle.channel_laws.specs.Bridge.{does}
 use Rattle.channel_laws.proofs.BridgeHeadline.{merges_keep_the_headline}
 use Rattle.channel_laws.proofs.TaskBehind.{tasks_may_tell_more}
 use Rattle.channel_laws.proofs.TaskMerges.{merges_have_any_tasks}

@@ -3,32 +3,15 @@ use Rattle.std.proofs.Common.{◌≡◌, ℕ, ◌==◌, Bool, true, false, List,
 use Rattle.concurrent_queue.specs.declared.call.QueueAsk.TheVariants as ask
 use Rattle.concurrent_queue.specs.declared.call.QueueMark.TheVariants as queue_mark
 use Rattle.concurrent_queue.specs.declared.call.QueueReply.TheVariants as queue_reply
-use Rattle.concurrent_queue.specs.declared.cells.QueueForm.TheVariants.{Bounded}
-use Rattle.concurrent_queue.specs.declared.cells.Word.TheVariants.{State}
-use Rattle.concurrent_queue.specs.declared.call.QueueAsk.{QueueAsk}
-use Rattle.concurrent_queue.specs.declared.call.QueueMark.{QueueMark}
-use Rattle.concurrent_queue.specs.declared.queue_call.CallState.TheVariants.{Asked, Single}
-use Rattle.concurrent_queue.specs.declared.queue_call.QueueCall.{QueueCall}
+use Rattle.channel_laws.proofs.Words.{Bounded, QueueAsk, QueueMark, Asked, Single, QueueCall, Key, Pending, Parts, Listeners, new_roster, with_listeners, leaving, nothing_kept, Sends, Receives, Streams, Closings, Trying, Working, Finished, TellAll, Insert, Register, State, set_state, finishes, loaded, bits_set, Acts, own, opened_parts, InOneOrder, WakesFor, task_of, first_key, second_key, waits_once, one_close, two_are_told, parts_of_two, pends_on, has_closed, given_to_three, TwoWaitsMerge, OneTaskHasTwoNames}
 use Rattle.concurrent_queue.specs.declared.single.SingleAction.TheVariants as slot
-use Rattle.concurrent_queue.specs.machine.Single.{set_state, finishes}
-use Rattle.concurrent_queue.specs.Deeds.{loaded, bits_set}
 use Rattle.concurrent_queue.proofs.Callers.{is_same}
 use Rattle.concurrent_queue.proofs.FitsFacts.{starts}
-use Rattle.event_listener.specs.declared.key.Key.{Key}
-use Rattle.futures.specs.declared.task.Poll.TheVariants.{Pending}
-use Rattle.channel_calls.specs.Parts.{Parts, Listeners, new_roster, with_listeners}
-use Rattle.channel_calls.specs.Turns.{leaving, nothing_kept}
 use Rattle.channel_calls.specs.declared.mark.Mark.TheVariants as mark
 use Rattle.channel_calls.specs.declared.reply.Reply.TheVariants as reply
 use Rattle.channel_calls.specs.declared.stage.Aim.TheVariants as aim
 use Rattle.channel_calls.specs.declared.stage.Closer.TheVariants as closer
-use Rattle.channel_calls.specs.declared.stage.Line.TheVariants.{Sends, Receives, Streams, Closings}
-use Rattle.channel_calls.specs.declared.stage.Stage.TheVariants.{Trying, Working, Finished}
 use Rattle.channel_calls.specs.declared.stage.Waiting.TheVariants as waiting
-use Rattle.channel_calls.specs.declared.stage.Work.TheVariants.{TellAll, Insert, Register}
-use Rattle.channel_laws.specs.Bridge.{Acts, own, opened_parts, InOneOrder}
-use Rattle.channel_laws.specs.Named.{WakesFor, task_of}
-use Rattle.channel_laws.specs.NamedRow.{first_key, second_key, waits_once, one_close, two_are_told, parts_of_two, pends_on, has_closed, given_to_three, TwoWaitsMerge, OneTaskHasTwoNames}
 
 module _ {T : Type 0} where
   abbrev new_call : QueueAsk T → QueueCall T

@@ -1,26 +1,9 @@
 -- Who tells all of a list has closed the channel, and it is closed.
 use Rattle.std.proofs.Common.{◌≡◌, ℕ, zero, suc, List, [], ◌∷◌, ◌++◌, Option, ◌⊎◌, inl, inr, refl, sym, ap, ◌∙◌, subst}
-use Rattle.concurrent_queue.specs.Queue.{Phase}
-use Rattle.concurrent_queue.specs.declared.call.QueueMark.{QueueMark}
+use Rattle.channel_laws.proofs.Words.{Phase, QueueMark, mark_of_queue, Channel, Effect, queued, Moves, Mark, Append, Replace, Close, Reply, Closer, Line, Sends, Receives, Streams, Closings, Stage, Trying, Working, Finished, TellAll, ToldAt, MarkedMoment, with_marked, Shut, Telling, all_from, one_of, more_of, all_of, owed_for, owed_takings, takings, owed_besides, HasClosed, HasToTell, IsStill}
 use Rattle.concurrent_queue.specs.declared.call.QueueMark.TheVariants as queue
-use Rattle.channel_calls.specs.Marks.{mark_of_queue}
-use Rattle.channel_calls.specs.Moves.{Channel, Effect, queued, tells_all, Moves}
-use Rattle.channel_calls.specs.declared.mark.Mark.{Mark}
-use Rattle.channel_calls.specs.declared.mark.Mark.TheVariants.{Nothing, Append, Replace, Close}
-use Rattle.channel_calls.specs.declared.reply.Reply.{Reply}
-use Rattle.channel_calls.specs.declared.stage.Closer.{Closer}
-use Rattle.channel_calls.specs.declared.stage.Line.{Line}
-use Rattle.channel_calls.specs.declared.stage.Line.TheVariants.{Sends, Receives, Streams, Closings}
-use Rattle.channel_calls.specs.declared.stage.Stage.{Stage}
-use Rattle.channel_calls.specs.declared.stage.Stage.TheVariants.{Trying, Working, Finished}
-use Rattle.channel_calls.specs.declared.stage.Work.TheVariants.{TellAll}
-use Rattle.event_listener.specs.declared.key.Key.{Key}
-use Rattle.channel_steps.specs.Known.{all_from, ToldAt}
-use Rattle.channel_steps.specs.Moments.{MarkedMoment, with_marked, Shut}
-use Rattle.channel_steps.specs.Tellings.{Telling, one_of, more_of, all_of, owed_for, owed_takings, takings, owed_besides, owed}
-use Rattle.channel_laws.specs.Closings.{HasClosed}
-use Rattle.channel_laws.specs.Ends.{IsStill}
-use Rattle.channel_laws.specs.Waits.{Waits}
+use Rattle.channel_calls.specs.declared.mark.Mark.TheVariants.{Nothing}
+use Rattle.channel_steps.specs.Tellings.{owed}
 use Rattle.channel_laws.proofs.ClosedMoves.{worked_spares}
 
 -- ---- tellings
@@ -90,6 +73,10 @@ module _ {T W : Type 0} where
       has_owed ds (subst (λ (ts : List Telling). IsAmong (all_of Closings) ts) h
       (among_right (all_of Closings) told (all_from line) (closings_last line)))
 
+  pub told_has_closed : (line : Line) (told : List Telling) (at : Stage (Phase T) T W) (ds : List (MarkedMoment T W)) → ToldAt told at ds → HasToTell line at → HasClosed ds
+  told_has_closed line told (Working (TellAll next closer)) ds h tells = teller_has_closed told next closer ds h
+  told_has_closed line told at ds h tells = absurd tells
+
   -- ---- marks
 
   had_or_last : (ds : List (MarkedMoment T W)) (d : MarkedMoment T W) → HasClosed (ds ++ d ∷ []) → HasClosed ds ⊎ (d.mark ≡ Close)
@@ -112,10 +99,7 @@ module _ {T W : Type 0} where
       → Shut (let e : Effect T W = queued f m c in e.channel)
   queue_closes f queue.Close c h = refl
   queue_closes f queue.Nothing c h = absurd (let never : Nothing ≡ Close = h in cc)
-  queue_closes f queue.Append c h = absurd cc
-  queue_closes f queue.Take c h = absurd cc
-  queue_closes f queue.TakeDisplaced c h = absurd cc
-  queue_closes f queue.Replace c h = absurd cc
+  queue_closes f w c h = absurd cc
 
   -- where a step closes the channel it is closed
   pub close_shuts : (c : Channel T W) (at : Stage (Phase T) T W) (e : Effect T W) (r : Option (Reply T))
@@ -126,12 +110,3 @@ module _ {T W : Type 0} where
   close_shuts c (Working w) e r s g closes = let k = worked_spares c w e r s g in absurd (subst IsStill closes k.1)
   close_shuts c (Finished kept) e r s g closes =
       absurd (let never : Nothing ≡ Close = sym (ap (λ (z : Effect T W). z.mark) g.0) ∙ closes in cc)
-
-  -- ---- all of a list
-
-  pub nobody_left : (line : Line) (key : Key) (c : Channel T W)
-      → Waits line key (let e : Effect T W = tells_all line c in e.channel) → ⊥
-  nobody_left Sends key c w = w
-  nobody_left Receives key c w = w
-  nobody_left Streams key c w = w
-  nobody_left Closings key c w = w

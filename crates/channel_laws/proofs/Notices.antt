@@ -1,36 +1,17 @@
 -- How those who were told were told, over runs.
-use Rattle.std.proofs.Common.{◌≡◌, ℕ, Bool, true, false, List, [], Option, ◌⊎◌, inl, inr, refl, sym, ◌∙◌, subst}
-use Rattle.concurrent_queue.specs.Queue.{Phase}
-use Rattle.event_listener.specs.declared.key.Key.{Key}
-use Rattle.channel_calls.specs.Moves.{Channel, Effect, tells_all, Moves}
-use Rattle.channel_calls.specs.declared.ask.ChannelAsk.{ChannelAsk}
+use Rattle.std.proofs.Common.{◌≡◌, ℕ, Bool, true, false, List, Option, ◌⊎◌, inl, inr, refl, sym, ◌∙◌, subst}
+use Rattle.channel_laws.proofs.Words.{Phase, Key, Channel, Effect, tells_all, Moves, ChannelAsk, Reply, Line, Sends, Receives, Streams, Closings, Stage, Working, TellReceive, TellStreams, TellSend, TellSends, TellAll, ToldAt, MarkedMoment, Open, Shut, Scene, Steps, Known, Telling, Next, Begins, new_scene, Entry, Step, HasClosed, LooksAgain, MayBeTold, IsOneByOne, EachTold, AnyTold, told_of, TellingsSound, TellingsStayFit, TellingsAlwaysFit, Waits, Any}
 use Rattle.channel_calls.specs.declared.mark.Mark.TheVariants as mark
-use Rattle.channel_calls.specs.declared.reply.Reply.{Reply}
-use Rattle.channel_calls.specs.declared.stage.Line.{Line}
-use Rattle.channel_calls.specs.declared.stage.Line.TheVariants.{Sends, Receives, Streams, Closings}
-use Rattle.channel_calls.specs.declared.stage.Stage.{Stage}
-use Rattle.channel_calls.specs.declared.stage.Stage.TheVariants.{Working}
-use Rattle.channel_calls.specs.declared.stage.Work.TheVariants.{TellReceive, TellStreams, TellSend, TellSends, TellAll}
-use Rattle.channel_steps.specs.Known.{ToldAt}
-use Rattle.channel_steps.specs.Moments.{MarkedMoment, Open, Shut}
-use Rattle.channel_steps.specs.Scene.{Scene, Steps, Known}
-use Rattle.channel_steps.specs.Tellings.{Telling}
-use Rattle.channel_steps.specs.Run.{Next, Begins, new_scene}
-use Rattle.channel_steps.specs.declared.party.Entry.{Entry}
-use Rattle.channel_steps.specs.declared.run.Step.{Step}
 use Rattle.channel_steps.specs.declared.run.Step.TheVariants as step
 use Rattle.channel_steps.proofs.Interface.{known_next}
-use Rattle.channel_laws.specs.Closings.{HasClosed, LooksAgain}
 use Rattle.channel_laws.specs.Ends.{Each}
-use Rattle.channel_laws.specs.Notices.{MayBeTold, IsOneByOne, EachTold, AnyTold, told_of, TellingsSound, TellingsStayFit, TellingsAlwaysFit}
-use Rattle.channel_laws.specs.Waits.{Waits, WaitApart, Any}
 use Rattle.channel_laws.proofs.AnyFacts.{any_mine, any_steps, any_begins}
 use Rattle.channel_laws.proofs.Closed.{shut_does}
 use Rattle.channel_laws.proofs.Closings.{new_apart}
-use Rattle.channel_laws.proofs.ClosingMoves.{GoesOnFor, looks_goes, newcomer_looks}
+use Rattle.channel_laws.proofs.ClosingMoves.{StillLooks, looks_goes, newcomer_looks, nobody_left}
 use Rattle.channel_laws.proofs.EachFacts.{of_mine, each_known, each_steps, each_begins}
-use Rattle.channel_laws.proofs.ListMoves.{Tries, moved_lists, waited, stays_apart}
-use Rattle.channel_laws.proofs.NoticeMoves.{teller_has_closed, closed_before, close_shuts, nobody_left}
+use Rattle.channel_laws.proofs.ListMoves.{Tries, moved_lists, waited, apart_next}
+use Rattle.channel_laws.proofs.NoticeMoves.{teller_has_closed, closed_before, close_shuts}
 use Rattle.channel_laws.proofs.RunFacts.{kept_long}
 use Rattle.channel_laws.proofs.ToldFacts.{each_as, any_as}
 use Rattle.channel_laws.proofs.ToldMoves.{Tells, moved_told}
@@ -96,11 +77,6 @@ module _ {T W : Type 0} where
         each_steps (λ u. HasClosed u.marks → Shut s.now) (λ u. HasClosed u.marks → Shut t.now) s t p e names st
         (λ u f h. shut_on (f h)) (λ f h. or_closes (closed_before st.mine.marks e.mark s.now st.mine.seen h)) sound.closers
 
-    apart_after : (line : Line) → WaitApart line t.now
-    apart_after line =
-        stays_apart line s.now effect e.reply st.at_now (moved_lists line s.now st.mine.at effect e.reply st.at_now st.moves)
-        (sound.apart line)
-
     module _ (line : Line) where
       may_be : (b : Bool) → Open t.now → MayBeTold line b ⊎ HasClosed st.mine.marks → MayBeTold line b
       may_be b now (inl h) = h
@@ -120,22 +96,21 @@ module _ {T W : Type 0} where
         abbrev Looked : Type 0
         Looked = Any (λ u. LooksAgain line key u.at) t.under_way
 
-        goes_on : GoesOnFor [] line key e.reply st.at_now → Looked
-        goes_on (none, inl h) = absurd h.0
-        goes_on (none, inr h) = any_mine (λ u. LooksAgain line key u.at) s t p e names st (λ u h. h) none h
+        goes_on : StillLooks line key e.reply st.at_now → Looked
+        goes_on h = any_mine (λ u. LooksAgain line key u.at) s t p e names st (λ u h. h) h.0 h.1
 
         still_looks : Looked ⊎ LooksAgain line key st.mine.at → Looked
         still_looks (inl h) = h
         still_looks (inr h) =
             let k = mine_known in
-            goes_on (looks_goes [] s.now st.mine.ask st.mine.at st.mine.marks st.mine.seen effect e.reply st.at_now line key
+            goes_on (looks_goes s.now st.mine.ask st.mine.at st.mine.marks st.mine.seen effect e.reply st.at_now line key
             k.stands st.moves shut h (sound.apart line) w)
 
         looks_or_new : ((key : Key) → Waits line key s.now → Any (λ u. LooksAgain line key u.at) s.under_way)
             → Waits line key s.now ⊎ Tries line s.now effect e.reply st.at_now key → Looked
         looks_or_new before (inl h) =
             still_looks (any_steps (λ u. LooksAgain line key u.at) s t p e names st (λ u h. h) (before key h))
-        looks_or_new before (inr h) = goes_on (newcomer_looks [] s.now effect e.reply st.at_now line key h)
+        looks_or_new before (inr h) = goes_on (newcomer_looks s.now effect e.reply st.at_now line key h)
 
         looked : ((key : Key) → Waits line key s.now → Any (λ u. LooksAgain line key u.at) s.under_way) → Looked
         looked before =
@@ -192,7 +167,7 @@ module _ {T W : Type 0} where
       record {
         known = k.0;
         balanced = k.1;
-        apart = λ line. subst (λ (c : Channel T W). WaitApart line c) (sym b.now) (sound.apart line);
+        apart = λ line. apart_next line s (step.Begin p ask) e names t n (sound.apart line);
         closers = begun_closers s t p ask e b sound;
         fit = record { while_open = begun_open s t p ask e b sound; by_default = begun_default s t p ask e b sound };
       }
@@ -201,7 +176,7 @@ module _ {T W : Type 0} where
       record {
         known = k.0;
         balanced = k.1;
-        apart = apart_after s t p e names n sound;
+        apart = λ line. apart_next line s (step.Step p) e names t n (sound.apart line);
         closers = closers_after s t p e names n sound;
         fit = record { while_open = open_after s t p e names n sound; by_default = default_after s t p e names n sound };
       }

@@ -1,27 +1,13 @@
 -- How many messages there are after a step of the queue's call, and what the call counts for by its turn.
 use Rattle.std.proofs.Common.{◌≡◌, ℕ, ◌+◌, ◌≤◌, Bool, [], ◌∷◌, ◌++◌, length, drop, Option, None, Some, refl, ap, ◌∙◌, arith, length-append}
-use Rattle.concurrent_queue.specs.Queue.{Queue, Phase, trying, displaced, appended, taken, asked, marked, is_displaced, ContinuesPush, ContinuesForce, ContinuesPop, ContinuesBy, AnswersTo}
+use Rattle.channel_laws.proofs.Words.{Queue, Phase, trying, displaced, appended, taken, asked, marked, is_displaced, ContinuesPush, ContinuesForce, ContinuesPop, ContinuesBy, AnswersTo, QueueAsk, QueueMark, Nothing, QueueReply, Key, Turned, ChannelAsk, Reply, Line, Stage, Trying, Working, Turn, Tries, Works, Ends, is_trying, is_trying_anew, has_appended, has_taken, has_displaced}
 use Rattle.concurrent_queue.specs.Queue as queue
-use Rattle.concurrent_queue.specs.declared.call.QueueAsk.{QueueAsk}
 use Rattle.concurrent_queue.specs.declared.call.QueueAsk.TheVariants as ask
-use Rattle.concurrent_queue.specs.declared.call.QueueMark.{QueueMark}
-use Rattle.concurrent_queue.specs.declared.call.QueueMark.TheVariants.{Nothing, Append, Take, TakeDisplaced, Replace, Close}
-use Rattle.concurrent_queue.specs.declared.call.QueueReply.{QueueReply}
-use Rattle.event_listener.specs.declared.key.Key.{Key}
-use Rattle.channel_calls.specs.Moves.{Turned}
-use Rattle.channel_calls.specs.declared.ask.ChannelAsk.{ChannelAsk}
-use Rattle.channel_calls.specs.declared.reply.Reply.{Reply}
+use Rattle.concurrent_queue.specs.declared.call.QueueMark.TheVariants.{Append, Take, TakeDisplaced, Replace}
 use Rattle.channel_calls.specs.declared.stage.Aim.TheVariants as aim
-use Rattle.channel_calls.specs.declared.stage.Line.{Line}
-use Rattle.channel_calls.specs.declared.stage.Stage.{Stage}
-use Rattle.channel_calls.specs.declared.stage.Stage.TheVariants.{Trying, Working}
-use Rattle.channel_calls.specs.declared.stage.Turn.{Turn}
-use Rattle.channel_calls.specs.declared.stage.Turn.TheVariants.{Tries, Works, Ends}
-use Rattle.channel_laws.specs.Amounts.{is_trying, is_trying_anew}
-use Rattle.channel_laws.specs.Receives.{has_appended}
-use Rattle.channel_laws.specs.Sends.{has_taken, has_displaced}
+use Rattle.channel_steps.proofs.Interface.{answered_by}
 use Rattle.channel_laws.proofs.Closed.{one_fewer}
-use Rattle.channel_laws.proofs.StreamMoves.{IsPush}
+use Rattle.channel_laws.proofs.AskFacts.{IsPush, MayTake}
 use Rattle.channel_laws.proofs.TotalFacts.{left_over}
 
 module _ {T : Type 0} where
@@ -38,11 +24,14 @@ module _ {T : Type 0} where
   one_replaced q v = length-append (drop 1 q.items) (v ∷ [])
 
   module _ (q : Queue T) (v : T) where
-    pub push_brings : (m : QueueMark) (s t : queue.Stage T) → ContinuesPush q m s t
-        → number (ask.Push v) s m q + has_appended s ≤ length q.items + has_appended t
-    push_brings Nothing (trying b) t g = let k = ap has_appended g in omega (arith, k)
-    push_brings Nothing (appended None) t g = let k = ap has_appended g in omega (arith, k)
-    push_brings Append (trying b) t g = let k = ap has_appended g.2 in let n = one_appended q v in omega (arith, k, n)
+    -- who brings a message has it in from then on
+    abbrev Brings : QueueAsk T → QueueMark → queue.Stage T → queue.Stage T → Type 0
+    Brings a m s t = (number a s m q + has_appended s ≤ length q.items + has_appended t) × (has_appended s ≤ has_appended t)
+
+    pub push_brings : (m : QueueMark) (s t : queue.Stage T) → ContinuesPush q m s t → Brings (ask.Push v) m s t
+    push_brings Nothing (trying b) t g = let k = ap has_appended g in (omega (arith, k), omega arith)
+    push_brings Nothing (appended None) t g = let k = ap has_appended g in (omega (arith, k), omega (arith, k))
+    push_brings Append (trying b) t g = let k = ap has_appended g.2 in let n = one_appended q v in (omega (arith, k, n), omega arith)
     push_brings m s t g = absurd g
 
     pub push_fills : (m : QueueMark) (s t : queue.Stage T) → ContinuesPush q m s t
@@ -53,19 +42,18 @@ module _ {T : Type 0} where
     push_fills Append (trying b) t g = let n = one_appended q v in (omega (arith, n), omega (arith, n))
     push_fills m s t g = absurd g
 
-    pub force_brings : (m : QueueMark) (s t : queue.Stage T) → ContinuesForce q m s t
-        → number (ask.ForcePush v) s m q + has_appended s ≤ length q.items + has_appended t
-    force_brings Nothing (trying b) t g = let k = ap has_appended g in omega (arith, k)
-    force_brings Nothing (displaced d) t g = let k = ap has_appended g in omega (arith, k)
-    force_brings Nothing (appended o) t g = let k = ap has_appended g in omega (arith, k)
-    force_brings Append (trying b) t g = let k = ap has_appended g.2 in let n = one_appended q v in omega (arith, k, n)
-    force_brings Append (displaced d) t g = let k = ap has_appended g.2 in let n = one_appended q v in omega (arith, k, n)
+    pub force_brings : (m : QueueMark) (s t : queue.Stage T) → ContinuesForce q m s t → Brings (ask.ForcePush v) m s t
+    force_brings Nothing (trying b) t g = let k = ap has_appended g in (omega (arith, k), omega arith)
+    force_brings Nothing (displaced d) t g = let k = ap has_appended g in (omega (arith, k), omega arith)
+    force_brings Nothing (appended o) t g = let k = ap has_appended g in (omega (arith, k), omega (arith, k))
+    force_brings Append (trying b) t g = let k = ap has_appended g.2 in let n = one_appended q v in (omega (arith, k, n), omega arith)
+    force_brings Append (displaced d) t g = let k = ap has_appended g.2 in let n = one_appended q v in (omega (arith, k, n), omega arith)
     force_brings Replace (trying b) t g =
         let k = ap has_appended g.5 in
         let n = one_replaced q v in
         let f = one_fewer q g.0 g.1 in
-        omega (arith, k, n, f)
-    force_brings TakeDisplaced (trying b) t g = let f = one_fewer q g.0 g.1 in omega (arith, f)
+        (omega (arith, k, n, f), omega arith)
+    force_brings TakeDisplaced (trying b) t g = let f = one_fewer q g.0 g.1 in (omega (arith, f), omega arith)
     force_brings m s t g = absurd g
 
     pub force_fills : (m : QueueMark) (s t : queue.Stage T) → ContinuesForce q m s t
@@ -81,12 +69,6 @@ module _ {T : Type 0} where
         omega (arith, n, f)
     force_fills TakeDisplaced (trying b) t g = let k = ap has_displaced g.5 in let f = one_fewer q g.0 g.1 in omega (arith, k, f)
     force_fills m s t g = absurd g
-
-  -- a call that may take a message
-  abbrev pub MayTake : QueueAsk T → Type 0
-  MayTake (ask.ForcePush v) = Unit {0}
-  MayTake ask.Pop = Unit {0}
-  MayTake a = ⊥
 
   -- ---- pops
 
@@ -130,27 +112,12 @@ module _ {T : Type 0} where
     goes_no_fewer a m s t never g = absurd g
 
     -- no answer brings or takes one
-    pub answers_same_number : (a : QueueAsk T) (m : QueueMark) (r : QueueReply T) (s : queue.Stage T) → AnswersTo q a m r s
-        → number a s m q ≡ length q.items
-    answers_same_number a Nothing r s h = refl
-    answers_same_number a Close r s h = refl
-    answers_same_number (ask.Push v) m r s h = absurd h
-    answers_same_number (ask.ForcePush v) m r s h = absurd h
-    answers_same_number ask.Pop m r s h = absurd h
-    answers_same_number ask.Close m r s h = absurd h
-    answers_same_number ask.IsClosed m r s h = absurd h
-    answers_same_number ask.IsEmpty m r s h = absurd h
-    answers_same_number ask.IsFull m r s h = absurd h
-    answers_same_number ask.Len m r s h = absurd h
-    answers_same_number ask.Capacity m r s h = absurd h
+    pub answers_same_number : (a : QueueAsk T) (m : QueueMark) (r : QueueReply T) (s : queue.Stage T) → AnswersTo q a m r s → number a s m q ≡ length q.items
+    answers_same_number a m r s h = answered_by q (λ z. number a s z q ≡ length q.items) refl (λ was. refl) a m r s h
 
     pub capacity_same : (a : QueueAsk T) (b : Bool) (m : QueueMark) → (marked a b m q).capacity ≡ q.capacity
     capacity_same a b Nothing = refl
-    capacity_same a b Append = refl
-    capacity_same a b Take = refl
-    capacity_same a b TakeDisplaced = refl
-    capacity_same a b Replace = refl
-    capacity_same a b Close = refl
+    capacity_same a b m = refl
 
 module _ {T W : Type 0} where
   -- a poll's try counts for one at most

@@ -1,14 +1,7 @@
 -- What calls know of the end, over a step.
 use Rattle.std.proofs.Common.{ℕ, List, Option, subst}
-use Rattle.channel_calls.specs.Moves.{Channel}
-use Rattle.channel_steps.specs.Moments.{Spent}
-use Rattle.channel_steps.specs.Run.{Next, new_scene}
-use Rattle.channel_steps.specs.Scene.{Scene, Steps, Known, AllKnown, does}
-use Rattle.channel_steps.specs.declared.party.Entry.{Entry}
-use Rattle.channel_steps.specs.declared.run.Step.{Step}
+use Rattle.channel_laws.proofs.Words.{Channel, Spent, Next, new_scene, Scene, Steps, Known, AllKnown, does, Entry, Step, IsStill, GivesMessage, SaysTheEnd, Replies, AllSpent, IsLate, EndSound}
 use Rattle.channel_steps.specs.declared.run.Step.TheVariants as step
-use Rattle.channel_laws.specs.Ends.{IsStill, GivesMessage, SaysTheEnd, Replies}
-use Rattle.channel_laws.specs.Over.{AllSpent, IsLate, EndSound}
 use Rattle.channel_laws.proofs.EachFacts.{of_mine, each_steps, each_begins, each_known}
 use Rattle.channel_laws.proofs.Ends.{Knows, rests, true_next, over_after, now_or_before}
 use Rattle.channel_laws.proofs.ReplyFacts.{with_still, finish_gives, finish_ends}

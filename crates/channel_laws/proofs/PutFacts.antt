@@ -3,46 +3,22 @@ use Rattle.std.proofs.Common.{◌≡◌, ℕ, zero, suc, ◌+◌, ◌*◌, ◌/�
 use Rattle.std.proofs.lemmas.Nat.{mod_below, div-add-mod'}
 use Rattle.std.proofs.lemmas.Bool.{cases_lt, false≢true}
 use Rattle.std.proofs.lemmas.Bool.Decides.{nat_tests}
-use Rattle.concurrent_queue.specs.Contents.{Contents, block_at, slot_at}
-use Rattle.concurrent_queue.specs.Queue.{Queue, Phase, Stage, appended, message}
-use Rattle.concurrent_queue.specs.Step.{Seat, AreAt, IsAtSingle, IsAtRing, IsAtBlocks, FitsSlot, FitsRing, FitsForm, FitsAt, HasBrought, slot_by, slot_in}
-use Rattle.concurrent_queue.specs.machine.Places.{Place, Each, sum}
-use Rattle.concurrent_queue.specs.machine.Positions.{pos}
+use Rattle.channel_laws.proofs.Words.{Contents, block_at, slot_at, Queue, Phase, appended, message, Seat, AreAt, IsAtBlocks, FitsForm, HasBrought, Place, Each, owed, one_if, number, position, KnowsBlocks, same, owes, BlocksSeat, BlocksMeans, owners, Denotes, act_of, seat_of, IsChain, begin, QueueAsk, QueueForm, Bounded, Unbounded, Slot, CallState, Asked, Single, Ring, Blocks, UnboundedAction, UnboundedCall, IsAtSingle, IsAtRing, FitsSlot, FitsRing, slot_by, sum, pos, holds, holders, KnowsSingle, Means, SingleMeans, index, ring_mark, ring_start, SlotState, SoundRing, busy, reach, hold, ask_of, at_stage, placed, KnowsRing, RingMeans, place_at, ring_slot, number_of, fill, taken_in, Fills, IsProper, IsTailAt, IsFit, blocks_slot, RingAction, WhenFull, Refuse, Displace, At, In, SingleAction, puts_single, puts_ring, puts_blocks, puts_by}
+use Rattle.concurrent_queue.specs.Step.{slot_in}
+use Rattle.concurrent_queue.specs.Step.{FitsAt}
+use Rattle.concurrent_queue.specs.Queue.{Stage}
 use Rattle.concurrent_queue.specs.machine.Single.{start}
-use Rattle.concurrent_queue.specs.machine.SingleState.{holds, holders, KnowsSingle, Means, SingleMeans}
-use Rattle.concurrent_queue.specs.machine.RingWords.{index, ring_mark, ring_start}
-use Rattle.concurrent_queue.specs.machine.RingState.{SlotState, Ring as RingNumbers, SoundRing, busy, reach}
-use Rattle.concurrent_queue.specs.machine.RingCalls.{hold, ask_of, at_stage, owes as ring_owes, placed, KnowsRing}
-use Rattle.concurrent_queue.specs.machine.RingMeans.{RingMeans, place_at}
-use Rattle.concurrent_queue.specs.machine.RingReadings.{ring_slot, number_of}
-use Rattle.concurrent_queue.specs.machine.BlocksState.{Blocks as BlocksNumbers, fill, owed, one_if, number, position, taken_in}
-use Rattle.concurrent_queue.specs.machine.BlocksCalls.{KnowsBlocks, Fills, same, owes}
-use Rattle.concurrent_queue.specs.machine.BlocksMoves.{BlocksSeat, BlocksMeans, owners}
-use Rattle.concurrent_queue.specs.machine.BlocksDenotes.{Denotes, act_of, IsProper, IsTailAt}
-use Rattle.concurrent_queue.specs.machine.BlocksForm.{seat_of, IsFit, IsChain}
-use Rattle.concurrent_queue.specs.machine.BlocksWords.{begin, blocks_slot}
-use Rattle.concurrent_queue.specs.declared.bounded.RingAction.{RingAction}
+use Rattle.concurrent_queue.specs.machine.RingState.{Ring as RingNumbers}
+use Rattle.concurrent_queue.specs.machine.RingCalls.{owes as ring_owes}
+use Rattle.concurrent_queue.specs.machine.BlocksState.{Blocks as BlocksNumbers}
 use Rattle.concurrent_queue.specs.declared.bounded.RingAction.TheVariants as ring
-use Rattle.concurrent_queue.specs.declared.bounded.WhenFull.{WhenFull}
-use Rattle.concurrent_queue.specs.declared.bounded.WhenFull.TheVariants.{Refuse, Displace}
-use Rattle.concurrent_queue.specs.declared.call.QueueAsk.{QueueAsk}
 use Rattle.concurrent_queue.specs.declared.call.QueueAsk.TheVariants as ask
-use Rattle.concurrent_queue.specs.declared.cells.QueueForm.{QueueForm}
-use Rattle.concurrent_queue.specs.declared.cells.QueueForm.TheVariants.{Bounded, Unbounded}
-use Rattle.concurrent_queue.specs.declared.cells.Slot.{Slot}
-use Rattle.concurrent_queue.specs.declared.cells.Slot.TheVariants.{At, In}
-use Rattle.concurrent_queue.specs.declared.queue_call.CallState.{CallState}
-use Rattle.concurrent_queue.specs.declared.queue_call.CallState.TheVariants.{Asked, Single, Ring, Blocks, Finished}
-use Rattle.concurrent_queue.specs.declared.single.SingleAction.{SingleAction}
 use Rattle.concurrent_queue.specs.declared.single.SingleAction.TheVariants as single
-use Rattle.concurrent_queue.specs.declared.unbounded.action.UnboundedAction.{UnboundedAction}
 use Rattle.concurrent_queue.specs.declared.unbounded.action.UnboundedAction.TheVariants as blocks
-use Rattle.concurrent_queue.specs.declared.unbounded.action.UnboundedCall.{UnboundedCall}
 use Rattle.concurrent_queue.proofs.RingPlaces.{near_same, turn-index, pos-div}
 use Rattle.concurrent_queue.proofs.RingShape.{IsMark, mark_is}
 use Rattle.concurrent_queue.proofs.RingSteps.{slot_of}
 use Rattle.concurrent_queue.proofs.RingDenotes as denote
-use Rattle.channel_laws.specs.Put.{puts_single, puts_ring, puts_blocks, puts_by}
 
 pub some_is : {A : Type 0} {x y : A} → Some x ≡ Some y → x ≡ y
 some_is e = cc
@@ -112,11 +88,10 @@ module _ {T : Type 0} where
       to_seats : (at : Slot) (v : T) (ss : List (Seat T)) (ps : List (Place A T)) → AreAt stands ss ps → IsPutBy at v ps
           → IsHeldFor form at v ss
       to_seats at v [] [] h g = absurd g
-      to_seats at v [] (p ∷ ps) h g = absurd h
-      to_seats at v (s ∷ ss) [] h g = absurd h
       to_seats at v (s ∷ ss) (p ∷ ps) h (inl g) =
           inl (is s.call.state p.action (at, v) h.0.0 g.0, subst (λ (f : Phase T). Brings v f) (sym h.0.1) g.1)
       to_seats at v (s ∷ ss) (p ∷ ps) h (inr g) = inr (to_seats at v ss ps h.1 g)
+      to_seats at v x y h g = absurd h
 
   -- ---- one slot
 
@@ -455,9 +430,7 @@ module _ {T : Type 0} where
       start_none : (k : QueueAsk T) (x : Slot × T) → puts_single (start k) ≡ Some x → ⊥
       start_none (ask.Push v) x h = absurd cc
       start_none k x h = absurd cc
-  is_single cap (Ring y) a x e g = absurd e
-  is_single cap (Blocks y) a x e g = absurd e
-  is_single cap Finished a x e g = absurd e
+  is_single cap x a y e g = absurd e
 
   is_ring : (cap : ℕ) (s : CallState T) (a : RingAction T) (x : Slot × T) → IsAtRing s a → puts_ring (ring_mark cap) a ≡ Some x
       → puts_by (Bounded cap) s ≡ Some x
@@ -467,9 +440,7 @@ module _ {T : Type 0} where
       start_none : (k : QueueAsk T) (x : Slot × T) → puts_ring (ring_mark cap) (ring_start k) ≡ Some x → ⊥
       start_none (ask.Push v) x h = absurd cc
       start_none k x h = absurd cc
-  is_ring cap (Single y) a x e g = absurd e
-  is_ring cap (Blocks y) a x e g = absurd e
-  is_ring cap Finished a x e g = absurd e
+  is_ring cap x a y e g = absurd e
 
   is_blocks : (s : CallState T) (a : UnboundedCall T) (x : Slot × T) → IsAtBlocks s a → puts_blocks a.action ≡ Some x
       → puts_by Unbounded s ≡ Some x
@@ -479,9 +450,7 @@ module _ {T : Type 0} where
       start_none : (k : QueueAsk T) (x : Slot × T) → puts_blocks (begin k).action ≡ Some x → ⊥
       start_none (ask.Push v) x h = absurd cc
       start_none k x h = absurd cc
-  is_blocks (Single y) a x e g = absurd e
-  is_blocks (Ring y) a x e g = absurd e
-  is_blocks Finished a x e g = absurd e
+  is_blocks x a y e g = absurd e
 
   -- a message is in its slot, or a call under way is yet to put it there
   abbrev LiesOrIsHeld : QueueForm → List ℕ → Contents T → List (Seat T) → ℕ → T → Type 0

@@ -1,44 +1,22 @@
 -- Each step pays for what it brings or uses up, as those count it who wait for a message.
 use Rattle.std.proofs.Common.{◌≡◌, ℕ, ◌+◌, ◌≤◌, false, List, [], length, Option, None, Some, Ok, Err, ◌⊎◌, inl, inr, refl, sym, ap, subst, arith}
-use Rattle.concurrent_queue.specs.Queue.{Queue, Phase, trying, appended, taken, marked, is_displaced, AnswersPush, AnswersForce, AnswersPop, AnswersTo, ContinuesBy}
+use Rattle.channel_laws.proofs.Words.{Queue, Phase, trying, appended, taken, marked, is_displaced, AnswersPush, AnswersForce, AnswersPop, AnswersTo, ContinuesBy, QueueAsk, QueueMark, Nothing, QueueReply, Key, answered_next, Channel, Effect, queued, Moves, line_of, again, ChannelAsk, Loan, Reply, Aim, Sends, Receives, Streams, Closings, Stage, Trying, Working, Finished, Waiting, Work, TellReceive, TriesFor, IsFor, StageAt, MarkedMoment, HoldsListener, AnyTold, told_of, is_to_tell_receive, counts_for_receives, MessagesAreFew, IsSending, Waits}
 use Rattle.concurrent_queue.specs.Queue as queue
-use Rattle.concurrent_queue.specs.declared.call.QueueAsk.{QueueAsk}
 use Rattle.concurrent_queue.specs.declared.call.QueueAsk.TheVariants as ask
-use Rattle.concurrent_queue.specs.declared.call.QueueMark.{QueueMark}
-use Rattle.concurrent_queue.specs.declared.call.QueueMark.TheVariants.{Nothing}
-use Rattle.concurrent_queue.specs.declared.call.QueueReply.{QueueReply}
 use Rattle.concurrent_queue.specs.declared.call.QueueReply.TheVariants as answer
 use Rattle.concurrent_queue.specs.declared.error.PopError.TheVariants as pop_error
 use Rattle.concurrent_queue.specs.declared.error.PushError.TheVariants as push_error
 use Rattle.concurrent_queue.specs.declared.error.ForcePushError.TheVariants as force_error
-use Rattle.event_listener.specs.declared.key.Key.{Key}
-use Rattle.channel_calls.specs.Answered.{answered_next}
-use Rattle.channel_calls.specs.Moves.{Channel, Effect, queued, Turned, Moves}
-use Rattle.channel_calls.specs.Turns.{line_of, again}
-use Rattle.channel_calls.specs.declared.ask.ChannelAsk.{ChannelAsk}
 use Rattle.channel_calls.specs.declared.ask.ChannelAsk.TheVariants as channel
-use Rattle.channel_calls.specs.declared.ask.Loan.{Loan}
-use Rattle.channel_calls.specs.declared.reply.Reply.{Reply}
-use Rattle.channel_calls.specs.declared.stage.Aim.{Aim}
 use Rattle.channel_calls.specs.declared.stage.Aim.TheVariants as aim
-use Rattle.channel_calls.specs.declared.stage.Line.TheVariants.{Sends, Receives, Streams, Closings}
-use Rattle.channel_calls.specs.declared.stage.Stage.{Stage}
-use Rattle.channel_calls.specs.declared.stage.Stage.TheVariants.{Trying, Working, Finished}
-use Rattle.channel_calls.specs.declared.stage.Waiting.{Waiting}
 use Rattle.channel_calls.specs.declared.stage.Waiting.TheVariants as waiting
-use Rattle.channel_calls.specs.declared.stage.Work.{Work}
-use Rattle.channel_calls.specs.declared.stage.Work.TheVariants.{TellReceive, Register}
-use Rattle.channel_steps.specs.Known.{TriesFor, IsFor, WorkAt, StageAt}
-use Rattle.channel_steps.specs.Moments.{MarkedMoment}
-use Rattle.channel_laws.specs.Notices.{AnyTold, told_of}
-use Rattle.channel_laws.specs.Receives.{is_to_tell_receive, counts_for_receives, MessagesAreFew}
-use Rattle.channel_laws.specs.Waits.{Waits}
+use Rattle.channel_laws.proofs.AskFacts.{How, push_sends}
 use Rattle.channel_laws.proofs.ClosedMoves.{worked_spares}
 use Rattle.channel_laws.proofs.HandMoves.{HasCause}
 use Rattle.channel_laws.proofs.NumberMoves.{number, push_brings, force_brings, pop_takes, goes_no_more, answers_same_number, anew_at_most, weigh_turn, turned_weighs}
-use Rattle.channel_laws.proofs.Owed.{Pays, Ledger}
-use Rattle.channel_laws.proofs.StreamMoves.{How, push_sends}
-use Rattle.channel_laws.proofs.ToldMoves.{tells_now, AsksAnew, worked_counts}
+use Rattle.channel_laws.proofs.Owed.{Ledger}
+use Rattle.channel_laws.proofs.PayMoves.{OneByDefault, PaysOne, Counting, worked_pays, ledger_of}
+use Rattle.channel_laws.proofs.ToldMoves.{tells_now}
 use Rattle.channel_laws.proofs.TotalFacts.{left_over}
 
 module _ {T W : Type 0} where
@@ -57,45 +35,55 @@ module _ {T W : Type 0} where
     goes_pays : (x : ChannelAsk T W) (y : Aim T W) (a : QueueAsk T) (m : QueueMark) (s t : queue.Stage T) → TriesFor x y a ds seen
         → ContinuesBy q a m s t
         → number a s m q + counted x y a s ≤ length q.items + counted x y a t
-    goes_pays (channel.TrySend v) aim.TrySend (ask.Push w) m s t h g = push_brings q w m s t g
+    goes_pays (channel.TrySend v) aim.TrySend (ask.Push w) m s t h g = let n = push_brings q w m s t g in n.0
     goes_pays (channel.TrySend v) y a m s t h g = absurd h
-    goes_pays (channel.PollSend v k t') (aim.Poll Sends key task) (ask.Push w) m s t h g = push_brings q w m s t g
+    goes_pays (channel.PollSend v k t') (aim.Poll Sends key task) (ask.Push w) m s t h g = let n = push_brings q w m s t g in n.0
     goes_pays (channel.PollSend v k t') y a m s t h g = absurd h
-    goes_pays (channel.ForceSend v) aim.ForceSend (ask.ForcePush w) m s t h g = force_brings q w m s t g
+    goes_pays (channel.ForceSend v) aim.ForceSend (ask.ForcePush w) m s t h g = let n = force_brings q w m s t g in n.0
     goes_pays (channel.ForceSend v) y a m s t h g = absurd h
     goes_pays (channel.PollRecv k t') (aim.Poll Receives key task) ask.Pop m s t h g = popping k key t' task m s t g
     goes_pays (channel.PollRecv k t') y a m s t h g = absurd h
-    goes_pays x y a m s t h g = let n = goes_no_more q a m s t (λ p. push_sends x y a ds seen h p) g in omega (arith, n)
+    goes_pays x y a m s t h g = let n = goes_no_more q a m s t (λ p. push_sends x y ds seen a h p) g in omega (arith, n)
 
-    -- as it answers, or it found nothing
-    abbrev Answered : ChannelAsk T W → Aim T W → QueueAsk T → QueueMark → QueueReply T → queue.Stage T → Type 0
-    Answered x y a m r s =
-        (number a s m q + counted x y a s ≤ length q.items + weigh_turn counts_for_receives x (answered_next y r))
-        ⊎ ((marked a (is_displaced s) m q).items ≡ [])
+    -- ---- as it answers
 
-    pushed_try : (v w : T) (m : QueueMark) (r : QueueReply T) (s : queue.Stage T) → AnswersPush q w m r s
-        → Answered (channel.TrySend v) aim.TrySend (ask.Push w) m r s
-    pushed_try v w Nothing (answer.Push (Ok u)) (appended None) h = inl (omega arith)
-    pushed_try v w Nothing (answer.Push (Err (push_error.Full z))) (trying b) h = inl (omega arith)
-    pushed_try v w Nothing (answer.Push (Err (push_error.Closed z))) (trying b) h = inl (omega arith)
-    pushed_try v w Nothing (answer.Push (Err (push_error.NoMemory z))) (trying b) h = inl (omega arith)
+    -- a sending call counts for what it brought, until it tells
+    abbrev Keeps : ChannelAsk T W → Aim T W → QueueAsk T → QueueReply T → queue.Stage T → Type 0
+    Keeps x y a r s = counted x y a s ≤ weigh_turn counts_for_receives x (answered_next y r)
+
+    pushed_try : (v w : T) (m : QueueMark) (r : QueueReply T) (s : queue.Stage T) → AnswersPush q w m r s → Keeps (channel.TrySend v) aim.TrySend (ask.Push w) r s
+    pushed_try v w Nothing (answer.Push (Ok u)) (appended None) h = omega arith
+    pushed_try v w Nothing (answer.Push (Err (push_error.Full z))) (trying b) h = omega arith
+    pushed_try v w Nothing (answer.Push (Err (push_error.Closed z))) (trying b) h = omega arith
+    pushed_try v w Nothing (answer.Push (Err (push_error.NoMemory z))) (trying b) h = omega arith
     pushed_try v w m r s h = absurd h
 
-    pushed_poll : (v w : T) (k : Loan) (key : Option Key) (t' task : W) (m : QueueMark) (r : QueueReply T) (s : queue.Stage T)
-        → AnswersPush q w m r s
-        → Answered (channel.PollSend v k t') (aim.Poll Sends key task) (ask.Push w) m r s
-    pushed_poll v w k key t' task Nothing (answer.Push (Ok u)) (appended None) h = inl (omega arith)
-    pushed_poll v w k key t' task Nothing (answer.Push (Err (push_error.Full z))) (trying b) h = inl (omega arith)
-    pushed_poll v w k key t' task Nothing (answer.Push (Err (push_error.Closed z))) (trying b) h = inl (omega arith)
-    pushed_poll v w k key t' task Nothing (answer.Push (Err (push_error.NoMemory z))) (trying b) h = inl (omega arith)
+    pushed_poll : (v w : T) (k : Loan) (key : Option Key) (t' task : W) (m : QueueMark) (r : QueueReply T) (s : queue.Stage T) → AnswersPush q w m r s
+        → Keeps (channel.PollSend v k t') (aim.Poll Sends key task) (ask.Push w) r s
+    pushed_poll v w k key t' task Nothing (answer.Push (Ok u)) (appended None) h = omega arith
+    pushed_poll v w k key t' task Nothing (answer.Push (Err (push_error.Full z))) (trying b) h = omega arith
+    pushed_poll v w k key t' task Nothing (answer.Push (Err (push_error.Closed z))) (trying b) h = omega arith
+    pushed_poll v w k key t' task Nothing (answer.Push (Err (push_error.NoMemory z))) (trying b) h = omega arith
     pushed_poll v w k key t' task m r s h = absurd h
 
-    forced : (v w : T) (m : QueueMark) (r : QueueReply T) (s : queue.Stage T) → AnswersForce q w m r s
-        → Answered (channel.ForceSend v) aim.ForceSend (ask.ForcePush w) m r s
-    forced v w Nothing (answer.Force (Ok d)) (appended o) h = inl (omega arith)
-    forced v w Nothing (answer.Force (Err (force_error.Closed z))) (trying b) h = inl (omega arith)
-    forced v w Nothing (answer.Force (Err (force_error.NoMemory z))) (trying b) h = inl (omega arith)
+    forced : (v w : T) (m : QueueMark) (r : QueueReply T) (s : queue.Stage T) → AnswersForce q w m r s → Keeps (channel.ForceSend v) aim.ForceSend (ask.ForcePush w) r s
+    forced v w Nothing (answer.Force (Ok d)) (appended o) h = omega arith
+    forced v w Nothing (answer.Force (Err (force_error.Closed z))) (trying b) h = omega arith
+    forced v w Nothing (answer.Force (Err (force_error.NoMemory z))) (trying b) h = omega arith
     forced v w m r s h = absurd h
+
+    pub sending_keeps : (x : ChannelAsk T W) → IsSending x → (y : Aim T W) (a : QueueAsk T) (m : QueueMark) (r : QueueReply T) (s : queue.Stage T) → TriesFor x y a ds seen → AnswersTo q a m r s → Keeps x y a r s
+    sending_keeps (channel.TrySend v) sends aim.TrySend (ask.Push w) m r s h g = pushed_try v w m r s g
+    sending_keeps (channel.TrySend v) sends y a m r s h g = absurd h
+    sending_keeps (channel.PollSend v k t') sends (aim.Poll Sends key task) (ask.Push w) m r s h g = pushed_poll v w k key t' task m r s g
+    sending_keeps (channel.PollSend v k t') sends y a m r s h g = absurd h
+    sending_keeps (channel.ForceSend v) sends aim.ForceSend (ask.ForcePush w) m r s h g = forced v w m r s g
+    sending_keeps (channel.ForceSend v) sends y a m r s h g = absurd h
+    sending_keeps x sends y a m r s h g = absurd sends
+
+    -- or it found nothing
+    abbrev Answered : ChannelAsk T W → Aim T W → QueueAsk T → QueueMark → QueueReply T → queue.Stage T → Type 0
+    Answered x y a m r s = Keeps x y a r s ⊎ ((marked a (is_displaced s) m q).items ≡ [])
 
     popped : (k : Loan) (key : Option Key) (t' task : W) (m : QueueMark) (r : QueueReply T) (s : queue.Stage T) → AnswersPop q m r s
         → Answered (channel.PollRecv k t') (aim.Poll Receives key task) ask.Pop m r s
@@ -107,20 +95,17 @@ module _ {T W : Type 0} where
 
     answers_pay : (x : ChannelAsk T W) (y : Aim T W) (a : QueueAsk T) (m : QueueMark) (r : QueueReply T) (s : queue.Stage T)
         → TriesFor x y a ds seen → AnswersTo q a m r s → Answered x y a m r s
-    answers_pay (channel.TrySend v) aim.TrySend (ask.Push w) m r s h g = pushed_try v w m r s g
-    answers_pay (channel.TrySend v) y a m r s h g = absurd h
-    answers_pay (channel.PollSend v k t') (aim.Poll Sends key task) (ask.Push w) m r s h g = pushed_poll v w k key t' task m r s g
-    answers_pay (channel.PollSend v k t') y a m r s h g = absurd h
-    answers_pay (channel.ForceSend v) aim.ForceSend (ask.ForcePush w) m r s h g = forced v w m r s g
-    answers_pay (channel.ForceSend v) y a m r s h g = absurd h
+    answers_pay (channel.TrySend v) y a m r s h g = inl (sending_keeps (channel.TrySend v) tt y a m r s h g)
+    answers_pay (channel.PollSend v k t') y a m r s h g = inl (sending_keeps (channel.PollSend v k t') tt y a m r s h g)
+    answers_pay (channel.ForceSend v) y a m r s h g = inl (sending_keeps (channel.ForceSend v) tt y a m r s h g)
     answers_pay (channel.PollRecv k t') (aim.Poll Receives key task) ask.Pop m r s h g = popped k key t' task m r s g
     answers_pay (channel.PollRecv k t') y a m r s h g = absurd h
-    answers_pay x y a m r s h g = let n = answers_same_number q a m r s g in inl (omega (arith, n))
+    answers_pay x y a m r s h g = inl (omega arith)
 
   -- ---- a step of the queue's call
 
   abbrev Paid : Channel T W → ChannelAsk T W → Stage (Phase T) T W → Effect T W → Option (Reply T) → Stage (Phase T) T W → Type 0
-  Paid c x at e r s = Pays Receives tt MessagesAreFew counts_for_receives c x at e r s
+  Paid c x at e r s = PaysOne Receives tt MessagesAreFew counts_for_receives c x at e r s
 
   tried_pays : (c : Channel T W) (x : ChannelAsk T W) (f : Phase T) (y : Aim T W) (m : QueueMark) (ds : List (MarkedMoment T W))
       (seen : List (Channel T W)) (r : Option (Reply T)) (s : Stage (Phase T) T W)
@@ -137,7 +122,8 @@ module _ {T W : Type 0} where
       by_answer : Answered c.queue ds seen x y f.ask m reply f.stage
           → MessagesAreFew (let e : Effect T W = queued f m c in e.channel) (left_over counts_for_receives x r s + n)
       by_answer (inl k) =
-          let now = turned_weighs counts_for_receives x (answered_next y reply) r s turned in omega (arith, enough, k, now)
+          let same = answers_same_number c.queue f.ask m reply f.stage ans in
+          let now = turned_weighs counts_for_receives x (answered_next y reply) r s turned in omega (arith, enough, same, k, now)
       by_answer (inr k) =
           let none : length (marked f.ask (is_displaced f.stage) m c.queue).items ≡ 0 = ap length k in omega (arith, none)
 
@@ -153,63 +139,30 @@ module _ {T W : Type 0} where
   work_counts (channel.PollSend v k t) w = tells_at_most w
   work_counts x w = omega arith
 
-  asks_as : (x : ChannelAsk T W) (v : Waiting T) (task : W) (r : Option (Reply T)) (s : Stage (Phase T) T W) → IsFor x v
-      → Receives ≡ line_of v → Turned (again v None task) r s → left_over counts_for_receives x r s ≡ 1
-  asks_as (channel.PollRecv k t) waiting.Receive task r s h at turned =
-      turned_weighs counts_for_receives (channel.PollRecv k t) (again waiting.Receive None task) r s turned
-  asks_as x (waiting.Send v) task r s h at turned = absurd (let never : Receives ≡ Sends = at in cc)
-  asks_as x waiting.Stream task r s h at turned = absurd (let never : Receives ≡ Streams = at in cc)
-  asks_as x waiting.Closing task r s h at turned = absurd (let never : Receives ≡ Closings = at in cc)
-  asks_as x v task r s h at turned = absurd h
-
-  asks_anew : (x : ChannelAsk T W) (w : Work T W) (ds : List (MarkedMoment T W)) (seen : List (Channel T W)) (r : Option (Reply T))
-      (s : Stage (Phase T) T W) → WorkAt x w ds seen → AsksAnew Receives w r s
-      → (left_over counts_for_receives x r s ≡ 1) × (tells_now w Receives ≡ 0)
-  asks_anew x (Register v key task) ds seen r s h k = (asks_as x v task r s h.0 k.0 k.1, refl)
-  asks_anew x w ds seen r s h k = absurd k
-
-  module _ (c : Channel T W) (x : ChannelAsk T W) (w : Work T W) (ds : List (MarkedMoment T W)) (seen : List (Channel T W))
-      (e : Effect T W) (r : Option (Reply T)) (s : Stage (Phase T) T W) where
-    worked_pays : WorkAt x w ds seen → e.channel.queue ≡ c.queue
-        → (length (told_of Receives c) + tells_now w Receives ≤ length (told_of Receives e.channel))
-        ⊎ ((AsksAnew Receives w r s × (length (told_of Receives c) ≤ length (told_of Receives e.channel) + 1))
-        ⊎ AnyTold false (told_of Receives c))
-        → Paid c x (Working w) e r s ⊎ AnyTold false (told_of Receives c)
-    worked_pays h same (inl k) = inl pays
-      where
-        pays : Paid c x (Working w) e r s
-        pays n enough =
-            let items = ap (λ (q : Queue T). length q.items) same in
-            let counts = work_counts x w in
-            omega (arith, enough, items, counts, k)
-    worked_pays h same (inr (inl (anew, k))) = inl pays
-      where
-        pays : Paid c x (Working w) e r s
-        pays n enough =
-            let items = ap (λ (q : Queue T). length q.items) same in
-            let counts = work_counts x w in
-            let tries = asks_anew x w ds seen r s h anew in
-            let one = tries.0 in
-            let none = tries.1 in
-            omega (arith, enough, items, counts, k, one, none)
-    worked_pays h same (inr (inr d)) = inr d
-
-  receive_pays : (c : Channel T W) (x : ChannelAsk T W) (at : Stage (Phase T) T W) (ds : List (MarkedMoment T W))
-      (seen : List (Channel T W)) (e : Effect T W) (r : Option (Reply T)) (s : Stage (Phase T) T W) (key : Key)
-      → StageAt c x at ds seen → Moves c at e r s → Waits Receives key e.channel → Paid c x at e r s
-      ⊎ AnyTold false (told_of Receives c)
-  receive_pays c x (Trying f y) ds seen e r s key st g w =
-      inl (subst (λ (z : Effect T W). Paid c x (Trying f y) z r s) (sym g.effect)
-      (tried_pays c x f y g.mark ds seen r s st.0 g.how))
-  receive_pays c x (Working z) ds seen e r s key st g w =
-      let k = worked_spares c z e r s g in worked_pays c x z ds seen e r s st k.0 (worked_counts key r s Receives tt c z e g w)
-  receive_pays c x (Finished kept) ds seen e r s key st g w = absurd st
+  asks_one : (x : ChannelAsk T W) (v : Waiting T) (task : W) → IsFor x v → Receives ≡ line_of v → weigh_turn counts_for_receives x (again v None task) ≡ 1
+  asks_one (channel.PollRecv k t) waiting.Receive task h at = refl
+  asks_one x (waiting.Send v) task h at = absurd (let never : Receives ≡ Sends = at in cc)
+  asks_one x waiting.Stream task h at = absurd (let never : Receives ≡ Streams = at in cc)
+  asks_one x waiting.Closing task h at = absurd (let never : Receives ≡ Closings = at in cc)
+  asks_one x v task h at = absurd h
 
   few_caused : (c : Channel T W) (n : ℕ) → HasCause Receives c.queue → MessagesAreFew c n
   few_caused c n h = let none : length c.queue.items ≡ 0 = ap length h in omega (arith, none)
 
-  few_more : (c : Channel T W) (m n : ℕ) → m ≤ n → MessagesAreFew c m → MessagesAreFew c n
-  few_more c m n less h = omega (arith, less, h)
+  few_eased : (c d : Channel T W) (m n : ℕ) → d.queue ≡ c.queue → length (told_of Receives c) + m ≤ length (told_of Receives d) + n → MessagesAreFew c m → MessagesAreFew d n
+  few_eased c d m n same less h = let items = ap (λ (q : Queue T). length q.items) same in omega (arith, less, items, h)
 
-  pub receive_ledger : Ledger {T = T} {W = W} Receives tt MessagesAreFew counts_for_receives
-  receive_ledger = record { more = few_more; caused = few_caused; pays = receive_pays }
+  counting : Counting {T = T} {W = W} Receives tt MessagesAreFew counts_for_receives
+  counting = record { tells = work_counts; asks = asks_one; caused = few_caused; eased = few_eased }
+
+  receive_pays : (c : Channel T W) (x : ChannelAsk T W) (at : Stage (Phase T) T W) (ds : List (MarkedMoment T W))
+      (seen : List (Channel T W)) (e : Effect T W) (r : Option (Reply T)) (s : Stage (Phase T) T W) (key : Key)
+      → StageAt c x at ds seen → Moves c at e r s → Waits Receives key e.channel → Paid c x at e r s ⊎ AnyTold false (told_of Receives c)
+  receive_pays c x (Trying f y) ds seen e r s key st g w =
+      inl (subst (λ (z : Effect T W). Paid c x (Trying f y) z r s) (sym g.effect) (tried_pays c x f y g.mark ds seen r s st.0 g.how))
+  receive_pays c x (Working z) ds seen e r s key st g w =
+      let k = worked_spares c z e r s g in worked_pays Receives tt MessagesAreFew counts_for_receives counting c x z ds seen e r s key k.0 st g w
+  receive_pays c x (Finished kept) ds seen e r s key st g w = absurd st
+
+  pub receive_ledger : Ledger {T = T} {W = W} Receives MessagesAreFew counts_for_receives (HoldsListener Receives) (OneByDefault Receives tt MessagesAreFew counts_for_receives)
+  receive_ledger = ledger_of Receives tt MessagesAreFew counts_for_receives counting receive_pays

@@ -1,14 +1,10 @@
 -- Waiting receives over runs.
 use Rattle.std.proofs.Common.{ℕ, List, Option}
-use Rattle.channel_calls.specs.declared.stage.Line.TheVariants.{Receives}
-use Rattle.channel_steps.specs.Run.{Next, new_scene}
-use Rattle.channel_steps.specs.Scene.{Scene}
-use Rattle.channel_steps.specs.declared.party.Entry.{Entry}
-use Rattle.channel_steps.specs.declared.run.Step.{Step}
-use Rattle.channel_laws.specs.Receives.{counts_for_receives, MessagesAreFew, ReceivesSound, ReceivesStayOwed, NoReceiveIsForgotten}
+use Rattle.channel_laws.proofs.Words.{Receives, Next, new_scene, Scene, Entry, Step, HoldsListener, counts_for_receives, MessagesAreFew, ReceivesSound, ReceivesStayOwed, NoReceiveIsForgotten}
 use Rattle.channel_laws.proofs.Notices.{tellings_next, tellings_new}
 use Rattle.channel_laws.proofs.RunFacts.{kept_long}
-use Rattle.channel_laws.proofs.Owed.{owed_next, pending_owed}
+use Rattle.channel_laws.proofs.Owed.{pending_owed}
+use Rattle.channel_laws.proofs.PayMoves.{OneByDefault, one_next}
 use Rattle.channel_laws.proofs.ReceiveMoves.{receive_ledger}
 
 module _ {T W : Type 0} where
@@ -17,7 +13,7 @@ module _ {T W : Type 0} where
   receives_next s x e names t n sound =
       record {
         tellings = tellings_next s x e names t n sound.tellings;
-        owed = owed_next Receives tt MessagesAreFew counts_for_receives receive_ledger s x e names t n sound.tellings sound.owed;
+        owed = one_next Receives tt MessagesAreFew counts_for_receives receive_ledger s x e names t n sound.tellings sound.owed;
       }
 
   pub receives_new : (cap : Option ℕ) → ReceivesSound (new_scene {T = T} {W = W} cap)
@@ -30,4 +26,4 @@ module _ (T W : Type 0) where
   pub no_receive_is_forgotten : NoReceiveIsForgotten T W
   no_receive_is_forgotten cap t steps trace run =
       let h = receives_stay_owed (new_scene cap) t steps trace (receives_new cap) run in
-      (h.owed, pending_owed Receives tt MessagesAreFew counts_for_receives t h.owed)
+      (h.owed, pending_owed Receives MessagesAreFew counts_for_receives (HoldsListener Receives) (OneByDefault Receives tt MessagesAreFew counts_for_receives) t h.owed)

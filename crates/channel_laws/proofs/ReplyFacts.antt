@@ -1,29 +1,12 @@
 -- What a reply that says the end, and one that gives a message, say of their call.
 use Rattle.std.proofs.Common.{◌≡◌, List, [], ◌∷◌, ◌++◌, length, Option, None, Some, Ok, Err, ◌⊎◌, inl, inr, sym, subst}
-use Rattle.concurrent_queue.specs.Queue.{is_filled}
+use Rattle.channel_laws.proofs.Words.{is_filled, Ready, Channel, count, ChannelAsk, Mark, Append, Take, Replace, SenderUp, SenderDown, ReceiverUp, ReceiverDown, Reply, Kept, Line, Sends, Receives, Streams, Closings, MarkedMoment, with_marked, Spent, Once, Took, TookAll, Replaced, Displaced, Row, Under, MayFinish, refused_reply, TrySend, ForceSend, TryRecv, RecvMany, PollSend, PollRecv, PollClosed, PollNext, RefusePoll, CloneHandle, Upgrade, HandleCount, IsClosed, IsEmpty, IsFull, Len, Capacity, IsTerminated, RecvError, TrySendRow, ForceSendRow, TryRecvRow, SeveralRow, SendPollRow, RecvPollRow, ClosedPollRow, NextRow, CloseRow, CloneRow, UpgradeRow, FlagRow, CountRow, CapacityRow, TerminatedRow, is_empty, StillDeeds, IsStill, SaysTheEnd, GivesMessage, Replies}
 use Rattle.event_listener.specs.declared.error.ListenError.TheVariants as listen_error
-use Rattle.futures.specs.declared.task.Poll.TheVariants.{Ready}
-use Rattle.channel_calls.specs.Moves.{Channel}
-use Rattle.channel_calls.specs.Parts.{count}
-use Rattle.channel_calls.specs.Turns.{refused_reply}
-use Rattle.channel_calls.specs.declared.ask.ChannelAsk.{ChannelAsk}
-use Rattle.channel_calls.specs.declared.ask.ChannelAsk.TheVariants.{TrySend, ForceSend, TryRecv, RecvMany, Close, PollSend, PollFinishedSend, PollRecv, PollClosed, PollNext, RefusePoll, GiveUp, DropSender, DropReceiver, CloneHandle, Upgrade, HandleCount, IsClosed, IsEmpty, IsFull, Len, Capacity, IsTerminated, SendIsTerminated, SameChannel, Make, DropWeak}
+use Rattle.channel_calls.specs.declared.ask.ChannelAsk.TheVariants.{Close}
 use Rattle.channel_calls.specs.declared.error.Refused.TheVariants as refused
 use Rattle.channel_calls.specs.declared.error.TryRecvError.TheVariants as try_recv_error
-use Rattle.channel_calls.specs.declared.error.RecvError.{RecvError}
-use Rattle.channel_calls.specs.declared.mark.Mark.{Mark}
-use Rattle.channel_calls.specs.declared.mark.Mark.TheVariants.{Nothing, Append, Take, Replace, SenderUp, SenderDown, ReceiverUp, ReceiverDown}
-use Rattle.channel_calls.specs.declared.reply.Reply.{Reply}
+use Rattle.channel_calls.specs.declared.mark.Mark.TheVariants.{Nothing}
 use Rattle.channel_calls.specs.declared.reply.Reply.TheVariants as reply
-use Rattle.channel_calls.specs.declared.stage.Kept.{Kept}
-use Rattle.channel_calls.specs.declared.stage.Line.{Line}
-use Rattle.channel_calls.specs.declared.stage.Line.TheVariants.{Sends, Receives, Streams, Closings}
-use Rattle.channel_steps.specs.Moments.{MarkedMoment, with_marked, Spent, Once, Took, TookAll, Replaced, Displaced}
-use Rattle.channel_steps.specs.Answers.{TrySendRow, ForceSendRow, TryRecvRow, SeveralRow, SendPollRow, RecvPollRow, ClosedPollRow, NextRow, CloseRow, CloneRow, UpgradeRow, FlagRow, CountRow, CapacityRow, TerminatedRow, Row}
-use Rattle.channel_steps.specs.Moments.{is_empty}
-use Rattle.channel_steps.specs.Scene.{Under, MayFinish}
-use Rattle.channel_laws.specs.Over.{StillDeeds}
-use Rattle.channel_laws.specs.Ends.{IsStill, SaysTheEnd, GivesMessage, Replies}
 
 moved : (m n : Mark) → m ≡ n → IsStill m → IsStill n
 moved m n e h = subst (λ (x : Mark). IsStill x) e h
@@ -117,14 +100,10 @@ module _ {T W : Type 0} where
     row_gives (RecvMany n) r g = given (Moved (SeveralRow n ds seen)) (λ v h k. h) (λ v h k. h) (λ v h k. h) (λ v h k. h) (λ v vs h k. several_moves ds v vs h.0 k) r g
     row_gives Close r g = given (Moved (CloseRow ds seen)) (λ v h k. h) (λ v h k. h) (λ v h k. h) (λ v h k. h) (λ v vs h k. h) r g
     row_gives (PollSend m key task) r g = given (Moved (SendPollRow m key ds seen)) (λ v h k. h) (λ v h k. h) (λ v h k. h) (λ v h k. h) (λ v vs h k. h) r g
-    row_gives PollFinishedSend r g = λ h k. only _ r GivesMessage (λ x. x) g h.1
     row_gives (PollRecv key task) r g = given (Moved (RecvPollRow key ds seen)) (λ v h k. h) (λ v h k. took_moves ds v h k) (λ v h k. h) (λ v h k. h) (λ v vs h k. h) r g
     row_gives (PollClosed key task) r g = given (Moved (ClosedPollRow ds seen)) (λ v h k. h) (λ v h k. h) (λ v h k. h) (λ v h k. h) (λ v vs h k. h) r g
     row_gives (PollNext key task) r g = given (Moved (NextRow ds seen)) (λ v h k. h) (λ v h k. h) (λ v h k. took_moves ds v h k) (λ v h k. h) (λ v vs h k. h) r g
     row_gives (RefusePoll line message key) r g = λ h k. only _ r GivesMessage (no_refusal_gives line) g h.1
-    row_gives (GiveUp line message key) r g = λ h k. only _ r GivesMessage (λ x. x) g h.1
-    row_gives DropSender r g = λ h k. only _ r GivesMessage (λ x. x) g h.1
-    row_gives (DropReceiver key) r g = λ h k. only _ r GivesMessage (λ x. x) g h.1
     row_gives (CloneHandle side) r g = given (Moved (CloneRow side ds seen)) (λ v h k. h) (λ v h k. h) (λ v h k. h) (λ v h k. h) (λ v vs h k. h) r g
     row_gives (Upgrade side) r g = given (Moved (UpgradeRow side ds seen)) (λ v h k. h) (λ v h k. h) (λ v h k. h) (λ v h k. h) (λ v vs h k. h) r g
     row_gives (HandleCount side) r g = given (Moved (CountRow (λ c. count side c.roster) ds seen)) (λ v h k. h) (λ v h k. h) (λ v h k. h) (λ v h k. h) (λ v vs h k. h) r g
@@ -134,10 +113,7 @@ module _ {T W : Type 0} where
     row_gives Len r g = given (Moved (CountRow (λ c. length c.queue.items) ds seen)) (λ v h k. h) (λ v h k. h) (λ v h k. h) (λ v h k. h) (λ v vs h k. h) r g
     row_gives Capacity r g = given (Moved (CapacityRow ds seen)) (λ v h k. h) (λ v h k. h) (λ v h k. h) (λ v h k. h) (λ v vs h k. h) r g
     row_gives IsTerminated r g = given (Moved (TerminatedRow ds seen)) (λ v h k. h) (λ v h k. h) (λ v h k. h) (λ v h k. h) (λ v vs h k. h) r g
-    row_gives (SendIsTerminated b) r g = λ h k. only _ r GivesMessage (λ x. x) g h.1
-    row_gives (SameChannel b) r g = λ h k. only _ r GivesMessage (λ x. x) g h.1
-    row_gives Make r g = λ h k. only _ r GivesMessage (λ x. x) g h.1
-    row_gives DropWeak r g = λ h k. only _ r GivesMessage (λ x. x) g h.1
+    row_gives w r g = λ h k. only _ r GivesMessage (λ x. x) g h.1
 
     -- one that says the end needs a moment at which the channel was over
     abbrev Over : (Reply T → Type 0) → Reply T → Type 0
@@ -153,14 +129,10 @@ module _ {T W : Type 0} where
     row_ends (RecvMany n) r g = ended (Over (SeveralRow n ds seen)) (λ h. absurd h) (λ e h. absurd h) (λ h. absurd h) (λ h. h.2) r g
     row_ends Close r g = ended (Over (CloseRow ds seen)) (λ h. absurd h) (λ e h. absurd h) (λ h. absurd h) (λ h. absurd h) r g
     row_ends (PollSend m key task) r g = ended (Over (SendPollRow m key ds seen)) (λ h. absurd h) (λ e h. absurd h) (λ h. absurd h) (λ h. absurd h) r g
-    row_ends PollFinishedSend r g = λ h. absurd (only _ r SaysTheEnd (λ x. x) g h.1)
     row_ends (PollRecv key task) r g = ended (Over (RecvPollRow key ds seen)) (λ h. absurd h) (λ e h. h.1) (λ h. absurd h) (λ h. absurd h) r g
     row_ends (PollClosed key task) r g = ended (Over (ClosedPollRow ds seen)) (λ h. absurd h) (λ e h. absurd h) (λ h. absurd h) (λ h. absurd h) r g
     row_ends (PollNext key task) r g = ended (Over (NextRow ds seen)) (λ h. absurd h) (λ e h. absurd h) (λ h. h.1) (λ h. absurd h) r g
     row_ends (RefusePoll line message key) r g = λ h. absurd (only _ r SaysTheEnd (no_refusal_ends line) g h.1)
-    row_ends (GiveUp line message key) r g = λ h. absurd (only _ r SaysTheEnd (λ x. x) g h.1)
-    row_ends DropSender r g = λ h. absurd (only _ r SaysTheEnd (λ x. x) g h.1)
-    row_ends (DropReceiver key) r g = λ h. absurd (only _ r SaysTheEnd (λ x. x) g h.1)
     row_ends (CloneHandle side) r g = ended (Over (CloneRow side ds seen)) (λ h. absurd h) (λ e h. absurd h) (λ h. absurd h) (λ h. absurd h) r g
     row_ends (Upgrade side) r g = ended (Over (UpgradeRow side ds seen)) (λ h. absurd h) (λ e h. absurd h) (λ h. absurd h) (λ h. absurd h) r g
     row_ends (HandleCount side) r g = ended (Over (CountRow (λ c. count side c.roster) ds seen)) (λ h. absurd h) (λ e h. absurd h) (λ h. absurd h) (λ h. absurd h) r g
@@ -170,10 +142,7 @@ module _ {T W : Type 0} where
     row_ends Len r g = ended (Over (CountRow (λ c. length c.queue.items) ds seen)) (λ h. absurd h) (λ e h. absurd h) (λ h. absurd h) (λ h. absurd h) r g
     row_ends Capacity r g = ended (Over (CapacityRow ds seen)) (λ h. absurd h) (λ e h. absurd h) (λ h. absurd h) (λ h. absurd h) r g
     row_ends IsTerminated r g = ended (Over (TerminatedRow ds seen)) (λ h. absurd h) (λ e h. absurd h) (λ h. absurd h) (λ h. absurd h) r g
-    row_ends (SendIsTerminated b) r g = λ h. absurd (only _ r SaysTheEnd (λ x. x) g h.1)
-    row_ends (SameChannel b) r g = λ h. absurd (only _ r SaysTheEnd (λ x. x) g h.1)
-    row_ends Make r g = λ h. absurd (only _ r SaysTheEnd (λ x. x) g h.1)
-    row_ends DropWeak r g = λ h. absurd (only _ r SaysTheEnd (λ x. x) g h.1)
+    row_ends w r g = λ h. absurd (only _ r SaysTheEnd (λ x. x) g h.1)
 
   once_behind : (P : Channel T W → Type 0) (newer older : List (Channel T W)) → Once P older → Once P (newer ++ older)
   once_behind P [] older h = h

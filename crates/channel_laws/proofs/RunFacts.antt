@@ -1,9 +1,6 @@
 -- What every entry of a run keeps, a run keeps.
 use Rattle.std.proofs.Common.{List}
-use Rattle.channel_steps.specs.Run.{Next, IsRun, NextScene}
-use Rattle.channel_steps.specs.Scene.{Scene}
-use Rattle.channel_steps.specs.declared.party.Entry.{Entry}
-use Rattle.channel_steps.specs.declared.run.Step.{Step}
+use Rattle.channel_laws.proofs.Words.{Next, IsRun, NextScene, Scene, Entry, Step}
 use Rattle.channel_steps.proofs.Interface.{run_keeps}
 
 module _ {T W : Type 0} (P : Scene T W → Type 0)

@@ -1,50 +1,25 @@
 -- Each step pays for what it takes or uses up, as those count it who wait for a free place.
 use Rattle.std.proofs.lemmas.List.{length-append}
-use Rattle.channel_calls.specs.Several.{Gathered, with_last}
-use Rattle.channel_calls.specs.declared.error.TryRecvError.{TryRecvError}
+use Rattle.channel_laws.proofs.Words.{Gathered, with_last, TryRecvError, Queue, Phase, IsShut, trying, appended, taken, is_displaced, is_full_at, is_filled, AnswersPush, AnswersForce, AnswersPop, AnswersTo, ContinuesBy, QueueAsk, QueueMark, Nothing, QueueReply, Key, answered_next, gathered_next, short_next, Channel, Effect, queued, Moves, line_of, again, ChannelAsk, Loan, Reply, Aim, Sends, Receives, Streams, Closings, Stage, Trying, Working, Finished, Waiting, Work, TellSend, TellSends, TriesFor, IsFor, StageAt, MarkedMoment, Shut, HoldsListener, AnyTold, told_of, is_to_tell_send, counts_for_sends, HasPlaces, PlacesAreFew, Waits}
 use Rattle.channel_calls.specs.declared.error.TryRecvError.TheVariants as try_recv_error
 use Rattle.std.proofs.Common.{◌≡◌, ℕ, zero, suc, ◌+◌, ◌≤◌, true, false, List, [], ◌∷◌, ◌++◌, length, Option, None, Some, Ok, Err, ◌⊎◌, inl, inr, refl, sym, ap, subst, arith}
 use Rattle.std.proofs.lemmas.Bool.Decides.{nat_tests}
-use Rattle.concurrent_queue.specs.Queue.{Queue, Phase, IsShut, trying, appended, taken, is_displaced, is_full_at, is_filled, AnswersPush, AnswersForce, AnswersPop, AnswersTo, ContinuesBy}
 use Rattle.concurrent_queue.specs.Queue as queue
-use Rattle.concurrent_queue.specs.declared.call.QueueAsk.{QueueAsk}
 use Rattle.concurrent_queue.specs.declared.call.QueueAsk.TheVariants as ask
-use Rattle.concurrent_queue.specs.declared.call.QueueMark.{QueueMark}
-use Rattle.concurrent_queue.specs.declared.call.QueueMark.TheVariants.{Nothing}
-use Rattle.concurrent_queue.specs.declared.call.QueueReply.{QueueReply}
 use Rattle.concurrent_queue.specs.declared.call.QueueReply.TheVariants as answer
 use Rattle.concurrent_queue.specs.declared.error.PopError.TheVariants as pop_error
 use Rattle.concurrent_queue.specs.declared.error.PushError.TheVariants as push_error
 use Rattle.concurrent_queue.specs.declared.error.ForcePushError.TheVariants as force_error
-use Rattle.event_listener.specs.declared.key.Key.{Key}
-use Rattle.channel_calls.specs.Answered.{answered_next, gathered_next, short_next}
-use Rattle.channel_calls.specs.Moves.{Channel, Effect, queued, Turned, Moves}
-use Rattle.channel_calls.specs.Turns.{line_of, again}
-use Rattle.channel_calls.specs.declared.ask.ChannelAsk.{ChannelAsk}
 use Rattle.channel_calls.specs.declared.ask.ChannelAsk.TheVariants as channel
-use Rattle.channel_calls.specs.declared.ask.Loan.{Loan}
-use Rattle.channel_calls.specs.declared.reply.Reply.{Reply}
-use Rattle.channel_calls.specs.declared.stage.Aim.{Aim}
 use Rattle.channel_calls.specs.declared.stage.Aim.TheVariants as aim
-use Rattle.channel_calls.specs.declared.stage.Closer.TheVariants as closer
-use Rattle.channel_calls.specs.declared.stage.Line.TheVariants.{Sends, Receives, Streams, Closings}
-use Rattle.channel_calls.specs.declared.stage.Stage.{Stage}
-use Rattle.channel_calls.specs.declared.stage.Stage.TheVariants.{Trying, Working, Finished}
-use Rattle.channel_calls.specs.declared.stage.Waiting.{Waiting}
 use Rattle.channel_calls.specs.declared.stage.Waiting.TheVariants as waiting
-use Rattle.channel_calls.specs.declared.stage.Work.{Work}
-use Rattle.channel_calls.specs.declared.stage.Work.TheVariants.{TellSend, TellSends, Register}
-use Rattle.channel_steps.specs.Known.{TriesFor, IsFor, WorkAt, StageAt}
-use Rattle.channel_steps.specs.Moments.{MarkedMoment, Shut}
-use Rattle.channel_laws.specs.Notices.{AnyTold, told_of}
-use Rattle.channel_laws.specs.Sends.{is_to_tell_send, counts_for_sends, HasPlaces, PlacesAreFew}
-use Rattle.channel_laws.specs.Waits.{Waits}
+use Rattle.channel_laws.proofs.AskFacts.{How, takes_as}
 use Rattle.channel_laws.proofs.Closed.{shut_does}
 use Rattle.channel_laws.proofs.ClosedMoves.{worked_spares}
-use Rattle.channel_laws.proofs.NumberMoves.{number, push_fills, force_fills, pop_frees, MayTake, goes_no_fewer, answers_same_number, capacity_same, anew_at_most, weigh_turn, turned_weighs}
-use Rattle.channel_laws.proofs.Owed.{Pays, Ledger}
-use Rattle.channel_laws.proofs.StreamMoves.{How}
-use Rattle.channel_laws.proofs.ToldMoves.{tells_now, AsksAnew, worked_counts}
+use Rattle.channel_laws.proofs.NumberMoves.{number, push_fills, force_fills, pop_frees, goes_no_fewer, answers_same_number, capacity_same, anew_at_most, weigh_turn, turned_weighs}
+use Rattle.channel_laws.proofs.Owed.{Ledger}
+use Rattle.channel_laws.proofs.PayMoves.{OneByDefault, PaysOne, Counting, worked_pays, ledger_of}
+use Rattle.channel_laws.proofs.ToldMoves.{tells_now}
 use Rattle.channel_laws.proofs.TotalFacts.{left_over}
 
 has_more : (cap : Option ℕ) (m n : ℕ) → m ≤ n → HasPlaces cap m → HasPlaces cap n
@@ -61,39 +36,6 @@ module _ {T : Type 0} where
   filled_as (Some cap) items n e = let same : length items ≡ cap = grind (arith, nat_tests, e) in omega (arith, same)
 
 module _ {T W : Type 0} where
-  -- ---- who may take a message
-
-  abbrev Takes : ChannelAsk T W → Type 0
-  Takes channel.TryRecv = Unit {0}
-  Takes (channel.RecvMany n) = Unit {0}
-  Takes (channel.PollRecv k t) = Unit {0}
-  Takes (channel.PollNext k t) = Unit {0}
-  Takes (channel.ForceSend m) = Unit {0}
-  Takes x = ⊥
-
-  takes_as : (x : ChannelAsk T W) (y : Aim T W) (a : QueueAsk T) (ds : List (MarkedMoment T W)) (seen : List (Channel T W))
-      → TriesFor x y a ds seen → MayTake a → Takes x
-  takes_as channel.TryRecv y a ds seen h p = tt
-  takes_as (channel.RecvMany n) y a ds seen h p = tt
-  takes_as (channel.PollRecv k t) y a ds seen h p = tt
-  takes_as (channel.PollNext k t) y a ds seen h p = tt
-  takes_as (channel.ForceSend m) y a ds seen h p = tt
-  takes_as (channel.TrySend m) aim.TrySend (ask.Push v) ds seen h p = absurd p
-  takes_as channel.Close (aim.Close closer.Call) ask.Close ds seen h p = absurd p
-  takes_as (channel.PollSend m k t) (aim.Poll Sends key task) (ask.Push v) ds seen h p = absurd p
-  takes_as (channel.PollClosed k t) (aim.Poll Closings key task) ask.IsClosed ds seen h p = absurd p
-  takes_as channel.DropSender (aim.Close closer.Sender) ask.Close ds seen h p = absurd p
-  takes_as (channel.DropReceiver k) (aim.Close (closer.Receiver key)) ask.Close ds seen h p = absurd p
-  takes_as (channel.Upgrade side) (aim.Upgrade other) ask.IsClosed ds seen h p = absurd p
-  takes_as channel.IsClosed aim.Ask ask.IsClosed ds seen h p = absurd p
-  takes_as channel.IsEmpty aim.Ask ask.IsEmpty ds seen h p = absurd p
-  takes_as channel.IsFull aim.Ask ask.IsFull ds seen h p = absurd p
-  takes_as channel.Len aim.Ask ask.Len ds seen h p = absurd p
-  takes_as channel.Capacity aim.Ask ask.Capacity ds seen h p = absurd p
-  takes_as channel.IsTerminated aim.IsTerminated ask.IsClosed ds seen h p = absurd p
-  takes_as channel.IsTerminated aim.Ask ask.IsEmpty ds seen h p = absurd p
-  takes_as x y a ds seen h p = absurd h
-
   -- what a call of this queue's call counts for
   abbrev counted : ChannelAsk T W → Aim T W → QueueAsk T → queue.Stage T → ℕ
   counted x y a s = counts_for_sends x (Trying (record { ask = a; stage = s }) y)
@@ -121,7 +63,7 @@ module _ {T W : Type 0} where
     goes_pays (channel.ForceSend v) y a m s t h g = absurd h
     goes_pays (channel.PollSend v k t') (aim.Poll Sends key task) (ask.Push w) m s t h g = pushing v w k key t' task m s t g
     goes_pays (channel.PollSend v k t') y a m s t h g = absurd h
-    goes_pays x y a m s t h g = let n = goes_no_fewer q a m s t (λ p. takes_as x y a ds seen h p) g in omega (arith, n)
+    goes_pays x y a m s t h g = let n = goes_no_fewer q a m s t (λ p. takes_as x y ds seen a h p) g in omega (arith, n)
 
     -- as it answers, or by such a refusal
     abbrev Answered : ChannelAsk T W → Aim T W → QueueAsk T → QueueMark → QueueReply T → queue.Stage T → Type 0
@@ -203,7 +145,7 @@ module _ {T W : Type 0} where
   -- ---- a step of the queue's call
 
   abbrev Paid : Channel T W → ChannelAsk T W → Stage (Phase T) T W → Effect T W → Option (Reply T) → Stage (Phase T) T W → Type 0
-  Paid c x at e r s = Pays Sends tt PlacesAreFew counts_for_sends c x at e r s
+  Paid c x at e r s = PaysOne Sends tt PlacesAreFew counts_for_sends c x at e r s
 
   -- where the queue has places enough with this many, it has so with that many after the step
   places_on : (c d : Channel T W) (n k : ℕ) → (Shut c → Shut d) → d.queue.capacity ≡ c.queue.capacity
@@ -271,66 +213,31 @@ module _ {T W : Type 0} where
   work_counts (channel.PollNext k t) w = tells_at_most w
   work_counts x w = omega arith
 
-  asks_as : (x : ChannelAsk T W) (v : Waiting T) (task : W) (r : Option (Reply T)) (s : Stage (Phase T) T W) → IsFor x v
-      → Sends ≡ line_of v → Turned (again v None task) r s → left_over counts_for_sends x r s ≡ 1
-  asks_as (channel.PollSend m k t) (waiting.Send v) task r s h at turned =
-      turned_weighs counts_for_sends (channel.PollSend m k t) (again (waiting.Send v) None task) r s turned
-  asks_as x waiting.Receive task r s h at turned = absurd (let never : Sends ≡ Receives = at in cc)
-  asks_as x waiting.Stream task r s h at turned = absurd (let never : Sends ≡ Streams = at in cc)
-  asks_as x waiting.Closing task r s h at turned = absurd (let never : Sends ≡ Closings = at in cc)
-  asks_as x v task r s h at turned = absurd h
+  asks_one : (x : ChannelAsk T W) (v : Waiting T) (task : W) → IsFor x v → Sends ≡ line_of v → weigh_turn counts_for_sends x (again v None task) ≡ 1
+  asks_one (channel.PollSend m k t) (waiting.Send v) task h at = refl
+  asks_one x waiting.Receive task h at = absurd (let never : Sends ≡ Receives = at in cc)
+  asks_one x waiting.Stream task h at = absurd (let never : Sends ≡ Streams = at in cc)
+  asks_one x waiting.Closing task h at = absurd (let never : Sends ≡ Closings = at in cc)
+  asks_one x v task h at = absurd h
 
-  asks_anew : (x : ChannelAsk T W) (w : Work T W) (ds : List (MarkedMoment T W)) (seen : List (Channel T W)) (r : Option (Reply T))
-      (s : Stage (Phase T) T W) → WorkAt x w ds seen → AsksAnew Sends w r s
-      → (left_over counts_for_sends x r s ≡ 1) × (tells_now w Sends ≡ 0)
-  asks_anew x (Register v key task) ds seen r s h k = (asks_as x v task r s h.0 k.0 k.1, refl)
-  asks_anew x w ds seen r s h k = absurd k
+  places_eased : (c d : Channel T W) (m n : ℕ) → d.queue ≡ c.queue → length (told_of Sends c) + m ≤ length (told_of Sends d) + n → PlacesAreFew c m → PlacesAreFew d n
+  places_eased c d m n same less h =
+      let items = ap (λ (q : Queue T). length q.items) same in
+      places_on c d m n (λ shut. subst (λ (q : Queue T). IsShut q) (sym same) shut) (ap (λ (q : Queue T). q.capacity) same) (omega (arith, less, items)) h
 
-  module _ (c : Channel T W) (x : ChannelAsk T W) (w : Work T W) (ds : List (MarkedMoment T W)) (seen : List (Channel T W))
-      (e : Effect T W) (r : Option (Reply T)) (s : Stage (Phase T) T W) (shut : Shut c → Shut e.channel) where
-    worked_pays : WorkAt x w ds seen → e.channel.queue ≡ c.queue
-        → (length (told_of Sends c) + tells_now w Sends ≤ length (told_of Sends e.channel))
-        ⊎ ((AsksAnew Sends w r s × (length (told_of Sends c) ≤ length (told_of Sends e.channel) + 1))
-        ⊎ AnyTold false (told_of Sends c))
-        → Paid c x (Working w) e r s ⊎ AnyTold false (told_of Sends c)
-    worked_pays h same (inl k) = inl pays
-      where
-        pays : Paid c x (Working w) e r s
-        pays n enough =
-            let items = ap (λ (q : Queue T). length q.items) same in
-            let counts = work_counts x w in
-            places_on c e.channel (counts_for_sends x (Working w) + n) (left_over counts_for_sends x r s + n) shut
-            (ap (λ (q : Queue T). q.capacity) same) (omega (arith, items, counts, k)) enough
-    worked_pays h same (inr (inl (anew, k))) = inl pays
-      where
-        pays : Paid c x (Working w) e r s
-        pays n enough =
-            let items = ap (λ (q : Queue T). length q.items) same in
-            let counts = work_counts x w in
-            let tries = asks_anew x w ds seen r s h anew in
-            let one = tries.0 in
-            let none = tries.1 in
-            places_on c e.channel (counts_for_sends x (Working w) + n) (left_over counts_for_sends x r s + n) shut
-            (ap (λ (q : Queue T). q.capacity) same) (omega (arith, items, counts, k, one, none)) enough
-    worked_pays h same (inr (inr d)) = inr d
+  counting : Counting {T = T} {W = W} Sends tt PlacesAreFew counts_for_sends
+  counting = record { tells = work_counts; asks = asks_one; caused = full_places; eased = places_eased }
 
   send_pays : (c : Channel T W) (x : ChannelAsk T W) (at : Stage (Phase T) T W) (ds : List (MarkedMoment T W))
       (seen : List (Channel T W)) (e : Effect T W) (r : Option (Reply T)) (s : Stage (Phase T) T W) (key : Key)
-      → StageAt c x at ds seen → Moves c at e r s → Waits Sends key e.channel → Paid c x at e r s
-      ⊎ AnyTold false (told_of Sends c)
+      → StageAt c x at ds seen → Moves c at e r s → Waits Sends key e.channel → Paid c x at e r s ⊎ AnyTold false (told_of Sends c)
   send_pays c x (Trying f y) ds seen e r s key st g w =
       let shut : Shut c → Shut (let z : Effect T W = queued f g.mark c in z.channel) =
       (λ h. subst (λ (z : Effect T W). Shut z.channel) g.effect (let k = shut_does c (Trying f y) e r s h g in k.0.0)) in
-      inl (subst (λ (z : Effect T W). Paid c x (Trying f y) z r s) (sym g.effect)
-      (tried_pays c x f y g.mark ds seen r s shut st.0 g.how))
+      inl (subst (λ (z : Effect T W). Paid c x (Trying f y) z r s) (sym g.effect) (tried_pays c x f y g.mark ds seen r s shut st.0 g.how))
   send_pays c x (Working z) ds seen e r s key st g w =
-      let k = worked_spares c z e r s g in
-      worked_pays c x z ds seen e r s (λ h. (let d = shut_does c (Working z) e r s h g in d.0.0)) st k.0
-      (worked_counts key r s Sends tt c z e g w)
+      let k = worked_spares c z e r s g in worked_pays Sends tt PlacesAreFew counts_for_sends counting c x z ds seen e r s key k.0 st g w
   send_pays c x (Finished kept) ds seen e r s key st g w = absurd st
 
-  places_more : (c : Channel T W) (m n : ℕ) → m ≤ n → PlacesAreFew c m → PlacesAreFew c n
-  places_more c m n less h = places_on c c m n (λ h. h) refl (omega (arith, less)) h
-
-  pub send_ledger : Ledger {T = T} {W = W} Sends tt PlacesAreFew counts_for_sends
-  send_ledger = record { more = places_more; caused = full_places; pays = send_pays }
+  pub send_ledger : Ledger {T = T} {W = W} Sends PlacesAreFew counts_for_sends (HoldsListener Sends) (OneByDefault Sends tt PlacesAreFew counts_for_sends)
+  send_ledger = ledger_of Sends tt PlacesAreFew counts_for_sends counting send_pays

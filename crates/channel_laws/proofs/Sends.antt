@@ -1,14 +1,10 @@
 -- Waiting sends over runs.
 use Rattle.std.proofs.Common.{ℕ, List, Option}
-use Rattle.channel_calls.specs.declared.stage.Line.TheVariants.{Sends}
-use Rattle.channel_steps.specs.Run.{Next, new_scene}
-use Rattle.channel_steps.specs.Scene.{Scene}
-use Rattle.channel_steps.specs.declared.party.Entry.{Entry}
-use Rattle.channel_steps.specs.declared.run.Step.{Step}
-use Rattle.channel_laws.specs.Sends.{counts_for_sends, PlacesAreFew, SendsSound, SendsStayOwed, NoSendIsForgotten}
+use Rattle.channel_laws.proofs.Words.{Sends, Next, new_scene, Scene, Entry, Step, HoldsListener, counts_for_sends, PlacesAreFew, SendsSound, SendsStayOwed, NoSendIsForgotten}
 use Rattle.channel_laws.proofs.Notices.{tellings_next, tellings_new}
 use Rattle.channel_laws.proofs.RunFacts.{kept_long}
-use Rattle.channel_laws.proofs.Owed.{owed_next, pending_owed}
+use Rattle.channel_laws.proofs.Owed.{pending_owed}
+use Rattle.channel_laws.proofs.PayMoves.{OneByDefault, one_next}
 use Rattle.channel_laws.proofs.SendMoves.{send_ledger}
 
 module _ {T W : Type 0} where
@@ -17,7 +13,7 @@ module _ {T W : Type 0} where
   sends_next s x e names t n sound =
       record {
         tellings = tellings_next s x e names t n sound.tellings;
-        owed = owed_next Sends tt PlacesAreFew counts_for_sends send_ledger s x e names t n sound.tellings sound.owed;
+        owed = one_next Sends tt PlacesAreFew counts_for_sends send_ledger s x e names t n sound.tellings sound.owed;
       }
 
   pub sends_new : (cap : Option ℕ) → SendsSound (new_scene {T = T} {W = W} cap)
@@ -30,4 +26,4 @@ module _ (T W : Type 0) where
   pub no_send_is_forgotten : NoSendIsForgotten T W
   no_send_is_forgotten cap t steps trace run =
       let h = sends_stay_owed (new_scene cap) t steps trace (sends_new cap) run in
-      (h.owed, pending_owed Sends tt PlacesAreFew counts_for_sends t h.owed)
+      (h.owed, pending_owed Sends PlacesAreFew counts_for_sends (HoldsListener Sends) (OneByDefault Sends tt PlacesAreFew counts_for_sends) t h.owed)

@@ -1,381 +1,221 @@
--- What a step leaves owed to a waiting stream.
-use Rattle.std.proofs.Common.{◌≡◌, true, false, List, [], drop, Option, None, Some, Ok, Err, ◌⊎◌, inl, inr, refl, sym, ap, ◌∙◌, subst}
-use Rattle.concurrent_queue.specs.Queue.{Queue, Phase, trying, displaced, appended, taken, read, measured, marked, is_displaced, ContinuesPush, ContinuesForce, ContinuesPop, ContinuesBy, AnswersPush, AnswersForce, AnswersPop, AnswersTo, Continues, Answers}
+-- Each step pays for what it brings, as streams count it: there is no message, or a call is to tell them all.
+use Rattle.std.proofs.Common.{◌≡◌, ℕ, ◌+◌, ◌≤◌, List, [], ◌∷◌, length, Option, Some, Ok, Err, ◌⊎◌, inl, inr, refl, sym, ap, ◌∙◌, subst, arith}
+use Rattle.channel_laws.proofs.Words.{Queue, Phase, trying, appended, taken, marked, is_displaced, ContinuesBy, AnswersPop, AnswersTo, QueueAsk, QueueMark, Nothing, QueueReply, Key, answered_next, stream_next, Channel, Effect, queued, Turned, Moves, ChannelAsk, Reply, Aim, Sends, Receives, Streams, Closings, Stage, Trying, Working, Finished, Turn, Tries, Works, Ends, Work, TellReceive, TellStreams, TellSend, Leave, TriesFor, StageAt, MarkedMoment, Under, has_appended, is_to_tell_receive, counts_for_receives, HasAppended, IsSending, IsBringing, HasInHand, Waits, WaitApart}
 use Rattle.concurrent_queue.specs.Queue as queue
-use Rattle.concurrent_queue.specs.declared.call.QueueAsk.{QueueAsk}
 use Rattle.concurrent_queue.specs.declared.call.QueueAsk.TheVariants as ask
-use Rattle.concurrent_queue.specs.declared.call.QueueMark.{QueueMark}
-use Rattle.concurrent_queue.specs.declared.call.QueueMark.TheVariants.{Nothing, Append, Take, TakeDisplaced, Replace, Close}
-use Rattle.concurrent_queue.specs.declared.call.QueueReply.{QueueReply}
 use Rattle.concurrent_queue.specs.declared.call.QueueReply.TheVariants as answer
 use Rattle.concurrent_queue.specs.declared.error.PopError.TheVariants as pop_error
-use Rattle.concurrent_queue.specs.declared.error.PushError.TheVariants as push_error
-use Rattle.concurrent_queue.specs.declared.error.ForcePushError.TheVariants as force_error
-use Rattle.event_listener.specs.declared.key.Key.{Key}
-use Rattle.channel_calls.specs.Answered.{answered_next, stream_next}
-use Rattle.channel_calls.specs.Moves.{Channel, Effect, queued, leaves, removes, Turned, Moves}
-use Rattle.channel_calls.specs.Turns.{line_of, leaving, again}
-use Rattle.channel_calls.specs.declared.ask.ChannelAsk.{ChannelAsk}
 use Rattle.channel_calls.specs.declared.ask.ChannelAsk.TheVariants as channel
-use Rattle.channel_calls.specs.declared.reply.Reply.{Reply}
-use Rattle.channel_calls.specs.declared.stage.Aim.{Aim}
 use Rattle.channel_calls.specs.declared.stage.Aim.TheVariants as aim
-use Rattle.channel_calls.specs.declared.stage.Closer.TheVariants as closer
-use Rattle.channel_calls.specs.declared.stage.Ending.{Ending}
-use Rattle.channel_calls.specs.declared.stage.Held.{Held}
-use Rattle.channel_calls.specs.declared.stage.Line.TheVariants.{Sends, Receives, Streams, Closings}
-use Rattle.channel_calls.specs.declared.stage.Stage.{Stage}
-use Rattle.channel_calls.specs.declared.stage.Stage.TheVariants.{Trying, Working, Finished}
-use Rattle.channel_calls.specs.declared.stage.Turn.{Turn}
-use Rattle.channel_calls.specs.declared.stage.Turn.TheVariants.{Works, Ends}
-use Rattle.channel_calls.specs.declared.stage.Waiting.{Waiting}
 use Rattle.channel_calls.specs.declared.stage.Waiting.TheVariants as waiting
-use Rattle.channel_calls.specs.declared.stage.Work.TheVariants.{TellReceive, TellStreams, TellSend, Leave}
-use Rattle.channel_steps.specs.Moments.{MarkedMoment}
-use Rattle.channel_steps.specs.Known.{TriesFor, StageAt}
-use Rattle.channel_laws.specs.Streams.{HasAppended, IsSending, IsBringing, HasInHand}
-use Rattle.channel_laws.specs.Waits.{Waits, WaitApart}
+use Rattle.channel_laws.proofs.AllOwed.{FreeOrTold}
+use Rattle.channel_laws.proofs.AskFacts.{How, push_sends, poll_asks, held_by, leaves_next, has_left}
 use Rattle.channel_laws.proofs.ClosedMoves.{worked_spares}
-use Rattle.channel_laws.proofs.ListFacts.{removed_leaves}
-use Rattle.channel_laws.proofs.ListMoves.{Tries}
-
-pushing : {A B : Type 0} → A ⊎ B → A ⊎ (Unit {0} × B)
-pushing (inl h) = inl h
-pushing (inr h) = inr (tt, h)
-
-abbrev held_by : Key → Option Held
-held_by key = Some (record { line = Streams; key = key })
+use Rattle.channel_laws.proofs.ListMoves.{Tries as ComesIn}
+use Rattle.channel_laws.proofs.NumberMoves.{number, push_brings, force_brings, goes_no_more, answers_same_number, weigh_turn, turned_weighs}
+use Rattle.channel_laws.proofs.Owed.{Pays, GoesOn, GoesOnOr, Ledger}
+use Rattle.channel_laws.proofs.ReceiveMoves.{sending_keeps}
+use Rattle.channel_laws.proofs.TotalFacts.{left_over}
 
 module _ {T : Type 0} where
-  -- ---- the queue's call
+  appended_counts : (s : queue.Stage T) → HasAppended s → 1 ≤ has_appended s
+  appended_counts (appended o) h = omega arith
+  appended_counts s h = absurd h
 
-  -- there are no messages after it
-  abbrev Empties : QueueAsk T → queue.Stage T → QueueMark → Queue T → Type 0
-  Empties a s m q = (marked a (is_displaced s) m q).items ≡ []
+  counts_appended : (s : queue.Stage T) → 1 ≤ has_appended s → HasAppended s
+  counts_appended (appended o) h = tt
+  counts_appended s h = absurd (omega (arith, h))
 
-  push_fills : (q : Queue T) (v : T) (m : QueueMark) (s t : queue.Stage T) → ContinuesPush q m s t → q.items ≡ [] → Empties (ask.Push v) s m q ⊎ HasAppended t
-  push_fills q v Nothing s t g h = inl h
-  push_fills q v Append (trying b) t g h = inr (subst (λ (x : queue.Stage T). HasAppended x) (sym g.2) tt)
-  push_fills q v m s t g h = absurd g
-
-  force_fills : (q : Queue T) (v : T) (m : QueueMark) (s t : queue.Stage T) → ContinuesForce q m s t → q.items ≡ [] → Empties (ask.ForcePush v) s m q ⊎ HasAppended t
-  force_fills q v Nothing s t g h = inl h
-  force_fills q v Append (trying b) t g h = inr (subst (λ (x : queue.Stage T). HasAppended x) (sym g.2) tt)
-  force_fills q v Append (displaced d) t g h = inr (subst (λ (x : queue.Stage T). HasAppended x) (sym g.2) tt)
-  force_fills q v Replace (trying b) t g h = inr (subst (λ (x : queue.Stage T). HasAppended x) (sym g.5) tt)
-  force_fills q v TakeDisplaced (trying b) t g h = inl (ap (λ (xs : List T). drop 1 xs) h)
-  force_fills q v m s t g h = absurd g
-
-  pop_fills : (q : Queue T) (m : QueueMark) (s t : queue.Stage T) → ContinuesPop q m s t → q.items ≡ [] → Empties ask.Pop s m q
-  pop_fills q Nothing s t g h = h
-  pop_fills q Take (trying b) t g h = ap (λ (xs : List T). drop 1 xs) h
-  pop_fills q m s t g h = absurd g
-
-  -- a push, of either kind
-  abbrev pub IsPush : QueueAsk T → Type 0
-  IsPush (ask.Push v) = Unit {0}
-  IsPush (ask.ForcePush v) = Unit {0}
-  IsPush a = ⊥
-
-  -- what fills an empty queue is a message that was just appended
-  goes_fills : (q : Queue T) (a : QueueAsk T) (m : QueueMark) (s t : queue.Stage T) → ContinuesBy q a m s t → q.items ≡ [] → Empties a s m q ⊎ (IsPush a × HasAppended t)
-  goes_fills q (ask.Push v) m s t g h = pushing (push_fills q v m s t g h)
-  goes_fills q (ask.ForcePush v) m s t g h = pushing (force_fills q v m s t g h)
-  goes_fills q ask.Pop m s t g h = inl (pop_fills q m s t g h)
-  goes_fills q ask.IsEmpty Nothing s t g h = inl h
-  goes_fills q ask.IsFull Nothing s t g h = inl h
-  goes_fills q ask.Len Nothing s t g h = inl h
-  goes_fills q a m s t g h = absurd g
-
-  answers_fill : (q : Queue T) (a : QueueAsk T) (m : QueueMark) (r : QueueReply T) (s : queue.Stage T) → AnswersTo q a m r s → q.items ≡ [] → Empties a s m q
-  answers_fill q a Nothing r s h e = e
-  answers_fill q a Close r s h e = e
-  answers_fill q (ask.Push v) m r s h e = absurd h
-  answers_fill q (ask.ForcePush v) m r s h e = absurd h
-  answers_fill q ask.Pop m r s h e = absurd h
-  answers_fill q ask.Close m r s h e = absurd h
-  answers_fill q ask.IsClosed m r s h e = absurd h
-  answers_fill q ask.IsEmpty m r s h e = absurd h
-  answers_fill q ask.IsFull m r s h e = absurd h
-  answers_fill q ask.Len m r s h e = absurd h
-  answers_fill q ask.Capacity m r s h e = absurd h
-
-  -- a call that has appended its message has so until it answers
-  push_stays : (q : Queue T) (m : QueueMark) (s t : queue.Stage T) → ContinuesPush q m s t → HasAppended s → HasAppended t
-  push_stays q Nothing (appended None) t g h = subst (λ (x : queue.Stage T). HasAppended x) (sym g) tt
-  push_stays q Nothing (appended (Some d)) t g h = absurd g
-  push_stays q Append (appended o) t g h = absurd g
-  push_stays q m (appended o) t g h = absurd g
-  push_stays q m s t g h = absurd h
-
-  force_stays : (q : Queue T) (m : QueueMark) (s t : queue.Stage T) → ContinuesForce q m s t → HasAppended s → HasAppended t
-  force_stays q Nothing (appended o) t g h = subst (λ (x : queue.Stage T). HasAppended x) (sym g) tt
-  force_stays q Append (appended o) t g h = absurd g
-  force_stays q Replace (appended o) t g h = absurd g
-  force_stays q TakeDisplaced (appended o) t g h = absurd g
-  force_stays q m (appended o) t g h = absurd g
-  force_stays q m s t g h = absurd h
-
-  pop_stays : (q : Queue T) (m : QueueMark) (s t : queue.Stage T) → ContinuesPop q m s t → HasAppended s → HasAppended t
-  pop_stays q Nothing (appended o) t g h = absurd g
-  pop_stays q Take (appended o) t g h = absurd g
-  pop_stays q m (appended o) t g h = absurd g
-  pop_stays q m s t g h = absurd h
-
-  empty_stays : (q : Queue T) (m : QueueMark) (s t : queue.Stage T) → queue.ContinuesEmpty q m s t → HasAppended s → HasAppended t
-  empty_stays q Nothing (appended o) t g h = absurd g
-  empty_stays q m (appended o) t g h = absurd g
-  empty_stays q m s t g h = absurd h
-
-  full_stays : (q : Queue T) (m : QueueMark) (s t : queue.Stage T) → queue.ContinuesFull q m s t → HasAppended s → HasAppended t
-  full_stays q Nothing (appended o) t g h = absurd g
-  full_stays q m (appended o) t g h = absurd g
-  full_stays q m s t g h = absurd h
-
-  len_stays : (q : Queue T) (m : QueueMark) (s t : queue.Stage T) → queue.ContinuesLen q m s t → HasAppended s → HasAppended t
-  len_stays q Nothing (appended o) t g h = absurd g
-  len_stays q m (appended o) t g h = absurd g
-  len_stays q m s t g h = absurd h
-
-  goes_stays : (q : Queue T) (a : QueueAsk T) (m : QueueMark) (s t : queue.Stage T) → ContinuesBy q a m s t → HasAppended s → HasAppended t
-  goes_stays q (ask.Push v) m s t g h = push_stays q m s t g h
-  goes_stays q (ask.ForcePush v) m s t g h = force_stays q m s t g h
-  goes_stays q ask.Pop m s t g h = pop_stays q m s t g h
-  goes_stays q ask.IsEmpty m s t g h = empty_stays q m s t g h
-  goes_stays q ask.IsFull m s t g h = full_stays q m s t g h
-  goes_stays q ask.Len m s t g h = len_stays q m s t g h
-  goes_stays q a m s t g h = absurd g
-
-  -- and its answer says that it is in
-  push_says : (q : Queue T) (v : T) (m : QueueMark) (r : QueueReply T) (s : queue.Stage T) → AnswersPush q v m r s → HasAppended s → r ≡ answer.Push (Ok tt)
-  push_says q v Nothing (answer.Push (Ok u)) (appended None) h k = refl
-  push_says q v Nothing (answer.Push (Ok u)) (appended (Some d)) h k = absurd h
-  push_says q v Nothing (answer.Push (Err (push_error.Full w))) (appended o) h k = absurd h
-  push_says q v Nothing (answer.Push (Err (push_error.Closed w))) (appended o) h k = absurd h
-  push_says q v Nothing (answer.Push (Err (push_error.NoMemory w))) (appended o) h k = absurd h
-  push_says q v m r (appended o) h k = absurd h
-  push_says q v m r s h k = absurd k
-
-  force_says : (q : Queue T) (v : T) (m : QueueMark) (r : QueueReply T) (s : queue.Stage T) → AnswersForce q v m r s → HasAppended s → (d : Option T) × (r ≡ answer.Force (Ok d))
-  force_says q v Nothing (answer.Force (Ok d)) (appended o) h k = (d, refl)
-  force_says q v Nothing (answer.Force (Err (force_error.Closed w))) (appended o) h k = absurd h
-  force_says q v Nothing (answer.Force (Err (force_error.NoMemory w))) (appended o) h k = absurd h
-  force_says q v m r (appended o) h k = absurd h
-  force_says q v m r s h k = absurd k
-
-  -- no other call is at that stage
-  only_pushes : (q : Queue T) (a : QueueAsk T) (m : QueueMark) (r : QueueReply T) (s : queue.Stage T) → AnswersTo q a m r s → HasAppended s → IsPush a
-  only_pushes q (ask.Push v) m r s h k = tt
-  only_pushes q (ask.ForcePush v) m r s h k = tt
-  only_pushes q a m r (trying b) h k = absurd k
-  only_pushes q a m r (displaced d) h k = absurd k
-  only_pushes q a m r (taken v) h k = absurd k
-  only_pushes q a m r (read n) h k = absurd k
-  only_pushes q a m r (measured n l) h k = absurd k
-  only_pushes q ask.Pop Nothing (answer.Pop (Ok w)) (appended o) h k = absurd h
-  only_pushes q ask.Pop Nothing (answer.Pop (Err pop_error.Empty)) (appended o) h k = absurd h
-  only_pushes q ask.Pop Nothing (answer.Pop (Err pop_error.Closed)) (appended o) h k = absurd h
-  only_pushes q ask.Close Close (answer.Close true) (appended o) h k = absurd h
-  only_pushes q ask.Close Nothing (answer.Close false) (appended o) h k = absurd h
-  only_pushes q ask.IsClosed Nothing (answer.Flag b) (appended o) h k = absurd h
-  only_pushes q ask.IsEmpty Nothing (answer.Flag true) (appended o) h k = absurd h
-  only_pushes q ask.IsEmpty Nothing (answer.Flag false) (appended o) h k = absurd h
-  only_pushes q ask.IsFull Nothing (answer.Flag true) (appended o) h k = absurd h
-  only_pushes q ask.IsFull Nothing (answer.Flag false) (appended o) h k = absurd h
-  only_pushes q ask.Len Nothing (answer.Count n) (appended o) h k = absurd h
-  only_pushes q ask.Capacity Nothing (answer.Cap n) (appended o) h k = absurd h
-  only_pushes q a m r (appended o) h k = absurd h
-
-  -- what a try of a stream ends with: a message, or nothing was there
-  pop_ends : (q : Queue T) (m : QueueMark) (r : QueueReply T) (s : queue.Stage T) → AnswersPop q m r s → ((v : T) × (r ≡ answer.Pop (Ok v))) ⊎ Empties ask.Pop s m q
-  pop_ends q Nothing (answer.Pop (Ok w)) (taken v) h = inl (w, refl)
-  pop_ends q Nothing (answer.Pop (Err pop_error.Empty)) (trying b) h = inr h.1.0
-  pop_ends q Nothing (answer.Pop (Err pop_error.Closed)) (trying b) h = inr h.1.0
-  pop_ends q m r s h = absurd h
+  -- where no more messages are there than were, but for those that are to be told of, there is none, or one is to be told of
+  settled : (items : List T) (n k m l : ℕ) → length items + k ≤ n + m → k ≤ m → (n ≡ 0) ⊎ (1 ≤ k + l) → (items ≡ []) ⊎ (1 ≤ m + l)
+  settled [] n k m l less on h = inl refl
+  settled (v ∷ vs) n k m l less on (inl none) = inr (omega (arith, less, none))
+  settled (v ∷ vs) n k m l less on (inr some) = inr (omega (arith, on, some))
 
 module _ {T W : Type 0} where
-  -- ---- a call that has brought its message
+  -- ---- what a call counts for
 
-  abbrev Brings : Turn T W → Type 0
-  Brings (Works (TellReceive x)) = Unit {0}
-  Brings turn = ⊥
+  -- 1 for a call whose message is in and that has not told the streams yet
+  abbrev is_to_tell_streams : Stage (Phase T) T W → ℕ
+  is_to_tell_streams (Trying f y) = has_appended f.stage
+  is_to_tell_streams (Working (TellReceive x)) = 1
+  is_to_tell_streams (Working (TellStreams x)) = 1
+  is_to_tell_streams at = 0
 
-  push_next : (x : ChannelAsk T W) (y : Aim T W) (v : T) (ds : List (MarkedMoment T W)) (seen : List (Channel T W)) → TriesFor x y (ask.Push v) ds seen → Brings (answered_next y (let r : QueueReply T = answer.Push (Ok tt) in r))
-  push_next (channel.TrySend m) aim.TrySend v ds seen h = tt
-  push_next (channel.ForceSend m) aim.ForceSend v ds seen h = absurd h
-  push_next channel.TryRecv aim.TryRecv v ds seen h = absurd h
-  push_next (channel.RecvMany n) (aim.RecvMany g) v ds seen h = absurd h
-  push_next channel.Close (aim.Close closer.Call) v ds seen h = absurd h
-  push_next (channel.PollSend m k t) (aim.Poll Sends key task) v ds seen h = tt
-  push_next (channel.PollRecv k t) (aim.Poll Receives key task) v ds seen h = absurd h
-  push_next (channel.PollClosed k t) (aim.Poll Closings key task) v ds seen h = absurd h
-  push_next (channel.PollNext k t) (aim.Poll Streams key task) v ds seen h = absurd h
-  push_next channel.DropSender (aim.Close closer.Sender) v ds seen h = absurd h
-  push_next (channel.DropReceiver k) (aim.Close (closer.Receiver key)) v ds seen h = absurd h
-  push_next (channel.Upgrade side) (aim.Upgrade other) v ds seen h = absurd h
-  push_next channel.IsClosed aim.Ask v ds seen h = absurd h
-  push_next channel.IsEmpty aim.Ask v ds seen h = absurd h
-  push_next channel.IsFull aim.Ask v ds seen h = absurd h
-  push_next channel.Len aim.Ask v ds seen h = absurd h
-  push_next channel.Capacity aim.Ask v ds seen h = absurd h
-  push_next channel.IsTerminated aim.IsTerminated v ds seen h = absurd h
-  push_next channel.IsTerminated aim.Ask v ds seen h = absurd h
-  push_next x y v ds seen h = absurd h
+  abbrev if_sending : ChannelAsk T W → ℕ → ℕ
+  if_sending (channel.TrySend m) n = n
+  if_sending (channel.ForceSend m) n = n
+  if_sending (channel.PollSend m k t) n = n
+  if_sending x n = 0
 
-  force_next : (x : ChannelAsk T W) (y : Aim T W) (v : T) (ds : List (MarkedMoment T W)) (seen : List (Channel T W)) → TriesFor x y (ask.ForcePush v) ds seen → (d : Option T) → Brings (answered_next y (let r : QueueReply T = answer.Force (Ok d) in r))
-  force_next (channel.TrySend m) aim.TrySend v ds seen h d = absurd h
-  force_next (channel.ForceSend m) aim.ForceSend v ds seen h d = tt
-  force_next channel.TryRecv aim.TryRecv v ds seen h d = absurd h
-  force_next (channel.RecvMany n) (aim.RecvMany g) v ds seen h d = absurd h
-  force_next channel.Close (aim.Close closer.Call) v ds seen h d = absurd h
-  force_next (channel.PollSend m k t) (aim.Poll Sends key task) v ds seen h d = absurd h
-  force_next (channel.PollRecv k t) (aim.Poll Receives key task) v ds seen h d = absurd h
-  force_next (channel.PollClosed k t) (aim.Poll Closings key task) v ds seen h d = absurd h
-  force_next (channel.PollNext k t) (aim.Poll Streams key task) v ds seen h d = absurd h
-  force_next channel.DropSender (aim.Close closer.Sender) v ds seen h d = absurd h
-  force_next (channel.DropReceiver k) (aim.Close (closer.Receiver key)) v ds seen h d = absurd h
-  force_next (channel.Upgrade side) (aim.Upgrade other) v ds seen h d = absurd h
-  force_next channel.IsClosed aim.Ask v ds seen h d = absurd h
-  force_next channel.IsEmpty aim.Ask v ds seen h d = absurd h
-  force_next channel.IsFull aim.Ask v ds seen h d = absurd h
-  force_next channel.Len aim.Ask v ds seen h d = absurd h
-  force_next channel.Capacity aim.Ask v ds seen h d = absurd h
-  force_next channel.IsTerminated aim.IsTerminated v ds seen h d = absurd h
-  force_next channel.IsTerminated aim.Ask v ds seen h d = absurd h
-  force_next x y v ds seen h d = absurd h
+  abbrev pub counts_for_streams : ChannelAsk T W → Stage (Phase T) T W → ℕ
+  counts_for_streams x at = if_sending x (is_to_tell_streams at)
 
-  appended_next : (q : Queue T) (x : ChannelAsk T W) (y : Aim T W) (a : QueueAsk T) (m : QueueMark) (r : QueueReply T) (s : queue.Stage T) (ds : List (MarkedMoment T W)) (seen : List (Channel T W))
-      → TriesFor x y a ds seen → AnswersTo q a m r s → HasAppended s → Brings (answered_next y r)
-  appended_next q x y (ask.Push v) m r s ds seen h ans k = subst (λ (z : QueueReply T). Brings (answered_next y z)) (sym (push_says q v m r s ans k)) (push_next x y v ds seen h)
-  appended_next q x y (ask.ForcePush v) m r s ds seen h ans k =
-      let d = force_says q v m r s ans k in subst (λ (z : QueueReply T). Brings (answered_next y z)) (sym d.1) (force_next x y v ds seen h d.0)
-  appended_next q x y a m r s ds seen h ans k = absurd (only_pushes q a m r s ans k)
+  if_none : (x : ChannelAsk T W) → if_sending x 0 ≡ 0
+  if_none (channel.TrySend m) = refl
+  if_none (channel.ForceSend m) = refl
+  if_none (channel.PollSend m k t) = refl
+  if_none x = refl
 
-  turned_brings : (turn : Turn T W) (r : Option (Reply T)) (s : Stage (Phase T) T W) → Brings turn → Turned turn r s → (r ≡ None) × IsBringing s
-  turned_brings (Works (TellReceive x)) r s b t = (t.0, subst (λ (z : Stage (Phase T) T W). IsBringing z) (sym t.1) tt)
-  turned_brings turn r s b t = absurd b
+  bringing_counts : (at : Stage (Phase T) T W) → IsBringing at → 1 ≤ is_to_tell_streams at
+  bringing_counts (Trying f y) h = appended_counts f.stage h
+  bringing_counts (Working (TellReceive x)) h = omega arith
+  bringing_counts (Working (TellStreams x)) h = omega arith
+  bringing_counts at h = absurd h
 
-  -- who pushes is a sending call
-  pub push_sends : (x : ChannelAsk T W) (y : Aim T W) (a : QueueAsk T) (ds : List (MarkedMoment T W)) (seen : List (Channel T W)) → TriesFor x y a ds seen → IsPush a → IsSending x
-  push_sends (channel.TrySend m) y a ds seen h p = tt
-  push_sends (channel.ForceSend m) y a ds seen h p = tt
-  push_sends (channel.PollSend m k t) y a ds seen h p = tt
-  push_sends channel.TryRecv aim.TryRecv ask.Pop ds seen h p = absurd p
-  push_sends (channel.RecvMany n) (aim.RecvMany g) ask.Pop ds seen h p = absurd p
-  push_sends channel.Close (aim.Close closer.Call) ask.Close ds seen h p = absurd p
-  push_sends (channel.PollRecv k t) (aim.Poll Receives key task) ask.Pop ds seen h p = absurd p
-  push_sends (channel.PollClosed k t) (aim.Poll Closings key task) ask.IsClosed ds seen h p = absurd p
-  push_sends (channel.PollNext k t) (aim.Poll Streams key task) ask.Pop ds seen h p = absurd p
-  push_sends channel.DropSender (aim.Close closer.Sender) ask.Close ds seen h p = absurd p
-  push_sends (channel.DropReceiver k) (aim.Close (closer.Receiver key)) ask.Close ds seen h p = absurd p
-  push_sends (channel.Upgrade side) (aim.Upgrade other) ask.IsClosed ds seen h p = absurd p
-  push_sends channel.IsClosed aim.Ask ask.IsClosed ds seen h p = absurd p
-  push_sends channel.IsEmpty aim.Ask ask.IsEmpty ds seen h p = absurd p
-  push_sends channel.IsFull aim.Ask ask.IsFull ds seen h p = absurd p
-  push_sends channel.Len aim.Ask ask.Len ds seen h p = absurd p
-  push_sends channel.Capacity aim.Ask ask.Capacity ds seen h p = absurd p
-  push_sends channel.IsTerminated aim.IsTerminated ask.IsClosed ds seen h p = absurd p
-  push_sends channel.IsTerminated aim.Ask ask.IsEmpty ds seen h p = absurd p
-  push_sends x y a ds seen h p = absurd h
+  counts_bringing : (at : Stage (Phase T) T W) → 1 ≤ is_to_tell_streams at → IsBringing at
+  counts_bringing (Trying f y) h = counts_appended f.stage h
+  counts_bringing (Working (TellReceive x)) h = tt
+  counts_bringing (Working (TellStreams x)) h = tt
+  counts_bringing at h = absurd (omega (arith, h))
 
-  -- ---- what a step leaves
+  pub tells_counts : (x : ChannelAsk T W) (at : Stage (Phase T) T W) → IsSending x × IsBringing at → 1 ≤ counts_for_streams x at
+  tells_counts (channel.TrySend m) at h = bringing_counts at h.1
+  tells_counts (channel.ForceSend m) at h = bringing_counts at h.1
+  tells_counts (channel.PollSend m k t) at h = bringing_counts at h.1
+  tells_counts x at h = absurd h.0
 
-  -- the call goes on, and answers for the stream
-  abbrev pub Going : ChannelAsk T W → Key → Option (Reply T) → Stage (Phase T) T W → Type 0
-  Going x key r s = (r ≡ None) × ((IsSending x × IsBringing s) ⊎ HasInHand key s)
+  pub counts_tells : (x : ChannelAsk T W) (at : Stage (Phase T) T W) → 1 ≤ counts_for_streams x at → IsSending x × IsBringing at
+  counts_tells (channel.TrySend m) at h = (tt, counts_bringing at h)
+  counts_tells (channel.ForceSend m) at h = (tt, counts_bringing at h)
+  counts_tells (channel.PollSend m k t) at h = (tt, counts_bringing at h)
+  counts_tells x at h = absurd (omega (arith, h))
 
-  -- there is no message, or the call goes on so
-  abbrev pub Settled : ChannelAsk T W → Key → Effect T W → Option (Reply T) → Stage (Phase T) T W → Type 0
-  Settled x key e r s = (e.channel.queue.items ≡ []) ⊎ Going x key r s
+  -- ---- a step of the queue's call
 
-  -- the two ways of a step of the queue's call
-  abbrev pub How : Channel T W → Phase T → Aim T W → QueueMark → Option (Reply T) → Stage (Phase T) T W → Type 0
-  How c f y m r s =
-      ((f' : Phase T) × Continues c.queue f m f' × (r ≡ None) × (s ≡ Trying f' y)) ⊎ ((x : QueueReply T) × Answers c.queue f m x × Turned (answered_next y x) r s)
+  abbrev pub NoMessages : Channel T W → Type 0
+  NoMessages c = c.queue.items ≡ []
 
-  no_items : (c : Channel T W) (f : Phase T) (m : QueueMark) (e : Effect T W) → e ≡ queued f m c → Empties f.ask f.stage m c.queue → e.channel.queue.items ≡ []
-  no_items c f m e same h = ap (λ (z : Effect T W). z.channel.queue.items) same ∙ h
+  abbrev pub Tells : Under T W → Type 0
+  Tells u = IsSending u.ask × IsBringing u.at
 
-  bringing_tried : (c : Channel T W) (x : ChannelAsk T W) (f : Phase T) (y : Aim T W) (m : QueueMark) (ds : List (MarkedMoment T W)) (seen : List (Channel T W)) (key : Key) (r : Option (Reply T)) (s : Stage (Phase T) T W)
-      → TriesFor x y f.ask ds seen → IsSending x → HasAppended f.stage → How c f y m r s → Going x key r s
-  bringing_tried c x f y m ds seen key r s h sends k (inl (f', goes, none, there)) =
-      (none, inl (sends, subst (λ (z : Stage (Phase T) T W). IsBringing z) (sym there) (goes_stays c.queue f.ask m f.stage f'.stage goes.1 k)))
-  bringing_tried c x f y m ds seen key r s h sends k (inr (reply, ans, turned)) =
-      let t = turned_brings (answered_next y reply) r s (appended_next c.queue x y f.ask m reply f.stage ds seen h ans k) turned in (t.0, inl (sends, t.1))
+  -- there is no message, or so many calls are to tell the streams
+  abbrev pub NoneOrTold : Channel T W → ℕ → Type 0
+  NoneOrTold c n = FreeOrTold NoMessages Tells HasInHand counts_for_streams c n
 
-  bringing_goes : (c : Channel T W) (x : ChannelAsk T W) (at : Stage (Phase T) T W) (ds : List (MarkedMoment T W)) (seen : List (Channel T W)) (e : Effect T W) (r : Option (Reply T)) (s : Stage (Phase T) T W) (key : Key)
-      → StageAt c x at ds seen → Moves c at e r s → IsSending x → IsBringing at → Waits Streams key e.channel → Settled x key e r s
-  bringing_goes c x (Trying f y) ds seen e r s key st g sends b w = inr (bringing_tried c x f y g.mark ds seen key r s st.0 sends b g.how)
-  bringing_goes c x (Working (TellReceive z)) ds seen e r s key st g sends b w = inr (g.1.0, inl (sends, subst (λ (z : Stage (Phase T) T W). IsBringing z) (sym g.1.1) tt))
-  bringing_goes c x (Working (TellStreams z)) ds seen e r s key st g sends b w = absurd (subst (λ (z : Effect T W). Waits Streams key z.channel) g.0 w)
-  bringing_goes c x at ds seen e r s key st g sends b w = absurd b
+  abbrev counted : ChannelAsk T W → Aim T W → QueueAsk T → queue.Stage T → ℕ
+  counted x y a s = counts_for_streams x (Trying (record { ask = a; stage = s }) y)
+
+  -- a sending call counts no less with the streams than with the receives, which it tells before
+  more_told : (at : Stage (Phase T) T W) → is_to_tell_receive at ≤ is_to_tell_streams at
+  more_told (Trying f y) = omega arith
+  more_told (Working (TellReceive x)) = omega arith
+  more_told at = omega arith
+
+  sending_more : (x : ChannelAsk T W) → IsSending x → (at : Stage (Phase T) T W) → counts_for_receives x at ≤ counts_for_streams x at
+  sending_more (channel.TrySend m) h at = more_told at
+  sending_more (channel.ForceSend m) h at = more_told at
+  sending_more (channel.PollSend m k t) h at = more_told at
+  sending_more x h at = absurd h
+
+  turn_more : (x : ChannelAsk T W) → IsSending x → (turn : Turn T W) → weigh_turn counts_for_receives x turn ≤ weigh_turn counts_for_streams x turn
+  turn_more x h (Tries a y) = sending_more x h _
+  turn_more x h (Works w) = sending_more x h _
+  turn_more x h (Ends y kept) = omega arith
+
+  module _ (q : Queue T) (ds : List (MarkedMoment T W)) (seen : List (Channel T W)) where
+    goes_on : (x : ChannelAsk T W) (y : Aim T W) (a : QueueAsk T) (m : QueueMark) (s t : queue.Stage T) → TriesFor x y a ds seen → ContinuesBy q a m s t
+        → (number a s m q + counted x y a s ≤ length q.items + counted x y a t) × (counted x y a s ≤ counted x y a t)
+    goes_on (channel.TrySend v) aim.TrySend (ask.Push w) m s t h g = push_brings q w m s t g
+    goes_on (channel.TrySend v) y a m s t h g = absurd h
+    goes_on (channel.PollSend v k t') (aim.Poll Sends key task) (ask.Push w) m s t h g = push_brings q w m s t g
+    goes_on (channel.PollSend v k t') y a m s t h g = absurd h
+    goes_on (channel.ForceSend v) aim.ForceSend (ask.ForcePush w) m s t h g = force_brings q w m s t g
+    goes_on (channel.ForceSend v) y a m s t h g = absurd h
+    goes_on x y a m s t h g = let n = goes_no_more q a m s t (λ p. push_sends x y ds seen a h p) g in (omega (arith, n), omega arith)
+
+    answers_on : (x : ChannelAsk T W) (y : Aim T W) (a : QueueAsk T) (m : QueueMark) (r : QueueReply T) (s : queue.Stage T) → TriesFor x y a ds seen → AnswersTo q a m r s
+        → counted x y a s ≤ weigh_turn counts_for_streams x (answered_next y r)
+    answers_on (channel.TrySend v) y a m r s h g = let k = sending_keeps q ds seen (channel.TrySend v) tt y a m r s h g in let more = turn_more (channel.TrySend v) tt (answered_next y r) in omega (arith, k, more)
+    answers_on (channel.PollSend v k' t') y a m r s h g = let k = sending_keeps q ds seen (channel.PollSend v k' t') tt y a m r s h g in let more = turn_more (channel.PollSend v k' t') tt (answered_next y r) in omega (arith, k, more)
+    answers_on (channel.ForceSend v) y a m r s h g = let k = sending_keeps q ds seen (channel.ForceSend v) tt y a m r s h g in let more = turn_more (channel.ForceSend v) tt (answered_next y r) in omega (arith, k, more)
+    answers_on x y a m r s h g = omega arith
+
+  abbrev Paid : Channel T W → ChannelAsk T W → Stage (Phase T) T W → Effect T W → Option (Reply T) → Stage (Phase T) T W → Type 0
+  Paid c x at e r s = Pays Streams NoneOrTold counts_for_streams HasInHand (λ z. ⊥) c x at e r s
+
+  as_number : (c : Channel T W) (n : ℕ) → NoneOrTold c n → (length c.queue.items ≡ 0) ⊎ (1 ≤ n)
+  as_number c n (inl none) = inl (ap length none)
+  as_number c n (inr some) = inr some
+
+  tried_pays : (c : Channel T W) (x : ChannelAsk T W) (f : Phase T) (y : Aim T W) (m : QueueMark) (ds : List (MarkedMoment T W)) (seen : List (Channel T W)) (r : Option (Reply T)) (s : Stage (Phase T) T W)
+      → TriesFor x y f.ask ds seen → How c f y m r s → Paid c x (Trying f y) (queued f m c) r s
+  tried_pays c x f y m ds seen r s h (inl (f', goes, none, there)) n enough =
+      let same = ap (λ (a : QueueAsk T). counts_for_streams x (Trying (record { ask = a; stage = f'.stage }) y)) goes.0 in
+      let k = goes_on c.queue ds seen x y f.ask m f.stage f'.stage h goes.1 in
+      let less = k.0 in
+      let on = k.1 in
+      let now = ap (λ (z : Option (Reply T)). left_over counts_for_streams x z s) none in
+      let at = ap (λ (z : Stage (Phase T) T W). counts_for_streams x z) there in
+      settled (marked f.ask (is_displaced f.stage) m c.queue).items (length c.queue.items) (counts_for_streams x (Trying f y)) (left_over counts_for_streams x r s) n
+      (omega (arith, same, less, now, at)) (omega (arith, same, on, now, at)) (as_number c (counts_for_streams x (Trying f y) + n) enough)
+  tried_pays c x f y m ds seen r s h (inr (reply, ans, turned)) n enough =
+      let same = answers_same_number c.queue f.ask m reply f.stage ans in
+      let k = answers_on c.queue ds seen x y f.ask m reply f.stage h ans in
+      let now = turned_weighs counts_for_streams x (answered_next y reply) r s turned in
+      settled (marked f.ask (is_displaced f.stage) m c.queue).items (length c.queue.items) (counts_for_streams x (Trying f y)) (left_over counts_for_streams x r s) n
+      (omega (arith, same, k, now)) (omega (arith, k, now)) (as_number c (counts_for_streams x (Trying f y) + n) enough)
+
+  -- ---- a step on a list
+
+  works_on : (c : Channel T W) (x : ChannelAsk T W) (w : Work T W) (e : Effect T W) (r : Option (Reply T)) (s : Stage (Phase T) T W) (key : Key) → Moves c (Working w) e r s → Waits Streams key e.channel
+      → counts_for_streams x (Working w) ≤ left_over counts_for_streams x r s
+  works_on c x (TellReceive z) e r s key g w = let k = turned_weighs counts_for_streams x (Works (TellStreams z)) r s g.1 in omega (arith, k)
+  works_on c x (TellStreams z) e r s key g w = absurd (subst (λ (z : Effect T W). Waits Streams key z.channel) g.0 w)
+  works_on c x z e r s key g w = let none = if_none x in omega (arith, none)
+
+  stream_pays : (c : Channel T W) (x : ChannelAsk T W) (at : Stage (Phase T) T W) (ds : List (MarkedMoment T W)) (seen : List (Channel T W)) (e : Effect T W) (r : Option (Reply T)) (s : Stage (Phase T) T W) (key : Key)
+      → StageAt c x at ds seen → Moves c at e r s → Waits Streams key e.channel → Paid c x at e r s ⊎ ⊥
+  stream_pays c x (Trying f y) ds seen e r s key st g w =
+      inl (subst (λ (z : Effect T W). Paid c x (Trying f y) z r s) (sym g.effect) (tried_pays c x f y g.mark ds seen r s st.0 g.how))
+  stream_pays c x (Working z) ds seen e r s key st g w = inl by
+    where
+      by : Paid c x (Working z) e r s
+      by n (inl none) = let same = worked_spares c z e r s g in inl (ap (λ (q : Queue T). q.items) same.0 ∙ none)
+      by n (inr some) = let on = works_on c x z e r s key g w in inr (omega (arith, some, on))
+  stream_pays c x (Finished kept) ds seen e r s key st g w = absurd st
 
   -- ---- a stream's own poll
 
-  pub stream_pops : (x : ChannelAsk T W) (o : Option Key) (task : W) (a : QueueAsk T) (ds : List (MarkedMoment T W)) (seen : List (Channel T W)) → TriesFor x (aim.Poll Streams o task) a ds seen → a ≡ ask.Pop
-  stream_pops (channel.PollNext k t) o task ask.Pop ds seen h = refl
-  stream_pops x o task a ds seen h = absurd h
+  abbrev InHand : Key → Option (Reply T) → Stage (Phase T) T W → Type 0
+  InHand key r s = GoesOn Streams NoneOrTold counts_for_streams HasInHand (λ z. ⊥) key r s
 
-  popped : (c : Channel T W) (x : ChannelAsk T W) (f : Phase T) (k : Key) (task : W) (m : QueueMark) (e : Effect T W) (key : Key) (r : Option (Reply T)) (s : Stage (Phase T) T W) (reply : QueueReply T)
-      → f.ask ≡ ask.Pop → k ≡ key → e ≡ queued f m c → Turned (stream_next reply (Some k) task) r s → ((v : T) × (reply ≡ answer.Pop (Ok v))) ⊎ Empties ask.Pop f.stage m c.queue → Settled x key e r s
-  popped c x f k task m e key r s reply pops same effect turned (inl (v, said)) =
-      let t = subst (λ (z : QueueReply T). Turned (stream_next z (Some k) task) r s) said turned in
-      inr (t.0, inr (subst (λ (z : Stage (Phase T) T W). HasInHand key z) (sym t.1) (ap held_by same)))
-  popped c x f k task m e key r s reply pops same effect turned (inr none) =
-      inl (no_items c f m e effect (subst (λ (a : QueueAsk T). Empties a f.stage m c.queue) (sym pops) none))
+  abbrev InHandOr : Key → ChannelAsk T W → Effect T W → Option (Reply T) → Stage (Phase T) T W → Type 0
+  InHandOr key x e r s = GoesOnOr Streams NoneOrTold counts_for_streams HasInHand (λ z. ⊥) key x e r s
 
-  polled : (c : Channel T W) (x : ChannelAsk T W) (f : Phase T) (k : Key) (task : W) (m : QueueMark) (e : Effect T W) (key : Key) (r : Option (Reply T)) (s : Stage (Phase T) T W)
-      → f.ask ≡ ask.Pop → k ≡ key → e ≡ queued f m c → How c f (aim.Poll Streams (Some k) task) m r s → Settled x key e r s
-  polled c x f k task m e key r s pops same effect (inl (f', goes, none, there)) =
-      inr (none, inr (subst (λ (z : Stage (Phase T) T W). HasInHand key z) (sym there) same))
-  polled c x f k task m e key r s pops same effect (inr (reply, ans, turned)) =
-      popped c x f k task m e key r s reply pops same effect turned (pop_ends c.queue m reply f.stage (subst (λ (a : QueueAsk T). AnswersTo c.queue a m reply f.stage) pops ans))
+  -- it has a message, or nothing is there
+  popped : (c : Channel T W) (x : ChannelAsk T W) (f : Phase T) (key : Key) (task : W) (m : QueueMark) (r : Option (Reply T)) (s : Stage (Phase T) T W) (reply : QueueReply T) (st : queue.Stage T)
+      → AnswersPop c.queue m reply st → Turned (stream_next reply (Some key) task) r s → InHandOr key x (queued f m c) r s
+  popped c x f key task Nothing r s (answer.Pop (Ok w)) (taken v) h t = inl (t.0, subst (λ (z : Stage (Phase T) T W). HasInHand key z) (sym t.1) refl)
+  popped c x f key task Nothing r s (answer.Pop (Err pop_error.Empty)) (trying b) h t = inr (λ n. inl h.1.0)
+  popped c x f key task Nothing r s (answer.Pop (Err pop_error.Closed)) (trying b) h t = inr (λ n. inl h.1.0)
+  popped c x f key task m r s reply st h t = absurd h
 
-  pub leaves_next : (x : Ending T) (o : Option Held) (h : Held) (r : Option (Reply T)) (s : Stage (Phase T) T W) → o ≡ Some h
-      → Turned (let t : Turn T W = elim o [ None ↦ Ends x.reply (leaving None x.message) | Some held ↦ Works (Leave x) ] in t) r s → (r ≡ None) × (s ≡ Working (Leave x))
-  leaves_next x None h r s e t = absurd (let never : None ≡ Some h = e in cc)
-  leaves_next x (Some k) h r s e t = t
+  polled : (c : Channel T W) (x : ChannelAsk T W) (f : Phase T) (k key : Key) (task : W) (m : QueueMark) (r : Option (Reply T)) (s : Stage (Phase T) T W)
+      → f.ask ≡ ask.Pop → k ≡ key → How c f (aim.Poll Streams (Some k) task) m r s → InHandOr key x (queued f m c) r s
+  polled c x f k key task m r s pops same (inl (f', goes, none, there)) = inl (none, subst (λ (z : Stage (Phase T) T W). HasInHand key z) (sym there) same)
+  polled c x f k key task m r s pops same (inr (reply, ans, turned)) =
+      popped c x f key task m r s reply f.stage (subst (λ (a : QueueAsk T). AnswersTo c.queue a m reply f.stage) pops ans)
+      (subst (λ (z : Key). Turned (stream_next reply (Some z) task) r s) same turned)
 
-  in_hand_goes : (c : Channel T W) (x : ChannelAsk T W) (at : Stage (Phase T) T W) (ds : List (MarkedMoment T W)) (seen : List (Channel T W)) (e : Effect T W) (r : Option (Reply T)) (s : Stage (Phase T) T W) (key : Key)
-      → StageAt c x at ds seen → Moves c at e r s → HasInHand key at → WaitApart Streams c → Waits Streams key e.channel → Settled x key e r s
-  in_hand_goes c x (Trying f (aim.Poll Streams (Some k) task)) ds seen e r s key st g h apart w =
-      polled c x f k task g.mark e key r s (stream_pops x (Some k) task f.ask ds seen st.0) h g.effect g.how
-  in_hand_goes c x (Working (TellSend z)) ds seen e r s key st g h apart w =
-      let t = leaves_next z z.held (record { line = Streams; key = key }) r s h g.1 in
-      inr (t.0, inr (subst (λ (at : Stage (Phase T) T W). HasInHand key at) (sym t.1) h))
-  in_hand_goes c x (Working (Leave z)) ds seen e r s key st g h apart w =
-      let same : e ≡ removes (record { line = Streams; key = key }) c = g.0 ∙ ap (λ (o : Option Held). leaves o c) h in
-      absurd (removed_leaves key c.roster.streams apart (subst (λ (z : Effect T W). Waits Streams key z.channel) same w))
-  in_hand_goes c x at ds seen e r s key st g h apart w = absurd h
+  keeps_in_hand : (c : Channel T W) (x : ChannelAsk T W) (at : Stage (Phase T) T W) (ds : List (MarkedMoment T W)) (seen : List (Channel T W)) (e : Effect T W) (r : Option (Reply T)) (s : Stage (Phase T) T W) (key : Key)
+      → StageAt c x at ds seen → Moves c at e r s → Waits Streams key e.channel → WaitApart Streams c → HasInHand key at → InHandOr key x e r s
+  keeps_in_hand c x (Trying f (aim.Poll Streams (Some k) task)) ds seen e r s key st g w apart h =
+      subst (λ (z : Effect T W). InHandOr key x z r s) (sym g.effect) (polled c x f k key task g.mark r s (poll_asks x Streams (Some k) task f.ask ds seen st.0) h g.how)
+  keeps_in_hand c x (Working (TellSend z)) ds seen e r s key st g w apart h =
+      let t = leaves_next z z.held (held_by Streams key) r s h g.1 in inl (t.0, subst (λ (at : Stage (Phase T) T W). HasInHand key at) (sym t.1) h)
+  keeps_in_hand c x (Working (Leave z)) ds seen e r s key st g w apart h = absurd (has_left Streams key c z.held e h g.0 apart w)
+  keeps_in_hand c x at ds seen e r s key st g w apart h = absurd h
 
-  -- ---- messages
+  stream_comes : (c : Channel T W) (e : Effect T W) (r : Option (Reply T)) (s : Stage (Phase T) T W) (key : Key) → ComesIn Streams c e r s key → InHand key r s
+  stream_comes c e r s key (waiting.Stream, task, at, t) = (t.0, subst (λ (z : Stage (Phase T) T W). HasInHand key z) (sym t.1) refl)
+  stream_comes c e r s key (waiting.Send m, task, at, t) = absurd (let never : Sends ≡ Streams = at in cc)
+  stream_comes c e r s key (waiting.Receive, task, at, t) = absurd (let never : Receives ≡ Streams = at in cc)
+  stream_comes c e r s key (waiting.Closing, task, at, t) = absurd (let never : Closings ≡ Streams = at in cc)
 
-  filled : (c : Channel T W) (x : ChannelAsk T W) (f : Phase T) (y : Aim T W) (m : QueueMark) (ds : List (MarkedMoment T W)) (seen : List (Channel T W)) (e : Effect T W) (key : Key) (r : Option (Reply T)) (s : Stage (Phase T) T W) → TriesFor x y f.ask ds seen → e ≡ queued f m c → How c f y m r s → c.queue.items ≡ [] → Settled x key e r s
-  filled c x f y m ds seen e key r s tries effect (inl (f', goes, none, there)) empty = by_stage (goes_fills c.queue f.ask m f.stage f'.stage goes.1 empty)
-    where
-      by_stage : Empties f.ask f.stage m c.queue ⊎ (IsPush f.ask × HasAppended f'.stage) → Settled x key e r s
-      by_stage (inl h) = inl (no_items c f m e effect h)
-      by_stage (inr h) = inr (none, inl (push_sends x y f.ask ds seen tries h.0, subst (λ (z : Stage (Phase T) T W). IsBringing z) (sym there) h.1))
-  filled c x f y m ds seen e key r s tries effect (inr (reply, ans, turned)) empty = inl (no_items c f m e effect (answers_fill c.queue f.ask m reply f.stage ans empty))
+  more_told_of : (c : Channel T W) (m n : ℕ) → m ≤ n → NoneOrTold c m → NoneOrTold c n
+  more_told_of c m n less (inl h) = inl h
+  more_told_of c m n less (inr h) = inr (omega (arith, less, h))
 
-  pub empty_goes : (c : Channel T W) (x : ChannelAsk T W) (at : Stage (Phase T) T W) (ds : List (MarkedMoment T W)) (seen : List (Channel T W)) (e : Effect T W) (r : Option (Reply T)) (s : Stage (Phase T) T W) (key : Key) → StageAt c x at ds seen → Moves c at e r s → c.queue.items ≡ [] → Settled x key e r s
-  empty_goes c x (Trying f y) ds seen e r s key st g h = filled c x f y g.mark ds seen e key r s st.0 g.effect g.how h
-  empty_goes c x (Working w) ds seen e r s key st g h = let k = worked_spares c w e r s g in inl (ap (λ (q : Queue T). q.items) k.0 ∙ h)
-  empty_goes c x (Finished kept) ds seen e r s key st g h = inl (ap (λ (z : Effect T W). z.channel.queue.items) g.0 ∙ h)
-
-  -- the call that makes the step answered for the stream: so it does, or there is no message
-  pub answering_goes : (c : Channel T W) (x : ChannelAsk T W) (at : Stage (Phase T) T W) (ds : List (MarkedMoment T W)) (seen : List (Channel T W)) (e : Effect T W) (r : Option (Reply T)) (s : Stage (Phase T) T W) (key : Key)
-      → StageAt c x at ds seen → Moves c at e r s → WaitApart Streams c → Waits Streams key e.channel → (IsSending x × IsBringing at) ⊎ HasInHand key at → Settled x key e r s
-  answering_goes c x at ds seen e r s key st g apart w (inl h) = bringing_goes c x at ds seen e r s key st g h.0 h.1 w
-  answering_goes c x at ds seen e r s key st g apart w (inr h) = in_hand_goes c x at ds seen e r s key st g h apart w
-
-  -- ---- who waits
-
-  stream_comes : (x : ChannelAsk T W) (w : Waiting T) (task : W) (key : Key) (r : Option (Reply T)) (s : Stage (Phase T) T W) → line_of w ≡ Streams → Turned (again w (Some key) task) r s → Going x key r s
-  stream_comes x waiting.Stream task key r s e t = (t.0, inr (subst (λ (z : Stage (Phase T) T W). HasInHand key z) (sym t.1) refl))
-  stream_comes x (waiting.Send m) task key r s e t = absurd (let never : Sends ≡ Streams = e in cc)
-  stream_comes x waiting.Receive task key r s e t = absurd (let never : Receives ≡ Streams = e in cc)
-  stream_comes x waiting.Closing task key r s e t = absurd (let never : Closings ≡ Streams = e in cc)
-
-  pub newcomer_goes : (c : Channel T W) (x : ChannelAsk T W) (e : Effect T W) (r : Option (Reply T)) (s : Stage (Phase T) T W) (key : Key) → Tries Streams c e r s key → Going x key r s
-  newcomer_goes c x e r s key (w, task, line, turned) = stream_comes x w task key r s line turned
+  pub stream_ledger : Ledger {T = T} {W = W} Streams NoneOrTold counts_for_streams HasInHand (λ z. ⊥)
+  stream_ledger = record { more = more_told_of; comes = stream_comes; keeps = keeps_in_hand; pays = stream_pays }

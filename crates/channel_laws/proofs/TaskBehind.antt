@@ -1,20 +1,8 @@
 -- A merge, with other tasks for which its tasks were put: it goes on step by step, whichever tasks each call begins with.
 use Rattle.std.proofs.Common.{◌≡◌, ℕ, ◌==◌, Bool, true, false, if◌then◌else◌, List, [], ◌∷◌, map, Option, None, Some, MatchOption, option_map, refl, sym, ap, subst, ◌∙◌}
-use Rattle.concurrent_queue.specs.declared.cells.QueueForm.{QueueForm}
-use Rattle.concurrent_queue.specs.declared.queue_call.QueueCall.{QueueCall}
+use Rattle.channel_laws.proofs.Words.{QueueForm, QueueCall, first, kept_by, Parts, Takes, ChannelMakes, ChannelAsk, Mark, Reply, Kept, Stage, Turn, Act, on_nothing, Event, begins, Happening, Given, Notes, Acts, own, opened_parts, Changes, InOneOrder, WakesFor, with_asked, asks_of, TasksMayTellMore, ask_by, stage_by, event_by, all_by}
 use Rattle.concurrent_queue.proofs.Callers.{is_same, itself}
-use Rattle.channel_calls.specs.Asks.{first, kept_by}
-use Rattle.channel_calls.specs.Parts.{Parts}
-use Rattle.channel_calls.specs.Walks.{Takes, ChannelMakes}
-use Rattle.channel_calls.specs.declared.ask.ChannelAsk.{ChannelAsk}
-use Rattle.channel_calls.specs.declared.mark.Mark.{Mark}
-use Rattle.channel_calls.specs.declared.reply.Reply.{Reply}
-use Rattle.channel_calls.specs.declared.stage.Kept.{Kept}
-use Rattle.channel_calls.specs.declared.stage.Stage.{Stage}
-use Rattle.channel_calls.specs.declared.stage.Turn.{Turn}
-use Rattle.channel_laws.specs.Bridge.{Act, on_nothing, Event, begins, does, Happening, Given, Notes, Acts, own, opened_parts, Changes, InOneOrder}
-use Rattle.channel_laws.specs.Named.{WakesFor, with_asked, asks_of, TasksMayTellMore}
-use Rattle.channel_laws.specs.Tasks.{ask_by, stage_by, event_by, all_by}
+use Rattle.channel_laws.specs.Bridge.{does}
 use Rattle.channel_laws.proofs.TaskSteps.{both_so, step_before}
 use Rattle.channel_laws.proofs.TaskTurns.{first_alike, kept_alike, taken}
 

@@ -2,9 +2,7 @@
 use Rattle.std.proofs.Common.{◌≡◌, ℕ, min, ◌-◌, Bool, true, false, cond, if◌then◌else◌, List, [], ◌∷◌, ◌++◌, map, length, take, drop, Option, None, Some, is_some, option_map, refl, sym, ap, ◌∙◌}
 use Rattle.std.proofs.lemmas.List.{map-append, length-map, take-map, drop-map}
 use Rattle.std.specs.Map.{lookup, remove_entry, set_value}
-use Rattle.event_listener.specs.Lists.{Lists, Notice, told_as, waits_as, kind_of, same_key, listened, without, with_task, told_with, moved, notified, passed, passed_wakes, registration, removed, removed_wakes, tasks_of}
-use Rattle.event_listener.specs.declared.key.Key.{Key}
-use Rattle.channel_laws.specs.Tasks.{listener_by}
+use Rattle.channel_laws.proofs.Words.{Notice, told_as, waits_as, kind_of, same_key, listened, without, with_task, told_with, moved, passed, registration, removed, removed_wakes, Key, Lists, notified, passed_wakes, tasks_of, listener_by}
 
 module _ {W V : Type 0} (put : W → V) where
   -- ---- a list of waiting listeners

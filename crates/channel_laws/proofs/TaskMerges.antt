@@ -1,19 +1,7 @@
 -- Other tasks put for those of a merge.
 use Rattle.std.proofs.Common.{◌≡◌, ℕ, ◌==◌, Bool, true, false, if◌then◌else◌, List, [], ◌∷◌, map, Option, None, Some, option_map, refl, sym, ap, subst, ◌∙◌}
-use Rattle.concurrent_queue.specs.declared.cells.QueueForm.{QueueForm}
-use Rattle.concurrent_queue.specs.declared.queue_call.QueueCall.{QueueCall}
-use Rattle.channel_calls.specs.Asks.{first}
-use Rattle.channel_calls.specs.Deeds.{Deed, stepped, inserted, registered, taken_off, one_told, more_told, all_told, counted, lowered, raised}
-use Rattle.channel_calls.specs.Parts.{Parts, Roster}
-use Rattle.channel_calls.specs.Walks.{Takes, ChannelMakes}
-use Rattle.channel_calls.specs.declared.mark.Mark.{Mark}
-use Rattle.channel_calls.specs.declared.reply.Reply.{Reply}
-use Rattle.channel_calls.specs.declared.stage.Kept.{Kept}
-use Rattle.channel_calls.specs.declared.stage.Stage.{Stage}
-use Rattle.channel_calls.specs.declared.stage.Turn.{Turn}
-use Rattle.channel_laws.specs.Bridge.{Act, on_queue, on_roster, on_nothing, Event, begins, does, Happening, Given, Notes, Acts, own, Changes, InOneOrder}
-use Rattle.channel_laws.specs.Named.{WakesSo, MergesHaveAnyTasks}
-use Rattle.channel_laws.specs.Tasks.{roster_by, parts_by, deed_by, act_by, stage_by, event_by, all_by}
+use Rattle.channel_laws.proofs.Words.{QueueForm, QueueCall, first, Deed, stepped, Parts, Roster, Takes, ChannelMakes, Mark, Reply, Kept, Stage, Turn, Act, on_queue, on_roster, on_nothing, Event, begins, Happening, Given, Notes, Acts, own, Changes, InOneOrder, WakesSo, MergesHaveAnyTasks, roster_by, parts_by, deed_by, act_by, stage_by, event_by, all_by}
+use Rattle.channel_laws.specs.Bridge.{does}
 use Rattle.channel_laws.proofs.TaskCells.{done_so}
 use Rattle.channel_laws.proofs.TaskTurns.{first_alike, kept_alike, takes}
 use Rattle.channel_laws.proofs.TaskWalks.{made_so}
@@ -34,15 +22,7 @@ module _ {T W V : Type 0} (put : W → V) where
 
   noted : (form : QueueForm) (o : Act T W) (d : Deed T W) → Notes form d on_nothing o → Notes form (deed_by put d) on_nothing (act_by put o)
   noted form o (stepped call after r) (x, makes, is) = (x, makes, ap act_so is)
-  noted form o (inserted line r) is = ap act_so is
-  noted form o (registered line key task r) is = ap act_so is
-  noted form o (taken_off line key names) is = ap act_so is
-  noted form o (one_told line names) is = ap act_so is
-  noted form o (more_told line n names) is = ap act_so is
-  noted form o (all_told line names) is = ap act_so is
-  noted form o (counted side n) is = ap act_so is
-  noted form o (lowered side n) is = ap act_so is
-  noted form o (raised side n b) is = ap act_so is
+  noted form o w is = ap act_so is
 
   made : (form : QueueForm) (at : Stage (QueueCall T) T W) (o : Act T W) (m : Mark) (next : Stage (QueueCall T) T W) (r : Option (Reply T)) → ChannelMakes (Notes form) at on_nothing o m next r
       → ChannelMakes (Notes form) (stage_by put at) on_nothing (act_by put o) m (stage_by put next) r
@@ -56,8 +36,6 @@ module _ {T W V : Type 0} (put : W → V) where
   acts_so form (Some at) [] rs is = is
   acts_so form None (begins a ∷ ys) rs (s, start, more) =
       (stage_by put s, subst (λ (t : Turn T V). Takes t (stage_by put s) None) (first_alike put a) (takes put (first a) s None start), acts_so form (Some s) ys rs more)
-  acts_so form None (does o ∷ ys) rs h = absurd h
-  acts_so form (Some at) (begins a ∷ ys) rs h = absurd h
   acts_so form (Some at) (does o ∷ ys) rs (m, next, None, makes, more) = (m, stage_by put next, None, made form at o m next None makes, acts_so form (Some next) ys rs more)
   acts_so form (Some at) (does o ∷ ys) rs (m, next, Some r, makes, (more, is, goes)) = (
     m,
@@ -66,6 +44,7 @@ module _ {T W V : Type 0} (put : W → V) where
     made form at o m next (Some r) makes,
     (more, is ∙ ap (λ (k : Kept T). record { reply = r; kept = k } ∷ more) (sym (kept_alike put next)), acts_so form None ys more goes),
   )
+  acts_so form x y rs h = absurd h
 
   -- ---- the cells
 
@@ -74,11 +53,9 @@ module _ {T W V : Type 0} (put : W → V) where
     both_so c = (parts_by put c.0, c.1)
 
     changes_so : (y : Event T W) (c e : Parts T W × S) → Changes wakes y c e → Changes (WakesSo put wakes) (event_by put y) (both_so c) (both_so e)
-    changes_so (begins a) c e is = ap both_so is
     changes_so (does (on_queue (Some d))) c e (h, same, sink) = (h, ap (λ (a : Roster W). roster_by put a) same, sink)
-    changes_so (does (on_queue None)) c e is = ap both_so is
     changes_so (does (on_roster d)) c e h = done_so put wakes d c e h
-    changes_so (does on_nothing) c e is = ap both_so is
+    changes_so w c e is = ap both_so is
 
     in_order_so : (xs : List (Happening T W)) (c e : Parts T W × S) → InOneOrder wakes xs c e → InOneOrder (WakesSo put wakes) (all_by put xs) (both_so c) (both_so e)
     in_order_so [] c e is = ap both_so is

@@ -1,34 +1,10 @@
 -- A step of a merge, with other tasks for which its tasks were put.
 use Rattle.std.proofs.Common.{◌≡◌, ℕ, true, List, map, Option, None, Some, refl, sym, ap, subst, ◌∙◌}
 use Rattle.concurrent_queue.specs.Deeds as cell
-use Rattle.concurrent_queue.specs.declared.call.QueueReply.{QueueReply}
-use Rattle.concurrent_queue.specs.declared.cells.QueueForm.{QueueForm}
-use Rattle.concurrent_queue.specs.declared.queue_call.QueueCall.{QueueCall}
-use Rattle.event_listener.specs.Lists.{removed, removed_wakes}
-use Rattle.event_listener.specs.Notices.{Woken}
-use Rattle.event_listener.specs.declared.key.Key.{Key}
-use Rattle.channel_calls.specs.Answered.{answered_next}
-use Rattle.channel_calls.specs.Deeds.{Deed, inserted, registered, taken_off, one_told, more_told, all_told, counted, lowered, raised, Done}
-use Rattle.channel_calls.specs.Effects.{Does}
-use Rattle.channel_calls.specs.Parts.{Parts, told_one, told_one_wakes, told_more, told_more_wakes, told_all, told_all_wakes}
-use Rattle.channel_calls.specs.Turns.{line_of, leaving, nothing_kept, registered_next}
-use Rattle.channel_calls.specs.Walks.{Takes, Heard, Leaves, WorkMakes, ChannelMakes, Marked}
-use Rattle.channel_calls.specs.declared.mark.Mark.{Mark}
+use Rattle.channel_laws.proofs.Words.{QueueReply, QueueForm, QueueCall, removed, removed_wakes, Woken, Key, answered_next, Deed, inserted, registered, taken_off, one_told, more_told, all_told, counted, lowered, raised, Done, Does, Parts, told_one, told_one_wakes, told_more, told_more_wakes, told_all, told_all_wakes, line_of, leaving, nothing_kept, registered_next, Takes, Heard, Leaves, WorkMakes, ChannelMakes, Marked, Mark, Reply, Aim, Held, Line, Stage, Trying, Working, Finished, Turn, Works, Ends, Work, TellReceive, TellStreams, TellSend, TellSends, TakeRoom, TellAll, Insert, Register, Leave, Lower, Count, Load, Raise, Act, on_queue, on_roster, on_nothing, Notes, Changes, WakesFor, parts_by, act_by, aim_by, work_by, stage_by}
 use Rattle.channel_calls.specs.declared.mark.Mark.TheVariants.{Nothing}
-use Rattle.channel_calls.specs.declared.reply.Reply.{Reply}
 use Rattle.channel_calls.specs.declared.reply.Reply.TheVariants as reply
-use Rattle.channel_calls.specs.declared.stage.Aim.{Aim}
-use Rattle.channel_calls.specs.declared.stage.Held.{Held}
-use Rattle.channel_calls.specs.declared.stage.Line.{Line}
-use Rattle.channel_calls.specs.declared.stage.Stage.{Stage}
-use Rattle.channel_calls.specs.declared.stage.Stage.TheVariants.{Trying, Working, Finished}
-use Rattle.channel_calls.specs.declared.stage.Turn.{Turn}
-use Rattle.channel_calls.specs.declared.stage.Turn.TheVariants.{Works, Ends}
-use Rattle.channel_calls.specs.declared.stage.Work.{Work}
-use Rattle.channel_calls.specs.declared.stage.Work.TheVariants.{TellReceive, TellStreams, TellSend, TellSends, TakeRoom, TellAll, Insert, Register, Leave, Lower, Count, Load, Raise}
-use Rattle.channel_laws.specs.Bridge.{Act, on_queue, on_roster, on_nothing, does, Notes, Changes}
-use Rattle.channel_laws.specs.Named.{WakesFor}
-use Rattle.channel_laws.specs.Tasks.{parts_by, act_by, aim_by, work_by, stage_by}
+use Rattle.channel_laws.specs.Bridge.{does}
 use Rattle.channel_laws.proofs.TaskCells.{one_alike, one_wakes, more_alike, more_wakes, all_alike, all_wakes, wakes_for, told_before, inserted_before, registered_before, counted_before, lowered_before, raised_before, stepped_before}
 use Rattle.channel_laws.proofs.TaskLists.{removed_by, removed_wakes_by}
 use Rattle.channel_laws.proofs.TaskTurns.{ends_alike, told_all_alike, inserted_alike, registered_alike, lowered_alike, loaded_alike, raised_alike, room_taken, answered_alike, taken, marked}

@@ -1,44 +1,18 @@
 -- Other tasks put for those of a call: what follows each answer is what followed it, with these tasks.
 use Rattle.std.proofs.Common.{◌≡◌, inl, inr, ℕ, zero, suc, ◌==◌, nat_lt, Bool, true, false, if◌then◌else◌, List, [], ◌∷◌, ◌++◌, Option, None, Some, Result, Ok, Err, option_map, refl, sym, ap, subst, ◌∙◌}
 use Rattle.concurrent_queue.specs.declared.call.QueueAsk.TheVariants as ask
-use Rattle.concurrent_queue.specs.declared.call.QueueReply.{QueueReply}
-use Rattle.concurrent_queue.specs.declared.call.QueueReply.TheVariants.{Push, Force, Pop, Close, Flag, Count, Cap}
+use Rattle.channel_laws.proofs.Words.{QueueReply, QueueCall, Key, ListenError, gathered_next, short_next, stream_next, polled_next, answered_next, first, kept_by, Gathered, with_last, leaving, nothing_kept, closer_ending, registered_next, told_all_next, again, Takes, Marked, ChannelAsk, Loan, TryRecvError, Mark, Reply, Aim, Closer, Ending, Held, Line, Sends, Receives, Streams, Closings, Side, Stage, Trying, Working, Finished, Turn, Tries, Works, Ends, Waiting, Push, Force, Pop, Flag, Cap, sent_next, forced_next, received_next, several_next, send_next, receive_next, closing_next, closed_next, asked_next, terminated_next, upgraded_next, asks_listener, most, ends_by, refused_next, dropper, inserted_next, room_next, roomless, TakesRoom, lowered_next, counted_next, loaded_next, raised_next, Making, ask_by, aim_by, turn_by, stage_by}
+use Rattle.concurrent_queue.specs.declared.call.QueueReply.TheVariants.{Close, Count}
 use Rattle.concurrent_queue.specs.declared.error.PushError.TheVariants as push_error
 use Rattle.concurrent_queue.specs.declared.error.ForcePushError.TheVariants as force_error
 use Rattle.concurrent_queue.specs.declared.error.PopError.TheVariants as pop_error
-use Rattle.concurrent_queue.specs.declared.queue_call.QueueCall.{QueueCall}
-use Rattle.event_listener.specs.declared.key.Key.{Key}
-use Rattle.event_listener.specs.declared.error.ListenError.{ListenError}
-use Rattle.channel_calls.specs.Answered.{sent_next, forced_next, received_next, gathered_next, short_next, several_next, send_next, receive_next, stream_next, closing_next, polled_next, closed_next, asked_next, terminated_next, upgraded_next, answered_next}
-use Rattle.channel_calls.specs.Asks.{asks_listener, begins, first, kept_by}
-use Rattle.channel_calls.specs.Several.{Gathered, with_last}
-use Rattle.channel_calls.specs.Turns.{most, leaving, nothing_kept, ends_by, refused_next, closer_ending, dropper, inserted_next, registered_next, told_all_next, room_next, roomless, TakesRoom, lowered_next, counted_next, loaded_next, raised_next, again}
-use Rattle.channel_calls.specs.Walks.{Takes, Marked}
-use Rattle.channel_calls.specs.declared.ask.ChannelAsk.{ChannelAsk}
+use Rattle.channel_calls.specs.Asks.{begins}
 use Rattle.channel_calls.specs.declared.ask.ChannelAsk.TheVariants as call
-use Rattle.channel_calls.specs.declared.ask.Loan.{Loan}
-use Rattle.channel_calls.specs.declared.error.TryRecvError.{TryRecvError}
-use Rattle.channel_calls.specs.declared.mark.Mark.{Mark}
-use Rattle.channel_calls.specs.declared.reply.Reply.{Reply}
 use Rattle.channel_calls.specs.declared.reply.Reply.TheVariants as reply
-use Rattle.channel_calls.specs.declared.stage.Aim.{Aim}
 use Rattle.channel_calls.specs.declared.stage.Aim.TheVariants as aim
-use Rattle.channel_calls.specs.declared.stage.Closer.{Closer}
-use Rattle.channel_calls.specs.declared.stage.Ending.{Ending}
-use Rattle.channel_calls.specs.declared.stage.Held.{Held}
-use Rattle.channel_calls.specs.declared.stage.Line.{Line}
-use Rattle.channel_calls.specs.declared.stage.Line.TheVariants.{Sends, Receives, Streams, Closings}
-use Rattle.channel_calls.specs.declared.stage.Making.{Making}
 use Rattle.channel_calls.specs.declared.stage.Making.TheVariants as making
-use Rattle.channel_calls.specs.declared.stage.Side.{Side}
-use Rattle.channel_calls.specs.declared.stage.Stage.{Stage}
-use Rattle.channel_calls.specs.declared.stage.Stage.TheVariants.{Trying, Working, Finished}
-use Rattle.channel_calls.specs.declared.stage.Turn.{Turn}
-use Rattle.channel_calls.specs.declared.stage.Turn.TheVariants.{Tries, Works, Ends}
-use Rattle.channel_calls.specs.declared.stage.Waiting.{Waiting}
 use Rattle.channel_calls.specs.declared.stage.Waiting.TheVariants as waiting
 use Rattle.channel_calls.specs.declared.stage.Work.TheVariants as work
-use Rattle.channel_laws.specs.Tasks.{ask_by, aim_by, turn_by, stage_by}
 
 module _ {T W V : Type 0} (put : W → V) where
   abbrev Same : Turn T W → Turn T V → Type 0
@@ -54,10 +28,8 @@ module _ {T W V : Type 0} (put : W → V) where
     at (Some held) = refl
 
   pub told_all_alike : (line : Line) (c : Closer) → Same (told_all_next line c) (told_all_next line c)
-  told_all_alike Sends c = refl
-  told_all_alike Receives c = refl
-  told_all_alike Streams c = refl
   told_all_alike Closings c = ends_alike (closer_ending c true)
+  told_all_alike w c = refl
 
   pub inserted_alike : (w : Waiting T) (task : W) (o : Result Key ListenError) → Same (inserted_next w task o) (inserted_next w (put task) o)
   inserted_alike w task (Ok key) = refl

@@ -1,23 +1,7 @@
 -- Other tasks put for those of a call: it is walked as it was.
 use Rattle.std.proofs.Common.{◌≡◌, ℕ, zero, suc, map, Option, None, Some, option_map, refl, sym, ap, subst, ◌∙◌}
-use Rattle.concurrent_queue.specs.declared.call.QueueReply.{QueueReply}
-use Rattle.concurrent_queue.specs.declared.queue_call.QueueCall.{QueueCall}
-use Rattle.channel_calls.specs.Deeds.{Deed, taken_off}
-use Rattle.channel_calls.specs.Turns.{leaving, nothing_kept}
-use Rattle.channel_calls.specs.Walks.{Takes, Heard, Leaves, WorkMakes, ChannelMakes, Leads}
-use Rattle.channel_calls.specs.declared.mark.Mark.{Mark}
-use Rattle.channel_calls.specs.declared.reply.Reply.{Reply}
+use Rattle.channel_laws.proofs.Words.{QueueReply, QueueCall, Deed, taken_off, leaving, nothing_kept, Takes, Heard, Leaves, WorkMakes, ChannelMakes, Leads, Mark, Reply, Aim, Held, Stage, Trying, Working, Finished, Turn, Works, Ends, Work, TellReceive, TellStreams, TellSend, TellSends, TakeRoom, TellAll, Insert, Register, Leave, Lower, Count, Load, Raise, DidSo, WalksHaveAnyTasks, deed_by, aim_by, work_by, turn_by, stage_by}
 use Rattle.channel_calls.specs.declared.reply.Reply.TheVariants as reply
-use Rattle.channel_calls.specs.declared.stage.Aim.{Aim}
-use Rattle.channel_calls.specs.declared.stage.Held.{Held}
-use Rattle.channel_calls.specs.declared.stage.Stage.{Stage}
-use Rattle.channel_calls.specs.declared.stage.Stage.TheVariants.{Trying, Working, Finished}
-use Rattle.channel_calls.specs.declared.stage.Turn.{Turn}
-use Rattle.channel_calls.specs.declared.stage.Turn.TheVariants.{Works, Ends}
-use Rattle.channel_calls.specs.declared.stage.Work.{Work}
-use Rattle.channel_calls.specs.declared.stage.Work.TheVariants.{TellReceive, TellStreams, TellSend, TellSends, TakeRoom, TellAll, Insert, Register, Leave, Lower, Count, Load, Raise}
-use Rattle.channel_laws.specs.Named.{DidSo, WalksHaveAnyTasks}
-use Rattle.channel_laws.specs.Tasks.{deed_by, aim_by, work_by, turn_by, stage_by}
 use Rattle.channel_laws.proofs.TaskTurns.{ends_alike, told_all_alike, inserted_alike, registered_alike, lowered_alike, loaded_alike, raised_alike, takes_room, answered_alike, kept_alike, takes, marks}
 
 -- what a machine does by one relation, with these tasks, it does with others by another one, by which its deed was done with those

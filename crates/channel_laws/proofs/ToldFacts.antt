@@ -1,11 +1,7 @@
 -- How many are told after a section on a list, and how they were told.
 use Rattle.std.proofs.Common.{zero, suc, ◌≡◌, ℕ, ◌+◌, ◌-◌, ◌≤◌, Bool, true, false, if◌then◌else◌, min, List, [], ◌∷◌, ◌++◌, length, take, map, Option, None, Some, is_some, not, ◌⊎◌, inl, inr, refl, sym, ap, ◌∙◌, subst, arith, length-append}
 use Rattle.std.specs.Map.{lookup, remove_entry}
-use Rattle.event_listener.specs.Lists.{Notice, same_key, told_as, waits_as, told_with, without, with_task, moved, passed, registration, removed}
-use Rattle.event_listener.specs.declared.key.Key.{Key}
-use Rattle.channel_calls.specs.Parts.{Listeners, told_one, told_more, told_all, waits}
-use Rattle.channel_laws.specs.Notices.{AnyTold, EachTold}
-use Rattle.channel_laws.specs.Waits.{IsIn}
+use Rattle.channel_laws.proofs.Words.{Notice, same_key, told_as, waits_as, told_with, without, with_task, moved, passed, registration, removed, Key, Listeners, told_one, told_more, told_all, waits, AnyTold, EachTold, IsIn}
 use Rattle.channel_laws.proofs.ListFacts.{removed_as, thin_drop, thin_told_more}
 use mathlib.Core.Bool.{cond}
 
@@ -75,10 +71,9 @@ module _ (b : Bool) where
   any_found key (w ∷ ws) n e k = found_at (same_key key w.0) w ws (lookup (same_key key) ws) n (any_found key ws n) e k
 
   any_with : {W : Type 0} → (a : Bool) (ws : List (Key × Option W)) (tags : List Unit) → AnyTold b (told_with a ws tags) → a ≡ b
-  any_with a [] tags h = absurd h
-  any_with a (w ∷ ws) [] h = absurd h
   any_with a (w ∷ ws) (t ∷ ts) (inl h) = h
   any_with a (w ∷ ws) (t ∷ ts) (inr h) = any_with a ws ts h
+  any_with a x tags h = absurd h
 
   module _ {W : Type 0} where
     or_so : {A : Type 0} → (a : Bool) (ws : List (Key × Option W)) (tags : List Unit) → A ⊎ AnyTold b (told_with a ws tags) → A

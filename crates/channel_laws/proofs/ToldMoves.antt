@@ -1,27 +1,7 @@
 -- What a step does to those of a list that were told.
-use Rattle.std.proofs.Common.{◌≡◌, ℕ, ◌+◌, ◌-◌, ◌≤◌, Bool, true, false, if◌then◌else◌, List, [], length, Option, None, Some, ◌⊎◌, inl, inr, refl, sym, ap, subst, arith}
-use Rattle.concurrent_queue.specs.Queue.{Phase}
-use Rattle.event_listener.specs.Lists.{listened, registration, removed, removed_wakes}
-use Rattle.event_listener.specs.declared.key.Key.{Key}
-use Rattle.channel_calls.specs.Marks.{up, down}
-use Rattle.channel_calls.specs.Moves.{Channel, Effect, queued, untouched, on_line, on_count, leaves, Turned, Worked, Moves}
-use Rattle.channel_calls.specs.Parts.{Listeners, listeners, count, is_raised, told_one, told_one_wakes, told_more, told_more_wakes, told_all, told_all_wakes, waits}
-use Rattle.channel_calls.specs.Turns.{line_of, again, pends_by}
-use Rattle.channel_calls.specs.declared.mark.Mark.{Mark}
-use Rattle.channel_calls.specs.declared.reply.Reply.{Reply}
-use Rattle.channel_calls.specs.declared.stage.Held.{Held}
-use Rattle.channel_calls.specs.declared.stage.Line.{Line}
-use Rattle.channel_calls.specs.declared.stage.Line.TheVariants.{Sends, Receives, Streams, Closings}
-use Rattle.channel_calls.specs.declared.stage.Side.{Side}
-use Rattle.channel_calls.specs.declared.stage.Side.TheVariants.{Senders, Receivers}
-use Rattle.channel_calls.specs.declared.stage.Stage.{Stage}
-use Rattle.channel_calls.specs.declared.stage.Stage.TheVariants.{Trying, Working, Finished}
-use Rattle.channel_calls.specs.declared.stage.Ending.{Ending}
-use Rattle.channel_calls.specs.declared.stage.Waiting.{Waiting}
-use Rattle.channel_calls.specs.declared.stage.Work.{Work}
-use Rattle.channel_calls.specs.declared.stage.Work.TheVariants.{TellReceive, TellStreams, TellSend, TellSends, TakeRoom, TellAll, Insert, Register, Leave, Lower, Count, Load, Raise}
-use Rattle.channel_laws.specs.Notices.{IsOneByOne, AnyTold, told_of}
-use Rattle.channel_laws.specs.Waits.{IsIn}
+use Rattle.std.proofs.Common.{◌≡◌, ℕ, ◌+◌, ◌≤◌, Bool, true, false, if◌then◌else◌, length, Option, None, ◌⊎◌, inl, inr, refl, sym, ap, subst, arith}
+use Rattle.channel_laws.proofs.Words.{Phase, registration, removed, Key, Channel, Effect, Turned, Worked, Moves, Listeners, listeners, waits, line_of, again, pends_by, Reply, Line, Sends, Receives, Streams, Stage, Trying, Working, Finished, Ending, Waiting, Work, TellReceive, TellStreams, TellSend, TellSends, TellAll, Insert, Register, Leave, AnyTold, told_of, IsIn}
+use Rattle.channel_laws.proofs.Sections.{Touched, TellsOthers, Section, section}
 use Rattle.channel_laws.proofs.ToldFacts.{any_told_one, any_told_more, any_told_all, any_after_removal, any_registration, told_one_counts, told_more_counts, removed_counts, registered_counts}
 
 abbrev pub is_receives : Line → ℕ
@@ -36,57 +16,16 @@ abbrev pub is_sends : Line → ℕ
 is_sends Sends = 1
 is_sends line = 0
 
+and_at : {A B C : Type 0} → A → B ⊎ C → B ⊎ (A × C)
+and_at a (inl h) = inl h
+and_at a (inr h) = inr (a, h)
+
+module _ {W : Type 0} where
+  -- as of the list that a work makes
+  kept_to : {A : Type 0} → (b : Bool) (l l' k : Listeners W) → l' ≡ k → (AnyTold b k.told → AnyTold b l.told ⊎ A) → AnyTold b l'.told → AnyTold b l.told ⊎ A
+  kept_to b l l' k is f h = f (subst (λ (z : Listeners W). AnyTold b z.told) is h)
+
 module _ {T W : Type 0} where
-  -- ---- a section on one list
-
-  -- what holds of a list before and after a section on it, and of a list that no section touches
-  by_line : (P : Listeners W → Listeners W → Type 0) (line at : Line) (l : Listeners W) (names : List W) (c : Channel T W)
-      → (line ≡ at → P (listeners line c.roster) l) → P (listeners line c.roster) (listeners line c.roster)
-      → P (listeners line c.roster) (listeners line (let e : Effect T W = on_line at l names c in e.channel.roster))
-  by_line P Sends Sends l names c f h = f refl
-  by_line P Receives Receives l names c f h = f refl
-  by_line P Streams Streams l names c f h = f refl
-  by_line P Closings Closings l names c f h = f refl
-  by_line P Sends at l names c f h = h
-  by_line P Receives at l names c f h = h
-  by_line P Streams at l names c f h = h
-  by_line P Closings at l names c f h = h
-
-  by_count : (P : Listeners W → Listeners W → Type 0) (line : Line) (side : Side) (n : ℕ) (m : Mark) (c : Channel T W)
-      → P (listeners line c.roster) (listeners line c.roster)
-      → P (listeners line c.roster) (listeners line (let e : Effect T W = on_count side n m c in e.channel.roster))
-  by_count P Sends Senders n m c h = h
-  by_count P Sends Receivers n m c h = h
-  by_count P Receives Senders n m c h = h
-  by_count P Receives Receivers n m c h = h
-  by_count P Streams Senders n m c h = h
-  by_count P Streams Receivers n m c h = h
-  by_count P Closings Senders n m c h = h
-  by_count P Closings Receivers n m c h = h
-
-  by_raise : (P : Listeners W → Listeners W → Type 0) (line : Line) (b : Bool) (side : Side) (n : ℕ) (c : Channel T W)
-      → P (listeners line c.roster) (listeners line c.roster)
-      → P (listeners line c.roster) (listeners line
-      (let e : Effect T W = if b then on_count side (n + 1) (up side) c else untouched c in e.channel.roster))
-  by_raise P line true side n c h = by_count P line side (n + 1) (up side) c h
-  by_raise P line false side n c h = h
-
-  by_leaving : (P : Listeners W → Listeners W → Type 0) (line : Line) (o : Option Held) (c : Channel T W)
-      → ((h : Held) → o ≡ Some h → line ≡ h.line → P (listeners line c.roster) (removed h.key true (listeners h.line c.roster)))
-      → P (listeners line c.roster) (listeners line c.roster)
-      → P (listeners line c.roster) (listeners line (let e : Effect T W = leaves o c in e.channel.roster))
-  by_leaving P line None c f h = h
-  by_leaving P line (Some k) c f h =
-      by_line P line k.line (removed k.key true (listeners k.line c.roster))
-      (removed_wakes k.key true (listeners k.line c.roster)) c (f k refl) h
-
-  -- the same for the effect that a step has
-  as_is : (P : Listeners W → Listeners W → Type 0) (line : Line) (c : Channel T W) (e e' : Effect T W) → e ≡ e'
-      → P (listeners line c.roster) (listeners line e'.channel.roster)
-      → P (listeners line c.roster) (listeners line e.channel.roster)
-  as_is P line c e e' same h =
-      subst (λ (x : Effect T W). P (listeners line c.roster) (listeners line x.channel.roster)) (sym same) h
-
   -- ---- how they were told
 
   -- a call at this stage tells one of this list so
@@ -103,79 +42,28 @@ module _ {T W : Type 0} where
     abbrev Keeps : Stage (Phase T) T W → Listeners W → Listeners W → Type 0
     Keeps at l l' = AnyTold b l'.told → AnyTold b l.told ⊎ Tells line b at
 
-    and_at : (at : Line) (c : Channel T W) (so : Bool) → line ≡ at → AnyTold b (told_of at c) ⊎ (so ≡ b)
-        → AnyTold b (told_of line c) ⊎ ((line ≡ at) × (so ≡ b))
-    and_at at c so e (inl h) = inl (subst (λ (z : Line). AnyTold b (told_of z c)) (sym e) h)
-    and_at at c so e (inr h) = inr (e, h)
+    touched_told : (w : Work T W) (r : Option (Reply T)) (s : Stage (Phase T) T W) (l l' : Listeners W) → Touched w r s line l l' → Keeps (Working w) l l'
+    touched_told (TellReceive x) r s l l' (at, is) h = kept_to b l l' _ is (λ k. and_at at (any_told_one b l k)) h
+    touched_told (TellStreams x) r s l l' (at, is) h = kept_to b l l' _ is (λ k. and_at at (any_told_all b l k)) h
+    touched_told (TellSend x) r s l l' (at, is) h = kept_to b l l' _ is (λ k. and_at at (any_told_one b l k)) h
+    touched_told (TellSends n x) r s l l' (at, is) h = kept_to b l l' _ is (λ k. and_at at (any_told_more b n l k)) h
+    touched_told (TellAll to closer) r s l l' (at, is) h = kept_to b l l' _ is (λ k. and_at at (any_told_all b l k)) h
+    touched_told (Insert w task) r s l l' (at, key, new, is, turned) h = kept_to b l l' _ is (λ k. inl k) h
+    touched_told (Register w key task) r s l l' (at, is, turned) h = kept_to b l l' _ is (λ k. inl (any_registration b key task l k)) h
+    touched_told (Leave x) r s l l' (o, at, is) h = kept_to b l l' _ is (λ k. inl (any_after_removal b o.key l k)) h
+    touched_told w r s l l' none h = absurd none
 
     worked_told : (c : Channel T W) (w : Work T W) (e : Effect T W) (r : Option (Reply T)) (s : Stage (Phase T) T W)
-        → Worked c w e r s
-        → Keeps (Working w) (listeners line c.roster) (listeners line e.channel.roster)
-    worked_told c (TellReceive x) e r s g =
-        as_is (Keeps (Working (TellReceive x))) line c e _ g.0 (
-        by_line (Keeps (Working (TellReceive x))) line Receives (told_one (listeners Receives c.roster))
-        (told_one_wakes (listeners Receives c.roster)) c
-        (λ at h. and_at Receives c true at (any_told_one b (listeners Receives c.roster) h)) (λ h. inl h)
-        )
-    worked_told c (TellStreams x) e r s g =
-        as_is (Keeps (Working (TellStreams x))) line c e _ g.0 (
-        by_line (Keeps (Working (TellStreams x))) line Streams (told_all (listeners Streams c.roster))
-        (told_all_wakes (listeners Streams c.roster)) c
-        (λ at h. and_at Streams c false at (any_told_all b (listeners Streams c.roster) h)) (λ h. inl h)
-        )
-    worked_told c (TellSend x) e r s g =
-        as_is (Keeps (Working (TellSend x))) line c e _ g.0 (
-        by_line (Keeps (Working (TellSend x))) line Sends (told_one (listeners Sends c.roster))
-        (told_one_wakes (listeners Sends c.roster)) c
-        (λ at h. and_at Sends c true at (any_told_one b (listeners Sends c.roster) h)) (λ h. inl h)
-        )
-    worked_told c (TellSends n x) e r s g =
-        as_is (Keeps (Working (TellSends n x))) line c e _ g.0 (
-        by_line (Keeps (Working (TellSends n x))) line Sends (told_more n (listeners Sends c.roster))
-        (told_more_wakes n (listeners Sends c.roster)) c
-        (λ at h. and_at Sends c true at (any_told_more b n (listeners Sends c.roster) h)) (λ h. inl h)
-        )
-    worked_told c (TakeRoom n) e r s g = as_is (Keeps (Working (TakeRoom n))) line c e _ g.0 (λ h. inl h)
-    worked_told c (TellAll at closer) e r s g =
-        as_is (Keeps (Working (TellAll at closer))) line c e _ g.0 (
-        by_line (Keeps (Working (TellAll at closer))) line at (told_all (listeners at c.roster))
-        (told_all_wakes (listeners at c.roster)) c
-        (λ so h. and_at at c false so (any_told_all b (listeners at c.roster) h)) (λ h. inl h)
-        )
-    worked_told c (Insert w task) e r s (inl g) =
-        as_is (Keeps (Working (Insert w task))) line c e _ g.2 (
-        by_line (Keeps (Working (Insert w task))) line (line_of w) (listened g.0 (listeners (line_of w) c.roster)) [] c
-        (λ at h. inl (subst (λ (z : Line). AnyTold b (told_of z c)) (sym at) h)) (λ h. inl h)
-        )
-    worked_told c (Insert w task) e r s (inr g) = as_is (Keeps (Working (Insert w task))) line c e _ g.1 (λ h. inl h)
-    worked_told c (Register w key task) e r s g =
-        as_is (Keeps (Working (Register w key task))) line c e _ g.0 (
-        by_line (Keeps (Working (Register w key task))) line (line_of w)
-        (registration key task (listeners (line_of w) c.roster)) [] c
-        (λ at h. inl (subst (λ (z : Line). AnyTold b (told_of z c)) (sym at)
-        (any_registration b key task (listeners (line_of w) c.roster) h))) (λ h. inl h)
-        )
-    worked_told c (Leave x) e r s g =
-        as_is (Keeps (Working (Leave x))) line c e _ g.0 (
-        by_leaving (Keeps (Working (Leave x))) line x.held c
-        (λ k is at h. inl (subst (λ (z : Line). AnyTold b (told_of z c)) (sym at)
-        (any_after_removal b k.key (listeners k.line c.roster) h))) (λ h. inl h)
-        )
-    worked_told c (Lower side key) e r s g =
-        as_is (Keeps (Working (Lower side key))) line c e _ g.0
-        (by_count (Keeps (Working (Lower side key))) line side (count side c.roster - 1) (down side) c (λ h. inl h))
-    worked_told c (Count side) e r s g = as_is (Keeps (Working (Count side))) line c e _ g.0 (λ h. inl h)
-    worked_told c (Load side making) e r s g = as_is (Keeps (Working (Load side making))) line c e _ g.0 (λ h. inl h)
-    worked_told c (Raise side n making) e r s g =
-        as_is (Keeps (Working (Raise side n making))) line c e _ g.0
-        (by_raise (Keeps (Working (Raise side n making))) line (is_raised side n c.roster) side n c (λ h. inl h))
+        → Section line c e r s w → Keeps (Working w) (listeners line c.roster) (listeners line e.channel.roster)
+    worked_told c w e r s (inl same) h = inl (subst (λ (z : Listeners W). AnyTold b z.told) same.0 h)
+    worked_told c w e r s (inr made) h = touched_told w r s (listeners line c.roster) (listeners line e.channel.roster) made h
 
     pub moved_told : (c : Channel T W) (at : Stage (Phase T) T W) (e : Effect T W) (r : Option (Reply T))
         (s : Stage (Phase T) T W) → Moves c at e r s
         → AnyTold b (told_of line e.channel) → AnyTold b (told_of line c) ⊎ Tells line b at
-    moved_told c (Trying f aim) e r s g = as_is (Keeps (Trying f aim)) line c e (queued f g.mark c) g.effect (λ h. inl h)
-    moved_told c (Working w) e r s g = worked_told c w e r s g
-    moved_told c (Finished kept) e r s g = as_is (Keeps (Finished kept)) line c e _ g.0 (λ h. inl h)
+    moved_told c (Trying f aim) e r s g h = inl (subst (λ (z : Effect T W). AnyTold b (told_of line z.channel)) g.effect h)
+    moved_told c (Working w) e r s g h = worked_told c w e r s (section line c e r s w g) h
+    moved_told c (Finished kept) e r s g h = inl (subst (λ (z : Effect T W). AnyTold b (told_of line z.channel)) g.0 h)
 
   -- ---- how many are told
 
@@ -191,110 +79,59 @@ module _ {T W : Type 0} where
   AsksAnew line (Register v key task) r s = (line ≡ line_of v) × Turned (again v None task) r s
   AsksAnew line w r s = ⊥
 
-  module _ (key : Key) (r : Option (Reply T)) (s : Stage (Phase T) T W) where
+  none_told : (w : Work T W) (line : Line) → TellsOthers w line → tells_now w line ≡ 0
+  none_told (TellReceive x) Receives others = absurd (others refl)
+  none_told (TellReceive x) line others = refl
+  none_told (TellSend x) Sends others = absurd (others refl)
+  none_told (TellSend x) line others = refl
+  none_told (TellSends n x) Sends others = absurd (others refl)
+  none_told (TellSends n x) line others = refl
+  none_told w line others = refl
+
+  module _ (key : Key) (r : Option (Reply T)) (s : Stage (Phase T) T W) (line : Line) where
     -- where this one waits still: as many more are told as the work tells, or one fewer and its poll tries again; or one was
     -- told by the default
-    abbrev pub Counts : Line → Work T W → Listeners W → Listeners W → Type 0
-    Counts line w l l' =
+    abbrev pub Counts : Work T W → Listeners W → Listeners W → Type 0
+    Counts w l l' =
         IsIn key l'.waiting
         → (length l.told + tells_now w line ≤ length l'.told)
         ⊎ ((AsksAnew line w r s × (length l.told ≤ length l'.told + 1)) ⊎ AnyTold false l.told)
 
-    one_receive : (line : Line) → IsOneByOne line → (c : Channel T W) (e : Effect T W) (x : Ending T)
-        → Worked c (TellReceive x) e r s
-        → Counts line (TellReceive x) (listeners line c.roster) (listeners line e.channel.roster)
-    one_receive Receives one c e x g =
-        as_is (Counts Receives (TellReceive x)) Receives c e _ g.0
-        (λ h. inl (let n = told_one_counts key (listeners Receives c.roster) h in omega (arith, n)))
-    one_receive Sends one c e x g = as_is (Counts Sends (TellReceive x)) Sends c e _ g.0 (λ h. inl (omega arith))
-    one_receive line one c e x g = absurd one
+    -- as of the list that the work makes
+    counts_to : (w : Work T W) (l l' k : Listeners W) → l' ≡ k → Counts w l k → Counts w l l'
+    counts_to w l l' k is f h = subst (λ (z : Listeners W). Counts w l z) (sym is) f h
 
-    one_send : (line : Line) → IsOneByOne line → (c : Channel T W) (e : Effect T W) (x : Ending T) → Worked c (TellSend x) e r s
-        → Counts line (TellSend x) (listeners line c.roster) (listeners line e.channel.roster)
-    one_send Sends one c e x g =
-        as_is (Counts Sends (TellSend x)) Sends c e _ g.0
-        (λ h. inl (let n = told_one_counts key (listeners Sends c.roster) h in omega (arith, n)))
-    one_send Receives one c e x g = as_is (Counts Receives (TellSend x)) Receives c e _ g.0 (λ h. inl (omega arith))
-    one_send line one c e x g = absurd one
+    -- as many more are told as the work tells
+    tells : (w : Work T W) (l k : Listeners W) (n : ℕ) → (IsIn key k.waiting → length k.told ≡ length l.told + n) → tells_now w line ≡ n → Counts w l k
+    tells w l k n f told h = let more = f h in inl (omega (arith, more, told))
 
-    more_sends : (line : Line) → IsOneByOne line → (c : Channel T W) (e : Effect T W) (n : ℕ) (x : Ending T) → Worked c (TellSends n x) e r s
-        → Counts line (TellSends n x) (listeners line c.roster) (listeners line e.channel.roster)
-    more_sends Sends one c e n x g =
-        as_is (Counts Sends (TellSends n x)) Sends c e _ g.0
-        (λ h. inl (let k = told_more_counts n key (listeners Sends c.roster) h in omega (arith, k)))
-    more_sends Receives one c e n x g = as_is (Counts Receives (TellSends n x)) Receives c e _ g.0 (λ h. inl (omega arith))
-    more_sends line one c e n x g = absurd one
+    registers : (w : Waiting T) (own : Key) (task : W) (l : Listeners W) → line ≡ line_of w
+        → Turned (if waits own l then pends_by w own else again w None task) r s
+        → (length l.told ≤ length (registration own task l).told)
+        ⊎ ((waits own l ≡ false) × (length l.told ≤ length (registration own task l).told + 1))
+        → Counts (Register w own task) l (registration own task l)
+    registers w own task l at turned (inl n) h = inl (omega (arith, n))
+    registers w own task l at turned (inr (found, n)) h =
+        inr (inl ((at, subst (λ (b : Bool). Turned (if b then pends_by w own else again w None task) r s) found turned), omega (arith, n)))
 
-    module _ (line : Line) (one : IsOneByOne line) (c : Channel T W) where
-      same_number : (at : Line) → line ≡ at → length (told_of line c) ≡ length (told_of at c)
-      same_number at e = ap (λ (z : Line). length (told_of z c)) e
+    leaves_it : (x : Ending T) (l k : Listeners W) → (length l.told ≤ length k.told) ⊎ AnyTold false l.told → Counts (Leave x) l k
+    leaves_it x l k (inl n) h = inl (omega (arith, n))
+    leaves_it x l k (inr d) h = inr (inr d)
 
-      registers_at : (w : Waiting T) (own : Key) (task : W) (l : Listeners W) → line ≡ line_of w
-          → length (told_of line c) ≡ length l.told
-          → Turned (if waits own l then pends_by w own else again w None task) r s
-          → (length l.told ≤ length (registration own task l).told)
-          ⊎ ((waits own l ≡ false) × (length l.told ≤ length (registration own task l).told + 1))
-          → Counts line (Register w own task) (listeners line c.roster) (registration own task l)
-      registers_at w own task l at same turned (inl n) h = inl (omega (arith, same, n))
-      registers_at w own task l at same turned (inr (found, n)) h =
-          inr (inl (
-            (at, subst (λ (b : Bool). Turned (if b then pends_by w own else again w None task) r s) found turned),
-            omega
-                (arith, same, n),
-          ))
+    touched_counts : (w : Work T W) (l l' : Listeners W) → Touched w r s line l l' → Counts w l l'
+    touched_counts (TellReceive x) l l' (at, is) = counts_to (TellReceive x) l l' _ is (tells (TellReceive x) l _ 1 (told_one_counts key l) (ap is_receives at))
+    touched_counts (TellStreams x) l l' (at, is) = counts_to (TellStreams x) l l' _ is (λ h. absurd h)
+    touched_counts (TellSend x) l l' (at, is) = counts_to (TellSend x) l l' _ is (tells (TellSend x) l _ 1 (told_one_counts key l) (ap is_sends at))
+    touched_counts (TellSends n x) l l' (at, is) = counts_to (TellSends n x) l l' _ is (tells (TellSends n x) l _ n (told_more_counts n key l) (ap (λ (z : Line). of_sends n z) at))
+    touched_counts (TellAll to closer) l l' (at, is) = counts_to (TellAll to closer) l l' _ is (λ h. absurd h)
+    touched_counts (Insert w task) l l' (at, own, new, is, turned) = counts_to (Insert w task) l l' _ is (λ h. inl (omega arith))
+    touched_counts (Register w own task) l l' (at, is, turned) = counts_to (Register w own task) l l' _ is (registers w own task l at turned (registered_counts own task l))
+    touched_counts (Leave x) l l' (o, at, is) = counts_to (Leave x) l l' _ is (λ h. leaves_it x l (removed o.key true l) (removed_counts o.key key l h) h)
+    touched_counts w l l' none = absurd none
 
-      leaves_at : (x : Ending T) (k : Held) → line ≡ k.line
-          → (length (told_of k.line c) ≤ length (removed k.key true (listeners k.line c.roster)).told)
-          ⊎ AnyTold false (told_of k.line c)
-          → (length (told_of line c) + 0 ≤ length (removed k.key true (listeners k.line c.roster)).told)
-          ⊎ ((AsksAnew line (Leave x) r s × (length (told_of line c) ≤ length
-          (removed k.key true (listeners k.line c.roster)).told + 1)) ⊎ AnyTold false (told_of line c))
-      leaves_at x k at (inl n) = let same = same_number k.line at in inl (omega (arith, same, n))
-      leaves_at x k at (inr h) = inr (inr (subst (λ (z : Line). AnyTold false (told_of z c)) (sym at) h))
-
-      pub worked_counts : (w : Work T W) (e : Effect T W) → Worked c w e r s
-          → Counts line w (listeners line c.roster) (listeners line e.channel.roster)
-      worked_counts (TellReceive x) e g = one_receive line one c e x g
-      worked_counts (TellStreams x) e g =
-          as_is (Counts line (TellStreams x)) line c e _ g.0 (
-          by_line (Counts line (TellStreams x)) line Streams (told_all (listeners Streams c.roster))
-          (told_all_wakes (listeners Streams c.roster)) c
-          (λ at h. absurd h) (λ h. inl (omega arith))
-          )
-      worked_counts (TellSend x) e g = one_send line one c e x g
-      worked_counts (TellSends n x) e g = more_sends line one c e n x g
-      worked_counts (TakeRoom n) e g = as_is (Counts line (TakeRoom n)) line c e _ g.0 (λ h. inl (omega arith))
-      worked_counts (TellAll at closer) e g =
-          as_is (Counts line (TellAll at closer)) line c e _ g.0 (
-          by_line (Counts line (TellAll at closer)) line at (told_all (listeners at c.roster))
-          (told_all_wakes (listeners at c.roster)) c
-          (λ so h. absurd h) (λ h. inl (omega arith))
-          )
-      worked_counts (Insert w task) e (inl g) =
-          as_is (Counts line (Insert w task)) line c e _ g.2 (
-          by_line (Counts line (Insert w task)) line (line_of w) (listened g.0 (listeners (line_of w) c.roster)) [] c
-          (λ at h. inl (let same = same_number (line_of w) at in omega (arith, same))) (λ h. inl (omega arith))
-          )
-      worked_counts (Insert w task) e (inr g) = as_is (Counts line (Insert w task)) line c e _ g.1 (λ h. inl (omega arith))
-      worked_counts (Register w own task) e g =
-          as_is (Counts line (Register w own task)) line c e _ g.0 (
-          by_line (Counts line (Register w own task)) line (line_of w) (registration own task (listeners (line_of w) c.roster))
-          [] c
-          (λ at. registers_at w own task (listeners (line_of w) c.roster) at (same_number (line_of w) at) g.1
-          (registered_counts own task (listeners (line_of w) c.roster)))
-          (λ h. inl (omega arith))
-          )
-      worked_counts (Leave x) e g =
-          as_is (Counts line (Leave x)) line c e _ g.0 (
-          by_leaving (Counts line (Leave x)) line x.held c
-          (λ k is at h. leaves_at x k at (removed_counts k.key key (listeners k.line c.roster) h)) (λ h. inl (omega arith))
-          )
-      worked_counts (Lower side own) e g =
-          as_is (Counts line (Lower side own)) line c e _ g.0
-          (by_count (Counts line (Lower side own)) line side (count side c.roster - 1) (down side) c
-          (λ h. inl (omega arith)))
-      worked_counts (Count side) e g = as_is (Counts line (Count side)) line c e _ g.0 (λ h. inl (omega arith))
-      worked_counts (Load side making) e g = as_is (Counts line (Load side making)) line c e _ g.0 (λ h. inl (omega arith))
-      worked_counts (Raise side n making) e g =
-          as_is (Counts line (Raise side n making)) line c e _ g.0
-          (by_raise (Counts line (Raise side n making)) line (is_raised side n c.roster) side n c (λ h. inl (omega arith)))
+    pub worked_counts : (c : Channel T W) (w : Work T W) (e : Effect T W) → Worked c w e r s → Counts w (listeners line c.roster) (listeners line e.channel.roster)
+    worked_counts c w e g = by (section line c e r s w g)
+      where
+        by : Section line c e r s w → Counts w (listeners line c.roster) (listeners line e.channel.roster)
+        by (inl (same, others)) h = let told = none_told w line others in let kept = ap (λ (z : Listeners W). length z.told) same in inl (omega (arith, told, kept))
+        by (inr made) h = touched_counts w (listeners line c.roster) (listeners line e.channel.roster) made h

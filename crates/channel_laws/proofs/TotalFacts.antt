@@ -1,14 +1,6 @@
 -- What the calls under way count for together, before and after one begins or makes a step.
 use Rattle.std.proofs.Common.{◌≡◌, ℕ, ◌+◌, ◌≤◌, List, [], ◌∷◌, ◌++◌, map, Option, None, Some, refl, ap, arith}
-use Rattle.concurrent_queue.specs.Queue.{Phase}
-use Rattle.channel_calls.specs.Moves.{Channel}
-use Rattle.channel_calls.specs.declared.ask.ChannelAsk.{ChannelAsk}
-use Rattle.channel_calls.specs.declared.reply.Reply.{Reply}
-use Rattle.channel_calls.specs.declared.stage.Stage.{Stage}
-use Rattle.channel_steps.specs.Scene.{Under, Scene, Steps, sees, does, unless_ended}
-use Rattle.channel_steps.specs.Run.{Begins, call_begun}
-use Rattle.channel_steps.specs.declared.party.Entry.{Entry}
-use Rattle.channel_laws.specs.Amounts.{total}
+use Rattle.channel_laws.proofs.Words.{Phase, Channel, ChannelAsk, Reply, Stage, Under, Scene, Steps, sees, does, unless_ended, Begins, call_begun, Entry, total}
 
 module _ {T W : Type 0} (weigh : ChannelAsk T W → Stage (Phase T) T W → ℕ) where
   -- what a call counts for after its step

@@ -1,32 +1,8 @@
 -- Over steps: on a channel without a bound no send listens.
 use Rattle.std.proofs.Common.{◌≡◌, ℕ, zero, suc, ◌+◌, ◌-◌, Bool, true, false, if◌then◌else◌, List, Option, None, Some, inl, inr, refl, sym, ap, ◌∙◌, subst}
-use Rattle.concurrent_queue.specs.Queue.{Phase}
-use Rattle.event_listener.specs.Lists.{registration, removed}
-use Rattle.channel_calls.specs.Marks.{up}
-use Rattle.channel_calls.specs.Moves.{Channel, Effect, queued, untouched, on_count, tells_one, tells_more, tells_all, listens, registers, leaves, lowers, raises, Moves}
-use Rattle.channel_calls.specs.Parts.{Listeners, Roster, nobody_listens, listeners, with_listeners, count, with_count, is_raised, told_one, told_more, told_all}
-use Rattle.channel_calls.specs.declared.ask.ChannelAsk.{ChannelAsk}
-use Rattle.channel_calls.specs.Turns.{line_of}
-use Rattle.channel_calls.specs.declared.mark.Mark.{Mark}
-use Rattle.channel_calls.specs.declared.reply.Reply.{Reply}
-use Rattle.channel_calls.specs.declared.stage.Held.{Held}
-use Rattle.channel_calls.specs.declared.stage.Line.{Line}
-use Rattle.channel_calls.specs.declared.stage.Line.TheVariants.{Sends, Receives, Streams, Closings}
-use Rattle.channel_calls.specs.declared.stage.Side.{Side}
-use Rattle.channel_calls.specs.declared.stage.Side.TheVariants.{Senders, Receivers}
-use Rattle.channel_calls.specs.declared.stage.Stage.{Stage}
-use Rattle.channel_calls.specs.declared.stage.Stage.TheVariants.{Trying, Working, Finished}
+use Rattle.channel_laws.proofs.Words.{Phase, registration, removed, up, Channel, Effect, queued, untouched, on_count, tells_one, tells_more, tells_all, listens, registers, leaves, lowers, Moves, Listeners, Roster, listeners, with_listeners, count, with_count, is_raised, told_one, told_more, told_all, ChannelAsk, line_of, Mark, Reply, Held, Line, Sends, Receives, Streams, Closings, Side, Senders, Receivers, Stage, Trying, Working, TellReceive, TellStreams, TellSend, TellSends, TellAll, Insert, Register, Leave, Lower, Raise, StageAt, MarkedMoment, Next, new_scene, Scene, Known, AllKnown, Entry, Step, raises, nobody_listens, AllOf, NoSendListens, SendsUnlisted}
 use Rattle.channel_calls.specs.declared.stage.Waiting.TheVariants as waiting
-use Rattle.channel_calls.specs.declared.stage.Work.TheVariants.{TellReceive, TellStreams, TellSend, TellSends, TakeRoom, TellAll, Insert, Register, Leave, Lower, Count, Load, Raise}
-use Rattle.channel_steps.specs.Known.{StageAt}
-use Rattle.channel_steps.specs.Moments.{MarkedMoment}
-use Rattle.channel_steps.specs.Run.{Next, new_scene}
-use Rattle.channel_steps.specs.Scene.{Scene, Known, AllKnown}
-use Rattle.channel_steps.specs.declared.party.Entry.{Entry}
-use Rattle.channel_steps.specs.declared.run.Step.{Step}
 use Rattle.channel_steps.specs.declared.run.Step.TheVariants as step
-use Rattle.channel_laws.specs.Bounds.{AllOf}
-use Rattle.channel_laws.specs.Unlisted.{NoSendListens, SendsUnlisted}
 use Rattle.channel_laws.proofs.Bounds.{bound_new, bound_next, capacity_next, never_crowded}
 use Rattle.channel_laws.proofs.EachFacts.{of_mine, each_known}
 
@@ -48,9 +24,7 @@ module _ {T W : Type 0} (c : Channel T W) (none : c.roster.sends ≡ nobody_list
   on_list : (line : Line) (change : Listeners W → Listeners W) → change nobody_listens ≡ nobody_listens
       → (with_listeners line (change (listeners line c.roster)) c.roster).sends ≡ nobody_listens
   on_list Sends change same = ap change none ∙ same
-  on_list Receives change same = none
-  on_list Streams change same = none
-  on_list Closings change same = none
+  on_list w change same = none
 
   by : (e d : Effect T W) → e ≡ d → Stays d → Stays e
   by e d same k = ap (λ (x : Effect T W). x.channel.roster.sends) same ∙ k
@@ -74,7 +48,6 @@ module _ {T W : Type 0} (c : Channel T W) (none : c.roster.sends ≡ nobody_list
   stays (Working (TellStreams x)) e r s h never = by e (tells_all Streams c) h.0 none
   stays (Working (TellSend x)) e r s h never = by e (tells_one Sends c) h.0 (on_list Sends told_one refl)
   stays (Working (TellSends n x)) e r s h never = by e (tells_more n Sends c) h.0 (on_list Sends (told_more n) (none_told n))
-  stays (Working (TakeRoom n)) e r s h never = by e (untouched c) h.0 none
   stays (Working (TellAll line x)) e r s h never = by e (tells_all line c) h.0 (on_list line told_all refl)
   stays (Working (Insert (waiting.Send m) task)) e r s h never = absurd (never m task refl)
   stays (Working (Insert waiting.Receive task)) e r s (inl (key, new, is, t)) never = by e (listens Receives key c) is none
@@ -87,11 +60,9 @@ module _ {T W : Type 0} (c : Channel T W) (none : c.roster.sends ≡ nobody_list
       by e (registers (line_of w) key task c) h.0 (on_list (line_of w) (λ (l : Listeners W). registration key task l) refl)
   stays (Working (Leave x)) e r s h never = by e (leaves x.held c) h.0 (left x.held)
   stays (Working (Lower side key)) e r s h never = by e (lowers side c) h.0 (lowered side (count side c.roster - 1))
-  stays (Working (Count side)) e r s h never = by e (untouched c) h.0 none
-  stays (Working (Load side making)) e r s h never = by e (untouched c) h.0 none
   stays (Working (Raise side n making)) e r s h never =
       by e (raises side n c) h.0 (raised side (n + 1) (is_raised side n c.roster) (up side))
-  stays (Finished kept) e r s h never = by e (untouched c) h.0 none
+  stays w e r s h never = by e (untouched c) h.0 none
 
 module _ {T W : Type 0} where
   -- a send that inserts its listener has found the channel full

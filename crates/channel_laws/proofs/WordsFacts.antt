@@ -1,36 +1,18 @@
 -- What a channel's words say, of what its cells and its calls under way show.
 use Rattle.std.proofs.Common.{◌≡◌, ℕ, ◌<◌, List, [], ◌∷◌, ◌++◌, map, length, None, Some, slice_get, ◌⊎◌, ⊎_elim, inl, inr, refl, sym, ap, ◌∙◌, subst}
-use Rattle.concurrent_queue.specs.Contents.{Contents, slot_at}
-use Rattle.concurrent_queue.specs.Queue.{Queue, Phase, appended, message}
+use Rattle.channel_laws.proofs.Words.{Contents, slot_at, Queue, Phase, appended, message, Seat, HasBrought, QueueAsk, QueueForm, Slot, CallState, QueueCall, Channel, Parts, ChannelAsk, Aim, Sends, Receives, Streams, Closings, Stage, Trying, Working, Finished, TriesFor, TryAt, TriesAt, StageAt, ToldAt, MarkedMoment, Appended, Replaced, Displaced, Under, Scene, Sitting, MayHave, Known, AllKnown, Represents, under_of, brought, Telling, Party, phases, closed_in, length_in, items_in, seats, phase, all_seats, IsInState, SomeCall, ChainBy, IsAtQueue, HasLetIn, IsWith, IsWithOne, WordsSay}
+use Rattle.concurrent_queue.specs.Step.{slot_in}
+use Rattle.concurrent_queue.specs.Step.{FitsAt}
 use Rattle.concurrent_queue.specs.Queue as queue
-use Rattle.concurrent_queue.specs.Step.{Seat, FitsAt, phases, HasBrought, closed_in, length_in, items_in, slot_in}
-use Rattle.concurrent_queue.specs.declared.call.QueueAsk.{QueueAsk}
 use Rattle.concurrent_queue.specs.declared.call.QueueAsk.TheVariants as q
-use Rattle.concurrent_queue.specs.declared.cells.QueueForm.{QueueForm}
-use Rattle.concurrent_queue.specs.declared.cells.Slot.{Slot}
-use Rattle.concurrent_queue.specs.declared.queue_call.CallState.{CallState}
-use Rattle.concurrent_queue.specs.declared.queue_call.QueueCall.{QueueCall}
 use Rattle.concurrent_queue.proofs.FitsFacts as fits_facts
 use Rattle.concurrent_queue.proofs.Interface.{shows}
-use Rattle.channel_calls.specs.Moves.{Channel, seats, phase}
-use Rattle.channel_calls.specs.Parts.{Parts}
-use Rattle.channel_calls.specs.declared.ask.ChannelAsk.{ChannelAsk}
 use Rattle.channel_calls.specs.declared.ask.ChannelAsk.TheVariants as ask
-use Rattle.channel_calls.specs.declared.stage.Aim.{Aim}
 use Rattle.channel_calls.specs.declared.stage.Aim.TheVariants as aim
 use Rattle.channel_calls.specs.declared.stage.Closer.TheVariants as closer
-use Rattle.channel_calls.specs.declared.stage.Line.TheVariants.{Sends, Receives, Streams, Closings}
-use Rattle.channel_calls.specs.declared.stage.Stage.{Stage}
-use Rattle.channel_calls.specs.declared.stage.Stage.TheVariants.{Trying, Working, Finished}
 use Rattle.channel_laws.specs.Ends.{Each}
-use Rattle.channel_steps.specs.Known.{TriesFor, TryAt, TriesAt, StageAt, ToldAt}
-use Rattle.channel_steps.specs.Moments.{MarkedMoment, Appended, Replaced, Displaced}
-use Rattle.channel_steps.specs.Scene.{Under, Scene, Sitting, MayHave, Known, AllKnown, Represents, under_of, all_seats, brought}
-use Rattle.channel_steps.specs.Tellings.{Telling}
-use Rattle.channel_steps.specs.declared.party.Party.{Party}
-use Rattle.channel_laws.specs.Chained.{IsInState, SomeCall, ChainBy, AreChained}
+use Rattle.channel_laws.specs.Chained.{AreChained}
 use Rattle.channel_laws.specs.Put.{yet_to_put}
-use Rattle.channel_laws.specs.Words.{IsAtQueue, HasLetIn, IsWith, IsWithOne, WordsSay}
 use Rattle.channel_laws.proofs.ChainedFacts.{SomeSeat, are_chained, by_others}
 use Rattle.channel_laws.proofs.PutFacts.{IsHeldFor, held}
 
@@ -43,20 +25,16 @@ module _ {T W : Type 0} where
   -- ---- the marks of a call that has let its message in
 
   appended_in : (ds : List (MarkedMoment T W)) → Appended ds → HasLetIn ds
-  appended_in [] h = absurd h
   appended_in (d ∷ []) h = inl (inl h.0)
-  appended_in (d ∷ e ∷ ds) h = absurd h
+  appended_in x h = absurd h
 
   replaced_in : (ds : List (MarkedMoment T W)) (v : T) → Replaced ds v → HasLetIn ds
-  replaced_in [] v h = absurd h
   replaced_in (d ∷ []) v h = inl (inr h.0)
-  replaced_in (d ∷ e ∷ ds) v h = absurd h
+  replaced_in x v h = absurd h
 
   displaced_in : (ds : List (MarkedMoment T W)) (v : T) → Displaced ds v → HasLetIn ds
-  displaced_in [] v h = absurd h
-  displaced_in (d ∷ []) v h = absurd h
   displaced_in (d ∷ e ∷ []) v h = inr (inl (inl h.1))
-  displaced_in (d ∷ e ∷ f ∷ ds) v h = absurd h
+  displaced_in x v h = absurd h
 
   push_in : (now : Channel T W) (w : T) (s : queue.Stage T) (ds : List (MarkedMoment T W)) (seen : List (Channel T W)) → HasBrought s
       → TryAt now (q.Push w) s ds seen → HasLetIn ds
@@ -108,13 +86,11 @@ module _ {T W : Type 0} where
       (a : ChannelAsk T W) (at : Stage (Phase T) T W) (ds : List (MarkedMoment T W)) (seen : List (Channel T W))
       → StageAt now a at ds seen → Brought v at → Brings v a ds × IsAtQueue at
   stands_with v now a (Trying f y) ds seen k b = (tries v now a y f.ask f.stage ds seen b.0 b.1 k.0 k.1, tt)
-  stands_with v now a (Working w) ds seen k b = absurd b
-  stands_with v now a (Finished kept) ds seen k b = absurd b
+  stands_with v now a x ds seen k b = absurd b
 
   nothing_told : (told : List Telling) (at : Stage (Phase T) T W) (ds : List (MarkedMoment T W)) → ToldAt told at ds → IsAtQueue at → told ≡ []
   nothing_told told (Trying f y) ds k at_queue = k
-  nothing_told told (Working w) ds k at_queue = absurd at_queue
-  nothing_told told (Finished kept) ds k at_queue = absurd at_queue
+  nothing_told told x ds k at_queue = absurd at_queue
 
   -- ---- all calls
 

@@ -1,5 +1,4 @@
--- Who waits on a list that is told one at a time: what its calls under way count for is enough, or one of them has the
--- listener in hand.
+-- Who waits on a list: what the calls under way count for is enough, or one of them has the listener in hand.
 use Rattle.std.specs.Prelude.{◌≡◌, ℕ, ◌+◌, List, [], ◌∷◌, None, Some, ◌⊎◌}
 use Rattle.concurrent_queue.specs.Queue.{Phase, Stage, trying}
 use Rattle.event_listener.specs.declared.key.Key.{Key}
@@ -40,15 +39,13 @@ module _ {T W : Type 0} where
   HoldsListener line key (Working (Leave x)) = x.held ≡ Some (record { line = line; key = key })
   HoldsListener line key at = ⊥
 
-  module _ (line : Line) (Enough : Channel T W → ℕ → Type 0) (weigh : ChannelAsk T W → stage.Stage (Phase T) T W → ℕ) where
+  module _ (line : Line) (Enough : Channel T W → ℕ → Type 0) (weigh : ChannelAsk T W → stage.Stage (Phase T) T W → ℕ) (Holds : Key → stage.Stage (Phase T) T W → Type 0) where
     -- where one waits on this list, what the calls under way count for is enough, or a call has its listener in hand
     abbrev pub AreOwed : Scene T W → Type 0
     AreOwed s =
-        (key : Key) → Waits line key s.now
-        → Enough s.now (total weigh s.under_way) ⊎ Any (λ u. HoldsListener line key u.at) s.under_way
+        (key : Key) → Waits line key s.now → Enough s.now (total weigh s.under_way) ⊎ Any (λ u. Holds key u.at) s.under_way
 
     -- one whose listener no call under way has in hand, as where its poll ended pending: it is enough
     abbrev pub PendingAreOwed : Scene T W → Type 0
     PendingAreOwed s =
-        (key : Key) → Waits line key s.now → Each (λ u. HoldsListener line key u.at → ⊥) s.under_way
-        → Enough s.now (total weigh s.under_way)
+        (key : Key) → Waits line key s.now → Each (λ u. Holds key u.at → ⊥) s.under_way → Enough s.now (total weigh s.under_way)

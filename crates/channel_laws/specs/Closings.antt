@@ -1,5 +1,5 @@
 -- Who waits on a closed channel is told by the call that closed it, or a poll that has the listener in hand looks again.
-use Rattle.std.specs.Prelude.{◌≡◌, ℕ, false, List, ◌∷◌, [], Option, Some, ◌⊎◌}
+use Rattle.std.specs.Prelude.{◌≡◌, ℕ, ◌≤◌, false, List, ◌∷◌, [], Option, Some, ◌⊎◌}
 use Rattle.concurrent_queue.specs.Queue.{Phase, Stage, trying, taken}
 use Rattle.event_listener.specs.declared.key.Key.{Key}
 use Rattle.channel_calls.specs.declared.mark.Mark.TheVariants.{Close}
@@ -17,16 +17,16 @@ use Rattle.channel_steps.specs.declared.run.Step.{Step}
 use Rattle.channel_laws.specs.Ends.{Each}
 use Rattle.channel_laws.specs.Waits.{Waits, WaitApart, Any}
 
--- a closing that tells the first list next has the second one to tell
+-- in which order a closing tells the lists
+abbrev pub place : Line → ℕ
+place Sends = 0
+place Receives = 1
+place Streams = 2
+place Closings = 3
+
+-- one that tells the first list next has the second one to tell
 abbrev pub IsToTell : Line → Line → Type 0
-IsToTell Sends line = Unit {0}
-IsToTell Receives Sends = ⊥
-IsToTell Receives line = Unit {0}
-IsToTell Streams Sends = ⊥
-IsToTell Streams Receives = ⊥
-IsToTell Streams line = Unit {0}
-IsToTell Closings Closings = Unit {0}
-IsToTell Closings line = ⊥
+IsToTell next line = place next ≤ place line
 
 module _ {T : Type 0} where
   -- a try that has found the queue at no step open and with cause to refuse, or has its message

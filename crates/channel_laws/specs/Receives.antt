@@ -12,7 +12,7 @@ use Rattle.channel_steps.specs.Scene.{Scene}
 use Rattle.channel_steps.specs.Run.{IsRun, NextScene, new_scene}
 use Rattle.channel_steps.specs.declared.party.Entry.{Entry}
 use Rattle.channel_steps.specs.declared.run.Step.{Step}
-use Rattle.channel_laws.specs.Amounts.{is_trying_anew, AreOwed, PendingAreOwed}
+use Rattle.channel_laws.specs.Amounts.{HoldsListener, is_trying_anew, AreOwed, PendingAreOwed}
 use Rattle.channel_laws.specs.Notices.{told_of, TellingsSound}
 
 module _ {T : Type 0} where
@@ -43,11 +43,11 @@ module _ {T W : Type 0} where
   -- where a receive waits there are no more messages than told receives and calls under way that are to tell one or try as
   -- one; or a call has its listener in hand
   abbrev pub ReceivesAreOwed : Scene T W → Type 0
-  ReceivesAreOwed s = AreOwed Receives MessagesAreFew counts_for_receives s
+  ReceivesAreOwed s = AreOwed Receives MessagesAreFew counts_for_receives (HoldsListener Receives) s
 
   -- one whose listener no call under way has in hand: the first of it
   abbrev pub PendingReceivesAreOwed : Scene T W → Type 0
-  PendingReceivesAreOwed s = PendingAreOwed Receives MessagesAreFew counts_for_receives s
+  PendingReceivesAreOwed s = PendingAreOwed Receives MessagesAreFew counts_for_receives (HoldsListener Receives) s
 
   -- with what every run needs to keep it
   pub record ReceivesSound (s : Scene T W) : Type 0 where

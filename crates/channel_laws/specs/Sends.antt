@@ -14,7 +14,7 @@ use Rattle.channel_steps.specs.Scene.{Scene}
 use Rattle.channel_steps.specs.Run.{IsRun, NextScene, new_scene}
 use Rattle.channel_steps.specs.declared.party.Entry.{Entry}
 use Rattle.channel_steps.specs.declared.run.Step.{Step}
-use Rattle.channel_laws.specs.Amounts.{is_trying_anew, AreOwed, PendingAreOwed}
+use Rattle.channel_laws.specs.Amounts.{HoldsListener, is_trying_anew, AreOwed, PendingAreOwed}
 use Rattle.channel_laws.specs.Notices.{told_of, TellingsSound}
 
 module _ {T : Type 0} where
@@ -63,11 +63,11 @@ module _ {T W : Type 0} where
   -- where a send waits the channel is closed, or has a bound, and no more places than messages, told sends, and calls under
   -- way that are to tell one, bring a message for which they made room, or try as a send; or a call has its listener in hand
   abbrev pub SendsAreOwed : Scene T W → Type 0
-  SendsAreOwed s = AreOwed Sends PlacesAreFew counts_for_sends s
+  SendsAreOwed s = AreOwed Sends PlacesAreFew counts_for_sends (HoldsListener Sends) s
 
   -- one whose listener no call under way has in hand: the first of it
   abbrev pub PendingSendsAreOwed : Scene T W → Type 0
-  PendingSendsAreOwed s = PendingAreOwed Sends PlacesAreFew counts_for_sends s
+  PendingSendsAreOwed s = PendingAreOwed Sends PlacesAreFew counts_for_sends (HoldsListener Sends) s
 
   -- with what every run needs to keep it
   pub record SendsSound (s : Scene T W) : Type 0 where

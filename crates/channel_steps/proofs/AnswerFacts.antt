@@ -1,46 +1,20 @@
 -- The queue answers, and what is known of the call after that.
 use Rattle.std.proofs.lemmas.List.{length-append}
 use Rattle.std.proofs.Common.{append-nil, zero, suc, ◌≡◌, ℕ, ◌+◌, ◌<◌, ◌≤◌, ◌==◌, true, false, List, [], ◌∷◌, ◌++◌, length, Option, None, Some, Ok, Err, ◌⊎◌, ⊎_elim, inl, inr, refl, sym, ap, ◌∙◌, subst, arith}
-use Rattle.concurrent_queue.specs.Queue.{trying, appended, taken, read, measured, is_full_at, AnswersTo, AnswersPush, AnswersForce, AnswersPop, AnswersClose, AnswersShut, AnswersEmpty, AnswersFull, AnswersLen, AnswersCapacity}
+use Rattle.channel_steps.proofs.Words.{trying, appended, taken, read, measured, is_full_at, AnswersTo, QueueAsk, QueueMark, Nothing, Close, QueueReply, Key, sent_next, forced_next, received_next, gathered_next, short_next, several_next, send_next, receive_next, stream_next, closing_next, closed_next, asked_next, terminated_next, upgraded_next, answered_next, mark_of_queue, down, Channel, leaving, closer_ending, ChannelAsk, Loan, Mark, TryRecvError, Gathered, with_last, Aim, Kept, Sends, Receives, Streams, Closings, Side, Senders, Receivers, Turn, AnswersPush, AnswersForce, AnswersPop, AnswersClose, AnswersShut, AnswersEmpty, AnswersFull, AnswersLen, AnswersCapacity, Push, Force, Pop, Flag, Cap, over, hands_out, SeveralRow, Ready, MarkedMoment, with_marked, Open, Shut, HasRoom, HasMessage, is_empty, Once, Appended, Took, TookAll, RanOut, Drained, Replaced, Displaced, LeftLast, TriesFor, TryAt, HasTaken, AreBehind, TriesAt, all_from, IsBalanced, Telling, one_of, more_of, all_of, owed_for, owed_takings, with_taking, takings, owed_besides, owed}
 use Rattle.concurrent_queue.specs.Queue as queue
-use Rattle.concurrent_queue.specs.declared.call.QueueAsk.{QueueAsk}
 use Rattle.concurrent_queue.specs.declared.call.QueueAsk.TheVariants as ask
-use Rattle.concurrent_queue.specs.declared.call.QueueMark.{QueueMark}
-use Rattle.concurrent_queue.specs.declared.call.QueueMark.TheVariants.{Nothing, Close}
-use Rattle.concurrent_queue.specs.declared.call.QueueReply.{QueueReply}
-use Rattle.concurrent_queue.specs.declared.call.QueueReply.TheVariants.{Push, Force, Pop, Flag, Count, Cap}
+use Rattle.concurrent_queue.specs.declared.call.QueueReply.TheVariants.{Count}
 use Rattle.concurrent_queue.specs.declared.call.QueueReply.TheVariants as answer
 use Rattle.concurrent_queue.specs.declared.error.PushError.TheVariants as push_error
 use Rattle.concurrent_queue.specs.declared.error.ForcePushError.TheVariants as force_error
 use Rattle.concurrent_queue.specs.declared.error.PopError.TheVariants as pop_error
-use Rattle.event_listener.specs.declared.key.Key.{Key}
-use Rattle.channel_calls.specs.Answered.{over, sent_next, forced_next, received_next, hands_out, gathered_next, short_next, several_next, send_next, receive_next, stream_next, closing_next, closed_next, asked_next, terminated_next, upgraded_next, answered_next}
-use Rattle.channel_calls.specs.Marks.{mark_of_queue, down}
-use Rattle.channel_calls.specs.Moves.{Channel}
-use Rattle.channel_calls.specs.Turns.{leaving, closer_ending}
-use Rattle.channel_calls.specs.declared.ask.ChannelAsk.{ChannelAsk}
 use Rattle.channel_calls.specs.declared.ask.ChannelAsk.TheVariants as channel
-use Rattle.channel_calls.specs.declared.ask.Loan.{Loan}
-use Rattle.channel_calls.specs.declared.mark.Mark.{Mark}
 use Rattle.channel_calls.specs.declared.error.Refused.TheVariants as refused
-use Rattle.channel_calls.specs.declared.error.TryRecvError.{TryRecvError}
 use Rattle.channel_calls.specs.declared.error.TryRecvError.TheVariants as try_recv_error
-use Rattle.channel_calls.specs.Several.{Gathered, with_last}
-use Rattle.channel_steps.specs.Answers.{SeveralRow}
 use Rattle.channel_calls.specs.declared.reply.Reply.TheVariants as reply
-use Rattle.channel_calls.specs.declared.stage.Aim.{Aim}
 use Rattle.channel_calls.specs.declared.stage.Aim.TheVariants as aim
 use Rattle.channel_calls.specs.declared.stage.Closer.TheVariants as closer
-use Rattle.channel_calls.specs.declared.stage.Kept.{Kept}
-use Rattle.channel_calls.specs.declared.stage.Line.TheVariants.{Sends, Receives, Streams, Closings}
-use Rattle.channel_calls.specs.declared.stage.Side.{Side}
-use Rattle.channel_calls.specs.declared.stage.Side.TheVariants.{Senders, Receivers}
-use Rattle.channel_calls.specs.declared.stage.Turn.{Turn}
-use Rattle.futures.specs.declared.task.Poll.TheVariants.{Ready}
-use Rattle.channel_steps.specs.Moments.{MarkedMoment, with_marked, Open, Shut, HasRoom, HasMessage, is_empty, Once, Appended, Took, TookAll, RanOut, Drained, Replaced, Displaced, LeftLast}
-use Rattle.channel_steps.specs.Known.{TriesFor, TryAt, HasTaken, AreBehind, TriesAt, all_from}
-use Rattle.channel_steps.specs.Scene.{IsBalanced}
-use Rattle.channel_steps.specs.Tellings.{Telling, one_of, more_of, all_of, owed_for, owed_takings, with_taking, takings, owed_besides, owed}
 use Rattle.channel_steps.proofs.TryFacts.{ne_of, refusal_seen, full_once, unbounded_once, open_once, next_channel, behind_more}
 use Rattle.channel_steps.proofs.TurnFacts.{TurnAt, owes_nothing, ended}
 
@@ -52,35 +26,29 @@ module _ {T W : Type 0} where
   -- ---- what marks owe
 
   owed_appended : (ds : List (MarkedMoment T W)) → Appended ds → news ≡ owed ds
-  owed_appended [] h = absurd h
   owed_appended (d ∷ []) h = sym (ap (λ m. owed_takings (with_taking m 0) ++ (owed_for m ++ [])) h.0)
-  owed_appended (d ∷ e ∷ ds) h = absurd h
+  owed_appended x h = absurd h
 
   owed_replaced : (ds : List (MarkedMoment T W)) (v : T) → Replaced ds v → news ≡ owed ds
-  owed_replaced [] v h = absurd h
   owed_replaced (d ∷ []) v h = sym (ap (λ m. owed_takings (with_taking m 0) ++ (owed_for m ++ [])) h.0)
-  owed_replaced (d ∷ e ∷ ds) v h = absurd h
+  owed_replaced x v h = absurd h
 
   owed_displaced : (ds : List (MarkedMoment T W)) (v : T) → Displaced ds v → news ≡ owed ds
-  owed_displaced [] v h = absurd h
-  owed_displaced (d ∷ []) v h = absurd h
   owed_displaced (d ∷ e ∷ []) v h =
       sym (ap (λ m. owed_takings (with_taking m (with_taking e.mark 0)) ++ (owed_for m ++ (owed_for e.mark ++ []))) h.0.0 ∙ ap (λ m. owed_takings (with_taking m 0) ++ (owed_for m ++ [])) h.1)
-  owed_displaced (d ∷ e ∷ f ∷ ds) v h = absurd h
+  owed_displaced x v h = absurd h
 
   owed_took : (ds : List (MarkedMoment T W)) (v : T) → Took ds v → (let one : List Telling = one_of Sends ∷ [] in one) ≡ owed ds
-  owed_took [] v h = absurd h
   owed_took (d ∷ []) v h = sym (ap (λ m. owed_takings (with_taking m 0) ++ (owed_for m ++ [])) h.0)
-  owed_took (d ∷ e ∷ ds) v h = absurd h
+  owed_took x v h = absurd h
 
   -- several takings, one after another
   took_more : (ds : List (MarkedMoment T W)) (vs : List T) (mine : List (MarkedMoment T W)) (v : T) → TookAll ds vs → Took mine v → TookAll (ds ++ mine) (vs ++ v ∷ [])
-  took_more [] [] [] v h k = absurd k
   took_more [] [] (d ∷ []) v h k = (k.0, k.1, tt)
-  took_more [] [] (d ∷ e ∷ ds) v h k = absurd k
   took_more [] (w ∷ ws) mine v h k = absurd h
   took_more (d ∷ ds) [] mine v h k = absurd h
   took_more (d ∷ ds) (w ∷ ws) mine v h k = (h.0, h.1, took_more ds ws mine v h.2 k)
+  took_more x y mine v h k = absurd k
 
   took_none : (ds : List (MarkedMoment T W)) → TookAll ds [] → ds ≡ []
   took_none [] h = refl
@@ -88,15 +56,13 @@ module _ {T W : Type 0} where
 
   takings_all : (ds : List (MarkedMoment T W)) (vs : List T) → TookAll ds vs → takings ds ≡ length vs
   takings_all [] [] h = refl
-  takings_all [] (v ∷ vs) h = absurd h
-  takings_all (d ∷ ds) [] h = absurd h
   takings_all (d ∷ ds) (v ∷ vs) h = ap (λ m. with_taking m (takings ds)) h.0 ∙ ap (λ n. suc n) (takings_all ds vs h.2)
+  takings_all x y h = absurd h
 
   besides_all : (ds : List (MarkedMoment T W)) (vs : List T) → TookAll ds vs → owed_besides ds ≡ []
   besides_all [] [] h = refl
-  besides_all [] (v ∷ vs) h = absurd h
-  besides_all (d ∷ ds) [] h = absurd h
   besides_all (d ∷ ds) (v ∷ vs) h = ap (λ m. owed_for m ++ owed_besides ds) h.0 ∙ besides_all ds vs h.2
+  besides_all x y h = absurd h
 
   owed_all : (ds : List (MarkedMoment T W)) (vs : List T) → 0 < length vs → TookAll ds vs → more_of (length vs) Sends ∷ [] ≡ owed ds
   owed_all ds [] some h = absurd (omega arith)
@@ -246,22 +212,20 @@ module _ {T W : Type 0} where
     owed_last Receivers m e ts = sym (ap (λ x. owed_takings (with_taking x 0) ++ (owed_for x ++ ts)) e)
 
     sender_left : (ds : List (MarkedMoment T W)) → LeftLast Senders ds seen → (m : QueueMark) (r : QueueReply T) (st : queue.Stage T) → AnswersClose c.queue m r st → Then channel.DropSender ask.Close st m ds (closed_next r closer.Sender)
-    sender_left [] l m r st h = absurd l
-    sender_left (d ∷ e ∷ ds) l m r st h = absurd l
     sender_left (d ∷ []) l Close (answer.Close true) (trying b) h = ((([], _, refl, ((l.0, l.1, refl, h), refl)), refl), owed_last Senders d.mark l.0 (all_from Sends))
     sender_left (d ∷ []) l Nothing (answer.Close false) (trying b) h =
         ((([], c ∷ seen, refl, ((l.0, inr (c ∷ l.2, ap (λ (cs : List (Channel T W)). c ∷ cs) l.3, inl h)), refl)), refl), owed_last Senders d.mark l.0 [])
     sender_left (d ∷ []) l m r st h = absurd h
+    sender_left x l m r st h = absurd l
 
     receiver_left : (k key : Option Key) (ds : List (MarkedMoment T W)) → LeftLast Receivers ds seen → (m : QueueMark) (r : QueueReply T) (st : queue.Stage T) → AnswersClose c.queue m r st
         → Then (channel.DropReceiver k) ask.Close st m ds (closed_next r (closer.Receiver key))
-    receiver_left k key [] l m r st h = absurd l
-    receiver_left k key (d ∷ e ∷ ds) l m r st h = absurd l
     receiver_left k key (d ∷ []) l Close (answer.Close true) (trying b) h = ((([], _, refl, ((l.0, l.1, refl, h), refl)), refl), owed_last Receivers d.mark l.0 (all_from Sends))
     receiver_left k key (d ∷ []) l Nothing (answer.Close false) (trying b) h =
         ended c (channel.DropReceiver k) [] (d ∷ []) (c ∷ seen) (closer_ending (closer.Receiver key) false)
         (([], c ∷ seen, refl, ((l.0, inr (c ∷ l.2, ap (λ (cs : List (Channel T W)). c ∷ cs) l.3, inl h)), refl)), refl) (owed_last Receivers d.mark l.0 [])
     receiver_left k key (d ∷ []) l m r st h = absurd h
+    receiver_left k key x l m r st h = absurd l
 
     -- ---- questions
 

@@ -1,27 +1,10 @@
 -- No call under way has more than `most_left` steps left where the others are quiet.
 use Rattle.std.proofs.Common.{arith, ◌≡◌, ◌≤◌, ℕ, zero, suc, List, [], ◌∷◌, ◌++◌, map, slice_get, Some, sym, subst, append_assoc}
-use Rattle.concurrent_queue.specs.Queue.{Queue}
-use Rattle.concurrent_queue.specs.Step.{Seat, Fits}
-use Rattle.channel_calls.specs.Parts.{Parts}
-use Rattle.channel_steps.specs.Left.{party_left, all_left, most_left, most_wanted}
+use Rattle.channel_steps.proofs.Words.{Queue, Seat, Fits, Parts, Phase, QueueAsk, QueueCall, Channel, phase, ChannelAsk, Aim, Stage, Trying, Working, Finished, Work, TakeRoom, party_left, all_left, most_left, most_wanted, MarkedMoment, TriesFor, WorkAt, StageAt, Under, Scene, Sitting, under_of, seats_of, all_seats, AllKnown, wanted_at, Represents, Party}
 use Rattle.channel_steps.proofs.LeftFacts.{wanted_after, wanted_by, wanted}
-use Rattle.concurrent_queue.specs.Queue.{Phase}
-use Rattle.concurrent_queue.specs.declared.call.QueueAsk.{QueueAsk}
 use Rattle.concurrent_queue.specs.declared.call.QueueAsk.TheVariants as ask
-use Rattle.concurrent_queue.specs.declared.queue_call.QueueCall.{QueueCall}
-use Rattle.channel_calls.specs.Moves.{Channel, phase}
-use Rattle.channel_calls.specs.declared.ask.ChannelAsk.{ChannelAsk}
 use Rattle.channel_calls.specs.declared.ask.ChannelAsk.TheVariants as channel
-use Rattle.channel_calls.specs.declared.stage.Aim.{Aim}
 use Rattle.channel_calls.specs.declared.stage.Aim.TheVariants as aim
-use Rattle.channel_calls.specs.declared.stage.Stage.{Stage}
-use Rattle.channel_calls.specs.declared.stage.Stage.TheVariants.{Trying, Working, Finished}
-use Rattle.channel_calls.specs.declared.stage.Work.{Work}
-use Rattle.channel_calls.specs.declared.stage.Work.TheVariants.{TakeRoom}
-use Rattle.channel_steps.specs.Moments.{MarkedMoment}
-use Rattle.channel_steps.specs.Known.{TriesFor, WorkAt, StageAt}
-use Rattle.channel_steps.specs.Scene.{Under, Scene, Sitting, under_of, seats_of, all_seats, AllKnown, wanted_at, Represents}
-use Rattle.channel_steps.specs.declared.party.Party.{Party}
 use Rattle.channel_steps.proofs.LeftFacts as left_facts
 
 module _ {T W : Type 0} where

@@ -1,21 +1,9 @@
 -- Calls without a mark are quiet to the calls of the queue.
 use Rattle.std.proofs.Common.{arith, ◌≡◌, ◌<◌, ◌≤◌, ℕ, List, [], ◌∷◌, ◌++◌, map, None, Some, ◌⊎◌, inl, inr, refl, sym, ap, ◌∙◌, subst}
-use Rattle.concurrent_queue.specs.Queue.{Phase, trying, displaced, appended, taken, read, measured}
+use Rattle.channel_steps.proofs.Words.{Phase, trying, displaced, appended, taken, read, measured, Seat, PhasesQuiet, phases, QueueAsk, QueueCall, Channel, phase, seats, ChannelAsk, Stage, Trying, Working, Finished, Aim, IsQuiet, AllQuiet, TryAt, TriesAt, StageAt, MarkedMoment, Under, Scene, Steps, Sitting, sees, under_of, seats_of, all_seats, AllKnown, AreIdle, OthersQuiet, Entry}
 use Rattle.concurrent_queue.specs.Queue as queue
-use Rattle.concurrent_queue.specs.Step.{Seat, IsQuiet, AllQuiet, PhasesQuiet, phases}
-use Rattle.concurrent_queue.specs.declared.call.QueueAsk.{QueueAsk}
 use Rattle.concurrent_queue.specs.declared.call.QueueAsk.TheVariants as ask
-use Rattle.concurrent_queue.specs.declared.queue_call.QueueCall.{QueueCall}
-use Rattle.channel_calls.specs.Moves.{Channel, phase, seats}
-use Rattle.channel_calls.specs.declared.ask.ChannelAsk.{ChannelAsk}
-use Rattle.channel_calls.specs.declared.stage.Stage.{Stage}
-use Rattle.channel_calls.specs.declared.stage.Stage.TheVariants.{Trying, Working, Finished}
-use Rattle.channel_calls.specs.declared.stage.Aim.{Aim}
 use Rattle.channel_calls.specs.declared.stage.Aim.TheVariants as aim
-use Rattle.channel_steps.specs.Known.{TryAt, TriesAt, StageAt}
-use Rattle.channel_steps.specs.Moments.{MarkedMoment}
-use Rattle.channel_steps.specs.Scene.{Under, Scene, Steps, Sitting, sees, under_of, seats_of, all_seats, AllKnown, AreIdle, OthersQuiet}
-use Rattle.channel_steps.specs.declared.party.Entry.{Entry}
 use Rattle.channel_steps.proofs.MoveFacts.{grows}
 
 quiet_append : {T : Type 0} → (xs ys : List (Seat T)) → AllQuiet (phases xs) → AllQuiet (phases ys) → AllQuiet (phases (xs ++ ys))

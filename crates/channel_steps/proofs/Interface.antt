@@ -2,28 +2,10 @@
 -- entry of a run; a step of the only call under way; how a step changes the number of messages; how few steps a call has left; and
 -- that a listener which was just added waits.
 use Rattle.std.proofs.Common.{◌≡◌, ℕ, suc, ◌+◌, ◌^◌, ◌≤◌, ◌<◌, true, List, [], ◌∷◌, ◌++◌, map, length, slice_get, Option, None, Some, refl, ap, sym, ◌∙◌, subst}
-use Rattle.concurrent_queue.specs.Queue.{Phase, Queue}
-use Rattle.concurrent_queue.specs.Contents.{Contents}
-use Rattle.concurrent_queue.specs.Step.{Seat, FitsAt, chain_after}
-use Rattle.concurrent_queue.specs.declared.cells.QueueForm.{QueueForm}
-use Rattle.event_listener.specs.Lists.{kind_of, listened}
-use Rattle.event_listener.specs.declared.key.Key.{Key}
-use Rattle.channel_calls.specs.Moves.{Channel, Effect, Moves}
-use Rattle.channel_calls.specs.Parts.{Parts, Roster, Listeners, listeners, with_listeners, waits}
-use Rattle.channel_calls.specs.declared.stage.Line.{Line}
-use Rattle.channel_calls.specs.declared.mark.Mark.{Mark}
-use Rattle.channel_calls.specs.declared.reply.Reply.{Reply}
-use Rattle.channel_calls.specs.declared.stage.Kept.{Kept}
-use Rattle.channel_calls.specs.declared.stage.Stage.{Stage}
-use Rattle.channel_calls.specs.declared.stage.Stage.TheVariants.{Finished}
-use Rattle.channel_steps.specs.Count.{counted, brought_in, taken_out}
-use Rattle.channel_steps.specs.Left.{all_left, most_left}
-use Rattle.channel_steps.specs.Scene.{Under, Scene, sees, does, unless_ended, Known, AllKnown, IsBalanced, OthersQuiet, wanted_at, Steps, Represents, MayHave, blocks_after}
-use Rattle.channel_steps.specs.Run.{EachStep, IsRun, end_of, Next, call_begun}
-use Rattle.channel_steps.specs.declared.party.Entry.{Entry}
-use Rattle.channel_steps.specs.declared.party.Party.{Party}
-use Rattle.channel_steps.specs.declared.run.Step.{Step}
+use Rattle.channel_steps.proofs.Words.{Phase, Queue, Contents, Seat, chain_after, QueueForm, kind_of, listened, Key, Channel, Effect, Moves, Parts, Roster, Listeners, listeners, with_listeners, waits, Line, Mark, Reply, Kept, Stage, Finished, counted, brought_in, taken_out, all_left, most_left, Under, Scene, sees, does, unless_ended, Known, AllKnown, IsBalanced, OthersQuiet, wanted_at, Steps, Represents, MayHave, blocks_after, EachStep, IsRun, end_of, Next, call_begun, Entry, Party, Step}
+use Rattle.concurrent_queue.specs.Step.{FitsAt}
 use Rattle.channel_steps.specs.declared.run.Step.TheVariants as step
+pub use Rattle.channel_steps.proofs.TryFacts.{answer_marks, answered_by}
 use Rattle.channel_steps.proofs.OwnFacts.{moves_on, all_see, own_known, begins_known}
 use Rattle.channel_steps.proofs.SceneFacts.{known_left, known_right, known_both}
 use Rattle.channel_steps.proofs.CountFacts as count_facts
@@ -47,10 +29,7 @@ module _ {M X E : Type 0} (P : M → X → E → M → Type 0) where
       → EachStep P m xs es ns → EachStep P (end_of m ns) ys fs os → EachStep P m (xs ++ ys) (es ++ fs) (ns ++ os)
   each_on m [] [] [] ys fs os h k = k
   each_on m (x ∷ xs) (e ∷ es) (n ∷ ns) ys fs os h k = (h.0, each_on n xs es ns ys fs os h.1 k)
-  each_on m [] [] (n ∷ ns) ys fs os h k = absurd h
-  each_on m [] (e ∷ es) ns ys fs os h k = absurd h
-  each_on m (x ∷ xs) [] ns ys fs os h k = absurd h
-  each_on m (x ∷ xs) (e ∷ es) [] ys fs os h k = absurd h
+  each_on m x y ns ys fs os h k = absurd h
 
   -- what is said of each step of a run, where something holds that each step keeps
   pub each_says : (K : M → Type 0) (Q : M → X → E → M → Type 0)
@@ -59,10 +38,7 @@ module _ {M X E : Type 0} (P : M → X → E → M → Type 0) where
   each_says K Q says m [] [] [] k h = tt
   each_says K Q says m (x ∷ xs) (e ∷ es) (n ∷ ns) k h =
       let one = says m x e n h.0 k in (one.0, each_says K Q says n xs es ns one.1 h.1)
-  each_says K Q says m [] [] (n ∷ ns) k h = absurd h
-  each_says K Q says m [] (e ∷ es) ns k h = absurd h
-  each_says K Q says m (x ∷ xs) [] ns k h = absurd h
-  each_says K Q says m (x ∷ xs) (e ∷ es) [] k h = absurd h
+  each_says x y says m z w ns k h = absurd h
 
   -- no step leads nowhere
   pub run_none : (m : M) → IsRun P m [] [] m
@@ -83,10 +59,7 @@ module _ {M X E : Type 0} (P : M → X → E → M → Type 0) where
     each_so : (m : M) (xs : List X) (es : List E) (ns : List M) → EachStep P m xs es ns → R m xs es (end_of m ns)
     each_so m [] [] [] h = none m
     each_so m (x ∷ xs) (e ∷ es) (n ∷ ns) h = more m x e n xs es (end_of n ns) h.0 (each_so n xs es ns h.1)
-    each_so m [] [] (n ∷ ns) h = absurd h
-    each_so m [] (e ∷ es) ns h = absurd h
-    each_so m (x ∷ xs) [] ns h = absurd h
-    each_so m (x ∷ xs) (e ∷ es) [] h = absurd h
+    each_so m x y ns h = absurd h
 
     pub run_so : (m : M) (xs : List X) (es : List E) (n : M) → IsRun P m xs es n → R m xs es n
     run_so m xs es n run = subst (λ (o : M). R m xs es o) run.ends (each_so m xs es run.moments run.each)

@@ -1,49 +1,18 @@
 -- How many steps a call still makes at most where the others are quiet.
 use Rattle.std.proofs.Common.{◌≡◌, ◌≤◌, ◌<◌, ◌+◌, ◌-◌, ◌*◌, ◌^◌, ◌==◌, ◌&&◌, nat_lt, ℕ, zero, suc, Bool, true, false, if◌then◌else◌, List, [], ◌∷◌, ◌++◌, Option, None, Some, Ok, Err, inl, inr, refl, sym, ap, ◌∙◌, subst, arith}
 use Rattle.std.proofs.lemmas.Bool.Decides.{nat_tests}
-use Rattle.concurrent_queue.specs.Contents.{Contents}
-use Rattle.concurrent_queue.specs.Queue.{Queue, Phase, asked}
-use Rattle.concurrent_queue.specs.Step.{Seat, Fits, PhasesQuiet, phases}
+use Rattle.channel_steps.proofs.Words.{Contents, Queue, Phase, asked, Seat, Fits, PhasesQuiet, phases, QueueReply, QueueCall, Key, kind_of, listened, Gathered, with_last, TryRecvError, Mark, Reply, Aim, Closer, Ending, Held, Line, Sends, Receives, Streams, Closings, Making, Side, Stage, Trying, Working, Finished, Turn, Tries, Works, Ends, Waiting, Work, TellReceive, TellStreams, TellSend, TellSends, TakeRoom, TellAll, Insert, Register, Leave, Lower, Count, Load, Raise, Parts, Roster, Listeners, listeners, with_listeners, waits, count, is_raised, most, line_of, leaving, nothing_kept, ends_by, again, pends_by, unlistened, closer_ending, dropper, told_all_next, room_next, roomless, lowered_next, counted_next, loaded_next, raised_next, sent_next, forced_next, received_next, gathered_next, short_next, several_next, send_next, receive_next, stream_next, closing_next, closed_next, asked_next, terminated_next, upgraded_next, answered_next, Channel, Effect, channel, Turned, Worked, Tried, seats, phase, IsTaken, Made, refused_next, polled_next, Hastens, left_to_tell, one_try, listening_try, told_try, most_left, left_after_try, left_to_work, steps_left}
 use Rattle.concurrent_queue.specs.declared.call.QueueAsk.TheVariants as ask
-use Rattle.concurrent_queue.specs.declared.call.QueueReply.{QueueReply}
 use Rattle.concurrent_queue.specs.declared.call.QueueReply.TheVariants as answer
 use Rattle.concurrent_queue.specs.declared.error.PushError.TheVariants as push_error
 use Rattle.concurrent_queue.specs.declared.error.ForcePushError.TheVariants as force_error
 use Rattle.concurrent_queue.specs.declared.error.PopError.TheVariants as pop_error
-use Rattle.concurrent_queue.specs.declared.queue_call.QueueCall.{QueueCall}
 use Rattle.concurrent_queue.proofs.Interface.{ranks}
-use Rattle.event_listener.specs.declared.key.Key.{Key}
-use Rattle.event_listener.specs.Lists.{kind_of, listened}
-use Rattle.channel_calls.specs.Several.{Gathered, with_last}
-use Rattle.channel_calls.specs.declared.error.TryRecvError.{TryRecvError}
 use Rattle.channel_calls.specs.declared.error.TryRecvError.TheVariants as try_recv_error
-use Rattle.channel_calls.specs.declared.mark.Mark.{Mark}
-use Rattle.channel_calls.specs.declared.reply.Reply.{Reply}
 use Rattle.channel_calls.specs.declared.reply.Reply.TheVariants as reply
-use Rattle.channel_calls.specs.declared.stage.Aim.{Aim}
 use Rattle.channel_calls.specs.declared.stage.Aim.TheVariants as aim
-use Rattle.channel_calls.specs.declared.stage.Closer.{Closer}
-use Rattle.channel_calls.specs.declared.stage.Ending.{Ending}
-use Rattle.channel_calls.specs.declared.stage.Held.{Held}
-use Rattle.channel_calls.specs.declared.stage.Line.{Line}
-use Rattle.channel_calls.specs.declared.stage.Line.TheVariants.{Sends, Receives, Streams, Closings}
-use Rattle.channel_calls.specs.declared.stage.Making.{Making}
 use Rattle.channel_calls.specs.declared.stage.Making.TheVariants as making
-use Rattle.channel_calls.specs.declared.stage.Side.{Side}
-use Rattle.channel_calls.specs.declared.stage.Stage.{Stage}
-use Rattle.channel_calls.specs.declared.stage.Stage.TheVariants.{Trying, Working, Finished}
-use Rattle.channel_calls.specs.declared.stage.Turn.{Turn}
-use Rattle.channel_calls.specs.declared.stage.Turn.TheVariants.{Tries, Works, Ends}
-use Rattle.channel_calls.specs.declared.stage.Waiting.{Waiting}
 use Rattle.channel_calls.specs.declared.stage.Waiting.TheVariants as waiting
-use Rattle.channel_calls.specs.declared.stage.Work.{Work}
-use Rattle.channel_calls.specs.declared.stage.Work.TheVariants.{TellReceive, TellStreams, TellSend, TellSends, TakeRoom, TellAll, Insert, Register, Leave, Lower, Count, Load, Raise}
-use Rattle.channel_calls.specs.Parts.{Parts, Roster, Listeners, listeners, with_listeners, waits, count, is_raised}
-use Rattle.channel_calls.specs.Turns.{most, line_of, leaving, nothing_kept, ends_by, again, pends_by, unlistened, refused_next, closer_ending, dropper, told_all_next, room_next, roomless, lowered_next, counted_next, loaded_next, raised_next}
-use Rattle.channel_calls.specs.Answered.{sent_next, forced_next, received_next, gathered_next, short_next, several_next, send_next, receive_next, stream_next, closing_next, polled_next, closed_next, asked_next, terminated_next, upgraded_next, answered_next}
-use Rattle.channel_calls.specs.Moves.{Channel, Effect, channel, Turned, Worked, Tried, seats, phase, IsTaken, Hastens, Made}
-use Rattle.channel_steps.specs.Known.{left_to_tell}
-use Rattle.channel_steps.specs.Left.{one_try, listening_try, told_try, most_left, left_after_try, left_to_work, steps_left}
 use Rattle.channel_steps.proofs.LineFacts.{fresh_waits, same_line}
 
 -- ---- the steps that are left
@@ -246,10 +215,8 @@ module _ {T W : Type 0} where
 
   module _ (c : Channel T W) (e : Effect T W) (r : Option (Reply T)) (s : Stage (Phase T) T W) where
     told_left : (line : Line) (by : Closer) → left_to_turn e.channel.roster (let t : Turn T W = told_all_next line by in t) < left_to_tell line
-    told_left Sends by = omega arith
-    told_left Receives by = omega arith
-    told_left Streams by = omega arith
     told_left Closings by = let h = ends_soon {T = T} e.channel.roster (closer_ending by true) in omega (arith, h)
+    told_left w by = omega arith
 
     try_less : (b : Bool) → b ≡ true → one_try + (if b then 3 else told_try) < listening_try
     try_less true h = omega arith
@@ -360,17 +327,15 @@ module _ {T W : Type 0} where
       same_aim u v y z e = cc e
   turned_left c a q f l r (Tries y aim) x (Working w) fits (none, same) =
       absurd (let no : (let s : Stage (Phase T) T W = Working w in s) ≡ Trying (asked y) aim = same in cc)
-  turned_left c a q f l r (Tries y aim) x (Finished kept) fits turned = omega arith
   turned_left c a q f l r (Works w) x (Trying call z) fits (none, same) =
       absurd (let no : (let s : Stage (Phase T) T W = Trying f z in s) ≡ Working w = same in cc)
   turned_left c a q f l r (Works w) x (Working v) fits (none, same) =
       let e : v ≡ w = cc same in subst (λ (z : Work T W). left_to_work a z ≤ left_to_work a w) (sym e) (omega arith)
-  turned_left c a q f l r (Works w) x (Finished kept) fits turned = omega arith
   turned_left c a q f l r (Ends y kept) x (Trying call z) fits (some, same) =
       absurd (let no : (let s : Stage (Phase T) T W = Trying f z in s) ≡ Finished kept = same in cc)
   turned_left c a q f l r (Ends y kept) x (Working v) fits (some, same) =
       absurd (let no : (let s : Stage (Phase T) T W = Working v in s) ≡ Finished kept = same in cc)
-  turned_left c a q f l r (Ends y kept) x (Finished k) fits turned = omega arith
+  turned_left c a q f l r w x y fits turned = omega arith
 
   -- one that has not answered
   abbrev pub IsAtWork : Stage (QueueCall T) T W → Type 0

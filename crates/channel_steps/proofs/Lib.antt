@@ -1,3 +1,4 @@
+mod Words
 pub mod TryFacts
 pub mod TurnFacts
 pub mod AnswerFacts

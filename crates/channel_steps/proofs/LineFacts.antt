@@ -2,11 +2,7 @@
 use Rattle.std.proofs.Common.{◌≡◌, not, Bool, true, false, if◌then◌else◌, List, [], ◌∷◌, ◌++◌, Option, None, Some, is_some, refl, sym, subst, arith}
 use Rattle.std.proofs.lemmas.Bool.Decides.{nat_tests}
 use Rattle.std.specs.Map.{lookup}
-use Rattle.event_listener.specs.declared.key.Key.{Key}
-use Rattle.event_listener.specs.Lists.{kind_of, told_as, waits_as, same_key, listened}
-use Rattle.channel_calls.specs.Parts.{Listeners, Roster, listeners, with_listeners, waits}
-use Rattle.channel_calls.specs.declared.stage.Line.{Line}
-use Rattle.channel_calls.specs.declared.stage.Line.TheVariants.{Sends, Receives, Streams, Closings}
+use Rattle.channel_steps.proofs.Words.{Key, kind_of, listened, Listeners, Roster, listeners, with_listeners, waits, Line, Sends, Receives, Streams, Closings, told_as, waits_as, same_key}
 
 same_as_itself : (key : Key) → same_key key key ≡ true
 same_as_itself key = grind (arith, nat_tests)

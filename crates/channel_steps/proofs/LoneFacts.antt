@@ -1,13 +1,6 @@
 -- A step of the only call under way, from how its stage moves.
 use Rattle.std.proofs.Common.{◌≡◌, ℕ, List, [], ◌∷◌, ◌++◌, Option, None, Some, refl, sym, append-nil}
-use Rattle.concurrent_queue.specs.Queue.{Phase}
-use Rattle.channel_calls.specs.Moves.{Channel, Effect, Moves}
-use Rattle.channel_calls.specs.declared.mark.Mark.{Mark}
-use Rattle.channel_calls.specs.declared.reply.Reply.{Reply}
-use Rattle.channel_calls.specs.declared.stage.Kept.{Kept}
-use Rattle.channel_calls.specs.declared.stage.Stage.{Stage}
-use Rattle.channel_calls.specs.declared.stage.Stage.TheVariants.{Finished}
-use Rattle.channel_steps.specs.Scene.{Under, Scene, does, gone_by, came_by, unless_ended, Known, IsBalanced, MayFinish, Steps}
+use Rattle.channel_steps.proofs.Words.{Phase, Channel, Effect, Moves, Mark, Reply, Kept, Stage, Finished, Under, Scene, does, gone_by, came_by, unless_ended, Known, IsBalanced, MayFinish, Steps}
 use Rattle.channel_steps.proofs.OwnFacts.{names_of, moves_held, own_finishes, own_in_time}
 
 module _ {T W : Type 0} where

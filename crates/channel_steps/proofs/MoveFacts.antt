@@ -1,26 +1,25 @@
 -- What every step of a call leaves as it is, and where it ends.
 use Rattle.std.proofs.Common.{◌≡◌, ℕ, suc, ◌+◌, ◌≤◌, [], Bool, true, false, if◌then◌else◌, Option, None, Some, ◌⊎◌, inl, inr, refl, sym, ap, ◌∙◌, subst, arith}
-use Rattle.concurrent_queue.specs.Queue.{Queue, Phase, after, IsInRange}
-use Rattle.concurrent_queue.specs.declared.call.QueueMark.{QueueMark}
-use Rattle.concurrent_queue.specs.declared.call.QueueMark.TheVariants.{Nothing, Append, Take, TakeDisplaced, Replace, Close}
-use Rattle.concurrent_queue.specs.declared.queue_call.QueueCall.{QueueCall}
-use Rattle.channel_calls.specs.declared.reply.Reply.{Reply}
-use Rattle.channel_calls.specs.declared.stage.Held.{Held}
-use Rattle.channel_calls.specs.declared.stage.Kept.{Kept}
-use Rattle.channel_calls.specs.declared.stage.Side.{Side}
-use Rattle.channel_calls.specs.declared.stage.Stage.{Stage}
-use Rattle.channel_calls.specs.declared.stage.Stage.TheVariants.{Trying, Working, Finished}
-use Rattle.channel_calls.specs.declared.stage.Turn.{Turn}
-use Rattle.channel_calls.specs.declared.stage.Turn.TheVariants.{Tries, Works, Ends}
-use Rattle.channel_calls.specs.declared.stage.Work.{Work}
-use Rattle.channel_calls.specs.declared.stage.Work.TheVariants.{TellReceive, TellStreams, TellSend, TellSends, TakeRoom, TellAll, Insert, Register, Leave, Lower, Count, Load, Raise}
-use Rattle.channel_calls.specs.Asks.{kept_by}
-use Rattle.channel_calls.specs.Marks.{up}
-use Rattle.channel_calls.specs.Parts.{listeners, count, is_raised, waits}
-use Rattle.channel_calls.specs.Turns.{line_of, leaving, nothing_kept, ends_by, again, pends_by, unlistened, told_all_next, room_next, roomless, lowered_next, loaded_next, raised_next}
+use Rattle.channel_steps.proofs.Words.{Queue, Phase, after, IsInRange, QueueMark, Nothing, QueueCall, Reply, Held, Kept, Side, Senders, Receivers, Mark, Stage, Trying, Working, Finished, Turn, Tries, Works, Ends, Work, TellReceive, TellStreams, TellSend, TellSends, TakeRoom, TellAll, Insert, Register, Leave, Lower, Count, Load, Raise, kept_by, up, down, listeners, count, is_raised, waits, line_of, leaving, nothing_kept, ends_by, again, pends_by, unlistened, told_all_next, room_next, roomless, lowered_next, loaded_next, raised_next, Channel, Effect, untouched, on_count, leaves, Turned, Worked, Moves, seats, phase, HasRange}
+use Rattle.channel_calls.specs.declared.mark.Mark.TheVariants as mark
 use Rattle.channel_calls.specs.declared.reply.Reply.TheVariants as reply
-use Rattle.channel_calls.specs.Moves.{Channel, Effect, untouched, on_count, leaves, Turned, Worked, Moves, seats, phase}
-use Rattle.channel_steps.specs.Run.{HasRange}
+
+-- a mark of no queue
+abbrev pub IsOther : Mark → Type 0
+IsOther mark.Nothing = Unit {0}
+IsOther mark.SenderUp = Unit {0}
+IsOther mark.SenderDown = Unit {0}
+IsOther mark.ReceiverUp = Unit {0}
+IsOther mark.ReceiverDown = Unit {0}
+IsOther m = ⊥
+
+other_up : (side : Side) → IsOther (up side)
+other_up Senders = tt
+other_up Receivers = tt
+
+other_down : (side : Side) → IsOther (down side)
+other_down Senders = tt
+other_down Receivers = tt
 
 module _ {T : Type 0} where
   -- ---- the queue's bounds
@@ -37,44 +36,39 @@ module _ {T : Type 0} where
 
   marked_grows : (f : Phase T) (m : QueueMark) (q : Queue T) → Grows q (after f m q)
   marked_grows f Nothing q = (refl, omega arith, omega arith)
-  marked_grows f Append q = (refl, omega arith, omega arith)
-  marked_grows f Take q = (refl, omega arith, omega arith)
-  marked_grows f TakeDisplaced q = (refl, omega arith, omega arith)
-  marked_grows f Replace q = (refl, omega arith, omega arith)
-  marked_grows f Close q = (refl, omega arith, omega arith)
+  marked_grows f m q = (refl, omega arith, omega arith)
 
 module _ {T W : Type 0} where
   queue_of : (e e' : Effect T W) → e ≡ e' → e.channel.queue ≡ e'.channel.queue
   queue_of e e' same = ap (λ (x : Effect T W). x.channel.queue) same
 
-  left_queue : (h : Option Held) (c : Channel T W) → (leaves h c).channel.queue ≡ c.queue
-  left_queue None c = refl
-  left_queue (Some h) c = refl
+  -- a step on a list or a count leaves the queue as it is, and has no mark but of a count
+  abbrev pub Spares : Channel T W → Effect T W → Type 0
+  Spares c e = (e.channel.queue ≡ c.queue) × IsOther e.mark
 
-  raised_queue : (b : Bool) (side : Side) (n : ℕ) (c : Channel T W) → (if b then on_count side (n + 1) (up side) c else untouched c).channel.queue ≡ c.queue
-  raised_queue true side n c = refl
-  raised_queue false side n c = refl
+  spares_as : (c : Channel T W) (e e' : Effect T W) → e ≡ e' → Spares c e' → Spares c e
+  spares_as c e e' same h = subst (λ (x : Effect T W). Spares c x) (sym same) h
 
-  pub worked_queue : (c : Channel T W) (w : Work T W) (e : Effect T W) (r : Option (Reply T)) (s : Stage (Phase T) T W) → Worked c w e r s → e.channel.queue ≡ c.queue
-  worked_queue c (TellReceive x) e r s h = queue_of e _ h.0
-  worked_queue c (TellStreams x) e r s h = queue_of e _ h.0
-  worked_queue c (TellSend x) e r s h = queue_of e _ h.0
-  worked_queue c (TellSends n x) e r s h = queue_of e _ h.0
-  worked_queue c (TakeRoom n) e r s h = queue_of e _ h.0
-  worked_queue c (TellAll line closer) e r s h = queue_of e _ h.0
-  worked_queue c (Insert w task) e r s (inl h) = queue_of e _ h.2
-  worked_queue c (Insert w task) e r s (inr h) = queue_of e _ h.1
-  worked_queue c (Register w key task) e r s h = queue_of e _ h.0
-  worked_queue c (Leave x) e r s h = queue_of e _ h.0 ∙ left_queue x.held c
-  worked_queue c (Lower side key) e r s h = queue_of e _ h.0
-  worked_queue c (Count side) e r s h = queue_of e _ h.0
-  worked_queue c (Load side making) e r s h = queue_of e _ h.0
-  worked_queue c (Raise side n making) e r s h = queue_of e _ h.0 ∙ raised_queue (is_raised side n c.roster) side n c
+  leaves_spares : (h : Option Held) (c : Channel T W) → Spares c (leaves h c)
+  leaves_spares None c = (refl, tt)
+  leaves_spares (Some h) c = (refl, tt)
+
+  raises_spares : (b : Bool) (side : Side) (n : ℕ) (c : Channel T W) → Spares c (if b then on_count side (n + 1) (up side) c else untouched c)
+  raises_spares true side n c = (refl, other_up side)
+  raises_spares false side n c = (refl, tt)
+
+  pub worked_spares : (c : Channel T W) (w : Work T W) (e : Effect T W) (r : Option (Reply T)) (s : Stage (Phase T) T W) → Worked c w e r s → Spares c e
+  worked_spares c (Insert w task) e r s (inl h) = spares_as c e _ h.2 (refl, tt)
+  worked_spares c (Insert w task) e r s (inr h) = spares_as c e _ h.1 (refl, tt)
+  worked_spares c (Leave x) e r s h = spares_as c e _ h.0 (leaves_spares x.held c)
+  worked_spares c (Lower side key) e r s h = spares_as c e _ h.0 (refl, other_down side)
+  worked_spares c (Raise side n making) e r s h = spares_as c e _ h.0 (raises_spares (is_raised side n c.roster) side n c)
+  worked_spares c w e r s h = spares_as c e _ h.0 (refl, tt)
 
   pub grows : (c : Channel T W) (at : Stage (Phase T) T W) (e : Effect T W) (r : Option (Reply T)) (s : Stage (Phase T) T W) → Moves c at e r s → Grows c.queue e.channel.queue
   grows c (Trying f aim) e r s h =
       subst (λ (q : Queue T). Grows c.queue q) (sym (queue_of e _ h.effect)) (marked_grows f h.mark c.queue)
-  grows c (Working w) e r s h = stays c.queue e.channel.queue (worked_queue c w e r s h)
+  grows c (Working w) e r s h = (let k = worked_spares c w e r s h in stays c.queue e.channel.queue k.0)
   grows c (Finished kept) e r s h = stays c.queue e.channel.queue (queue_of e _ h.0)
 
   -- ---- where a call ends

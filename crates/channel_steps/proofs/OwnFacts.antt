@@ -1,68 +1,20 @@
 -- A step of a call: what is known of it after, whom it wakes, and what it takes and brings.
 use Rattle.std.proofs.Common.{◌≡◌, map, ℕ, ◌+◌, ◌<◌, ◌≤◌, Bool, true, false, if◌then◌else◌, List, [], ◌∷◌, ◌++◌, take, drop, Option, None, Some, ◌⊎◌, inl, inr, refl, sym, ap, ◌∙◌, subst, arith, append-nil, append_assoc}
-use Rattle.concurrent_queue.specs.Queue.{Queue, Phase, after, message, Continues, ContinuesBy, Answers}
+use Rattle.channel_steps.proofs.Words.{Queue, Phase, after, message, ContinuesBy, QueueAsk, QueueMark, QueueReply, Key, answered_next, first, mark_of_queue, up, Channel, Effect, untouched, on_count, leaves, Turned, Tried, Worked, Moves, listeners, is_raised, again, ChannelAsk, Loan, Mark, Reply, Aim, Held, Kept, Sends, Receives, Streams, Closings, Side, Stage, Trying, Working, Finished, Turn, Tries, Works, Ends, Work, TellReceive, TellSend, Insert, Leave, Raise, Continues, Answers, asks_listener, told_one_wakes, MarkedMoment, with_marked, TriesFor, TriesAt, StageAt, ToldAt, IsQuick, quick_steps_left, call_begun, Under, sees, does, Finishes, EndsInTime, brought, gone_by, came_by, Known, AllKnown, IsBalanced, Telling, telling, dropping, WokenBy}
 use Rattle.concurrent_queue.specs.Queue as queue
-use Rattle.concurrent_queue.specs.declared.call.QueueAsk.{QueueAsk}
 use Rattle.concurrent_queue.specs.declared.call.QueueAsk.TheVariants as ask
-use Rattle.concurrent_queue.specs.declared.call.QueueMark.{QueueMark}
 use Rattle.concurrent_queue.specs.declared.call.QueueMark.TheVariants as queue_mark
-use Rattle.concurrent_queue.specs.declared.call.QueueReply.{QueueReply}
-use Rattle.event_listener.specs.declared.key.Key.{Key}
-use Rattle.channel_calls.specs.Answered.{answered_next}
-use Rattle.channel_calls.specs.Asks.{asks_listener, first}
-use Rattle.channel_calls.specs.Marks.{mark_of_queue, up, down}
-use Rattle.channel_calls.specs.Moves.{Channel, Effect, untouched, on_count, leaves, Turned, Tried, Worked, Moves}
-use Rattle.channel_calls.specs.Parts.{listeners, told_one_wakes, is_raised}
-use Rattle.channel_calls.specs.Turns.{again}
-use Rattle.channel_calls.specs.declared.ask.ChannelAsk.{ChannelAsk}
 use Rattle.channel_calls.specs.declared.ask.ChannelAsk.TheVariants as channel
-use Rattle.channel_calls.specs.declared.ask.Loan.{Loan}
-use Rattle.channel_calls.specs.declared.mark.Mark.{Mark}
 use Rattle.channel_calls.specs.declared.mark.Mark.TheVariants as mark
-use Rattle.channel_calls.specs.declared.reply.Reply.{Reply}
-use Rattle.channel_calls.specs.declared.stage.Aim.{Aim}
 use Rattle.channel_calls.specs.declared.stage.Aim.TheVariants as aim
 use Rattle.channel_calls.specs.declared.stage.Closer.TheVariants as closer
-use Rattle.channel_calls.specs.declared.stage.Held.{Held}
-use Rattle.channel_calls.specs.declared.stage.Kept.{Kept}
-use Rattle.channel_calls.specs.declared.stage.Line.TheVariants.{Sends, Receives, Streams, Closings}
-use Rattle.channel_calls.specs.declared.stage.Side.{Side}
-use Rattle.channel_calls.specs.declared.stage.Side.TheVariants.{Senders, Receivers}
-use Rattle.channel_calls.specs.declared.stage.Stage.{Stage}
-use Rattle.channel_calls.specs.declared.stage.Stage.TheVariants.{Trying, Working, Finished}
-use Rattle.channel_calls.specs.declared.stage.Turn.{Turn}
-use Rattle.channel_calls.specs.declared.stage.Turn.TheVariants.{Tries, Works, Ends}
-use Rattle.channel_calls.specs.declared.stage.Work.{Work}
 use Rattle.channel_calls.specs.declared.stage.Waiting.TheVariants as waiting
-use Rattle.channel_calls.specs.declared.stage.Work.TheVariants.{TellReceive, TellStreams, TellSend, TellSends, TakeRoom, TellAll, Insert, Register, Leave, Lower, Count, Load, Raise}
-use Rattle.channel_steps.specs.Moments.{MarkedMoment, with_marked}
-use Rattle.channel_steps.specs.Known.{TriesFor, TriesAt, StageAt, ToldAt, IsQuick, quick_steps_left}
-use Rattle.channel_steps.specs.Run.{call_begun}
-use Rattle.channel_steps.specs.Scene.{Under, sees, does, Finishes, EndsInTime, brought, gone_by, came_by, Known, AllKnown, IsBalanced}
-use Rattle.channel_steps.specs.Tellings.{Telling, telling, dropping, WokenBy}
-use Rattle.channel_steps.proofs.MoveFacts.{worked_queue}
+use Rattle.channel_steps.proofs.MoveFacts.{IsOther, worked_spares}
 use Rattle.channel_steps.proofs.TryFacts.{Progress, still, progress, answer_progress, next_channel, goes_at, IsClosing, tries_more, tries_stay}
 use Rattle.channel_steps.proofs.TurnFacts.{TurnAt, After, turned_at}
 use Rattle.channel_steps.proofs.AnswerFacts.{answered}
 use Rattle.channel_steps.proofs.WorkFacts.{work_more, worked}
 use Rattle.channel_steps.proofs.QuickFacts.{quick_moves, some_left, few_left}
-
--- a mark of no queue
-abbrev IsOther : Mark → Type 0
-IsOther mark.Nothing = Unit {0}
-IsOther mark.SenderUp = Unit {0}
-IsOther mark.SenderDown = Unit {0}
-IsOther mark.ReceiverUp = Unit {0}
-IsOther mark.ReceiverDown = Unit {0}
-IsOther m = ⊥
-
-other_up : (side : Side) → IsOther (up side)
-other_up Senders = tt
-other_up Receivers = tt
-
-other_down : (side : Side) → IsOther (down side)
-other_down Senders = tt
-other_down Receivers = tt
 
 module _ {T : Type 0} where
   never_closes : (q : Queue T) (a : QueueAsk T) (m : QueueMark) (s t : queue.Stage T) → ContinuesBy q a m s t → IsClosing a → ⊥
@@ -125,7 +77,7 @@ module _ {T W : Type 0} where
 
   pub moves_on : (c : Channel T W) (at : Stage (Phase T) T W) (e : Effect T W) (r : Option (Reply T)) (s : Stage (Phase T) T W) → Moves c at e r s → Progress c.queue e.channel.queue
   moves_on c (Trying f y) e r s h = subst (λ (z : Effect T W). Progress c.queue z.channel.queue) (sym h.effect) (tried_on c f h.mark y r s h.how)
-  moves_on c (Working w) e r s h = same_queue c e.channel (worked_queue c w e r s h)
+  moves_on c (Working w) e r s h = (let spares = worked_spares c w e r s h in same_queue c e.channel spares.0)
   moves_on c (Finished kept) e r s h = same_queue c e.channel (ap (λ (z : Effect T W). z.channel.queue) h.0)
 
   -- ---- whom it wakes
@@ -140,19 +92,12 @@ module _ {T W : Type 0} where
 
   work_names : (c : Channel T W) (w : Work T W) (e : Effect T W) (r : Option (Reply T)) (s : Stage (Phase T) T W) → Worked c w e r s → WokenBy (telling (Working w)) (dropping (Working w)) c e.woken
   work_names c (TellReceive y) e r s h = ap (λ (z : Effect T W). z.woken) h.0 ∙ sym (append-nil (told_one_wakes (listeners Receives c.roster)))
-  work_names c (TellStreams y) e r s h = ap (λ (z : Effect T W). z.woken) h.0
   work_names c (TellSend y) e r s h = ap (λ (z : Effect T W). z.woken) h.0 ∙ sym (append-nil (told_one_wakes (listeners Sends c.roster)))
-  work_names c (TellSends n y) e r s h = ap (λ (z : Effect T W). z.woken) h.0
-  work_names c (TakeRoom n) e r s h = ap (λ (z : Effect T W). z.woken) h.0
-  work_names c (TellAll line y) e r s h = ap (λ (z : Effect T W). z.woken) h.0
   work_names c (Insert w task) e r s (inl h) = ap (λ (z : Effect T W). z.woken) h.2
   work_names c (Insert w task) e r s (inr h) = ap (λ (z : Effect T W). z.woken) h.1
-  work_names c (Register w key task) e r s h = ap (λ (z : Effect T W). z.woken) h.0
   work_names c (Leave y) e r s h = left_names y.held c e h.0
-  work_names c (Lower side key) e r s h = ap (λ (z : Effect T W). z.woken) h.0
-  work_names c (Count side) e r s h = ap (λ (z : Effect T W). z.woken) h.0
-  work_names c (Load side m) e r s h = ap (λ (z : Effect T W). z.woken) h.0
   work_names c (Raise side n m) e r s h = raised_names (is_raised side n c.roster) side n c e h.0
+  work_names c w e r s h = ap (λ (z : Effect T W). z.woken) h.0
 
   pub names_of : (c : Channel T W) (at : Stage (Phase T) T W) (e : Effect T W) (r : Option (Reply T)) (s : Stage (Phase T) T W) → Moves c at e r s → WokenBy (telling at) (dropping at) c e.woken
   names_of c (Trying f y) e r s h = ap (λ (z : Effect T W). z.woken) h.effect
@@ -204,39 +149,12 @@ module _ {T W : Type 0} where
   other_held mark.ReceiverDown x items items' h e = e ∙ sym (append-nil items)
   other_held m x items items' h e = absurd h
 
-  other_mark : (e f : Effect T W) → e ≡ f → IsOther f.mark → IsOther e.mark
-  other_mark e f h k = subst (λ (m : Mark). IsOther m) (sym (ap (λ (z : Effect T W). z.mark) h)) k
-
-  left_other : (o : Option Held) (c : Channel T W) → IsOther (leaves o c).mark
-  left_other None c = tt
-  left_other (Some h) c = tt
-
-  raised_other : (b : Bool) (side : Side) (n : ℕ) (c : Channel T W) → IsOther (if b then on_count side (n + 1) (up side) c else untouched c).mark
-  raised_other true side n c = other_up side
-  raised_other false side n c = tt
-
-  work_other : (c : Channel T W) (w : Work T W) (e : Effect T W) (r : Option (Reply T)) (s : Stage (Phase T) T W) → Worked c w e r s → IsOther e.mark
-  work_other c (TellReceive y) e r s h = other_mark e _ h.0 tt
-  work_other c (TellStreams y) e r s h = other_mark e _ h.0 tt
-  work_other c (TellSend y) e r s h = other_mark e _ h.0 tt
-  work_other c (TellSends n y) e r s h = other_mark e _ h.0 tt
-  work_other c (TakeRoom n) e r s h = other_mark e _ h.0 tt
-  work_other c (TellAll line y) e r s h = other_mark e _ h.0 tt
-  work_other c (Insert w task) e r s (inl h) = other_mark e _ h.2 tt
-  work_other c (Insert w task) e r s (inr h) = other_mark e _ h.1 tt
-  work_other c (Register w key task) e r s h = other_mark e _ h.0 tt
-  work_other c (Leave y) e r s h = other_mark e (leaves y.held c) h.0 (left_other y.held c)
-  work_other c (Lower side key) e r s h = other_mark e _ h.0 (other_down side)
-  work_other c (Count side) e r s h = other_mark e _ h.0 tt
-  work_other c (Load side m) e r s h = other_mark e _ h.0 tt
-  work_other c (Raise side n m) e r s h = other_mark e _ h.0 (raised_other (is_raised side n c.roster) side n c)
-
   pub moves_held : (c : Channel T W) (x : ChannelAsk T W) (at : Stage (Phase T) T W) (ds : List (MarkedMoment T W)) (seen : List (Channel T W)) (e : Effect T W) (r : Option (Reply T)) (s : Stage (Phase T) T W) → StageAt c x at ds seen → Moves c at e r s
       → Held_by e.mark x c.queue.items e.channel.queue.items
   moves_held c x (Trying f y) ds seen e r s k h =
       subst (λ (z : Effect T W). Held_by z.mark x c.queue.items z.channel.queue.items) (sym h.effect) (queue_held x f h.mark c.queue (brings_own x y f.ask ds seen k.0))
   moves_held c x (Working w) ds seen e r s k h =
-      other_held e.mark x c.queue.items e.channel.queue.items (work_other c w e r s h) (ap (λ (q : Queue T). q.items) (worked_queue c w e r s h))
+      let spares = worked_spares c w e r s h in other_held e.mark x c.queue.items e.channel.queue.items spares.1 (ap (λ (q : Queue T). q.items) spares.0)
   moves_held c x (Finished kept) ds seen e r s k h = absurd k
 
   -- ---- the calls under way after a step
@@ -304,32 +222,22 @@ module _ {T W : Type 0} where
   begins_at : (c : Channel T W) (x : ChannelAsk T W) → TurnAt c x [] [] (c ∷ []) (first x) × GoesOnAt (first x)
   begins_at c (channel.TrySend m) = (((refl, (refl, λ e. absurd (let no : false ≡ true = e in cc))), refl), tt)
   begins_at c (channel.ForceSend m) = (((refl, (refl, λ e. absurd (let no : false ≡ true = e in cc))), refl), tt)
-  begins_at c channel.TryRecv = (((tt, refl), refl), tt)
   begins_at c (channel.RecvMany n) = (((refl, refl), refl), tt)
   begins_at c channel.Close = (((refl, tt), refl), tt)
   begins_at c (channel.PollSend m l t) = sent_at c m l t l.asks_first l.key refl
   begins_at c channel.PollFinishedSend = (((([], c ∷ [], refl, (refl, refl)), refl), refl), tt)
   begins_at c (channel.PollRecv l t) = received_at c l t l.asks_first l.key refl
-  begins_at c (channel.PollClosed k t) = (((tt, refl), refl), tt)
-  begins_at c (channel.PollNext None t) = (((tt, refl), refl), tt)
   begins_at c (channel.PollNext (Some key) t) = (((tt, refl, λ e. tt), refl), tt)
   begins_at c (channel.RefusePoll line msg key) = (((([], c ∷ [], refl, (refl, refl)), refl), refl), tt)
   begins_at c (channel.GiveUp line msg key) = (((([], c ∷ [], refl, (refl, refl)), refl), refl), tt)
-  begins_at c channel.DropSender = (((tt, refl), refl), tt)
-  begins_at c (channel.DropReceiver k) = (((tt, refl), refl), tt)
   begins_at c (channel.CloneHandle side) = (((refl, refl), refl), tt)
   begins_at c (channel.Upgrade side) = (((refl, refl), refl), tt)
   begins_at c (channel.HandleCount side) = (((refl, refl), refl), tt)
-  begins_at c channel.IsClosed = (((tt, refl), refl), tt)
-  begins_at c channel.IsEmpty = (((tt, refl), refl), tt)
-  begins_at c channel.IsFull = (((tt, refl), refl), tt)
-  begins_at c channel.Len = (((tt, refl), refl), tt)
-  begins_at c channel.Capacity = (((tt, refl), refl), tt)
-  begins_at c channel.IsTerminated = (((tt, refl), refl), tt)
   begins_at c (channel.SendIsTerminated b) = (((([], c ∷ [], refl, (refl, refl)), refl), refl), tt)
   begins_at c (channel.SameChannel b) = (((([], c ∷ [], refl, (refl, refl)), refl), refl), tt)
   begins_at c channel.Make = (((([], c ∷ [], refl, (refl, refl)), refl), refl), tt)
   begins_at c channel.DropWeak = (((([], c ∷ [], refl, (refl, refl)), refl), refl), tt)
+  begins_at c w = (((tt, refl), refl), tt)
 
   known_at : (c : Channel T W) (p : ℕ) (x : ChannelAsk T W) (turn : Turn T W) (r : Option (Reply T)) (at : Stage (Phase T) T W) → r ≡ None → TurnAt c x [] [] (c ∷ []) turn → Turned turn r at → Known c (call_begun p x at c)
   known_at c p x turn r at none h t =

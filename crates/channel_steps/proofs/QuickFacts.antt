@@ -1,40 +1,12 @@
 -- Quick calls end within eight steps.
 use Rattle.std.proofs.Common.{◌≡◌, ℕ, ◌<◌, ◌≤◌, ◌==◌, Bool, true, false, if◌then◌else◌, List, Option, None, Some, ◌⊎◌, inl, inr, refl, sym, ap, subst, arith}
-use Rattle.concurrent_queue.specs.Queue.{Phase, trying, read, ContinuesBy}
+use Rattle.channel_steps.proofs.Words.{Phase, trying, read, ContinuesBy, QueueAsk, QueueMark, Nothing, QueueReply, Key, asked_next, closed_next, terminated_next, answered_next, Channel, Effect, Turned, Worked, Moves, count, leaving, closer_ending, dropper, ends_by, told_all_next, lowered_next, ChannelAsk, Reply, Aim, Closer, Ending, Held, Line, Sends, Receives, Streams, Closings, Making, Side, Stage, Trying, Working, Finished, Turn, Tries, Works, Ends, Waiting, Work, TellReceive, TellStreams, TellSend, TellSends, TakeRoom, TellAll, Insert, Register, Leave, Lower, Count, Load, Raise, MarkedMoment, TriesFor, IsFor, Makes, WorkAt, StageAt, IsQuick, left_to_try, left_to_tell, quick_left_to_work, quick_steps_left}
 use Rattle.concurrent_queue.specs.Queue as queue
-use Rattle.concurrent_queue.specs.declared.call.QueueAsk.{QueueAsk}
 use Rattle.concurrent_queue.specs.declared.call.QueueAsk.TheVariants as ask
-use Rattle.concurrent_queue.specs.declared.call.QueueMark.{QueueMark}
-use Rattle.concurrent_queue.specs.declared.call.QueueMark.TheVariants.{Nothing}
-use Rattle.concurrent_queue.specs.declared.call.QueueReply.{QueueReply}
 use Rattle.concurrent_queue.specs.declared.call.QueueReply.TheVariants as answer
-use Rattle.event_listener.specs.declared.key.Key.{Key}
-use Rattle.channel_calls.specs.Answered.{asked_next, closed_next, terminated_next, answered_next}
-use Rattle.channel_calls.specs.Moves.{Channel, Effect, Turned, Worked, Moves}
-use Rattle.channel_calls.specs.Parts.{count}
-use Rattle.channel_calls.specs.Turns.{leaving, closer_ending, dropper, ends_by, told_all_next, lowered_next}
-use Rattle.channel_calls.specs.declared.ask.ChannelAsk.{ChannelAsk}
 use Rattle.channel_calls.specs.declared.ask.ChannelAsk.TheVariants as channel
-use Rattle.channel_calls.specs.declared.reply.Reply.{Reply}
-use Rattle.channel_calls.specs.declared.stage.Aim.{Aim}
 use Rattle.channel_calls.specs.declared.stage.Aim.TheVariants as aim
-use Rattle.channel_calls.specs.declared.stage.Closer.{Closer}
 use Rattle.channel_calls.specs.declared.stage.Closer.TheVariants as closer
-use Rattle.channel_calls.specs.declared.stage.Ending.{Ending}
-use Rattle.channel_calls.specs.declared.stage.Held.{Held}
-use Rattle.channel_calls.specs.declared.stage.Line.{Line}
-use Rattle.channel_calls.specs.declared.stage.Line.TheVariants.{Sends, Receives, Streams, Closings}
-use Rattle.channel_calls.specs.declared.stage.Making.{Making}
-use Rattle.channel_calls.specs.declared.stage.Side.{Side}
-use Rattle.channel_calls.specs.declared.stage.Stage.{Stage}
-use Rattle.channel_calls.specs.declared.stage.Stage.TheVariants.{Trying, Working, Finished}
-use Rattle.channel_calls.specs.declared.stage.Turn.{Turn}
-use Rattle.channel_calls.specs.declared.stage.Turn.TheVariants.{Tries, Works, Ends}
-use Rattle.channel_calls.specs.declared.stage.Waiting.{Waiting}
-use Rattle.channel_calls.specs.declared.stage.Work.{Work}
-use Rattle.channel_calls.specs.declared.stage.Work.TheVariants.{TellReceive, TellStreams, TellSend, TellSends, TakeRoom, TellAll, Insert, Register, Leave, Lower, Count, Load, Raise}
-use Rattle.channel_steps.specs.Moments.{MarkedMoment}
-use Rattle.channel_steps.specs.Known.{TriesFor, IsFor, Makes, WorkAt, StageAt, IsQuick, left_to_try, left_to_tell, quick_left_to_work, quick_steps_left}
 
 module _ {T : Type 0} where
   -- what a quick call asks of the queue
@@ -108,10 +80,8 @@ module _ {T : Type 0} (W : Type 0) where
 
 module _ (T W : Type 0) where
   told_left : (line : Line) (y : Closer) → left_after (let t : Turn T W = told_all_next line y in t) < left_to_tell line
-  told_left Sends y = omega arith
-  told_left Receives y = omega arith
-  told_left Streams y = omega arith
   told_left Closings y = let h : left_after (let t : Turn T W = ends_by (closer_ending y true) in t) ≤ 1 = ended_left W (closer_ending y true) in omega (arith, h)
+  told_left w y = omega arith
 
   lowered_left : (b : Bool) (side : Side) (key : Option Key) → left_after (let t : Turn T W = (if b then Tries ask.Close (aim.Close (dropper side key)) else ends_by (closer_ending (dropper side key) false)) in t) < 7
   lowered_left true side key = omega arith

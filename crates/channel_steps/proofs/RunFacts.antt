@@ -1,24 +1,9 @@
 -- Beginning a call, and how far the positions last.
 use Rattle.std.proofs.Common.{◌≡◌, ℕ, suc, List, [], ◌∷◌, ◌++◌, Option, None, refl, sym, ap, ◌∙◌, subst, append-nil, arith}
-use Rattle.concurrent_queue.specs.Queue.{Queue, Phase, asked}
-use Rattle.concurrent_queue.specs.Step.{Seat, FitsAt}
-use Rattle.concurrent_queue.specs.declared.queue_call.QueueCall.{QueueCall}
-use Rattle.channel_calls.specs.Parts.{Parts}
-use Rattle.channel_calls.specs.Asks.{first}
-use Rattle.channel_calls.specs.Moves.{Channel, seats, phase, Turned, IsTaken, IsNewCall}
-use Rattle.channel_calls.specs.declared.ask.ChannelAsk.{ChannelAsk}
-use Rattle.channel_calls.specs.declared.call.ChannelCall.{ChannelCall}
+use Rattle.channel_steps.proofs.Words.{Queue, Phase, asked, Seat, QueueCall, Parts, first, Channel, seats, phase, Turned, IsTaken, ChannelAsk, ChannelCall, Reply, Stage, Turn, Tries, Works, Ends, IsNewCall, Party, Entry, Step, Under, Scene, Sitting, under_of, all_seats, HasBegun, Next, HasRange}
+use Rattle.concurrent_queue.specs.Step.{FitsAt}
 use Rattle.channel_calls.specs.declared.mark.Mark.TheVariants.{Nothing}
-use Rattle.channel_calls.specs.declared.reply.Reply.{Reply}
-use Rattle.channel_calls.specs.declared.stage.Stage.{Stage}
-use Rattle.channel_calls.specs.declared.stage.Turn.{Turn}
-use Rattle.channel_calls.specs.declared.stage.Turn.TheVariants.{Tries, Works, Ends}
-use Rattle.channel_steps.specs.declared.party.Party.{Party}
-use Rattle.channel_steps.specs.declared.party.Entry.{Entry}
-use Rattle.channel_steps.specs.declared.run.Step.{Step}
 use Rattle.channel_steps.specs.declared.run.Step.TheVariants as step
-use Rattle.channel_steps.specs.Scene.{Under, Scene, Sitting, under_of, all_seats}
-use Rattle.channel_steps.specs.Run.{HasBegun, Next, HasRange}
 use Rattle.channel_steps.proofs.MoveFacts.{grows, range_grows}
 use Rattle.channel_steps.proofs.OwnFacts.{begins_known}
 use Rattle.channel_steps.proofs.SceneFacts.{map-round, seats_append, party_of, known_both}

@@ -1,29 +1,9 @@
 -- A step of one party among all.
 use Rattle.std.proofs.Common.{◌≡◌, ℕ, zero, suc, ◌+◌, ◌<◌, unwrap_or, List, [], ◌∷◌, ◌++◌, map, length, slice_get, slice_set, Option, None, Some, refl, sym, ap, ◌∙◌, subst, append_assoc}
 use Rattle.std.specs.List.{remove}
-use Rattle.concurrent_queue.specs.Queue.{Queue, Phase, IsInRange}
+use Rattle.channel_steps.proofs.Words.{Queue, Phase, IsInRange, Contents, Seat, chain_after, PhasesQuiet, phases, QueueForm, Bounded, Unbounded, Parts, QueueCall, Channel, Effect, channel, seats, phase, Made, ChannelCall, Mark, Reply, kept_by, Kept, Stage, Trying, Working, Finished, FitsForm, IsStepOver, IsChannelStep, OnePlace, Party, Entry, StageAt, party_left, all_left, left_at, MarkedMoment, with_marked, Under, Scene, MayHave, blocks_after, sees, does, gone_by, came_by, Known, AllKnown, IsBalanced, OthersQuiet, Sitting, under_of, seats_of, all_seats, Represents, parties_in, unless_answered, parties_after, left_by, StepsNearer, SteppedAt, StepsAt, telling}
+use Rattle.concurrent_queue.specs.Step.{FitsAt}
 use Rattle.concurrent_queue.proofs.Callers.{itself}
-use Rattle.concurrent_queue.specs.Contents.{Contents}
-use Rattle.concurrent_queue.specs.Step.{Seat, FitsForm, FitsAt, chain_after, PhasesQuiet, phases}
-use Rattle.concurrent_queue.specs.declared.cells.QueueForm.{QueueForm}
-use Rattle.concurrent_queue.specs.declared.cells.QueueForm.TheVariants.{Bounded, Unbounded}
-use Rattle.channel_calls.specs.Parts.{Parts}
-use Rattle.concurrent_queue.specs.declared.queue_call.QueueCall.{QueueCall}
-use Rattle.channel_calls.specs.Moves.{Channel, Effect, channel, seats, phase, IsStepOver, IsChannelStep, OnePlace, Made}
-use Rattle.channel_calls.specs.declared.call.ChannelCall.{ChannelCall}
-use Rattle.channel_calls.specs.declared.mark.Mark.{Mark}
-use Rattle.channel_calls.specs.declared.reply.Reply.{Reply}
-use Rattle.channel_calls.specs.Asks.{kept_by}
-use Rattle.channel_calls.specs.declared.stage.Kept.{Kept}
-use Rattle.channel_calls.specs.declared.stage.Stage.{Stage}
-use Rattle.channel_calls.specs.declared.stage.Stage.TheVariants.{Trying, Working, Finished}
-use Rattle.channel_steps.specs.declared.party.Party.{Party}
-use Rattle.channel_steps.specs.declared.party.Entry.{Entry}
-use Rattle.channel_steps.specs.Known.{StageAt}
-use Rattle.channel_steps.specs.Left.{party_left, all_left, left_at}
-use Rattle.channel_steps.specs.Moments.{MarkedMoment, with_marked}
-use Rattle.channel_steps.specs.Scene.{Under, Scene, MayHave, blocks_after, sees, does, gone_by, came_by, Known, AllKnown, IsBalanced, OthersQuiet, Sitting, under_of, seats_of, all_seats, Represents, parties_in, unless_answered, parties_after, left_by, StepsNearer, SteppedAt, StepsAt}
-use Rattle.channel_steps.specs.Tellings.{telling}
 use Rattle.channel_steps.proofs.IdleFacts.{idle_holds}
 use Rattle.channel_steps.proofs.LeftFacts.{IsAtWork, step_lessens}
 use Rattle.channel_steps.proofs.MoveFacts.{answered_alone, kept_at}

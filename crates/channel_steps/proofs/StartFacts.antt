@@ -1,17 +1,7 @@
 -- A channel that was just opened, and the number of calls under way.
 use Rattle.std.proofs.Common.{◌≡◌, ℕ, ◌==◌, Bool, true, false, List, [], ◌∷◌, map, length, refl, sym, ap, ◌∙◌, arith}
 use Rattle.std.proofs.lemmas.Bool.Decides.{nat_tests}
-use Rattle.concurrent_queue.specs.Capacity.{capacity_of}
-use Rattle.concurrent_queue.specs.Made.{IsNew}
-use Rattle.concurrent_queue.specs.Queue.{opened}
-use Rattle.concurrent_queue.specs.declared.cells.QueueForm.{QueueForm}
-use Rattle.concurrent_queue.specs.declared.cells.QueueForm.TheVariants.{Bounded, Unbounded}
-use Rattle.channel_calls.specs.Moves.{channel}
-use Rattle.channel_calls.specs.Parts.{Parts, Roster, new_roster}
-use Rattle.channel_steps.specs.declared.party.Party.{Party}
-use Rattle.channel_steps.specs.Run.{new_scene}
-use Rattle.channel_steps.specs.Scene.{Scene, Sitting, under_of, Represents, MayHave}
-use Rattle.channel_steps.specs.Start.{IsQuietOrNot, EachSceneTellsQuiet}
+use Rattle.channel_steps.proofs.Words.{QueueForm, Bounded, Unbounded, channel, Parts, Roster, capacity_of, IsNew, opened, new_roster, Party, new_scene, Scene, Sitting, under_of, Represents, MayHave, IsQuietOrNot, EachSceneTellsQuiet}
 
 long_as : {A B : Type 0} (g : A → B) (xs : List A) → length (map g xs) ≡ length xs
 long_as g [] = refl

@@ -1,28 +1,15 @@
 -- A step of the queue's call that goes on, and what is known of the channel's call after it.
 use Rattle.std.proofs.Common.{append_assoc, ◌≡◌, ℕ, zero, suc, ◌+◌, ◌≤◌, ◌==◌, Bool, true, false, if◌then◌else◌, List, [], ◌∷◌, ◌++◌, length, drop, Option, None, Some, ◌⊎◌, ⊎_elim, inl, inr, refl, sym, ap, ◌∙◌, subst, arith, length-append}
 use Rattle.std.proofs.lemmas.Bool.Decides.{nat_tests}
-use Rattle.concurrent_queue.specs.Queue.{Queue, trying, displaced, appended, taken, read, measured, is_filled, is_full_at, IsOldest, message, marked, is_displaced, may_refuse_at, seen_after, ContinuesPush, ContinuesForce, ContinuesPop, ContinuesBy, AnswersTo}
+use Rattle.channel_steps.proofs.Words.{Queue, trying, displaced, appended, taken, read, measured, is_full_at, message, ContinuesBy, AnswersTo, QueueAsk, QueueMark, Nothing, Append, Take, TakeDisplaced, Replace, Close, QueueReply, mark_of_queue, Channel, ChannelAsk, Aim, Sends, Receives, Streams, Closings, Side, Senders, Receivers, Mark, is_filled, IsOpen, IsOldest, marked, is_displaced, may_refuse_at, seen_after, ContinuesPush, ContinuesForce, ContinuesPop, MarkedMoment, with_marked, Open, HasRoom, Crowded, Refuses, HasMessage, Once, MadeRoom, Displaced, LeftLast, TriesFor, TryAt, HasTaken, AreBehind, TriesAt, IsBalanced}
 use Rattle.concurrent_queue.specs.Queue as queue
-use Rattle.concurrent_queue.specs.declared.call.QueueAsk.{QueueAsk}
 use Rattle.concurrent_queue.specs.declared.call.QueueAsk.TheVariants as ask
-use Rattle.concurrent_queue.specs.declared.call.QueueMark.{QueueMark}
-use Rattle.concurrent_queue.specs.declared.call.QueueMark.TheVariants.{Nothing, Append, Take, TakeDisplaced, Replace, Close}
-use Rattle.concurrent_queue.specs.declared.call.QueueReply.{QueueReply}
-use Rattle.channel_calls.specs.Marks.{mark_of_queue}
-use Rattle.channel_calls.specs.Moves.{Channel}
-use Rattle.channel_calls.specs.declared.ask.ChannelAsk.{ChannelAsk}
+use Rattle.concurrent_queue.specs.declared.call.QueueReply.TheVariants as answer
 use Rattle.channel_calls.specs.declared.ask.ChannelAsk.TheVariants as channel
-use Rattle.channel_calls.specs.declared.stage.Aim.{Aim}
 use Rattle.channel_calls.specs.declared.stage.Aim.TheVariants as aim
 use Rattle.channel_calls.specs.declared.stage.Closer.TheVariants as closer
-use Rattle.channel_calls.specs.declared.stage.Line.TheVariants.{Sends, Receives, Streams, Closings}
-use Rattle.channel_calls.specs.declared.stage.Side.{Side}
-use Rattle.channel_calls.specs.declared.stage.Side.TheVariants.{Senders, Receivers}
-use Rattle.channel_steps.specs.Moments.{MarkedMoment, with_marked, Open, HasRoom, Crowded, Unbounded, Refuses, HasMessage, Once, MadeRoom, Displaced, LeftLast}
-use Rattle.channel_calls.specs.declared.mark.Mark.{Mark}
+use Rattle.channel_steps.specs.Moments.{Unbounded}
 use Rattle.channel_calls.specs.declared.mark.Mark.TheVariants as mark
-use Rattle.channel_steps.specs.Known.{TriesFor, TryAt, HasTaken, AreBehind, TriesAt}
-use Rattle.channel_steps.specs.Scene.{IsBalanced}
 
 pub eq_of : (m n : ℕ) → (m == n) ≡ true → m ≡ n
 eq_of m n e = grind (arith, nat_tests)
@@ -95,32 +82,31 @@ module _ {T : Type 0} where
     progress (ask.Push v) m s t g = progress_push v m s t g
     progress (ask.ForcePush v) m s t g = progress_force v m s t g
     progress ask.Pop m s t g = progress_pop m s t g
-    progress ask.Close m s t g = absurd g
-    progress ask.IsClosed m s t g = absurd g
     progress ask.IsEmpty Nothing s t g = still q
-    progress ask.IsEmpty m s t g = absurd g
     progress ask.IsFull Nothing s t g = still q
-    progress ask.IsFull m s t g = absurd g
     progress ask.Len Nothing s t g = still q
-    progress ask.Len m s t g = absurd g
-    progress ask.Capacity m s t g = absurd g
+    progress x m s t g = absurd g
 
     closes : Progress q (record q { closed = true })
     closes = record { capacity = refl; grew = inl refl; balanced = λ h. h }
 
-    -- an answer comes by a step with no mark, or by a closing one
+    -- an answer comes by a step with no mark, or it is that of a call that has closed
+    pub answer_marks : (a : QueueAsk T) (m : QueueMark) (r : QueueReply T) (s : queue.Stage T) → AnswersTo q a m r s
+        → (m ≡ Nothing) ⊎ ((m ≡ Close) × (a ≡ ask.Close) × (r ≡ answer.Close true) × IsOpen q)
+    answer_marks a Nothing r s h = inl refl
+    answer_marks ask.Close Close (answer.Close true) (trying b) h = inr (refl, refl, refl, h)
+    answer_marks (ask.Push v) m r s h = absurd h
+    answer_marks a m r s h = absurd h
+
+    -- so what holds of both holds of it
+    pub answered_by : (P : QueueMark → Type 0) → P Nothing → (IsOpen q → P Close) → (a : QueueAsk T) (m : QueueMark) (r : QueueReply T) (s : queue.Stage T) → AnswersTo q a m r s → P m
+    answered_by P f g a m r s h = by (answer_marks a m r s h) where
+      by : (m ≡ Nothing) ⊎ ((m ≡ Close) × (a ≡ ask.Close) × (r ≡ answer.Close true) × IsOpen q) → P m
+      by (inl e) = subst P (sym e) f
+      by (inr (e, asks, says, was)) = subst P (sym e) (g was)
+
     pub answer_progress : (a : QueueAsk T) (m : QueueMark) (r : QueueReply T) (s : queue.Stage T) → AnswersTo q a m r s → Progress q (marked a (is_displaced s) m q)
-    answer_progress a Nothing r s h = still q
-    answer_progress a Close r s h = closes
-    answer_progress (ask.Push v) m r s h = absurd h
-    answer_progress (ask.ForcePush v) m r s h = absurd h
-    answer_progress ask.Pop m r s h = absurd h
-    answer_progress ask.Close m r s h = absurd h
-    answer_progress ask.IsClosed m r s h = absurd h
-    answer_progress ask.IsEmpty m r s h = absurd h
-    answer_progress ask.IsFull m r s h = absurd h
-    answer_progress ask.Len m r s h = absurd h
-    answer_progress ask.Capacity m r s h = absurd h
+    answer_progress a m r s h = answered_by (λ z. Progress q (marked a (is_displaced s) z q)) (still q) (λ was. closes) a m r s h
 
 module _ {T : Type 0} where
   abbrev pub IsClosing : QueueAsk T → Type 0
@@ -158,9 +144,8 @@ module _ {T W : Type 0} where
   open_once cap (c ∷ cs) (inr h) = inr (open_once cap cs h)
 
   displaced_now : (ds : List (MarkedMoment T W)) (d : T) (e : MarkedMoment T W) → MadeRoom ds d → e.mark ≡ mark_of_queue Append → HasRoom e.before → Displaced (ds ++ e ∷ []) d
-  displaced_now [] d e h m f = absurd h
   displaced_now (x ∷ []) d e h m f = (h, m, f)
-  displaced_now (x ∷ y ∷ ds) d e h m f = absurd h
+  displaced_now x d e h m f = absurd h
 
   -- ---- a step of the queue's call that goes on
 
@@ -226,12 +211,10 @@ module _ {T W : Type 0} where
     goes (ask.Push v) m s t ds g h ev = goes_push v m s t ds g ev
     goes (ask.ForcePush v) m s t ds g h ev = goes_force v m s t ds g ev
     goes ask.Pop m s t ds g h ev = goes_pop m s t ds g ev
-    goes ask.Close m s t ds g h ev = absurd g
-    goes ask.IsClosed m s t ds g h ev = absurd g
     goes ask.IsEmpty m s t ds g h ev = goes_empty m s t ds g h ev
     goes ask.IsFull m s t ds g h ev = goes_full m s t ds g ev
     goes ask.Len m s t ds g h ev = goes_len m s t ds g ev
-    goes ask.Capacity m s t ds g h ev = absurd g
+    goes x m s t ds g h ev = absurd g
 
   -- ---- what a call has taken before
 
@@ -271,10 +254,9 @@ module _ {T W : Type 0} where
   -- ---- a new moment leaves the queue's call one of this call
 
   last_left : (side : Side) (c : Channel T W) (ds es : List (MarkedMoment T W)) (seen : List (Channel T W)) → es ≡ ds → LeftLast side ds seen → LeftLast side es (c ∷ seen)
-  last_left side c [] es seen e h = absurd h
   last_left side c (d ∷ []) es seen e h =
       subst (λ (xs : List (MarkedMoment T W)). LeftLast side xs (c ∷ seen)) (sym e) (h.0, h.1, c ∷ h.2, ap (λ (cs : List (Channel T W)). c ∷ cs) h.3)
-  last_left side c (d ∷ f ∷ ds) es seen e h = absurd h
+  last_left side c x es seen e h = absurd h
 
   pub tries_more : (c : Channel T W) (ds es : List (MarkedMoment T W)) (seen : List (Channel T W)) (x : ChannelAsk T W) (y : Aim T W) (a : QueueAsk T) → (IsClosing a → es ≡ ds) → TriesFor x y a ds seen → TriesFor x y a es (c ∷ seen)
   tries_more c ds es seen (channel.TrySend m) aim.TrySend (ask.Push v) e h = h

@@ -1,26 +1,8 @@
 -- What is known of a call once it has taken its turn.
 use Rattle.std.proofs.Common.{◌≡◌, true, false, List, [], ◌∷◌, ◌++◌, Option, None, Some, refl, sym, ap, ◌∙◌, subst, append-nil}
-use Rattle.concurrent_queue.specs.Queue.{Phase, trying}
-use Rattle.channel_calls.specs.Moves.{Channel, Turned}
-use Rattle.channel_calls.specs.Turns.{leaving, ends_by, again}
-use Rattle.channel_calls.specs.declared.ask.ChannelAsk.{ChannelAsk}
+use Rattle.channel_steps.proofs.Words.{Phase, trying, Channel, Turned, leaving, ends_by, again, ChannelAsk, Reply, Ending, Held, Kept, Stage, Finished, Turn, Tries, Works, Ends, Waiting, Leave, Key, MarkedMoment, Keeps, Row, Met, TriesFor, TriesAt, IsFor, Answered, WorkAt, StageAt, to_tell, ToldAt, Telling, owed}
 use Rattle.channel_calls.specs.declared.ask.ChannelAsk.TheVariants as channel
-use Rattle.channel_calls.specs.declared.reply.Reply.{Reply}
-use Rattle.channel_calls.specs.declared.stage.Ending.{Ending}
-use Rattle.channel_calls.specs.declared.stage.Held.{Held}
-use Rattle.channel_calls.specs.declared.stage.Kept.{Kept}
-use Rattle.channel_calls.specs.declared.stage.Stage.{Stage}
-use Rattle.channel_calls.specs.declared.stage.Stage.TheVariants.{Finished}
-use Rattle.channel_calls.specs.declared.stage.Turn.{Turn}
-use Rattle.channel_calls.specs.declared.stage.Turn.TheVariants.{Tries, Works, Ends}
-use Rattle.channel_calls.specs.declared.stage.Waiting.{Waiting}
 use Rattle.channel_calls.specs.declared.stage.Waiting.TheVariants as waiting
-use Rattle.channel_calls.specs.declared.stage.Work.TheVariants.{Leave}
-use Rattle.event_listener.specs.declared.key.Key.{Key}
-use Rattle.channel_steps.specs.Moments.{MarkedMoment}
-use Rattle.channel_steps.specs.Answers.{Keeps, Row, Met}
-use Rattle.channel_steps.specs.Known.{TriesFor, TriesAt, IsFor, Answered, WorkAt, StageAt, to_tell, ToldAt}
-use Rattle.channel_steps.specs.Tellings.{Telling, owed}
 
 module _ {T W : Type 0} where
   module _ (c : Channel T W) (x : ChannelAsk T W) (told : List Telling) (ds : List (MarkedMoment T W)) (seen : List (Channel T W)) where

@@ -1,44 +1,15 @@
 -- A step on a list or on a count, and what is known of the call after it.
 use Rattle.std.proofs.Common.{zero, suc, ◌≡◌, ℕ, ◌+◌, ◌<◌, ◌≤◌, ◌==◌, ◌&&◌, nat_lt, ◌^◌, ◌-◌, Bool, true, false, if◌then◌else◌, List, [], ◌∷◌, ◌++◌, Option, None, Some, inl, inr, refl, sym, ap, ◌∙◌, subst, arith, append-nil, append_assoc}
 use Rattle.std.proofs.lemmas.Bool.Decides.{nat_tests}
-use Rattle.concurrent_queue.specs.Queue.{Phase}
+use Rattle.channel_steps.proofs.Words.{Phase, Key, up, down, Channel, Effect, untouched, on_count, leaves, Turned, Worked, Roster, listeners, count, is_raised, waits, most, line_of, leaving, nothing_kept, closer_ending, dropper, ends_by, again, pends_by, unlistened, told_all_next, room_next, roomless, lowered_next, counted_next, loaded_next, raised_next, ChannelAsk, Mark, Reply, Closer, Ending, Held, Kept, Line, Sends, Receives, Streams, Closings, Making, Side, Senders, Receivers, Stage, Working, Turn, Tries, Works, Ends, Waiting, Work, TellReceive, TellStreams, TellSend, TellSends, TakeRoom, TellAll, Insert, Register, Leave, Lower, Count, Load, Raise, ListenError, TakesRoomFor, MarkedMoment, with_marked, Open, Once, TookAll, WaitsFor, asks_first, AreBehind, IsFor, Makes, IsDropOf, MayRaise, Answered, WorkAt, to_tell, Telling, one_of, more_of, all_of, owed, telling}
 use Rattle.concurrent_queue.specs.declared.call.QueueAsk.TheVariants as ask
-use Rattle.event_listener.specs.declared.key.Key.{Key}
-use Rattle.event_listener.specs.declared.error.ListenError.{ListenError}
 use Rattle.event_listener.specs.declared.error.ListenError.TheVariants as listen_error
-use Rattle.channel_calls.specs.Marks.{up, down}
-use Rattle.channel_calls.specs.Moves.{Channel, Effect, untouched, on_count, leaves, Turned, TakesRoomFor, Worked}
-use Rattle.channel_calls.specs.Parts.{Roster, listeners, count, is_raised, waits}
-use Rattle.channel_calls.specs.Turns.{most, line_of, leaving, nothing_kept, closer_ending, dropper, ends_by, again, pends_by, unlistened, told_all_next, room_next, roomless, lowered_next, counted_next, loaded_next, raised_next}
-use Rattle.channel_calls.specs.declared.ask.ChannelAsk.{ChannelAsk}
 use Rattle.channel_calls.specs.declared.ask.ChannelAsk.TheVariants as channel
-use Rattle.channel_calls.specs.declared.mark.Mark.{Mark}
 use Rattle.channel_calls.specs.declared.mark.Mark.TheVariants.{Nothing}
-use Rattle.channel_calls.specs.declared.reply.Reply.{Reply}
 use Rattle.channel_calls.specs.declared.reply.Reply.TheVariants as reply
-use Rattle.channel_calls.specs.declared.stage.Closer.{Closer}
-use Rattle.channel_calls.specs.declared.stage.Ending.{Ending}
 use Rattle.channel_calls.specs.declared.stage.Aim.TheVariants as aim
-use Rattle.channel_calls.specs.declared.stage.Held.{Held}
-use Rattle.channel_calls.specs.declared.stage.Kept.{Kept}
-use Rattle.channel_calls.specs.declared.stage.Line.{Line}
-use Rattle.channel_calls.specs.declared.stage.Line.TheVariants.{Sends, Receives, Streams, Closings}
-use Rattle.channel_calls.specs.declared.stage.Making.{Making}
 use Rattle.channel_calls.specs.declared.stage.Making.TheVariants as making
-use Rattle.channel_calls.specs.declared.stage.Side.{Side}
-use Rattle.channel_calls.specs.declared.stage.Side.TheVariants.{Senders, Receivers}
-use Rattle.channel_calls.specs.declared.stage.Stage.{Stage}
-use Rattle.channel_calls.specs.declared.stage.Stage.TheVariants.{Working}
-use Rattle.channel_calls.specs.declared.stage.Turn.{Turn}
-use Rattle.channel_calls.specs.declared.stage.Turn.TheVariants.{Tries, Works, Ends}
-use Rattle.channel_calls.specs.declared.stage.Waiting.{Waiting}
 use Rattle.channel_calls.specs.declared.stage.Waiting.TheVariants as waiting
-use Rattle.channel_calls.specs.declared.stage.Work.{Work}
-use Rattle.channel_calls.specs.declared.stage.Work.TheVariants.{TellReceive, TellStreams, TellSend, TellSends, TakeRoom, TellAll, Insert, Register, Leave, Lower, Count, Load, Raise}
-use Rattle.channel_steps.specs.Moments.{MarkedMoment, with_marked, Open, Once, TookAll}
-use Rattle.channel_steps.specs.Answers.{WaitsFor, asks_first}
-use Rattle.channel_steps.specs.Known.{AreBehind, IsFor, Makes, IsDropOf, MayRaise, Answered, WorkAt, to_tell}
-use Rattle.channel_steps.specs.Tellings.{Telling, one_of, more_of, all_of, owed, telling}
 use Rattle.channel_steps.proofs.TryFacts.{eq_of, open_once}
 use Rattle.channel_steps.proofs.TurnFacts.{TurnAt, After, turned_at, ended, met_more, owes_nothing, told_nobody, tries_again}
 
@@ -59,10 +30,8 @@ not_one n e h = absurd (grind (arith, nat_tests))
 
 module _ {T W : Type 0} where
   waits_more : (line : Line) (c : Channel T W) (seen : List (Channel T W)) → WaitsFor line seen → WaitsFor line (c ∷ seen)
-  waits_more Sends c seen h = inr h
-  waits_more Receives c seen h = inr h
   waits_more Streams c seen h = tt
-  waits_more Closings c seen h = inr h
+  waits_more w c seen h = inr h
 
   makes_more : (x : ChannelAsk T W) (side : Side) (m : Making) (c : Channel T W) (seen : List (Channel T W)) → Makes x side m seen → Makes x side m (c ∷ seen)
   makes_more (channel.CloneHandle s) side making.Clone c seen h = h
@@ -77,15 +46,13 @@ module _ {T W : Type 0} where
   work_more x (TellStreams e) c ds seen h = answered_more x e c ds seen h
   work_more x (TellSend e) c ds seen h = answered_more x e c ds seen h
   work_more x (TellSends n e) c ds seen h = answered_more x e c ds seen h
-  work_more x (TakeRoom n) c ds seen h = h
   work_more x (TellAll line closer) c ds seen h = answered_more x (closer_ending closer true) c ds seen h
   work_more x (Insert w task) c ds seen h = (h.0, h.1, waits_more (line_of w) c seen h.2)
   work_more x (Register w key task) c ds seen h = (h.0, h.1, λ e. waits_more (line_of w) c seen (h.2 e))
   work_more x (Leave e) c ds seen h = answered_more x e c ds seen h
-  work_more x (Lower side key) c ds seen h = h
-  work_more x (Count side) c ds seen h = h
   work_more x (Load side making) c ds seen h = (makes_more x side making c seen h.0, h.1)
   work_more x (Raise side n making) c ds seen h = (makes_more x side making c seen h.0, h.1, h.2)
+  work_more x w c ds seen h = h
 
   module _ (d : Channel T W) (ds : List (MarkedMoment T W)) (seen : List (Channel T W)) where
     -- ---- a poll
