@@ -1,29 +1,5 @@
 -- A call that is stepped to its end with nobody else at work, from the contract of a step alone.
-use Rattle.std.proofs.Common.{◌≡◌, ℕ, ◌+◌, ◌*◌, ◌<◌, ◌≤◌, List, [], ◌∷◌, ◌++◌, append_assoc, Option, None, Some, ◌⊎◌, inl, inr, refl, sym, ap, ◌∙◌, subst, arith}
-use Rattle.concurrent_queue.specs.Queue.{Queue, Phase, asked, after, Continues, Answers, IsInRange}
-use Rattle.concurrent_queue.specs.Step.{Fits, rank}
-use Rattle.concurrent_queue.specs.declared.queue_call.QueueCall.{QueueCall}
-use Rattle.concurrent_queue.specs.declared.call.QueueAsk.{QueueAsk}
-use Rattle.concurrent_queue.specs.declared.call.QueueMark.{QueueMark}
-use Rattle.concurrent_queue.specs.declared.call.QueueReply.{QueueReply}
-use Rattle.concurrent_queue.proofs.Interface.{shows, IsIdle, Comes, Does, does}
-use Rattle.event_listener.specs.Notices.{Woken}
-use Rattle.channel_calls.specs.declared.ask.ChannelAsk.{ChannelAsk}
-use Rattle.channel_calls.specs.declared.mark.Mark.{Mark}
-use Rattle.channel_calls.specs.declared.reply.Reply.{Reply}
-use Rattle.channel_calls.specs.declared.stage.Aim.{Aim}
-use Rattle.channel_calls.specs.declared.stage.Kept.{Kept}
-use Rattle.channel_calls.specs.declared.stage.Stage.{Stage}
-use Rattle.channel_calls.specs.declared.stage.Stage.TheVariants.{Trying, Working, Finished}
-use Rattle.channel_calls.specs.declared.stage.Turn.{Turn}
-use Rattle.channel_calls.specs.declared.stage.Turn.TheVariants.{Tries, Works, Ends}
-use Rattle.channel_calls.specs.declared.stage.Work.{Work}
-use Rattle.channel_calls.specs.Parts.{Parts, Roster}
-use Rattle.channel_calls.specs.Answered.{answered_next}
-use Rattle.channel_calls.specs.Asks.{kept_by}
-use Rattle.channel_calls.specs.Moves.{Channel, Effect, channel, Turned, Tried, seats, phase, IsTaken, Hastens, Made, IsStepOver}
-use Rattle.channel_alone.specs.Alone.{Outcome, Alone, after_waking, answers}
-use Rattle.channel_alone.specs.Run.{HasNextPosition}
+use Rattle.channel_alone.proofs.Words.{◌≡◌, ℕ, ◌+◌, ◌*◌, ◌<◌, ◌≤◌, List, [], ◌∷◌, ◌++◌, append_assoc, Option, None, Some, ◌⊎◌, inl, inr, refl, sym, ap, ◌∙◌, subst, arith, Queue, Phase, asked, after, Continues, Answers, IsInRange, Fits, rank, QueueCall, QueueAsk, QueueMark, QueueReply, shows, IsIdle, Comes, Does, does, Woken, ChannelAsk, Mark, Reply, Aim, Kept, Stage, Trying, Working, Finished, Turn, Tries, Works, Ends, Work, Parts, Roster, answered_next, kept_by, Channel, Effect, channel, Turned, Tried, seats, phase, IsTaken, Hastens, Made, IsStepOver, Outcome, Alone, after_waking, answers, HasNextPosition}
 use Rattle.channel_alone.proofs.TryFacts.{brought_by, brought_by_is, left_by, Found, tries_start, tries_on, tries_end}
 use Rattle.channel_alone.proofs.Order.{order, order_turn, order_try, near, measure, measure_falls, try_is_late, answered_order, telling_order}
 use Rattle.channel_alone.proofs.Rest.{RestTry, RestWork, RestTurn, RestStage, turn_rests}
@@ -77,20 +53,17 @@ module _ {T W : Type 0} where
 
   order_phase : (a : Roster W) (f : Phase T) (s : Stage (QueueCall T) T W) → order a (phase f s) ≡ order a s
   order_phase a f (Trying call x) = refl
-  order_phase a f (Working w) = refl
-  order_phase a f (Finished kept) = refl
+  order_phase a f s = refl
 
   order_turned : (a : Roster W) (turn : Turn T W) (r : Option (Reply T)) (s : Stage (Phase T) T W) → Turned turn r s
       → order a s ≡ order_turn a turn
   order_turned a (Tries x y) r s h = ap (λ (z : Stage (Phase T) T W). order a z) h.1
-  order_turned a (Works w) r s h = ap (λ (z : Stage (Phase T) T W). order a z) h.1
-  order_turned a (Ends x kept) r s h = ap (λ (z : Stage (Phase T) T W). order a z) h.1
+  order_turned a turn r s h = ap (λ (z : Stage (Phase T) T W). order a z) h.1
 
   order_taken : (a : Roster W) (turn : Turn T W) (r : Option (Reply T)) (s : Stage (QueueCall T) T W) → IsTaken turn r s
       → order a s ≡ order_turn a turn
   order_taken a (Tries x y) r s (call, starts, none, e) = ap (λ (z : Stage (QueueCall T) T W). order a z) e
-  order_taken a (Works w) r s h = ap (λ (z : Stage (QueueCall T) T W). order a z) h.1
-  order_taken a (Ends x kept) r s h = ap (λ (z : Stage (QueueCall T) T W). order a z) h.1
+  order_taken a turn r s h = ap (λ (z : Stage (QueueCall T) T W). order a z) h.1
 
   -- where a turn answers
   pub record Answered (turn : Turn T W) (x : Reply T) (s : Stage (Phase T) T W) : Type 0 where

@@ -1,54 +1,17 @@
 -- A poll that holds a listener is refused no memory where it is alone: its list has room for the next as soon as that one has left.
-use Rattle.std.proofs.lemmas.Bool.Decides.{nat_tests}
-use Rattle.std.proofs.Common.{arith, cond, ◌≡◌, ◌+◌, ◌<◌, ℕ, Bool, true, false, if◌then◌else◌, not, List, [], ◌∷◌, ◌++◌, Option, None, Some, Result, Ok, Err, is_some, refl, sym, ap, ◌∙◌, subst}
+use Rattle.channel_alone.proofs.Words.{nat_tests, arith, cond, ◌≡◌, ◌+◌, ◌<◌, ℕ, Bool, true, false, if◌then◌else◌, not, List, [], ◌∷◌, ◌++◌, Option, None, Some, Result, Ok, Err, is_some, refl, sym, ap, ◌∙◌, subst, Queue, IsQueueStep, mark_of, QueueAsk, QueueReply, QueueCall, shows, Finds, kind_of, listened, told_as, waits_as, same_key, ListenError, Key, answered_next, asks_listener, first, inserted, registered, Done, Channel, channel, Parts, Roster, Listeners, listeners, with_listeners, waits, parts_of, rooms_of, DoesPlain, line_of, leaving, pending_reply, refused_reply, ends_by, again, inserted_next, registered_next, Takes, Heard, WorkMakes, ChannelMakes, ChannelAsk, PollSend, PollRecv, PollClosed, PollNext, Mark, Nothing, PlainChannel, Reply, Aim, Ending, Held, Line, Sends, Receives, Streams, Closings, Stage, Trying, Working, Finished, Turn, Tries, Works, Ends, Waiting, Work, TellReceive, TellStreams, TellSend, Insert, Register, Leave, IsAtRest}
 use Rattle.std.specs.Map.{lookup}
 use Rattle.concurrent_queue.specs.Capacity.{capacity_of}
-use Rattle.concurrent_queue.specs.Queue.{Queue}
-use Rattle.concurrent_queue.specs.Step.{IsQueueStep, mark_of}
-use Rattle.concurrent_queue.specs.declared.call.QueueAsk.{QueueAsk}
+use Rattle.event_listener.specs.Runs.{room_polled}
+use Rattle.channel_calls.specs.Rooms.{Rooms, room_on, with_room}
+use Rattle.channel_alone.specs.Ample.{lacks_memory, IsOnList, HasNode}
 use Rattle.concurrent_queue.specs.declared.call.QueueAsk.TheVariants as ask
-use Rattle.concurrent_queue.specs.declared.call.QueueReply.{QueueReply}
 use Rattle.concurrent_queue.specs.declared.call.QueueReply.TheVariants as answer
 use Rattle.concurrent_queue.specs.declared.error.PushError.TheVariants as push_error
 use Rattle.concurrent_queue.specs.declared.error.PopError.TheVariants as pop_error
-use Rattle.concurrent_queue.specs.declared.queue_call.QueueCall.{QueueCall}
-use Rattle.concurrent_queue.proofs.Interface.{shows, Finds}
-use Rattle.event_listener.specs.Lists.{kind_of, listened, told_as, waits_as, same_key}
-use Rattle.event_listener.specs.Runs.{room_polled}
-use Rattle.event_listener.specs.declared.error.ListenError.{ListenError}
 use Rattle.event_listener.specs.declared.error.ListenError.TheVariants as listen_error
-use Rattle.event_listener.specs.declared.key.Key.{Key}
-use Rattle.channel_calls.specs.Answered.{answered_next}
-use Rattle.channel_calls.specs.Asks.{asks_listener, first}
-use Rattle.channel_calls.specs.Deeds.{inserted, registered, Done}
-use Rattle.channel_calls.specs.Moves.{Channel, channel}
-use Rattle.channel_calls.specs.Parts.{Parts, Roster, Listeners, listeners, with_listeners, waits}
-use Rattle.channel_calls.specs.Plain.{parts_of, rooms_of, DoesPlain}
-use Rattle.channel_calls.specs.Rooms.{Rooms, room_on, with_room}
-use Rattle.channel_calls.specs.Turns.{line_of, leaving, pending_reply, refused_reply, ends_by, again, inserted_next, registered_next}
-use Rattle.channel_calls.specs.Walks.{Takes, Heard, WorkMakes, ChannelMakes}
-use Rattle.channel_calls.specs.declared.ask.ChannelAsk.{ChannelAsk}
-use Rattle.channel_calls.specs.declared.ask.ChannelAsk.TheVariants.{PollSend, PollRecv, PollClosed, PollNext}
-use Rattle.channel_calls.specs.declared.mark.Mark.{Mark}
-use Rattle.channel_calls.specs.declared.mark.Mark.TheVariants.{Nothing}
-use Rattle.channel_calls.specs.declared.plain.PlainChannel.{PlainChannel}
-use Rattle.channel_calls.specs.declared.reply.Reply.{Reply}
-use Rattle.channel_calls.specs.declared.stage.Aim.{Aim}
 use Rattle.channel_calls.specs.declared.stage.Aim.TheVariants as aim
-use Rattle.channel_calls.specs.declared.stage.Ending.{Ending}
-use Rattle.channel_calls.specs.declared.stage.Held.{Held}
-use Rattle.channel_calls.specs.declared.stage.Line.{Line}
-use Rattle.channel_calls.specs.declared.stage.Line.TheVariants.{Sends, Receives, Streams, Closings}
-use Rattle.channel_calls.specs.declared.stage.Stage.{Stage}
-use Rattle.channel_calls.specs.declared.stage.Stage.TheVariants.{Trying, Working, Finished}
-use Rattle.channel_calls.specs.declared.stage.Turn.{Turn}
-use Rattle.channel_calls.specs.declared.stage.Turn.TheVariants.{Tries, Works, Ends}
-use Rattle.channel_calls.specs.declared.stage.Waiting.{Waiting}
 use Rattle.channel_calls.specs.declared.stage.Waiting.TheVariants as waiting
-use Rattle.channel_calls.specs.declared.stage.Work.{Work}
-use Rattle.channel_calls.specs.declared.stage.Work.TheVariants.{TellReceive, TellStreams, TellSend, Insert, Register, Leave}
-use Rattle.channel_alone.specs.Ample.{lacks_memory, IsOnList, HasNode}
-use Rattle.channel_alone.specs.Run.{IsAtRest}
 use Rattle.channel_alone.proofs.AloneFacts.{IsAlone, in_range}
 use Rattle.channel_alone.proofs.LoopFacts.{IsOnItsWay}
 use Rattle.channel_alone.proofs.TryFacts.{tries_end}
@@ -85,15 +48,11 @@ module _ {W : Type 0} where
 
   same_list : (line : Line) (l : Listeners W) (a : Roster W) → listeners line (with_listeners line l a) ≡ l
   same_list Sends l a = refl
-  same_list Receives l a = refl
-  same_list Streams l a = refl
-  same_list Closings l a = refl
+  same_list line l a = refl
 
 same_room : (line : Line) (n : ℕ) (m : Rooms) → room_on line (with_room line n m) ≡ n
 same_room Sends n m = refl
-same_room Receives n m = refl
-same_room Streams n m = refl
-same_room Closings n m = refl
+same_room line n m = refl
 
 -- where a send is tried, the queue has a bound
 abbrev pub HasBound : Option ℕ → Line → Type 0

@@ -1,41 +1,20 @@
 -- What comes after an answer of the queue to a call that is alone at work.
-use Rattle.std.proofs.Common.{◌≡◌, ℕ, zero, suc, drop, ◌∷◌, ◌++◌, ◌==◌, ◌&&◌, not, Bool, true, false, if◌then◌else◌, List, [], Option, None, Some, Ok, Err, inl, inr, refl, sym, ap, ◌∙◌, subst}
+use Rattle.channel_alone.proofs.Words.{◌≡◌, ℕ, zero, suc, drop, ◌∷◌, ◌++◌, ◌==◌, ◌&&◌, not, Bool, true, false, if◌then◌else◌, List, [], Option, None, Some, Ok, Err, inl, inr, refl, sym, ap, ◌∙◌, subst, Queue, is_filled, is_full_at, QueueAsk, QueueReply, Finds, Key, kind_of, listened, TryRecvError, Reply, Aim, Closer, Line, Sends, Receives, Streams, Closings, Side, Insert, Waiting, Listeners, listeners, waits, says, line_of, ask_of, refused_next, over, sent_next, forced_next, received_next, gathered_next, short_next, several_next, send_next, receive_next, stream_next, closing_next, closed_next, asked_next, terminated_next, upgraded_next, answered_next, Gathered, with_last, Channel, listens, registers, Outcome, Where, ends, receives_by, says_only, WaitsOrGoesOn, ListensOrIsRefused, PollsFor, fresh_waits, same_line}
+use Rattle.std.proofs.lemmas.Bool.{not-true, not-false}
 use Rattle.std.specs.Prelude.{length, slice_get}
-use Rattle.concurrent_queue.specs.Queue.{Queue, is_filled, is_full_at}
-use Rattle.concurrent_queue.specs.declared.call.QueueAsk.{QueueAsk}
 use Rattle.concurrent_queue.specs.declared.call.QueueAsk.TheVariants as ask
-use Rattle.concurrent_queue.specs.declared.call.QueueReply.{QueueReply}
 use Rattle.concurrent_queue.specs.declared.call.QueueReply.TheVariants as answer
 use Rattle.concurrent_queue.specs.declared.error.PushError.TheVariants as push_error
 use Rattle.concurrent_queue.specs.declared.error.ForcePushError.TheVariants as force_error
 use Rattle.concurrent_queue.specs.declared.error.PopError.TheVariants as pop_error
-use Rattle.concurrent_queue.proofs.Interface.{Finds}
-use Rattle.event_listener.specs.declared.key.Key.{Key}
-use Rattle.event_listener.specs.Lists.{kind_of, listened}
 use Rattle.futures.specs.declared.task.Poll.TheVariants as poll
 use Rattle.channel_calls.specs.declared.error.Refused.TheVariants as refused
-use Rattle.channel_calls.specs.declared.error.TryRecvError.{TryRecvError}
 use Rattle.channel_calls.specs.declared.error.TryRecvError.TheVariants as try_recv_error
-use Rattle.channel_calls.specs.declared.reply.Reply.{Reply}
 use Rattle.channel_calls.specs.declared.reply.Reply.TheVariants as reply
-use Rattle.channel_calls.specs.declared.stage.Aim.{Aim}
 use Rattle.channel_calls.specs.declared.stage.Aim.TheVariants as aim
-use Rattle.channel_calls.specs.declared.stage.Closer.{Closer}
-use Rattle.channel_calls.specs.declared.stage.Line.{Line}
-use Rattle.channel_calls.specs.declared.stage.Line.TheVariants.{Sends, Receives, Streams, Closings}
-use Rattle.channel_calls.specs.declared.stage.Side.{Side}
-use Rattle.channel_calls.specs.declared.stage.Work.TheVariants.{Insert}
-use Rattle.channel_calls.specs.declared.stage.Waiting.{Waiting}
 use Rattle.channel_calls.specs.declared.stage.Waiting.TheVariants as waiting
-use Rattle.channel_calls.specs.Parts.{Listeners, listeners, waits}
-use Rattle.channel_calls.specs.Turns.{says, line_of, ask_of, refused_next}
-use Rattle.channel_calls.specs.Answered.{over, sent_next, forced_next, received_next, gathered_next, short_next, several_next, send_next, receive_next, stream_next, closing_next, closed_next, asked_next, terminated_next, upgraded_next, answered_next}
-use Rattle.channel_calls.specs.Several.{Gathered, with_last}
-use Rattle.channel_calls.specs.Moves.{Channel, listens, registers}
 use Rattle.channel_alone.specs.Alone as alone
-use Rattle.channel_alone.specs.Alone.{Outcome, Where, ends, receives_by, says_only, WaitsOrGoesOn, ListensOrIsRefused, PollsFor}
 use Rattle.channel_alone.proofs.TryFacts.{left_by}
-use Rattle.channel_steps.proofs.Interface.{fresh_waits, same_line}
 use Rattle.channel_alone.proofs.Rest.{gathers, RestTry, RestTurn, RestWork, ends_rest}
 
 -- ---- one of two
@@ -67,14 +46,6 @@ given_else false A B e h = h
 where_map : (b : Bool) (A B C : Type 0) → (B → C) → Where b A B → Where b A C
 where_map true A B C f h = h
 where_map false A B C f h = f h
-
-shut_is : (b : Bool) → false ≡ not b → b ≡ true
-shut_is true e = refl
-shut_is false e = absurd cc
-
-open_is : (b : Bool) → true ≡ not b → b ≡ false
-open_is true e = absurd cc
-open_is false e = refl
 
 bounded : {A : Type 0} (cap : Option ℕ) (items : List A) → cap ≡ None → is_full_at cap items ≡ true → ⊥
 bounded None items e h = absurd cc
@@ -160,8 +131,8 @@ module _ {T W : Type 0} where
     several_rest z y g k = absurd g
 
     closed_rest : (by : Closer) (y : QueueReply T) → Finds ask.Close c.queue y → RestTurn (closed_next y by) (now_is c (left_by ask.Close y c.queue)) o → RestTry ask.Close (aim.Close by) c o
-    closed_rest by (answer.Close true) g k = pick_else c.queue.closed o _ _ (open_is c.queue.closed g) k
-    closed_rest by (answer.Close false) g k = pick_then c.queue.closed o _ _ (shut_is c.queue.closed g) (ends_rest c o _ k)
+    closed_rest by (answer.Close true) g k = pick_else c.queue.closed o _ _ (not-true c.queue.closed (sym g)) k
+    closed_rest by (answer.Close false) g k = pick_then c.queue.closed o _ _ (not-false c.queue.closed (sym g)) (ends_rest c o _ k)
     closed_rest by y g k = absurd g
 
     asked_rest : (a : QueueAsk T) (y : QueueReply T) → Finds a c.queue y → RestTurn (asked_next y) (now_is c (left_by a y c.queue)) o → RestTry a aim.Ask c o

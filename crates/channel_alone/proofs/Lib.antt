@@ -1,3 +1,4 @@
+pub mod Words
 pub mod TryFacts
 pub mod Order
 pub mod Rest

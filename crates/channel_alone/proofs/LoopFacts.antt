@@ -1,25 +1,6 @@
 -- The steps of a call that is alone at work, one after another.
-use Rattle.std.proofs.Common.{◌≡◌, ◌<◌, List, [], ◌++◌, append-nil, Option, None, Some, ◌⊎◌, inl, inr, refl, sym, ◌∙◌, subst, arith}
-use Rattle.concurrent_queue.specs.Queue.{Queue}
-use Rattle.concurrent_queue.specs.Step.{Seat, Fits}
-use Rattle.concurrent_queue.specs.declared.queue_call.QueueCall.{QueueCall}
-use Rattle.event_listener.specs.Notices.{Woken}
-use Rattle.channel_calls.specs.declared.ask.ChannelAsk.{ChannelAsk}
-use Rattle.channel_calls.specs.declared.call.ChannelCall.{ChannelCall}
-use Rattle.channel_calls.specs.declared.mark.Mark.{Mark}
-use Rattle.channel_calls.specs.declared.reply.Reply.{Reply}
-use Rattle.channel_calls.specs.declared.stage.Kept.{Kept}
-use Rattle.channel_calls.specs.declared.stage.Stage.{Stage}
-use Rattle.channel_calls.specs.declared.plain.PlainChannel.{PlainChannel}
-use Rattle.channel_calls.specs.Parts.{Parts}
-use Rattle.channel_calls.specs.Asks.{first, kept_by}
-use Rattle.channel_calls.specs.Deeds.{Done}
-use Rattle.channel_calls.specs.Moves.{Channel, channel, phase, IsNewCall, IsChannelStep}
-use Rattle.channel_calls.specs.Plain.{parts_of, DoesPlain}
-use Rattle.channel_calls.specs.Walks.{ChannelMakes}
+use Rattle.channel_alone.proofs.Words.{◌≡◌, ◌<◌, List, [], ◌++◌, append-nil, Option, None, Some, ◌⊎◌, inl, inr, refl, sym, ◌∙◌, subst, arith, Queue, Seat, Fits, QueueCall, Woken, ChannelAsk, ChannelCall, Mark, Reply, Kept, Stage, PlainChannel, Parts, first, kept_by, Done, Channel, channel, phase, IsNewCall, IsChannelStep, parts_of, DoesPlain, ChannelMakes, Outcome, after_waking, answers, HasNextPosition, IsAtRest, AnsweredAlone, AnswersAlone}
 use Rattle.channel_calls.proofs.Interface.{exact_step}
-use Rattle.channel_alone.specs.Alone.{Outcome, after_waking, answers}
-use Rattle.channel_alone.specs.Run.{HasNextPosition, IsAtRest, AnsweredAlone, AnswersAlone}
 use Rattle.channel_alone.proofs.TryFacts.{idle}
 use Rattle.channel_alone.proofs.Order.{measure}
 use Rattle.channel_alone.proofs.FirstFacts.{first_rest, first_goes_on, Begun, begun}

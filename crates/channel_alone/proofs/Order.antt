@@ -1,40 +1,12 @@
 -- A measure of what a call that is alone at work still has to do.
-use Rattle.std.proofs.Common.{◌≡◌, ℕ, zero, suc, ◌+◌, ◌*◌, ◌<◌, Bool, true, false, if◌then◌else◌, List, [], ◌∷◌, ◌++◌, Option, None, Some, Ok, Err, refl, subst, arith}
-use Rattle.concurrent_queue.specs.Contents.{Contents}
-use Rattle.concurrent_queue.specs.Queue.{Queue, Phase}
-use Rattle.concurrent_queue.specs.Step.{Fits, rank}
-use Rattle.concurrent_queue.specs.declared.call.QueueReply.{QueueReply}
+use Rattle.channel_alone.proofs.Words.{◌≡◌, ℕ, zero, suc, ◌+◌, ◌*◌, ◌<◌, Bool, true, false, if◌then◌else◌, List, [], ◌∷◌, ◌++◌, Option, None, Some, Ok, Err, refl, subst, arith, Contents, Queue, Phase, Fits, rank, QueueReply, QueueCall, ranks, Key, Reply, Aim, Closer, Ending, Held, Line, Sends, Receives, Streams, Closings, Side, Stage, Trying, Working, Finished, Turn, Tries, Works, Ends, Waiting, Work, TellReceive, TellStreams, TellSend, TellSends, TakeRoom, TellAll, Insert, Register, Leave, Lower, Count, Load, Raise, Roster, listeners, waits, is_raised, line_of, ends_by, refused_next, closer_ending, sent_next, forced_next, received_next, gathered_next, short_next, several_next, send_next, receive_next, stream_next, closing_next, polled_next, closed_next, asked_next, terminated_next, upgraded_next, answered_next, Gathered, with_last, TryRecvError, seats}
 use Rattle.concurrent_queue.specs.declared.call.QueueReply.TheVariants as answer
 use Rattle.concurrent_queue.specs.declared.error.PushError.TheVariants as push_error
 use Rattle.concurrent_queue.specs.declared.error.ForcePushError.TheVariants as force_error
 use Rattle.concurrent_queue.specs.declared.error.PopError.TheVariants as pop_error
-use Rattle.concurrent_queue.specs.declared.queue_call.QueueCall.{QueueCall}
-use Rattle.concurrent_queue.proofs.Interface.{ranks}
-use Rattle.event_listener.specs.declared.key.Key.{Key}
-use Rattle.channel_calls.specs.declared.reply.Reply.{Reply}
-use Rattle.channel_calls.specs.declared.stage.Aim.{Aim}
 use Rattle.channel_calls.specs.declared.stage.Aim.TheVariants as aim
-use Rattle.channel_calls.specs.declared.stage.Closer.{Closer}
-use Rattle.channel_calls.specs.declared.stage.Ending.{Ending}
-use Rattle.channel_calls.specs.declared.stage.Held.{Held}
-use Rattle.channel_calls.specs.declared.stage.Line.{Line}
-use Rattle.channel_calls.specs.declared.stage.Line.TheVariants.{Sends, Receives, Streams, Closings}
-use Rattle.channel_calls.specs.declared.stage.Side.{Side}
-use Rattle.channel_calls.specs.declared.stage.Stage.{Stage}
-use Rattle.channel_calls.specs.declared.stage.Stage.TheVariants.{Trying, Working, Finished}
-use Rattle.channel_calls.specs.declared.stage.Turn.{Turn}
-use Rattle.channel_calls.specs.declared.stage.Turn.TheVariants.{Tries, Works, Ends}
-use Rattle.channel_calls.specs.declared.stage.Waiting.{Waiting}
 use Rattle.channel_calls.specs.declared.stage.Waiting.TheVariants as waiting
-use Rattle.channel_calls.specs.declared.stage.Work.{Work}
-use Rattle.channel_calls.specs.declared.stage.Work.TheVariants.{TellReceive, TellStreams, TellSend, TellSends, TakeRoom, TellAll, Insert, Register, Leave, Lower, Count, Load, Raise}
-use Rattle.channel_calls.specs.Parts.{Roster, listeners, waits, is_raised}
-use Rattle.channel_calls.specs.Turns.{line_of, ends_by, refused_next, closer_ending}
-use Rattle.channel_calls.specs.Answered.{sent_next, forced_next, received_next, gathered_next, short_next, several_next, send_next, receive_next, stream_next, closing_next, polled_next, closed_next, asked_next, terminated_next, upgraded_next, answered_next}
-use Rattle.channel_calls.specs.Several.{Gathered, with_last}
-use Rattle.channel_calls.specs.declared.error.TryRecvError.{TryRecvError}
 use Rattle.channel_calls.specs.declared.error.TryRecvError.TheVariants as try_recv_error
-use Rattle.channel_calls.specs.Moves.{seats}
 use Rattle.channel_alone.proofs.TryFacts.{brought_by}
 
 -- ---- the order of the things that a call does
@@ -65,9 +37,6 @@ order_try a _ = 6
 pub try_is_late : {T W : Type 0} (a : Roster W) (x : Aim T W) → 5 < order_try a x
 try_is_late a (aim.Poll line None task) = omega arith
 try_is_late a (aim.Poll line (Some key) task) = among_orders (waits key (listeners line a)) 5 7 11 (omega arith) (omega arith)
-try_is_late a (aim.RecvMany g) = omega arith
-try_is_late a aim.IsTerminated = omega arith
-try_is_late a (aim.Upgrade side) = omega arith
 try_is_late a x = omega arith
 
 telling : (T : Type 0) {W : Type 0} (a : Roster W) (key : Option Key) (task : W) (line : Line) (n : ℕ) → n < 6 → n < order_try {T = T} a (aim.Poll line key task)
@@ -108,8 +77,7 @@ module _ {T W : Type 0} where
   -- a call of the queue ends within 63 steps where the others are quiet
   pub near : (c : Contents T) (q : Queue T) (f : Phase T) (s : Stage (QueueCall T) T W) → Fits c q (seats f s ++ []) → nearness c s < 64
   near c q f (Trying call aim) fits = ranks c q f call [] [] fits
-  near c q f (Working w) fits = omega arith
-  near c q f (Finished kept) fits = omega arith
+  near c q f s fits = omega arith
 
   abbrev pub measure : Contents T → Roster W → Stage (QueueCall T) T W → ℕ
   measure c a s = order a s * 64 + nearness c s
@@ -204,8 +172,6 @@ module _ {T W : Type 0} where
 
     asked_order : (x : QueueReply T) → order_turn a (asked_next x) < 6
     asked_order (answer.Flag b) = omega arith
-    asked_order (answer.Count n) = omega arith
-    asked_order (answer.Cap c) = omega arith
     asked_order x = omega arith
 
     terminated_order : (x : QueueReply T) → order_turn a (terminated_next x) < 7

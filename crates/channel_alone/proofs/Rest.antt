@@ -1,35 +1,12 @@
 -- What a call that is alone at work does from each of its stages on.
-use Rattle.std.proofs.Common.{◌≡◌, ℕ, zero, suc, ◌+◌, ◌==◌, true, if◌then◌else◌, List, [], ◌∷◌, ◌++◌, length, take, drop, Ok, Err, refl, sym, ap, ◌∙◌, arith, append-nil, append_assoc, Option, None, Some, ◌⊎◌, subst}
-use Rattle.concurrent_queue.specs.Queue.{Phase}
-use Rattle.concurrent_queue.specs.declared.call.QueueAsk.{QueueAsk}
+use Rattle.channel_alone.proofs.Words.{◌≡◌, ℕ, zero, suc, ◌+◌, ◌==◌, true, if◌then◌else◌, List, [], ◌∷◌, ◌++◌, length, take, drop, Ok, Err, refl, sym, ap, ◌∙◌, arith, append-nil, append_assoc, Option, None, Some, ◌⊎◌, subst, Phase, QueueAsk, Key, Reply, Aim, Ending, Held, Line, Sends, Receives, Streams, Closings, Making, Side, Stage, Trying, Working, Finished, Turn, Tries, Works, Ends, Work, TellReceive, TellStreams, TellSend, TellSends, TakeRoom, TellAll, Insert, Register, Leave, Lower, Count, Load, Raise, kind_of, ListenError, listeners, count, is_raised, says, line_of, message_of, ask_of, leaving, nothing_kept, ends_by, refused_reply, closer_ending, Channel, Effect, Turned, tells_all, listens, raises, Outcome, Where, answers, ends, over_queue, taken, of_message, of_room, of_rooms, of_closing, says_only, receives_these, receives_several, ReceivesSeveral, closes, RegistersOrGoesOn, PollsSend, PollsReceive, PollsStream, PollsClosing, drops, clones, Alone}
 use Rattle.concurrent_queue.specs.declared.call.QueueAsk.TheVariants as ask
-use Rattle.event_listener.specs.declared.key.Key.{Key}
 use Rattle.channel_calls.specs.declared.ask.ChannelAsk.TheVariants as call
 use Rattle.channel_calls.specs.declared.error.Refused.TheVariants as refused
 use Rattle.channel_calls.specs.declared.error.TryRecvError.TheVariants as try_recv_error
-use Rattle.channel_calls.specs.declared.reply.Reply.{Reply}
 use Rattle.channel_calls.specs.declared.reply.Reply.TheVariants as reply
-use Rattle.channel_calls.specs.declared.stage.Aim.{Aim}
 use Rattle.channel_calls.specs.declared.stage.Aim.TheVariants as aim
-use Rattle.channel_calls.specs.declared.stage.Ending.{Ending}
-use Rattle.channel_calls.specs.declared.stage.Held.{Held}
-use Rattle.channel_calls.specs.declared.stage.Line.{Line}
-use Rattle.channel_calls.specs.declared.stage.Line.TheVariants.{Sends, Receives, Streams, Closings}
-use Rattle.channel_calls.specs.declared.stage.Making.{Making}
 use Rattle.channel_calls.specs.declared.stage.Making.TheVariants as making
-use Rattle.channel_calls.specs.declared.stage.Side.{Side}
-use Rattle.channel_calls.specs.declared.stage.Stage.{Stage}
-use Rattle.channel_calls.specs.declared.stage.Stage.TheVariants.{Trying, Working, Finished}
-use Rattle.channel_calls.specs.declared.stage.Turn.{Turn}
-use Rattle.channel_calls.specs.declared.stage.Turn.TheVariants.{Tries, Works, Ends}
-use Rattle.channel_calls.specs.declared.stage.Work.{Work}
-use Rattle.channel_calls.specs.declared.stage.Work.TheVariants.{TellReceive, TellStreams, TellSend, TellSends, TakeRoom, TellAll, Insert, Register, Leave, Lower, Count, Load, Raise}
-use Rattle.event_listener.specs.Lists.{kind_of}
-use Rattle.event_listener.specs.declared.error.ListenError.{ListenError}
-use Rattle.channel_calls.specs.Parts.{listeners, count, is_raised}
-use Rattle.channel_calls.specs.Turns.{says, line_of, message_of, ask_of, leaving, nothing_kept, ends_by, refused_reply, closer_ending}
-use Rattle.channel_calls.specs.Moves.{Channel, Effect, Turned, tells_all, listens, raises}
-use Rattle.channel_alone.specs.Alone.{Outcome, Where, answers, ends, over_queue, taken, of_message, of_room, of_rooms, of_closing, says_only, receives_these, receives_several, ReceivesSeveral, closes, RegistersOrGoesOn, PollsSend, PollsReceive, PollsStream, PollsClosing, drops, clones, Alone}
 
 module _ {T W : Type 0} where
   -- several messages, some of which were taken: the others out of those that are there
@@ -132,9 +109,8 @@ module _ {T W : Type 0} where
 
   -- a turn that was taken
   pub turn_rests : (turn : Turn T W) (s : Stage (Phase T) T W) (c : Channel T W) (o : Outcome T W) → Turned turn None s → RestStage s c o → RestTurn turn c o
-  turn_rests (Tries a x) s c o h k = subst (λ (z : Stage (Phase T) T W). RestStage z c o) h.1 k
-  turn_rests (Works w) s c o h k = subst (λ (z : Stage (Phase T) T W). RestStage z c o) h.1 k
   turn_rests (Ends x kept) s c o h k = absurd (let no : (let y : Option (Reply T) = None in y) ≡ Some x = h.0 in cc)
+  turn_rests turn s c o h k = subst (λ (z : Stage (Phase T) T W). RestStage z c o) h.1 k
 
   left : (c : Channel T W) (o : Outcome T W) (x : Reply T) (message : Option T) (held : Option Held) → RestTurn (ends_by (record { reply = x; message = message; held = held })) c o → o ≡ ends [] (record { reply = x; message = message; held = held }) c
   left c o x message None k = k

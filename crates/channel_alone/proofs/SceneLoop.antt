@@ -1,32 +1,13 @@
 -- The steps of a call that is alone at work, one after another, from scene to scene.
-use Rattle.std.proofs.Common.{◌≡◌, ℕ, ◌+◌, ◌≤◌, List, [], ◌∷◌, ◌++◌, map, length, append-nil, append_assoc, Option, None, Some, inl, inr, refl, sym, ap, ◌∙◌, subst, arith}
-use Rattle.concurrent_queue.specs.Queue.{Queue, Phase}
-use Rattle.concurrent_queue.specs.Step.{Seat, Fits, FitsAt}
-use Rattle.concurrent_queue.specs.declared.queue_call.QueueCall.{QueueCall}
-use Rattle.concurrent_queue.proofs.Interface.{shows}
-use Rattle.event_listener.specs.Notices.{Woken}
-use Rattle.channel_calls.specs.declared.ask.ChannelAsk.{ChannelAsk}
-use Rattle.channel_calls.specs.declared.call.ChannelCall.{ChannelCall}
-use Rattle.channel_calls.specs.declared.mark.Mark.{Mark}
-use Rattle.channel_calls.specs.declared.mark.Mark.TheVariants.{Nothing}
-use Rattle.channel_calls.specs.declared.reply.Reply.{Reply}
-use Rattle.channel_calls.specs.declared.stage.Kept.{Kept}
-use Rattle.channel_calls.specs.declared.stage.Stage.{Stage}
-use Rattle.channel_calls.specs.Parts.{Parts}
-use Rattle.channel_calls.specs.Asks.{first, kept_by}
-use Rattle.channel_calls.specs.Moves.{Channel, Effect, channel, phase, seats, Moves, Made, IsNewCall, IsStepOver, IsChannelStep}
+use Rattle.channel_alone.proofs.Words.{◌≡◌, ℕ, ◌+◌, ◌≤◌, List, [], ◌∷◌, ◌++◌, map, length, append-nil, append_assoc, Option, None, Some, inl, inr, refl, sym, ap, ◌∙◌, subst, arith, Queue, Phase, Seat, Fits, FitsAt, QueueCall, shows, Woken, ChannelAsk, ChannelCall, Mark, Nothing, Reply, Kept, Stage, Parts, first, kept_by, Channel, Effect, channel, phase, seats, Moves, Made, IsNewCall, IsStepOver, IsChannelStep, counted, end_on, run_none, known_next, fits_after, none_after, after_lone, lone_goes, lone_ends, messages_counted, messages_moved, Outcome, Alone, after_waking, answers, HasNextPosition}
 use Rattle.channel_steps.specs.declared.party.Entry.{Entry}
 use Rattle.channel_steps.specs.declared.party.Party.{Party}
-use Rattle.channel_steps.specs.declared.run.Step.TheVariants as step
-use Rattle.channel_steps.specs.Count.{counted}
 use Rattle.channel_steps.specs.Run.{Begins, EachStep, IsRun, NextScene, end_of}
-use Rattle.channel_steps.specs.Run as steps
 use Rattle.channel_steps.specs.Scene.{Under, Scene, Sitting, blocks_after, does, under_of, all_seats, Known, AllKnown, IsBalanced, Steps, Represents}
-use Rattle.channel_steps.proofs.Interface.{end_on, run_none, known_next, fits_after, none_after, after_lone, lone_goes, lone_ends, messages_counted, messages_moved}
-use Rattle.channel_alone.specs.Alone.{Outcome, Alone, after_waking, answers}
-use Rattle.channel_alone.specs.Run.{HasNextPosition}
 use Rattle.channel_alone.specs.Scenes.{steps_by, woken_by_steps, EndsWith, RanInScenes, RunsInScenes}
 use Rattle.channel_alone.specs.declared.run.Done.{Done}
+use Rattle.channel_steps.specs.declared.run.Step.TheVariants as step
+use Rattle.channel_steps.specs.Run as steps
 use Rattle.channel_alone.proofs.FirstFacts.{first_goes_on, Begun, begun}
 use Rattle.channel_alone.proofs.AloneFacts.{IsAlone, Advances, Answered, StepsTo, woken_on, answered, finished_kept, goes_on_so, capacity_now, accepts_one, made_by, next}
 use Rattle.channel_alone.proofs.Counts.{counted_few}
@@ -58,8 +39,7 @@ module _ {T W : Type 0} where
         → EachStep NextScene s (steps_by p (es ++ e ∷ [])) (es ++ e ∷ []) (ns ++ t ∷ [])
     each_more s [] [] h e names t x = ((names, x), tt)
     each_more s (f ∷ es) (n ∷ ns) h e names t x = (h.0, each_more n es ns h.1 e names t x)
-    each_more s [] (n ∷ ns) h e names t x = absurd h
-    each_more s (f ∷ es) [] h e names t x = absurd h
+    each_more s es ns h e names t x = absurd h
 
     woken_more : (s : Scene T W) (es : List (Entry T)) (ns : List (Scene T W)) (h : EachStep NextScene s (steps_by p es) es ns)
         (e : Entry T) (names : List W) (t : Scene T W) (x : Steps (end_of s ns) p e names t)

@@ -1,13 +1,6 @@
 -- What one call of the queue gives where nobody else is at work.
-use Rattle.std.proofs.Common.{◌≡◌, ℕ, ◌+◌, true, false, [], None, Some, Ok, ◌⊎◌, inl, inr, refl, ap, ◌∙◌, zero, suc, arith}
-use Rattle.concurrent_queue.specs.Contents.{Contents}
-use Rattle.concurrent_queue.specs.Queue.{Queue, Phase, asked, marked, after, Continues, Answers}
-use Rattle.concurrent_queue.specs.Step.{Fits}
-use Rattle.concurrent_queue.specs.declared.call.QueueAsk.{QueueAsk}
-use Rattle.concurrent_queue.specs.declared.call.QueueMark.{QueueMark}
-use Rattle.concurrent_queue.specs.declared.call.QueueReply.{QueueReply}
+use Rattle.channel_alone.proofs.Words.{◌≡◌, ℕ, ◌+◌, true, false, [], None, Some, Ok, ◌⊎◌, inl, inr, refl, ap, ◌∙◌, zero, suc, arith, Contents, Queue, Phase, asked, marked, after, Continues, Answers, Fits, QueueAsk, QueueMark, QueueReply, shows, IsIdle, Comes, did, Finds, Does, does}
 use Rattle.concurrent_queue.specs.declared.call.QueueReply.TheVariants as answer
-use Rattle.concurrent_queue.proofs.Interface.{shows, IsIdle, Comes, did, Finds, Does, does}
 
 module _ {T : Type 0} where
   pub idle : (c : Contents T) (q : Queue T) → Fits c q [] → IsIdle q

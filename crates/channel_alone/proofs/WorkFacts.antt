@@ -1,36 +1,12 @@
 -- A step on a list or on a count of a call that is alone at work.
-use Rattle.std.proofs.Common.{zero, suc, ◌∙◌, ◌≡◌, ℕ, ◌+◌, ◌-◌, ◌<◌, ◌^◌, ◌==◌, ◌&&◌, nat_lt, Bool, true, false, if◌then◌else◌, [], Option, None, Some, inl, inr, refl, sym, ap, subst, arith}
-use Rattle.std.proofs.lemmas.Bool.Decides.{nat_tests}
-use Rattle.concurrent_queue.specs.Queue.{Phase}
+use Rattle.channel_alone.proofs.Words.{zero, suc, ◌∙◌, ◌≡◌, ℕ, ◌+◌, ◌-◌, ◌<◌, ◌^◌, ◌==◌, ◌&&◌, nat_lt, Bool, true, false, if◌then◌else◌, [], Option, None, Some, inl, inr, refl, sym, ap, subst, arith, nat_tests, Phase, Key, ListenError, kind_of, listened, Reply, Closer, Ending, Held, Line, Sends, Receives, Streams, Closings, Making, Side, Stage, Turn, Tries, Works, Ends, Waiting, Work, TellReceive, TellStreams, TellSend, TellSends, TakeRoom, TellAll, Insert, Register, Leave, Lower, Count, Load, Raise, Roster, Listeners, listeners, with_listeners, waits, count, is_raised, most, line_of, message_of, ask_of, leaving, nothing_kept, ends_by, again, pends_by, pending_reply, unlistened, closer_ending, dropper, told_all_next, room_next, roomless, lowered_next, counted_next, loaded_next, raised_next, Channel, Effect, Turned, Worked, TakesRoomFor, tells_one, tells_more, tells_all, listens, registers, leaves, lowers, raises, untouched, on_count, Outcome, Where, after_waking, answers, ends, receives_several, closes, clones, fresh_waits, same_line}
+use Rattle.channel_calls.specs.Marks.{up}
 use Rattle.concurrent_queue.specs.declared.call.QueueAsk.TheVariants as ask
-use Rattle.event_listener.specs.declared.key.Key.{Key}
-use Rattle.event_listener.specs.declared.error.ListenError.{ListenError}
-use Rattle.event_listener.specs.Lists.{kind_of, listened}
-use Rattle.channel_calls.specs.declared.reply.Reply.{Reply}
 use Rattle.channel_calls.specs.declared.reply.Reply.TheVariants as reply
 use Rattle.channel_calls.specs.declared.stage.Aim.TheVariants as aim
-use Rattle.channel_calls.specs.declared.stage.Closer.{Closer}
-use Rattle.channel_calls.specs.declared.stage.Ending.{Ending}
-use Rattle.channel_calls.specs.declared.stage.Held.{Held}
-use Rattle.channel_calls.specs.declared.stage.Line.{Line}
-use Rattle.channel_calls.specs.declared.stage.Line.TheVariants.{Sends, Receives, Streams, Closings}
-use Rattle.channel_calls.specs.declared.stage.Making.{Making}
 use Rattle.channel_calls.specs.declared.stage.Making.TheVariants as making
-use Rattle.channel_calls.specs.declared.stage.Side.{Side}
-use Rattle.channel_calls.specs.declared.stage.Stage.{Stage}
-use Rattle.channel_calls.specs.declared.stage.Turn.{Turn}
-use Rattle.channel_calls.specs.declared.stage.Turn.TheVariants.{Tries, Works, Ends}
-use Rattle.channel_calls.specs.declared.stage.Waiting.{Waiting}
-use Rattle.channel_calls.specs.declared.stage.Work.{Work}
-use Rattle.channel_calls.specs.declared.stage.Work.TheVariants.{TellReceive, TellStreams, TellSend, TellSends, TakeRoom, TellAll, Insert, Register, Leave, Lower, Count, Load, Raise}
-use Rattle.channel_calls.specs.Marks.{up}
-use Rattle.channel_calls.specs.Parts.{Roster, Listeners, listeners, with_listeners, waits, count, is_raised}
-use Rattle.channel_calls.specs.Turns.{most, line_of, message_of, ask_of, leaving, nothing_kept, ends_by, again, pends_by, pending_reply, unlistened, closer_ending, dropper, told_all_next, room_next, roomless, lowered_next, counted_next, loaded_next, raised_next}
-use Rattle.channel_calls.specs.Moves.{Channel, Effect, Turned, Worked, TakesRoomFor, tells_one, tells_more, tells_all, listens, registers, leaves, lowers, raises, untouched, on_count}
-use Rattle.channel_alone.specs.Alone.{Outcome, Where, after_waking, answers, ends, receives_several, closes, clones}
 use Rattle.channel_alone.proofs.Order.{order_turn, order_work, ends_soon}
 use Rattle.channel_alone.proofs.Rest.{RestTry, RestWork, RestTurn, RestLoad, ends_rest, gathers_all}
-use Rattle.channel_steps.proofs.Interface.{fresh_waits, same_line}
 use Rattle.channel_alone.proofs.AnswerFacts.{given_then}
 
 raised_now : (n : ℕ) → nat_lt most n ≡ false → ((n == n) && nat_lt n (2 ^ 64 - 1)) ≡ true
@@ -53,35 +29,21 @@ module _ {T W : Type 0} where
     tell_receive x h =
         record { turn = Works (TellStreams x); turned = h; back = λ o k. ap (λ (p : Outcome T W). after_waking (tells_one Receives c).woken p) k; queue = refl; falls = omega arith }
 
+    -- it tells, and then the call ends
+    then_ends : (w : Work T W) (e : Effect T W) (x : Ending T) → Turned (ends_by x) r s → ((o : Outcome T W) → o ≡ ends [] x e.channel → RestWork w c (after_waking e.woken o))
+        → e.channel.queue ≡ c.queue → order_work c.roster w ≡ 2 → Backs c w e r s
+    then_ends w e x h back queue late =
+        let soon = ends_soon e.channel.roster x in
+        record { turn = ends_by x; turned = h; back = λ o k. back o (ends_rest e.channel o x k); queue = queue; falls = omega (arith, soon, late) }
+
     tell_streams : (x : Ending T) → Turned (ends_by x) r s → Backs c (TellStreams x) (tells_all Streams c) r s
-    tell_streams x h =
-        record {
-          turn = ends_by x;
-          turned = h;
-          back = λ o k. ap (λ (p : Outcome T W). after_waking (tells_all Streams c).woken p) (ends_rest (tells_all Streams c).channel o x k);
-          queue = refl;
-          falls = ends_soon (tells_all Streams c).channel.roster x;
-        }
+    tell_streams x h = then_ends (TellStreams x) (tells_all Streams c) x h (λ o k. ap (λ (p : Outcome T W). after_waking (tells_all Streams c).woken p) k) refl refl
 
     tell_send : (x : Ending T) → Turned (ends_by x) r s → Backs c (TellSend x) (tells_one Sends c) r s
-    tell_send x h =
-        record {
-          turn = ends_by x;
-          turned = h;
-          back = λ o k. ap (λ (p : Outcome T W). after_waking (tells_one Sends c).woken p) (ends_rest (tells_one Sends c).channel o x k);
-          queue = refl;
-          falls = ends_soon (tells_one Sends c).channel.roster x;
-        }
+    tell_send x h = then_ends (TellSend x) (tells_one Sends c) x h (λ o k. ap (λ (p : Outcome T W). after_waking (tells_one Sends c).woken p) k) refl refl
 
     tell_sends : (n : ℕ) (x : Ending T) → Turned (ends_by x) r s → Backs c (TellSends n x) (tells_more n Sends c) r s
-    tell_sends n x h =
-        record {
-          turn = ends_by x;
-          turned = h;
-          back = λ o k. ap (λ (p : Outcome T W). after_waking (tells_more n Sends c).woken p) (ends_rest (tells_more n Sends c).channel o x k);
-          queue = refl;
-          falls = ends_soon (tells_more n Sends c).channel.roster x;
-        }
+    tell_sends n x h = then_ends (TellSends n x) (tells_more n Sends c) x h (λ o k. ap (λ (p : Outcome T W). after_waking (tells_more n Sends c).woken p) k) refl refl
 
     room_back : (n : ℕ) (o : Outcome T W) → RestTurn (room_next n) c o → o ≡ receives_several n c
     room_back zero o k = k
@@ -96,20 +58,10 @@ module _ {T W : Type 0} where
     take_room n (inr t) = record { turn = roomless; turned = t.1; back = λ o k. inl (t.0, k); queue = refl; falls = omega arith }
 
     tell_all : (line : Line) (by : Closer) → Turned (told_all_next line by) r s → Backs c (TellAll line by) (tells_all line c) r s
-    tell_all Sends by h =
-        record { turn = told_all_next Sends by; turned = h; back = λ o k. ap (λ (p : Outcome T W). after_waking (tells_all Sends c).woken p) k; queue = refl; falls = omega arith }
-    tell_all Receives by h =
-        record { turn = told_all_next Receives by; turned = h; back = λ o k. ap (λ (p : Outcome T W). after_waking (tells_all Receives c).woken p) k; queue = refl; falls = omega arith }
-    tell_all Streams by h =
-        record { turn = told_all_next Streams by; turned = h; back = λ o k. ap (λ (p : Outcome T W). after_waking (tells_all Streams c).woken p) k; queue = refl; falls = omega arith }
     tell_all Closings by h =
-        record {
-          turn = ends_by (closer_ending by true);
-          turned = h;
-          back = λ o k. ap (λ (p : Outcome T W). after_waking (tells_all Closings c).woken p) (ends_rest (tells_all Closings c).channel o (closer_ending by true) k);
-          queue = refl;
-          falls = ends_soon (tells_all Closings c).channel.roster (closer_ending by true);
-        }
+        then_ends (TellAll Closings by) (tells_all Closings c) (closer_ending by true) h (λ o k. ap (λ (p : Outcome T W). after_waking (tells_all Closings c).woken p) k) refl refl
+    tell_all line by h =
+        record { turn = told_all_next line by; turned = h; back = λ o k. ap (λ (p : Outcome T W). after_waking (tells_all line c).woken p) k; queue = refl; falls = omega arith }
 
     try_falls : (b : Bool) → b ≡ true → (if b then 7 else 11) < 8
     try_falls true e = omega arith

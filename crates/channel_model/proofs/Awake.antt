@@ -1,17 +1,7 @@
 -- What keeps everybody awake, whatever the names are: how many messages and free places there are, and who waits.
-use Rattle.std.proofs.Common.{zero, suc, arith, ◌≡◌, ◌⊎◌, ◌≤◌, ◌+◌, ◌-◌, ℕ, List, [], ◌∷◌, ◌++◌, length, take, drop, Bool, true, false, cond, if◌then◌else◌, Option, None, Some, IsSome, refl, sym, ap, subst, ◌∙◌, inl, inr}
-use Rattle.std.specs.List.{filter}
-use Rattle.channel_model.specs.Lines.{Waiting, same_waiter, is_among, untold, told_by, after_news, after_rooms, without_waiter, gone, passed_on, at_end, standing}
-use Rattle.channel_model.specs.Awake.{Kind, Enough, times, times_in, Placed, Awake}
-use Rattle.channel_model.specs.Laws.{same_line, is_line, count_of, free_places}
-use Rattle.channel_model.specs.declared.name.Waiter.{Waiter}
-use Rattle.channel_calls.specs.declared.stage.Line.{Line}
-use Rattle.channel_calls.specs.declared.stage.Line.TheVariants.{Sends, Receives, Streams, Closings}
-use Rattle.channel_model.specs.declared.news.News.{News}
-use Rattle.channel_model.specs.declared.news.News.TheVariants.{Nothing, Message, Room, Closing, NextIn}
-use Rattle.channel_model.proofs.WaiterLemmas.{same_sound, decided, or_true}
-use Rattle.channel_model.proofs.WaiterLemmas.{left_among, untold_gone}
-use Rattle.channel_model.proofs.Counting.{count_append, count_split, count_without, count_without_other, times_without, times_self, among_counts, absent_counts, among_append, among_drop, among_take, among_self, or_right}
+use Rattle.channel_model.proofs.Words.{zero, suc, arith, ◌≡◌, ◌⊎◌, ◌≤◌, ◌+◌, ◌-◌, ℕ, List, [], ◌∷◌, ◌++◌, length, take, drop, Bool, true, false, cond, if◌then◌else◌, Option, None, Some, IsSome, refl, sym, ap, subst, ◌∙◌, inl, inr, filter, Waiting, same_waiter, is_among, untold, told_by, after_news, after_rooms, without_waiter, gone, passed_on, at_end, standing, Kind, Enough, times_in, Placed, Awake, same_line, is_line, count_of, free_places, Waiter, Line, Sends, Receives, Streams, Closings, News, Nothing, Message, Room, Closing, NextIn}
+use Rattle.channel_model.proofs.Counting.{count_gone, count_news, one_if, count_end, count_append, count_without, count_without_other, times_self, among_counts, absent_counts, among_append, among_drop, among_take, among_self, or_right}
+use Rattle.channel_model.proofs.WaiterLemmas.{same_sound, decided, or_true, left_among, untold_gone}
 
 -- ---- lines
 
@@ -20,24 +10,11 @@ line_sound Sends Sends e = refl
 line_sound Receives Receives e = refl
 line_sound Streams Streams e = refl
 line_sound Closings Closings e = refl
-line_sound Sends Receives e = cc e
-line_sound Sends Streams e = cc e
-line_sound Sends Closings e = cc e
-line_sound Receives Sends e = cc e
-line_sound Receives Streams e = cc e
-line_sound Receives Closings e = cc e
-line_sound Streams Sends e = cc e
-line_sound Streams Receives e = cc e
-line_sound Streams Closings e = cc e
-line_sound Closings Sends e = cc e
-line_sound Closings Receives e = cc e
-line_sound Closings Streams e = cc e
+line_sound a b e = cc e
 
 pub line_refl : (a : Line) → same_line a a ≡ true
 line_refl Sends = refl
-line_refl Receives = refl
-line_refl Streams = refl
-line_refl Closings = refl
+line_refl a = refl
 
 pub enough_less : (k : Kind) (line : Line) (m n : ℕ) (l : Waiting) → m ≤ n → Enough k line n l → Enough k line m l
 enough_less k line m n l le (inl e) = inl e
@@ -51,40 +28,20 @@ Shrinks before after = (after ≡ before) ⊎ ((after ≡ drop 1 before) ⊎ (af
 
 next_shrinks : (told line : Line) (l : Waiting) → Shrinks (untold line l) (untold line (after_news (NextIn told) l))
 next_shrinks Sends Sends l = inr (inl refl)
-next_shrinks Sends Receives l = inl refl
-next_shrinks Sends Streams l = inl refl
-next_shrinks Sends Closings l = inl refl
-next_shrinks Receives Sends l = inl refl
 next_shrinks Receives Receives l = inr (inl refl)
-next_shrinks Receives Streams l = inl refl
-next_shrinks Receives Closings l = inl refl
-next_shrinks Streams Sends l = inl refl
-next_shrinks Streams Receives l = inl refl
 next_shrinks Streams Streams l = inr (inl refl)
-next_shrinks Streams Closings l = inl refl
-next_shrinks Closings Sends l = inl refl
-next_shrinks Closings Receives l = inl refl
-next_shrinks Closings Streams l = inl refl
 next_shrinks Closings Closings l = inr (inl refl)
+next_shrinks told line l = inl refl
 
 shrinks : (news : News) (line : Line) (l : Waiting) → Shrinks (untold line l) (untold line (after_news news l))
-shrinks Nothing Sends l = inl refl
-shrinks Nothing Receives l = inl refl
-shrinks Nothing Streams l = inl refl
-shrinks Nothing Closings l = inl refl
-shrinks Message Sends l = inl refl
 shrinks Message Receives l = inr (inl refl)
 shrinks Message Streams l = inr (inr refl)
-shrinks Message Closings l = inl refl
 shrinks Room Sends l = inr (inl refl)
-shrinks Room Receives l = inl refl
-shrinks Room Streams l = inl refl
-shrinks Room Closings l = inl refl
 shrinks Closing Sends l = inr (inr refl)
-shrinks Closing Receives l = inr (inr refl)
-shrinks Closing Streams l = inr (inr refl)
-shrinks Closing Closings l = inr (inr refl)
+shrinks Closing line l = inr (inr refl)
 shrinks (NextIn told) line l = next_shrinks told line l
+shrinks Nothing Sends l = inl refl
+shrinks news line l = inl refl
 
 among_shrunk : (w : Waiter) (before after : List Waiter) → Shrinks before after → is_among w after ≡ true → is_among w before ≡ true
 among_shrunk w before after (inl e) h = subst (λ (xs : List Waiter). is_among w xs ≡ true) e h
@@ -121,22 +78,7 @@ told_stood (NextIn line) w l e = (line, among_take w (untold line l) e)
 
 -- a name stands as often after news as before
 pub times_news : (news : News) (w : Waiter) (l : Waiting) → times_in w (after_news news l) ≡ times_in w l
-times_news Nothing w l = omega (arith, count_append (same_waiter w) l.woken [])
-times_news Message w l =
-    omega (arith, count_append (same_waiter w) l.woken (take 1 l.receives ++ l.streams), count_append (same_waiter w) (take 1 l.receives) l.streams, count_split (same_waiter w) l.receives)
-times_news Room w l = omega (arith, count_append (same_waiter w) l.woken (take 1 l.sends), count_split (same_waiter w) l.sends)
-times_news Closing w l =
-    omega (
-      arith,
-      count_append (same_waiter w) l.woken (l.sends ++ l.receives ++ l.streams ++ l.closings),
-      count_append (same_waiter w) (l.sends ++ l.receives ++ l.streams) l.closings,
-      count_append (same_waiter w) (l.sends ++ l.receives) l.streams,
-      count_append (same_waiter w) l.sends l.receives,
-    )
-times_news (NextIn Sends) w l = omega (arith, count_append (same_waiter w) l.woken (take 1 l.sends), count_split (same_waiter w) l.sends)
-times_news (NextIn Receives) w l = omega (arith, count_append (same_waiter w) l.woken (take 1 l.receives), count_split (same_waiter w) l.receives)
-times_news (NextIn Streams) w l = omega (arith, count_append (same_waiter w) l.woken (take 1 l.streams), count_split (same_waiter w) l.streams)
-times_news (NextIn Closings) w l = omega (arith, count_append (same_waiter w) l.woken (take 1 l.closings), count_split (same_waiter w) l.closings)
+times_news news w l = count_news (same_waiter w) news l
 
 some_kind : (o : Option Line) (line : Line) → o ≡ Some line → IsSome o
 some_kind None line e = cc e
@@ -196,7 +138,7 @@ pub empty_gone : (line : Line) (w : Waiter) (l : Waiting) → untold line l ≡ 
 empty_gone line w l e = untold_gone line w l ∙ ap (λ (xs : List Waiter). without_waiter w xs) e
 
 pub times_gone : (v w : Waiter) (l : Waiting) → times_in v (gone w l) ≤ times_in v l
-times_gone v w l = omega (arith, times_without v w l.sends, times_without v w l.receives, times_without v w l.streams, times_without v w l.closings, times_without v w l.woken)
+times_gone v w l = count_gone (same_waiter v) w l
 
 pub times_gone_self : (w : Waiter) (l : Waiting) → times_in w (gone w l) ≡ 0
 times_gone_self w l = omega (arith, times_self w l.sends, times_self w l.receives, times_self w l.streams, times_self w l.closings, times_self w l.woken)
@@ -228,20 +170,12 @@ gone_one k line w n l p (inr h) = inr (omega (arith, h, count_without (λ (v : W
 abbrev pub leave : Line → Waiter → Waiting → Waiting
 leave line w l = after_news (passed_on line w l) (gone w l)
 
-chosen_true : (b : Bool) (x y : News) → b ≡ true → (if b then x else y) ≡ x
-chosen_true b x y t = rw t refl
-
-chosen_false : (b : Bool) (x y : News) → b ≡ false → (if b then x else y) ≡ y
-chosen_false b x y t = rw t refl
-
 -- one of this line: a woken one wakes the next in its place
 leave_same : (k : Kind) (line : Line) (w : Waiter) (n : ℕ) (l : Waiting) (news : News) → news ≡ (if is_among w l.woken then NextIn line else Nothing)
     → Placed k l → Enough k line n l → Enough k line n (after_news news (gone w l))
 leave_same k line w n l news e p h = elim (decided (is_among w l.woken)) [
-  | inl t ↦ subst (λ (x : News). Enough k line n (after_news x (gone w l))) (sym (e ∙ chosen_true (is_among w l.woken) (NextIn line) Nothing t))
-      (gain_next k line (n - 1) n (gone w l) (placed_gone k w l p) (omega arith) (gone_one k line w n l p h))
-  | inr t ↦ subst (λ (x : News). Enough k line n (after_news x (gone w l))) (sym (e ∙ chosen_false (is_among w l.woken) (NextIn line) Nothing t))
-      (enough_news k Nothing line n (gone w l) (gone_unwoken k line w n l t h))
+  | inl t ↦ rw (e, t) (gain_next k line (n - 1) n (gone w l) (placed_gone k w l p) (omega arith) (gone_one k line w n l p h))
+  | inr t ↦ rw (e, t) (enough_news k Nothing line n (gone w l) (gone_unwoken k line w n l t h))
 ]
 
 leave_other : (k : Kind) (own line : Line) (w : Waiter) (n : ℕ) (l : Waiting) → k w ≡ Some own → same_line line own ≡ false → Enough k line n l → Enough k line n (leave own w l)
@@ -250,16 +184,12 @@ leave_other k own line w n l e off h =
     enough_news k (passed_on own w l) line n (gone w l) (gone_other k line w n l other h)
 
 leave_receives : (k : Kind) (own : Line) (w : Waiter) (n : ℕ) (l : Waiting) → k w ≡ Some own → Placed k l → Enough k Receives n l → Enough k Receives n (leave own w l)
-leave_receives k Sends w n l e p h = leave_other k Sends Receives w n l e refl h
 leave_receives k Receives w n l e p h = leave_same k Receives w n l (passed_on Receives w l) refl p h
-leave_receives k Streams w n l e p h = leave_other k Streams Receives w n l e refl h
-leave_receives k Closings w n l e p h = leave_other k Closings Receives w n l e refl h
+leave_receives k own w n l e p h = leave_other k own Receives w n l e refl h
 
 leave_sends : (k : Kind) (own : Line) (w : Waiter) (n : ℕ) (l : Waiting) → k w ≡ Some own → Placed k l → Enough k Sends n l → Enough k Sends n (leave own w l)
 leave_sends k Sends w n l e p h = leave_same k Sends w n l (passed_on Sends w l) refl p h
-leave_sends k Receives w n l e p h = leave_other k Receives Sends w n l e refl h
-leave_sends k Streams w n l e p h = leave_other k Streams Sends w n l e refl h
-leave_sends k Closings w n l e p h = leave_other k Closings Sends w n l e refl h
+leave_sends k own w n l e p h = leave_other k own Sends w n l e refl h
 
 empty_leave : (own line : Line) (w : Waiter) (l : Waiting) → untold line l ≡ [] → untold line (leave own w l) ≡ []
 empty_leave own line w l e = empty_news (passed_on own w l) line (gone w l) (empty_gone line w l e)
@@ -272,21 +202,10 @@ keep_streams n before after h (inr e) = inr e
 
 untold_end : (own line : Line) (w : Waiter) (l : Waiting) → ((line ≡ own) × (untold line (at_end own w l) ≡ untold own (gone w l) ++ w ∷ [])) ⊎ (untold line (at_end own w l) ≡ untold line (gone w l))
 untold_end Sends Sends w l = inl (refl, refl)
-untold_end Sends Receives w l = inr refl
-untold_end Sends Streams w l = inr refl
-untold_end Sends Closings w l = inr refl
-untold_end Receives Sends w l = inr refl
 untold_end Receives Receives w l = inl (refl, refl)
-untold_end Receives Streams w l = inr refl
-untold_end Receives Closings w l = inr refl
-untold_end Streams Sends w l = inr refl
-untold_end Streams Receives w l = inr refl
 untold_end Streams Streams w l = inl (refl, refl)
-untold_end Streams Closings w l = inr refl
-untold_end Closings Sends w l = inr refl
-untold_end Closings Receives w l = inr refl
-untold_end Closings Streams w l = inr refl
 untold_end Closings Closings w l = inl (refl, refl)
+untold_end own line w l = inr refl
 
 among_one : (v w : Waiter) → is_among v (w ∷ []) ≡ true → v ≡ w
 among_one v w e = elim (or_true (same_waiter v w) false e) [
@@ -303,28 +222,20 @@ lines_end k own line w v l e p h = elim (untold_end own line w l) [
   ]
 ]
 
-times_end : (own : Line) (v w : Waiter) (l : Waiting) → times_in v (at_end own w l) ≡ times_in v (gone w l) + times v (w ∷ [])
-times_end Sends v w l = omega (arith, count_append (same_waiter v) (gone w l).sends (w ∷ []))
-times_end Receives v w l = omega (arith, count_append (same_waiter v) (gone w l).receives (w ∷ []))
-times_end Streams v w l = omega (arith, count_append (same_waiter v) (gone w l).streams (w ∷ []))
-times_end Closings v w l = omega (arith, count_append (same_waiter v) (gone w l).closings (w ∷ []))
-
 once_end : (own : Line) (v w : Waiter) (l : Waiting) → times_in v l ≤ 1 → times_in v (at_end own w l) ≤ 1
 once_end own v w l h = elim (decided (same_waiter v w)) [
   | inl t ↦
-      let one : times v (w ∷ []) ≡ 1 = rw t refl in
+      let one : one_if (same_waiter v w) ≡ 1 = rw t refl in
       let zero_now : times_in v (gone w l) ≡ 0 = subst (λ (x : Waiter). times_in x (gone w l) ≡ 0) (sym (same_sound v w t)) (times_gone_self w l) in
-      omega (arith, times_end own v w l, one, zero_now)
+      omega (arith, count_end (same_waiter v) own w l, one, zero_now)
   | inr t ↦
-      let none : times v (w ∷ []) ≡ 0 = rw t refl in
-      omega (arith, times_end own v w l, none, times_gone v w l, h)
+      let none : one_if (same_waiter v w) ≡ 0 = rw t refl in
+      omega (arith, count_end (same_waiter v) own w l, none, times_gone v w l, h)
 ]
 
-woken_end : (own : Line) (w : Waiter) (l : Waiting) → (at_end own w l).woken ≡ (gone w l).woken
+pub woken_end : (own : Line) (w : Waiter) (l : Waiting) → (at_end own w l).woken ≡ (gone w l).woken
 woken_end Sends w l = refl
-woken_end Receives w l = refl
-woken_end Streams w l = refl
-woken_end Closings w l = refl
+woken_end own w l = refl
 
 placed_end : (k : Kind) (own : Line) (w : Waiter) (l : Waiting) → k w ≡ Some own → Placed k l → Placed k (at_end own w l)
 placed_end k own w l e p = record {
@@ -414,9 +325,7 @@ module _ (k : Kind) (capacity : Option ℕ) where
 
   all_empty : (line : Line) (l : Waiting) → untold line (after_news Closing l) ≡ []
   all_empty Sends l = refl
-  all_empty Receives l = refl
-  all_empty Streams l = refl
-  all_empty Closings l = refl
+  all_empty line l = refl
 
   -- the channel was closed
   pub awake_closing : (closed : Bool) (n : ℕ) (l : Waiting) → Awake k capacity closed n l → Awake k capacity true n (after_news Closing l)
@@ -437,16 +346,12 @@ module _ (k : Kind) (capacity : Option ℕ) where
   Idle Closings n = Unit {0}
 
   gone_receives : (own : Line) (w : Waiter) (n : ℕ) (l : Waiting) → k w ≡ Some own → Idle own n → Enough k Receives n l → Enough k Receives n (gone w l)
-  gone_receives Sends w n l e i h = gone_other k Receives w n l (rw e refl) h
   gone_receives Receives w n l e i h = inr (omega (arith, i))
-  gone_receives Streams w n l e i h = gone_other k Receives w n l (rw e refl) h
-  gone_receives Closings w n l e i h = gone_other k Receives w n l (rw e refl) h
+  gone_receives own w n l e i h = gone_other k Receives w n l (rw e refl) h
 
   gone_sends : (own : Line) (w : Waiter) (n : ℕ) (l : Waiting) → k w ≡ Some own → Idle own n → Enough k Sends (free_places capacity n) l → Enough k Sends (free_places capacity n) (gone w l)
   gone_sends Sends w n l e i h = let zero_free = i.0 in inr (omega (arith, zero_free))
-  gone_sends Receives w n l e i h = gone_other k Sends w (free_places capacity n) l (rw e refl) h
-  gone_sends Streams w n l e i h = gone_other k Sends w (free_places capacity n) l (rw e refl) h
-  gone_sends Closings w n l e i h = gone_other k Sends w (free_places capacity n) l (rw e refl) h
+  gone_sends own w n l e i h = gone_other k Sends w (free_places capacity n) l (rw e refl) h
 
   pub awake_gone : (closed : Bool) (n : ℕ) (own : Line) (w : Waiter) (l : Waiting) → k w ≡ Some own → Idle own n → Awake k capacity closed n l → Awake k capacity closed n (gone w l)
   awake_gone closed n own w l e i a = record {
@@ -471,28 +376,21 @@ module _ (k : Kind) (capacity : Option ℕ) where
 
   -- one who stands at the end of its line, of an open channel
   end_receives : (own : Line) (w : Waiter) (n : ℕ) (l : Waiting) → k w ≡ Some own → Idle own n → Enough k Receives n l → Enough k Receives n (at_end own w l)
-  end_receives Sends w n l e i h = gone_receives Sends w n l e i h
   end_receives Receives w n l e i h = inr (omega (arith, i))
-  end_receives Streams w n l e i h = gone_receives Streams w n l e i h
-  end_receives Closings w n l e i h = gone_receives Closings w n l e i h
+  end_receives own w n l e i h = gone_receives own w n l e i h
 
   end_sends : (own : Line) (w : Waiter) (n : ℕ) (l : Waiting) → k w ≡ Some own → Idle own n → Enough k Sends (free_places capacity n) l → Enough k Sends (free_places capacity n) (at_end own w l)
   end_sends Sends w n l e i h = let zero_free = i.0 in inr (omega (arith, zero_free))
-  end_sends Receives w n l e i h = gone_sends Receives w n l e i h
-  end_sends Streams w n l e i h = gone_sends Streams w n l e i h
-  end_sends Closings w n l e i h = gone_sends Closings w n l e i h
+  end_sends own w n l e i h = gone_sends own w n l e i h
 
   end_unbounded : (own : Line) (w : Waiter) (n : ℕ) (l : Waiting) → Idle own n → (capacity ≡ None → l.sends ≡ []) → capacity ≡ None → (at_end own w l).sends ≡ []
   end_unbounded Sends w n l i h o = absurd (i.1 o)
-  end_unbounded Receives w n l i h o = empty_gone Sends w l (h o)
-  end_unbounded Streams w n l i h o = empty_gone Sends w l (h o)
-  end_unbounded Closings w n l i h o = empty_gone Sends w l (h o)
+  end_unbounded own w n l i h o = empty_gone Sends w l (h o)
 
   end_streams : (own : Line) (w : Waiter) (n : ℕ) (l : Waiting) → Idle own n → (l.streams ≡ []) ⊎ (n ≡ 0) → ((at_end own w l).streams ≡ []) ⊎ (n ≡ 0)
-  end_streams Sends w n l i h = keep_streams n l.streams (gone w l).streams (empty_gone Streams w l) h
   end_streams Receives w n l i h = inr i
   end_streams Streams w n l i h = inr i
-  end_streams Closings w n l i h = keep_streams n l.streams (gone w l).streams (empty_gone Streams w l) h
+  end_streams own w n l i h = keep_streams n l.streams (gone w l).streams (empty_gone Streams w l) h
 
   not_open : {A : Type 0} → false ≡ true → A
   not_open e = cc e
@@ -541,9 +439,7 @@ count_same p q (x ∷ xs) h =
 
 among_times : (line : Line) (w : Waiter) (l : Waiting) → is_among w (untold line l) ≡ true → 1 ≤ times_in w l
 among_times Sends w l e = omega (arith, among_counts w l.sends e)
-among_times Receives w l e = omega (arith, among_counts w l.receives e)
-among_times Streams w l e = omega (arith, among_counts w l.streams e)
-among_times Closings w l e = omega (arith, among_counts w l.closings e)
+among_times line w l e = omega (arith, among_counts w (untold line l) e)
 
 enough_renamed : (k k' : Kind) (line : Line) (n : ℕ) (l : Waiting) → ((w : Waiter) → 1 ≤ times_in w l → k' w ≡ k w) → Enough k line n l → Enough k' line n l
 enough_renamed k k' line n l same (inl e) = inl e

@@ -1,26 +1,9 @@
 -- How many messages there are at most, that an unbounded channel is never full, and that one close at most is the first.
-use Rattle.std.proofs.Common.{arith, ◌≡◌, ◌⊎◌, ◌≤◌, ◌<◌, ◌+◌, ◌-◌, ◌==◌, ℕ, List, [], ◌∷◌, length, Bool, true, false, if◌then◌else◌, Option, None, Some, is_none, IfSome, Err, refl, sym, ap, subst, ◌∙◌, inl, inr, length-append}
-use Rattle.std.specs.List.{filter}
-use Rattle.std.specs.Option.{option_map_or}
-use Rattle.std.proofs.lemmas.Bool.Decides.{nat_tests}
-use Rattle.channel_model.specs.Answer.{Answer, replying, space_of, try_send_answer, force_send_answer, strong_handles, with_strong_handles, without_one, shut}
-use Rattle.channel_model.specs.Bounds.{EachDone, says_full, says_closed}
-use Rattle.channel_model.specs.Channel.{ModelChannel, is_full, appended}
-use Rattle.channel_model.specs.Refused.{Lack, memory, serials, not_held, Answers}
-use Rattle.channel_model.specs.Run.{Runs}
-use Rattle.channel_model.specs.State.{State, start}
-use Rattle.channel_model.specs.declared.call.Call.{Call}
+use Rattle.channel_model.proofs.Words.{false_from_ne_true, arith, ◌≡◌, ◌⊎◌, ◌≤◌, ◌<◌, ◌+◌, ◌-◌, ◌==◌, ℕ, List, [], ◌∷◌, length, Bool, true, false, if◌then◌else◌, Option, None, Some, IfSome, Err, refl, sym, ap, subst, ◌∙◌, inl, inr, length-append, filter, option_map_or, nat_tests, Answer, replying, space_of, try_send_answer, force_send_answer, strong_handles, with_strong_handles, without_one, shut, EachDone, says_full, says_closed, ModelChannel, is_full, appended, Answers, Runs, State, start, Call, NoMemory, HandleId, HandleKind, Sender, WorldRefusal, Done, Space, Open, Filled}
 use Rattle.channel_model.specs.declared.call.Call.TheVariants as call
 use Rattle.channel_calls.specs.declared.reply.Reply.TheVariants as reply
-use Rattle.channel_calls.specs.declared.error.Refused.TheVariants.{NoMemory}
-use Rattle.channel_model.specs.declared.name.HandleId.{HandleId}
-use Rattle.channel_model.specs.declared.name.HandleKind.{HandleKind}
-use Rattle.channel_model.specs.declared.name.HandleKind.TheVariants.{Sender, Receiver, WeakSender, WeakReceiver}
-use Rattle.channel_model.specs.declared.refusal.WorldRefusal.{WorldRefusal}
-use Rattle.channel_model.specs.declared.run.Done.{Done}
-use Rattle.channel_model.specs.declared.space.Space.{Space}
-use Rattle.channel_model.specs.declared.space.Space.TheVariants.{Open, Filled, Shut}
 use Rattle.channel_model.proofs.Deeds.{Deed, stays, grows, holds, shuts, adds, drops, deed_of}
+use Rattle.channel_model.proofs.Lacking.{held_is}
 use Rattle.channel_model.proofs.WaiterLemmas.{decided}
 
 room_left : (n c : ℕ) → (n == c) ≡ false → n ≤ c → n + 1 ≤ c
@@ -35,9 +18,7 @@ module _ {T : Type 0} where
 
   counted_same : (kind : HandleKind) (n : ℕ) (c : ModelChannel T) → Same (with_strong_handles kind n c) c
   counted_same Sender n c = record { messages = refl; capacity = refl; closed = λ e. e }
-  counted_same Receiver n c = record { messages = refl; capacity = refl; closed = λ e. e }
-  counted_same WeakSender n c = record { messages = refl; capacity = refl; closed = λ e. e }
-  counted_same WeakReceiver n c = record { messages = refl; capacity = refl; closed = λ e. e }
+  counted_same kind n c = record { messages = refl; capacity = refl; closed = λ e. e }
 
   shut_same : (last : Bool) (b c : ModelChannel T) → Same b c → Same (if last then shut b else b) c
   shut_same true b c s = record { messages = s.messages; capacity = s.capacity; closed = λ e. refl }
@@ -49,10 +30,8 @@ module _ {T : Type 0} where
   space_room : (c : ModelChannel T) → space_of c ≡ Open → is_full c ≡ false
   space_room c e = elim (decided c.closed) [
     | inl t ↦ cc (rw t at e)
-    | inr t ↦ elim (decided (is_full c)) [
-      | inl u ↦ let gone_on : (if is_full c then Filled else Open) ≡ Open = rw t at e in cc (rw u at gone_on)
-      | inr u ↦ u
-    ]
+    | inr t ↦ false_from_ne_true (is_full c) (λ u.
+        let gone_on : (if is_full c then Filled else Open) ≡ Open = rw t at e in cc (rw u at gone_on))
   ]
 
   -- ---- the length
@@ -119,56 +98,25 @@ module _ {T : Type 0} where
     | inr t ↦ let gone_on : (if is_full c then Filled else Open) ≡ Filled = rw t at e in cc (rw (never_filled c none) at gone_on)
   ]
 
-  -- what is answered for want of memory
-  held_not : (lack : Lack) (c : ModelChannel T) (x : Space) (y a : Answer T) → not_held lack c x y ≡ Some a → y ≡ a
-  held_not memory c Open y a e = elim (decided (is_none c.capacity)) [ inl t ↦ cc (rw t at e) | inr t ↦ cc (rw t at e) ]
-  held_not memory c Filled y a e = cc e
-  held_not memory c Shut y a e = cc e
-  held_not serials c x y a e = cc e
-
   module _ (s : State T) (none : s.channel.capacity ≡ None) where
     try_send_says : (sender : HandleId) (m : T) (x : Space) → space_of s.channel ≡ x → says_full (call.TrySend sender m) (try_send_answer s m x).reply ≡ false
-    try_send_says sender m Open e = refl
     try_send_says sender m Filled e = no_space_filled s.channel none e
-    try_send_says sender m Shut e = refl
+    try_send_says sender m x e = refl
 
     force_send_says : (sender : HandleId) (m : T) (x : Space) → space_of s.channel ≡ x → says_full (call.ForceSend sender m) (force_send_answer s m x).reply ≡ false
-    force_send_says sender m Open e = refl
     force_send_says sender m Filled e = no_space_filled s.channel none e
-    force_send_says sender m Shut e = refl
+    force_send_says sender m x e = refl
 
     never_says : (c : Call T) (a : Answer T) → Answers s c a → says_full c a.reply ≡ false
     never_says (call.TrySend sender m) a (inl e) = subst (λ (x : Answer T). says_full (call.TrySend sender m) x.reply ≡ false) (sym e) (try_send_says sender m (space_of s.channel) refl)
     never_says (call.TrySend sender m) a (inr (lack, e)) =
-        subst (λ (x : Answer T). says_full (call.TrySend sender m) x.reply ≡ false) (held_not lack s.channel (space_of s.channel) (replying s (reply.TrySend (Err (NoMemory m)))) a e) refl
+        subst (λ (x : Answer T). says_full (call.TrySend sender m) x.reply ≡ false) (held_is s lack (space_of s.channel) (replying s (reply.TrySend (Err (NoMemory m)))) a e) refl
     never_says (call.ForceSend sender m) a (inl e) = subst (λ (x : Answer T). says_full (call.ForceSend sender m) x.reply ≡ false) (sym e) (force_send_says sender m (space_of s.channel) refl)
     never_says (call.ForceSend sender m) a (inr (lack, e)) =
-        subst (λ (x : Answer T). says_full (call.ForceSend sender m) x.reply ≡ false) (held_not lack s.channel (space_of s.channel) (replying s (reply.ForceSend (Err (NoMemory m)))) a e) refl
+        subst (λ (x : Answer T). says_full (call.ForceSend sender m) x.reply ≡ false) (held_is s lack (space_of s.channel) (replying s (reply.ForceSend (Err (NoMemory m)))) a e) refl
     never_says (call.IsFull handle) a (inl e) = subst (λ (x : Answer T). says_full (call.IsFull handle) x.reply ≡ false) (sym e) (never_filled s.channel none)
     never_says (call.IsFull handle) a (inr (lack, e)) = cc e
-    never_says (call.NewSend op sender msg) a e = refl
-    never_says (call.NewRecv op receiver) a e = refl
-    never_says (call.NewClosed op sender) a e = refl
-    never_says (call.Poll op) a e = refl
-    never_says (call.PollRefused op) a e = refl
-    never_says (call.GiveUp op) a e = refl
-    never_says (call.SendIsTerminated op) a e = refl
-    never_says (call.PollNext receiver) a e = refl
-    never_says (call.StreamIsTerminated receiver) a e = refl
-    never_says (call.TryRecv receiver) a e = refl
-    never_says (call.RecvMany receiver limit) a e = refl
-    never_says (call.Close handle) a e = refl
-    never_says (call.Drop handle) a e = refl
-    never_says (call.TryClone handle new) a e = refl
-    never_says (call.Downgrade handle new) a e = refl
-    never_says (call.Upgrade weak new) a e = refl
-    never_says (call.SameChannel x y) a e = refl
-    never_says (call.IsClosed handle) a e = refl
-    never_says (call.IsEmpty handle) a e = refl
-    never_says (call.Len handle) a e = refl
-    never_says (call.Capacity handle) a e = refl
-    never_says (call.SenderCount handle) a e = refl
-    never_says (call.ReceiverCount handle) a e = refl
+    never_says c a e = refl
 
   run_never_says : (s : State T) (cs : List (Call T)) (ds : List (Done T)) (why : Option WorldRefusal) (rest : List (Call T)) (t : State T)
       → s.channel.capacity ≡ None → Runs s cs ds why rest t → EachDone (λ c r. says_full c r ≡ false) cs ds

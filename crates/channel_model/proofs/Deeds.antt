@@ -1,32 +1,8 @@
 -- What one call does to a channel and to the number of its handles.
-use Rattle.std.proofs.Common.{zero, suc, take, drop, arith, ◌≡◌, ◌⊎◌, ◌+◌, ◌^◌, ◌-◌, ◌==◌, ℕ, nat_lt, List, [], ◌∷◌, ◌++◌, length, Bool, true, false, ◌||◌, if◌then◌else◌, Option, None, Some, is_none, Ok, Err, refl, sym, ap, subst, inl, inr, length-append}
-use Rattle.std.proofs.lemmas.List.{take-append-drop}
-use Rattle.channel_model.specs.Bounds.{says_closed}
-use Rattle.channel_model.specs.Channel.{appended, with_messages}
-use Rattle.channel_model.specs.Handles.{live_of}
-use Rattle.channel_model.specs.Names.{Directory, ModelOperation, send, recv, closing, at, with_new, without_name, with_new_operation}
-use Rattle.channel_model.specs.Lines.{is_among, untold, gone}
-use Rattle.channel_model.specs.State.{State, with_channel, with_waiting}
-use Rattle.channel_model.specs.declared.call.Call.{Call}
+use Rattle.channel_model.proofs.Words.{cond_both, zero, suc, take, drop, arith, ◌≡◌, ◌⊎◌, ◌+◌, ◌^◌, ◌-◌, ◌==◌, ℕ, nat_lt, List, [], ◌∷◌, ◌++◌, length, true, false, ◌||◌, Option, None, Some, Ok, refl, sym, ap, subst, inl, inr, length-append, take-append-drop, says_closed, appended, with_messages, live_of, Directory, ModelOperation, send, recv, closing, at, with_new, without_name, with_new_operation, is_among, gone, State, with_channel, with_waiting, Call, Answer, replying, after_telling, after_leaving, pending, space_of, Found, first, found, try_send_answer, force_send_answer, displacing, send_poll_answer, try_recv_answer, recv_many_answer, recv_poll_answer, next_answer, poll_next_answer, close_answer, shut, closed_poll_answer, poll_answer, poll_refused_answer, give_up_answer, new_answer, drop_one, dropped, drop_answer, made, spent, weak_of, clone_answer, downgrade_answer, upgrade_answer, one_more, strong_of, strong_handles, with_strong_handles, without_one, answer, Answers, Closings, Nothing, Closing, Space, Open, Filled, Shut, Op, Stream, OpId, HandleId, HandleKind, Sender, Receiver, WeakSender, WeakReceiver, Handle, Ready, Pending}
 use Rattle.channel_model.specs.declared.call.Call.TheVariants as call
-use Rattle.channel_calls.specs.declared.reply.Reply.{Reply}
 use Rattle.channel_calls.specs.declared.reply.Reply.TheVariants as reply
-use Rattle.channel_model.specs.Answer.{Answer, replying, after_telling, after_leaving, pending, space_of, Found, first, none_yet, none_ever, found_in, found, try_send_answer, force_send_answer, displacing, send_poll_answer, try_recv_answer, recv_many_answer, recv_poll_answer, next_answer, poll_next_answer, close_answer, shut, closed_poll_answer, poll_answer, poll_refused_answer, give_up_answer, new_answer, drop_one, dropped, drop_answer, made, spent, weak_of, clone_answer, downgrade_answer, upgrade_answer, one_more, strong_of, strong_handles, with_strong_handles, without_one, answer}
-use Rattle.channel_model.specs.Refused.{Lack, memory, serials, refused, not_listening, not_standing, not_held, send_not_polled, recv_not_polled, not_polled, next_not_polled, not_received, answer_without, Answers}
-use Rattle.channel_calls.specs.declared.stage.Line.{Line}
-use Rattle.channel_calls.specs.declared.stage.Line.TheVariants.{Sends, Receives, Streams, Closings}
-use Rattle.channel_model.specs.declared.news.News.TheVariants.{Nothing, Closing}
-use Rattle.channel_model.specs.declared.space.Space.{Space}
-use Rattle.channel_model.specs.declared.space.Space.TheVariants.{Open, Filled, Shut}
-use Rattle.channel_model.specs.declared.name.Waiter.{Waiter}
-use Rattle.channel_model.specs.declared.name.Waiter.TheVariants.{Op, Stream}
-use Rattle.channel_model.specs.declared.name.OpId.{OpId}
-use Rattle.channel_model.specs.declared.name.HandleId.{HandleId}
-use Rattle.channel_model.specs.declared.name.HandleKind.{HandleKind}
-use Rattle.channel_model.specs.declared.name.HandleKind.TheVariants.{Sender, Receiver, WeakSender, WeakReceiver}
-use Rattle.channel_model.specs.declared.name.Handle.{Handle}
-use Rattle.channel_calls.specs.declared.error.Refused.TheVariants.{NoMemory}
-use Rattle.futures.specs.declared.task.Poll.TheVariants.{Ready, Pending}
+use Rattle.channel_model.proofs.Lacking.{Lacking, lacking, found_first}
 use Rattle.channel_model.proofs.Live.{lent_alike, back_alike}
 
 module _ {T : Type 0} where
@@ -45,16 +21,6 @@ module _ {T : Type 0} where
     drops : (name : ℕ) (h : Handle) (kind : HandleKind) → at name s.names.handles ≡ Some h → h.kind ≡ kind → a.after.channel ≡ without_one kind s.channel
         → a.after.names.handles ≡ without_name name s.names.handles → says_closed a.reply ≡ false → Deed s a
 
-  -- one of two answers
-  either_way : (P : Answer T → Type 0) (b : Bool) (x y : Answer T) → (b ≡ true → P x) → (b ≡ false → P y) → P (if b then x else y)
-  either_way P true x y so not_so = so refl
-  either_way P false x y so not_so = not_so refl
-
-  found_first : (ms : List T) (closed : Bool) (m : T) (rest : List T) → found_in ms closed ≡ first m rest → ms ≡ m ∷ rest
-  found_first [] true m rest e = cc e
-  found_first [] false m rest e = cc e
-  found_first (x ∷ xs) closed m rest e = cc e
-
   module _ (s : State T) where
     one_less : (m : T) (rest : List T) → s.channel.messages ≡ m ∷ rest → length rest + 1 ≡ length s.channel.messages
     one_less m rest e = let h : length s.channel.messages ≡ length (m ∷ rest) = ap (λ (ms : List T). length ms) e in omega (arith, h)
@@ -63,8 +29,7 @@ module _ {T : Type 0} where
 
     try_send : (m : T) (x : Space) → space_of s.channel ≡ x → Deed s (try_send_answer s m x)
     try_send m Open e = grows m (inl e) refl (λ side. refl) refl
-    try_send m Filled e = stays refl (λ side. refl) refl
-    try_send m Shut e = stays refl (λ side. refl) refl
+    try_send m x e = stays refl (λ side. refl) refl
 
     displace : (m : T) (ms : List T) → s.channel.messages ≡ ms → Deed s (displacing s m ms)
     displace m [] e = grows m (inr e) refl (λ side. refl) refl
@@ -77,8 +42,7 @@ module _ {T : Type 0} where
 
     try_recv : (x : Found T) → found s.channel ≡ x → Deed s (try_recv_answer s x)
     try_recv (first m rest) e = holds rest 1 (one_less m rest (found_first s.channel.messages s.channel.closed m rest e)) refl (λ side. refl) refl
-    try_recv none_yet e = stays refl (λ side. refl) refl
-    try_recv none_ever e = stays refl (λ side. refl) refl
+    try_recv x e = stays refl (λ side. refl) refl
 
     several_less : (ms rest : List T) → ms ++ rest ≡ s.channel.messages → length rest + length ms ≡ length s.channel.messages
     several_less ms rest e =
@@ -94,32 +58,27 @@ module _ {T : Type 0} where
 
     send_poll : (op : OpId) (handle : HandleId) (m : T) (x : Space) → space_of s.channel ≡ x → Deed s (send_poll_answer s op handle m x)
     send_poll op handle m Open e = grows m (inl e) refl (λ side. refl) refl
-    send_poll op handle m Filled e = stays refl (λ side. refl) refl
-    send_poll op handle m Shut e = stays refl (λ side. refl) refl
+    send_poll op handle m x e = stays refl (λ side. refl) refl
 
     recv_poll : (op : OpId) (x : Found T) → found s.channel ≡ x → Deed s (recv_poll_answer s op x)
     recv_poll op (first m rest) e = holds rest 1 (one_less m rest (found_first s.channel.messages s.channel.closed m rest e)) refl (λ side. refl) refl
-    recv_poll op none_yet e = stays refl (λ side. refl) refl
-    recv_poll op none_ever e = stays refl (λ side. refl) refl
+    recv_poll op x e = stays refl (λ side. refl) refl
 
     closed_poll : (op : OpId) → Deed s (closed_poll_answer s op)
     closed_poll op =
-        either_way (λ (a : Answer T). Deed s a) s.channel.closed
-        (after_leaving Nothing Closings (Op op) s (reply.ClosedPoll (Ready (Ok tt)))) (pending Closings (Op op) s (reply.ClosedPoll Pending))
+        cond_both s.channel.closed (after_leaving Nothing Closings (Op op) s (reply.ClosedPoll (Ready (Ok tt)))) (pending Closings (Op op) s (reply.ClosedPoll Pending))
+        (λ (a : Answer T). Deed s a)
         (λ t. stays refl (λ side. refl) refl) (λ t. stays refl (λ side. refl) refl)
 
     poll : (op : OpId) (o : Option (ModelOperation T)) → Deed s (poll_answer s op o)
     poll op (Some (send handle (Some m))) = send_poll op handle m (space_of s.channel) refl
-    poll op (Some (send handle None)) = stays refl (λ side. refl) refl
     poll op (Some (recv handle)) = recv_poll op (found s.channel) refl
     poll op (Some (closing handle)) = closed_poll op
-    poll op None = stays refl (λ side. refl) refl
+    poll op o = stays refl (λ side. refl) refl
 
     poll_refused : (op : OpId) (o : Option (ModelOperation T)) → Deed s (poll_refused_answer s op o)
     poll_refused op (Some (send handle msg)) = stays refl (λ side. refl) refl
-    poll_refused op (Some (recv handle)) = stays refl (λ side. refl) refl
-    poll_refused op (Some (closing handle)) = stays refl (λ side. refl) refl
-    poll_refused op None = stays refl (λ side. refl) refl
+    poll_refused op o = stays refl (λ side. refl) refl
 
     give_up : (op : OpId) (o : Option (ModelOperation T)) → Deed s (give_up_answer s op o)
     give_up op (Some (send handle msg)) = stays refl (λ side. back_alike side handle s.names.handles) refl
@@ -129,21 +88,20 @@ module _ {T : Type 0} where
 
     next : (receiver : HandleId) (x : Found T) → found s.channel ≡ x → Deed s (next_answer (with_waiting (gone (Stream receiver) s.waiting) s) receiver x)
     next receiver (first m rest) e = holds rest 1 (one_less m rest (found_first s.channel.messages s.channel.closed m rest e)) refl (λ side. refl) refl
-    next receiver none_yet e = stays refl (λ side. refl) refl
-    next receiver none_ever e = stays refl (λ side. refl) refl
+    next receiver x e = stays refl (λ side. refl) refl
 
     poll_next : (receiver : HandleId) → Deed s (poll_next_answer s receiver)
     poll_next receiver =
-        either_way (λ (a : Answer T). Deed s a) (is_among (Stream receiver) s.waiting.streams)
-        (replying s (reply.Next Pending)) (next_answer (with_waiting (gone (Stream receiver) s.waiting) s) receiver (found s.channel))
+        cond_both (is_among (Stream receiver) s.waiting.streams) (replying s (reply.Next Pending)) (next_answer (with_waiting (gone (Stream receiver) s.waiting) s) receiver (found s.channel))
+        (λ (a : Answer T). Deed s a)
         (λ t. stays refl (λ side. refl) refl) (λ t. next receiver (found s.channel) refl)
 
     -- ---- closing and handles
 
     close : Deed s (close_answer s)
     close =
-        either_way (λ (a : Answer T). Deed s a) s.channel.closed
-        (replying s (reply.Closed false)) (after_telling Closing (with_channel (shut s.channel) s) (reply.Closed true))
+        cond_both s.channel.closed (replying s (reply.Closed false)) (after_telling Closing (with_channel (shut s.channel) s) (reply.Closed true))
+        (λ (a : Answer T). Deed s a)
         (λ t. stays refl (λ side. refl) refl) (λ t. shuts t refl (λ side. refl))
 
     drop_kind : (handle : HandleId) (h : Handle) (kind : HandleKind) → at handle.0 s.names.handles ≡ Some h → h.kind ≡ kind → Deed s (drop_one (dropped s handle) handle kind)
@@ -158,8 +116,8 @@ module _ {T : Type 0} where
 
     more : (new : HandleId) (kind : HandleKind) → Deed s (one_more s new kind)
     more new kind =
-        either_way (λ (a : Answer T). Deed s a) (nat_lt (2 ^ 63 - 1) (strong_handles kind s.channel))
-        (replying (spent s new) reply.TooMany) (replying (with_channel (with_strong_handles kind (strong_handles kind s.channel + 1) s.channel) (made s new kind)) reply.Made)
+        cond_both (nat_lt (2 ^ 63 - 1) (strong_handles kind s.channel)) (replying (spent s new) reply.TooMany) (replying (with_channel (with_strong_handles kind (strong_handles kind s.channel + 1) s.channel) (made s new kind)) reply.Made)
+        (λ (a : Answer T). Deed s a)
         (λ t. stays refl (λ side. refl) refl)
         (λ t. adds new.0 kind refl refl refl)
 
@@ -168,10 +126,9 @@ module _ {T : Type 0} where
     clone_handle new None = stays refl (λ side. refl) refl
 
     weak : (new : HandleId) (kind : HandleKind) → Deed s (replying (made s new (weak_of kind)) reply.Made)
-    weak new Sender = adds new.0 WeakSender refl refl refl
     weak new Receiver = adds new.0 WeakReceiver refl refl refl
-    weak new WeakSender = adds new.0 WeakSender refl refl refl
     weak new WeakReceiver = adds new.0 WeakReceiver refl refl refl
+    weak new kind = adds new.0 WeakSender refl refl refl
 
     downgrade : (new : HandleId) (o : Option Handle) → Deed s (downgrade_answer s new o)
     downgrade new (Some h) = weak new h.kind
@@ -179,8 +136,8 @@ module _ {T : Type 0} where
 
     upgrade : (new : HandleId) (o : Option Handle) → Deed s (upgrade_answer s new o)
     upgrade new (Some h) =
-        either_way (λ (a : Answer T). Deed s a) (s.channel.closed || (strong_handles (strong_of h.kind) s.channel == 0))
-        (replying (spent s new) reply.NotMade) (one_more s new (strong_of h.kind))
+        cond_both (s.channel.closed || (strong_handles (strong_of h.kind) s.channel == 0)) (replying (spent s new) reply.NotMade) (one_more s new (strong_of h.kind))
+        (λ (a : Answer T). Deed s a)
         (λ t. stays refl (λ side. refl) refl) (λ t. more new (strong_of h.kind))
     upgrade new None = stays refl (λ side. refl) refl
 
@@ -196,9 +153,7 @@ module _ {T : Type 0} where
     answered (call.Poll op) = poll op (at op.0 s.names.operations)
     answered (call.PollRefused op) = poll_refused op (at op.0 s.names.operations)
     answered (call.GiveUp op) = give_up op (at op.0 s.names.operations)
-    answered (call.SendIsTerminated op) = stays refl (λ side. refl) refl
     answered (call.PollNext receiver) = poll_next receiver
-    answered (call.StreamIsTerminated receiver) = stays refl (λ side. refl) refl
     answered (call.TrySend sender msg) = try_send msg (space_of s.channel) refl
     answered (call.ForceSend sender msg) = force_send msg (space_of s.channel) refl
     answered (call.TryRecv receiver) = try_recv (found s.channel) refl
@@ -208,103 +163,23 @@ module _ {T : Type 0} where
     answered (call.TryClone handle new) = clone_handle new (at handle.0 s.names.handles)
     answered (call.Downgrade handle new) = downgrade new (at handle.0 s.names.handles)
     answered (call.Upgrade weak new) = upgrade new (at weak.0 s.names.handles)
-    answered (call.SameChannel a b) = stays refl (λ side. refl) refl
-    answered (call.IsClosed handle) = stays refl (λ side. refl) refl
-    answered (call.IsEmpty handle) = stays refl (λ side. refl) refl
-    answered (call.IsFull handle) = stays refl (λ side. refl) refl
-    answered (call.Len handle) = stays refl (λ side. refl) refl
-    answered (call.Capacity handle) = stays refl (λ side. refl) refl
-    answered (call.SenderCount handle) = stays refl (λ side. refl) refl
-    answered (call.ReceiverCount handle) = stays refl (λ side. refl) refl
+    answered c = stays refl (λ side. refl) refl
 
     -- ---- a call whose one growth is refused
 
-    -- whatever may be answered
-    AllStay : Option (Answer T) → Type 0
-    AllStay o = (a : Answer T) → o ≡ Some a → Deed s a
-
-    none_stays : AllStay None
-    unfolding AllStay
-    none_stays a e = cc e
-
-    one_stays : (x : Answer T) → Deed s x → AllStay (Some x)
-    unfolding AllStay
-    one_stays x d a e = let same : x ≡ a = cc e in subst (λ (y : Answer T). Deed s y) same d
-
-    either_stays : (b : Bool) (x y : Option (Answer T)) → AllStay x → AllStay y → AllStay (if b then x else y)
-    either_stays true x y f g = f
-    either_stays false x y f g = g
-
-    out_of_line : (own : Line) (w : Waiter) (r : Reply T) → says_closed r ≡ false → AllStay (not_standing own w s r)
-    out_of_line own w r e =
-        either_stays (is_among w (untold own s.waiting)) None (Some (replying (with_waiting (gone w s.waiting) s) r)) none_stays
-        (one_stays (replying (with_waiting (gone w s.waiting) s) r) (stays refl (λ side. refl) e))
-
-    no_room : (lack : Lack) (x : Space) (a : Answer T) → Deed s a → AllStay (not_held lack s.channel x a)
-    no_room memory Open a d = either_stays (is_none s.channel.capacity) (Some a) None (one_stays a d) none_stays
-    no_room memory Filled a d = none_stays
-    no_room memory Shut a d = none_stays
-    no_room serials x a d = none_stays
-
-    send_unpolled : (lack : Lack) (op : OpId) (x : Space) → AllStay (send_not_polled lack s op x)
-    send_unpolled lack op Open = no_room lack Open (after_leaving Nothing Sends (Op op) s (reply.SendPoll (Ready (Err (refused lack))))) (stays refl (λ side. refl) refl)
-    send_unpolled lack op Filled = out_of_line Sends (Op op) (reply.SendPoll (Ready (Err (refused lack)))) refl
-    send_unpolled lack op Shut = none_stays
-
-    recv_unpolled : (lack : Lack) (op : OpId) (x : Found T) → AllStay (recv_not_polled lack s op x)
-    recv_unpolled lack op (first m rest) = none_stays
-    recv_unpolled lack op none_yet = out_of_line Receives (Op op) (reply.RecvPoll (Ready (Err (refused lack)))) refl
-    recv_unpolled lack op none_ever = none_stays
-
-    unpolled : (lack : Lack) (op : OpId) (o : Option (ModelOperation T)) → AllStay (not_polled lack s op o)
-    unpolled lack op (Some (send handle (Some m))) = send_unpolled lack op (space_of s.channel)
-    unpolled lack op (Some (send handle None)) = none_stays
-    unpolled lack op (Some (recv handle)) = recv_unpolled lack op (found s.channel)
-    unpolled lack op (Some (closing handle)) =
-        either_stays s.channel.closed None (not_standing Closings (Op op) s (reply.ClosedPoll (Ready (Err (not_listening lack))))) none_stays
-        (out_of_line Closings (Op op) (reply.ClosedPoll (Ready (Err (not_listening lack)))) refl)
-    unpolled lack op None = none_stays
-
-    next_unpolled : (lack : Lack) (receiver : HandleId) (x : Found T) → AllStay (next_not_polled lack s (Stream receiver) x)
-    next_unpolled lack receiver (first m rest) = none_stays
-    next_unpolled lack receiver none_yet = out_of_line Streams (Stream receiver) (reply.Next (Ready (Some (Err (not_listening lack))))) refl
-    next_unpolled lack receiver none_ever = none_stays
-
-    unreceived : (lack : Lack) (limit : ℕ) → AllStay (not_received lack s limit)
-    unreceived memory zero = none_stays
-    unreceived memory (suc n) = one_stays (replying s (reply.RecvMany (Err (NoMemory tt)))) (stays refl (λ side. refl) refl)
-    unreceived serials n = none_stays
-
-    unanswered : (lack : Lack) (c : Call T) → AllStay (answer_without lack s c)
-    unanswered lack (call.TrySend sender msg) = no_room lack (space_of s.channel) (replying s (reply.TrySend (Err (NoMemory msg)))) (stays refl (λ side. refl) refl)
-    unanswered lack (call.ForceSend sender msg) = no_room lack (space_of s.channel) (replying s (reply.ForceSend (Err (NoMemory msg)))) (stays refl (λ side. refl) refl)
-    unanswered lack (call.Poll op) = unpolled lack op (at op.0 s.names.operations)
-    unanswered lack (call.PollNext receiver) = next_unpolled lack receiver (found s.channel)
-    unanswered lack (call.NewSend op sender msg) = none_stays
-    unanswered lack (call.NewRecv op receiver) = none_stays
-    unanswered lack (call.NewClosed op sender) = none_stays
-    unanswered lack (call.PollRefused op) = none_stays
-    unanswered lack (call.GiveUp op) = none_stays
-    unanswered lack (call.SendIsTerminated op) = none_stays
-    unanswered lack (call.StreamIsTerminated receiver) = none_stays
-    unanswered lack (call.TryRecv receiver) = none_stays
-    unanswered lack (call.RecvMany receiver limit) = unreceived lack limit
-    unanswered lack (call.Close handle) = none_stays
-    unanswered lack (call.Drop handle) = none_stays
-    unanswered lack (call.TryClone handle new) = none_stays
-    unanswered lack (call.Downgrade handle new) = none_stays
-    unanswered lack (call.Upgrade weak new) = none_stays
-    unanswered lack (call.SameChannel a b) = none_stays
-    unanswered lack (call.IsClosed handle) = none_stays
-    unanswered lack (call.IsEmpty handle) = none_stays
-    unanswered lack (call.IsFull handle) = none_stays
-    unanswered lack (call.Len handle) = none_stays
-    unanswered lack (call.Capacity handle) = none_stays
-    unanswered lack (call.SenderCount handle) = none_stays
-    unanswered lack (call.ReceiverCount handle) = none_stays
+    lacks : Lacking s (λ c a. Deed s a)
+    lacks = record {
+      try_send = λ sender m. stays refl (λ side. refl) refl;
+      force_send = λ sender m. stays refl (λ side. refl) refl;
+      recv_many = λ receiver limit. stays refl (λ side. refl) refl;
+      leaves = λ op handle m there. stays refl (λ side. refl) refl;
+      send_out = λ lack op handle m there full. stays refl (λ side. refl) refl;
+      recv_out = λ lack op handle there none. stays refl (λ side. refl) refl;
+      closing_out = λ lack op handle there. stays refl (λ side. refl) refl;
+      next_out = λ lack receiver none. stays refl (λ side. refl) refl;
+    }
 
     -- an accepted call, however it is answered
     pub deed_of : (c : Call T) (a : Answer T) → Answers s c a → Deed s a
-    unfolding AllStay
     deed_of c a (inl e) = subst (λ (x : Answer T). Deed s x) (sym e) (answered c)
-    deed_of c a (inr (lack, e)) = unanswered lack c a e
+    deed_of c a (inr (lack, e)) = lacking s (λ c a. Deed s a) lacks lack c a e

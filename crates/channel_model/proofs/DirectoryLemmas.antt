@@ -1,12 +1,8 @@
 -- What stands under names in the kit's list of recent use.
-use Rattle.std.proofs.Common.{arith, ◌≡◌, ℕ, ◌-◌, ◌^◌, ◌<◌, ◌≤◌, nat_eq, List, [], ◌∷◌, map, length, true, false, Option, None, Some, is_some, refl, sym, ap, ◌∙◌, inl, inr}
-use Rattle.std.specs.Prelude.{IfNone}
-use Rattle.std.specs.Map.{lookup, lookup_entry, set_value}
-use Rattle.std.proofs.lemmas.List.{take_all}
+use Rattle.channel_model.proofs.Words.{arith, ◌≡◌, ℕ, ◌-◌, ◌^◌, ◌<◌, ◌≤◌, nat_eq, List, [], ◌∷◌, map, length, true, false, Option, None, Some, is_some, refl, sym, ap, ◌∙◌, inl, inr, IfNone, lookup, lookup_entry, set_value, take_all, option_map, option_map_or, Directory, at, is_taken, without_name}
+use Rattle.std.proofs.lemmas.Map.Made.{lookup-map_values}
 use Rattle.std.proofs.lemmas.Option.{slice_get_past}
 use Rattle.lru.specs.LruCache.{LruCache, put_entries, displaced}
-use Rattle.std.specs.Option.{option_map, option_map_or}
-use Rattle.channel_model.specs.Names.{Directory, at, is_taken, without_name}
 use Rattle.channel_model.proofs.WaiterLemmas.{decided}
 
 module _ {X : Type 0} (name : ℕ) where
@@ -67,24 +63,14 @@ left_alone name old (Some x) new e f = tt
 -- ---- directories seen by what lives in them
 
 module _ {X Y : Type 0} (f : X → Y) (name : ℕ) where
-  abbrev pub seen : Directory X → Directory Y
-  seen es = map (λ e. (e.0, option_map f e.1)) es
-
-  pub lookup_seen : (es : Directory X) → lookup (nat_eq name) (seen es) ≡ option_map (option_map f) (lookup (nat_eq name) es)
-  lookup_seen [] = refl
-  lookup_seen (e ∷ es) = elim (decided (nat_eq name e.0)) [
-    | inl t ↦ rw t refl
-    | inr t ↦ rw t (lookup_seen es)
-  ]
-
   pub at_seen : (es : Directory X) → at name (map (λ e. (e.0, option_map f e.1)) es) ≡ option_map f (at name es)
-  at_seen es = ap (λ (o : Option (Option Y)). option_map_or (λ (x : Option Y). x) o None) (lookup_seen es) ∙ flat (lookup (nat_eq name) es) where
+  at_seen es = ap (λ (o : Option (Option Y)). option_map_or (λ (x : Option Y). x) o None) (lookup-map_values (option_map f) (nat_eq name) es) ∙ flat (lookup (nat_eq name) es) where
     flat : (o : Option (Option X)) → option_map_or (λ (x : Option Y). x) (option_map (option_map f) o) None ≡ option_map f (option_map_or (λ (x : Option X). x) o None)
     flat None = refl
     flat (Some o) = refl
 
   pub taken_seen : (es : Directory X) → is_taken name (map (λ e. (e.0, option_map f e.1)) es) ≡ is_taken name es
-  taken_seen es = ap (λ (o : Option (Option Y)). is_some o) (lookup_seen es) ∙ same (lookup (nat_eq name) es) where
+  taken_seen es = ap (λ (o : Option (Option Y)). is_some o) (lookup-map_values (option_map f) (nat_eq name) es) ∙ same (lookup (nat_eq name) es) where
     same : (o : Option (Option X)) → is_some (option_map (option_map f) o) ≡ is_some o
     same None = refl
     same (Some o) = refl

@@ -1,25 +1,7 @@
 -- That counts count handles, and what an upgrade gives.
-use Rattle.std.proofs.Common.{arith, ◌≡◌, ◌⊎◌, ◌≤◌, ◌<◌, ◌+◌, ◌-◌, ◌^◌, ◌==◌, ℕ, zero, suc, nat_lt, List, [], ◌∷◌, Bool, true, false, ◌&&◌, ◌||◌, not, cond, if◌then◌else◌, Option, None, Some, is_some, refl, sym, ap, subst, ◌∙◌, inl, inr}
-use Rattle.std.proofs.lemmas.Bool.Decides.{nat_tests}
-use Rattle.std.specs.List.{list_all}
-use Rattle.channel_model.specs.Answer.{Answer, replying, strong_handles, strong_of, with_strong_handles, without_one, shut, spent, upgrade_answer, upgrade_to, one_more}
-use Rattle.channel_model.specs.Channel.{ModelChannel}
-use Rattle.channel_model.specs.Handles.{HandlesAreCounted, UpgradesAsOpen, live_of}
-use Rattle.channel_model.specs.Names.{Directory, at, with_new, without_name}
-use Rattle.channel_model.specs.Refusal.{are_alike, is_live, uses, are_fit, takes_borrowed, names_taken}
-use Rattle.channel_model.specs.Run.{MayBeDone, Runs}
-use Rattle.channel_model.specs.State.{State, start}
-use Rattle.channel_model.specs.declared.call.Call.{Call}
+use Rattle.channel_model.proofs.Words.{and_parts, arith, ◌≡◌, ◌⊎◌, ◌≤◌, ◌<◌, ◌+◌, ◌-◌, ◌^◌, ◌==◌, ℕ, zero, suc, nat_lt, List, [], ◌∷◌, Bool, true, false, ◌||◌, not, cond, if◌then◌else◌, Option, None, Some, is_some, refl, sym, ap, subst, ◌∙◌, inl, inr, nat_tests, list_all, Answer, replying, strong_handles, strong_of, with_strong_handles, without_one, shut, spent, upgrade_answer, upgrade_to, one_more, ModelChannel, HandlesAreCounted, UpgradesAsOpen, live_of, Directory, at, with_new, without_name, are_alike, is_live, uses, are_fit, takes_borrowed, names_taken, MayBeDone, Runs, State, start, Call, Reply, Handle, HandleId, HandleKind, Sender, Receiver, WeakSender, WeakReceiver, WorldRefusal, UnknownName, WrongKind, Borrowed, NameTaken, Done}
 use Rattle.channel_model.specs.declared.call.Call.TheVariants as call
-use Rattle.channel_calls.specs.declared.reply.Reply.{Reply}
 use Rattle.channel_calls.specs.declared.reply.Reply.TheVariants as reply
-use Rattle.channel_model.specs.declared.name.Handle.{Handle}
-use Rattle.channel_model.specs.declared.name.HandleId.{HandleId}
-use Rattle.channel_model.specs.declared.name.HandleKind.{HandleKind}
-use Rattle.channel_model.specs.declared.name.HandleKind.TheVariants.{Sender, Receiver, WeakSender, WeakReceiver}
-use Rattle.channel_model.specs.declared.refusal.WorldRefusal.{WorldRefusal}
-use Rattle.channel_model.specs.declared.refusal.WorldRefusal.TheVariants.{UnknownName, WrongKind, Borrowed, NameTaken}
-use Rattle.channel_model.specs.declared.run.Done.{Done}
 use Rattle.channel_model.proofs.Deeds.{Deed, stays, grows, holds, shuts, adds, drops, deed_of}
 use Rattle.channel_model.proofs.Live.{gone_less}
 use Rattle.channel_model.proofs.WaiterLemmas.{decided}
@@ -33,12 +15,17 @@ first_reason : {A : Type 0} (b : Bool) (x : A) (o : Option A) → (if not b then
 first_reason true x o e = refl
 first_reason false x o e = cc e
 
-both_true : (b c : Bool) → (b && c) ≡ true → b ≡ true
-both_true true c e = refl
-both_true false c e = cc e
-
 never_none : (n : ℕ) → 1 ≤ n → (n == 0) ≡ false
 never_none n h = grind (arith, nat_tests)
+
+-- no weak handle is of a side
+no_sender : (side : HandleKind) → are_alike side WeakSender ≡ false
+no_sender Sender = refl
+no_sender side = refl
+
+no_receiver : (side : HandleKind) → are_alike side WeakReceiver ≡ false
+no_receiver Sender = refl
+no_receiver side = refl
 
 module _ {T : Type 0} where
   module _ (c : ModelChannel T) (d : Directory Handle) (counted : HandlesAreCounted c d) where
@@ -65,18 +52,8 @@ module _ {T : Type 0} where
       sending = counted.sending;
       receiving = λ h. omega arith;
     }
-    one_added name WeakSender = as_before c (with_new name (record { kind = WeakSender; borrowers = 0 }) d) refl refl (λ h. h) (λ side. weak_too side) where
-      weak_too : (side : HandleKind) → live_of side (with_new name (record { kind = WeakSender; borrowers = 0 }) d) ≡ live_of side d
-      weak_too Sender = refl
-      weak_too Receiver = refl
-      weak_too WeakSender = refl
-      weak_too WeakReceiver = refl
-    one_added name WeakReceiver = as_before c (with_new name (record { kind = WeakReceiver; borrowers = 0 }) d) refl refl (λ h. h) (λ side. weak_too side) where
-      weak_too : (side : HandleKind) → live_of side (with_new name (record { kind = WeakReceiver; borrowers = 0 }) d) ≡ live_of side d
-      weak_too Sender = refl
-      weak_too Receiver = refl
-      weak_too WeakSender = refl
-      weak_too WeakReceiver = refl
+    one_added name WeakSender = as_before c (with_new name (record { kind = WeakSender; borrowers = 0 }) d) refl refl (λ h. h) (λ side. rw (no_sender side) refl)
+    one_added name WeakReceiver = as_before c (with_new name (record { kind = WeakReceiver; borrowers = 0 }) d) refl refl (λ h. h) (λ side. rw (no_receiver side) refl)
 
     -- the last of a side closes the channel
     sender_dropped : (e : Directory Handle) → live_of Sender d ≡ live_of Sender e + 1 → live_of Receiver d ≡ live_of Receiver e + 0
@@ -119,18 +96,6 @@ module _ {T : Type 0} where
       weak_too k off l side =
           let now : live_of side d ≡ live_of side (without_name name d) + 0 = subst (λ (b : Bool). live_of side d ≡ live_of side (without_name name d) + cond b 1 0) (off side) (l side) in
           omega (arith, now)
-
-      no_sender : (side : HandleKind) → are_alike side WeakSender ≡ false
-      no_sender Sender = refl
-      no_sender Receiver = refl
-      no_sender WeakSender = refl
-      no_sender WeakReceiver = refl
-
-      no_receiver : (side : HandleKind) → are_alike side WeakReceiver ≡ false
-      no_receiver Sender = refl
-      no_receiver Receiver = refl
-      no_receiver WeakSender = refl
-      no_receiver WeakReceiver = refl
 
       of : (k : HandleKind) → ((side : HandleKind) → live_of side d ≡ live_of side (without_name name d) + cond (are_alike side k) 1 0) → HandlesAreCounted (without_one k c) (without_name name d)
       of Sender l = sender_dropped (without_name name d) (l Sender) (l Receiver) (c.senders == 1) refl
@@ -176,10 +141,9 @@ module _ {T : Type 0} where
   -- ---- upgrades
 
   strong_lives : (s : State T) → HandlesAreCounted s.channel s.names.handles → s.channel.closed ≡ false → (kind : HandleKind) → (strong_handles (strong_of kind) s.channel == 0) ≡ false
-  strong_lives s k o Sender = never_none s.channel.senders (k.sending o)
   strong_lives s k o Receiver = never_none s.channel.receivers (k.receiving o)
-  strong_lives s k o WeakSender = never_none s.channel.senders (k.sending o)
   strong_lives s k o WeakReceiver = never_none s.channel.receivers (k.receiving o)
+  strong_lives s k o kind = never_none s.channel.senders (k.sending o)
 
   -- one more handle is made, or there are too many
   one_more_says : (s : State T) (new : HandleId) (kind : HandleKind)
@@ -216,7 +180,7 @@ module _ {T : Type 0} where
         found None there =
             let c : Call T = call.Upgrade weak new in
             let lives : is_some (at weak.0 world.names.handles) ≡ true =
-            both_true (is_some (at weak.0 world.names.handles)) true
+            (and_parts (is_some (at weak.0 world.names.handles)) true
             (first_reason (list_all (is_live world.names) (uses c)) UnknownName
-            (if not (are_fit world.names c) then Some WrongKind else (if takes_borrowed world.names c then Some Borrowed else (if names_taken world.names c then Some NameTaken else None))) ok) in
+            (if not (are_fit world.names c) then Some WrongKind else (if takes_borrowed world.names c then Some Borrowed else (if names_taken world.names c then Some NameTaken else None))) ok)).0 in
             absurd (cc (lives, there))

@@ -1,11 +1,5 @@
 -- What a layer above may use: nobody is asleep at the start, and no call that is begun leaves anybody asleep.
-use Rattle.std.proofs.Common.{◌≡◌, ℕ, Option, None}
-use Rattle.channel_model.specs.Answer.{Answer}
-use Rattle.channel_model.specs.Awake.{AwakeIn}
-use Rattle.channel_model.specs.Refusal.{refusal}
-use Rattle.channel_model.specs.Refused.{Answers}
-use Rattle.channel_model.specs.State.{State, start}
-use Rattle.channel_model.specs.declared.call.Call.{Call}
+use Rattle.channel_model.proofs.Words.{◌≡◌, ℕ, Option, None, Answer, AwakeIn, refusal, Answers, State, start, Call}
 use Rattle.channel_model.proofs.LawSteps.{opened_kept, still_awake}
 
 pub start_awake : (T : Type 0) (capacity : Option ℕ) → AwakeIn (start {T = T} capacity)

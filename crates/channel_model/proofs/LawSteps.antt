@@ -1,52 +1,13 @@
 -- Each call, one at a time, keeps the accounts of messages and leaves nobody asleep.
-use Rattle.std.proofs.lemmas.List.{take-append-drop}
-use Rattle.std.proofs.Common.{zero, suc, take, drop, arith, ◌≡◌, ◌⊎◌, ◌≤◌, ◌+◌, ◌-◌, ◌^◌, ◌==◌, ℕ, nat_eq, nat_lt, List, [], ◌∷◌, ◌++◌, length, Bool, true, false, ◌||◌, ◌&&◌, not, cond, if◌then◌else◌, Option, None, Some, IsSome, is_some, is_none, Ok, Err, refl, sym, ap, subst, ◌∙◌, inl, inr, append-nil, append_assoc, length-append}
-use Rattle.std.proofs.lemmas.Cmp.{nat_eq_equiv}
-use Rattle.std.specs.List.{list_all}
-use Rattle.std.specs.Option.{option_map_or, option_to_list}
-use Rattle.std.specs.Map.{lookup, set_value}
+use Rattle.channel_model.proofs.Words.{cond_both, take-append-drop, zero, suc, take, drop, arith, ◌≡◌, ◌⊎◌, ◌≤◌, ◌+◌, ◌-◌, ◌^◌, ◌==◌, ℕ, nat_eq, nat_lt, List, [], ◌∷◌, ◌++◌, length, Bool, true, false, ◌||◌, ◌&&◌, not, if◌then◌else◌, Option, None, Some, IsSome, is_some, Ok, Err, refl, sym, ap, subst, ◌∙◌, inl, inr, append-nil, append_assoc, length-append, nat_eq_equiv, list_all, option_map_or, option_to_list, lookup, set_value, ModelChannel, is_full, Names, Directory, ModelOperation, send, recv, closing, at, is_taken, with_new_operation, with_operation_changed, without_operation, Waiting, nobody, is_among, untold, after_news, gone, left_after, standing, State, start, with_channel, with_names, with_waiting, Call, Reply, Answer, replying, after_telling, after_leaving, pending, space_of, Found, first, none_yet, none_ever, found_in, found, try_send_answer, force_send_answer, displacing, send_poll_answer, try_recv_answer, recv_many_answer, recv_poll_answer, next_answer, poll_next_answer, close_answer, shut, closed_poll_answer, poll_answer, poll_refused_answer, give_up_answer, given_up, new_answer, drop_one, dropped, drop_answer, made, spent, weak_of, clone_answer, downgrade_answer, upgrade_answer, one_more, strong_of, strong_handles, with_strong_handles, news_without_one, answer, memory, refused, not_listening, Answers, refusal, is_live, uses, are_fit, takes_borrowed, names_taken, removed_by, brought_by_call, sends_after, removed, accepted, line_of_operation, line_at, free_places, NobodyIsLeft, Awake, AwakeIn, times_in, Runs, poll_of, Done, WorldRefusal, Line, Sends, Receives, Streams, Closings, Nothing, Message, Room, Closing, Space, Open, Filled, Shut, Waiter, Op, Stream, OpId, HandleId, HandleKind, Sender, Receiver, WeakSender, WeakReceiver, Handle, UnknownName, WrongKind, Borrowed, NameTaken, NoMemory, Ready, Pending}
 use Rattle.std.proofs.lemmas.Map.{lookup-set_value}
-use Rattle.channel_model.specs.Channel.{ModelChannel, is_full}
-use Rattle.channel_model.specs.Names.{Names, Directory, ModelOperation, send, recv, closing, at, is_taken, with_new_operation, with_operation_changed, without_operation}
-use Rattle.channel_model.specs.Lines.{Waiting, nobody, is_among, untold, after_news, gone, left_after, standing}
-use Rattle.channel_model.specs.State.{State, start, with_channel, with_names, with_waiting}
-use Rattle.channel_model.specs.declared.call.Call.{Call}
+pub use Rattle.std.proofs.lemmas.Bool.{cond-false as chosen_no, cond-true as chosen_yes}
 use Rattle.channel_model.specs.declared.call.Call.TheVariants as call
-use Rattle.channel_calls.specs.declared.reply.Reply.{Reply}
 use Rattle.channel_calls.specs.declared.reply.Reply.TheVariants as reply
-use Rattle.channel_model.specs.Answer.{Answer, replying, after_telling, after_leaving, pending, space_of, Found, first, none_yet, none_ever, found_in, found, try_send_answer, force_send_answer, displacing, send_poll_answer, try_recv_answer, recv_many_answer, recv_poll_answer, next_answer, poll_next_answer, close_answer, shut, closed_poll_answer, poll_answer, poll_refused_answer, give_up_answer, given_up, new_answer, drop_one, dropped, drop_answer, made, spent, weak_of, clone_answer, downgrade_answer, upgrade_answer, one_more, strong_of, strong_handles, with_strong_handles, news_without_one, answer}
-use Rattle.channel_model.specs.Refused.{Lack, memory, serials, refused, not_listening, not_standing, not_held, send_not_polled, recv_not_polled, not_polled, next_not_polled, not_received, answer_without, Answers}
-use Rattle.channel_model.specs.Refusal.{refusal, is_live, uses, are_fit, takes_borrowed, names_taken}
-use Rattle.channel_model.specs.Laws.{removed_by, brought_by_call, sends_after, removed, accepted, line_of_operation, line_at, free_places, NobodyIsLeft}
-use Rattle.channel_model.specs.Awake.{Awake, AwakeIn, times_in}
-use Rattle.channel_model.specs.Run.{Runs}
-use Rattle.channel_model.specs.Settling.{poll_of}
-use Rattle.channel_model.specs.declared.run.Done.{Done}
-use Rattle.channel_model.specs.declared.refusal.WorldRefusal.{WorldRefusal}
-use Rattle.channel_calls.specs.declared.stage.Line.{Line}
-use Rattle.channel_calls.specs.declared.stage.Line.TheVariants.{Sends, Receives, Streams, Closings}
-use Rattle.channel_model.specs.declared.news.News.TheVariants.{Nothing, Message, Room, Closing}
-use Rattle.channel_model.specs.declared.space.Space.{Space}
-use Rattle.channel_model.specs.declared.space.Space.TheVariants.{Open, Filled, Shut}
-use Rattle.channel_model.specs.declared.name.Waiter.{Waiter}
-use Rattle.channel_model.specs.declared.name.Waiter.TheVariants.{Op, Stream}
-use Rattle.channel_model.specs.declared.name.OpId.{OpId}
-use Rattle.channel_model.specs.declared.name.HandleId.{HandleId}
-use Rattle.channel_model.specs.declared.name.HandleKind.{HandleKind}
-use Rattle.channel_model.specs.declared.name.HandleKind.TheVariants.{Sender, Receiver, WeakSender, WeakReceiver}
-use Rattle.channel_model.specs.declared.name.Handle.{Handle}
-use Rattle.channel_model.specs.declared.refusal.WorldRefusal.TheVariants.{UnknownName, WrongKind, Borrowed, NameTaken}
-use Rattle.channel_calls.specs.declared.error.Refused.TheVariants.{NoMemory}
 use Rattle.event_listener.specs.declared.error.ListenError.TheVariants as listen
-use Rattle.futures.specs.declared.task.Poll.TheVariants.{Ready, Pending}
+use Rattle.channel_model.proofs.Lacking.{Lacking, lacking, out, found_first}
 use Rattle.channel_model.proofs.WaiterLemmas.{decided, same_number}
 use Rattle.channel_model.proofs.Awake.{awake_leave, awake_leave_spent, awake_nothing, awake_message, awake_room, awake_rooms, awake_closing, awake_gone, awake_without_stream, awake_standing, Idle, awake_renamed, stands, left_nowhere}
-
-pub chosen_no : {A : Type 0} (b : Bool) (x y : A) → b ≡ false → cond b x y ≡ y
-chosen_no b x y e = rw e refl
-
-chosen_yes : {A : Type 0} (b : Bool) (x y : A) → b ≡ true → cond b x y ≡ x
-chosen_yes b x y e = rw e refl
 
 no_line : {A : Type 0} (o : Option Line) → IsSome o → o ≡ None → A
 no_line None h e = cc h
@@ -131,11 +92,6 @@ module _ {T : Type 0} where
 
   -- ---- what a call finds
 
-  found_first : (ms : List T) (closed : Bool) (m : T) (rest : List T) → found_in ms closed ≡ first m rest → ms ≡ m ∷ rest
-  found_first [] true m rest e = cc e
-  found_first [] false m rest e = cc e
-  found_first (x ∷ xs) closed m rest e = cc e
-
   found_yet : (ms : List T) (closed : Bool) → found_in ms closed ≡ none_yet → (ms ≡ []) × (closed ≡ false)
   found_yet [] true e = cc e
   found_yet [] false e = (refl, refl)
@@ -154,11 +110,6 @@ module _ {T : Type 0} where
   one_longer ms m = length-append ms (m ∷ [])
 
   -- ---- answers
-
-  -- one of two answers
-  either_way : (P : Answer T → Type 0) (b : Bool) (x y : Answer T) → (b ≡ true → P x) → (b ≡ false → P y) → P (if b then x else y)
-  either_way P true x y so not_so = so refl
-  either_way P false x y so not_so = not_so refl
 
   pub untaken : (n : ℕ) (d : Directory (ModelOperation T)) → is_taken n d ≡ false → at n d ≡ None
   untaken n d e = none (lookup (nat_eq n) d) e where
@@ -267,7 +218,7 @@ module _ {T : Type 0} where
 
     send_poll : (op : OpId) (handle : HandleId) (m : T) (x : Space) → at op.0 s.names.operations ≡ Some (send handle (Some m)) → space_of s.channel ≡ x → Good sends s (call.Poll op) (send_poll_answer s op handle m x)
     send_poll op handle m Open there e =
-        let own : line_at s.names (Op op) ≡ Some Sends = ap (λ (o : Option (ModelOperation T)). line_of_operation o) there in
+        let own : line_at s.names (Op op) ≡ Some Sends = ap line_of_operation there in
         record {
           awake = awake_changed op (Some (send handle None)) (send handle (Some m)) s.names (with_operation_changed op (send handle None) s.names) s.channel.capacity s.channel.closed (length (s.channel.messages ++ m ∷ [])) (left_after Message Sends (Op op) s.waiting)
               there refl (left_nowhere Sends (Op op) (after_news Message s.waiting))
@@ -276,13 +227,13 @@ module _ {T : Type 0} where
           keeps = keeps_changed op (Some (send handle None)) (send handle (Some m)) sends s.names (with_operation_changed op (send handle None) s.names) (λ h v q. cc q) there refl keeps;
         }
     send_poll op handle m Filled there e =
-        let own : line_at s.names (Op op) ≡ Some Sends = ap (λ (o : Option (ModelOperation T)). line_of_operation o) there in
+        let own : line_at s.names (Op op) ≡ Some Sends = ap line_of_operation there in
         let filled = space_filled s.channel e in
         good (call.Poll op) (send_poll_answer s op handle m Filled)
         (awake_pending Sends (Op op) (send_poll_answer s op handle m Filled).reply own filled.0 (full_idle s.channel.capacity (length s.channel.messages) filled.1))
         (nothing_moved (call.Poll op) (send_poll_answer s op handle m Filled).reply refl refl) refl refl
     send_poll op handle m Shut there e =
-        let own : line_at s.names (Op op) ≡ Some Sends = ap (λ (o : Option (ModelOperation T)). line_of_operation o) there in
+        let own : line_at s.names (Op op) ≡ Some Sends = ap line_of_operation there in
         record {
           awake = awake_changed op (Some (send handle None)) (send handle (Some m)) s.names (with_operation_changed op (send handle None) s.names) s.channel.capacity s.channel.closed (length s.channel.messages) (left_after Nothing Sends (Op op) s.waiting)
               there refl (left_nowhere Sends (Op op) (after_news Nothing s.waiting)) (awake_left Sends (Op op) own);
@@ -292,26 +243,26 @@ module _ {T : Type 0} where
 
     recv_poll : (op : OpId) (handle : HandleId) (x : Found T) → at op.0 s.names.operations ≡ Some (recv handle) → found s.channel ≡ x → Good sends s (call.Poll op) (recv_poll_answer s op x)
     recv_poll op handle (first m rest) there e =
-        let own : line_at s.names (Op op) ≡ Some Receives = ap (λ (o : Option (ModelOperation T)). line_of_operation o) there in
+        let own : line_at s.names (Op op) ≡ Some Receives = ap line_of_operation there in
         let is_first = found_first s.channel.messages s.channel.closed m rest e in
         good (call.Poll op) (recv_poll_answer s op (first m rest))
         (awake_leave (line_at s.names) s.channel.capacity s.channel.closed (length rest) Receives (Op op) (after_news Room s.waiting) own (awake_less m rest is_first))
         (taken m rest is_first) refl refl
     recv_poll op handle none_yet there e =
-        let own : line_at s.names (Op op) ≡ Some Receives = ap (λ (o : Option (ModelOperation T)). line_of_operation o) there in
+        let own : line_at s.names (Op op) ≡ Some Receives = ap line_of_operation there in
         let yet = found_yet s.channel.messages s.channel.closed e in
         good (call.Poll op) (recv_poll_answer s op none_yet) (awake_pending Receives (Op op) (recv_poll_answer s op none_yet).reply own yet.1 (no_message yet.0))
         (nothing_moved (call.Poll op) (recv_poll_answer s op none_yet).reply refl refl) refl refl
     recv_poll op handle none_ever there e =
-        let own : line_at s.names (Op op) ≡ Some Receives = ap (λ (o : Option (ModelOperation T)). line_of_operation o) there in
+        let own : line_at s.names (Op op) ≡ Some Receives = ap line_of_operation there in
         good (call.Poll op) (recv_poll_answer s op none_ever) (awake_left Receives (Op op) own)
         (nothing_moved (call.Poll op) (recv_poll_answer s op none_ever).reply refl refl) refl refl
 
     closed_poll : (op : OpId) (handle : HandleId) → at op.0 s.names.operations ≡ Some (closing handle) → Good sends s (call.Poll op) (closed_poll_answer s op)
     closed_poll op handle there =
-        let own : line_at s.names (Op op) ≡ Some Closings = ap (λ (o : Option (ModelOperation T)). line_of_operation o) there in
-        either_way (λ (a : Answer T). Good sends s (call.Poll op) a) s.channel.closed
-        (after_leaving Nothing Closings (Op op) s (reply.ClosedPoll (Ready (Ok tt)))) (pending Closings (Op op) s (reply.ClosedPoll Pending))
+        let own : line_at s.names (Op op) ≡ Some Closings = ap line_of_operation there in
+        cond_both s.channel.closed (after_leaving Nothing Closings (Op op) s (reply.ClosedPoll (Ready (Ok tt)))) (pending Closings (Op op) s (reply.ClosedPoll Pending))
+        (λ (a : Answer T). Good sends s (call.Poll op) a)
         (λ t. good (call.Poll op) (after_leaving Nothing Closings (Op op) s (reply.ClosedPoll (Ready (Ok tt)))) (awake_left Closings (Op op) own) (nothing_moved (call.Poll op) (reply.ClosedPoll (Ready (Ok tt))) refl refl) refl refl)
         (λ t. good (call.Poll op) (pending Closings (Op op) s (reply.ClosedPoll Pending)) (awake_pending Closings (Op op) (reply.ClosedPoll Pending) own t tt) (nothing_moved (call.Poll op) (reply.ClosedPoll Pending) refl refl) refl refl)
 
@@ -329,10 +280,10 @@ module _ {T : Type 0} where
     refused_poll op own r (inr e) f g = good (call.PollRefused op) (after_leaving Nothing own (Op op) s r) (awake_left_spent own (Op op) e) (nothing_moved (call.PollRefused op) r f g) refl refl
 
     poll_refused : (op : OpId) (o : Option (ModelOperation T)) → at op.0 s.names.operations ≡ o → Good sends s (call.PollRefused op) (poll_refused_answer s op o)
-    poll_refused op (Some (send handle (Some m))) there = refused_poll op Sends (reply.SendPoll (Ready (Err (NoMemory tt)))) (inl (ap (λ (o : Option (ModelOperation T)). line_of_operation o) there)) refl refl
-    poll_refused op (Some (send handle None)) there = refused_poll op Sends (reply.SendPoll (Ready (Err (NoMemory tt)))) (inr (ap (λ (o : Option (ModelOperation T)). line_of_operation o) there)) refl refl
-    poll_refused op (Some (recv handle)) there = refused_poll op Receives (reply.RecvPoll (Ready (Err (NoMemory tt)))) (inl (ap (λ (o : Option (ModelOperation T)). line_of_operation o) there)) refl refl
-    poll_refused op (Some (closing handle)) there = refused_poll op Closings (reply.ClosedPoll (Ready (Err listen.NoMemory))) (inl (ap (λ (o : Option (ModelOperation T)). line_of_operation o) there)) refl refl
+    poll_refused op (Some (send handle (Some m))) there = refused_poll op Sends (reply.SendPoll (Ready (Err (NoMemory tt)))) (inl (ap line_of_operation there)) refl refl
+    poll_refused op (Some (send handle None)) there = refused_poll op Sends (reply.SendPoll (Ready (Err (NoMemory tt)))) (inr (ap line_of_operation there)) refl refl
+    poll_refused op (Some (recv handle)) there = refused_poll op Receives (reply.RecvPoll (Ready (Err (NoMemory tt)))) (inl (ap line_of_operation there)) refl refl
+    poll_refused op (Some (closing handle)) there = refused_poll op Closings (reply.ClosedPoll (Ready (Err listen.NoMemory))) (inl (ap line_of_operation there)) refl refl
     poll_refused op None there = stay (call.PollRefused op) reply.Unit refl refl refl
 
     given : (op : OpId) (x : ModelOperation T) (own : Line) (r : Reply T) → at op.0 s.names.operations ≡ Some x → removed_by r ≡ [] → brought_by_call sends (call.GiveUp op) r ≡ []
@@ -347,13 +298,13 @@ module _ {T : Type 0} where
 
     give_up : (op : OpId) (o : Option (ModelOperation T)) → at op.0 s.names.operations ≡ o → Good sends s (call.GiveUp op) (give_up_answer s op o)
     give_up op (Some (send handle (Some m))) there =
-        given op (send handle (Some m)) Sends (reply.GivenUp (Some m)) there refl refl (awake_left Sends (Op op) (ap (λ (o : Option (ModelOperation T)). line_of_operation o) there))
+        given op (send handle (Some m)) Sends (reply.GivenUp (Some m)) there refl refl (awake_left Sends (Op op) (ap line_of_operation there))
     give_up op (Some (send handle None)) there =
-        given op (send handle None) Sends (reply.GivenUp None) there refl refl (awake_left_spent Sends (Op op) (ap (λ (o : Option (ModelOperation T)). line_of_operation o) there))
+        given op (send handle None) Sends (reply.GivenUp None) there refl refl (awake_left_spent Sends (Op op) (ap line_of_operation there))
     give_up op (Some (recv handle)) there =
-        given op (recv handle) Receives (reply.GivenUp None) there refl refl (awake_left Receives (Op op) (ap (λ (o : Option (ModelOperation T)). line_of_operation o) there))
+        given op (recv handle) Receives (reply.GivenUp None) there refl refl (awake_left Receives (Op op) (ap line_of_operation there))
     give_up op (Some (closing handle)) there =
-        given op (closing handle) Closings (reply.GivenUp None) there refl refl (awake_left Closings (Op op) (ap (λ (o : Option (ModelOperation T)). line_of_operation o) there))
+        given op (closing handle) Closings (reply.GivenUp None) there refl refl (awake_left Closings (Op op) (ap line_of_operation there))
     give_up op None there = stay (call.GiveUp op) reply.Unit refl refl refl
 
     -- a new operation stands in no line
@@ -363,7 +314,7 @@ module _ {T : Type 0} where
       same (Stream receiver) h = refl
       same (Op other) h = elim (decided (nat_eq other.0 op.0)) [
         | inl t ↦
-            let nowhere : line_at s.names (Op other) ≡ None = subst (λ (n : ℕ). line_of_operation (at n s.names.operations) ≡ None) (sym (same_number other.0 op.0 t)) (ap (λ (o : Option (ModelOperation T)). line_of_operation o) free) in
+            let nowhere : line_at s.names (Op other) ≡ None = subst (λ (n : ℕ). line_of_operation (at n s.names.operations) ≡ None) (sym (same_number other.0 op.0 t)) (ap line_of_operation free) in
             no_line (line_at s.names (Op other)) (stands (line_at s.names) (Op other) s.waiting awake.placed h) nowhere
         | inr t ↦ rw t refl
       ]
@@ -402,8 +353,8 @@ module _ {T : Type 0} where
 
     poll_next : (receiver : HandleId) → Good sends s (call.PollNext receiver) (poll_next_answer s receiver)
     poll_next receiver =
-        either_way (λ (a : Answer T). Good sends s (call.PollNext receiver) a) (is_among (Stream receiver) s.waiting.streams)
-        (replying s (reply.Next Pending)) (next_answer (with_waiting (gone (Stream receiver) s.waiting) s) receiver (found s.channel))
+        cond_both (is_among (Stream receiver) s.waiting.streams) (replying s (reply.Next Pending)) (next_answer (with_waiting (gone (Stream receiver) s.waiting) s) receiver (found s.channel))
+        (λ (a : Answer T). Good sends s (call.PollNext receiver) a)
         (λ t. stay (call.PollNext receiver) (reply.Next Pending) refl refl refl)
         (λ t. next receiver (found s.channel) refl)
 
@@ -411,8 +362,8 @@ module _ {T : Type 0} where
 
     close : (handle : HandleId) → Good sends s (call.Close handle) (close_answer s)
     close handle =
-        either_way (λ (a : Answer T). Good sends s (call.Close handle) a) s.channel.closed
-        (replying s (reply.Closed false)) (after_telling Closing (with_channel (shut s.channel) s) (reply.Closed true))
+        cond_both s.channel.closed (replying s (reply.Closed false)) (after_telling Closing (with_channel (shut s.channel) s) (reply.Closed true))
+        (λ (a : Answer T). Good sends s (call.Close handle) a)
         (λ t. stay (call.Close handle) (reply.Closed false) refl refl refl)
         (λ t. good (call.Close handle) (after_telling Closing (with_channel (shut s.channel) s) (reply.Closed true))
         (awake_closing (line_at s.names) s.channel.capacity s.channel.closed (length s.channel.messages) s.waiting awake)
@@ -496,8 +447,8 @@ module _ {T : Type 0} where
 
       more : (new : HandleId) (kind : HandleKind) → Good sends s c (one_more s new kind)
       more new kind =
-          either_way (λ (a : Answer T). Good sends s c a) (nat_lt (2 ^ 63 - 1) (strong_handles kind s.channel))
-          (replying (spent s new) reply.TooMany) (replying (with_channel (with_strong_handles kind (strong_handles kind s.channel + 1) s.channel) (made s new kind)) reply.Made)
+          cond_both (nat_lt (2 ^ 63 - 1) (strong_handles kind s.channel)) (replying (spent s new) reply.TooMany) (replying (with_channel (with_strong_handles kind (strong_handles kind s.channel + 1) s.channel) (made s new kind)) reply.Made)
+          (λ (a : Answer T). Good sends s c a)
           (λ t. renamed (spent s new).names reply.TooMany refl refl)
           (λ t. counted new kind (strong_handles kind s.channel + 1))
 
@@ -511,8 +462,8 @@ module _ {T : Type 0} where
 
       upgrade : (new : HandleId) (o : Option Handle) → Good sends s c (upgrade_answer s new o)
       upgrade new (Some h) =
-          either_way (λ (a : Answer T). Good sends s c a) (s.channel.closed || (strong_handles (strong_of h.kind) s.channel == 0))
-          (replying (spent s new) reply.NotMade) (one_more s new (strong_of h.kind))
+          cond_both (s.channel.closed || (strong_handles (strong_of h.kind) s.channel == 0)) (replying (spent s new) reply.NotMade) (one_more s new (strong_of h.kind))
+          (λ (a : Answer T). Good sends s c a)
           (λ t. renamed (spent s new).names reply.NotMade refl refl)
           (λ t. more new (strong_of h.kind))
       upgrade new None = stay c reply.Unit refl (quiet reply.Unit) still
@@ -567,115 +518,43 @@ module _ {T : Type 0} where
 
     -- ---- a call whose one growth is refused
 
-    -- what may be answered, if anything, is good
-    pub AllGood : Call T → Option (Answer T) → Type 0
-    AllGood c o = (a : Answer T) → o ≡ Some a → Good sends s c a
-
-    none_good : (c : Call T) → AllGood c None
-    unfolding AllGood
-    none_good c a e = cc e
-
-    one_good : (c : Call T) (x : Answer T) → Good sends s c x → AllGood c (Some x)
-    unfolding AllGood
-    one_good c x g a e = let same : x ≡ a = cc e in subst (λ (y : Answer T). Good sends s c y) same g
-
-    either_good : (c : Call T) (b : Bool) (x y : Option (Answer T)) → AllGood c x → AllGood c y → AllGood c (if b then x else y)
-    either_good c true x y f g = f
-    either_good c false x y f g = g
-
     -- one that would stand is out of its line
     out_of_line : (c : Call T) (own : Line) (w : Waiter) (r : Reply T) → sends_after sends c ≡ sends → removed_by r ≡ [] → brought_by_call sends c r ≡ []
-        → line_at s.names w ≡ Some own → Idle (line_at s.names) s.channel.capacity own (length s.channel.messages) → AllGood c (not_standing own w s r)
+        → line_at s.names w ≡ Some own → Idle (line_at s.names) s.channel.capacity own (length s.channel.messages) → Good sends s c (out s w r)
     out_of_line c own w r still f g e i =
-        either_good c (is_among w (untold own s.waiting)) None (Some (replying (with_waiting (gone w s.waiting) s) r)) (none_good c)
-        (one_good c (replying (with_waiting (gone w s.waiting) s) r)
-        (good c (replying (with_waiting (gone w s.waiting) s) r)
-        (awake_gone (line_at s.names) s.channel.capacity s.channel.closed (length s.channel.messages) own w s.waiting e i awake) (nothing_moved c r f g) refl still))
+        good c (out s w r) (awake_gone (line_at s.names) s.channel.capacity s.channel.closed (length s.channel.messages) own w s.waiting e i awake) (nothing_moved c r f g) refl still
 
-    -- no memory for one more message
-    no_room : (c : Call T) (lack : Lack) (x : Space) (a : Answer T) → Good sends s c a → AllGood c (not_held lack s.channel x a)
-    no_room c memory Open a g = either_good c (is_none s.channel.capacity) (Some a) None (one_good c a g) (none_good c)
-    no_room c memory Filled a g = none_good c
-    no_room c memory Shut a g = none_good c
-    no_room c serials x a g = none_good c
-
-    send_unpolled : (lack : Lack) (op : OpId) (x : Space) → line_at s.names (Op op) ≡ Some Sends → space_of s.channel ≡ x → AllGood (call.Poll op) (send_not_polled lack s op x)
-    send_unpolled lack op Open own e =
-        no_room (call.Poll op) lack Open (after_leaving Nothing Sends (Op op) s (reply.SendPoll (Ready (Err (refused lack)))))
-        (good (call.Poll op) (after_leaving Nothing Sends (Op op) s (reply.SendPoll (Ready (Err (refused lack))))) (awake_left Sends (Op op) own)
-        (nothing_moved (call.Poll op) (reply.SendPoll (Ready (Err (refused lack)))) refl refl) refl refl)
-    send_unpolled lack op Filled own e =
-        out_of_line (call.Poll op) Sends (Op op) (reply.SendPoll (Ready (Err (refused lack)))) refl refl refl own (full_idle s.channel.capacity (length s.channel.messages) (space_filled s.channel e).1)
-    send_unpolled lack op Shut own e = none_good (call.Poll op)
-
-    recv_unpolled : (lack : Lack) (op : OpId) (x : Found T) → line_at s.names (Op op) ≡ Some Receives → found s.channel ≡ x → AllGood (call.Poll op) (recv_not_polled lack s op x)
-    recv_unpolled lack op (first m rest) own e = none_good (call.Poll op)
-    recv_unpolled lack op none_yet own e =
-        out_of_line (call.Poll op) Receives (Op op) (reply.RecvPoll (Ready (Err (refused lack)))) refl refl refl own (no_message (found_yet s.channel.messages s.channel.closed e).0)
-    recv_unpolled lack op none_ever own e = none_good (call.Poll op)
-
-    unpolled : (lack : Lack) (op : OpId) (o : Option (ModelOperation T)) → at op.0 s.names.operations ≡ o → AllGood (call.Poll op) (not_polled lack s op o)
-    unpolled lack op (Some (send handle (Some m))) there = send_unpolled lack op (space_of s.channel) (ap (λ (o : Option (ModelOperation T)). line_of_operation o) there) refl
-    unpolled lack op (Some (send handle None)) there = none_good (call.Poll op)
-    unpolled lack op (Some (recv handle)) there = recv_unpolled lack op (found s.channel) (ap (λ (o : Option (ModelOperation T)). line_of_operation o) there) refl
-    unpolled lack op (Some (closing handle)) there =
-        either_good (call.Poll op) s.channel.closed None (not_standing Closings (Op op) s (reply.ClosedPoll (Ready (Err (not_listening lack))))) (none_good (call.Poll op))
-        (out_of_line (call.Poll op) Closings (Op op) (reply.ClosedPoll (Ready (Err (not_listening lack)))) refl refl refl (ap (λ (o : Option (ModelOperation T)). line_of_operation o) there) tt)
-    unpolled lack op None there = none_good (call.Poll op)
-
-    next_unpolled : (lack : Lack) (receiver : HandleId) (x : Found T) → found s.channel ≡ x → AllGood (call.PollNext receiver) (next_not_polled lack s (Stream receiver) x)
-    next_unpolled lack receiver (first m rest) e = none_good (call.PollNext receiver)
-    next_unpolled lack receiver none_yet e =
-        out_of_line (call.PollNext receiver) Streams (Stream receiver) (reply.Next (Ready (Some (Err (not_listening lack))))) refl refl refl refl (no_message (found_yet s.channel.messages s.channel.closed e).0)
-    next_unpolled lack receiver none_ever e = none_good (call.PollNext receiver)
-
-    unreceived : (lack : Lack) (receiver : HandleId) (n limit : ℕ) → AllGood (call.RecvMany receiver limit) (not_received lack s n)
-    unreceived memory receiver zero limit = none_good (call.RecvMany receiver limit)
-    unreceived memory receiver (suc n) limit =
-        one_good (call.RecvMany receiver limit) (replying s (reply.RecvMany (Err (NoMemory tt)))) (stay (call.RecvMany receiver limit) (reply.RecvMany (Err (NoMemory tt))) refl refl refl)
-    unreceived serials receiver n limit = none_good (call.RecvMany receiver limit)
-
-    pub unanswered : (lack : Lack) (c : Call T) → AllGood c (answer_without lack s c)
-    unanswered lack (call.TrySend sender msg) = no_room (call.TrySend sender msg) lack (space_of s.channel) (replying s (reply.TrySend (Err (NoMemory msg)))) (stay (call.TrySend sender msg) (reply.TrySend (Err (NoMemory msg))) refl refl refl)
-    unanswered lack (call.ForceSend sender msg) = no_room (call.ForceSend sender msg) lack (space_of s.channel) (replying s (reply.ForceSend (Err (NoMemory msg)))) (stay (call.ForceSend sender msg) (reply.ForceSend (Err (NoMemory msg))) refl refl refl)
-    unanswered lack (call.Poll op) = unpolled lack op (at op.0 s.names.operations) refl
-    unanswered lack (call.PollNext receiver) = next_unpolled lack receiver (found s.channel) refl
-    unanswered lack (call.NewSend op sender msg) = none_good (call.NewSend op sender msg)
-    unanswered lack (call.NewRecv op receiver) = none_good (call.NewRecv op receiver)
-    unanswered lack (call.NewClosed op sender) = none_good (call.NewClosed op sender)
-    unanswered lack (call.PollRefused op) = none_good (call.PollRefused op)
-    unanswered lack (call.GiveUp op) = none_good (call.GiveUp op)
-    unanswered lack (call.SendIsTerminated op) = none_good (call.SendIsTerminated op)
-    unanswered lack (call.StreamIsTerminated receiver) = none_good (call.StreamIsTerminated receiver)
-    unanswered lack (call.TryRecv receiver) = none_good (call.TryRecv receiver)
-    unanswered lack (call.RecvMany receiver limit) = unreceived lack receiver limit limit
-    unanswered lack (call.Close handle) = none_good (call.Close handle)
-    unanswered lack (call.Drop handle) = none_good (call.Drop handle)
-    unanswered lack (call.TryClone handle new) = none_good (call.TryClone handle new)
-    unanswered lack (call.Downgrade handle new) = none_good (call.Downgrade handle new)
-    unanswered lack (call.Upgrade weak new) = none_good (call.Upgrade weak new)
-    unanswered lack (call.SameChannel a b) = none_good (call.SameChannel a b)
-    unanswered lack (call.IsClosed handle) = none_good (call.IsClosed handle)
-    unanswered lack (call.IsEmpty handle) = none_good (call.IsEmpty handle)
-    unanswered lack (call.IsFull handle) = none_good (call.IsFull handle)
-    unanswered lack (call.Len handle) = none_good (call.Len handle)
-    unanswered lack (call.Capacity handle) = none_good (call.Capacity handle)
-    unanswered lack (call.SenderCount handle) = none_good (call.SenderCount handle)
-    unanswered lack (call.ReceiverCount handle) = none_good (call.ReceiverCount handle)
+    lacks : Lacking s (λ c a. Good sends s c a)
+    lacks = record {
+      try_send = λ sender m. stay (call.TrySend sender m) (reply.TrySend (Err (NoMemory m))) refl refl refl;
+      force_send = λ sender m. stay (call.ForceSend sender m) (reply.ForceSend (Err (NoMemory m))) refl refl refl;
+      recv_many = λ receiver limit. stay (call.RecvMany receiver limit) (reply.RecvMany (Err (NoMemory tt))) refl refl refl;
+      leaves = λ op handle m there.
+          good (call.Poll op) (after_leaving Nothing Sends (Op op) s (reply.SendPoll (Ready (Err (refused memory))))) (awake_left Sends (Op op) (ap line_of_operation there))
+          (nothing_moved (call.Poll op) (reply.SendPoll (Ready (Err (refused memory)))) refl refl) refl refl;
+      send_out = λ lack op handle m there full.
+          out_of_line (call.Poll op) Sends (Op op) (reply.SendPoll (Ready (Err (refused lack)))) refl refl refl (ap line_of_operation there)
+          (full_idle s.channel.capacity (length s.channel.messages) (space_filled s.channel full).1);
+      recv_out = λ lack op handle there none.
+          out_of_line (call.Poll op) Receives (Op op) (reply.RecvPoll (Ready (Err (refused lack)))) refl refl refl (ap line_of_operation there)
+          (no_message (found_yet s.channel.messages s.channel.closed none).0);
+      closing_out = λ lack op handle there.
+          out_of_line (call.Poll op) Closings (Op op) (reply.ClosedPoll (Ready (Err (not_listening lack)))) refl refl refl (ap line_of_operation there) tt;
+      next_out = λ lack receiver none.
+          out_of_line (call.PollNext receiver) Streams (Stream receiver) (reply.Next (Ready (Some (Err (not_listening lack))))) refl refl refl refl
+          (no_message (found_yet s.channel.messages s.channel.closed none).0);
+    }
 
     -- an accepted call, however it is answered
     pub step_good : (c : Call T) (a : Answer T) → refusal s c ≡ None → Answers s c a → Good sends s c a
-    unfolding AllGood
     step_good c a ok (inl e) = subst (λ (x : Answer T). Good sends s c x) (sym e) (answered c ok)
-    step_good c a ok (inr (lack, e)) = unanswered lack c a e
+    step_good c a ok (inr (lack, e)) = lacking s (λ c a. Good sends s c a) lacks lack c a e
 
     -- a poll of settling, which nothing refuses, however it is answered
     pub poll_good : (w : Waiter) (a : Answer T) → Answers s (poll_of w) a → Good sends s (poll_of w) a
-    unfolding AllGood
     poll_good (Op op) a (inl e) = subst (λ (x : Answer T). Good sends s (call.Poll op) x) (sym e) (poll op (at op.0 s.names.operations) refl)
-    poll_good (Op op) a (inr (lack, e)) = unanswered lack (call.Poll op) a e
     poll_good (Stream receiver) a (inl e) = subst (λ (x : Answer T). Good sends s (call.PollNext receiver) x) (sym e) (poll_next receiver)
-    poll_good (Stream receiver) a (inr (lack, e)) = unanswered lack (call.PollNext receiver) a e
+    poll_good w a (inr (lack, e)) = lacking s (λ c a. Good sends s c a) lacks lack (poll_of w) a e
 
   -- ---- whole runs
 
@@ -726,15 +605,11 @@ module _ {T : Type 0} where
   } where
     none_untold : (line : Line) → untold line nobody ≡ []
     none_untold Sends = refl
-    none_untold Receives = refl
-    none_untold Streams = refl
-    none_untold Closings = refl
+    none_untold line = refl
 
     nobody_untold : (line : Line) (w : Waiter) → is_among w (untold line nobody) ≡ true → line_at (start {T = T} capacity).names w ≡ Some line
     nobody_untold Sends w e = cc e
-    nobody_untold Receives w e = cc e
-    nobody_untold Streams w e = cc e
-    nobody_untold Closings w e = cc e
+    nobody_untold line w e = cc e
 
   -- ---- from any state
 

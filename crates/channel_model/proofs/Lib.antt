@@ -1,7 +1,9 @@
+pub mod Words
 pub mod WaiterLemmas
 pub mod RunLemmas
 pub mod Counting
 pub mod Awake
+pub mod Lacking
 pub mod LawSteps
 pub mod Settle
 pub mod Interface

@@ -1,20 +1,11 @@
 -- How many handles live, as names are lent, given back and dropped.
-use Rattle.std.proofs.Common.{arith, ◌≡◌, ◌+◌, ◌-◌, ℕ, nat_eq, List, [], ◌∷◌, length, Bool, true, false, cond, Option, None, Some, refl, sym, ap, ◌∙◌, inl, inr}
-use Rattle.std.specs.List.{filter}
-use Rattle.std.specs.Option.{option_map_or}
-use Rattle.channel_model.specs.Handles.{is_of, live_of}
-use Rattle.channel_model.specs.Names.{Directory, at, lent_once_more, used_once_less, with_changed, without_name}
-use Rattle.channel_model.specs.Refusal.{are_alike}
-use Rattle.channel_model.specs.declared.name.Handle.{Handle}
-use Rattle.channel_model.specs.declared.name.HandleId.{HandleId}
-use Rattle.channel_model.specs.declared.name.HandleKind.{HandleKind}
+use Rattle.channel_model.proofs.Words.{arith, ◌≡◌, ◌+◌, ◌-◌, ℕ, nat_eq, List, [], ◌∷◌, length, Bool, true, false, cond, Option, None, Some, refl, sym, ap, ◌∙◌, inl, inr, filter, option_map_or, is_of, live_of, Directory, at, lent_once_more, used_once_less, with_changed, without_name, are_alike, Handle, HandleId, HandleKind}
 use Rattle.channel_model.proofs.WaiterLemmas.{decided}
 
 alike_front : {X : Type 0} (b c : Bool) (e f : X) (ys : List X) → b ≡ c → length (cond b (e ∷ ys) ys) ≡ length (cond c (f ∷ ys) ys)
-alike_front true true e f ys h = refl
-alike_front false false e f ys h = refl
 alike_front true false e f ys h = cc h
 alike_front false true e f ys h = cc h
+alike_front b c e f ys h = refl
 
 alike_behind : {X : Type 0} (b : Bool) (e : X) (ys zs : List X) → length ys ≡ length zs → length (cond b (e ∷ ys) ys) ≡ length (cond b (e ∷ zs) zs)
 alike_behind true e ys zs h = omega (arith, h)
@@ -22,10 +13,9 @@ alike_behind false e ys zs h = h
 
 -- one more in front, where it is counted
 more_front : {X : Type 0} (b c : Bool) (e : X) (ys : List X) → b ≡ c → length (cond b (e ∷ ys) ys) ≡ length ys + cond c 1 0
-more_front true true e ys h = omega arith
-more_front false false e ys h = omega arith
 more_front true false e ys h = cc h
 more_front false true e ys h = cc h
+more_front b c e ys h = omega arith
 
 more_behind : {X : Type 0} (b : Bool) (e : X) (ys zs : List X) (n : ℕ) → length ys ≡ length zs + n → length (cond b (e ∷ ys) ys) ≡ length (cond b (e ∷ zs) zs) + n
 more_behind true e ys zs n h = omega (arith, h)

@@ -1,13 +1,5 @@
 -- Runs of calls, one after another.
-use Rattle.std.proofs.lemmas.Bool.Decides.{nat_tests}
-use Rattle.std.proofs.Common.{arith, ◌≡◌, List, [], ◌∷◌, ◌++◌, Option, Some, None, true, false, nat_lt, length, slice_index_or, refl, sym, subst, append_assoc, append-nil, ◌∙◌, inr}
-use Rattle.channel_model.specs.State.{State}
-use Rattle.channel_model.specs.Refusal.{refusal}
-use Rattle.channel_model.specs.Refused.{Answers}
-use Rattle.channel_model.specs.Run.{Runs, Stops, MayStop}
-use Rattle.channel_model.specs.declared.call.Call.{Call}
-use Rattle.channel_model.specs.declared.run.Done.{Done}
-use Rattle.channel_model.specs.declared.refusal.WorldRefusal.{WorldRefusal}
+use Rattle.channel_model.proofs.Words.{nat_tests, arith, ◌≡◌, List, [], ◌∷◌, ◌++◌, Option, Some, None, true, false, nat_lt, length, slice_index_or, refl, sym, subst, append_assoc, append-nil, ◌∙◌, inr, State, refusal, Answers, Runs, Stops, MayStop, Call, Done, WorldRefusal}
 use Rattle.channel_model.specs.declared.refusal.WorldRefusal.TheVariants.{NoMemory}
 
 -- what follows from s and these calls follows, after what is done, from the first state and all calls

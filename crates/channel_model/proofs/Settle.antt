@@ -1,93 +1,50 @@
 -- Settling ends: each poll of the oldest woken one brings it nearer, and with w pending it makes no more than w(w+1)/2 polls.
-use Rattle.std.proofs.Common.{arith, ◌≡◌, ◌⊎◌, ◌≤◌, ◌+◌, ◌*◌, ℕ, zero, suc, List, [], ◌∷◌, ◌++◌, length, take, drop, Bool, true, false, cond, if◌then◌else◌, not, Option, None, Some, IsSome, is_none, Ok, Err, refl, sym, ap, subst, ◌∙◌, ◌&&◌, inl, inr, length-append, append-nil, append_assoc}
+use Rattle.channel_model.proofs.Words.{cond_both, false_from_ne_true, arith, ◌≡◌, ◌⊎◌, ◌≤◌, ◌+◌, ◌*◌, ℕ, zero, suc, List, [], ◌∷◌, ◌++◌, length, take, drop, Bool, true, false, if◌then◌else◌, not, Option, Some, IsSome, Ok, refl, sym, ap, subst, ◌∙◌, ◌&&◌, inl, inr, append-nil, append_assoc, filter, list_any, filter-append, slice_get, Answer, after_leaving, pending, space_of, Found, first, none_yet, none_ever, found, send_poll_answer, recv_poll_answer, next_answer, closed_poll_answer, poll_answer, answer, AwakeIn, Enough, Kind, Placed, times, count_of, free_places, line_at, line_of_operation, Waiting, same_waiter, is_among, untold, told_by, after_news, without_waiter, gone, passed_on, left_after, told_after, at_end, standing, is_stream, ModelOperation, send, recv, closing, at, Lack, answer_without, Answers, Call, poll_of, Settles, SettlesTo, NobodyGoesOn, pending_count, pairs, polls_left, State, with_waiting, Reply, Line, Sends, Receives, Streams, Closings, News, Nothing, Message, Room, Closing, NextIn, Space, Open, Filled, Shut, Waiter, Op, Stream, OpId, HandleId, Ready, Pending}
 use Rattle.std.proofs.Math.Nat.{suc-mul, mul-suc}
-use Rattle.std.specs.List.{filter, list_any}
-use Rattle.std.proofs.lemmas.List.Elements.{filter-append}
-use Rattle.std.specs.Prelude.{slice_get}
-use Rattle.channel_model.specs.Answer.{Answer, replying, after_leaving, pending, space_of, Found, first, none_yet, none_ever, found, send_poll_answer, recv_poll_answer, next_answer, closed_poll_answer, poll_answer, answer}
-use Rattle.channel_model.specs.Awake.{AwakeIn, Enough, Kind, Placed, times}
-use Rattle.channel_model.specs.Laws.{count_of, free_places, line_at, line_of_operation}
-use Rattle.channel_model.specs.Lines.{Waiting, same_waiter, is_among, untold, told_by, after_news, without_waiter, gone, passed_on, left_after, told_after, at_end, standing, is_stream}
-use Rattle.channel_model.specs.Names.{ModelOperation, send, recv, closing, at}
-use Rattle.channel_model.specs.Refused.{Lack, memory, serials, refused, not_listening, not_standing, not_held, send_not_polled, recv_not_polled, not_polled, next_not_polled, answer_without, Answers}
-use Rattle.channel_model.specs.Settling.{poll_of, Settles, SettlesTo, NobodyGoesOn, pending_count, pairs, polls_left}
-use Rattle.channel_model.specs.State.{State, with_waiting}
-use Rattle.channel_calls.specs.declared.reply.Reply.{Reply}
+use Rattle.channel_model.specs.declared.call.Call.TheVariants as call
 use Rattle.channel_calls.specs.declared.reply.Reply.TheVariants as reply
-use Rattle.channel_calls.specs.declared.stage.Line.{Line}
-use Rattle.channel_calls.specs.declared.stage.Line.TheVariants.{Sends, Receives, Streams, Closings}
-use Rattle.channel_model.specs.declared.news.News.{News}
-use Rattle.channel_model.specs.declared.news.News.TheVariants.{Nothing, Message, Room, Closing, NextIn}
-use Rattle.channel_model.specs.declared.space.Space.{Space}
-use Rattle.channel_model.specs.declared.space.Space.TheVariants.{Open, Filled, Shut}
-use Rattle.channel_model.specs.declared.name.Waiter.{Waiter}
-use Rattle.channel_model.specs.declared.name.Waiter.TheVariants.{Op, Stream}
-use Rattle.channel_model.specs.declared.name.OpId.{OpId}
-use Rattle.channel_model.specs.declared.name.HandleId.{HandleId}
-use Rattle.futures.specs.declared.task.Poll.TheVariants.{Ready, Pending}
-use Rattle.channel_model.proofs.WaiterLemmas.{decided, same_refl, same_sound, none_left, without_absent}
-use Rattle.channel_model.proofs.Counting.{among_counts, count_append, count_split}
-use Rattle.channel_model.proofs.Awake.{told_stood}
+use Rattle.channel_model.proofs.WaiterLemmas.{decided, same_refl, none_left, without_absent}
+use Rattle.channel_model.proofs.Counting.{among_counts, count_fewer, count_fewer_one}
+use Rattle.channel_model.proofs.Lacking.{Lacking, lacking}
+use Rattle.channel_model.proofs.Awake.{told_stood, woken_end}
 use Rattle.channel_model.proofs.LawSteps.{poll_awake}
+pub use Rattle.channel_model.proofs.Counting.{one_if, count_all, count_news, count_gone, count_gone_one, count_end}
 
 -- ---- how many
 
-split_length : (ws : List Waiter) → length (take 1 ws) + length (drop 1 ws) ≡ length ws
-split_length [] = refl
-split_length (w ∷ ws) = omega arith
+every : Waiter → Bool
+every w = true
+
+all_of : (ws : List Waiter) → length (filter every ws) ≡ length ws
+unfolding every
+all_of [] = refl
+all_of (w ∷ ws) = ap (λ (n : ℕ). suc n) (all_of ws)
+
+size_is : (l : Waiting) → count_all every l ≡ pending_count l
+size_is l = omega (arith, all_of l.sends, all_of l.receives, all_of l.streams, all_of l.closings, all_of l.woken)
 
 -- news make nobody pending, and nobody ready
 size_news : (news : News) (l : Waiting) → pending_count (after_news news l) ≡ pending_count l
-size_news Nothing l = omega (arith, length-append l.woken [])
-size_news Message l =
-    omega (arith, length-append l.woken (take 1 l.receives ++ l.streams), length-append (take 1 l.receives) l.streams, split_length l.receives)
-size_news Room l = omega (arith, length-append l.woken (take 1 l.sends), split_length l.sends)
-size_news Closing l =
-    omega (
-      arith,
-      length-append l.woken (l.sends ++ l.receives ++ l.streams ++ l.closings),
-      length-append (l.sends ++ l.receives ++ l.streams) l.closings,
-      length-append (l.sends ++ l.receives) l.streams,
-      length-append l.sends l.receives,
-    )
-size_news (NextIn Sends) l = omega (arith, length-append l.woken (take 1 l.sends), split_length l.sends)
-size_news (NextIn Receives) l = omega (arith, length-append l.woken (take 1 l.receives), split_length l.receives)
-size_news (NextIn Streams) l = omega (arith, length-append l.woken (take 1 l.streams), split_length l.streams)
-size_news (NextIn Closings) l = omega (arith, length-append l.woken (take 1 l.closings), split_length l.closings)
-
-one_more : (b : Bool) (x : Waiter) (ys zs : List Waiter) → length ys ≤ length zs → length (cond b (x ∷ ys) ys) ≤ suc (length zs)
-one_more true x ys zs h = omega (arith, h)
-one_more false x ys zs h = omega (arith, h)
+size_news news l = omega (arith, count_news every news l, size_is l, size_is (after_news news l))
 
 fewer : (w : Waiter) (ws : List Waiter) → length (without_waiter w ws) ≤ length ws
-fewer w [] = omega arith
-fewer w (v ∷ vs) = one_more (not (same_waiter w v)) v (without_waiter w vs) vs (fewer w vs)
+fewer w ws = omega (arith, count_fewer every w ws, all_of ws, all_of (without_waiter w ws))
 
 -- one who is there leaves fewer behind
 one_fewer : (w : Waiter) (ws : List Waiter) → is_among w ws ≡ true → suc (length (without_waiter w ws)) ≤ length ws
-one_fewer w [] e = cc e
-one_fewer w (v ∷ vs) e = elim (decided (same_waiter w v)) [
-  | inl t ↦ let h = fewer w vs in rw t (omega (arith, h))
-  | inr t ↦ let h = one_fewer w vs (rw t at e) in rw t (omega (arith, h))
-]
+unfolding every
+one_fewer w ws e = omega (arith, count_fewer_one every w ws e, all_of ws, all_of (without_waiter w ws))
 
 size_gone : (w : Waiter) (l : Waiting) → pending_count (gone w l) ≤ pending_count l
-size_gone w l = omega (arith, fewer w l.sends, fewer w l.receives, fewer w l.streams, fewer w l.closings, fewer w l.woken)
+size_gone w l = omega (arith, count_gone every w l, size_is l, size_is (gone w l))
 
 woken_gone : (w : Waiter) (l : Waiting) → is_among w l.woken ≡ true → suc (pending_count (gone w l)) ≤ pending_count l
-woken_gone w l e = omega (arith, fewer w l.sends, fewer w l.receives, fewer w l.streams, fewer w l.closings, one_fewer w l.woken e)
+unfolding every
+woken_gone w l e = omega (arith, count_gone_one every w l e, size_is l, size_is (gone w l))
 
 size_end : (line : Line) (w : Waiter) (l : Waiting) → pending_count (at_end line w l) ≡ suc (pending_count (gone w l))
-size_end Sends w l = omega (arith, length-append (without_waiter w l.sends) (w ∷ []))
-size_end Receives w l = omega (arith, length-append (without_waiter w l.receives) (w ∷ []))
-size_end Streams w l = omega (arith, length-append (without_waiter w l.streams) (w ∷ []))
-size_end Closings w l = omega (arith, length-append (without_waiter w l.closings) (w ∷ []))
-
-woken_end : (line : Line) (w : Waiter) (l : Waiting) → (at_end line w l).woken ≡ without_waiter w l.woken
-woken_end Sends w l = refl
-woken_end Receives w l = refl
-woken_end Streams w l = refl
-woken_end Closings w l = refl
+unfolding every
+size_end line w l = omega (arith, count_end every line w l, size_is (at_end line w l), size_is (gone w l))
 
 -- ---- one poll
 
@@ -152,19 +109,14 @@ again_nearer w l e =
 
 -- one who is woken is not untold
 pub not_untold : (k : Kind) (line : Line) (w : Waiter) (l : Waiting) → Placed k l → is_among w l.woken ≡ true → is_among w (untold line l) ≡ false
-not_untold k line w l p e = elim (decided (is_among w (untold line l))) [
-  | inr t ↦ t
-  | inl t ↦ absurd (twice line t)
-]
+not_untold k line w l p e = false_from_ne_true (is_among w (untold line l)) (λ t. twice line t)
   where
     once : times w l.sends + times w l.receives + times w l.streams + times w l.closings + times w l.woken ≤ 1
     once = p.once w
 
     twice : (own : Line) → is_among w (untold own l) ≡ true → ⊥
     twice Sends t = omega (arith, once, among_counts w l.sends t, among_counts w l.woken e)
-    twice Receives t = omega (arith, once, among_counts w l.receives t, among_counts w l.woken e)
-    twice Streams t = omega (arith, once, among_counts w l.streams t, among_counts w l.woken e)
-    twice Closings t = omega (arith, once, among_counts w l.closings t, among_counts w l.woken e)
+    twice own t = omega (arith, once, among_counts w (untold own l) t, among_counts w l.woken e)
 
 -- ---- the cases of a poll of one that is woken
 
@@ -189,10 +141,6 @@ pub record Cases (w : Waiter) (l : Waiting) (P : Waiting → List Waiter → Typ
   pub again : P (standing Streams w (gone w l)) []
 
 module _ {T : Type 0} where
-  either_way : (P : Answer T → Type 0) (b : Bool) (x y : Answer T) → (b ≡ true → P x) → (b ≡ false → P y) → P (if b then x else y)
-  either_way P true x y so not_so = so refl
-  either_way P false x y so not_so = not_so refl
-
   module _ (s : State T) (P : Waiting → List Waiter → Type 0) where
     abbrev So : Answer T → Type 0
     So a = P a.after.waiting a.woken
@@ -211,16 +159,16 @@ module _ {T : Type 0} where
 
     closed_so : (op : OpId) → Cases (Op op) s.waiting P → So (closed_poll_answer s op)
     closed_so op c =
-        either_way So s.channel.closed (after_leaving Nothing Closings (Op op) s (reply.ClosedPoll (Ready (Ok tt)))) (pending Closings (Op op) s (reply.ClosedPoll Pending))
+        cond_both s.channel.closed (after_leaving Nothing Closings (Op op) s (reply.ClosedPoll (Ready (Ok tt)))) (pending Closings (Op op) s (reply.ClosedPoll Pending))
+        So
         (λ t. c.left Nothing tt Closings) (λ t. c.stands Closings)
 
     -- who is woken belongs to a line
     poll_so : (op : OpId) (o : Option (ModelOperation T)) → IsSome (line_of_operation o) → Cases (Op op) s.waiting P → So (poll_answer s op o)
     poll_so op (Some (send handle (Some m))) h c = send_so op handle m (space_of s.channel) c
-    poll_so op (Some (send handle None)) h c = cc h
     poll_so op (Some (recv handle)) h c = recv_so op (found s.channel) c
     poll_so op (Some (closing handle)) h c = closed_so op c
-    poll_so op None h c = cc h
+    poll_so op o h c = cc h
 
     next_so : (receiver : HandleId) (x : Found T) → Cases (Stream receiver) s.waiting P
         → So (next_answer (with_waiting (gone (Stream receiver) s.waiting) s) receiver x)
@@ -230,56 +178,27 @@ module _ {T : Type 0} where
 
     -- ---- where a growth is refused
 
-    AllSo : Option (Answer T) → Type 0
-    AllSo o = (a : Answer T) → o ≡ Some a → So a
+    -- of calls that are polls
+    abbrev PolledSo : Call T → Answer T → Type 0
+    PolledSo (call.Poll op) a = Cases (Op op) s.waiting P → So a
+    PolledSo (call.PollNext receiver) a = Cases (Stream receiver) s.waiting P → So a
+    PolledSo c a = Unit {0}
 
-    none_so : AllSo None
-    unfolding AllSo
-    none_so a e = cc e
+    lacks : Lacking s PolledSo
+    lacks = record {
+      try_send = λ sender m. tt;
+      force_send = λ sender m. tt;
+      recv_many = λ receiver limit. tt;
+      leaves = λ op handle m there c. c.left Nothing tt Sends;
+      send_out = λ lack op handle m there full c. c.leaves;
+      recv_out = λ lack op handle there none c. c.leaves;
+      closing_out = λ lack op handle there c. c.leaves;
+      next_out = λ lack receiver none c. c.leaves;
+    }
 
-    one_so : (x : Answer T) → So x → AllSo (Some x)
-    unfolding AllSo
-    one_so x h a e = let same : x ≡ a = cc e in subst (λ (y : Answer T). So y) same h
-
-    either_so : (b : Bool) (x y : Option (Answer T)) → AllSo x → AllSo y → AllSo (if b then x else y)
-    either_so true x y f g = f
-    either_so false x y f g = g
-
-    out_of_line : (line : Line) (w : Waiter) (r : Reply T) → Cases w s.waiting P → AllSo (not_standing line w s r)
-    out_of_line line w r c =
-        either_so (is_among w (untold line s.waiting)) None (Some (replying (with_waiting (gone w s.waiting) s) r)) none_so
-        (one_so (replying (with_waiting (gone w s.waiting) s) r) c.leaves)
-
-    unheld : (lack : Lack) (x : Space) (a : Answer T) → So a → AllSo (not_held lack s.channel x a)
-    unheld memory Open a h = either_so (is_none s.channel.capacity) (Some a) None (one_so a h) none_so
-    unheld memory Filled a h = none_so
-    unheld memory Shut a h = none_so
-    unheld serials x a h = none_so
-
-    send_refused : (lack : Lack) (op : OpId) (x : Space) → Cases (Op op) s.waiting P → AllSo (send_not_polled lack s op x)
-    send_refused lack op Open c =
-        unheld lack Open (after_leaving Nothing Sends (Op op) s (reply.SendPoll (Ready (Err (refused lack))))) (c.left Nothing tt Sends)
-    send_refused lack op Filled c = out_of_line Sends (Op op) (reply.SendPoll (Ready (Err (refused lack)))) c
-    send_refused lack op Shut c = none_so
-
-    recv_refused : (lack : Lack) (op : OpId) (x : Found T) → Cases (Op op) s.waiting P → AllSo (recv_not_polled lack s op x)
-    recv_refused lack op (first m ms) c = none_so
-    recv_refused lack op none_yet c = out_of_line Receives (Op op) (reply.RecvPoll (Ready (Err (refused lack)))) c
-    recv_refused lack op none_ever c = none_so
-
-    poll_refused : (lack : Lack) (op : OpId) (o : Option (ModelOperation T)) → Cases (Op op) s.waiting P → AllSo (not_polled lack s op o)
-    poll_refused lack op (Some (send handle (Some m))) c = send_refused lack op (space_of s.channel) c
-    poll_refused lack op (Some (send handle None)) c = none_so
-    poll_refused lack op (Some (recv handle)) c = recv_refused lack op (found s.channel) c
-    poll_refused lack op (Some (closing handle)) c =
-        either_so s.channel.closed None (not_standing Closings (Op op) s (reply.ClosedPoll (Ready (Err (not_listening lack))))) none_so
-        (out_of_line Closings (Op op) (reply.ClosedPoll (Ready (Err (not_listening lack)))) c)
-    poll_refused lack op None c = none_so
-
-    next_refused : (lack : Lack) (w : Waiter) (x : Found T) → Cases w s.waiting P → AllSo (next_not_polled lack s w x)
-    next_refused lack w (first m ms) c = none_so
-    next_refused lack w none_yet c = out_of_line Streams w (reply.Next (Ready (Some (Err (not_listening lack))))) c
-    next_refused lack w none_ever c = none_so
+    unanswered_so : (lack : Lack) (w : Waiter) (a : Answer T) → answer_without lack s (poll_of w) ≡ Some a → Cases w s.waiting P → So a
+    unanswered_so lack (Op op) a e c = lacking s PolledSo lacks lack (call.Poll op) a e c
+    unanswered_so lack (Stream receiver) a e c = lacking s PolledSo lacks lack (call.PollNext receiver) a e c
 
     module _ (awake : AwakeIn s) where
       answered_so : (w : Waiter) → is_among w s.waiting.woken ≡ true → Cases w s.waiting P → So (answer s (poll_of w))
@@ -287,15 +206,10 @@ module _ {T : Type 0} where
       answered_so (Stream receiver) e c =
           rw (not_untold (line_at s.names) Streams (Stream receiver) s.waiting awake.placed e) (next_so receiver (found s.channel) c)
 
-      unanswered_so : (lack : Lack) (w : Waiter) → Cases w s.waiting P → AllSo (answer_without lack s (poll_of w))
-      unanswered_so lack (Op op) c = poll_refused lack op (at op.0 s.names.operations) c
-      unanswered_so lack (Stream receiver) c = next_refused lack (Stream receiver) (found s.channel) c
-
       -- however the poll of one that is woken is answered
       pub poll_cases : (w : Waiter) (a : Answer T) → is_among w s.waiting.woken ≡ true → Answers s (poll_of w) a → Cases w s.waiting P → P a.after.waiting a.woken
-      unfolding AllSo
       poll_cases w a e (inl x) c = subst (λ (y : Answer T). So y) (sym x) (answered_so w e c)
-      poll_cases w a e (inr (lack, x)) c = unanswered_so lack w c a x
+      poll_cases w a e (inr (lack, x)) c = unanswered_so lack w a x c
 
 pub first_there : (w : Waiter) (ws : List Waiter) → slice_get ws 0 ≡ Some w → is_among w ws ≡ true
 first_there w [] e = cc e
@@ -411,84 +325,6 @@ few_passed Sends w l m = few_first (is_among w l.woken) Sends m
 few_passed Receives w l m = few_first (is_among w l.woken) Receives m
 few_passed Streams w l m = few_first (is_among w l.woken && not (list_any is_stream (without_waiter w l.woken))) Streams m
 few_passed Closings w l m = omega arith
-
-few_told : (news : News) (l : Waiting) → IsBrief news → length (told_by news l) ≤ 1 + length l.streams
-few_told Nothing l b = omega arith
-few_told Message l b = omega (arith, length-append (take 1 l.receives) l.streams, first_one l.receives)
-few_told Room l b = omega (arith, first_one l.sends)
-few_told Closing l b = absurd b
-few_told (NextIn line) l b = absurd b
-
--- ---- how many of a sort are pending
-
-abbrev pub count_all : (Waiter → Bool) → Waiting → ℕ
-count_all p l =
-    length (filter p l.sends) + length (filter p l.receives) + length (filter p l.streams) + length (filter p l.closings)
-    + length (filter p l.woken)
-
-pub count_news : (p : Waiter → Bool) (news : News) (l : Waiting) → count_all p (after_news news l) ≡ count_all p l
-count_news p Nothing l = omega (arith, count_append p l.woken [])
-count_news p Message l =
-    omega (arith, count_append p l.woken (take 1 l.receives ++ l.streams), count_append p (take 1 l.receives) l.streams, count_split p l.receives)
-count_news p Room l = omega (arith, count_append p l.woken (take 1 l.sends), count_split p l.sends)
-count_news p Closing l =
-    omega (
-      arith,
-      count_append p l.woken (l.sends ++ l.receives ++ l.streams ++ l.closings),
-      count_append p (l.sends ++ l.receives ++ l.streams) l.closings,
-      count_append p (l.sends ++ l.receives) l.streams,
-      count_append p l.sends l.receives,
-    )
-count_news p (NextIn Sends) l = omega (arith, count_append p l.woken (take 1 l.sends), count_split p l.sends)
-count_news p (NextIn Receives) l = omega (arith, count_append p l.woken (take 1 l.receives), count_split p l.receives)
-count_news p (NextIn Streams) l = omega (arith, count_append p l.woken (take 1 l.streams), count_split p l.streams)
-count_news p (NextIn Closings) l = omega (arith, count_append p l.woken (take 1 l.closings), count_split p l.closings)
-
-abbrev pub one_if : Bool → ℕ
-one_if b = if b then 1 else 0
-
-count_head : (p : Waiter → Bool) (v : Waiter) (vs : List Waiter) → length (filter p (v ∷ vs)) ≡ one_if (p v) + length (filter p vs)
-count_head p v vs = by (p v)
-  where
-    by : (b : Bool) → length (cond b (v ∷ filter p vs) (filter p vs)) ≡ one_if b + length (filter p vs)
-    by true = omega arith
-    by false = omega arith
-
-count_without : (p : Waiter → Bool) (w : Waiter) (ws : List Waiter) → length (filter p (without_waiter w ws)) ≤ length (filter p ws)
-count_without p w [] = omega arith
-count_without p w (v ∷ vs) = elim (decided (same_waiter w v)) [
-  | inl t ↦ let h = count_without p w vs in let k = count_head p v vs in rw t (omega (arith, h, k))
-  | inr t ↦ let h = count_without p w vs in let k = count_head p v vs in let j = count_head p v (without_waiter w vs) in rw t (omega (arith, h, k, j))
-]
-
-count_without_one : (p : Waiter → Bool) (w : Waiter) (ws : List Waiter) → is_among w ws ≡ true → length (filter p (without_waiter w ws)) + one_if (p w) ≤ length (filter p ws)
-count_without_one p w [] e = cc e
-count_without_one p w (v ∷ vs) e = elim (decided (same_waiter w v)) [
-  | inl t ↦
-      let h = count_without p w vs in
-      let k = count_head p v vs in
-      let same : one_if (p w) ≡ one_if (p v) = ap (λ (x : Waiter). one_if (p x)) (same_sound w v t) in
-      rw t (omega (arith, h, k, same))
-  | inr t ↦
-      let h = count_without_one p w vs (rw t at e) in
-      let k = count_head p v vs in
-      let j = count_head p v (without_waiter w vs) in
-      rw t (omega (arith, h, k, j))
-]
-
-pub count_gone : (p : Waiter → Bool) (w : Waiter) (l : Waiting) → count_all p (gone w l) ≤ count_all p l
-count_gone p w l =
-    omega (arith, count_without p w l.sends, count_without p w l.receives, count_without p w l.streams, count_without p w l.closings, count_without p w l.woken)
-
-pub count_gone_one : (p : Waiter → Bool) (w : Waiter) (l : Waiting) → is_among w l.woken ≡ true → count_all p (gone w l) + one_if (p w) ≤ count_all p l
-count_gone_one p w l e =
-    omega (arith, count_without p w l.sends, count_without p w l.receives, count_without p w l.streams, count_without p w l.closings, count_without_one p w l.woken e)
-
-pub count_end : (p : Waiter → Bool) (line : Line) (w : Waiter) (l : Waiting) → count_all p (at_end line w l) ≡ count_all p (gone w l) + one_if (p w)
-count_end p Sends w l = omega (arith, count_append p (without_waiter w l.sends) (w ∷ []), count_head p w [])
-count_end p Receives w l = omega (arith, count_append p (without_waiter w l.receives) (w ∷ []), count_head p w [])
-count_end p Streams w l = omega (arith, count_append p (without_waiter w l.streams) (w ∷ []), count_head p w [])
-count_end p Closings w l = omega (arith, count_append p (without_waiter w l.closings) (w ∷ []), count_head p w [])
 
 -- ---- how many polls are left
 

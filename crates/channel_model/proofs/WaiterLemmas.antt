@@ -1,16 +1,9 @@
 -- Names in lists, and names as the keys of entries.
-use Rattle.std.proofs.Common.{arith, ◌≡◌, ◌⊎◌, ℕ, nat_eq, List, [], ◌∷◌, Bool, true, false, ◌||◌, not, cond, None, Some, refl, sym, ap, subst, inl, inr}
-use Rattle.std.specs.List.{IsDistinct, AllByRecursion}
+use Rattle.channel_model.proofs.Words.{or_right, arith, ◌≡◌, ℕ, nat_eq, List, [], ◌∷◌, Bool, true, false, ◌||◌, not, cond, None, Some, refl, sym, ap, subst, inl, inr, AllByRecursion, nat_eq_equiv, nat_tests, keys_of, lookup_entry, remove_entry, Waiting, same_waiter, is_among, without_waiter, untold, gone, Waiter, Op, Stream, Line, Sends}
+use Rattle.std.specs.List.{IsDistinct}
 use Rattle.std.specs.Cmp.{IsEquivalence}
-use Rattle.std.proofs.lemmas.Cmp.{nat_eq_equiv}
-use Rattle.std.proofs.lemmas.Bool.Decides.{nat_tests}
-use Rattle.std.specs.Map.{keys_of, lookup_entry, remove_entry}
-use Rattle.channel_model.specs.Lines.{Waiting, same_waiter, is_among, without_waiter, untold, gone}
-use Rattle.channel_model.specs.declared.name.Waiter.{Waiter}
+pub use Rattle.std.proofs.lemmas.Bool.{cases_Bool as decided, or_cases as or_true, or_parts as or_false}
 use Rattle.channel_model.specs.contracts.name.WaiterPartialEq.TheImpl as derived
-use Rattle.channel_model.specs.declared.name.Waiter.TheVariants.{Op, Stream}
-use Rattle.channel_calls.specs.declared.stage.Line.{Line}
-use Rattle.channel_calls.specs.declared.stage.Line.TheVariants.{Sends, Receives, Streams, Closings}
 
 -- ---- one name and another
 
@@ -29,9 +22,8 @@ same_number m n e = grind (arith, nat_tests)
 
 pub same_sound : (v w : Waiter) → same_waiter v w ≡ true → v ≡ w
 same_sound (Op a) (Op b) e = ap (λ (n : ℕ). Op (record { 0 = n })) (same_number a.0 b.0 e)
-same_sound (Op a) (Stream b) e = cc e
-same_sound (Stream a) (Op b) e = cc e
 same_sound (Stream a) (Stream b) e = ap (λ (n : ℕ). Stream (record { 0 = n })) (same_number a.0 b.0 e)
+same_sound v w e = cc e
 
 pub same_equiv : IsEquivalence same_waiter
 same_equiv = record {
@@ -39,18 +31,6 @@ same_equiv = record {
   symm = same_symm;
   congr = λ x y z e. ap (λ (w : Waiter). same_waiter w z) (same_sound x y e);
 }
-
-pub decided : (b : Bool) → (b ≡ true) ⊎ (b ≡ false)
-decided true = inl refl
-decided false = inr refl
-
-pub or_false : (b r : Bool) → (b || r) ≡ false → (b ≡ false) × (r ≡ false)
-or_false true r e = cc e
-or_false false r e = (refl, e)
-
-pub or_true : (b r : Bool) → (b || r) ≡ true → (b ≡ true) ⊎ (r ≡ true)
-or_true true r e = inl refl
-or_true false r e = inr e
 
 same_as_derived : (v w : Waiter) → derived.eq-value.it v w ≡ same_waiter v w
 same_as_derived (Op a) (Op b) = refl
@@ -110,12 +90,6 @@ module _ {X : Type 0} (w : Waiter) where
     | inr t ↦ rw t (ap (λ xs. f.0 ∷ xs) (keys_without es (rest_apart f.0 (keys_of es) d)))
   ]
 
--- ---- who is left where one was taken out
-
-or_right : (b r : Bool) → r ≡ true → (b || r) ≡ true
-or_right true r e = refl
-or_right false r e = e
-
 -- who is left where one was taken out
 pub left_among : (w x : Waiter) (ws : List Waiter) → is_among x (without_waiter w ws) ≡ true → (is_among x ws ≡ true) × (same_waiter w x ≡ false)
 left_among w x [] e = cc e
@@ -137,6 +111,4 @@ none_left w (v ∷ vs) = elim (decided (same_waiter w v)) [
 
 pub untold_gone : (line : Line) (w : Waiter) (l : Waiting) → untold line (gone w l) ≡ without_waiter w (untold line l)
 untold_gone Sends w l = refl
-untold_gone Receives w l = refl
-untold_gone Streams w l = refl
-untold_gone Closings w l = refl
+untold_gone line w l = refl

@@ -1,39 +1,10 @@
 -- The calls, one by one.
-use Rattle.std.proofs.Common.{◌≡◌, ◌⊎◌, ◌&&◌, ◌==◌, ℕ, List, [], length, Bool, true, false, Option, None, Some, Err, refl, sym, ap, ◌∙◌, inl, inr}
-use Rattle.std.specs.List.{list_all}
-use Rattle.std.specs.Option.{option_map}
-use Rattle.concurrent_queue.specs.Queue.{is_filled}
+use Rattle.channel_refinement.proofs.Words.{◌≡◌, ◌⊎◌, ◌&&◌, ◌==◌, ℕ, List, [], length, Bool, true, false, Option, None, Some, Err, refl, sym, ap, ◌∙◌, inl, inr, list_all, option_map, is_filled, is_refused, Channel, says, refused_reply, Line, Sends, Receives, Closings, Senders, Receivers, Outcome, Alone, MayLackRoom, ends, sends, force_sends, says_only, replying, after_leaving, is_finished, poll_refused_answer, made, dropped, clone_answer, downgrade_answer, upgrade_answer, drop_answer, weak_of, strong_of, AwakeIn, line_at, line_of_operation, ModelOperation, send, recv, closing, at, State, Call, Handle, HandleId, HandleKind, Sender, Receiver, WeakSender, WeakReceiver, OpId, Waiter, Op, Nothing, last_reason, untaken, poll_asked, refusal_asked, giving_up_asked, drop_asked, clone_asked, upgrade_asked, stream_of, KeysHeld, asked_in, Matches, CallsAreOver, refused_names, made_names, Refines, list_of}
+use Rattle.channel_model.specs.Refusal.{refusal, is_live, uses, are_fit, takes_borrowed, names_taken}
 use Rattle.event_listener.specs.declared.error.ListenError.TheVariants as listening
-use Rattle.channel_calls.specs.Asks.{is_refused}
-use Rattle.channel_calls.specs.Moves.{Channel}
-use Rattle.channel_calls.specs.Turns.{says, refused_reply}
 use Rattle.channel_calls.specs.declared.error.Refused.TheVariants as unmade
 use Rattle.channel_calls.specs.declared.reply.Reply.TheVariants as reply
-use Rattle.channel_calls.specs.declared.stage.Line.{Line}
-use Rattle.channel_calls.specs.declared.stage.Line.TheVariants.{Sends, Receives, Closings}
-use Rattle.channel_calls.specs.declared.stage.Side.TheVariants.{Senders, Receivers}
-use Rattle.channel_alone.specs.Alone.{Outcome, Alone, MayLackRoom, ends, sends, force_sends, says_only}
-use Rattle.channel_model.specs.Answer.{replying, after_leaving, is_finished, poll_refused_answer, made, dropped, clone_answer, downgrade_answer, upgrade_answer, drop_answer, weak_of, strong_of}
-use Rattle.channel_model.specs.Awake.{AwakeIn}
-use Rattle.channel_model.specs.Laws.{line_at, line_of_operation}
-use Rattle.channel_model.specs.Names.{ModelOperation, send, recv, closing, at}
-use Rattle.channel_model.specs.Refusal.{refusal, is_live, uses, are_fit, takes_borrowed, names_taken}
-use Rattle.channel_model.specs.State.{State}
-use Rattle.channel_model.specs.declared.call.Call.{Call}
 use Rattle.channel_model.specs.declared.call.Call.TheVariants as call
-use Rattle.channel_model.specs.declared.name.Handle.{Handle}
-use Rattle.channel_model.specs.declared.name.HandleId.{HandleId}
-use Rattle.channel_model.specs.declared.name.HandleKind.{HandleKind}
-use Rattle.channel_model.specs.declared.name.HandleKind.TheVariants.{Sender, Receiver, WeakSender, WeakReceiver}
-use Rattle.channel_model.specs.declared.name.OpId.{OpId}
-use Rattle.channel_model.specs.declared.name.Waiter.{Waiter}
-use Rattle.channel_model.specs.declared.name.Waiter.TheVariants.{Op}
-use Rattle.channel_model.specs.declared.news.News.TheVariants.{Nothing}
-use Rattle.channel_model.proofs.LawSteps.{last_reason, untaken}
-use Rattle.channel_model.specs.Asked.{poll_asked, refusal_asked, giving_up_asked, drop_asked, clone_asked, upgrade_asked, stream_of, KeysHeld}
-use Rattle.channel_refinement.specs.Asked.{asked_in}
-use Rattle.channel_refinement.specs.Over.{Matches, CallsAreOver, refused_names, made_names}
-use Rattle.channel_refinement.specs.Refines.{Refines, list_of}
 use Rattle.channel_refinement.proofs.ClosingPolls.{poll_closing}
 use Rattle.channel_refinement.proofs.Dropping.{drop_sender, drop_receiver}
 use Rattle.channel_refinement.proofs.Ends.{ends_so}

@@ -1,34 +1,11 @@
 -- Polls for the channel's closing.
-use Rattle.std.proofs.Common.{◌≡◌, true, false, Option, None, Some, Ok, refl, sym, ap, ◌∙◌, inl, inr}
-use Rattle.event_listener.specs.declared.error.ListenError.{ListenError}
+use Rattle.channel_refinement.proofs.Words.{◌≡◌, true, false, Option, None, Some, Ok, refl, sym, ap, ◌∙◌, inl, inr, ListenError, Key, Channel, refused_reply, Outcome, WaitsOrGoesOn, PollsClosing, replying, after_leaving, pending, closed_poll_answer, poll_answer, AwakeIn, line_at, line_of_operation, is_among, untold, gone, ModelOperation, closing, at, not_polled, State, with_waiting, HandleId, OpId, Waiter, Op, Nothing, Closings, chosen_no, decided, Matches, polled_names, KeysHeld, Refines}
 use Rattle.event_listener.specs.declared.error.ListenError.TheVariants as listening
-use Rattle.event_listener.specs.declared.key.Key.{Key}
 use Rattle.futures.specs.declared.task.Poll.TheVariants as poll
-use Rattle.channel_calls.specs.Moves.{Channel}
-use Rattle.channel_calls.specs.Turns.{refused_reply}
 use Rattle.channel_calls.specs.declared.reply.Reply.TheVariants as reply
 use Rattle.channel_calls.specs.declared.stage.Line.TheVariants as list
 use Rattle.channel_calls.specs.declared.stage.Waiting.TheVariants as waiting
-use Rattle.channel_alone.specs.Alone.{Outcome, WaitsOrGoesOn, PollsClosing}
-use Rattle.channel_model.specs.Answer.{replying, after_leaving, pending, closed_poll_answer, poll_answer}
-use Rattle.channel_model.specs.Awake.{AwakeIn}
-use Rattle.channel_model.specs.Laws.{line_at, line_of_operation}
-use Rattle.channel_model.specs.Lines.{is_among, untold, gone}
-use Rattle.channel_model.specs.Names.{ModelOperation, closing, at}
-use Rattle.channel_model.specs.Refused.{not_polled}
-use Rattle.channel_model.specs.State.{State, with_waiting}
 use Rattle.channel_model.specs.declared.call.Call.TheVariants as call
-use Rattle.channel_model.specs.declared.name.HandleId.{HandleId}
-use Rattle.channel_model.specs.declared.name.OpId.{OpId}
-use Rattle.channel_model.specs.declared.name.Waiter.{Waiter}
-use Rattle.channel_model.specs.declared.name.Waiter.TheVariants.{Op}
-use Rattle.channel_model.specs.declared.news.News.TheVariants.{Nothing}
-use Rattle.channel_calls.specs.declared.stage.Line.TheVariants.{Closings}
-use Rattle.channel_model.proofs.LawSteps.{chosen_no}
-use Rattle.channel_model.proofs.WaiterLemmas.{decided}
-use Rattle.channel_refinement.specs.Over.{Matches, polled_names}
-use Rattle.channel_model.specs.Asked.{KeysHeld}
-use Rattle.channel_refinement.specs.Refines.{Refines}
 use Rattle.channel_refinement.proofs.Ends.{ends_so}
 use Rattle.channel_refinement.proofs.Operations.{lack_of, not_standing_is, poll_waited}
 use Rattle.channel_refinement.proofs.Polling.{WaitsAs, where_true, where_false, wait_ends}

@@ -1,48 +1,21 @@
 -- A call that is over lets go of the listener that its operation held.
-use Rattle.std.proofs.Common.{arith, ◌≡◌, ◌⊎◌, List, [], Bool, true, false, Option, None, Some, refl, sym, subst, ◌∙◌, inl, inr}
-use Rattle.event_listener.specs.declared.key.Key.{Key}
-use Rattle.channel_calls.specs.Moves.{Channel, leaves}
-use Rattle.channel_calls.specs.Parts.{Listeners, Roster, with_listeners}
-use Rattle.channel_calls.specs.Turns.{held_on}
-use Rattle.channel_model.specs.Lines.{Waiting, is_among, is_stream, untold, told_by, after_news, gone, passed_on}
-use Rattle.channel_model.specs.Awake.{Kind, Placed, times_in}
-use Rattle.channel_model.specs.Names.{ModelOperation, send, recv, closing, Names, at}
-use Rattle.channel_model.specs.Laws.{line_at, line_of_operation}
-use Rattle.channel_model.specs.declared.name.Waiter.{Waiter}
-use Rattle.channel_model.specs.declared.name.Waiter.TheVariants.{Op, Stream}
-use Rattle.channel_model.specs.declared.news.News.{News}
-use Rattle.channel_model.specs.declared.news.News.TheVariants.{Nothing}
-use Rattle.channel_calls.specs.declared.stage.Line.{Line}
-use Rattle.channel_calls.specs.declared.stage.Line.TheVariants.{Sends, Receives, Streams, Closings}
-use Rattle.channel_model.proofs.WaiterLemmas.{decided}
-use Rattle.channel_model.proofs.Counting.{among_counts}
-use Rattle.channel_model.proofs.Awake.{times_news, times_gone_self}
-use Rattle.channel_model.specs.Asked.{KeysHeld}
-use Rattle.channel_refinement.specs.Refines.{with_held, ShowsLines, KeysFit, list_of}
+use Rattle.channel_refinement.proofs.Words.{false_from_ne_true, arith, ◌≡◌, ◌⊎◌, List, [], Bool, true, false, Option, None, Some, refl, sym, subst, ◌∙◌, inl, inr, Key, Channel, leaves, Listeners, Roster, with_listeners, held_on, Waiting, is_among, is_stream, untold, told_by, after_news, gone, passed_on, Kind, Placed, times_in, ModelOperation, send, Names, at, line_at, line_of_operation, Waiter, Op, Stream, News, Nothing, Line, Sends, Streams, Closings, among_counts, times_news, times_gone_self, KeysHeld, with_held, ShowsLines, KeysFit, list_of}
 use Rattle.channel_refinement.proofs.News.{nothing_lines, keys_news}
 use Rattle.channel_refinement.proofs.Standing.{Nowhere, gone_nowhere, kindless_nowhere, keyless_nowhere, nowhere_keyless, times_untold, rekeyed_lines, keys_gone}
 use Rattle.channel_refinement.proofs.Leaving.{StreamsAreStreams, leave_lines, leave_wakes}
 
 pub times_nowhere : (w : Waiter) (l : Waiting) → times_in w l ≡ 0 → Nowhere w l
 times_nowhere w l e = record {
-  lines = λ line. elim (decided (is_among w (untold line l))) [
-    | inr t ↦ t
-    | inl t ↦ absurd (omega (arith, e, among_counts w (untold line l) t, times_untold line w l))
-  ];
-  woken = elim (decided (is_among w l.woken)) [
-    | inr t ↦ t
-    | inl t ↦ absurd (omega (arith, e, among_counts w l.woken t))
-  ];
+  lines = λ line. false_from_ne_true (is_among w (untold line l)) (λ t. omega (arith, e, among_counts w (untold line l) t, times_untold line w l));
+  woken = false_from_ne_true (is_among w l.woken) (λ t. omega (arith, e, among_counts w l.woken t));
 }
 
 pub nowhere_after : (news : News) (w : Waiter) (l : Waiting) → Nowhere w (after_news news (gone w l))
 nowhere_after news w l = times_nowhere w (after_news news (gone w l)) (times_news news w (gone w l) ∙ times_gone_self w l)
 
 pub passes_nothing : (line : Line) (w : Waiter) (l : Waiting) → is_among w l.woken ≡ false → passed_on line w l ≡ Nothing
-passes_nothing Sends w l e = rw e refl
-passes_nothing Receives w l e = rw e refl
-passes_nothing Streams w l e = rw e refl
 passes_nothing Closings w l e = refl
+passes_nothing line w l e = rw e refl
 
 -- of the kinds of names
 pub streams_are : {T : Type 0} → (names : Names T) → StreamsAreStreams (line_at names)
@@ -50,22 +23,15 @@ streams_are names (Stream r) = (λ e. refl, λ e. refl)
 streams_are {T} names (Op op) = (λ e. cc e, λ e. never (at op.0 names.operations) e) where
   never : (o : Option (ModelOperation T)) → line_of_operation o ≡ Some Streams → is_stream (Op op) ≡ true
   never (Some (send h (Some m))) e = cc e
-  never (Some (send h None)) e = cc e
-  never (Some (recv h)) e = cc e
-  never (Some (closing h)) e = cc e
-  never None e = cc e
+  never o e = cc e
 
 pub same_senders : (line : Line) (x : Listeners Waiter) (a : Roster Waiter) → (with_listeners (list_of line) x a).senders ≡ a.senders
 same_senders Sends x a = refl
-same_senders Receives x a = refl
-same_senders Streams x a = refl
-same_senders Closings x a = refl
+same_senders line x a = refl
 
 pub same_receivers : (line : Line) (x : Listeners Waiter) (a : Roster Waiter) → (with_listeners (list_of line) x a).receivers ≡ a.receivers
 same_receivers Sends x a = refl
-same_receivers Receives x a = refl
-same_receivers Streams x a = refl
-same_receivers Closings x a = refl
+same_receivers line x a = refl
 
 -- the channel d that the leaving of w makes of c, and the names woken by it
 pub record Departed {T : Type 0} (kind : Kind) (held : KeysHeld) (closed : Bool) (line : Line) (w : Waiter) (l : Waiting) (c d : Channel T Waiter) (names : List Waiter) : Type 0 where

@@ -1,50 +1,21 @@
 -- Drops of handles: the last strong one of its side closes, and then a receiver's own stream leaves.
-use Rattle.std.proofs.Common.{◌≡◌, ℕ, ◌-◌, ◌==◌, ◌&&◌, List, [], ◌++◌, length, Bool, true, false, not, if◌then◌else◌, Option, None, Some, refl, sym, ap, subst, ◌∙◌, inl, append-nil}
-use Rattle.channel_calls.specs.Moves.{Channel, leaves, lowers, tells_all}
-use Rattle.channel_calls.specs.Parts.{count}
-use Rattle.channel_calls.specs.Turns.{held_on, closer_ending, dropper}
-use Rattle.concurrent_queue.specs.Queue.{Queue}
-use Rattle.event_listener.specs.declared.key.Key.{Key}
+use Rattle.channel_refinement.proofs.Words.{◌≡◌, ℕ, ◌-◌, ◌==◌, ◌&&◌, List, [], ◌++◌, length, Bool, true, false, not, if◌then◌else◌, Option, None, Some, refl, sym, ap, subst, ◌∙◌, inl, append-nil, Channel, leaves, lowers, tells_all, count, held_on, closer_ending, dropper, Queue, Key, Side, Senders, Receivers, Outcome, ends, of_closing, over_queue, drops, after_telling, after_leaving, shut, without_one, news_without_one, dropped, drop_answer, AwakeIn, Awake, Kind, line_at, Waiting, untold, told_by, after_news, at, State, with_channel, Handle, HandleId, Sender, Receiver, Waiter, Stream, News, Nothing, Closing, Line, Sends, Receives, Streams, Closings, placed_news, stream_of, KeysHeld, Matches, Refines, ShowsLines}
 use Rattle.channel_calls.specs.declared.reply.Reply.TheVariants as reply
 use Rattle.channel_calls.specs.declared.stage.Line.TheVariants as list
-use Rattle.channel_calls.specs.declared.stage.Side.{Side}
-use Rattle.channel_calls.specs.declared.stage.Side.TheVariants.{Senders, Receivers}
 use Rattle.channel_alone.specs.Alone as alone
-use Rattle.channel_alone.specs.Alone.{Outcome, ends, of_closing, over_queue, drops}
 use Rattle.channel_model.specs.Answer as model
-use Rattle.channel_model.specs.Answer.{after_telling, after_leaving, shut, without_one, news_without_one, dropped, drop_answer}
-use Rattle.channel_model.specs.Awake.{AwakeIn, Awake, Kind}
 use Rattle.channel_model.specs.Channel as plain
-use Rattle.channel_model.specs.Laws.{line_at}
-use Rattle.channel_model.specs.Lines.{Waiting, untold, told_by, after_news}
-use Rattle.channel_model.specs.Names.{at}
-use Rattle.channel_model.specs.State.{State, with_channel}
 use Rattle.channel_model.specs.declared.call.Call.TheVariants as call
-use Rattle.channel_model.specs.declared.name.Handle.{Handle}
-use Rattle.channel_model.specs.declared.name.HandleId.{HandleId}
-use Rattle.channel_model.specs.declared.name.HandleKind.TheVariants.{Sender, Receiver}
-use Rattle.channel_model.specs.declared.name.Waiter.{Waiter}
-use Rattle.channel_model.specs.declared.name.Waiter.TheVariants.{Stream}
-use Rattle.channel_model.specs.declared.news.News.{News}
-use Rattle.channel_model.specs.declared.news.News.TheVariants.{Nothing, Closing}
-use Rattle.channel_calls.specs.declared.stage.Line.{Line}
-use Rattle.channel_calls.specs.declared.stage.Line.TheVariants.{Sends, Receives, Streams, Closings}
-use Rattle.channel_model.proofs.Awake.{placed_news}
-use Rattle.channel_model.specs.Asked.{stream_of, KeysHeld}
-use Rattle.channel_refinement.specs.Over.{Matches}
-use Rattle.channel_refinement.specs.Refines.{Refines, ShowsLines}
+use Rattle.channel_refinement.proofs.Matching.{shows_again, matching}
 use Rattle.channel_refinement.proofs.Departing.{departed, streams_are}
 use Rattle.channel_refinement.proofs.Ends.{leaves_now, left_state}
 use Rattle.channel_refinement.proofs.Handles.{kind_of_side, same_kinds, shows_handles, shows_count, same_count}
-use Rattle.channel_refinement.proofs.Matching.{matching}
 use Rattle.channel_refinement.proofs.News.{shut_lines, nothing_lines, keys_news, closing_lines, closing_wakes}
 use Rattle.channel_refinement.proofs.Told.{told_left_as}
 
 nobody_left : (own : Line) (l : Waiting) → untold own (after_news Closing l) ≡ []
 nobody_left Sends l = refl
-nobody_left Receives l = refl
-nobody_left Streams l = refl
-nobody_left Closings l = refl
+nobody_left own l = refl
 
 module _ {T : Type 0} (held : KeysHeld) (c : Channel T Waiter) (s : State T) (h : Refines held c s) (awake : AwakeIn s) (handle : HandleId) where
   -- ---- the handle is gone and its count is lower
@@ -106,15 +77,9 @@ module _ {T : Type 0} (held : KeysHeld) (c : Channel T Waiter) (s : State T) (h 
         let g = shows_lowered Senders in
         matching held s (call.Drop handle) None (ap (λ (o : Option Handle). stream_of handle o) there) (ends [] (closer_ending (dropper Senders None) false) (lowers Senders c).channel)
         (after_telling Nothing (lowered Senders) reply.Unit) (inl (sender_says Nothing (fewer Senders) q.0 q.1)) refl refl
-        (record {
-          messages = g.messages;
-          closed = g.closed;
-          capacity = g.capacity;
-          senders = g.senders;
-          receivers = g.receivers;
-          lines = nothing_lines (line_at (lowered Senders).names) held s.channel.closed (lowers Senders c).channel.roster s.waiting g.lines;
-          keys = keys_news (line_at (lowered Senders).names) held Nothing s.waiting g.keys;
-        })
+        (shows_again g _ held (after_telling Nothing (lowered Senders) reply.Unit).after refl refl refl refl
+        (nothing_lines (line_at (lowered Senders).names) held s.channel.closed (lowers Senders c).channel.roster s.waiting g.lines)
+        (keys_news (line_at (lowered Senders).names) held Nothing s.waiting g.keys))
         refl refl
 
     sender_closes : (last : (model.strong_handles Sender s.channel == 1) ≡ true) → s.channel.closed ≡ false

@@ -1,28 +1,7 @@
 -- A call that ends with nothing told: its operation or stream lets go of its listener, and passes on what it was told.
-use Rattle.std.proofs.Common.{◌≡◌, ◌⊎◌, List, [], Option, None, Some, refl, sym, ap, subst, ◌∙◌, append-nil}
-use Rattle.concurrent_queue.specs.Queue.{Queue}
-use Rattle.channel_calls.specs.Moves.{Channel, leaves}
-use Rattle.channel_calls.specs.Turns.{held_on}
-use Rattle.channel_calls.specs.Answered.{over}
-use Rattle.channel_calls.specs.declared.reply.Reply.{Reply}
-use Rattle.channel_calls.specs.declared.stage.Line.{Line}
-use Rattle.channel_alone.specs.Alone.{Outcome, ends}
-use Rattle.channel_model.specs.Answer.{after_leaving}
-use Rattle.channel_model.specs.Awake.{AwakeIn}
-use Rattle.channel_model.specs.Laws.{line_at}
-use Rattle.channel_model.specs.Lines.{after_news}
-use Rattle.channel_model.specs.Refused.{Answers}
-use Rattle.channel_model.specs.State.{State}
-use Rattle.channel_model.specs.declared.call.Call.{Call}
-use Rattle.channel_model.specs.declared.name.Waiter.{Waiter}
-use Rattle.channel_model.specs.declared.news.News.TheVariants.{Nothing}
-use Rattle.channel_model.proofs.Awake.{placed_news, empty_news}
-use Rattle.channel_refinement.specs.Asked.{keeper}
-use Rattle.channel_refinement.specs.Over.{Matches, names_after}
-use Rattle.channel_model.specs.Asked.{KeysHeld}
-use Rattle.channel_refinement.specs.Refines.{with_held, Refines, list_of}
+use Rattle.channel_refinement.proofs.Words.{◌≡◌, ◌⊎◌, List, [], Option, None, Some, refl, sym, subst, ◌∙◌, append-nil, Channel, leaves, held_on, over, Reply, Line, Outcome, ends, after_leaving, AwakeIn, line_at, after_news, Answers, State, Call, Waiter, Nothing, placed_news, empty_news, keeper, Matches, names_after, KeysHeld, with_held, Refines, list_of}
+use Rattle.channel_refinement.proofs.Matching.{shows_again, matching}
 use Rattle.channel_refinement.proofs.Departing.{Departed, departed, streams_are}
-use Rattle.channel_refinement.proofs.Matching.{matching}
 use Rattle.channel_refinement.proofs.News.{nothing_lines, keys_news}
 use Rattle.channel_refinement.proofs.Told.{told_left_as}
 
@@ -38,15 +17,7 @@ module _ {T : Type 0} (held : KeysHeld) (c : Channel T Waiter) (s : State T) (h 
   -- the state after it, where no name changed
   pub left_state : (line : Line) (w : Waiter) (r : Reply T) (d : Channel T Waiter) (names : List Waiter)
       → Departed (line_at s.names) held s.channel.closed line w (after_news Nothing s.waiting) c d names → Refines (with_held w None held) d (after_leaving Nothing line w s r).after
-  left_state line w r d names g = record {
-    messages = ap (λ (q : Queue T). q.items) g.queue ∙ h.messages;
-    closed = ap (λ (q : Queue T). q.closed) g.queue ∙ h.closed;
-    capacity = ap (λ (q : Queue T). q.capacity) g.queue ∙ h.capacity;
-    senders = g.senders ∙ h.senders;
-    receivers = g.receivers ∙ h.receivers;
-    lines = g.lines;
-    keys = g.keys;
-  }
+  left_state line w r d names g = shows_again h d (with_held w None held) (after_leaving Nothing line w s r).after refl g.queue g.senders g.receivers g.lines g.keys
 
   -- a call of w's that ends so with this answer, and keeps this message
   pub ends_so : (call : Call T) (line : Line) (w : Waiter) (r : Reply T) (m : Option T) (o : Outcome T Waiter) → keeper s call ≡ Some w

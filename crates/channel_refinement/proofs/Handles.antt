@@ -1,48 +1,16 @@
 -- Handles: what their names and their counts are to a channel that shows a state, which is nothing; and new handles.
-use Rattle.std.proofs.Common.{◌≡◌, ℕ, ◌+◌, ◌-◌, ◌^◌, ◌==◌, ◌&&◌, ◌||◌, nat_lt, Bool, true, false, if◌then◌else◌, None, Some, refl, sym, ap, subst, ◌∙◌, append-nil, arith}
-use Rattle.std.proofs.lemmas.Bool.Decides.{nat_tests}
-use Rattle.channel_calls.specs.Moves.{Channel, on_count, raises, untouched}
+use Rattle.channel_refinement.proofs.Words.{◌≡◌, ℕ, ◌+◌, ◌-◌, ◌^◌, ◌==◌, ◌&&◌, ◌||◌, nat_lt, Bool, true, false, if◌then◌else◌, None, Some, refl, sym, ap, subst, ◌∙◌, append-nil, arith, nat_tests, Channel, on_count, raises, untouched, Roster, with_count, count, is_raised, most, nothing_kept, Reply, Side, Senders, Receivers, Outcome, answers, says_only, clones, upgrades, Answer, replying, made, spent, one_more, upgrade_to, Kind, line_at, Waiting, Names, Directory, with_handles, Answers, State, with_channel, with_names, Call, Handle, HandleId, HandleKind, Sender, Receiver, Waiter, Op, Stream, Sends, chosen_no, keeper, Matches, names_after, made_names, KeysHeld, Refines, ShowsLines, KeysFit}
 use Rattle.channel_calls.specs.Marks.{up}
-use Rattle.channel_calls.specs.Parts.{Roster, with_count, count, is_raised}
-use Rattle.channel_calls.specs.Turns.{most, nothing_kept}
-use Rattle.channel_calls.specs.declared.reply.Reply.{Reply}
 use Rattle.channel_calls.specs.declared.reply.Reply.TheVariants as reply
-use Rattle.channel_calls.specs.declared.stage.Side.{Side}
-use Rattle.channel_calls.specs.declared.stage.Side.TheVariants.{Senders, Receivers}
-use Rattle.channel_alone.specs.Alone.{Outcome, answers, says_only, clones, upgrades}
 use Rattle.channel_model.specs.Answer as model
-use Rattle.channel_model.specs.Answer.{Answer, replying, made, spent, one_more, upgrade_to}
-use Rattle.channel_model.specs.Awake.{Kind}
-use Rattle.channel_model.specs.Laws.{line_at}
-use Rattle.channel_model.specs.Lines.{Waiting}
-use Rattle.channel_model.specs.Names.{Names, Directory, with_handles}
-use Rattle.channel_model.specs.Refused.{Answers}
-use Rattle.channel_model.specs.State.{State, with_channel, with_names}
-use Rattle.channel_model.specs.declared.call.Call.{Call}
-use Rattle.channel_model.specs.declared.name.Handle.{Handle}
-use Rattle.channel_model.specs.declared.name.HandleId.{HandleId}
-use Rattle.channel_model.specs.declared.name.HandleKind.{HandleKind}
-use Rattle.channel_model.specs.declared.name.HandleKind.TheVariants.{Sender, Receiver}
-use Rattle.channel_model.specs.declared.name.Waiter.{Waiter}
-use Rattle.channel_model.specs.declared.name.Waiter.TheVariants.{Op, Stream}
-use Rattle.channel_calls.specs.declared.stage.Line.TheVariants.{Sends, Receives, Streams, Closings}
-use Rattle.channel_model.proofs.LawSteps.{chosen_no}
-use Rattle.channel_refinement.specs.Asked.{keeper}
-use Rattle.channel_refinement.specs.Over.{Matches, names_after, made_names}
-use Rattle.channel_refinement.proofs.Matching.{matching}
-use Rattle.channel_model.specs.Asked.{KeysHeld}
-use Rattle.channel_refinement.specs.Refines.{Refines, ShowsLines, KeysFit}
+use Rattle.channel_refinement.proofs.Matching.{shows_again, matching}
 
 -- the counts of handles are no matter to the lists
 pub counted_lines : (kind : Kind) (held : KeysHeld) (closed : Bool) (side : Side) (n : ℕ) (a : Roster Waiter) (l : Waiting) → ShowsLines kind held closed a l → ShowsLines kind held closed (with_count side n a) l
 counted_lines kind held closed Senders n a l h Sends = h Sends
-counted_lines kind held closed Senders n a l h Receives = h Receives
-counted_lines kind held closed Senders n a l h Streams = h Streams
-counted_lines kind held closed Senders n a l h Closings = h Closings
-counted_lines kind held closed Receivers n a l h Sends = h Sends
-counted_lines kind held closed Receivers n a l h Receives = h Receives
-counted_lines kind held closed Receivers n a l h Streams = h Streams
-counted_lines kind held closed Receivers n a l h Closings = h Closings
+counted_lines kind held closed Senders n a l h line = h line
+counted_lines kind held closed side n a l h Sends = h Sends
+counted_lines kind held closed side n a l h line = h line
 
 -- the strong handles of a side
 abbrev pub kind_of_side : Side → HandleKind
@@ -61,15 +29,10 @@ module _ {T : Type 0} where
     same (Op op) = refl
 
   pub shows_handles : (held : KeysHeld) (c : Channel T Waiter) (s : State T) (handles : Directory Handle) → Refines held c s → Refines held c (with_names (with_handles handles s.names) s)
-  shows_handles held c s handles h = record {
-    messages = h.messages;
-    closed = h.closed;
-    capacity = h.capacity;
-    senders = h.senders;
-    receivers = h.receivers;
-    lines = subst (λ (kind : Kind). ShowsLines kind held s.channel.closed c.roster s.waiting) (sym (same_kinds s.names handles)) h.lines;
-    keys = subst (λ (kind : Kind). KeysFit kind held s.waiting) (sym (same_kinds s.names handles)) h.keys;
-  }
+  shows_handles held c s handles h =
+      shows_again h c held (with_names (with_handles handles s.names) s) refl refl refl refl
+      (subst (λ (kind : Kind). ShowsLines kind held s.channel.closed c.roster s.waiting) (sym (same_kinds s.names handles)) h.lines)
+      (subst (λ (kind : Kind). KeysFit kind held s.waiting) (sym (same_kinds s.names handles)) h.keys)
 
   -- a count that changed
   pub shows_count : (held : KeysHeld) (c : Channel T Waiter) (s : State T) (side : Side) (n m : ℕ) → n ≡ m → Refines held c s

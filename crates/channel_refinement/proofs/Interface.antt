@@ -1,6 +1,5 @@
 -- What a layer above may use: the two laws, of any message type.
-use Rattle.channel_refinement.specs.Opening.{OpeningIsOver}
-use Rattle.channel_refinement.specs.Over.{CallsAreOver}
+use Rattle.channel_refinement.proofs.Words.{OpeningIsOver, CallsAreOver}
 use Rattle.channel_refinement.proofs.Calls as calls
 use Rattle.channel_refinement.proofs.Opening as opening
 

@@ -1,26 +1,10 @@
 -- One who leaves a list, and passes on the notice that it was told, leaves its line so.
-use Rattle.std.proofs.Common.{arith, ◌≡◌, ◌⊎◌, ◌≤◌, ◌-◌, ℕ, min, List, [], ◌∷◌, length, take, Bool, true, false, not, Option, None, Some, is_some, refl, sym, ap, subst, ◌∙◌, inl, inr, append-nil, if◌then◌else◌}
-use Rattle.std.specs.List.{list_any}
+use Rattle.channel_refinement.proofs.Words.{ShowsTold, AreUntold, AreTold, IsToldSo, ShowsLine, ShowsLines, KeysFit, list_of, of_line, false_from_ne_true, arith, ◌≡◌, ◌⊎◌, ◌≤◌, ◌-◌, ℕ, min, List, [], ◌∷◌, length, take, Bool, true, false, not, Option, None, Some, is_some, refl, sym, ap, subst, ◌∙◌, inl, inr, append-nil, if◌then◌else◌, list_any, Key, Listeners, Roster, listeners, with_listeners, Waiting, is_among, is_stream, untold, told_by, after_news, gone, passed_on, Kind, Placed, times, same_line, Waiter, News, Nothing, NextIn, Line, Sends, Receives, Streams, Closings, decided, or_false, without_absent, untold_gone, line_refl, placed_gone, empty_gone, KeysHeld, among_take}
+use Rattle.std.proofs.lemmas.Slice.Zip.{AllZip-long}
 use Rattle.event_listener.specs.Lists.{Notice, notified, moved, passed, passed_wakes, told_as, waits_as, removed, removed_wakes, without as unlisted}
-use Rattle.event_listener.specs.declared.key.Key.{Key}
-use Rattle.channel_calls.specs.Parts.{Listeners, Roster, listeners, with_listeners}
-use Rattle.channel_model.specs.Lines.{Waiting, is_among, is_stream, untold, told_by, after_news, gone, passed_on}
-use Rattle.channel_model.specs.Awake.{Kind, Placed, times}
-use Rattle.channel_model.specs.Laws.{same_line}
-use Rattle.channel_model.specs.declared.name.Waiter.{Waiter}
-use Rattle.channel_model.specs.declared.news.News.{News}
-use Rattle.channel_model.specs.declared.news.News.TheVariants.{Nothing, NextIn}
-use Rattle.channel_calls.specs.declared.stage.Line.{Line}
-use Rattle.channel_calls.specs.declared.stage.Line.TheVariants.{Sends, Receives, Streams, Closings}
-use Rattle.channel_model.proofs.WaiterLemmas.{decided, or_false, without_absent}
-use Rattle.channel_model.proofs.WaiterLemmas.{untold_gone}
-use Rattle.channel_model.proofs.Awake.{line_refl, placed_gone, empty_gone}
-use Rattle.channel_model.specs.Asked.{KeysHeld}
-use Rattle.channel_refinement.specs.Refines.{AreUntold, AreTold, IsToldSo, ShowsLine, ShowsLines, KeysFit, list_of, of_line}
+use Rattle.channel_refinement.proofs.Telling.{quiet_line, Lined, replaced, unmoved, first_tasks, next_line, next_other, others_woken}
 use Rattle.channel_refinement.proofs.Names.{AllOf, among_of_line, among_its_line, not_of_line, of_line_without}
-use Rattle.channel_refinement.proofs.Entries.{tasks_are, untold_first, none_untold, told_lengths, OnlyHolder, untold_without, told_without, told_found, told_missed, untold_found, untold_missed}
-use Rattle.channel_refinement.proofs.Telling.{Lined, replaced, unmoved, first_tasks, next_line, next_other, others_woken}
-use Rattle.channel_model.proofs.Counting.{among_take}
+use Rattle.channel_refinement.proofs.Entries.{tasks_are, untold_first, none_untold, OnlyHolder, untold_without, told_without, told_found, told_missed, untold_found, untold_missed}
 use Rattle.channel_refinement.proofs.Standing.{times_of_line, times_untold}
 
 -- streams, and they alone, belong to the line of streams
@@ -61,14 +45,8 @@ module _ (kind : Kind) (held : KeysHeld) (closed : Bool) where
   } where
     still : ShowsLine kind held closed line (notified n.additional [] y) (after_news Nothing m)
     still =
-        unmoved kind held closed line (notified n.additional [] y) m (after_news Nothing m) (same_untold line) (ap (λ (ws : List Waiter). of_line kind line ws) (append-nil m.woken))
+        quiet_line kind held closed line (notified n.additional [] y) m
         (record { untold = h.untold; told = subst (λ (es : List (Key × Notice (Unit {0}))). AreTold held closed line es (of_line kind line m.woken)) (sym (append-nil y.told)) h.told })
-      where
-        same_untold : (line : Line) → untold line (after_news Nothing m) ≡ untold line m
-        same_untold Sends = refl
-        same_untold Receives = refl
-        same_untold Streams = refl
-        same_untold Closings = refl
 
   one_moved : (line : Line) (n : Notice (Unit {0})) (y : Listeners Waiter) (m : Waiting) → moved n.additional 1 y ≡ min 1 (length y.waiting) → (closed ≡ false → IsToldSo line n.additional)
       → AllOf kind line (untold line m) → ShowsLine kind held closed line y m → Left kind held closed line (passed n y) (passed_wakes n y) (NextIn line) m
@@ -90,15 +68,6 @@ module _ (kind : Kind) (held : KeysHeld) (closed : Bool) where
   nobody_first : (ws : List (Key × Option Waiter)) → ws ≡ [] → min 1 (length ws) ≡ 0
   nobody_first ws e = rw e (omega arith)
 
-  as_one_more : (a : Bool) (t : ℕ) (ws : List (Key × Option Waiter)) → a ≡ true → min (if a then 1 else 1 - t) (length ws) ≡ min 1 (length ws)
-  as_one_more a t ws e = rw e refl
-
-  as_the_only : (a : Bool) (t : ℕ) (ws : List (Key × Option Waiter)) → a ≡ false → t ≡ 0 → min (if a then 1 else 1 - t) (length ws) ≡ min 1 (length ws)
-  as_the_only a t ws e f = rw (e, f) refl
-
-  as_one_of_many : (a : Bool) (t : ℕ) (ws : List (Key × Option Waiter)) → a ≡ false → 1 ≤ t → min (if a then 1 else 1 - t) (length ws) ≡ 0
-  as_one_of_many a t ws e f = rw e (omega (arith, f))
-
   -- how a told one of this line passes its notice on, once it is gone
   abbrev pub heir : Line → Waiting → News
   heir Sends m = NextIn Sends
@@ -109,8 +78,12 @@ module _ (kind : Kind) (held : KeysHeld) (closed : Bool) where
   none_waits : (line : Line) (y : Listeners Waiter) (m : Waiting) → ShowsLine kind held closed line y m → untold line m ≡ [] → y.waiting ≡ []
   none_waits line y m h e = none_untold held y.waiting (untold line m) h.untold e
 
+  none_as_first : (line : Line) (n : Notice (Unit {0})) (y : Listeners Waiter) (m : Waiting) → untold line m ≡ [] → ShowsLine kind held closed line y m → moved n.additional 1 y ≡ min 1 (length y.waiting)
+  none_as_first line n y m e h =
+      let none = none_waits line y m h e in nobody_moved n.additional (length y.told) y.waiting none ∙ sym (nobody_first y.waiting none)
+
   as_many_told : (line : Line) (y : Listeners Waiter) (m : Waiting) → ShowsLine kind held closed line y m → length y.told ≡ length (of_line kind line m.woken)
-  as_many_told line y m h = told_lengths held closed line y.told (of_line kind line m.woken) h.told
+  as_many_told line y m h = sym (AllZip-long (ShowsTold held closed line) y.told (of_line kind line m.woken) h.told)
 
   no_stream : StreamsAreStreams kind → (ws : List Waiter) → list_any is_stream ws ≡ false → length (of_line kind Streams ws) ≡ 0
   no_stream streams [] e = refl
@@ -119,11 +92,8 @@ module _ (kind : Kind) (held : KeysHeld) (closed : Bool) where
       absent w (kind w) refl off.0 (no_stream streams ws off.1)
     where
       absent : (w : Waiter) (o : Option Line) → kind w ≡ o → is_stream w ≡ false → length (of_line kind Streams ws) ≡ 0 → length (of_line kind Streams (w ∷ ws)) ≡ 0
-      absent w None k f h = rw k h
-      absent w (Some Sends) k f h = rw k h
-      absent w (Some Receives) k f h = rw k h
       absent w (Some Streams) k f h = cc (sym ((streams w).1 k) ∙ f)
-      absent w (Some Closings) k f h = rw k h
+      absent w o k f h = rw k h
 
   some_stream : StreamsAreStreams kind → (ws : List Waiter) → list_any is_stream ws ≡ true → 1 ≤ length (of_line kind Streams ws)
   some_stream streams [] e = cc e
@@ -132,46 +102,32 @@ module _ (kind : Kind) (held : KeysHeld) (closed : Bool) where
     | inr t ↦ at_kind (kind w) refl (some_stream streams ws (rw t at e))
   ] where
     at_kind : (o : Option Line) → kind w ≡ o → 1 ≤ length (of_line kind Streams ws) → 1 ≤ length (of_line kind Streams (w ∷ ws))
-    at_kind None k h = rw k h
-    at_kind (Some Sends) k h = rw k h
-    at_kind (Some Receives) k h = rw k h
     at_kind (Some Streams) k h = rw k (omega (arith, h))
-    at_kind (Some Closings) k h = rw k h
-
-  chosen_none : (b : Bool) → b ≡ true → (if not b then NextIn Streams else Nothing) ≡ Nothing
-  chosen_none b e = rw e refl
-
-  chosen_next : (b : Bool) → b ≡ false → (if not b then NextIn Streams else Nothing) ≡ NextIn Streams
-  chosen_next b e = rw e refl
+    at_kind o k h = rw k h
 
   passes : StreamsAreStreams kind → (line : Line) (n : Notice (Unit {0})) (y : Listeners Waiter) (m : Waiting) → (closed ≡ false → IsToldSo line n.additional) → (closed ≡ true → untold line m ≡ [])
       → AllOf kind line (untold line m) → ShowsLine kind held closed line y m → Left kind held closed line (passed n y) (passed_wakes n y) (heir line m) m
-  passes streams Sends n y m so shut all h = elim (open_or_shut closed) [
-    | inl o ↦ one_moved Sends n y m (as_one_more n.additional (length y.told) y.waiting (so o)) so all h
-    | inr c ↦ let none = none_waits Sends y m h (shut c) in
-        one_moved Sends n y m (nobody_moved n.additional (length y.told) y.waiting none ∙ sym (nobody_first y.waiting none)) so all h
-  ]
-  passes streams Receives n y m so shut all h = elim (open_or_shut closed) [
-    | inl o ↦ one_moved Receives n y m (as_one_more n.additional (length y.told) y.waiting (so o)) so all h
-    | inr c ↦ let none = none_waits Receives y m h (shut c) in
-        one_moved Receives n y m (nobody_moved n.additional (length y.told) y.waiting none ∙ sym (nobody_first y.waiting none)) so all h
-  ]
   passes streams Closings n y m so shut all h = elim (open_or_shut closed) [
     | inl o ↦ absurd (so o)
     | inr c ↦ none_moved Closings n y m (nobody_moved n.additional (length y.told) y.waiting (none_waits Closings y m h (shut c))) h
   ]
   passes streams Streams n y m so shut all h = elim (decided (list_any is_stream m.woken)) [
-    | inl t ↦ subst (λ (news : News). Left kind held closed Streams (passed n y) (passed_wakes n y) news m) (sym (chosen_none (list_any is_stream m.woken) t))
-        (none_moved Streams n y m (elim (open_or_shut closed) [
-          | inl o ↦ let many : 1 ≤ length y.told = subst (λ (k : ℕ). 1 ≤ k) (sym (as_many_told Streams y m h)) (some_stream streams m.woken t) in
-              as_one_of_many n.additional (length y.told) y.waiting (so o) many
-          | inr c ↦ nobody_moved n.additional (length y.told) y.waiting (none_waits Streams y m h (shut c))
-        ]) h)
-    | inr t ↦ subst (λ (news : News). Left kind held closed Streams (passed n y) (passed_wakes n y) news m) (sym (chosen_next (list_any is_stream m.woken) t))
-        (one_moved Streams n y m (elim (open_or_shut closed) [
-          | inl o ↦ as_the_only n.additional (length y.told) y.waiting (so o) (as_many_told Streams y m h ∙ no_stream streams m.woken t)
-          | inr c ↦ let none = none_waits Streams y m h (shut c) in nobody_moved n.additional (length y.told) y.waiting none ∙ sym (nobody_first y.waiting none)
-        ]) so all h)
+    | inl t ↦ rw t (none_moved Streams n y m (elim (open_or_shut closed) [
+      | inl o ↦
+          let many : 1 ≤ length y.told = subst (λ (k : ℕ). 1 ≤ k) (sym (as_many_told Streams y m h)) (some_stream streams m.woken t) in
+          rw (so o) (omega (arith, many))
+      | inr c ↦ nobody_moved n.additional (length y.told) y.waiting (none_waits Streams y m h (shut c))
+    ]) h)
+    | inr t ↦ rw t (one_moved Streams n y m (elim (open_or_shut closed) [
+      | inl o ↦
+          let none : length y.told ≡ 0 = as_many_told Streams y m h ∙ no_stream streams m.woken t in
+          rw (so o, none) refl
+      | inr c ↦ none_as_first Streams n y m (shut c) h
+    ]) so all h)
+  ]
+  passes streams line n y m so shut all h = elim (open_or_shut closed) [
+    | inl o ↦ one_moved line n y m (rw (so o) refl) so all h
+    | inr c ↦ one_moved line n y m (none_as_first line n y m (shut c) h) so all h
   ]
 
   -- ---- one who leaves
@@ -202,13 +158,10 @@ module _ (kind : Kind) (held : KeysHeld) (closed : Bool) where
     }
 
     not_in : (other : Line) → same_line other own ≡ false → is_among w (untold other l) ≡ false
-    not_in other off = elim (decided (is_among w (untold other l))) [
-      | inr t ↦ t
-      | inl t ↦
-          let same : Some other ≡ Some own = sym (placed.lines other w t) ∙ k in
-          let lines : other ≡ own = cc same in
-          cc (sym (subst (λ (z : Line). same_line other z ≡ true) lines (line_refl other)) ∙ off)
-    ]
+    not_in other off = false_from_ne_true (is_among w (untold other l)) (λ t.
+        let same : Some other ≡ Some own = sym (placed.lines other w t) ∙ k in
+        let lines : other ≡ own = cc same in
+        cc (sym (subst (λ (z : Line). same_line other z ≡ true) lines (line_refl other)) ∙ off))
 
     -- the other lists
     pub other_gone : (other : Line) → same_line other own ≡ false → ShowsLine kind held closed other (listeners (list_of other) a) (gone w l)
@@ -222,20 +175,13 @@ module _ (kind : Kind) (held : KeysHeld) (closed : Bool) where
     shut_gone : closed ≡ true → untold own (gone w l) ≡ []
     shut_gone c = empty_gone own w l (shut c own)
 
-    chosen : (b c : Bool) (p q : News) → b ≡ c → (if b then p else q) ≡ (if c then p else q)
-    chosen b c p q e = rw e refl
-
     passed_told : (line : Line) → is_among w l.woken ≡ true → passed_on line w l ≡ heir line (gone w l)
-    passed_told Sends t = rw t refl
-    passed_told Receives t = rw t refl
-    passed_told Streams t = rw t refl
     passed_told Closings t = refl
+    passed_told line t = rw t refl
 
     passed_untold : (line : Line) → is_among w l.woken ≡ false → passed_on line w l ≡ Nothing
-    passed_untold Sends t = rw t refl
-    passed_untold Receives t = rw t refl
-    passed_untold Streams t = rw t refl
     passed_untold Closings t = refl
+    passed_untold line t = rw t refl
 
     relisted : (y : Listeners Waiter) (names : List Waiter) (news : News) → removed key true x ≡ y → removed_wakes key true x ≡ names → Left kind held closed own y names news (gone w l)
         → Left kind held closed own (removed key true x) (removed_wakes key true x) news (gone w l)
@@ -256,15 +202,10 @@ module _ (kind : Kind) (held : KeysHeld) (closed : Bool) where
 
     still_gone : (y : Listeners Waiter) → ShowsLine kind held closed own y (gone w l) → Left kind held closed own y [] Nothing (gone w l)
     still_gone y g = record {
-      own = unmoved kind held closed own y (gone w l) (after_news Nothing (gone w l)) (same_untold own) (ap (λ (ws : List Waiter). of_line kind own ws) (append-nil (gone w l).woken)) g;
+      own = quiet_line kind held closed own y (gone w l) g;
       wakes = refl;
       quiet = inl refl;
-    } where
-      same_untold : (line : Line) → untold line (after_news Nothing (gone w l)) ≡ untold line (gone w l)
-      same_untold Sends = refl
-      same_untold Receives = refl
-      same_untold Streams = refl
-      same_untold Closings = refl
+    }
 
     after_untold : is_among w l.woken ≡ false → Left kind held closed own (removed key true x) (removed_wakes key true x) (passed_on own w l) (gone w l)
     after_untold t =
@@ -293,13 +234,7 @@ module _ (kind : Kind) (held : KeysHeld) (closed : Bool) where
     others_by : (news : News) → (news ≡ Nothing) ⊎ (news ≡ NextIn own) → (other : Line) → same_line other own ≡ false → ShowsLine kind held closed other (listeners (list_of other) a) (after_news news (gone w l))
     others_by news (inl e) other off =
         subst (λ (z : News). ShowsLine kind held closed other (listeners (list_of other) a) (after_news z (gone w l))) (sym e)
-        (unmoved kind held closed other (listeners (list_of other) a) (gone w l) (after_news Nothing (gone w l)) (same_untold other) (ap (λ (ws : List Waiter). of_line kind other ws) (append-nil (gone w l).woken)) (other_gone other off))
-      where
-        same_untold : (line : Line) → untold line (after_news Nothing (gone w l)) ≡ untold line (gone w l)
-        same_untold Sends = refl
-        same_untold Receives = refl
-        same_untold Streams = refl
-        same_untold Closings = refl
+        (quiet_line kind held closed other (listeners (list_of other) a) (gone w l) (other_gone other off))
     others_by news (inr e) other off =
         subst (λ (z : News). ShowsLine kind held closed other (listeners (list_of other) a) (after_news z (gone w l))) (sym e)
         (unmoved kind held closed other (listeners (list_of other) a) (gone w l) (after_news (NextIn own) (gone w l)) (next_other own other (gone w l) off)

@@ -1,21 +1,7 @@
 -- One who comes to wait stands at the end of its line.
-use Rattle.std.proofs.Common.{arith, ◌≡◌, ◌≤◌, ◌+◌, List, [], ◌∷◌, ◌++◌, Bool, true, false, cond, Option, None, Some, is_some, refl, sym, ap, subst, ◌∙◌, inl, inr, if◌then◌else◌}
-use Rattle.std.specs.Map.{lookup, set_value}
-use Rattle.event_listener.specs.Lists.{kind_of, told_as, waits_as, same_key, listened, registration}
-use Rattle.event_listener.specs.declared.key.Key.{Key}
-use Rattle.channel_calls.specs.Parts.{Listeners, Roster, listeners, with_listeners}
-use Rattle.channel_model.specs.Lines.{Waiting, same_waiter, is_among, untold, with_untold}
-use Rattle.channel_model.specs.Awake.{Kind, Placed, times, times_in}
-use Rattle.channel_model.specs.Laws.{same_line}
-use Rattle.channel_model.specs.declared.name.Waiter.{Waiter}
-use Rattle.channel_calls.specs.declared.stage.Line.{Line}
-use Rattle.channel_calls.specs.declared.stage.Line.TheVariants.{Sends, Receives, Streams, Closings}
-use Rattle.channel_model.proofs.WaiterLemmas.{same_refl, same_sound, decided}
-use Rattle.channel_model.proofs.Counting.{count_append}
-use Rattle.channel_model.specs.Asked.{KeysHeld}
-use Rattle.channel_refinement.specs.Refines.{with_held, AreUntold, AreTold, ShowsLines, KeysFit, list_of, of_line}
+use Rattle.channel_refinement.proofs.Words.{ShowsUntold, with_held, AreUntold, AreTold, ShowsLines, KeysFit, list_of, of_line, arith, ◌≡◌, ◌≤◌, ◌+◌, List, [], ◌∷◌, ◌++◌, Bool, true, false, cond, Option, None, Some, is_some, refl, sym, ap, subst, ◌∙◌, inl, inr, if◌then◌else◌, lookup, set_value, kind_of, told_as, waits_as, same_key, listened, registration, Key, Listeners, Roster, listeners, with_listeners, Waiting, same_waiter, is_among, untold, with_untold, Kind, Placed, times, times_in, same_line, Waiter, Line, Sends, Receives, Streams, Closings, same_refl, same_sound, decided, count_append, KeysHeld}
 use Rattle.channel_refinement.proofs.Names.{among_of_line, among_its_line}
-use Rattle.channel_refinement.proofs.Entries.{same_key_refl, OnlyHolder, told_found, untold_found, untold_append}
+use Rattle.channel_refinement.proofs.Entries.{same_key_refl, OnlyHolder, told_found, untold_found, zip_append}
 use Rattle.channel_refinement.proofs.Telling.{replaced, unmoved}
 use Rattle.channel_refinement.proofs.Standing.{Nowhere, same_of, away_holds_none, with_other, with_own, rekeyed_lines}
 
@@ -23,45 +9,26 @@ use Rattle.channel_refinement.proofs.Standing.{Nowhere, same_of, away_holds_none
 
 pub own_list : (line : Line) (x : Listeners Waiter) (a : Roster Waiter) → listeners (list_of line) (with_listeners (list_of line) x a) ≡ x
 own_list Sends x a = refl
-own_list Receives x a = refl
-own_list Streams x a = refl
-own_list Closings x a = refl
+own_list line x a = refl
 
 pub twice : (line : Line) (x y : Listeners Waiter) (a : Roster Waiter) → with_listeners (list_of line) y (with_listeners (list_of line) x a) ≡ with_listeners (list_of line) y a
 twice Sends x y a = refl
-twice Receives x y a = refl
-twice Streams x y a = refl
-twice Closings x y a = refl
+twice line x y a = refl
 
 with_own_line : (line : Line) (ws : List Waiter) (m : Waiting) → untold line (with_untold line ws m) ≡ ws
 with_own_line Sends ws m = refl
-with_own_line Receives ws m = refl
-with_own_line Streams ws m = refl
-with_own_line Closings ws m = refl
+with_own_line line ws m = refl
 
 with_other_line : (line other : Line) (ws : List Waiter) (m : Waiting) → same_line other line ≡ false → untold other (with_untold line ws m) ≡ untold other m
 with_other_line Sends Sends ws m e = cc e
-with_other_line Sends Receives ws m e = refl
-with_other_line Sends Streams ws m e = refl
-with_other_line Sends Closings ws m e = refl
-with_other_line Receives Sends ws m e = refl
 with_other_line Receives Receives ws m e = cc e
-with_other_line Receives Streams ws m e = refl
-with_other_line Receives Closings ws m e = refl
-with_other_line Streams Sends ws m e = refl
-with_other_line Streams Receives ws m e = refl
 with_other_line Streams Streams ws m e = cc e
-with_other_line Streams Closings ws m e = refl
-with_other_line Closings Sends ws m e = refl
-with_other_line Closings Receives ws m e = refl
-with_other_line Closings Streams ws m e = refl
 with_other_line Closings Closings ws m e = cc e
+with_other_line line other ws m e = refl
 
 with_same_woken : (line : Line) (ws : List Waiter) (m : Waiting) → (with_untold line ws m).woken ≡ m.woken
 with_same_woken Sends ws m = refl
-with_same_woken Receives ws m = refl
-with_same_woken Streams ws m = refl
-with_same_woken Closings ws m = refl
+with_same_woken line ws m = refl
 
 -- w at the end of a line
 abbrev pub at_last : Line → Waiter → Waiting → Waiting
@@ -169,7 +136,7 @@ module _ (kind : Kind) (held : KeysHeld) (closed : Bool) (a : Roster Waiter) (m 
       replaced kind new closed line (joined key w x) a (at_last line w m)
       (record {
         untold = subst (λ (ws : List Waiter). AreUntold new (x.waiting ++ (key, Some w) ∷ []) ws) (sym (with_own_line line (untold line m ++ w ∷ []) m))
-            (untold_append new x.waiting ((key, Some w) ∷ []) (untold line m) (w ∷ []) (g line).untold (with_own w w (Some key) held (same_refl w), refl, tt));
+            (zip_append (ShowsUntold new) x.waiting ((key, Some w) ∷ []) (untold line m) (w ∷ []) (g line).untold ((with_own w w (Some key) held (same_refl w), refl), tt));
         told = subst (λ (ws : List Waiter). AreTold new closed line x.told (of_line kind line ws)) (sym (with_same_woken line (untold line m ++ w ∷ []) m)) (g line).told;
       })
       (λ other apart. unmoved kind new closed other (listeners (list_of other) a) m (at_last line w m) (with_other_line line other (untold line m ++ w ∷ []) m apart)

@@ -1,18 +1,5 @@
 -- What makes an outcome match, once it is known who keeps the listener that the call leaves.
-use Rattle.std.proofs.Common.{◌≡◌, List, ◌++◌, Option, sym, ap, subst, ◌∙◌}
-use Rattle.std.specs.Option.{option_map_or}
-use Rattle.channel_alone.specs.Alone.{Outcome}
-use Rattle.channel_model.specs.Answer.{Answer}
-use Rattle.channel_model.specs.Lines.{without_waiter}
-use Rattle.channel_model.specs.Refused.{Answers}
-use Rattle.channel_model.specs.State.{State}
-use Rattle.channel_model.specs.declared.call.Call.{Call}
-use Rattle.channel_model.specs.declared.name.Waiter.{Waiter}
-use Rattle.event_listener.specs.declared.key.Key.{Key}
-use Rattle.channel_refinement.specs.Asked.{keeper}
-use Rattle.channel_refinement.specs.Over.{Matches, names_after}
-use Rattle.channel_model.specs.Asked.{KeysHeld}
-use Rattle.channel_refinement.specs.Refines.{Refines, with_held}
+use Rattle.channel_refinement.proofs.Words.{Channel, ModelChannel, with_messages, line_at, KeysFit, ShowsLines, Refines, with_held, Queue, sym, ◌∙◌, ap, ◌≡◌, List, ◌++◌, Option, subst, option_map_or, Outcome, Answer, without_waiter, Answers, State, Call, Waiter, Key, keeper, Matches, names_after, KeysHeld}
 
 -- the keys held once this one is left to its keeper, and who is told of these then
 abbrev pub held_by : Option Waiter → Option Key → KeysHeld → KeysHeld
@@ -33,3 +20,25 @@ module _ {T : Type 0} (held : KeysHeld) (s : State T) (call : Call T) (own : Opt
     names = names;
     told = told ∙ ap (λ (k : Option Waiter). told_but k (s.waiting.woken ++ o.woken)) (sym keeps);
   }
+
+module _ {T : Type 0} {held : KeysHeld} {c : Channel T Waiter} {s : State T} (h : Refines held c s) where
+  -- a channel with other messages, perhaps, and other listeners shows a state with these
+  pub shows_moved : (d : Channel T Waiter) (other : KeysHeld) (t : State T) → t.channel ≡ with_messages s.channel t.channel.messages → d.queue.items ≡ t.channel.messages
+      → d.queue.closed ≡ c.queue.closed → d.queue.capacity ≡ c.queue.capacity → d.roster.senders ≡ c.roster.senders → d.roster.receivers ≡ c.roster.receivers
+      → ShowsLines (line_at t.names) other t.channel.closed d.roster t.waiting → KeysFit (line_at t.names) other t.waiting → Refines other d t
+  shows_moved d other t e items closed capacity senders receivers lines keys = record {
+    messages = items;
+    closed = closed ∙ h.closed ∙ ap (λ (p : ModelChannel T). p.closed) (sym e);
+    capacity = capacity ∙ h.capacity ∙ ap (λ (p : ModelChannel T). p.capacity) (sym e);
+    senders = senders ∙ h.senders ∙ ap (λ (p : ModelChannel T). p.senders) (sym e);
+    receivers = receivers ∙ h.receivers ∙ ap (λ (p : ModelChannel T). p.receivers) (sym e);
+    lines = lines;
+    keys = keys;
+  }
+
+  -- with the same messages
+  pub shows_again : (d : Channel T Waiter) (other : KeysHeld) (t : State T) → t.channel ≡ s.channel → d.queue ≡ c.queue → d.roster.senders ≡ c.roster.senders → d.roster.receivers ≡ c.roster.receivers
+      → ShowsLines (line_at t.names) other t.channel.closed d.roster t.waiting → KeysFit (line_at t.names) other t.waiting → Refines other d t
+  shows_again d other t e same senders receivers lines keys =
+      shows_moved d other t (e ∙ ap (λ (p : ModelChannel T). with_messages s.channel p.messages) (sym e)) (ap (λ (q : Queue T). q.items) same ∙ h.messages ∙ ap (λ (p : ModelChannel T). p.messages) (sym e))
+      (ap (λ (q : Queue T). q.closed) same) (ap (λ (q : Queue T). q.capacity) same) senders receivers lines keys

@@ -1,15 +1,5 @@
 -- Names in lists, those of one line among them, and how often a name stands.
-use Rattle.std.proofs.Common.{◌≡◌, List, [], ◌∷◌, ◌++◌, Bool, true, false, ◌||◌, Option, None, Some, refl, sym, ap, subst, ◌∙◌, inl, inr}
-use Rattle.std.proofs.lemmas.List.Elements.{filter-append}
-use Rattle.channel_model.specs.Lines.{same_waiter, is_among, without_waiter}
-use Rattle.channel_model.specs.Awake.{Kind}
-use Rattle.channel_model.specs.Laws.{same_line, is_line}
-use Rattle.channel_model.specs.declared.name.Waiter.{Waiter}
-use Rattle.channel_calls.specs.declared.stage.Line.{Line}
-use Rattle.channel_model.proofs.WaiterLemmas.{same_sound, decided, or_true}
-use Rattle.channel_model.proofs.Counting.{among_self, or_right}
-use Rattle.channel_model.proofs.Awake.{line_refl, line_sound}
-use Rattle.channel_refinement.specs.Refines.{of_line}
+use Rattle.channel_refinement.proofs.Words.{false_from_ne_true, ◌≡◌, List, [], ◌∷◌, ◌++◌, true, false, Option, None, Some, refl, sym, ap, subst, ◌∙◌, inl, inr, filter-append, same_waiter, is_among, without_waiter, Kind, same_line, is_line, Waiter, Line, same_sound, decided, or_true, among_self, or_right, line_refl, line_sound, of_line}
 
 -- one that stands among those of a line is of it
 pub among_of_line : (kind : Kind) (line : Line) (w : Waiter) (ws : List Waiter) → is_among w (of_line kind line ws) ≡ true → (is_among w ws ≡ true) × (kind w ≡ Some line)
@@ -55,9 +45,6 @@ of_line_without kind line w (v ∷ vs) = elim (decided (same_waiter w v)) [
 pub of_line_append : (kind : Kind) (line : Line) (xs ys : List Waiter) → of_line kind line (xs ++ ys) ≡ of_line kind line xs ++ of_line kind line ys
 of_line_append kind line xs ys = filter-append (λ (w : Waiter). is_line line (kind w)) xs ys
 
-or_left : (b r : Bool) → b ≡ true → (b || r) ≡ true
-or_left b r e = rw e refl
-
 -- all of one line
 abbrev pub AllOf : Kind → Line → List Waiter → Type 0
 AllOf kind line ws = (w : Waiter) → is_among w ws ≡ true → kind w ≡ Some line
@@ -79,10 +66,7 @@ of_other_line kind line other off (x ∷ xs) h =
 
 -- a name of another kind is not of the line
 pub not_of_line : (kind : Kind) (line other : Line) (w : Waiter) (ws : List Waiter) → kind w ≡ Some line → same_line other line ≡ false → is_among w (of_line kind other ws) ≡ false
-not_of_line kind line other w ws k off = elim (decided (is_among w (of_line kind other ws))) [
-  | inr t ↦ t
-  | inl t ↦
-      let same : Some other ≡ Some line = sym (among_of_line kind other w ws t).1 ∙ k in
-      let lines : other ≡ line = cc same in
-      cc (sym (subst (λ (x : Line). same_line other x ≡ true) lines (line_refl other)) ∙ off)
-]
+not_of_line kind line other w ws k off = false_from_ne_true (is_among w (of_line kind other ws)) (λ t.
+    let same : Some other ≡ Some line = sym (among_of_line kind other w ws t).1 ∙ k in
+    let lines : other ≡ line = cc same in
+    cc (sym (subst (λ (x : Line). same_line other x ≡ true) lines (line_refl other)) ∙ off))

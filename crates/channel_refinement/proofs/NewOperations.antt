@@ -1,28 +1,9 @@
 -- A new operation stands nowhere and holds nothing; a finished send, too.
-use Rattle.std.proofs.Common.{◌≡◌, nat_eq, false, Option, None, Some, refl, sym, ap, subst, ◌∙◌, inl, append-nil}
+use Rattle.channel_refinement.proofs.Words.{◌≡◌, nat_eq, false, Option, None, Some, refl, sym, ap, subst, ◌∙◌, inl, append-nil, Channel, Outcome, says_only, replying, new_answer, poll_answer, AwakeIn, line_at, line_of_operation, same_waiter, Names, ModelOperation, send, at, with_new_operation, Answers, State, Call, HandleId, OpId, Waiter, Op, Stream, same_symm, keeper, Matches, names_after, polled_names, KeysHeld, Refines}
 use Rattle.futures.specs.declared.task.Poll.TheVariants as poll
-use Rattle.channel_calls.specs.Moves.{Channel}
 use Rattle.channel_calls.specs.declared.reply.Reply.TheVariants as reply
-use Rattle.channel_alone.specs.Alone.{Outcome, says_only}
-use Rattle.channel_model.specs.Answer.{replying, new_answer, poll_answer}
-use Rattle.channel_model.specs.Awake.{AwakeIn}
-use Rattle.channel_model.specs.Laws.{line_at, line_of_operation}
-use Rattle.channel_model.specs.Lines.{same_waiter}
-use Rattle.channel_model.specs.Names.{Names, ModelOperation, send, at, with_new_operation}
-use Rattle.channel_model.specs.Refused.{Answers}
-use Rattle.channel_model.specs.State.{State}
-use Rattle.channel_model.specs.declared.call.Call.{Call}
 use Rattle.channel_model.specs.declared.call.Call.TheVariants as call
-use Rattle.channel_model.specs.declared.name.HandleId.{HandleId}
-use Rattle.channel_model.specs.declared.name.OpId.{OpId}
-use Rattle.channel_model.specs.declared.name.Waiter.{Waiter}
-use Rattle.channel_model.specs.declared.name.Waiter.TheVariants.{Op, Stream}
-use Rattle.channel_model.proofs.WaiterLemmas.{same_symm}
-use Rattle.channel_refinement.specs.Asked.{keeper}
-use Rattle.channel_refinement.specs.Over.{Matches, names_after, polled_names}
-use Rattle.channel_model.specs.Asked.{KeysHeld}
-use Rattle.channel_refinement.specs.Refines.{Refines}
-use Rattle.channel_refinement.proofs.Matching.{matching}
+use Rattle.channel_refinement.proofs.Matching.{shows_again, matching}
 use Rattle.channel_refinement.proofs.Pending.{held_same}
 use Rattle.channel_refinement.proofs.Standing.{Nowhere, kindless_nowhere, nowhere_keyless, rekinded_lines, rekinded_keys}
 use Rattle.channel_refinement.proofs.Told.{told_away}
@@ -46,15 +27,9 @@ module _ {T : Type 0} (held : KeysHeld) (c : Channel T Waiter) (s : State T) (h 
       let none : line_at s.names (Op op) ≡ None = ap (λ (y : Option (ModelOperation T)). line_of_operation y) free in
       subst (λ (y : Outcome T Waiter). Matches held s call y) (sym e)
       (matching held s call None nobody (says_only reply.Made c) (new_answer s op x) allowed refl refl
-      (record {
-        messages = h.messages;
-        closed = h.closed;
-        capacity = h.capacity;
-        senders = h.senders;
-        receivers = h.receivers;
-        lines = rekinded_lines (line_at s.names) (line_at (with_new_operation op x s.names)) held s.channel.closed c.roster s.waiting (Op op) (kindless none) (new_kind op x s.names) h.lines;
-        keys = rekinded_keys (line_at s.names) (line_at (with_new_operation op x s.names)) held s.waiting (Op op) (unheld none) (new_kind op x s.names) h.keys;
-      })
+      (shows_again h c held (new_answer s op x).after refl refl refl refl
+      (rekinded_lines (line_at s.names) (line_at (with_new_operation op x s.names)) held s.channel.closed c.roster s.waiting (Op op) (kindless none) (new_kind op x s.names) h.lines)
+      (rekinded_keys (line_at s.names) (line_at (with_new_operation op x s.names)) held s.waiting (Op op) (unheld none) (new_kind op x s.names) h.keys))
       names (sym (append-nil s.waiting.woken)))
 
   -- a finished send stays pending, and is only answered

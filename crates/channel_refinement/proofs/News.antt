@@ -1,20 +1,8 @@
 -- News are told over the four lists as over the four lines, and those who are woken are the same, in order.
-use Rattle.std.proofs.Common.{arith, ◌≡◌, ◌≤◌, ℕ, zero, suc, List, ◌++◌, take, Bool, true, refl, sym, ap, subst, ◌∙◌, append_assoc, append-nil}
-use Rattle.channel_calls.specs.Parts.{Roster, listeners, with_listeners, told_one, told_one_wakes, told_more, told_more_wakes, told_all, told_all_wakes}
+use Rattle.channel_refinement.proofs.Words.{arith, ◌≡◌, ◌≤◌, ℕ, zero, suc, List, ◌++◌, take, Bool, true, refl, sym, ap, subst, ◌∙◌, append_assoc, append-nil, Roster, listeners, with_listeners, told_one, told_one_wakes, told_more, told_more_wakes, told_all, told_all_wakes, Waiting, told_by, after_news, after_rooms, told_by_rooms, all_told, Kind, Waiter, News, Nothing, Message, Room, Closing, NextIn, Line, Sends, Receives, Streams, Closings, times_news, KeysHeld, ShowsLines, KeysFit, list_of}
 use Rattle.channel_calls.specs.declared.stage.Line.TheVariants as list
-use Rattle.channel_model.specs.Lines.{Waiting, told_by, after_news, after_rooms, told_by_rooms}
-use Rattle.channel_model.specs.Lines.{all_told}
-use Rattle.channel_model.specs.Awake.{Kind}
-use Rattle.channel_model.specs.declared.name.Waiter.{Waiter}
-use Rattle.channel_model.specs.declared.news.News.{News}
-use Rattle.channel_model.specs.declared.news.News.TheVariants.{Nothing, Message, Room, Closing, NextIn}
-use Rattle.channel_calls.specs.declared.stage.Line.{Line}
-use Rattle.channel_calls.specs.declared.stage.Line.TheVariants.{Sends, Receives, Streams, Closings}
-use Rattle.channel_model.proofs.Awake.{times_news}
-use Rattle.channel_model.specs.Asked.{KeysHeld}
-use Rattle.channel_refinement.specs.Refines.{ShowsLines, KeysFit, list_of}
+use Rattle.channel_refinement.proofs.Telling.{quiet_line, Lined, lined_all, lined_next, one_told, one_woken, all_are_told, all_woken, message_is, closing_is}
 use Rattle.channel_refinement.proofs.Entries.{told_closed}
-use Rattle.channel_refinement.proofs.Telling.{Lined, lined_all, lined_next, one_told, one_woken, all_are_told, all_woken, message_is, closing_is}
 
 abbrev pub room_told : Roster Waiter → Roster Waiter
 room_told a = with_listeners list.Sends (told_one a.sends) a
@@ -66,9 +54,7 @@ rooms_woken (suc n) l =
 
 module _ (kind : Kind) (held : KeysHeld) where
   pub nothing_lines : (closed : Bool) (a : Roster Waiter) (l : Waiting) → ShowsLines kind held closed a l → ShowsLines kind held closed a (after_news Nothing l)
-  nothing_lines closed a l h =
-      subst (λ (ws : List Waiter). let m : Waiting = record { sends = l.sends; receives = l.receives; streams = l.streams; closings = l.closings; woken = ws } in ShowsLines kind held closed a m)
-      (sym (append-nil l.woken)) h
+  nothing_lines closed a l h line = quiet_line kind held closed line (listeners (list_of line) a) l (h line)
 
   pub room_lines : (closed : Bool) (a : Roster Waiter) (l : Waiting) → Lined kind l → ShowsLines kind held closed a l → ShowsLines kind held closed (room_told a) (after_news Room l)
   room_lines closed a l lined h = one_told kind held closed Sends a l lined (λ c. refl) h

@@ -1,32 +1,9 @@
 -- Operations under their names: one that changes as it leaves, one that waits, and one that is given up.
-use Rattle.std.proofs.Common.{◌≡◌, ◌⊎◌, nat_eq, List, [], Bool, false, Option, None, Some, refl, sym, ap, subst, ◌∙◌, inl, inr, append-nil}
-use Rattle.std.specs.Map.{set_value}
-use Rattle.concurrent_queue.specs.Queue.{Queue}
-use Rattle.event_listener.specs.declared.error.ListenError.{ListenError}
+use Rattle.channel_refinement.proofs.Words.{◌≡◌, ◌⊎◌, nat_eq, List, [], Bool, false, Option, None, Some, refl, sym, ap, subst, ◌∙◌, inl, inr, append-nil, set_value, ListenError, Channel, gives_up, Reply, Line, Outcome, ends, replying, after_leaving, pending, poll_answer, give_up_answer, given_up, AwakeIn, line_at, line_of_operation, Waiting, same_waiter, is_among, untold, after_news, gone, passed_on, Names, Directory, ModelOperation, at, Lack, memory, serials, not_standing, not_polled, State, with_waiting, OpId, Waiter, Op, Stream, Nothing, found_name, set_elsewhere, same_refl, Matches, polled_names, given_up_names, KeysHeld, with_held, Refines, ShowsLines, KeysFit, list_of}
 use Rattle.event_listener.specs.declared.error.ListenError.TheVariants as listening
-use Rattle.channel_calls.specs.Moves.{Channel}
-use Rattle.channel_calls.specs.Asks.{gives_up}
-use Rattle.channel_calls.specs.declared.reply.Reply.{Reply}
 use Rattle.channel_calls.specs.declared.reply.Reply.TheVariants as reply
-use Rattle.channel_calls.specs.declared.stage.Line.{Line}
-use Rattle.channel_alone.specs.Alone.{Outcome, ends}
-use Rattle.channel_model.specs.Answer.{replying, after_leaving, pending, poll_answer, give_up_answer, given_up}
-use Rattle.channel_model.specs.Awake.{AwakeIn}
-use Rattle.channel_model.specs.Laws.{line_at, line_of_operation}
-use Rattle.channel_model.specs.Lines.{Waiting, same_waiter, is_among, untold, after_news, gone, passed_on}
-use Rattle.channel_model.specs.Names.{Names, Directory, ModelOperation, at}
-use Rattle.channel_model.specs.Refused.{Lack, memory, serials, not_standing, not_polled}
-use Rattle.channel_model.specs.State.{State, with_waiting}
 use Rattle.channel_model.specs.declared.call.Call.TheVariants as call
-use Rattle.channel_model.specs.declared.name.OpId.{OpId}
-use Rattle.channel_model.specs.declared.name.Waiter.{Waiter}
-use Rattle.channel_model.specs.declared.name.Waiter.TheVariants.{Op, Stream}
-use Rattle.channel_model.specs.declared.news.News.TheVariants.{Nothing}
-use Rattle.channel_model.proofs.LawSteps.{found_name, set_elsewhere}
-use Rattle.channel_model.proofs.WaiterLemmas.{same_refl}
-use Rattle.channel_refinement.specs.Over.{Matches, polled_names, given_up_names}
-use Rattle.channel_model.specs.Asked.{KeysHeld}
-use Rattle.channel_refinement.specs.Refines.{with_held, Refines, ShowsLines, KeysFit, list_of}
+use Rattle.channel_refinement.proofs.Matching.{shows_again}
 use Rattle.channel_refinement.proofs.Departing.{Departed, nowhere_after}
 use Rattle.channel_refinement.proofs.Ends.{leaves_now}
 use Rattle.channel_refinement.proofs.Polling.{WaitEnds}
@@ -106,15 +83,7 @@ module _ {T : Type 0} (held : KeysHeld) (c : Channel T Waiter) (s : State T) (h 
         allowed = inl (sym answer_is ∙ ap (λ (y : Option (ModelOperation T)). give_up_answer s op y) (sym there));
         reply = refl;
         woken = woken;
-        shows = record {
-          messages = ap (λ (q : Queue T). q.items) g.queue ∙ h.messages;
-          closed = ap (λ (q : Queue T). q.closed) g.queue ∙ h.closed;
-          capacity = ap (λ (q : Queue T). q.capacity) g.queue ∙ h.capacity;
-          senders = g.senders ∙ h.senders;
-          receivers = g.receivers ∙ h.receivers;
-          lines = changed.0;
-          keys = changed.1;
-        };
+        shows = shows_again h _ (with_held (Op op) None held) (after_leaving Nothing line (Op op) (given_up s op x) (reply.GivenUp msg)).after refl g.queue g.senders g.receivers changed.0 changed.1;
         names = ap (λ (y : Option (ModelOperation T)). given_up_names op y s.names) (sym there);
         told = told_left_as Nothing line (Op op) s.waiting _ woken;
       })

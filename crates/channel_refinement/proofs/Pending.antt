@@ -1,18 +1,6 @@
 -- A poll that finds nothing: it stays where it waits, or comes to wait, or was not let listen.
-use Rattle.std.proofs.Common.{◌≡◌, List, [], Bool, true, false, not, Option, None, Some, is_some, refl, sym, ap, subst, ◌∙◌, if◌then◌else◌}
-use Rattle.std.proofs.lemmas.Map.Steps.{set_value_same}
+use Rattle.channel_refinement.proofs.Words.{◌≡◌, List, [], Bool, true, false, not, Option, None, Some, is_some, refl, sym, ap, subst, ◌∙◌, if◌then◌else◌, set_value_same, Key, Listeners, Roster, listeners, with_listeners, waits, Waiting, same_waiter, is_among, untold, gone, standing, Kind, Placed, Waiter, Line, Sends, same_sound, placed_gone, KeysHeld, with_held, ShowsLines, KeysFit, list_of, of_line}
 use Rattle.event_listener.specs.Lists.{kind_of, told_as, waits_as, same_key, listened, registration, with_task, Notice, without as unlisted}
-use Rattle.event_listener.specs.declared.key.Key.{Key}
-use Rattle.channel_calls.specs.Parts.{Listeners, Roster, listeners, with_listeners, waits}
-use Rattle.channel_model.specs.Lines.{Waiting, same_waiter, is_among, untold, gone, standing}
-use Rattle.channel_model.specs.Awake.{Kind, Placed}
-use Rattle.channel_model.specs.declared.name.Waiter.{Waiter}
-use Rattle.channel_calls.specs.declared.stage.Line.{Line}
-use Rattle.channel_calls.specs.declared.stage.Line.TheVariants.{Sends, Receives, Streams, Closings}
-use Rattle.channel_model.proofs.WaiterLemmas.{same_sound}
-use Rattle.channel_model.proofs.Awake.{placed_gone}
-use Rattle.channel_model.specs.Asked.{KeysHeld}
-use Rattle.channel_refinement.specs.Refines.{with_held, ShowsLines, KeysFit, list_of, of_line}
 use Rattle.channel_refinement.proofs.Names.{among_of_line, among_its_line}
 use Rattle.channel_refinement.proofs.Entries.{OnlyHolder, told_found, told_missed, untold_found}
 use Rattle.channel_refinement.proofs.Telling.{replaced}
@@ -39,9 +27,7 @@ held_same w x held e = λ i v. if_same (same_waiter w v) x (held v) (λ t. sym e
 
 same_list : (line : Line) (a : Roster Waiter) → with_listeners (list_of line) (listeners (list_of line) a) a ≡ a
 same_list Sends a = refl
-same_list Receives a = refl
-same_list Streams a = refl
-same_list Closings a = refl
+same_list line a = refl
 
 -- the roster b that shows m after the roster a, with w holding this key
 pub record Waited (kind : Kind) (held : KeysHeld) (closed : Bool) (w : Waiter) (a b : Roster Waiter) (key : Option Key) (m : Waiting) : Type 0 where

@@ -1,23 +1,7 @@
 -- Polls that wait.
-use Rattle.std.proofs.Common.{◌≡◌, ◌⊎◌, Bool, true, false, Option, None, Some, refl, ap, ◌∙◌, inl, inr}
-use Rattle.concurrent_queue.specs.Queue.{Queue}
-use Rattle.event_listener.specs.Lists.{kind_of}
-use Rattle.event_listener.specs.declared.key.Key.{Key}
-use Rattle.event_listener.specs.declared.error.ListenError.{ListenError}
-use Rattle.channel_calls.specs.Moves.{Channel, listens, registers}
-use Rattle.channel_calls.specs.Parts.{listeners, waits}
+use Rattle.channel_refinement.proofs.Words.{false_from_ne_true, ◌≡◌, ◌⊎◌, Bool, true, false, Option, None, Some, refl, inl, inr, kind_of, Key, ListenError, Channel, listens, registers, listeners, waits, Reply, Outcome, Where, answers, line_at, Waiting, is_among, untold, gone, standing, AwakeIn, State, with_waiting, Waiter, Line, decided, KeysHeld, with_held, Refines, list_of}
 use Rattle.channel_calls.specs.Turns.{leaving as keeping}
-use Rattle.channel_calls.specs.declared.reply.Reply.{Reply}
-use Rattle.channel_alone.specs.Alone.{Outcome, Where, answers}
-use Rattle.channel_model.specs.Laws.{line_at}
-use Rattle.channel_model.specs.Lines.{Waiting, is_among, untold, gone, standing}
-use Rattle.channel_model.specs.Awake.{AwakeIn}
-use Rattle.channel_model.specs.State.{State, with_waiting}
-use Rattle.channel_model.specs.declared.name.Waiter.{Waiter}
-use Rattle.channel_calls.specs.declared.stage.Line.{Line}
-use Rattle.channel_model.proofs.WaiterLemmas.{decided}
-use Rattle.channel_model.specs.Asked.{KeysHeld}
-use Rattle.channel_refinement.specs.Refines.{with_held, Refines, list_of}
+use Rattle.channel_refinement.proofs.Matching.{shows_again}
 use Rattle.channel_refinement.proofs.Standing.{Nowhere, keyless_nowhere, away_holds_none}
 use Rattle.channel_refinement.proofs.Departing.{streams_are}
 use Rattle.channel_refinement.proofs.Told.{not_both}
@@ -54,15 +38,7 @@ module _ {T : Type 0} (line : Line) (pends : Reply T) (refuses : ListenError →
 
   module _ (held : KeysHeld) (c : Channel T Waiter) (s : State T) (h : Refines held c s) (awake : AwakeIn s) (k : line_at s.names w ≡ Some line) where
     pub shown : (key : Option Key) (m : Waiting) (d : Channel T Waiter) → d.queue ≡ c.queue → Waited (line_at s.names) held s.channel.closed w c.roster d.roster key m → Refines (with_held w key held) d (with_waiting m s)
-    shown key m d e g = record {
-      messages = ap (λ (q : Queue T). q.items) e ∙ h.messages;
-      closed = ap (λ (q : Queue T). q.closed) e ∙ h.closed;
-      capacity = ap (λ (q : Queue T). q.capacity) e ∙ h.capacity;
-      senders = g.senders ∙ h.senders;
-      receivers = g.receivers ∙ h.receivers;
-      lines = g.lines;
-      keys = g.keys;
-    }
+    shown key m d e g = shows_again h d (with_held w key held) (with_waiting m s) refl e g.senders g.receivers g.lines g.keys
 
     listened_ends : (b : Channel T Waiter) (o : Outcome T Waiter) → b.queue ≡ c.queue → is_among w (untold line s.waiting) ≡ false
         → Waited (line_at s.names) held s.channel.closed w c.roster b.roster None (gone w s.waiting) → ListensAs b o → WaitEnds held s o
@@ -78,10 +54,7 @@ module _ {T : Type 0} (line : Line) (pends : Reply T) (refuses : ListenError →
 
     -- one that was told stands untold nowhere
     told_not_untold : is_among w s.waiting.woken ≡ true → is_among w (untold line s.waiting) ≡ false
-    told_not_untold t = elim (decided (is_among w (untold line s.waiting))) [
-      | inr u ↦ u
-      | inl u ↦ absurd (not_both (line_at s.names) line w s.waiting awake.placed u t)
-    ]
+    told_not_untold t = false_from_ne_true (is_among w (untold line s.waiting)) (λ u. not_both (line_at s.names) line w s.waiting awake.placed u t)
 
     pub wait_ends : (key : Option Key) (o : Outcome T Waiter) → held w ≡ key → WaitsAs key c o → WaitEnds held s o
     wait_ends None o e x =

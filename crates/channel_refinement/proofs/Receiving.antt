@@ -1,38 +1,14 @@
 -- Polls of a receive.
-use Rattle.std.proofs.Common.{◌≡◌, List, [], ◌∷◌, ◌++◌, false, Option, None, Some, Ok, Err, refl, sym, ap, subst, ◌∙◌, inl, inr, append-nil}
-use Rattle.concurrent_queue.specs.Queue.{Queue}
-use Rattle.event_listener.specs.declared.error.ListenError.{ListenError}
+use Rattle.channel_refinement.proofs.Words.{with_held, Refines, ◌≡◌, List, [], ◌∷◌, ◌++◌, false, Option, None, Some, Ok, Err, refl, sym, ap, subst, ◌∙◌, inl, inr, append-nil, Queue, ListenError, Key, Channel, leaves, tells_one, held_on, refused_reply, over, Outcome, ends, of_room, over_queue, WaitsOrGoesOn, PollsFor, PollsReceive, Found, first, none_yet, none_ever, found, replying, recv_poll_answer, poll_answer, AwakeIn, line_at, line_of_operation, after_news, told_by, is_among, untold, gone, ModelOperation, recv, at, recv_not_polled, not_polled, State, with_waiting, HandleId, OpId, Waiter, Op, Room, Receives, placed_news, empty_news, decided, Matches, polled_names, KeysHeld}
 use Rattle.event_listener.specs.declared.error.ListenError.TheVariants as listening
-use Rattle.event_listener.specs.declared.key.Key.{Key}
 use Rattle.futures.specs.declared.task.Poll.TheVariants as poll
-use Rattle.channel_calls.specs.Moves.{Channel, leaves, tells_one}
-use Rattle.channel_calls.specs.Turns.{held_on, refused_reply}
-use Rattle.channel_calls.specs.Answered.{over}
 use Rattle.channel_calls.specs.declared.error.Refused.TheVariants as unmade
 use Rattle.channel_calls.specs.declared.reply.Reply.TheVariants as reply
 use Rattle.channel_calls.specs.declared.stage.Line.TheVariants as list
 use Rattle.channel_calls.specs.declared.stage.Waiting.TheVariants as waiting
 use Rattle.channel_alone.specs.Alone as alone
-use Rattle.channel_alone.specs.Alone.{Outcome, ends, of_room, over_queue, WaitsOrGoesOn, PollsFor, PollsReceive}
-use Rattle.channel_model.specs.Answer.{Found, first, none_yet, none_ever, found, replying, recv_poll_answer, poll_answer}
-use Rattle.channel_model.specs.Awake.{AwakeIn}
-use Rattle.channel_model.specs.Laws.{line_at, line_of_operation}
-use Rattle.channel_model.specs.Lines.{after_news, told_by, is_among, untold, gone}
-use Rattle.channel_model.specs.Names.{ModelOperation, recv, at}
-use Rattle.channel_model.specs.Refused.{recv_not_polled, not_polled}
-use Rattle.channel_model.specs.State.{State, with_waiting}
 use Rattle.channel_model.specs.declared.call.Call.TheVariants as call
-use Rattle.channel_model.specs.declared.name.HandleId.{HandleId}
-use Rattle.channel_model.specs.declared.name.OpId.{OpId}
-use Rattle.channel_model.specs.declared.name.Waiter.{Waiter}
-use Rattle.channel_model.specs.declared.name.Waiter.TheVariants.{Op}
-use Rattle.channel_model.specs.declared.news.News.TheVariants.{Room}
-use Rattle.channel_calls.specs.declared.stage.Line.TheVariants.{Receives}
-use Rattle.channel_model.proofs.Awake.{placed_news, empty_news}
-use Rattle.channel_model.proofs.WaiterLemmas.{decided}
-use Rattle.channel_refinement.specs.Over.{Matches, polled_names}
-use Rattle.channel_model.specs.Asked.{KeysHeld}
-use Rattle.channel_refinement.specs.Refines.{Refines}
+use Rattle.channel_refinement.proofs.Matching.{shows_moved}
 use Rattle.channel_refinement.proofs.Departing.{departed, streams_are}
 use Rattle.channel_refinement.proofs.Ends.{ends_so}
 use Rattle.channel_refinement.proofs.News.{room_lines, room_wakes, keys_news}
@@ -70,15 +46,9 @@ module _ {T : Type 0} (held : KeysHeld) (c : Channel T Waiter) (s : State T) (h 
         allowed = inl (by_found (first m ms) found_first);
         reply = refl;
         woken = woken;
-        shows = record {
-          messages = ap (λ (q : Queue T). q.items) g.queue ∙ rw some refl;
-          closed = ap (λ (q : Queue T). q.closed) g.queue ∙ h.closed;
-          capacity = ap (λ (q : Queue T). q.capacity) g.queue ∙ h.capacity;
-          senders = g.senders ∙ h.senders;
-          receivers = g.receivers ∙ h.receivers;
-          lines = g.lines;
-          keys = g.keys;
-        };
+        shows =
+            shows_moved h _ (with_held (Op op) None held) (recv_poll_answer s op (first m ms)).after refl (ap (λ (q : Queue T). q.items) g.queue ∙ rw some refl)
+            (ap (λ (q : Queue T). q.closed) g.queue) (ap (λ (q : Queue T). q.capacity) g.queue) g.senders g.receivers g.lines g.keys;
         names = names_stay None;
         told = told_left_as Room Receives (Op op) s.waiting _ woken;
       })

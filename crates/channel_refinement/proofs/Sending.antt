@@ -1,41 +1,14 @@
 -- Polls of a send.
-use Rattle.std.proofs.Common.{◌≡◌, List, [], ◌∷◌, ◌++◌, false, Option, None, Some, Ok, Err, refl, sym, ap, subst, ◌∙◌, inl, inr, append-nil}
-use Rattle.concurrent_queue.specs.Queue.{Queue, is_filled}
-use Rattle.event_listener.specs.declared.key.Key.{Key}
-use Rattle.event_listener.specs.declared.error.ListenError.{ListenError}
+use Rattle.channel_refinement.proofs.Words.{with_held, Refines, ◌≡◌, List, [], ◌∷◌, ◌++◌, false, Option, None, Some, Ok, Err, refl, sym, ap, subst, ◌∙◌, inl, inr, append-nil, Queue, is_filled, Key, ListenError, Channel, leaves, tells_one, tells_all, held_on, refused_reply, over, Outcome, ends, of_message, over_queue, WaitsOrGoesOn, PollsSend, MayLackRoom, replying, after_leaving, send_poll_answer, poll_answer, finished, space_of, memory, refused, not_polled, send_not_polled, line_at, line_of_operation, is_among, untold, after_news, told_by, gone, ModelOperation, send, at, Reply, AwakeIn, State, with_waiting, HandleId, OpId, Waiter, Op, Nothing, Message, Space, Open, Filled, Shut, Sends, decided, placed_news, empty_news, KeysHeld, Matches, polled_names}
 use Rattle.event_listener.specs.declared.error.ListenError.TheVariants as listening
 use Rattle.futures.specs.declared.task.Poll.TheVariants as poll
-use Rattle.channel_calls.specs.Moves.{Channel, leaves, tells_one, tells_all}
-use Rattle.channel_calls.specs.Turns.{held_on, refused_reply}
-use Rattle.channel_calls.specs.Answered.{over}
 use Rattle.channel_calls.specs.declared.error.Refused.TheVariants as unmade
 use Rattle.channel_calls.specs.declared.reply.Reply.TheVariants as reply
 use Rattle.channel_calls.specs.declared.stage.Line.TheVariants as list
 use Rattle.channel_calls.specs.declared.stage.Waiting.TheVariants as waiting
 use Rattle.channel_alone.specs.Alone as alone
-use Rattle.channel_alone.specs.Alone.{Outcome, ends, of_message, over_queue, WaitsOrGoesOn, PollsSend, MayLackRoom}
-use Rattle.channel_model.specs.Answer.{replying, after_leaving, send_poll_answer, poll_answer, finished, space_of}
 use Rattle.channel_model.specs.declared.call.Call.TheVariants as call
-use Rattle.channel_model.specs.Refused.{memory, refused, not_polled, send_not_polled}
-use Rattle.channel_model.specs.Laws.{line_at, line_of_operation}
-use Rattle.channel_model.specs.Lines.{is_among, untold, after_news, told_by, gone}
-use Rattle.channel_model.specs.Names.{ModelOperation, send, at}
-use Rattle.channel_calls.specs.declared.reply.Reply.{Reply}
-use Rattle.channel_model.specs.Awake.{AwakeIn}
-use Rattle.channel_model.specs.State.{State, with_waiting}
-use Rattle.channel_model.specs.declared.name.HandleId.{HandleId}
-use Rattle.channel_model.specs.declared.name.OpId.{OpId}
-use Rattle.channel_model.specs.declared.name.Waiter.{Waiter}
-use Rattle.channel_model.specs.declared.name.Waiter.TheVariants.{Op}
-use Rattle.channel_model.specs.declared.news.News.TheVariants.{Nothing, Message}
-use Rattle.channel_model.specs.declared.space.Space.{Space}
-use Rattle.channel_model.specs.declared.space.Space.TheVariants.{Open, Filled, Shut}
-use Rattle.channel_calls.specs.declared.stage.Line.TheVariants.{Sends}
-use Rattle.channel_model.proofs.WaiterLemmas.{decided}
-use Rattle.channel_model.proofs.Awake.{placed_news, empty_news}
-use Rattle.channel_model.specs.Asked.{KeysHeld}
-use Rattle.channel_refinement.specs.Refines.{Refines}
-use Rattle.channel_refinement.specs.Over.{Matches, polled_names}
+use Rattle.channel_refinement.proofs.Matching.{shows_again, shows_moved}
 use Rattle.channel_refinement.proofs.News.{keys_news, message_lines, message_wakes}
 use Rattle.channel_refinement.proofs.Departing.{departed, streams_are}
 use Rattle.channel_refinement.proofs.Polling.{WaitsAs, WaitEnds, where_true, where_false, wait_ends}
@@ -96,15 +69,7 @@ module _ {T : Type 0} (held : KeysHeld) (c : Channel T Waiter) (s : State T) (h 
         allowed = inl (by_space Shut closed);
         reply = refl;
         woken = woken;
-        shows = record {
-          messages = ap (λ (q : Queue T). q.items) g.queue ∙ h.messages;
-          closed = ap (λ (q : Queue T). q.closed) g.queue ∙ h.closed;
-          capacity = ap (λ (q : Queue T). q.capacity) g.queue ∙ h.capacity;
-          senders = g.senders ∙ h.senders;
-          receivers = g.receivers ∙ h.receivers;
-          lines = changed.0;
-          keys = changed.1;
-        };
+        shows = shows_again h _ (with_held (Op op) None held) (send_poll_answer s op handle msg Shut).after refl g.queue g.senders g.receivers changed.0 changed.1;
         names = ap (λ (y : Option (ModelOperation T)). polled_names op y None s.names) (sym there);
         told = told_left_as Nothing Sends (Op op) s.waiting _ woken;
       })
@@ -127,15 +92,9 @@ module _ {T : Type 0} (held : KeysHeld) (c : Channel T Waiter) (s : State T) (h 
         allowed = inl (by_space Open free);
         reply = refl;
         woken = woken;
-        shows = record {
-          messages = ap (λ (q : Queue T). q.items) g.queue ∙ ap (λ (items : List T). items ++ msg ∷ []) h.messages;
-          closed = ap (λ (q : Queue T). q.closed) g.queue ∙ h.closed;
-          capacity = ap (λ (q : Queue T). q.capacity) g.queue ∙ h.capacity;
-          senders = g.senders ∙ h.senders;
-          receivers = g.receivers ∙ h.receivers;
-          lines = changed.0;
-          keys = changed.1;
-        };
+        shows =
+            shows_moved h _ (with_held (Op op) None held) (send_poll_answer s op handle msg Open).after refl (ap (λ (q : Queue T). q.items) g.queue ∙ ap (λ (items : List T). items ++ msg ∷ []) h.messages)
+            (ap (λ (q : Queue T). q.closed) g.queue) (ap (λ (q : Queue T). q.capacity) g.queue) g.senders g.receivers changed.0 changed.1;
         names = ap (λ (y : Option (ModelOperation T)). polled_names op y None s.names) (sym there);
         told = told_left_as Message Sends (Op op) s.waiting _ woken;
       })

@@ -1,19 +1,5 @@
 -- Who stands in the lines once one is gone, and what that is to the keys.
-use Rattle.std.proofs.Common.{arith, ◌≡◌, ◌≤◌, ℕ, List, [], ◌∷◌, length, Bool, true, false, cond, Option, None, Some, IsSome, refl, sym, ap, subst, ◌∙◌, inl, inr}
-use Rattle.std.specs.List.{filter}
-use Rattle.event_listener.specs.declared.key.Key.{Key}
-use Rattle.channel_calls.specs.Parts.{Roster, listeners}
-use Rattle.channel_model.specs.Lines.{Waiting, same_waiter, is_among, without_waiter, untold, gone}
-use Rattle.channel_model.specs.Awake.{Kind, times, times_in, Placed}
-use Rattle.channel_model.specs.Laws.{is_line}
-use Rattle.channel_model.specs.declared.name.Waiter.{Waiter}
-use Rattle.channel_calls.specs.declared.stage.Line.{Line}
-use Rattle.channel_calls.specs.declared.stage.Line.TheVariants.{Sends, Receives, Streams, Closings}
-use Rattle.channel_model.proofs.WaiterLemmas.{same_sound, same_symm, decided, without_absent}
-use Rattle.channel_model.proofs.Counting.{among_self, or_right, absent_counts}
-use Rattle.channel_model.proofs.WaiterLemmas.{none_left, untold_gone}
-use Rattle.channel_model.specs.Asked.{KeysHeld}
-use Rattle.channel_refinement.specs.Refines.{with_held, AreTold, ShowsLines, KeysFit, list_of, of_line}
+use Rattle.channel_refinement.proofs.Words.{false_from_ne_true, arith, ◌≡◌, ◌≤◌, ℕ, List, [], ◌∷◌, length, Bool, true, false, cond, Option, None, Some, IsSome, refl, sym, ap, subst, ◌∙◌, inl, inr, filter, Key, Roster, listeners, Waiting, same_waiter, is_among, without_waiter, untold, gone, Kind, times, times_in, Placed, is_line, Waiter, Line, Sends, Receives, Streams, Closings, same_sound, same_symm, decided, without_absent, none_left, untold_gone, among_self, or_right, absent_counts, KeysHeld, with_held, AreTold, ShowsLines, KeysFit, list_of, of_line}
 use Rattle.channel_refinement.proofs.Names.{among_of_line, among_its_line}
 use Rattle.channel_refinement.proofs.Entries.{untold_kept, told_kept, untold_holds, told_holds}
 
@@ -52,30 +38,19 @@ nowhere_gone w l = record {
 -- one that belongs to no line
 pub kindless_nowhere : (kind : Kind) (w : Waiter) (l : Waiting) → kind w ≡ None → Placed kind l → Nowhere w l
 kindless_nowhere kind w l k p = record {
-  lines = λ line. elim (decided (is_among w (untold line l))) [
-    | inr t ↦ t
-    | inl t ↦ cc (sym k ∙ p.lines line w t)
-  ];
-  woken = elim (decided (is_among w l.woken)) [
-    | inr t ↦ t
-    | inl t ↦ cc (subst (λ (o : Option Line). IsSome o) k (p.wakes w t))
-  ];
+  lines = λ line. false_from_ne_true (is_among w (untold line l)) (λ t. cc (sym k ∙ p.lines line w t));
+  woken = false_from_ne_true (is_among w l.woken) (λ t. cc (subst (λ (o : Option Line). IsSome o) k (p.wakes w t)));
 }
 
 -- one that holds no key
 pub keyless_nowhere : (kind : Kind) (held : KeysHeld) (closed : Bool) (a : Roster Waiter) (l : Waiting) (own : Line) (w : Waiter) → kind w ≡ Some own → held w ≡ None → Placed kind l
     → ShowsLines kind held closed a l → Nowhere w l
 keyless_nowhere kind held closed a l own w k none p h = record {
-  lines = λ line. elim (decided (is_among w (untold line l))) [
-    | inr t ↦ t
-    | inl t ↦ let one = untold_holds held w (listeners (list_of line) a).waiting (untold line l) (h line).untold t in cc (sym none ∙ one.1)
-  ];
-  woken = elim (decided (is_among w l.woken)) [
-    | inr t ↦ t
-    | inl t ↦
-        let one = told_holds held closed own w (listeners (list_of own) a).told (of_line kind own l.woken) (h own).told (among_its_line kind own w l.woken k ∙ t) in
-        cc (sym none ∙ one.1)
-  ];
+  lines = λ line. false_from_ne_true (is_among w (untold line l)) (λ t.
+      let one = untold_holds held w (listeners (list_of line) a).waiting (untold line l) (h line).untold t in cc (sym none ∙ one.1));
+  woken = false_from_ne_true (is_among w l.woken) (λ t.
+      let one = told_holds held closed own w (listeners (list_of own) a).told (of_line kind own l.woken) (h own).told (among_its_line kind own w l.woken k ∙ t) in
+      cc (sym none ∙ one.1));
 }
 
 -- one that is nowhere holds none
@@ -91,10 +66,8 @@ same_of x y e = cc e
 -- one that stands neither in its line nor among the woken stands nowhere
 pub away_from : (kind : Kind) (line : Line) (w : Waiter) (l : Waiting) → kind w ≡ Some line → Placed kind l → is_among w (untold line l) ≡ false → is_among w l.woken ≡ false → Nowhere w l
 away_from kind line w l k placed u t = record {
-  lines = λ other. elim (decided (is_among w (untold other l))) [
-    | inr v ↦ v
-    | inl v ↦ let lines = same_of other line (sym (placed.lines other w v) ∙ k) in cc (sym u ∙ subst (λ (y : Line). is_among w (untold y l) ≡ true) lines v)
-  ];
+  lines = λ other. false_from_ne_true (is_among w (untold other l)) (λ v.
+      let lines = same_of other line (sym (placed.lines other w v) ∙ k) in cc (sym u ∙ subst (λ (y : Line). is_among w (untold y l) ≡ true) lines v));
   woken = t;
 }
 
@@ -138,9 +111,7 @@ times_of_line kind line w (v ∷ vs) = elim (decided (is_line line (kind v))) [
 
 pub times_untold : (line : Line) (w : Waiter) (l : Waiting) → times w (untold line l) ≤ times_in w l
 times_untold Sends w l = omega arith
-times_untold Receives w l = omega arith
-times_untold Streams w l = omega arith
-times_untold Closings w l = omega arith
+times_untold line w l = omega arith
 
 -- ---- another key, another kind
 
@@ -151,10 +122,7 @@ pub with_own : (w v : Waiter) (key : Option Key) (held : KeysHeld) → same_wait
 with_own w v key held same = rw same refl
 
 pub apart_from : (w v : Waiter) (ws : List Waiter) → is_among w ws ≡ false → is_among v ws ≡ true → same_waiter w v ≡ false
-apart_from w v ws off e = elim (decided (same_waiter w v)) [
-  | inr t ↦ t
-  | inl t ↦ cc (sym off ∙ subst (λ (x : Waiter). is_among x ws ≡ true) (sym (same_sound w v t)) e)
-]
+apart_from w v ws off e = false_from_ne_true (same_waiter w v) (λ t. cc (sym off ∙ subst (λ (x : Waiter). is_among x ws ≡ true) (sym (same_sound w v t)) e))
 
 pub rekeyed_lines : (kind : Kind) (held : KeysHeld) (closed : Bool) (a : Roster Waiter) (l : Waiting) (w : Waiter) (key : Option Key) → Nowhere w l
     → ShowsLines kind held closed a l → ShowsLines kind (with_held w key held) closed a l

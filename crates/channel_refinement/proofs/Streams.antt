@@ -1,37 +1,15 @@
 -- A poll of a receiver as a stream: unless it stands untold, its listener is used up, and then it finds a message, waits, or
 -- learns that none will come.
-use Rattle.std.proofs.Common.{◌≡◌, List, [], ◌∷◌, ◌++◌, length, true, false, Option, None, Some, Ok, refl, sym, ap, subst, ◌∙◌, inl, inr, append-nil}
-use Rattle.event_listener.specs.declared.error.ListenError.{ListenError}
+use Rattle.channel_refinement.proofs.Words.{false_from_ne_true, ◌≡◌, List, [], ◌∷◌, ◌++◌, length, true, false, Option, None, Some, Ok, refl, sym, ap, subst, ◌∙◌, inl, inr, append-nil, ListenError, Key, Channel, registers, listeners, waits, refused_reply, over, Outcome, Alone, ends, of_room, over_queue, PollsFor, PollsStream, Found, first, none_yet, none_ever, found, replying, next_answer, poll_next_answer, AwakeIn, line_at, Waiting, is_among, without_waiter, told_by, gone, standing, next_not_polled, answer_without, State, with_waiting, HandleId, Waiter, Stream, Room, Streams, awake_without_stream, decided, same_refl, without_absent, none_left, Matches, KeysHeld, with_held, Refines}
 use Rattle.event_listener.specs.declared.error.ListenError.TheVariants as listening
-use Rattle.event_listener.specs.declared.key.Key.{Key}
 use Rattle.futures.specs.declared.task.Poll.TheVariants as poll
-use Rattle.channel_calls.specs.Moves.{Channel, registers}
-use Rattle.channel_calls.specs.Parts.{listeners, waits}
-use Rattle.channel_calls.specs.Turns.{refused_reply}
-use Rattle.channel_calls.specs.Answered.{over}
 use Rattle.channel_calls.specs.declared.ask.ChannelAsk.TheVariants as ask
 use Rattle.channel_calls.specs.declared.reply.Reply.TheVariants as reply
 use Rattle.channel_calls.specs.declared.stage.Line.TheVariants as list
 use Rattle.channel_calls.specs.declared.stage.Waiting.TheVariants as waiting
 use Rattle.channel_alone.specs.Alone as alone
-use Rattle.channel_alone.specs.Alone.{Outcome, Alone, ends, of_room, over_queue, PollsFor, PollsStream}
-use Rattle.channel_model.specs.Answer.{Found, first, none_yet, none_ever, found, replying, next_answer, poll_next_answer}
-use Rattle.channel_model.specs.Awake.{AwakeIn}
-use Rattle.channel_model.specs.Laws.{line_at}
-use Rattle.channel_model.specs.Lines.{Waiting, is_among, without_waiter, told_by, gone, standing}
-use Rattle.channel_model.specs.Refused.{next_not_polled, answer_without}
-use Rattle.channel_model.specs.State.{State, with_waiting}
 use Rattle.channel_model.specs.declared.call.Call.TheVariants as call
-use Rattle.channel_model.specs.declared.name.HandleId.{HandleId}
-use Rattle.channel_model.specs.declared.name.Waiter.{Waiter}
-use Rattle.channel_model.specs.declared.name.Waiter.TheVariants.{Stream}
-use Rattle.channel_model.specs.declared.news.News.TheVariants.{Room}
-use Rattle.channel_calls.specs.declared.stage.Line.TheVariants.{Streams}
-use Rattle.channel_model.proofs.Awake.{awake_without_stream}
-use Rattle.channel_model.proofs.WaiterLemmas.{decided, same_refl, without_absent, none_left}
-use Rattle.channel_refinement.specs.Over.{Matches}
-use Rattle.channel_model.specs.Asked.{KeysHeld}
-use Rattle.channel_refinement.specs.Refines.{with_held, Refines}
+use Rattle.channel_refinement.proofs.Matching.{shows_moved}
 use Rattle.channel_refinement.proofs.Departing.{streams_are, nowhere_after}
 use Rattle.channel_refinement.proofs.News.{keys_news, room_lines, room_wakes}
 use Rattle.channel_refinement.proofs.Operations.{lack_of, not_standing_is}
@@ -75,15 +53,9 @@ module _ {T : Type 0} (held : KeysHeld) (s : State T) (receiver : HandleId) (awa
           allowed = inl (answer_then (first m ms) u found_first);
           reply = refl;
           woken = woken;
-          shows = record {
-            messages = rw e refl;
-            closed = h.closed;
-            capacity = h.capacity;
-            senders = h.senders;
-            receivers = h.receivers;
-            lines = room_lines (line_at s.names) unheld s.channel.closed c.roster l still_awake.placed.lines h.lines;
-            keys = keys_news (line_at s.names) unheld Room l h.keys;
-          };
+          shows =
+              shows_moved h _ unheld (next_answer used_up receiver (first m ms)).after refl (rw e refl) refl refl refl refl
+              (room_lines (line_at s.names) unheld s.channel.closed c.roster l still_awake.placed.lines h.lines) (keys_news (line_at s.names) unheld Room l h.keys);
           names = refl;
           told =
               without_others (Stream receiver) s.waiting.woken (told_by Room l) (nowhere_after Room (Stream receiver) s.waiting).woken
@@ -156,10 +128,7 @@ module _ {T : Type 0} (held : KeysHeld) (c : Channel T Waiter) (s : State T) (h 
   shown_so key m d e g = shown Streams (reply.Next poll.Pending) (λ e. refused_reply list.Streams e) None (Stream receiver) held c s h awake refl key m d e g
 
   told_not_untold : is_among (Stream receiver) s.waiting.woken ≡ true → is_among (Stream receiver) s.waiting.streams ≡ false
-  told_not_untold t = elim (decided (is_among (Stream receiver) s.waiting.streams)) [
-    | inr u ↦ u
-    | inl u ↦ absurd (not_both (line_at s.names) Streams (Stream receiver) s.waiting awake.placed u t)
-  ]
+  told_not_untold t = false_from_ne_true (is_among (Stream receiver) s.waiting.streams) (λ u. not_both (line_at s.names) Streams (Stream receiver) s.waiting awake.placed u t)
 
   still_untold : is_among (Stream receiver) s.waiting.streams ≡ true → replying (with_waiting (standing Streams (Stream receiver) s.waiting) s) (reply.Next poll.Pending) ≡ poll_next_answer s receiver
   still_untold u = rw u refl

@@ -1,23 +1,7 @@
 -- Telling: the lists of a channel go on to show the lines of a state.
-use Rattle.std.proofs.Common.{arith, ◌≡◌, ℕ, min, List, [], ◌∷◌, ◌++◌, length, take, drop, map, Bool, true, false, Option, Some, refl, sym, ap, subst, ◌∙◌, inl, inr, append_assoc, append-nil}
-use Rattle.event_listener.specs.Lists.{Notice, told_with, tasks_of, notified}
-use Rattle.event_listener.specs.declared.key.Key.{Key}
-use Rattle.channel_calls.specs.Parts.{Listeners, Roster, listeners, with_listeners, told_one, told_one_wakes, told_all, told_all_wakes}
-use Rattle.channel_model.specs.Lines.{Waiting, is_among, untold, after_news}
-use Rattle.channel_model.specs.Lines.{all_told}
-use Rattle.channel_model.specs.Awake.{Kind}
-use Rattle.channel_model.specs.Laws.{same_line}
-use Rattle.channel_model.specs.declared.name.Waiter.{Waiter}
-use Rattle.channel_model.specs.declared.news.News.TheVariants.{Message, Closing, NextIn}
-use Rattle.channel_calls.specs.declared.stage.Line.{Line}
-use Rattle.channel_calls.specs.declared.stage.Line.TheVariants.{Sends, Receives, Streams, Closings}
-use Rattle.channel_model.proofs.WaiterLemmas.{decided}
-use Rattle.channel_model.proofs.Counting.{among_take, among_drop}
-use Rattle.channel_model.proofs.Awake.{line_sound}
-use Rattle.channel_model.specs.Asked.{KeysHeld}
-use Rattle.channel_refinement.specs.Refines.{AreUntold, AreTold, IsToldSo, ShowsLine, ShowsLines, list_of, of_line}
+use Rattle.channel_refinement.proofs.Words.{ShowsTold, AreUntold, AreTold, IsToldSo, ShowsLine, ShowsLines, list_of, of_line, arith, ◌≡◌, ℕ, min, List, [], ◌∷◌, ◌++◌, length, take, drop, map, Bool, true, false, Option, Some, refl, sym, ap, subst, ◌∙◌, inl, inr, append_assoc, append-nil, Notice, told_with, tasks_of, notified, Key, Listeners, Roster, listeners, with_listeners, told_one, told_one_wakes, told_all, told_all_wakes, Waiting, is_among, untold, after_news, all_told, Kind, same_line, Waiter, Nothing, Message, Closing, NextIn, Line, Sends, Receives, Streams, Closings, decided, among_take, among_drop, line_sound, KeysHeld}
 use Rattle.channel_refinement.proofs.Names.{AllOf, of_line_append, of_own_line, of_other_line}
-use Rattle.channel_refinement.proofs.Entries.{tasks_are, untold_rest, untold_first, told_append, just_told}
+use Rattle.channel_refinement.proofs.Entries.{tasks_are, untold_rest, untold_first, zip_append, just_told}
 
 -- ---- whom news leave
 
@@ -27,51 +11,25 @@ Lined kind l = (line : Line) → AllOf kind line (untold line l)
 
 pub next_own : (line : Line) (l : Waiting) → untold line (after_news (NextIn line) l) ≡ drop 1 (untold line l)
 next_own Sends l = refl
-next_own Receives l = refl
-next_own Streams l = refl
-next_own Closings l = refl
+next_own line l = refl
 
 pub next_other : (line other : Line) (l : Waiting) → same_line other line ≡ false → untold other (after_news (NextIn line) l) ≡ untold other l
 next_other Sends Sends l e = cc e
-next_other Sends Receives l e = refl
-next_other Sends Streams l e = refl
-next_other Sends Closings l e = refl
-next_other Receives Sends l e = refl
 next_other Receives Receives l e = cc e
-next_other Receives Streams l e = refl
-next_other Receives Closings l e = refl
-next_other Streams Sends l e = refl
-next_other Streams Receives l e = refl
 next_other Streams Streams l e = cc e
-next_other Streams Closings l e = refl
-next_other Closings Sends l e = refl
-next_other Closings Receives l e = refl
-next_other Closings Streams l e = refl
 next_other Closings Closings l e = cc e
+next_other line other l e = refl
 
 pub all_own : (line : Line) (l : Waiting) → untold line (all_told line l) ≡ []
 all_own Sends l = refl
-all_own Receives l = refl
-all_own Streams l = refl
-all_own Closings l = refl
+all_own line l = refl
 
 pub all_other : (line other : Line) (l : Waiting) → same_line other line ≡ false → untold other (all_told line l) ≡ untold other l
 all_other Sends Sends l e = cc e
-all_other Sends Receives l e = refl
-all_other Sends Streams l e = refl
-all_other Sends Closings l e = refl
-all_other Receives Sends l e = refl
 all_other Receives Receives l e = cc e
-all_other Receives Streams l e = refl
-all_other Receives Closings l e = refl
-all_other Streams Sends l e = refl
-all_other Streams Receives l e = refl
 all_other Streams Streams l e = cc e
-all_other Streams Closings l e = refl
-all_other Closings Sends l e = refl
-all_other Closings Receives l e = refl
-all_other Closings Streams l e = refl
 all_other Closings Closings l e = cc e
+all_other line other l e = refl
 
 pub lined_all : (kind : Kind) (line : Line) (l : Waiting) → Lined kind l → Lined kind (all_told line l)
 lined_all kind line l h other w e = elim (decided (same_line other line)) [
@@ -99,21 +57,10 @@ module _ (kind : Kind) (held : KeysHeld) (closed : Bool) where
       → ((other : Line) → same_line other line ≡ false → ShowsLine kind held closed other (listeners (list_of other) roster) l)
       → ShowsLines kind held closed (with_listeners (list_of line) new roster) l
   replaced Sends new roster l own others Sends = own
-  replaced Sends new roster l own others Receives = others Receives refl
-  replaced Sends new roster l own others Streams = others Streams refl
-  replaced Sends new roster l own others Closings = others Closings refl
-  replaced Receives new roster l own others Sends = others Sends refl
   replaced Receives new roster l own others Receives = own
-  replaced Receives new roster l own others Streams = others Streams refl
-  replaced Receives new roster l own others Closings = others Closings refl
-  replaced Streams new roster l own others Sends = others Sends refl
-  replaced Streams new roster l own others Receives = others Receives refl
   replaced Streams new roster l own others Streams = own
-  replaced Streams new roster l own others Closings = others Closings refl
-  replaced Closings new roster l own others Sends = others Sends refl
-  replaced Closings new roster l own others Receives = others Receives refl
-  replaced Closings new roster l own others Streams = others Streams refl
   replaced Closings new roster l own others Closings = own
+  replaced line new roster l own others other = others other refl
 
   pub unmoved : (other : Line) (x : Listeners Waiter) (l m : Waiting) → untold other m ≡ untold other l → of_line kind other m.woken ≡ of_line kind other l.woken
       → ShowsLine kind held closed other x l → ShowsLine kind held closed other x m
@@ -121,6 +68,14 @@ module _ (kind : Kind) (held : KeysHeld) (closed : Bool) where
     untold = subst (λ (ws : List Waiter). AreUntold held x.waiting ws) (sym e) h.untold;
     told = subst (λ (ws : List Waiter). AreTold held closed other x.told ws) (sym f) h.told;
   }
+
+  -- where nothing is told
+  pub quiet_line : (line : Line) (x : Listeners Waiter) (l : Waiting) → ShowsLine kind held closed line x l → ShowsLine kind held closed line x (after_news Nothing l)
+  quiet_line line x l h = unmoved line x l (after_news Nothing l) (same line) (ap (λ (ws : List Waiter). of_line kind line ws) (append-nil l.woken)) h
+    where
+      same : (line : Line) → untold line (after_news Nothing l) ≡ untold line l
+      same Sends = refl
+      same line = refl
 
   -- names of another line that were woken are none of this one
   pub others_woken : (line other : Line) → same_line other line ≡ false → (woken names : List Waiter) → AllOf kind line names → of_line kind other (woken ++ names) ≡ of_line kind other woken
@@ -151,16 +106,15 @@ module _ (kind : Kind) (held : KeysHeld) (closed : Bool) where
   first_are_told : (line : Line) (a : Bool) (tag : Unit {0}) → (closed ≡ false → IsToldSo line a) → (es : List (Key × Option Waiter)) (ws : List Waiter) → AreUntold held es ws
       → AreTold held closed line (told_with a (take 1 es) (tag ∷ [])) (take 1 ws)
   first_are_told line a tag so [] [] h = tt
-  first_are_told line a tag so [] (w ∷ ws) h = absurd h
-  first_are_told line a tag so (e ∷ es) [] h = absurd h
-  first_are_told line a tag so (e ∷ es) (w ∷ ws) h = (h.0, so, tt)
+  first_are_told line a tag so (e ∷ es) (w ∷ ws) h = ((h.0.0, so), tt)
+  first_are_told line a tag so es ws h = absurd h
 
   -- by a notice of this kind
   pub next_line : (line : Line) (a : Bool) (tag : Unit {0}) (n : ℕ) (x : Listeners Waiter) (l : Waiting) → n ≡ min 1 (length x.waiting) → (closed ≡ false → IsToldSo line a) → AllOf kind line (untold line l)
       → ShowsLine kind held closed line x l → ShowsLine kind held closed line (notified a (take n (tag ∷ [])) x) (after_news (NextIn line) l)
   next_line line a tag n x l e so all h =
       let here = first_are_told line a tag so x.waiting (untold line l) h.untold in
-      let told = told_append held closed line x.told (told_with a (take 1 x.waiting) (tag ∷ [])) (of_line kind line l.woken) (take 1 (untold line l)) h.told here in
+      let told = zip_append (ShowsTold held closed line) x.told (told_with a (take 1 x.waiting) (tag ∷ [])) (of_line kind line l.woken) (take 1 (untold line l)) h.told here in
       record {
         untold =
             subst (λ (ws : List Waiter). AreUntold held (drop (length (take n (tag ∷ []))) x.waiting) ws) (sym (next_own line l))
@@ -196,7 +150,7 @@ module _ (kind : Kind) (held : KeysHeld) (closed : Bool) where
   all_line line x l so all h =
       let tags : List (Unit {0}) = map (λ (w : Key × Option Waiter). let t : Unit {0} = tt in t) x.waiting in
       let here = just_told held closed line false so x.waiting tags (untold line l) (as_many x.waiting) h.untold in
-      let told = told_append held closed line x.told (told_with false x.waiting tags) (of_line kind line l.woken) (untold line l) h.told here in
+      let told = zip_append (ShowsTold held closed line) x.told (told_with false x.waiting tags) (of_line kind line l.woken) (untold line l) h.told here in
       record {
         untold = subst (λ (ws : List Waiter). AreUntold held [] ws) (sym (all_own line l)) tt;
         told = subst (λ (ws : List Waiter). AreTold held closed line (told_all x).told ws) (sym (own_woken line l.woken (untold line l) all)) told;

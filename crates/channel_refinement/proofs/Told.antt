@@ -1,20 +1,5 @@
 -- Those who are woken after a call, and the names whose operation is what it was.
-use Rattle.std.proofs.Common.{arith, ◌≡◌, ◌≤◌, ◌+◌, nat_eq, List, [], ◌++◌, Bool, true, false, not, Option, None, Some, refl, sym, ap, ◌∙◌, append-nil, append_assoc, inl, inr}
-use Rattle.std.specs.Map.{lookup}
-use Rattle.std.specs.Option.{option_map_or}
-use Rattle.std.proofs.lemmas.List.Elements.{filter-append}
-use Rattle.std.proofs.lemmas.Map.Steps.{set_value_same}
-use Rattle.channel_model.specs.Awake.{Kind, Placed, times, times_in}
-use Rattle.channel_model.specs.Lines.{Waiting, same_waiter, is_among, without_waiter, untold, told_by, after_news, gone, passed_on, left_after, told_after, standing}
-use Rattle.channel_model.specs.Names.{Names, Directory, ModelOperation, at, with_operation_changed}
-use Rattle.channel_model.specs.declared.name.OpId.{OpId}
-use Rattle.channel_model.specs.declared.name.Waiter.{Waiter}
-use Rattle.channel_model.specs.declared.news.News.{News}
-use Rattle.channel_calls.specs.declared.stage.Line.{Line}
-use Rattle.channel_calls.specs.declared.stage.Line.TheVariants.{Sends, Receives, Streams, Closings}
-use Rattle.channel_model.proofs.WaiterLemmas.{decided, without_absent, none_left}
-use Rattle.channel_model.proofs.Counting.{among_counts}
-use Rattle.channel_model.proofs.Awake.{left_nowhere}
+use Rattle.channel_refinement.proofs.Words.{arith, ◌≡◌, ◌≤◌, ◌+◌, nat_eq, List, [], ◌++◌, Bool, true, false, not, Option, None, Some, refl, sym, ap, ◌∙◌, append-nil, append_assoc, inl, inr, lookup, option_map_or, filter-append, set_value_same, Kind, Placed, times, times_in, Waiting, same_waiter, is_among, without_waiter, untold, told_by, after_news, gone, passed_on, left_after, told_after, standing, Names, Directory, ModelOperation, at, with_operation_changed, OpId, Waiter, News, Line, Sends, decided, without_absent, none_left, among_counts, left_nowhere}
 use Rattle.channel_refinement.proofs.Departing.{times_nowhere}
 
 -- ---- those who are woken
@@ -50,9 +35,7 @@ told_away w ws away = sym (without_absent w ws away) ∙ told_gone w ws
 
 both_counts : (line : Line) (w : Waiter) (l : Waiting) → times w (untold line l) + times w l.woken ≤ times_in w l
 both_counts Sends w l = omega arith
-both_counts Receives w l = omega arith
-both_counts Streams w l = omega arith
-both_counts Closings w l = omega arith
+both_counts line w l = omega arith
 
 -- one that stands untold is not woken, nor the other way round
 pub not_both : (kind : Kind) (line : Line) (w : Waiter) (l : Waiting) → Placed kind l → is_among w (untold line l) ≡ true → is_among w l.woken ≡ true → ⊥
@@ -60,9 +43,7 @@ not_both kind line w l placed u t = omega (arith, placed.once w, among_counts w 
 
 stood_woken : (line : Line) (w : Waiter) (l : Waiting) (b : Bool) → is_among w (untold line l) ≡ b → b ≡ false → (standing line w l).woken ≡ without_waiter w l.woken
 stood_woken Sends w l b e f = rw (e ∙ f) refl
-stood_woken Receives w l b e f = rw (e ∙ f) refl
-stood_woken Streams w l b e f = rw (e ∙ f) refl
-stood_woken Closings w l b e f = rw (e ∙ f) refl
+stood_woken line w l b e f = rw (e ∙ f) refl
 
 -- one who stands in its line after a poll is told no more
 pub told_standing : (kind : Kind) (line : Line) (w : Waiter) (l : Waiting) → Placed kind l → (standing line w l).woken ≡ without_waiter w (l.woken ++ [])

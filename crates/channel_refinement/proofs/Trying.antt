@@ -1,35 +1,13 @@
 -- Calls of handles that do not wait.
-use Rattle.std.proofs.Common.{arith, zero, suc, ◌<◌, take, ◌≡◌, ℕ, List, [], ◌∷◌, ◌++◌, length, drop, slice_get, ◌==◌, Bool, true, false, Option, None, Some, Ok, Err, if◌then◌else◌, refl, sym, ap, subst, ◌∙◌, inl, inr, append-nil}
-use Rattle.std.specs.Option.{option_map_or}
-use Rattle.concurrent_queue.specs.Queue.{Queue, is_full_at, is_filled}
-use Rattle.channel_calls.specs.Moves.{Channel}
-use Rattle.channel_calls.specs.Turns.{says, closer_ending}
+use Rattle.channel_refinement.proofs.Words.{Refines, arith, zero, suc, ◌<◌, take, ◌≡◌, ℕ, List, [], ◌∷◌, ◌++◌, length, drop, slice_get, ◌==◌, Bool, true, false, Option, None, Some, Ok, Err, if◌then◌else◌, refl, sym, ap, subst, ◌∙◌, inl, inr, append-nil, option_map_or, Queue, is_full_at, is_filled, Channel, says, closer_ending, Reply, Outcome, ends, of_message, of_closing, over_queue, receives_by, receives, receives_these, receives_several, ReceivesSeveral, sends, force_sends, closes, MayLackRoom, Found, first, none_yet, none_ever, found, try_recv_answer, recv_many_answer, try_send_answer, force_send_answer, displacing, space_of, replying, after_telling, shut, AwakeIn, line_at, Answers, memory, not_held, State, with_channel, Call, HandleId, Waiter, Message, Room, Closing, Space, Open, Filled, Shut, keeper, Matches, names_after, KeysHeld, is_full, with_messages}
 use Rattle.channel_calls.specs.declared.error.Refused.TheVariants as unmade
 use Rattle.channel_calls.specs.declared.error.TryRecvError.TheVariants as unreceived
 use Rattle.channel_calls.specs.declared.error.TrySendError.TheVariants as unsent
-use Rattle.channel_calls.specs.declared.reply.Reply.{Reply}
 use Rattle.channel_calls.specs.declared.reply.Reply.TheVariants as reply
 use Rattle.channel_calls.specs.declared.stage.Closer.TheVariants as closer
 use Rattle.channel_alone.specs.Alone as alone
-use Rattle.channel_alone.specs.Alone.{Outcome, ends, of_message, of_closing, over_queue, receives_by, receives, receives_these, receives_several, ReceivesSeveral, sends, force_sends, closes, MayLackRoom}
-use Rattle.channel_model.specs.Answer.{Found, first, none_yet, none_ever, found, try_recv_answer, recv_many_answer, try_send_answer, force_send_answer, displacing, space_of, replying, after_telling, shut}
-use Rattle.channel_model.specs.Awake.{AwakeIn}
-use Rattle.channel_model.specs.Channel.{is_full, with_messages}
-use Rattle.channel_model.specs.Laws.{line_at}
-use Rattle.channel_model.specs.Refused.{Answers, memory, not_held}
-use Rattle.channel_model.specs.State.{State, with_channel}
-use Rattle.channel_model.specs.declared.call.Call.{Call}
 use Rattle.channel_model.specs.declared.call.Call.TheVariants as call
-use Rattle.channel_model.specs.declared.name.HandleId.{HandleId}
-use Rattle.channel_model.specs.declared.name.Waiter.{Waiter}
-use Rattle.channel_model.specs.declared.news.News.TheVariants.{Message, Room, Closing}
-use Rattle.channel_model.specs.declared.space.Space.{Space}
-use Rattle.channel_model.specs.declared.space.Space.TheVariants.{Open, Filled, Shut}
-use Rattle.channel_refinement.specs.Asked.{keeper}
-use Rattle.channel_refinement.specs.Over.{Matches, names_after}
-use Rattle.channel_model.specs.Asked.{KeysHeld}
-use Rattle.channel_refinement.specs.Refines.{Refines}
-use Rattle.channel_refinement.proofs.Matching.{matching}
+use Rattle.channel_refinement.proofs.Matching.{shows_moved, matching}
 use Rattle.channel_refinement.proofs.News.{shut_lines, keys_news, keys_rooms, rooms_woken, room_lines, room_wakes, rooms_lines, rooms_wakes, message_lines, message_wakes, closing_lines, closing_wakes}
 use Rattle.channel_refinement.proofs.Telling.{Lined}
 
@@ -99,15 +77,9 @@ module _ {T : Type 0} (held : KeysHeld) (c : Channel T Waiter) (s : State T) (h 
           allowed = inl (ap (λ (x : Found T). try_recv_answer s x) (sym some));
           reply = refl;
           woken = woken;
-          shows = record {
-            messages = rw e refl;
-            closed = h.closed;
-            capacity = h.capacity;
-            senders = h.senders;
-            receivers = h.receivers;
-            lines = room_lines (line_at s.names) held s.channel.closed c.roster s.waiting lined h.lines;
-            keys = keys_news (line_at s.names) held Room s.waiting h.keys;
-          };
+          shows =
+              shows_moved h _ held (try_recv_answer s (first m ms)).after refl (rw e refl) refl refl refl refl
+              (room_lines (line_at s.names) held s.channel.closed c.roster s.waiting lined h.lines) (keys_news (line_at s.names) held Room s.waiting h.keys);
           names = refl;
           told = ap (λ (ws : List Waiter). s.waiting.woken ++ ws) (sym woken);
         }
@@ -133,15 +105,9 @@ module _ {T : Type 0} (held : KeysHeld) (c : Channel T Waiter) (s : State T) (h 
           allowed = inl (sym (ap (λ (xs : List T). recv_many_answer s (suc n) xs (drop (suc n) s.channel.messages)) some));
           reply = refl;
           woken = woken;
-          shows = record {
-            messages = ap (λ (xs : List T). drop (suc n) xs) h.messages;
-            closed = h.closed;
-            capacity = h.capacity;
-            senders = h.senders;
-            receivers = h.receivers;
-            lines = rooms_lines (line_at s.names) held k s.channel.closed c.roster s.waiting lined h.lines;
-            keys = keys_rooms (line_at s.names) held k s.waiting h.keys;
-          };
+          shows =
+              shows_moved h _ held (recv_many_answer s (suc n) (m ∷ ms) (drop (suc n) s.channel.messages)).after refl (ap (λ (xs : List T). drop (suc n) xs) h.messages) refl refl refl refl
+              (rooms_lines (line_at s.names) held k s.channel.closed c.roster s.waiting lined h.lines) (keys_rooms (line_at s.names) held k s.waiting h.keys);
           names = refl;
           told = rooms_woken k s.waiting ∙ ap (λ (ws : List Waiter). s.waiting.woken ++ ws) (sym woken);
         }
@@ -169,15 +135,8 @@ module _ {T : Type 0} (held : KeysHeld) (c : Channel T Waiter) (s : State T) (h 
     came_in call r f ms nobody allowed names items closed capacity =
         let woken = message_wakes (line_at s.names) held s.channel.closed c.roster s.waiting [] h.lines ∙ append-nil _ in
         let shows : Refines held (ends of_message (says r) (over_queue f c)).channel (after_telling Message (with_channel (with_messages s.channel ms) s) r).after =
-        record {
-          messages = items;
-          closed = closed ∙ h.closed;
-          capacity = capacity ∙ h.capacity;
-          senders = h.senders;
-          receivers = h.receivers;
-          lines = message_lines (line_at s.names) held s.channel.closed c.roster s.waiting lined h.lines;
-          keys = keys_news (line_at s.names) held Message s.waiting h.keys;
-        } in
+        shows_moved h _ held _ refl items closed capacity refl refl
+        (message_lines (line_at s.names) held s.channel.closed c.roster s.waiting lined h.lines) (keys_news (line_at s.names) held Message s.waiting h.keys) in
         matching held s call None nobody (ends of_message (says r) (over_queue f c)) (after_telling Message (with_channel (with_messages s.channel ms) s) r) allowed refl woken shows names
         (ap (λ (ws : List Waiter). s.waiting.woken ++ ws) (sym woken))
 

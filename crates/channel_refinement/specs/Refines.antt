@@ -1,6 +1,6 @@
 -- When a channel at rest, with its lists of listeners, shows a state of the model.
-use Rattle.std.specs.Prelude.{◌≡◌, ◌≤◌, Bool, true, false, if◌then◌else◌, List, [], ◌∷◌, Option, Some}
-use Rattle.std.specs.List.{filter}
+use Rattle.std.specs.Prelude.{◌≡◌, ◌≤◌, Bool, true, false, if◌then◌else◌, List, Option, Some}
+use Rattle.std.specs.List.{filter, AllZip}
 use Rattle.event_listener.specs.Lists.{Notice}
 use Rattle.event_listener.specs.declared.key.Key.{Key}
 use Rattle.channel_calls.specs.Moves.{Channel}
@@ -28,11 +28,11 @@ list_of Streams = list.Streams
 list_of Closings = list.Closings
 
 -- waiting listeners are these names in order, each with its name as its task
+abbrev pub ShowsUntold : KeysHeld → Key × Option Waiter → Waiter → Type 0
+ShowsUntold held e w = (held w ≡ Some e.0) × (e.1 ≡ Some w)
+
 abbrev pub AreUntold : KeysHeld → List (Key × Option Waiter) → List Waiter → Type 0
-AreUntold held [] [] = Unit {0}
-AreUntold held [] (w ∷ ws) = ⊥
-AreUntold held (e ∷ es) [] = ⊥
-AreUntold held (e ∷ es) (w ∷ ws) = (held w ≡ Some e.0) × (e.1 ≡ Some w) × AreUntold held es ws
+AreUntold held es ws = AllZip (ShowsUntold held) es ws
 
 -- how those of a line are told while the channel is open: a send or a receive as one more, streams all at once, and a
 -- notice of the closing not at all
@@ -43,12 +43,11 @@ IsToldSo Streams additional = additional ≡ false
 IsToldSo Closings additional = ⊥
 
 -- told listeners are these names, in the order in which they were told
+abbrev pub ShowsTold : KeysHeld → Bool → Line → Key × Notice Unit → Waiter → Type 0
+ShowsTold held closed line e w = (held w ≡ Some e.0) × (closed ≡ false → IsToldSo line e.1.additional)
+
 abbrev pub AreTold : KeysHeld → Bool → Line → List (Key × Notice Unit) → List Waiter → Type 0
-AreTold held closed line [] [] = Unit {0}
-AreTold held closed line [] (w ∷ ws) = ⊥
-AreTold held closed line (e ∷ es) [] = ⊥
-AreTold held closed line (e ∷ es) (w ∷ ws) =
-    (held w ≡ Some e.0) × (closed ≡ false → IsToldSo line e.1.additional) × AreTold held closed line es ws
+AreTold held closed line es ws = AllZip (ShowsTold held closed line) es ws
 
 -- those among these names who belong to the line
 abbrev pub of_line : Kind → Line → List Waiter → List Waiter

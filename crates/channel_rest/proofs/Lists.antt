@@ -1,23 +1,6 @@
 -- The names of those who listen on one list, in its order.
-use Rattle.std.proofs.Common.{◌≡◌, ◌≤◌, Bool, true, false, cond, List, [], ◌∷◌, ◌++◌, length, Option, Some, ◌⊎◌, inl, inr, refl, sym, ap, ◌∙◌, subst, arith}
-use Rattle.std.specs.List.{filter}
-use Rattle.std.specs.Map.{keys_of}
-use Rattle.event_listener.specs.Lists.{Notice}
-use Rattle.event_listener.specs.declared.key.Key.{Key}
-use Rattle.channel_calls.specs.declared.stage.Line.{Line}
-use Rattle.channel_calls.specs.declared.stage.Line.TheVariants.{Sends, Receives, Streams, Closings}
-use Rattle.channel_laws.specs.Notices.{MayBeTold, EachTold}
-use Rattle.channel_laws.specs.Waits.{IsIn}
-use Rattle.channel_model.proofs.Counting.{absent_counts}
-use Rattle.channel_model.proofs.WaiterLemmas.{same_refl, same_sound, decided, or_true}
-use Rattle.channel_model.specs.Asked.{KeysHeld}
-use Rattle.channel_model.specs.Awake.{Kind, times}
-use Rattle.channel_model.specs.Laws.{is_line, same_line}
-use Rattle.channel_model.specs.Lines.{same_waiter, is_among}
-use Rattle.channel_model.specs.declared.name.Waiter.{Waiter}
-use Rattle.channel_interleaving.specs.Owners.{IsAmong, NoneTwice}
-use Rattle.channel_interleaving.proofs.OwnerWokenLists.{key_of_entry}
-use Rattle.channel_refinement.specs.Refines.{AreUntold, IsToldSo, AreTold}
+use Rattle.channel_rest.proofs.Words.{AllZip, zip_append, ◌≡◌, ◌≤◌, Bool, true, false, List, [], ◌∷◌, ◌++◌, length, Option, Some, ◌⊎◌, inl, inr, refl, sym, ap, ◌∙◌, subst, arith, keys_of, Notice, Key, Line, Sends, MayBeTold, EachTold, IsIn, absent_counts, same_refl, same_sound, decided, or_true, KeysHeld, Kind, times, same_waiter, is_among, Waiter, IsAmong, NoneTwice, key_of_entry, AreUntold, IsToldSo, AreTold}
+use Rattle.std.proofs.lemmas.Slice.Zip.{AllZip-long}
 
 -- ---- keys
 
@@ -42,10 +25,7 @@ module _ {X : Type 0} where
 module _ (Has : Key → Waiter → Type 0) where
   -- each of these keys is had by the name at the same place
   abbrev pub Stand : List Key → List Waiter → Type 0
-  Stand [] [] = Unit {0}
-  Stand [] (w ∷ ws) = ⊥
-  Stand (k ∷ ks) [] = ⊥
-  Stand (k ∷ ks) (w ∷ ws) = Has k w × Stand ks ws
+  Stand ks ws = AllZip Has ks ws
 
   pub named_all : (ks : List Key) → ((key : Key) → IsAmong key ks → (w : Waiter) × Has key w)
       → (ws : List Waiter) × Stand ks ws
@@ -56,16 +36,10 @@ module _ (Has : Key → Waiter → Type 0) where
       (one.0 ∷ more.0, (one.1, more.1))
 
   pub stand_join : (ks ls : List Key) (vs ws : List Waiter) → Stand ks vs → Stand ls ws → Stand (ks ++ ls) (vs ++ ws)
-  stand_join [] ls [] ws h g = g
-  stand_join [] ls (v ∷ vs) ws h g = absurd h
-  stand_join (k ∷ ks) ls [] ws h g = absurd h
-  stand_join (k ∷ ks) ls (v ∷ vs) ws h g = (h.0, stand_join ks ls vs ws h.1 g)
+  stand_join ks ls vs ws h g = zip_append Has ks ls vs ws h g
 
   pub stand_length : (ks : List Key) (ws : List Waiter) → Stand ks ws → length ws ≡ length ks
-  stand_length [] [] h = refl
-  stand_length [] (w ∷ ws) h = absurd h
-  stand_length (k ∷ ks) [] h = absurd h
-  stand_length (k ∷ ks) (w ∷ ws) h = let more = stand_length ks ws h.1 in omega (arith, more)
+  stand_length ks ws h = AllZip-long Has ks ws h
 
   -- whoever is among them has one of the keys
   pub stand_key : (ks : List Key) (ws : List Waiter) (w : Waiter) → Stand ks ws → is_among w ws ≡ true
@@ -126,9 +100,8 @@ module _ (Has : Key → Waiter → Type 0) where
   pub some_waits : {X : Type 0} (es : List (Key × Option X)) (ws : List Waiter) → Stand (keys_of es) ws
       → (ws ≡ []) ⊎ ((key : Key) × IsIn key es)
   some_waits [] [] h = inl refl
-  some_waits [] (w ∷ ws) h = absurd h
-  some_waits (e ∷ es) [] h = absurd h
   some_waits (e ∷ es) (w ∷ ws) h = inr (e.0, inl refl)
+  some_waits es ws h = absurd h
 
   -- ---- lines
 
@@ -143,24 +116,19 @@ module _ (Has : Key → Waiter → Type 0) where
         → ((e : Key × Option Waiter) (w : Waiter) → IsAmong e es → Has e.0 w → e.1 ≡ Some w) → Stand (keys_of es) ws
         → AreUntold held es ws
     are_untold [] [] task h = tt
-    are_untold [] (w ∷ ws) task h = absurd h
-    are_untold (e ∷ es) [] task h = absurd h
     are_untold (e ∷ es) (w ∷ ws) task h =
-        (holds e.0 w h.0, task e w (inl refl) h.0, are_untold es ws (λ f v i. task f v (inr i)) h.1)
+        ((holds e.0 w h.0, task e w (inl refl) h.0), are_untold es ws (λ f v i. task f v (inr i)) h.1)
+    are_untold es ws task h = absurd h
 
     told_so : (line : Line) (additional : Bool) → MayBeTold line additional → IsToldSo line additional
     told_so Sends additional h = h
-    told_so Receives additional h = h
-    told_so Streams additional h = h
-    told_so Closings additional h = h
+    told_so line additional h = h
 
     pub are_told : (closed : Bool) (line : Line) (es : List (Key × Notice Unit)) (ws : List Waiter)
         → (closed ≡ false → EachTold (MayBeTold line) es) → Stand (keys_of es) ws → AreTold held closed line es ws
     are_told closed line [] [] so h = tt
-    are_told closed line [] (w ∷ ws) so h = absurd h
-    are_told closed line (e ∷ es) [] so h = absurd h
     are_told closed line (e ∷ es) (w ∷ ws) so h = (
-      holds e.0 w h.0,
-      λ opened. let all = so opened in told_so line e.1.additional all.0,
+      (holds e.0 w h.0, λ opened. let all = so opened in told_so line e.1.additional all.0),
       are_told closed line es ws (λ opened. let all = so opened in all.1) h.1,
     )
+    are_told closed line es ws so h = absurd h

@@ -1,66 +1,24 @@
 -- A call that is made alone on a channel at rest answers as the model may, and leaves the model's state.
-use Rattle.std.proofs.Common.{arith, ◌≡◌, ◌≤◌, ◌+◌, List, [], ◌∷◌, ◌++◌, Bool, true, false, Option, None, Some, IsSome, is_some, inl, inr, refl, sym, ap, subst, ◌∙◌}
-use Rattle.std.proofs.lemmas.List.Elements.{filter-append}
-use Rattle.std.specs.Option.{option_map_or}
-use Rattle.event_listener.specs.Lists.{Notice}
-use Rattle.event_listener.specs.declared.key.Key.{Key}
-use Rattle.channel_calls.specs.Moves.{Channel}
-use Rattle.channel_calls.specs.declared.reply.Reply.{Reply}
-use Rattle.channel_calls.specs.declared.stage.Held.{Held}
-use Rattle.channel_calls.specs.declared.stage.Line.{Line}
-use Rattle.channel_calls.specs.declared.stage.Line.TheVariants.{Sends, Receives, Streams, Closings}
-use Rattle.channel_alone.specs.Alone.{Outcome, Alone}
-use Rattle.channel_model.proofs.Awake.{line_refl}
+use Rattle.channel_rest.proofs.Words.{tasks_are, told_holds, arith, ◌≡◌, ◌≤◌, ◌+◌, List, [], ◌∷◌, ◌++◌, Bool, true, false, Option, None, Some, IsSome, is_some, inl, inr, refl, sym, ap, subst, ◌∙◌, filter-append, option_map_or, Key, Channel, Reply, Held, Line, Sends, Receives, Streams, Closings, Outcome, Alone, left_among, or_right, Answer, AwakeIn, times, times_in, line_at, Waiting, same_waiter, is_among, without_waiter, Names, State, Call, Waiter, Op, Stream, HandleId, Admitted, admitted, keeper, Matches, held_after, with_held, Scene, asks, AllKept, names_alone, order_alone, book_alone, woken_in, IsAmong, amiss, waits, post, begin_refusal, names_of, held_of, Book, but_for, CanBeLent, NonePolled, RefusalsAgree, LoneCallsAnswer, PollsAnswer, state_at, IsWorld}
+use Rattle.channel_refinement.proofs.Names.{among_its_line}
 use Rattle.channel_model.proofs.Interface.{awake_after}
-use Rattle.channel_model.proofs.WaiterLemmas.{same_sound, decided, or_true, left_among}
-use Rattle.channel_model.proofs.Counting.{or_right}
-use Rattle.channel_model.specs.Answer.{Answer}
-use Rattle.channel_model.specs.Asked.{KeysHeld as Holding}
-use Rattle.channel_model.specs.Awake.{AwakeIn, Kind, times, times_in}
-use Rattle.channel_model.specs.Channel.{ModelChannel as PlainChannel}
-use Rattle.channel_model.specs.Laws.{line_at, is_line}
-use Rattle.channel_model.specs.Lines.{Waiting, same_waiter, is_among, without_waiter}
-use Rattle.channel_model.specs.Names.{Names}
-use Rattle.channel_model.specs.Refusal as model
 use Rattle.channel_model.specs.Refused.{Answers}
-use Rattle.channel_model.specs.State.{State}
-use Rattle.channel_model.specs.declared.call.Call.{Call}
-use Rattle.channel_model.specs.declared.name.Waiter.{Waiter}
-use Rattle.channel_model.specs.declared.name.Waiter.TheVariants.{Op, Stream}
-use Rattle.channel_model.specs.declared.name.HandleId.{HandleId}
 use Rattle.channel_model.specs.Settling.{poll_of}
-use Rattle.channel_model.specs.declared.call.Call.TheVariants as call
 use Rattle.channel_model.proofs.LawSteps.{poll_awake}
 use Rattle.channel_refinement.proofs.Streams.{poll_next}
-use Rattle.channel_interleaving.proofs.OwnerBegins.{Admitted, admitted}
 use Rattle.channel_interleaving.proofs.WokenPolls.{woken_admitted, poll_accepted}
-use Rattle.channel_refinement.specs.Asked.{keeper}
-use Rattle.channel_refinement.specs.Over.{Matches, held_after}
-use Rattle.channel_refinement.specs.Refines.{AreTold, of_line, with_held}
-use Rattle.channel_steps.specs.Scene.{Scene}
-use Rattle.channel_interleaving.specs.Bookkeeping.{asks}
-use Rattle.channel_interleaving.specs.Kept.{AllKept}
-use Rattle.channel_interleaving.specs.Lone.{names_alone, order_alone, book_alone}
-use Rattle.channel_interleaving.specs.OwnerOrder.{woken_in}
-use Rattle.channel_interleaving.specs.Owners.{IsAmong, amiss, waits, post}
-use Rattle.channel_interleaving.specs.Refusal.{begin_refusal}
-use Rattle.channel_interleaving.specs.Roll.{names_of, held_of}
-use Rattle.channel_interleaving.specs.Run.{Book}
 use Rattle.channel_interleaving.specs.declared.names.Agent.{Agent}
-use Rattle.channel_rest.specs.Lone.{but_for, CanBeLent, NonePolled, RefusalsAgree, LoneCallsAnswer, PollsAnswer}
-use Rattle.channel_rest.specs.Rest.{state_at, IsWorld}
+use Rattle.channel_model.specs.Asked.{KeysHeld as Holding}
+use Rattle.channel_model.specs.Channel.{ModelChannel as PlainChannel}
+use Rattle.channel_model.specs.Refusal as model
+use Rattle.channel_model.specs.declared.call.Call.TheVariants as call
+use Rattle.channel_rest.proofs.LoneWoken.{left_of, woken_follows}
 use Rattle.channel_rest.proofs.LoneAsks.{asks_same, refusal_same}
 use Rattle.channel_rest.proofs.LoneNames.{names_follow}
-use Rattle.channel_rest.proofs.LoneWoken.{woken_follows}
 use Rattle.channel_rest.proofs.Names.{on, Pends, pends}
-use Rattle.channel_rest.proofs.Woken.{untold_tasks}
 use Rattle.channel_rest.proofs.World.{rest_is_a_world}
 
 -- ---- names
-
-told_but : (k : Option Waiter) (xs : List Waiter) → option_map_or (λ (w : Waiter). without_waiter w xs) k xs ≡ but_for k xs
-told_but None xs = refl
-told_but (Some w) xs = refl
 
 stood_once : (w : Waiter) (l : Waiting) → times_in w l ≤ 1 → times w l.woken ≤ 1
 stood_once w l h =
@@ -77,32 +35,6 @@ among_last : (k : Option Waiter) (v : Waiter) (xs ys : List Waiter) → is_among
 among_last None v xs ys e = behind v xs ys e
 among_last (Some w) v xs ys e =
     ap (λ (l : List Waiter). is_among v l) (filter-append _ xs ys) ∙ behind v (without_waiter w xs) (without_waiter w ys) e
-
--- one of a line is among those of the line
-among_line : (kind : Kind) (line : Line) (v : Waiter) (ws : List Waiter) → kind v ≡ Some line → is_among v ws ≡ true
-    → is_among v (of_line kind line ws) ≡ true
-among_line kind line v [] k e = cc e
-among_line kind line v (w ∷ ws) k e = elim (or_true (same_waiter v w) (is_among v ws) e) [
-  | inl t ↦
-      let own : is_line line (kind w) ≡ true = ap (λ (x : Waiter). is_line line (kind x)) (sym (same_sound v w t))
-      ∙ (ap (is_line line) k ∙ line_refl line) in
-      rw own (rw t refl)
-  | inr t ↦ elim (decided (is_line line (kind w))) [
-    | inl u ↦ rw u (or_right (same_waiter v w) (is_among v (of_line kind line ws)) (among_line kind line v ws k t))
-    | inr u ↦ rw u (among_line kind line v ws k t)
-  ]
-]
-
--- a told one holds a key
-told_holds : (held : Holding) (closed : Bool) (line : Line) (es : List (Key × Notice Unit)) (ws : List Waiter)
-    → AreTold held closed line es ws → (v : Waiter) → is_among v ws ≡ true → is_some (held v) ≡ true
-told_holds held closed line [] [] h v e = cc e
-told_holds held closed line [] (w ∷ ws) h v e = absurd h
-told_holds held closed line (f ∷ es) [] h v e = absurd h
-told_holds held closed line (f ∷ es) (w ∷ ws) h v e = elim (or_true (same_waiter v w) (is_among v ws) e) [
-  | inl t ↦ rw (same_sound v w t) (ap (λ (o : Option Key). is_some o) h.0)
-  | inr t ↦ told_holds held closed line es ws h.2 v t
-]
 
 -- a key that is left is held before, unless it is that of the call itself
 held_before : (k : Option Waiter) (key : Option Key) (h : Holding) (v : Waiter) (ws : List Waiter)
@@ -149,7 +81,7 @@ module _ {T : Type 0} where
     own = keeper before c
 
     told_are : answer.after.waiting.woken ≡ but_for own (before.waiting.woken ++ o.woken)
-    told_are = matches.told ∙ told_but own (before.waiting.woken ++ o.woken)
+    told_are = matches.told ∙ sym (left_of own (before.waiting.woken ++ o.woken))
 
     once : (v : Waiter) → times v (but_for own (woken_in b.roll b.order ++ o.woken)) ≤ 1
     once v = subst (λ (xs : List Waiter). times v xs ≤ 1) told_are (stood_once v answer.after.waiting (awake.placed.once v))
@@ -166,8 +98,10 @@ module _ {T : Type 0} where
             → is_some (held_after before c o.kept.key (held_of b.roll) v) ≡ true
         of_kind None k some among = cc some
         of_kind (Some line) k some among =
-            told_holds (held_after before c o.kept.key (held_of b.roll)) answer.after.channel.closed line _ _
-            (matches.shows.lines line).told v (among_line (line_at answer.after.names) line v answer.after.waiting.woken k among)
+            let key =
+            told_holds (held_after before c o.kept.key (held_of b.roll)) answer.after.channel.closed line v _ _
+            (matches.shows.lines line).told (among_its_line (line_at answer.after.names) line v answer.after.waiting.woken k ∙ among) in
+            ap (λ (x : Option Key). is_some x) key.1
 
     named : (v : Waiter) → is_among v (but_for own o.woken) ≡ true → (h : Held) × (w : Bool) × (post b.roll v ≡ waits h w)
     named v e = by (held_of b.roll v) refl (holds v e)
@@ -192,9 +126,9 @@ module _ {T : Type 0} where
     waiting_same : (state_at (book_alone b c o) t).waiting ≡ answer.after.waiting
     waiting_same =
         ap (λ (x : Channel T Waiter). (state_at (book_alone b c o) (record t { now = x })).waiting) now
-        ∙ same_waiting _ _ _ _ _ _ _ _ _ _ (untold_tasks _ _ _ (matches.shows.lines Sends).untold)
-        (untold_tasks _ _ _ (matches.shows.lines Receives).untold) (untold_tasks _ _ _ (matches.shows.lines Streams).untold)
-        (untold_tasks _ _ _ (matches.shows.lines Closings).untold) woken_same
+        ∙ same_waiting _ _ _ _ _ _ _ _ _ _ (tasks_are _ _ _ (matches.shows.lines Sends).untold)
+        (tasks_are _ _ _ (matches.shows.lines Receives).untold) (tasks_are _ _ _ (matches.shows.lines Streams).untold)
+        (tasks_are _ _ _ (matches.shows.lines Closings).untold) woken_same
 
     channel_same : (state_at (book_alone b c o) t).channel ≡ answer.after.channel
     channel_same =
@@ -208,7 +142,7 @@ module _ {T : Type 0} where
         })
 
     names_same : names_of (names_alone b.roll c o.reply o.kept o.woken) ≡ answer.after.names
-    names_same = names_follow b.roll c before s.now o refl few alone ∙ sym matches.names
+    names_same = names_follow b.roll before refl few s.now o c alone ∙ sym matches.names
 
     after : State T
     after = state_at (book_alone b c o) t

@@ -1,45 +1,17 @@
 -- Where no poll is under way a call asks what it asks in the model, and is refused where and why it is refused there.
-use Rattle.std.proofs.Common.{◌≡◌, ℕ, Bool, true, false, not, if◌then◌else◌, List, [], ◌∷◌, ◌||◌, Option, None, Some, ◌⊎◌, inl, inr, refl, sym, ap, ◌∙◌}
-use Rattle.std.specs.List.{list_all, list_any}
-use Rattle.std.specs.Option.{option_map, option_map_or}
+use Rattle.channel_rest.proofs.Words.{◌≡◌, ℕ, Bool, true, false, not, if◌then◌else◌, List, [], ◌∷◌, ◌||◌, Option, None, Some, ◌⊎◌, inl, inr, refl, sym, ap, ◌∙◌, list_all, list_any, option_map, option_map_or, Line, Sends, Receives, Streams, Closings, taken_seen, asked, poll_asked, refusal_asked, giving_up_asked, drop_asked, clone_asked, upgrade_asked, at, uses, is_live, are_fit, takes_borrowed, State, Call, Handle, HandleId, HandleKind, OpId, Waiter, Op, Stream, asks, amiss, polled, stream_post, operation_post, post, is_operation_polled, is_stream_polled, meets_poll, takes_again, begin_refusal, is_polled, has_finished, is_done, operation_of, names_of, held_of, Hold, Operation, OperationKind, Standing, Rests, Waits, IsPolled, Roll, op_is, NonePolled}
 use Rattle.channel_calls.specs.declared.ask.ChannelAsk.{ChannelAsk}
-use Rattle.channel_calls.specs.declared.ask.ChannelAsk.TheVariants as ask
-use Rattle.channel_calls.specs.declared.stage.Line.{Line}
-use Rattle.channel_calls.specs.declared.stage.Line.TheVariants.{Sends, Receives, Streams, Closings}
-use Rattle.channel_model.proofs.DirectoryLemmas.{taken_seen}
-use Rattle.channel_model.specs.Answer as model
-use Rattle.channel_model.specs.Asked.{asked, poll_asked, refusal_asked, giving_up_asked, drop_asked, clone_asked, upgrade_asked}
-use Rattle.channel_model.specs.Names.{at}
-use Rattle.channel_model.specs.Names as names
-use Rattle.channel_model.specs.Refusal as wants
-use Rattle.channel_model.specs.Refusal.{uses, is_live, are_fit, takes_borrowed}
-use Rattle.channel_model.specs.State.{State}
-use Rattle.channel_model.specs.declared.call.Call.{Call}
-use Rattle.channel_model.specs.declared.call.Call.TheVariants as call
-use Rattle.channel_model.specs.declared.name.Handle.{Handle}
-use Rattle.channel_model.specs.declared.name.HandleId.{HandleId}
-use Rattle.channel_model.specs.declared.name.HandleKind.{HandleKind}
-use Rattle.channel_model.specs.declared.name.HandleKind.TheVariants as handle_kind
-use Rattle.channel_model.specs.declared.name.OpId.{OpId}
-use Rattle.channel_model.specs.declared.name.Waiter.{Waiter}
-use Rattle.channel_model.specs.declared.name.Waiter.TheVariants.{Op, Stream}
 use Rattle.channel_model.specs.declared.refusal.WorldRefusal.{WorldRefusal}
 use Rattle.channel_model.specs.declared.refusal.WorldRefusal.TheVariants.{UnknownName, WrongKind, OpUnderWay, Borrowed, NameTaken}
-use Rattle.channel_interleaving.specs.Bookkeeping.{asks}
-use Rattle.channel_interleaving.specs.Owners.{amiss, polled, stream_post, operation_post, post}
-use Rattle.channel_interleaving.specs.Refusal.{is_operation_polled, is_stream_polled, meets_poll, takes_again, begin_refusal}
-use Rattle.channel_interleaving.specs.Roll.{is_polled, has_finished, is_done, operation_of, names_of, held_of}
-use Rattle.channel_interleaving.specs.declared.names.Hold.{Hold}
-use Rattle.channel_interleaving.specs.declared.names.Operation.{Operation}
-use Rattle.channel_interleaving.specs.declared.names.OperationKind.{OperationKind}
 use Rattle.channel_interleaving.specs.declared.names.OperationKind.TheVariants.{Send, Receive, Closing}
-use Rattle.channel_interleaving.specs.declared.names.Standing.{Standing}
-use Rattle.channel_interleaving.specs.declared.names.Standing.TheVariants.{Rests, Waits, IsPolled}
-use Rattle.channel_interleaving.specs.declared.roll.Roll.{Roll}
-use Rattle.channel_interleaving.proofs.OwnerBegins.{op_is}
 use Rattle.channel_interleaving.proofs.OwnerCalls.{hold_is}
 use Rattle.channel_interleaving.proofs.RefusalLemmas.{operation_at, handle_there}
-use Rattle.channel_rest.specs.Lone.{NonePolled}
+use Rattle.channel_calls.specs.declared.ask.ChannelAsk.TheVariants as ask
+use Rattle.channel_model.specs.Answer as model
+use Rattle.channel_model.specs.Names as names
+use Rattle.channel_model.specs.Refusal as wants
+use Rattle.channel_model.specs.declared.call.Call.TheVariants as call
+use Rattle.channel_model.specs.declared.name.HandleKind.TheVariants as handle_kind
 
 none_any : {A : Type 0} (test : A → Bool) (xs : List A) → ((x : A) → test x ≡ false) → list_any test xs ≡ false
 none_any test [] h = refl
@@ -48,12 +20,10 @@ none_any test (x ∷ xs) h = ap (λ (b : Bool). b || list_any test xs) (h x) ∙
 -- a stream that is being polled is one of a receiver, or amiss
 polled_stream : (k : HandleKind) (s : Standing) → is_polled s ≡ true
     → ((line : Line) × (stream_post k s ≡ polled line)) ⊎ (stream_post k s ≡ amiss)
-polled_stream handle_kind.Receiver (IsPolled b) e = inl (Streams, refl)
-polled_stream handle_kind.Sender (IsPolled b) e = inr refl
-polled_stream handle_kind.WeakSender (IsPolled b) e = inr refl
-polled_stream handle_kind.WeakReceiver (IsPolled b) e = inr refl
 polled_stream k Rests e = absurd (let no : false ≡ true = e in cc)
 polled_stream k (Waits key w) e = absurd (let no : false ≡ true = e in cc)
+polled_stream handle_kind.Receiver (IsPolled b) e = inl (Streams, refl)
+polled_stream k s e = inr refl
 
 module _ {T : Type 0} where
   polled_operation : (k : OperationKind) (m : Option T) (s : Standing) → is_polled s ≡ true
@@ -74,8 +44,7 @@ module _ {T : Type 0} where
   finished_as Send handle None (Waits key w) e = refl
   finished_as Send handle None (IsPolled b) e = absurd (let no : true ≡ false = e in cc)
   finished_as Send handle (Some m) s e = refl
-  finished_as Receive handle m s e = refl
-  finished_as Closing handle m s e = refl
+  finished_as k handle m s e = refl
 
   module _ (r : Roll T) (none : NonePolled r) where
     unpolled : (op : OpId) (o : Operation T) → at op.0 r.operations ≡ Some o → is_polled o.standing ≡ false
@@ -110,25 +79,7 @@ module _ {T : Type 0} where
     asks_same (call.Drop handle) = ap (λ (h : Option Handle). drop_asked (held_of r) handle h) (handle_there r handle.0)
     asks_same (call.TryClone handle new) = ap (λ (h : Option Handle). clone_asked h) (handle_there r handle.0)
     asks_same (call.Upgrade weak new) = ap (λ (h : Option Handle). upgrade_asked h) (handle_there r weak.0)
-    asks_same (call.NewSend op sender msg) = refl
-    asks_same (call.NewRecv op receiver) = refl
-    asks_same (call.NewClosed op sender) = refl
-    asks_same (call.PollNext receiver) = refl
-    asks_same (call.StreamIsTerminated receiver) = refl
-    asks_same (call.TrySend sender msg) = refl
-    asks_same (call.ForceSend sender msg) = refl
-    asks_same (call.TryRecv receiver) = refl
-    asks_same (call.RecvMany receiver limit) = refl
-    asks_same (call.Close handle) = refl
-    asks_same (call.Downgrade handle new) = refl
-    asks_same (call.SameChannel a b) = refl
-    asks_same (call.IsClosed handle) = refl
-    asks_same (call.IsEmpty handle) = refl
-    asks_same (call.IsFull handle) = refl
-    asks_same (call.Len handle) = refl
-    asks_same (call.Capacity handle) = refl
-    asks_same (call.SenderCount handle) = refl
-    asks_same (call.ReceiverCount handle) = refl
+    asks_same c = refl
 
     -- ---- what is refused
 
@@ -166,28 +117,7 @@ module _ {T : Type 0} where
       meets_none (call.PollRefused op) = no_operation op
       meets_none (call.GiveUp op) = no_operation op
       meets_none (call.SendIsTerminated op) = refl
-      meets_none (call.Drop handle) = streams_idle (call.Drop handle)
-      meets_none (call.TryClone handle new) = streams_idle (call.TryClone handle new)
-      meets_none (call.Upgrade weak new) = streams_idle (call.Upgrade weak new)
-      meets_none (call.NewSend op sender msg) = streams_idle (call.NewSend op sender msg)
-      meets_none (call.NewRecv op receiver) = streams_idle (call.NewRecv op receiver)
-      meets_none (call.NewClosed op sender) = streams_idle (call.NewClosed op sender)
-      meets_none (call.PollNext receiver) = streams_idle (call.PollNext receiver)
-      meets_none (call.StreamIsTerminated receiver) = streams_idle (call.StreamIsTerminated receiver)
-      meets_none (call.TrySend sender msg) = streams_idle (call.TrySend sender msg)
-      meets_none (call.ForceSend sender msg) = streams_idle (call.ForceSend sender msg)
-      meets_none (call.TryRecv receiver) = streams_idle (call.TryRecv receiver)
-      meets_none (call.RecvMany receiver limit) = streams_idle (call.RecvMany receiver limit)
-      meets_none (call.Close handle) = streams_idle (call.Close handle)
-      meets_none (call.Downgrade handle new) = streams_idle (call.Downgrade handle new)
-      meets_none (call.SameChannel a b) = streams_idle (call.SameChannel a b)
-      meets_none (call.IsClosed handle) = streams_idle (call.IsClosed handle)
-      meets_none (call.IsEmpty handle) = streams_idle (call.IsEmpty handle)
-      meets_none (call.IsFull handle) = streams_idle (call.IsFull handle)
-      meets_none (call.Len handle) = streams_idle (call.Len handle)
-      meets_none (call.Capacity handle) = streams_idle (call.Capacity handle)
-      meets_none (call.SenderCount handle) = streams_idle (call.SenderCount handle)
-      meets_none (call.ReceiverCount handle) = streams_idle (call.ReceiverCount handle)
+      meets_none c = streams_idle c
 
       operation_taken : (op : OpId) → names.is_taken op.0 r.operations ≡ names.is_taken op.0 (names_of r).operations
       operation_taken op = sym (taken_seen operation_of op.0 r.operations)
@@ -202,26 +132,7 @@ module _ {T : Type 0} where
       taken_same (call.TryClone handle new) = handle_taken new
       taken_same (call.Downgrade handle new) = handle_taken new
       taken_same (call.Upgrade weak new) = handle_taken new
-      taken_same (call.Poll op) = refl
-      taken_same (call.PollRefused op) = refl
-      taken_same (call.GiveUp op) = refl
-      taken_same (call.SendIsTerminated op) = refl
-      taken_same (call.Drop handle) = refl
-      taken_same (call.PollNext receiver) = refl
-      taken_same (call.StreamIsTerminated receiver) = refl
-      taken_same (call.TrySend sender msg) = refl
-      taken_same (call.ForceSend sender msg) = refl
-      taken_same (call.TryRecv receiver) = refl
-      taken_same (call.RecvMany receiver limit) = refl
-      taken_same (call.Close handle) = refl
-      taken_same (call.SameChannel a b) = refl
-      taken_same (call.IsClosed handle) = refl
-      taken_same (call.IsEmpty handle) = refl
-      taken_same (call.IsFull handle) = refl
-      taken_same (call.Len handle) = refl
-      taken_same (call.Capacity handle) = refl
-      taken_same (call.SenderCount handle) = refl
-      taken_same (call.ReceiverCount handle) = refl
+      taken_same c = refl
 
       -- the first of these reasons that there is
       abbrev first_of : Bool → Bool → Bool → Bool → Bool → Option WorldRefusal

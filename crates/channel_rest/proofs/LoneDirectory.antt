@@ -1,12 +1,6 @@
 -- What lives under a name and is changed, seen or not.
-use Rattle.std.proofs.Common.{◌≡◌, ℕ, nat_eq, false, cond, [], ◌∷◌, map, Option, None, Some, inl, inr, refl, sym, ap, ◌∙◌}
-use Rattle.std.specs.Map.{lookup, set_value}
-use Rattle.std.specs.Option.{option_map, option_map_or}
+use Rattle.channel_rest.proofs.Words.{is_some, ◌≡◌, ℕ, nat_eq, false, [], ◌∷◌, map, Option, None, Some, inl, inr, refl, sym, ap, ◌∙◌, set_value, option_map, option_map_or, set_twice, at_seen, decided, same_number, Directory, at, with_changed, found, set_there, set_other}
 use Rattle.std.proofs.lemmas.Map.Steps.{set_value_same}
-use Rattle.channel_model.proofs.DirectoryLemmas.{set_twice, at_seen}
-use Rattle.channel_model.proofs.WaiterLemmas.{decided, same_number}
-use Rattle.channel_model.specs.Names.{Directory, at, with_changed}
-use Rattle.channel_interleaving.proofs.OwnerNames.{found}
 
 -- each thing seen through this function
 abbrev pub views : {X Y : Type 0} → (X → Y) → Directory X → Directory Y
@@ -22,19 +16,11 @@ apart m n other = elim (decided (nat_eq m n)) [ inl t ↦ absurd (other (same_nu
 -- ---- one entry is set
 
 module _ {X : Type 0} where
-  set_found : (name : ℕ) (es : Directory X) (x : Option X) (y : Option X) → lookup (nat_eq name) es ≡ Some y
-      → lookup (nat_eq name) (set_value (nat_eq name) es x) ≡ Some x
-  set_found name [] x y e = absurd (let no : None ≡ Some y = e in cc)
-  set_found name (f ∷ es) x y e = elim (decided (nat_eq name f.0)) [
-    | inl t ↦ rw t (rw t refl)
-    | inr t ↦ rw t (rw t (set_found name es x y (rw t at e)))
-  ]
-
   -- what is put under a name where something lives, lives there
   pub at_changed : (name : ℕ) (es : Directory X) (x y : X) → at name es ≡ Some x → at name (with_changed name y es) ≡ Some y
   at_changed name es x y e =
       ap (λ (o : Option (Option X)). option_map_or (λ (z : Option X). z) o None)
-      (set_found name es (Some y) (Some x) (found name es x e))
+      (set_there name es (Some y) (ap (λ (o : Option (Option X)). is_some o) (found name es x e)))
 
   pub same_put_back : (name : ℕ) (es : Directory X) (x : X) → at name es ≡ Some x → with_changed name x es ≡ es
   same_put_back name es x e = set_value_same (nat_eq name) es (Some x) (found name es x e)
@@ -87,16 +73,6 @@ module _ {X : Type 0} where
 
   -- ---- under two names
 
-  set_other : (m n : ℕ) (es : Directory X) (x : Option X) → (m ≡ n → ⊥)
-      → lookup (nat_eq m) (set_value (nat_eq n) es x) ≡ lookup (nat_eq m) es
-  set_other m n [] x other = refl
-  set_other m n (f ∷ es) x other = elim (decided (nat_eq n f.0)) [
-    | inl t ↦
-        let off : nat_eq m f.0 ≡ false = apart m f.0 (λ e. other (e ∙ sym (same_number n f.0 t))) in
-        rw t (rw off refl)
-    | inr t ↦ rw t (ap (λ (o : Option (Option X)). cond (nat_eq m f.0) (Some f.1) o) (set_other m n es x other))
-  ]
-
   set_swap : (m n : ℕ) (es : Directory X) (x y : Option X) → (m ≡ n → ⊥)
       → set_value (nat_eq m) (set_value (nat_eq n) es y) x ≡ set_value (nat_eq n) (set_value (nat_eq m) es x) y
   set_swap m n [] x y other = refl
@@ -118,7 +94,7 @@ module _ {X : Type 0} where
       by None e = ap (λ (d : Directory X). at m d) (changed_none g n es e)
       by (Some x) e =
           ap (λ (d : Directory X). at m d) (changed_some g n es x e)
-          ∙ ap (λ (o : Option (Option X)). option_map_or (λ (z : Option X). z) o None) (set_other m n es (Some (g x)) other)
+          ∙ ap (λ (o : Option (Option X)). option_map_or (λ (z : Option X). z) o None) (set_other n m es (Some (g x)) other)
 
   pub changed_swap : (g h : X → X) (m n : ℕ) (es : Directory X) → (m ≡ n → ⊥)
       → changed_at g m (changed_at h n es) ≡ changed_at h n (changed_at g m es)

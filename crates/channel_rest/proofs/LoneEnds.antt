@@ -1,24 +1,6 @@
 -- What the beginning and the end of a call leave of those who were woken.
-use Rattle.std.proofs.Common.{◌≡◌, List, ◌∷◌, Bool, true, false, cond, Option, None, Some, ◌⊎◌, inl, inr, refl, sym, ap, subst, ◌∙◌}
-use Rattle.std.specs.List.{filter}
-use Rattle.event_listener.specs.declared.key.Key.{Key}
-use Rattle.channel_calls.specs.declared.reply.Reply.{Reply}
-use Rattle.channel_calls.specs.declared.stage.Kept.{Kept}
-use Rattle.channel_model.proofs.Counting.{or_right}
-use Rattle.channel_model.proofs.WaiterLemmas.{same_refl, same_sound, decided}
-use Rattle.channel_model.specs.Lines.{same_waiter, is_among, without_waiter}
-use Rattle.channel_model.specs.declared.name.HandleId.{HandleId}
-use Rattle.channel_model.specs.declared.name.Waiter.{Waiter}
-use Rattle.channel_interleaving.specs.Bookkeeping.{written_back}
-use Rattle.channel_interleaving.specs.Order.{placed, kept_place, order_settled}
-use Rattle.channel_interleaving.specs.OwnerOrder.{was_woken, woken_in}
-use Rattle.channel_interleaving.specs.Owners.{post}
-use Rattle.channel_interleaving.specs.Roll.{with_given_back}
-use Rattle.channel_interleaving.specs.declared.names.Errand.{Errand}
-use Rattle.channel_interleaving.specs.declared.roll.Roll.{Roll}
-use Rattle.channel_interleaving.proofs.OwnerNames.{Same, given_back_same}
+use Rattle.channel_rest.proofs.Words.{false_from_ne_true, ◌≡◌, List, ◌∷◌, Bool, true, false, cond, Option, None, Some, ◌⊎◌, inl, inr, refl, sym, ap, subst, ◌∙◌, filter, Key, Reply, Kept, or_right, same_refl, same_sound, decided, same_waiter, is_among, without_waiter, HandleId, Waiter, written_back, placed, kept_place, order_settled, was_woken, woken_in, post, with_given_back, Errand, Roll, Same, given_back_same, but_for}
 use Rattle.channel_rest.proofs.LoneWakes.{Other, swap_without, out_twice, out_anyway, filter_same, filter_others, out_already, stays, is_pending, not_woken}
-use Rattle.channel_rest.specs.Lone.{but_for}
 
 module _ {T : Type 0} where
   -- ---- a call that begins
@@ -79,12 +61,9 @@ module _ {T : Type 0} where
     others_is v t = ap was_woken (same v t)
 
     own_is : (v : Waiter) → is_pending (post new v) ≡ true → same_waiter w v ≡ false
-    own_is v e = elim (decided (same_waiter w v)) [
-      | inl t ↦
-          absurd (let never : true ≡ false =
-          sym e ∙ (ap (λ (x : Waiter). is_pending (post new x)) (sym (same_sound w v t)) ∙ off) in cc)
-      | inr t ↦ t
-    ]
+    own_is v e = false_from_ne_true (same_waiter w v) (λ t.
+        absurd (let never : true ≡ false =
+        sym e ∙ (ap (λ (x : Waiter). is_pending (post new x)) (sym (same_sound w v t)) ∙ off) in cc))
 
     -- whoever is polled has a place
     pub polled_starts : (order : List Waiter) → Starts r new order (placed w order) (Some w)
@@ -135,12 +114,9 @@ module _ {T : Type 0} where
         a = off_alike r new w same before off
 
         apart : (v : Waiter) → is_pending (post r v) ≡ true → same_waiter w v ≡ false
-        apart v e = elim (decided (same_waiter w v)) [
-          | inl t ↦
-              absurd (let never : true ≡ false =
-              sym e ∙ (ap (λ (x : Waiter). is_pending (post r x)) (sym (same_sound w v t)) ∙ before) in cc)
-          | inr t ↦ t
-        ]
+        apart v e = false_from_ne_true (same_waiter w v) (λ t.
+            absurd (let never : true ≡ false =
+            sym e ∙ (ap (λ (x : Waiter). is_pending (post r x)) (sym (same_sound w v t)) ∙ before) in cc))
 
   -- ---- a call that ends
 

@@ -1,39 +1,12 @@
 -- A call that was made alone leaves the names that the model leaves.
-use Rattle.std.proofs.Common.{◌≡◌, ℕ, ◌+◌, ◌-◌, ◌^◌, ◌<◌, arith, nat_eq, Bool, true, false, List, Option, None, Some, refl, sym, ap, ◌∙◌}
-use Rattle.std.proofs.lemmas.Cmp.{nat_eq_equiv}
-use Rattle.std.specs.Option.{option_map, option_map_or}
-use Rattle.channel_calls.specs.Moves.{Channel}
-use Rattle.channel_calls.specs.declared.reply.Reply.{Reply}
+use Rattle.channel_rest.proofs.Words.{◌≡◌, ℕ, ◌+◌, ◌-◌, ◌^◌, ◌<◌, arith, nat_eq, Bool, true, false, List, Option, None, Some, refl, sym, ap, ◌∙◌, nat_eq_equiv, option_map, option_map_or, Channel, Reply, Kept, Outcome, Alone, at_seen, nothing_to_end, weak_of, strong_of, poll_asked, Directory, Names, at, with_spent, with_new, with_changed, State, Call, Handle, HandleId, HandleKind, OpId, Waiter, polled_names, refused_names, given_up_names, made_names, kind_at, names_after, asks, unpolled, leave_handle_of, new_from, lent_by, operation_named, handle_named, lent_to_poll, installed, written_back, with_operation, all_woken, names_of, operation_of, operation_at, handle_at, held_of, with_lent, with_standing, with_given_back, standing_with, Errand, Hold, Operation, IsPolled, Roll, names_alone, CanBeLent}
 use Rattle.channel_calls.specs.declared.reply.Reply.TheVariants as reply
-use Rattle.channel_calls.specs.declared.stage.Kept.{Kept}
-use Rattle.channel_alone.specs.Alone.{Outcome, Alone}
-use Rattle.channel_model.proofs.DirectoryLemmas.{at_seen, nothing_to_end}
-use Rattle.channel_model.specs.Answer.{weak_of, strong_of}
-use Rattle.channel_model.specs.Asked.{poll_asked}
-use Rattle.channel_model.specs.Names.{Directory, Names, at, with_spent, with_new, with_changed}
 use Rattle.channel_model.specs.Names as model
-use Rattle.channel_model.specs.State.{State}
-use Rattle.channel_model.specs.declared.call.Call.{Call}
 use Rattle.channel_model.specs.declared.call.Call.TheVariants as call
-use Rattle.channel_model.specs.declared.name.Handle.{Handle}
-use Rattle.channel_model.specs.declared.name.HandleId.{HandleId}
-use Rattle.channel_model.specs.declared.name.HandleKind.{HandleKind}
-use Rattle.channel_model.specs.declared.name.OpId.{OpId}
-use Rattle.channel_model.specs.declared.name.Waiter.{Waiter}
-use Rattle.channel_refinement.specs.Over.{polled_names, refused_names, given_up_names, made_names, kind_at, names_after}
-use Rattle.channel_interleaving.specs.Bookkeeping.{asks, unpolled, leave_handle_of, new_from, lent_by, operation_named, handle_named, lent_to_poll, installed, written_back, with_operation, all_woken}
-use Rattle.channel_interleaving.specs.Roll.{names_of, operation_of, operation_at, handle_at, held_of, with_lent, with_standing, with_given_back, standing_with}
-use Rattle.channel_interleaving.specs.declared.names.Errand.{Errand}
 use Rattle.channel_interleaving.specs.declared.names.Errand.TheVariants as errand
-use Rattle.channel_interleaving.specs.declared.names.Hold.{Hold}
-use Rattle.channel_interleaving.specs.declared.names.Operation.{Operation}
 use Rattle.channel_interleaving.specs.declared.names.OperationKind.TheVariants as kind
-use Rattle.channel_interleaving.specs.declared.names.Standing.TheVariants.{IsPolled}
-use Rattle.channel_interleaving.specs.declared.roll.Roll.{Roll}
 use Rattle.channel_rest.proofs.LoneDirectory.{views_set, changed_at, changed_none, changed_some, changed_twice, same_put_back}
-use Rattle.channel_rest.proofs.LoneSeen.{handle_of, more_of, Lendable, back_lent, back_both, lent_is, with_message, put_twice, borrowed_is, lent_names, back_names, left_names, with_operations, seen_lent, seen_back, seen_standing, seen_to_poll, seen_restored, all_seen}
-use Rattle.channel_interleaving.specs.Lone.{names_alone}
-use Rattle.channel_rest.specs.Lone.{CanBeLent}
+use Rattle.channel_rest.proofs.LoneSeen.{used_by, handle_of, more_of, Lendable, back_lent, back_both, lent_is, with_message, put_twice, borrowed_is, lent_names, back_names, left_names, with_operations, seen_lent, seen_back, seen_standing, seen_to_poll, seen_restored, all_seen}
 
 own : (n : ℕ) → nat_eq n n ≡ true
 own n = nat_eq_equiv.refl n
@@ -159,9 +132,8 @@ module _ {T : Type 0} where
     refused_is : (op : OpId) (y : Option (model.ModelOperation T)) (left : Option T) → at op.0 operations ≡ y
         → left_names left op (names_of r) ≡ refused_names op y left (names_of r)
     refused_is op (Some (model.send handle msg)) left e = changed op left _ e
-    refused_is op (Some (model.recv handle)) left e = unchanged op left _ e refl
-    refused_is op (Some (model.closing handle)) left e = unchanged op left _ e refl
     refused_is op None left e = nothing op left e
+    refused_is op y left e = unchanged op left _ e refl
 
     -- ---- what lives no more
 
@@ -291,84 +263,58 @@ module _ {T : Type 0} where
         (back_lent from.0 (with_spent new.0 (handles r)) (spent_lendable from.0 new.0))
         ∙ installed_is r new (to h.kind) x)
 
-  -- what holds of these names
-  follow : (r : Roll T) (s : State T) (n : Names T) (f : Names T → Names T) → s.names ≡ names_of r → n ≡ f (names_of r)
-      → n ≡ f s.names
-  follow r s n f same h = h ∙ sym (ap f same)
+  module _ (r : Roll T) (s : State T) (same : s.names ≡ names_of r) (few : CanBeLent r) (channel : Channel T Waiter)
+      (o : Outcome T Waiter) where
+    -- what holds of these names
+    follow : (f : Names T → Names T) (n : Names T) → n ≡ f (names_of r) → n ≡ f s.names
+    follow f n h = h ∙ sym (ap f same)
 
-  -- a call made alone leaves just the names that the model leaves
-  pub names_follow : (r : Roll T) (c : Call T) (s : State T) (channel : Channel T Waiter) (o : Outcome T Waiter)
-      → s.names ≡ names_of r → CanBeLent r → Alone (asks r c) channel o
-      → names_of (names_alone r c o.reply o.kept o.woken) ≡ names_after s c o
-  names_follow r (call.NewSend op sender msg) s channel o same few alone =
-      follow r s _ (λ n. model.with_new_operation op (model.send sender (Some msg)) n) same
-      (made r few op sender (unpolled kind.Send sender (Some msg)) o.reply o.kept o.woken refl)
-  names_follow r (call.NewRecv op receiver) s channel o same few alone =
-      follow r s _ (λ n. model.with_new_operation op (model.recv receiver) n) same
-      (made r few op receiver (unpolled kind.Receive receiver None) o.reply o.kept o.woken refl)
-  names_follow r (call.NewClosed op sender) s channel o same few alone =
-      follow r s _ (λ n. model.with_new_operation op (model.closing sender) n) same
-      (made r few op sender (unpolled kind.Closing sender None) o.reply o.kept o.woken refl)
-  names_follow r (call.Poll op) s channel o same few alone =
-      follow r s _ (λ n. polled_names op (at op.0 n.operations) o.kept.message n) same
-      (polls r op o.reply o.kept o.woken
-      ∙ (polled_is r op (operation_at op r) channel o (operation_seen r op) alone
-      ∙ ap (λ y. polled_names op y o.kept.message (names_of r)) (sym (operation_seen r op))))
-  names_follow r (call.PollRefused op) s channel o same few alone =
-      follow r s _ (λ n. refused_names op (at op.0 n.operations) o.kept.message n) same
-      (polls r op o.reply o.kept o.woken
-      ∙ (refused_is r op (operation_at op r) o.kept.message (operation_seen r op)
-      ∙ ap (λ y. refused_names op y o.kept.message (names_of r)) (sym (operation_seen r op))))
-  names_follow r (call.GiveUp op) s channel o same few alone =
-      follow r s _ (λ n. given_up_names op (at op.0 n.operations) n) same
-      (gives_up r op (at op.0 r.operations) o.reply o.kept o.woken refl
-      ∙ ap (λ y. given_up_names op y (names_of r)) (sym (operation_seen r op)))
-  names_follow r (call.SendIsTerminated op) s channel o same few alone =
-      follow r s _ (λ n. n) same (through_of r few (at op.0 r.operations) o.reply o.kept o.woken)
-  names_follow r (call.PollNext receiver) s channel o same few alone =
-      follow r s _ (λ n. n) same (streamed r few receiver o.reply o.kept o.woken)
-  names_follow r (call.Drop handle) s channel o same few alone =
-      follow r s _ (λ n. model.with_handles (model.without_name handle.0 n.handles) n) same
-      (drops r handle o.reply o.kept o.woken)
-  names_follow r (call.TryClone handle new) s channel o same few alone =
-      follow r s _ (λ n. made_names new (kind_at handle n) o.reply n) same
-      (newly r few handle new (λ k. k) (handle_at handle r) o.reply o.kept o.woken (seen_at r handle)
-      ∙ ap (λ y. made_names new (option_map (λ (h : Handle). h.kind) y) o.reply (names_of r)) (sym (seen_at r handle)))
-  names_follow r (call.Downgrade handle new) s channel o same few alone =
-      follow r s _ (λ n. made_names new (option_map weak_of (kind_at handle n)) o.reply n) same
-      (newly r few handle new weak_of (handle_at handle r) o.reply o.kept o.woken (seen_at r handle)
-      ∙ ap (λ k. made_names new k o.reply (names_of r)) (sym (kinds weak_of (handle_at handle r))
-      ∙ ap (λ y. option_map weak_of (option_map (λ (h : Handle). h.kind) y)) (sym (seen_at r handle))))
-  names_follow r (call.Upgrade weak new) s channel o same few alone =
-      follow r s _ (λ n. made_names new (option_map strong_of (kind_at weak n)) o.reply n) same
-      (newly r few weak new strong_of (handle_at weak r) o.reply o.kept o.woken (seen_at r weak)
-      ∙ ap (λ k. made_names new k o.reply (names_of r)) (sym (kinds strong_of (handle_at weak r))
-      ∙ ap (λ y. option_map strong_of (option_map (λ (h : Handle). h.kind) y)) (sym (seen_at r weak))))
-  names_follow r (call.SameChannel a b) s channel o same few alone =
-      follow r s _ (λ n. n) same (through_both r few a b o.reply o.kept o.woken)
-  names_follow r (call.StreamIsTerminated receiver) s channel o same few alone =
-      follow r s _ (λ n. n) same (through r few receiver o.reply o.kept o.woken)
-  names_follow r (call.TrySend sender msg) s channel o same few alone =
-      follow r s _ (λ n. n) same (through r few sender o.reply o.kept o.woken)
-  names_follow r (call.ForceSend sender msg) s channel o same few alone =
-      follow r s _ (λ n. n) same (through r few sender o.reply o.kept o.woken)
-  names_follow r (call.TryRecv receiver) s channel o same few alone =
-      follow r s _ (λ n. n) same (through r few receiver o.reply o.kept o.woken)
-  names_follow r (call.RecvMany receiver limit) s channel o same few alone =
-      follow r s _ (λ n. n) same (through r few receiver o.reply o.kept o.woken)
-  names_follow r (call.Close handle) s channel o same few alone =
-      follow r s _ (λ n. n) same (through r few handle o.reply o.kept o.woken)
-  names_follow r (call.IsClosed handle) s channel o same few alone =
-      follow r s _ (λ n. n) same (through r few handle o.reply o.kept o.woken)
-  names_follow r (call.IsEmpty handle) s channel o same few alone =
-      follow r s _ (λ n. n) same (through r few handle o.reply o.kept o.woken)
-  names_follow r (call.IsFull handle) s channel o same few alone =
-      follow r s _ (λ n. n) same (through r few handle o.reply o.kept o.woken)
-  names_follow r (call.Len handle) s channel o same few alone =
-      follow r s _ (λ n. n) same (through r few handle o.reply o.kept o.woken)
-  names_follow r (call.Capacity handle) s channel o same few alone =
-      follow r s _ (λ n. n) same (through r few handle o.reply o.kept o.woken)
-  names_follow r (call.SenderCount handle) s channel o same few alone =
-      follow r s _ (λ n. n) same (through r few handle o.reply o.kept o.woken)
-  names_follow r (call.ReceiverCount handle) s channel o same few alone =
-      follow r s _ (λ n. n) same (through r few handle o.reply o.kept o.woken)
+    begins : (op : OpId) (handle : HandleId) (operation : Operation T) → operation.handle ≡ handle
+        → names_of (written_back (errand.Make op operation) o.reply o.kept (all_woken o.woken (with_lent handle (operation_named op r))))
+        ≡ model.with_new_operation op (operation_of operation) s.names
+    begins op handle operation is =
+        follow (λ n. model.with_new_operation op (operation_of operation) n) _ (made r few op handle operation o.reply o.kept o.woken is)
+
+    renewed : (from new : HandleId) (to : HandleKind → HandleKind)
+        → names_of (written_back (new_from from new to (handle_at from r)) o.reply o.kept (all_woken o.woken (with_lent from (handle_named new r))))
+        ≡ made_names new (option_map to (kind_at from (names_of r))) o.reply (names_of r)
+    renewed from new to =
+        newly r few from new to (handle_at from r) o.reply o.kept o.woken (seen_at r from)
+        ∙ ap (λ k. made_names new k o.reply (names_of r)) (sym (kinds to (handle_at from r))
+        ∙ ap (λ y. option_map to (option_map (λ (h : Handle). h.kind) y)) (sym (seen_at r from)))
+
+    -- a call made alone leaves just the names that the model leaves; one that goes through a handle leaves them as they were
+    pub names_follow : (c : Call T) → Alone (asks r c) channel o
+        → names_of (names_alone r c o.reply o.kept o.woken) ≡ names_after s c o
+    names_follow (call.NewSend op sender msg) alone = begins op sender (unpolled kind.Send sender (Some msg)) refl
+    names_follow (call.NewRecv op receiver) alone = begins op receiver (unpolled kind.Receive receiver None) refl
+    names_follow (call.NewClosed op sender) alone = begins op sender (unpolled kind.Closing sender None) refl
+    names_follow (call.Poll op) alone =
+        follow (λ n. polled_names op (at op.0 n.operations) o.kept.message n) _
+        (polls r op o.reply o.kept o.woken
+        ∙ (polled_is r op (operation_at op r) channel o (operation_seen r op) alone
+        ∙ ap (λ y. polled_names op y o.kept.message (names_of r)) (sym (operation_seen r op))))
+    names_follow (call.PollRefused op) alone =
+        follow (λ n. refused_names op (at op.0 n.operations) o.kept.message n) _
+        (polls r op o.reply o.kept o.woken
+        ∙ (refused_is r op (operation_at op r) o.kept.message (operation_seen r op)
+        ∙ ap (λ y. refused_names op y o.kept.message (names_of r)) (sym (operation_seen r op))))
+    names_follow (call.GiveUp op) alone =
+        follow (λ n. given_up_names op (at op.0 n.operations) n) _
+        (gives_up r op (at op.0 r.operations) o.reply o.kept o.woken refl
+        ∙ ap (λ y. given_up_names op y (names_of r)) (sym (operation_seen r op)))
+    names_follow (call.SendIsTerminated op) alone =
+        follow (λ n. n) _ (through_of r few (at op.0 r.operations) o.reply o.kept o.woken)
+    names_follow (call.PollNext receiver) alone = follow (λ n. n) _ (streamed r few receiver o.reply o.kept o.woken)
+    names_follow (call.Drop handle) alone =
+        follow (λ n. model.with_handles (model.without_name handle.0 n.handles) n) _ (drops r handle o.reply o.kept o.woken)
+    names_follow (call.TryClone handle new) alone =
+        follow (λ n. made_names new (kind_at handle n) o.reply n) _
+        (newly r few handle new (λ k. k) (handle_at handle r) o.reply o.kept o.woken (seen_at r handle)
+        ∙ ap (λ y. made_names new (option_map (λ (h : Handle). h.kind) y) o.reply (names_of r)) (sym (seen_at r handle)))
+    names_follow (call.Downgrade handle new) alone =
+        follow (λ n. made_names new (option_map weak_of (kind_at handle n)) o.reply n) _ (renewed handle new weak_of)
+    names_follow (call.Upgrade weak new) alone =
+        follow (λ n. made_names new (option_map strong_of (kind_at weak n)) o.reply n) _ (renewed weak new strong_of)
+    names_follow (call.SameChannel a b) alone = follow (λ n. n) _ (through_both r few a b o.reply o.kept o.woken)
+    names_follow c alone = follow (λ n. n) _ (through r few (used_by c) o.reply o.kept o.woken)

@@ -1,24 +1,9 @@
 -- What the parts of a call do to the names, as one call at a time sees them.
-use Rattle.std.proofs.Common.{◌≡◌, ℕ, ◌+◌, ◌-◌, ◌^◌, ◌<◌, ◌≤◌, min, arith, nat_eq, true, false, List, [], ◌∷◌, Option, None, Some, refl, sym, ap, subst, ◌∙◌, inl, inr}
+use Rattle.channel_rest.proofs.Words.{◌≡◌, ℕ, ◌+◌, ◌-◌, ◌^◌, ◌<◌, ◌≤◌, min, arith, nat_eq, true, false, List, [], ◌∷◌, Option, None, Some, refl, sym, ap, subst, ◌∙◌, inl, inr, nat_eq_equiv, decided, same_number, Directory, Names, at, lent_once_more, with_changed, Want, uses, Call, option_map_or, Handle, HandleId, OpId, Waiter, Op, Stream, Kept, lent_to_poll, restored, with_operation, with_one_woken, all_woken, operation_of, used_more, used_less, names_of, told, with_handle, with_lent, with_given_back, Hold, Operation, OperationKind, Standing, Roll}
 use Rattle.std.proofs.Math.Nat.{min-eq_left}
-use Rattle.std.proofs.lemmas.Cmp.{nat_eq_equiv}
-use Rattle.channel_model.proofs.WaiterLemmas.{decided, same_number}
-use Rattle.channel_model.specs.Names.{Directory, Names, at, with_spent, used_once_less, lent_once_more, with_changed}
+use Rattle.std.specs.Prelude.{slice_get}
 use Rattle.channel_model.specs.Names as model
-use Rattle.channel_model.specs.declared.name.Handle.{Handle}
-use Rattle.channel_model.specs.declared.name.HandleId.{HandleId}
-use Rattle.channel_model.specs.declared.name.OpId.{OpId}
-use Rattle.channel_model.specs.declared.name.Waiter.{Waiter}
-use Rattle.channel_model.specs.declared.name.Waiter.TheVariants.{Op, Stream}
-use Rattle.channel_calls.specs.declared.stage.Kept.{Kept}
-use Rattle.channel_interleaving.specs.Bookkeeping.{lent_to_poll, restored, with_operation, with_one_woken, all_woken}
-use Rattle.channel_interleaving.specs.Roll.{operation_of, used_more, used_less, names_of, told, with_handle, with_lent, with_given_back}
-use Rattle.channel_interleaving.specs.declared.names.Hold.{Hold}
-use Rattle.channel_interleaving.specs.declared.names.Operation.{Operation}
-use Rattle.channel_interleaving.specs.declared.names.OperationKind.{OperationKind}
 use Rattle.channel_interleaving.specs.declared.names.OperationKind.TheVariants as kind
-use Rattle.channel_interleaving.specs.declared.names.Standing.{Standing}
-use Rattle.channel_interleaving.specs.declared.roll.Roll.{Roll}
 use Rattle.channel_rest.proofs.LoneDirectory.{changed_at, changed_back, changed_swap, at_changed_at, changed_none, changed_some, views_changed, views_kept}
 
 -- ---- handles
@@ -60,9 +45,6 @@ less_more h few =
 pub back_lent : (name : ℕ) (d : Directory Handle) → Lendable 1 name d → changed_at less_of name (changed_at more_of name d) ≡ d
 back_lent name d few = changed_back more_of less_of name d (λ h e. less_more h (few h e))
 
-some_is : {X : Type 0} (x y : X) → Some x ≡ Some y → x ≡ y
-some_is x y e = ap (λ (o : Option _). elim o [ None ↦ x | Some z ↦ z ]) e
-
 -- one that is lent once may be lent again
 lent_once : (name : ℕ) (d : Directory Handle) → Lendable 2 name d → Lendable 1 name (changed_at more_of name d)
 lent_once name d few h e = by (at name d) refl
@@ -75,7 +57,7 @@ lent_once name d few h e = by (at name d) refl
         let small : x.borrowers + 2 < 2 ^ 64 - 1 = few x f in
         let once : x.borrowers + 1 < 2 ^ 64 - 1 = omega (arith, small) in
         let same : one_more x ≡ h =
-        sym (more_is x once) ∙ some_is (more_of x) h (sym (at_changed_at more_of name d x f) ∙ e) in
+        sym (more_is x once) ∙ cc (sym (at_changed_at more_of name d x f) ∙ e) in
         let counted : x.borrowers + 1 ≡ h.borrowers = ap (λ (y : Handle). y.borrowers) same in
         omega (arith, small, counted)
 
@@ -116,6 +98,10 @@ lent_is handle d few = by (at handle.0 d) refl
         ∙ (ap (λ (y : Handle). with_changed handle.0 y d) (more_is x (few x e))
         ∙ sym (changed_some one_more handle.0 d x e))
 
+-- the handle that a call goes through, where it uses one alone
+abbrev pub used_by : {T : Type 0} → Call T → HandleId
+used_by c = record { 0 = option_map_or (λ (u : ℕ × Want). u.0) (slice_get (uses c) 0) 0 }
+
 -- ---- operations
 
 module _ {T : Type 0} where
@@ -139,13 +125,11 @@ module _ {T : Type 0} where
   left_seen : (left : Option T) (k : OperationKind) (handle : HandleId) (m : Option T)
       → as_seen k handle left ≡ with_message left (as_seen k handle m)
   left_seen left kind.Send handle m = refl
-  left_seen left kind.Receive handle m = refl
-  left_seen left kind.Closing handle m = refl
+  left_seen left k handle m = refl
 
   borrows : (k : OperationKind) (handle : HandleId) (m : Option T) → model.borrowed_by (as_seen k handle m) ≡ handle
   borrows kind.Send handle m = refl
-  borrows kind.Receive handle m = refl
-  borrows kind.Closing handle m = refl
+  borrows k handle m = refl
 
   -- an operation borrows the handle that it has
   pub borrowed_is : (o : Operation T) → model.borrowed_by (operation_of o) ≡ o.handle

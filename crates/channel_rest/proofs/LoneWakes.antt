@@ -1,19 +1,5 @@
 -- Whoever is woken comes last among those who were woken.
-use Rattle.std.proofs.Common.{arith, ◌≡◌, ◌≤◌, ◌+◌, List, [], ◌∷◌, ◌++◌, Bool, true, false, not, cond, Option, None, Some, ◌⊎◌, inl, inr, refl, sym, ap, subst, ◌∙◌, append_assoc, append-nil}
-use Rattle.std.proofs.lemmas.List.Elements.{filter-append}
-use Rattle.std.specs.List.{filter}
-use Rattle.channel_model.proofs.Counting.{count_append, among_counts, among_self, or_right}
-use Rattle.channel_model.proofs.WaiterLemmas.{same_refl, same_sound, decided, or_true, without_absent, none_left}
-use Rattle.channel_model.specs.Awake.{times}
-use Rattle.channel_model.specs.Lines.{same_waiter, is_among, without_waiter}
-use Rattle.channel_model.specs.declared.name.Waiter.{Waiter}
-use Rattle.channel_interleaving.specs.Bookkeeping.{with_one_woken, all_woken}
-use Rattle.channel_interleaving.specs.Order.{moved_last, all_moved_last}
-use Rattle.channel_interleaving.specs.OwnerOrder.{was_woken, woken_in}
-use Rattle.channel_interleaving.specs.Owners.{Post, free, vacant, amiss, rests, waits, polled, post}
-use Rattle.channel_interleaving.specs.declared.roll.Roll.{Roll}
-use Rattle.channel_interleaving.proofs.OwnerNames.{Sets, told_post, one_woken}
-use Rattle.channel_rest.specs.Lone.{but_for}
+use Rattle.channel_rest.proofs.Words.{false_from_ne_true, arith, ◌≡◌, ◌≤◌, ◌+◌, List, [], ◌∷◌, ◌++◌, Bool, true, false, not, cond, Option, None, Some, ◌⊎◌, inl, inr, refl, sym, ap, subst, ◌∙◌, append_assoc, append-nil, filter-append, filter, count_append, among_counts, among_self, or_right, same_refl, same_sound, decided, or_true, without_absent, none_left, times, same_waiter, is_among, without_waiter, Waiter, with_one_woken, all_woken, moved_last, all_moved_last, was_woken, woken_in, Post, free, vacant, amiss, rests, waits, polled, post, Roll, Sets, told_post, one_woken, but_for}
 
 -- ---- lists without a name
 
@@ -93,14 +79,11 @@ out_already w f (x ∷ xs) off = by (f x) refl (out_already w f xs off)
     by false e on = rw e on
 
 not_twice : (w : Waiter) (xs ys : List Waiter) → times w (xs ++ w ∷ ys) ≤ 1 → is_among w xs ≡ false
-not_twice w xs ys h = elim (decided (is_among w xs)) [
-  | inl t ↦
-      let one : 1 ≤ times w xs = among_counts w xs t in
-      let other : 1 ≤ times w (w ∷ ys) = among_counts w (w ∷ ys) (among_self w ys) in
-      let both : times w (xs ++ w ∷ ys) ≡ times w xs + times w (w ∷ ys) = count_append (same_waiter w) xs (w ∷ ys) in
-      absurd (omega (arith, h, one, other, both))
-  | inr t ↦ t
-]
+not_twice w xs ys h = false_from_ne_true (is_among w xs) (λ t.
+    let one : 1 ≤ times w xs = among_counts w xs t in
+    let other : 1 ≤ times w (w ∷ ys) = among_counts w (w ∷ ys) (among_self w ys) in
+    let both : times w (xs ++ w ∷ ys) ≡ times w xs + times w (w ∷ ys) = count_append (same_waiter w) xs (w ∷ ys) in
+    absurd (omega (arith, h, one, other, both)))
 
 last_out : (w : Waiter) → without_waiter w (w ∷ []) ≡ []
 last_out w = rw (same_refl w) refl
@@ -158,27 +141,15 @@ is_pending (polled line) = false
 -- whoever is not pending was not woken
 pub not_woken : (p : Post) → is_pending p ≡ false → was_woken p ≡ false
 not_woken (waits h is_woken) e = absurd (let no : true ≡ false = e in cc)
-not_woken free e = refl
-not_woken vacant e = refl
-not_woken amiss e = refl
-not_woken (rests line) e = refl
-not_woken (polled line) e = refl
+not_woken p e = refl
 
 told_pending : (p : Post) → is_pending (told_post p) ≡ is_pending p
 told_pending (waits h is_woken) = refl
-told_pending free = refl
-told_pending vacant = refl
-told_pending amiss = refl
-told_pending (rests line) = refl
-told_pending (polled line) = refl
+told_pending p = refl
 
 told_woken : (p : Post) → was_woken (told_post p) ≡ is_pending p
 told_woken (waits h is_woken) = refl
-told_woken free = refl
-told_woken vacant = refl
-told_woken amiss = refl
-told_woken (rests line) = refl
-told_woken (polled line) = refl
+told_woken p = refl
 
 -- ---- one wake
 

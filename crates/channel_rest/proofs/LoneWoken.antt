@@ -1,62 +1,20 @@
 -- A call that was made alone leaves those who were woken in the order in which the model leaves them.
-use Rattle.std.proofs.Common.{◌≡◌, ◌≤◌, nat_eq, List, [], ◌∷◌, ◌++◌, Bool, true, false, Option, None, Some, inl, inr, refl, sym, ap, subst, ◌∙◌}
-use Rattle.std.specs.Map.{lookup}
-use Rattle.std.specs.Option.{option_map, option_map_or}
-use Rattle.channel_calls.specs.declared.reply.Reply.{Reply}
+use Rattle.channel_rest.proofs.Words.{◌≡◌, ◌≤◌, nat_eq, List, [], ◌∷◌, ◌++◌, Bool, true, false, Option, None, Some, inl, inr, refl, sym, ap, subst, ◌∙◌, lookup, option_map, option_map_or, Reply, Held, Outcome, among_self, or_right, at_seen, left_among, weak_of, strong_of, stream_of, times, same_waiter, is_among, without_waiter, Names, at, is_taken, State, Call, Handle, HandleId, HandleKind, OpId, Waiter, Op, Stream, keeper, woken_after, errand_of, names_begun, unpolled, leave_handle_of, new_from, lent_by, operation_named, handle_named, lent_to_poll, restored, installed, with_operation, all_woken, placed, order_begun, all_moved_last, was_woken, woken_in, IsAmong, Post, waits, no_stream_post, stream_post, posted, post, names_of, handle_at, with_lent, with_standing, with_given_back, standing_with, Hold, Operation, OperationKind, Standing, Rests, IsPolled, Roll, Admitted, untaken, found, op_post, hold_post, op_spent, handle_spent, lent_same, given_back_same, names_alone, order_alone, but_for}
 use Rattle.channel_calls.specs.declared.reply.Reply.TheVariants as reply
-use Rattle.channel_calls.specs.declared.stage.Held.{Held}
-use Rattle.channel_alone.specs.Alone.{Outcome}
-use Rattle.channel_model.proofs.Counting.{among_self, or_right}
-use Rattle.channel_model.proofs.DirectoryLemmas.{at_seen}
-use Rattle.channel_model.proofs.WaiterLemmas.{left_among}
-use Rattle.channel_model.specs.Answer.{weak_of, strong_of}
-use Rattle.channel_model.specs.Asked.{stream_of}
-use Rattle.channel_model.specs.Awake.{times}
-use Rattle.channel_model.specs.Lines.{same_waiter, is_among, without_waiter}
-use Rattle.channel_model.specs.Names.{Names, at, is_taken}
-use Rattle.channel_model.specs.State.{State}
-use Rattle.channel_model.specs.declared.call.Call.{Call}
 use Rattle.channel_model.specs.declared.call.Call.TheVariants as call
-use Rattle.channel_model.specs.declared.name.Handle.{Handle}
-use Rattle.channel_model.specs.declared.name.HandleId.{HandleId}
-use Rattle.channel_model.specs.declared.name.HandleKind.{HandleKind}
 use Rattle.channel_model.specs.declared.name.HandleKind.TheVariants as handle_kind
-use Rattle.channel_model.specs.declared.name.OpId.{OpId}
-use Rattle.channel_model.specs.declared.name.Waiter.{Waiter}
-use Rattle.channel_model.specs.declared.name.Waiter.TheVariants.{Op, Stream}
-use Rattle.channel_refinement.specs.Asked.{keeper}
-use Rattle.channel_refinement.specs.Over.{woken_after}
-use Rattle.channel_interleaving.specs.Bookkeeping.{errand_of, names_begun, unpolled, leave_handle_of, new_from, lent_by, operation_named, handle_named, lent_to_poll, restored, installed, with_operation, all_woken}
-use Rattle.channel_interleaving.specs.Order.{placed, order_begun, all_moved_last}
-use Rattle.channel_interleaving.specs.OwnerOrder.{was_woken, woken_in}
-use Rattle.channel_interleaving.specs.Owners.{IsAmong, Post, free, vacant, amiss, rests, waits, polled, no_stream_post, stream_post, posted, post}
-use Rattle.channel_interleaving.specs.Refusal.{begin_refusal}
-use Rattle.channel_interleaving.specs.Roll.{names_of, handle_at, with_lent, with_standing, with_given_back, standing_with}
 use Rattle.channel_interleaving.specs.declared.names.Errand.TheVariants as errand
-use Rattle.channel_interleaving.specs.declared.names.Hold.{Hold}
-use Rattle.channel_interleaving.specs.declared.names.Operation.{Operation}
-use Rattle.channel_interleaving.specs.declared.names.OperationKind.{OperationKind}
 use Rattle.channel_interleaving.specs.declared.names.OperationKind.TheVariants as kind
-use Rattle.channel_interleaving.specs.declared.names.Standing.{Standing}
-use Rattle.channel_interleaving.specs.declared.names.Standing.TheVariants.{Rests, Waits, IsPolled}
-use Rattle.channel_interleaving.specs.declared.roll.Roll.{Roll}
-use Rattle.channel_interleaving.proofs.OwnerBegins.{Admitted, admitted, untaken}
-use Rattle.channel_interleaving.proofs.OwnerNames.{found, op_post, hold_post, op_spent, handle_spent, lent_same, given_back_same}
 use Rattle.channel_rest.proofs.LoneWakes.{Other, not_same, but_append, is_pending, HavePlaces, all_pending, all_last}
 use Rattle.channel_rest.proofs.LonePosts.{nothing_there, sees_pending, sees_woken, op_other, op_own, handle_other, handle_own, with_op_value, with_handle_value, op_value_other, op_value_own, handle_value_other, handle_value_own, lent_off, left_off, resting_off, stream_polled_off, stream_left_off, stream_resting_off}
-use Rattle.channel_interleaving.specs.Lone.{names_alone, order_alone}
-use Rattle.channel_rest.specs.Lone.{but_for}
+use Rattle.channel_rest.proofs.LoneSeen.{used_by}
 use Rattle.channel_rest.proofs.LoneEnds.{Starts, Alike, alike_starts, same_alike, off_alike, polled_starts, gone_starts, unheld_starts, EndsSo, same_woken, left_woken, off_woken, polled_woken}
 
 -- ---- who is pending, in words
 
 pending_is : (p : Post) → is_pending p ≡ true → (h : Held) × (b : Bool) × (p ≡ waits h b)
 pending_is (waits h b) e = (h, b, refl)
-pending_is free e = absurd (let no : false ≡ true = e in cc)
-pending_is vacant e = absurd (let no : false ≡ true = e in cc)
-pending_is amiss e = absurd (let no : false ≡ true = e in cc)
-pending_is (rests line) e = absurd (let no : false ≡ true = e in cc)
-pending_is (polled line) e = absurd (let no : false ≡ true = e in cc)
+pending_is p e = absurd (let no : false ≡ true = e in cc)
 
 is_named : (w : Waiter) (ws : List Waiter) → IsAmong w ws → is_among w ws ≡ true
 is_named w [] i = absurd i
@@ -68,7 +26,7 @@ other_left None v ws e = tt
 other_left (Some w) v ws e = (left_among w v ws e).1
 
 -- what is left of all that were woken
-left_of : (k : Option Waiter) (told : List Waiter)
+pub left_of : (k : Option Waiter) (told : List Waiter)
     → but_for k told ≡ option_map_or (λ (w : Waiter). without_waiter w told) k told
 left_of None told = refl
 left_of (Some w) told = refl
@@ -239,8 +197,7 @@ module _ {T : Type 0} where
 
     no_stream : (s : Standing) → is_pending (no_stream_post s) ≡ false
     no_stream Rests = refl
-    no_stream (Waits key b) = refl
-    no_stream (IsPolled b) = refl
+    no_stream s = refl
 
     drops : (handle : HandleId) → Drops handle (stream_of handle (handle_at handle r))
     drops handle = by (at handle.0 r.handles) refl
@@ -258,10 +215,8 @@ module _ {T : Type 0} where
                   | handle_kind.WeakSender ↦ None
                   | handle_kind.WeakReceiver ↦ None
                 ])
-            of handle_kind.Sender s f = drops_unheld handle (ap is_pending f ∙ no_stream s)
             of handle_kind.Receiver s f = drops_held handle
-            of handle_kind.WeakSender s f = drops_unheld handle (ap is_pending f ∙ no_stream s)
-            of handle_kind.WeakReceiver s f = drops_unheld handle (ap is_pending f ∙ no_stream s)
+            of k s f = drops_unheld handle (ap is_pending f ∙ no_stream s)
 
   -- ---- any call
 
@@ -302,19 +257,7 @@ module _ {T : Type 0} where
           starts = lends_both r order x y;
           ends = λ z kept new ws p. left_woken (with_given_back x new) y ws ∙ left_woken new x ws;
         }
-    goes (call.StreamIsTerminated receiver) a = record { starts = lends r order receiver; ends = leaves_through r order receiver }
-    goes (call.TrySend sender msg) a = record { starts = lends r order sender; ends = leaves_through r order sender }
-    goes (call.ForceSend sender msg) a = record { starts = lends r order sender; ends = leaves_through r order sender }
-    goes (call.TryRecv receiver) a = record { starts = lends r order receiver; ends = leaves_through r order receiver }
-    goes (call.RecvMany receiver limit) a = record { starts = lends r order receiver; ends = leaves_through r order receiver }
-    goes (call.Close handle) a = record { starts = lends r order handle; ends = leaves_through r order handle }
-    goes (call.IsClosed handle) a = record { starts = lends r order handle; ends = leaves_through r order handle }
-    goes (call.IsEmpty handle) a = record { starts = lends r order handle; ends = leaves_through r order handle }
-    goes (call.IsFull handle) a = record { starts = lends r order handle; ends = leaves_through r order handle }
-    goes (call.Len handle) a = record { starts = lends r order handle; ends = leaves_through r order handle }
-    goes (call.Capacity handle) a = record { starts = lends r order handle; ends = leaves_through r order handle }
-    goes (call.SenderCount handle) a = record { starts = lends r order handle; ends = leaves_through r order handle }
-    goes (call.ReceiverCount handle) a = record { starts = lends r order handle; ends = leaves_through r order handle }
+    goes c a = record { starts = lends r order (used_by c); ends = leaves_through r order (used_by c) }
 
   -- whoever was woken when the call began is woken after it, and then those whom it woke, in order, but for its own name
   pub woken_follows : (r : Roll T) (c : Call T) (s : State T) (o : Outcome T Waiter) (order : List Waiter)

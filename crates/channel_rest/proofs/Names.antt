@@ -1,29 +1,8 @@
 -- The line and the listener of a name that is pending, as one call at a time sees them.
-use Rattle.std.proofs.Common.{◌≡◌, nat_eq, Bool, Option, None, Some, ◌⊎◌, inl, inr, refl, ap, ◌∙◌}
-use Rattle.std.specs.Map.{lookup}
-use Rattle.std.specs.Option.{option_map, option_map_or}
-use Rattle.event_listener.specs.declared.key.Key.{Key}
-use Rattle.channel_calls.specs.declared.stage.Held.{Held}
-use Rattle.channel_calls.specs.declared.stage.Line.{Line}
-use Rattle.channel_calls.specs.declared.stage.Line.TheVariants.{Sends, Receives, Streams, Closings}
-use Rattle.channel_model.proofs.DirectoryLemmas.{at_seen}
-use Rattle.channel_model.specs.Laws.{line_at, line_of_operation}
+use Rattle.channel_rest.proofs.Words.{◌≡◌, nat_eq, Bool, Option, None, Some, ◌⊎◌, inl, inr, refl, ap, ◌∙◌, lookup, option_map, option_map_or, Key, Held, Line, Sends, Receives, Streams, Closings, at_seen, line_at, line_of_operation, HandleId, HandleKind, Waiter, Op, Stream, Post, free, vacant, amiss, rests, waits, polled, post_on, no_stream_post, stream_post, posted, send_post, operation_post, post, key_of, operation_of, names_of, held_of, Hold, Operation, OperationKind, Standing, Rests, Waits, IsPolled, Roll, op_post, hold_post}
 use Rattle.channel_model.specs.Names as model
-use Rattle.channel_model.specs.declared.name.HandleId.{HandleId}
-use Rattle.channel_model.specs.declared.name.HandleKind.{HandleKind}
 use Rattle.channel_model.specs.declared.name.HandleKind.TheVariants as handle_kind
-use Rattle.channel_model.specs.declared.name.Waiter.{Waiter}
-use Rattle.channel_model.specs.declared.name.Waiter.TheVariants.{Op, Stream}
-use Rattle.channel_interleaving.specs.Owners.{Post, free, vacant, amiss, rests, waits, polled, post_on, no_stream_post, stream_post, posted, send_post, operation_post, post}
-use Rattle.channel_interleaving.specs.Roll.{key_of, operation_of, names_of, held_of}
-use Rattle.channel_interleaving.specs.declared.names.Hold.{Hold}
-use Rattle.channel_interleaving.specs.declared.names.Operation.{Operation}
-use Rattle.channel_interleaving.specs.declared.names.OperationKind.{OperationKind}
 use Rattle.channel_interleaving.specs.declared.names.OperationKind.TheVariants as kind
-use Rattle.channel_interleaving.specs.declared.names.Standing.{Standing}
-use Rattle.channel_interleaving.specs.declared.names.Standing.TheVariants.{Rests, Waits, IsPolled}
-use Rattle.channel_interleaving.specs.declared.roll.Roll.{Roll}
-use Rattle.channel_interleaving.proofs.OwnerNames.{op_post, hold_post}
 
 abbrev pub on : Line → Key → Held
 on line key = record { line = line; key = key }
@@ -38,9 +17,6 @@ post_held h (polled line) = h
 
 pub same_held : (h k : Held) (b c : Bool) → waits h b ≡ waits k c → h ≡ k
 same_held h k b c e = ap (λ (p : Post). post_held h p) e
-
-some_is : {X : Type 0} (x y : X) → Some x ≡ Some y → x ≡ y
-some_is x y e = ap (λ (o : Option _). elim o [ None ↦ x | Some z ↦ z ]) e
 
 -- ---- what is pending
 
@@ -57,14 +33,11 @@ on_is line (IsPolled brings) h b e = absurd (let no : polled line ≡ waits h b 
 
 off_is : (s : Standing) (h : Held) (b : Bool) → no_stream_post s ≡ waits h b → ⊥
 off_is Rests h b e = let no : rests Streams ≡ waits h b = e in cc
-off_is (Waits key is_woken) h b e = let no : amiss ≡ waits h b = e in cc
-off_is (IsPolled brings) h b e = let no : amiss ≡ waits h b = e in cc
+off_is s h b e = let no : amiss ≡ waits h b = e in cc
 
 stream_is : (k : HandleKind) (s : Standing) (h : Held) (b : Bool) → stream_post k s ≡ waits h b → Is (key_of s) Streams h
 stream_is handle_kind.Receiver s h b e = on_is Streams s h b e
-stream_is handle_kind.Sender s h b e = absurd (off_is s h b e)
-stream_is handle_kind.WeakSender s h b e = absurd (off_is s h b e)
-stream_is handle_kind.WeakReceiver s h b e = absurd (off_is s h b e)
+stream_is k s h b e = absurd (off_is s h b e)
 
 -- ---- what holds a listener
 
@@ -73,20 +46,16 @@ abbrev pub Pends : Post → Key → Type 0
 Pends p key = (p ≡ amiss) ⊎ ((line : Line) × (b : Bool) × (p ≡ waits (on line key) b))
 
 on_pends : (line : Line) (s : Standing) (key : Key) → key_of s ≡ Some key → Pends (post_on line s) key
-on_pends line Rests key e = absurd (let no : None ≡ Some key = e in cc)
-on_pends line (Waits k is_woken) key e = inr (line, is_woken, ap (λ (x : Key). waits (on line x) is_woken) (some_is k key e))
-on_pends line (IsPolled brings) key e = absurd (let no : None ≡ Some key = e in cc)
+on_pends line (Waits k is_woken) key e = let same : k ≡ key = cc e in inr (line, is_woken, ap (λ (x : Key). waits (on line x) is_woken) same)
+on_pends line s key e = absurd (let no : None ≡ Some key = e in cc)
 
 off_pends : (s : Standing) (key : Key) → key_of s ≡ Some key → Pends (no_stream_post s) key
-off_pends Rests key e = absurd (let no : None ≡ Some key = e in cc)
 off_pends (Waits k is_woken) key e = inl refl
-off_pends (IsPolled brings) key e = absurd (let no : None ≡ Some key = e in cc)
+off_pends s key e = absurd (let no : None ≡ Some key = e in cc)
 
 stream_pends : (k : HandleKind) (s : Standing) (key : Key) → key_of s ≡ Some key → Pends (stream_post k s) key
 stream_pends handle_kind.Receiver s key e = on_pends Streams s key e
-stream_pends handle_kind.Sender s key e = off_pends s key e
-stream_pends handle_kind.WeakSender s key e = off_pends s key e
-stream_pends handle_kind.WeakReceiver s key e = off_pends s key e
+stream_pends k s key e = off_pends s key e
 
 in_line : (key : Option Key) (line : Line) (h : Held) → Is key line h → (key ≡ Some h.key) × (Some line ≡ Some h.line)
 in_line key line h i = (i.0, ap (λ (x : Line). let o : Option Line = Some x in o) i.1)
@@ -103,9 +72,8 @@ hold_at (Some None) h b e = absurd (let no : vacant ≡ waits h b = e in cc)
 hold_at (Some (Some x)) h b e = stream_is x.handle.kind x.standing h b e
 
 hold_pends : (o : Option (Option Hold)) (key : Key) → hold_key o ≡ Some key → Pends (posted hold_post o) key
-hold_pends None key e = absurd (let no : None ≡ Some key = e in cc)
-hold_pends (Some None) key e = absurd (let no : None ≡ Some key = e in cc)
 hold_pends (Some (Some x)) key e = stream_pends x.handle.kind x.standing key e
+hold_pends o key e = absurd (let no : None ≡ Some key = e in cc)
 
 module _ {T : Type 0} where
   abbrev seen_as : OperationKind → HandleId → Option T → model.ModelOperation T
@@ -131,10 +99,9 @@ module _ {T : Type 0} where
   operation_is kind.Closing handle m s h b e = in_line (key_of s) Closings h (on_is Closings s h b e)
 
   send_pends : (m : Option T) (s : Standing) (key : Key) → key_of s ≡ Some key → Pends (send_post m s) key
-  send_pends None Rests key e = absurd (let no : None ≡ Some key = e in cc)
   send_pends None (Waits k is_woken) key e = inl refl
-  send_pends None (IsPolled brings) key e = absurd (let no : None ≡ Some key = e in cc)
   send_pends (Some m) s key e = on_pends Sends s key e
+  send_pends m s key e = absurd (let no : None ≡ Some key = e in cc)
 
   operation_pends : (k : OperationKind) (m : Option T) (s : Standing) (key : Key) → key_of s ≡ Some key
       → Pends (operation_post k m s) key
@@ -154,9 +121,8 @@ module _ {T : Type 0} where
   op_at (Some (Some o)) h b e = operation_is o.kind o.handle o.message o.standing h b e
 
   op_pends : (o : Option (Option (Operation T))) (key : Key) → op_key o ≡ Some key → Pends (posted op_post o) key
-  op_pends None key e = absurd (let no : None ≡ Some key = e in cc)
-  op_pends (Some None) key e = absurd (let no : None ≡ Some key = e in cc)
   op_pends (Some (Some o)) key e = operation_pends o.kind o.message o.standing key e
+  op_pends o key e = absurd (let no : None ≡ Some key = e in cc)
 
   module _ (r : Roll T) where
     -- the line of a pending name is that of its listener

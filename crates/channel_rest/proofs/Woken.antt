@@ -1,23 +1,6 @@
 -- Those who were woken, in the order of their waking: of each line just those who hold its told listeners, in their order.
-use Rattle.std.proofs.Common.{◌≡◌, ◌+◌, ℕ, Bool, true, false, List, [], ◌∷◌, Option, None, Some, IsSome, inl, inr, refl, sym, ap, ◌∙◌, subst, arith}
-use Rattle.std.specs.List.{filter}
-use Rattle.event_listener.specs.Lists.{tasks_of}
-use Rattle.event_listener.specs.declared.key.Key.{Key}
-use Rattle.channel_calls.specs.declared.stage.Held.{Held}
-use Rattle.channel_calls.specs.declared.stage.Line.{Line}
-use Rattle.channel_calls.specs.declared.stage.Line.TheVariants.{Sends, Receives, Streams, Closings}
-use Rattle.channel_model.proofs.Awake.{line_sound}
-use Rattle.channel_model.proofs.WaiterLemmas.{same_sound, decided, or_true, same_refl}
-use Rattle.channel_model.specs.Awake.{Kind, times}
+use Rattle.channel_rest.proofs.Words.{◌≡◌, ◌+◌, ℕ, Bool, true, false, List, [], ◌∷◌, Option, None, Some, IsSome, inl, inr, refl, sym, ap, ◌∙◌, subst, arith, filter, Key, Held, Line, Sends, Receives, Streams, Closings, line_sound, same_sound, decided, or_true, same_refl, Kind, times, same_line, same_waiter, is_among, Waiter, IsAmong, NoneTwice, Post, waits, post, was_woken, Within, woken_in, woken_keys, Roll, of_line}
 use Rattle.channel_model.specs.Laws as laws
-use Rattle.channel_model.specs.Laws.{same_line}
-use Rattle.channel_model.specs.Lines.{same_waiter, is_among}
-use Rattle.channel_model.specs.declared.name.Waiter.{Waiter}
-use Rattle.channel_interleaving.specs.Owners.{IsAmong, NoneTwice, Post, free, vacant, amiss, rests, waits, polled, post}
-use Rattle.channel_interleaving.specs.OwnerOrder.{was_woken, Within, woken_in, woken_keys}
-use Rattle.channel_interleaving.specs.declared.roll.Roll.{Roll}
-use Rattle.channel_refinement.specs.Refines.{AreUntold, of_line}
-use Rattle.channel_model.specs.Asked.{KeysHeld as Holding}
 use Rattle.channel_rest.proofs.Lists.{Stand}
 use Rattle.channel_rest.proofs.Names.{on}
 
@@ -57,13 +40,6 @@ stand_same Has (k ∷ ks) (v ∷ vs) [] one h g = absurd g
 stand_same Has (k ∷ ks) (v ∷ vs) (w ∷ ws) one h g =
     ap (λ (x : Waiter). x ∷ vs) (one k v w h.0 g.0) ∙ ap (λ (l : List Waiter). w ∷ l) (stand_same Has ks vs ws one h.1 g.1)
 
--- those who wait in a list have their names as its tasks
-pub untold_tasks : (held : Holding) (es : List (Key × Option Waiter)) (ws : List Waiter) → AreUntold held es ws → tasks_of es ≡ ws
-untold_tasks held [] [] h = refl
-untold_tasks held [] (w ∷ ws) h = absurd h
-untold_tasks held (e ∷ es) [] h = absurd h
-untold_tasks held (e ∷ es) (w ∷ ws) h = rw h.1 (ap (λ (xs : List Waiter). w ∷ xs) (untold_tasks held es ws h.2))
-
 -- ---- among those who pass a test
 
 pub among_filter : (p : Waiter → Bool) (w : Waiter) (ws : List Waiter) → is_among w (filter p ws) ≡ true → p w ≡ true
@@ -89,15 +65,7 @@ module _ (kind : Kind) where
     | inl t ↦ rw t (omega (arith, h))
     | inr f ↦ rw f h
   ])
-  by_line Receives w v ws e h = rw e (elim (decided (same_waiter w v)) [
-    | inl t ↦ rw t (omega (arith, h))
-    | inr f ↦ rw f h
-  ])
-  by_line Streams w v ws e h = rw e (elim (decided (same_waiter w v)) [
-    | inl t ↦ rw t (omega (arith, h))
-    | inr f ↦ rw f h
-  ])
-  by_line Closings w v ws e h = rw e (elim (decided (same_waiter w v)) [
+  by_line l w v ws e h = rw e (elim (decided (same_waiter w v)) [
     | inl t ↦ rw t (omega (arith, h))
     | inr f ↦ rw f h
   ])
@@ -125,12 +93,8 @@ module _ {T : Type 0} (r : Roll T) where
   woken_waits w e = by (post r w) refl e
     where
       by : (p : Post) → post r w ≡ p → was_woken p ≡ true → (h : Held) × (p ≡ waits h true)
-      by free i g = absurd (let no : false ≡ true = g in cc)
-      by vacant i g = absurd (let no : false ≡ true = g in cc)
-      by amiss i g = absurd (let no : false ≡ true = g in cc)
-      by (rests l) i g = absurd (let no : false ≡ true = g in cc)
-      by (polled l) i g = absurd (let no : false ≡ true = g in cc)
       by (waits h b) i g = (h, ap (λ (x : Bool). waits h x) g)
+      by p i g = absurd (let no : false ≡ true = g in cc)
 
   module _ (kind : Kind) (line : Line) where
     abbrev Has : Key → Waiter → Type 0
@@ -149,12 +113,6 @@ module _ {T : Type 0} (r : Roll T) where
         Goal = Stand Has (woken_keys line r (w ∷ ws)) (of_line kind line (woken_in r (w ∷ ws)))
 
         by : (p : Post) → post r w ≡ p → Rest → Goal
-        by free e rest = rw e rest
-        by vacant e rest = rw e rest
-        by amiss e rest = rw e rest
-        by (rests l) e rest = rw e rest
-        by (polled l) e rest = rw e rest
-        by (waits h false) e rest = rw e rest
         by (waits h true) e rest =
             let mine : laws.is_line line (kind w) ≡ same_line line h.line =
             ap (λ (o : Option Line). laws.is_line line o) (its w h true e) in
@@ -165,3 +123,4 @@ module _ {T : Type 0} (r : Roll T) where
                   rw e (rw mine (rw t (has, rest)))
               | inr f ↦ rw e (rw mine (rw f rest))
             ]
+        by p e rest = rw e rest

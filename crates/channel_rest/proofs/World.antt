@@ -1,43 +1,22 @@
 -- A channel at rest shows a state of the model: on each list, those who hold its listeners, and the woken in their order.
-use Rattle.std.proofs.Common.{◌≡◌, ◌≤◌, ◌+◌, ℕ, Bool, true, false, List, [], ◌++◌, length, Option, None, Some, IsSome, ◌⊎◌, inl, inr, refl, sym, ap, ◌∙◌, subst, arith}
-use Rattle.std.specs.Map.{keys_of}
-use Rattle.event_listener.specs.Lists.{Notice}
-use Rattle.event_listener.specs.declared.key.Key.{Key}
+use Rattle.channel_rest.proofs.Words.{is_line, line_at, count_of, free_places, line_refl, decided, tasks_are, if◌then◌else◌, ◌≡◌, ◌≤◌, ◌+◌, ℕ, Bool, true, false, List, [], ◌++◌, length, Option, None, Some, IsSome, ◌⊎◌, inl, inr, refl, sym, ap, ◌∙◌, subst, arith, keys_of, Notice, Key, Line, Sends, Receives, Streams, Closings, told_of, Any, count_append, Kind, Enough, times, times_in, Placed, AwakeIn, Waiting, same_waiter, is_among, untold, State, Waiter, Under, Scene, IsAmong, waits, post, holding, keys, IsListed, Holder, named, calling, AnyOf, HoldsIn, Owned, AllKept, names_of, held_of, Book, key_of_entry, state_at, IsWorld, RestIsAWorld, NeedsPlace, was_woken, Within, woken_keys, of_line, ShowsLine, ShowsLines, KeysFit, Refines, AreUntold, AreTold}
+use Rattle.channel_laws.specs.Waits.{Waits}
 use Rattle.channel_calls.specs.Parts.{listeners}
-use Rattle.channel_calls.specs.declared.stage.Line.{Line}
-use Rattle.channel_calls.specs.declared.stage.Line.TheVariants.{Sends, Receives, Streams, Closings}
 use Rattle.channel_laws.specs.Amounts.{total, HoldsListener}
 use Rattle.channel_laws.specs.Closings.{AnswersClosed}
-use Rattle.channel_laws.specs.Notices.{told_of}
 use Rattle.channel_laws.specs.Receives.{counts_for_receives, MessagesAreFew}
 use Rattle.channel_laws.specs.Sends.{counts_for_sends, HasPlaces, PlacesAreFew}
 use Rattle.channel_laws.specs.Sound.{AllSound}
 use Rattle.channel_laws.specs.Streams.{AnswersFor}
-use Rattle.channel_laws.specs.Waits.{Waits, Any}
-use Rattle.channel_model.proofs.Counting.{count_append}
-use Rattle.channel_model.specs.Awake.{Kind, Enough, times, times_in, Placed, AwakeIn}
-use Rattle.channel_model.specs.Laws.{line_at, count_of, free_places}
-use Rattle.channel_model.specs.Lines.{Waiting, same_waiter, is_among, untold}
-use Rattle.channel_model.specs.State.{State}
-use Rattle.channel_model.specs.declared.name.Waiter.{Waiter}
 use Rattle.channel_refinement.proofs.Calls.{calls_over}
 use Rattle.channel_steps.specs.Moments.{Shut}
-use Rattle.channel_steps.specs.Scene.{Under, Scene}
-use Rattle.channel_interleaving.specs.Owners.{IsAmong, waits, post, holding, keys, IsListed, Holder, named, calling, AnyOf, HoldsIn, Owned}
-use Rattle.channel_interleaving.specs.Kept.{AllKept}
 use Rattle.channel_interleaving.specs.OwnerWoken.{WokenAreTold}
-use Rattle.channel_interleaving.specs.Roll.{names_of, held_of}
-use Rattle.channel_interleaving.specs.Run.{Book}
 use Rattle.channel_interleaving.proofs.OwedCounts.{in_woken}
-use Rattle.channel_interleaving.proofs.OwnerWokenLists.{key_of_entry}
 use Rattle.channel_interleaving.proofs.OwnerLists.{among_left, among_right, none_parts}
 use Rattle.channel_interleaving.proofs.OwnerSteps.{named_is}
 use Rattle.channel_rest.proofs.Lists.{same_entry, all_keys, Stand, named_all, stand_join, stand_length, stand_none, stand_once, stand_there, some_waits, stand_kind, are_untold, are_told}
 use Rattle.channel_rest.proofs.Names.{on, same_held, Pends, line_is, holds_it, pends}
-use Rattle.channel_rest.specs.Rest.{state_at, IsWorld, RestIsAWorld}
-use Rattle.channel_rest.proofs.Woken.{within_all, stand_same, untold_tasks, among_filter, by_lines, woken_waits, woken_stand}
-use Rattle.channel_interleaving.specs.OwnerOrder.{NeedsPlace, was_woken, Within, woken_keys}
-use Rattle.channel_refinement.specs.Refines.{of_line, ShowsLine, ShowsLines, KeysFit, Refines, AreUntold, AreTold}
+use Rattle.channel_rest.proofs.Woken.{within_all, stand_same, among_filter, by_lines, woken_waits, woken_stand}
 
 fits : (capacity : Option ℕ) (m t : ℕ) → HasPlaces capacity (m + t + 0) → free_places capacity m ≤ t
 fits None m t h = absurd h
@@ -139,10 +118,8 @@ module _ {T : Type 0} (b : Book T) (s : Scene T Waiter) (kept : AllKept b s) (re
       are_untold (Has line) (held_of b.roll) (its_key line) (waiting line) (U line) (his_task line) (waiting_names line).1
 
   untold_are : (line : Line) → untold line who ≡ U line
-  untold_are Sends = untold_tasks (held_of b.roll) (waiting Sends) (U Sends) (are_waiting Sends)
-  untold_are Receives = untold_tasks (held_of b.roll) (waiting Receives) (U Receives) (are_waiting Receives)
-  untold_are Streams = untold_tasks (held_of b.roll) (waiting Streams) (U Streams) (are_waiting Streams)
-  untold_are Closings = untold_tasks (held_of b.roll) (waiting Closings) (U Closings) (are_waiting Closings)
+  untold_are Sends = tasks_are (held_of b.roll) (waiting Sends) (U Sends) (are_waiting Sends)
+  untold_are line = tasks_are (held_of b.roll) (waiting line) (U line) (are_waiting line)
 
   -- the listener of whoever was told is one of those of the woken
   told_woken : (line : Line) (key : Key) → IsAmong key (keys_of (told line)) → IsAmong key (woken_keys line b.roll order)
@@ -179,9 +156,7 @@ module _ {T : Type 0} (b : Book T) (s : Scene T Waiter) (kept : AllKept b s) (re
 
   shows_lines : ShowsLines kind (held_of b.roll) s.now.queue.closed s.now.roster who
   shows_lines Sends = shows_line Sends
-  shows_lines Receives = shows_line Receives
-  shows_lines Streams = shows_line Streams
-  shows_lines Closings = shows_line Closings
+  shows_lines line = shows_line line
 
   -- ---- how often a name stands
 
@@ -220,71 +195,50 @@ module _ {T : Type 0} (b : Book T) (s : Scene T Waiter) (kept : AllKept b s) (re
       let h = woken_waits b.roll w (among_filter (λ v. was_woken (post b.roll v)) w order i) in
       subst (λ (o : Option Line). IsSome o) (sym (line_is b.roll w h.0 true h.1)) refl
 
+  -- each list has the names of its line as often as they stand there
+  times_woken : (w : Waiter) (line : Line) → times w (of_line kind line who.woken) ≡ times w (D line)
+  times_woken w line = ap (λ (ws : List Waiter). times w ws) (woken_are line)
+
+  times_untold : (w : Waiter) (line : Line) → times w (untold line who) ≡ times w (U line)
+  times_untold w line = ap (λ (ws : List Waiter). times w ws) (untold_are line)
+
   in_all : (w : Waiter) → times_in w who ≡ often w Sends + often w Receives + often w Streams + often w Closings
-  in_all w =
-      let all = by_lines kind w who.woken wakes in
-      let i : times w (of_line kind Sends who.woken) ≡ times w (D Sends) =
-      ap (λ (ws : List Waiter). times w ws) (woken_are Sends) in
-      let j : times w (of_line kind Receives who.woken) ≡ times w (D Receives) =
-      ap (λ (ws : List Waiter). times w ws) (woken_are Receives) in
-      let k : times w (of_line kind Streams who.woken) ≡ times w (D Streams) =
-      ap (λ (ws : List Waiter). times w ws) (woken_are Streams) in
-      let l : times w (of_line kind Closings who.woken) ≡ times w (D Closings) =
-      ap (λ (ws : List Waiter). times w ws) (woken_are Closings) in
-      let m : times w who.sends ≡ times w (U Sends) = ap (λ (ws : List Waiter). times w ws) (untold_are Sends) in
-      let n : times w who.receives ≡ times w (U Receives) = ap (λ (ws : List Waiter). times w ws) (untold_are Receives) in
-      let o : times w who.streams ≡ times w (U Streams) = ap (λ (ws : List Waiter). times w ws) (untold_are Streams) in
-      let p : times w who.closings ≡ times w (U Closings) = ap (λ (ws : List Waiter). times w ws) (untold_are Closings) in
-      omega (arith, all, i, j, k, l, m, n, o, p)
+  in_all w = omega (
+    arith,
+    by_lines kind w who.woken wakes,
+    times_woken w Sends,
+    times_woken w Receives,
+    times_woken w Streams,
+    times_woken w Closings,
+    times_untold w Sends,
+    times_untold w Receives,
+    times_untold w Streams,
+    times_untold w Closings,
+  )
+
+  abbrev one_in : Line → Option Line → ℕ
+  one_in line o = if is_line line o then 1 else 0
+
+  within : (w : Waiter) (line : Line) → often w line ≤ one_in line (kind w)
+  within w line = elim (decided (is_line line (kind w))) [
+    | inl t ↦ rw t (once w line)
+    | inr t ↦
+        let none : often w line ≡ 0 = never w line (λ e. cc (sym (line_refl line) ∙ (sym (ap (is_line line) e) ∙ t))) in
+        rw t (omega (arith, none))
+  ]
 
   at_most_once : (w : Waiter) → times_in w who ≤ 1
-  at_most_once w = by (kind w) refl
+  at_most_once w =
+      omega (arith, in_all w, within w Sends, within w Receives, within w Streams, within w Closings, of_one (kind w))
     where
-      other : (o : Option Line) (line : Line) → kind w ≡ o → (o ≡ Some line → ⊥) → often w line ≡ 0
-      other o line e f = never w line (λ g. f (sym e ∙ g))
-
-      by : (o : Option Line) → kind w ≡ o → times_in w who ≤ 1
-      by None e =
-          let all = in_all w in
-          let i = other None Sends e (λ g. let no : None ≡ Some Sends = g in cc) in
-          let j = other None Receives e (λ g. let no : None ≡ Some Receives = g in cc) in
-          let k = other None Streams e (λ g. let no : None ≡ Some Streams = g in cc) in
-          let l = other None Closings e (λ g. let no : None ≡ Some Closings = g in cc) in
-          omega (arith, all, i, j, k, l)
-      by (Some Sends) e =
-          let all = in_all w in
-          let i = once w Sends in
-          let j = other (Some Sends) Receives e (λ g. let no : Some Sends ≡ Some Receives = g in cc) in
-          let k = other (Some Sends) Streams e (λ g. let no : Some Sends ≡ Some Streams = g in cc) in
-          let l = other (Some Sends) Closings e (λ g. let no : Some Sends ≡ Some Closings = g in cc) in
-          omega (arith, all, i, j, k, l)
-      by (Some Receives) e =
-          let all = in_all w in
-          let i = other (Some Receives) Sends e (λ g. let no : Some Receives ≡ Some Sends = g in cc) in
-          let j = once w Receives in
-          let k = other (Some Receives) Streams e (λ g. let no : Some Receives ≡ Some Streams = g in cc) in
-          let l = other (Some Receives) Closings e (λ g. let no : Some Receives ≡ Some Closings = g in cc) in
-          omega (arith, all, i, j, k, l)
-      by (Some Streams) e =
-          let all = in_all w in
-          let i = other (Some Streams) Sends e (λ g. let no : Some Streams ≡ Some Sends = g in cc) in
-          let j = other (Some Streams) Receives e (λ g. let no : Some Streams ≡ Some Receives = g in cc) in
-          let k = once w Streams in
-          let l = other (Some Streams) Closings e (λ g. let no : Some Streams ≡ Some Closings = g in cc) in
-          omega (arith, all, i, j, k, l)
-      by (Some Closings) e =
-          let all = in_all w in
-          let i = other (Some Closings) Sends e (λ g. let no : Some Closings ≡ Some Sends = g in cc) in
-          let j = other (Some Closings) Receives e (λ g. let no : Some Closings ≡ Some Receives = g in cc) in
-          let k = other (Some Closings) Streams e (λ g. let no : Some Closings ≡ Some Streams = g in cc) in
-          let l = once w Closings in
-          omega (arith, all, i, j, k, l)
+      of_one : (o : Option Line) → one_in Sends o + one_in Receives o + one_in Streams o + one_in Closings o ≤ 1
+      of_one None = omega arith
+      of_one (Some Sends) = omega arith
+      of_one (Some line) = omega arith
 
   stands : (w : Waiter) (line : Line) → 1 ≤ often w line → 1 ≤ times_in w who
   stands w Sends h = let all = in_all w in omega (arith, all, h)
-  stands w Receives h = let all = in_all w in omega (arith, all, h)
-  stands w Streams h = let all = in_all w in omega (arith, all, h)
-  stands w Closings h = let all = in_all w in omega (arith, all, h)
+  stands w line h = let all = in_all w in omega (arith, all, h)
 
   -- ---- the keys
 

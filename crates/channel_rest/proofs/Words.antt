@@ -1,0 +1,64 @@
+-- The names that most files here cite, passed on from one place.
+pub use Rattle.std.proofs.Common.{◌≡◌, ◌≤◌, Bool, true, false, cond, List, [], ◌∷◌, ◌++◌, length, Option, Some, ◌⊎◌, inl, inr, refl, sym, ap, ◌∙◌, subst, arith, ◌+◌, None, IsSome, is_some, ℕ, not, if◌then◌else◌, ◌||◌, nat_eq, map, ◌-◌, ◌^◌, ◌<◌, min, append_assoc, append-nil}
+pub use Rattle.std.proofs.lemmas.Bool.{false_from_ne_true}
+pub use Rattle.std.proofs.lemmas.Cmp.{nat_eq_equiv}
+pub use Rattle.std.proofs.lemmas.List.Elements.{filter-append}
+pub use Rattle.std.specs.List.{AllZip, filter, list_all, list_any}
+pub use Rattle.std.specs.Map.{keys_of, lookup, set_value}
+pub use Rattle.std.specs.Option.{option_map_or, option_map}
+pub use Rattle.event_listener.specs.Lists.{Notice, tasks_of}
+pub use Rattle.event_listener.specs.declared.key.Key.{Key}
+pub use Rattle.channel_alone.specs.Alone.{Outcome, Alone}
+pub use Rattle.channel_calls.specs.Moves.{Channel}
+pub use Rattle.channel_calls.specs.declared.reply.Reply.{Reply}
+pub use Rattle.channel_calls.specs.declared.stage.Held.{Held}
+pub use Rattle.channel_calls.specs.declared.stage.Kept.{Kept}
+pub use Rattle.channel_calls.specs.declared.stage.Line.{Line}
+pub use Rattle.channel_calls.specs.declared.stage.Line.TheVariants.{Sends, Receives, Streams, Closings}
+pub use Rattle.channel_interleaving.proofs.OwnerBegins.{Admitted, admitted, op_is, untaken}
+pub use Rattle.channel_interleaving.proofs.OwnerNames.{found, set_there, set_other, Same, given_back_same, op_post, hold_post, Sets, told_post, one_woken, op_spent, handle_spent, lent_same}
+pub use Rattle.channel_interleaving.proofs.OwnerWokenLists.{key_of_entry}
+pub use Rattle.channel_interleaving.specs.Bookkeeping.{asks, written_back, unpolled, leave_handle_of, new_from, lent_by, operation_named, handle_named, lent_to_poll, installed, with_operation, all_woken, restored, with_one_woken, errand_of, names_begun}
+pub use Rattle.channel_interleaving.specs.Kept.{AllKept}
+pub use Rattle.channel_interleaving.specs.Lone.{names_alone, order_alone, book_alone}
+pub use Rattle.channel_interleaving.specs.Order.{placed, kept_place, order_settled, moved_last, all_moved_last, order_begun}
+pub use Rattle.channel_interleaving.specs.OwnerOrder.{woken_in, was_woken, Within, woken_keys, NeedsPlace}
+pub use Rattle.channel_interleaving.specs.Owners.{IsAmong, NoneTwice, amiss, waits, post, polled, stream_post, operation_post, Post, free, vacant, posted, rests, no_stream_post, post_on, send_post, holding, keys, IsListed, Holder, named, calling, AnyOf, HoldsIn, Owned}
+pub use Rattle.channel_interleaving.specs.Refusal.{begin_refusal, is_operation_polled, is_stream_polled, meets_poll, takes_again}
+pub use Rattle.channel_interleaving.specs.Roll.{names_of, held_of, is_polled, has_finished, is_done, operation_of, operation_at, with_given_back, handle_at, with_lent, with_standing, standing_with, with_handle, used_more, used_less, told, key_of}
+pub use Rattle.channel_interleaving.specs.Run.{Book}
+pub use Rattle.channel_interleaving.specs.declared.names.Errand.{Errand}
+pub use Rattle.channel_interleaving.specs.declared.names.Hold.{Hold}
+pub use Rattle.channel_interleaving.specs.declared.names.Operation.{Operation}
+pub use Rattle.channel_interleaving.specs.declared.names.OperationKind.{OperationKind}
+pub use Rattle.channel_interleaving.specs.declared.names.Standing.{Standing}
+pub use Rattle.channel_interleaving.specs.declared.names.Standing.TheVariants.{Rests, Waits, IsPolled}
+pub use Rattle.channel_interleaving.specs.declared.roll.Roll.{Roll}
+pub use Rattle.channel_laws.specs.Notices.{MayBeTold, EachTold, told_of}
+pub use Rattle.channel_laws.specs.Waits.{IsIn, Any}
+pub use Rattle.channel_model.proofs.Awake.{line_refl, line_sound}
+pub use Rattle.channel_model.proofs.Counting.{absent_counts, or_right, count_append, among_counts, among_self}
+pub use Rattle.channel_model.proofs.DirectoryLemmas.{taken_seen, set_twice, at_seen, nothing_to_end, set_absent}
+pub use Rattle.channel_model.proofs.WaiterLemmas.{same_refl, same_sound, decided, or_true, left_among, same_number, without_absent, none_left}
+pub use Rattle.channel_model.specs.Answer.{Answer, weak_of, strong_of}
+pub use Rattle.channel_model.specs.Asked.{KeysHeld, asked, poll_asked, refusal_asked, giving_up_asked, drop_asked, clone_asked, upgrade_asked, stream_of}
+pub use Rattle.channel_model.specs.Awake.{Kind, times, AwakeIn, times_in, Enough, Placed}
+pub use Rattle.channel_model.specs.Laws.{is_line, same_line, line_at, line_of_operation, count_of, free_places}
+pub use Rattle.channel_model.specs.Lines.{same_waiter, is_among, Waiting, without_waiter, untold}
+pub use Rattle.channel_model.specs.Names.{Names, at, Directory, with_changed, with_spent, with_new, used_once_less, lent_once_more, is_taken}
+pub use Rattle.channel_model.specs.Refusal.{uses, is_live, are_fit, takes_borrowed, Want}
+pub use Rattle.channel_model.specs.State.{State}
+pub use Rattle.channel_model.specs.declared.call.Call.{Call}
+pub use Rattle.channel_model.specs.declared.name.Handle.{Handle}
+pub use Rattle.channel_model.specs.declared.name.HandleId.{HandleId}
+pub use Rattle.channel_model.specs.declared.name.HandleKind.{HandleKind}
+pub use Rattle.channel_model.specs.declared.name.OpId.{OpId}
+pub use Rattle.channel_model.specs.declared.name.Waiter.{Waiter}
+pub use Rattle.channel_model.specs.declared.name.Waiter.TheVariants.{Op, Stream}
+pub use Rattle.channel_refinement.proofs.Entries.{zip_append, tasks_are, told_holds}
+pub use Rattle.channel_refinement.specs.Asked.{keeper}
+pub use Rattle.channel_refinement.specs.Over.{Matches, held_after, polled_names, refused_names, given_up_names, made_names, kind_at, names_after, woken_after}
+pub use Rattle.channel_refinement.specs.Refines.{AreUntold, IsToldSo, AreTold, of_line, with_held, ShowsLine, ShowsLines, KeysFit, Refines}
+pub use Rattle.channel_rest.specs.Lone.{but_for, CanBeLent, NonePolled, RefusalsAgree, LoneCallsAnswer, PollsAnswer}
+pub use Rattle.channel_rest.specs.Rest.{state_at, IsWorld, RestIsAWorld}
+pub use Rattle.channel_steps.specs.Scene.{Scene, Under}
