@@ -9,3 +9,4 @@ pub mod AloneFacts
 pub mod LoopFacts
 pub mod SceneLoop
 pub mod AmpleFacts
+pub mod AheadFacts
