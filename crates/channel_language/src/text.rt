@@ -124,11 +124,7 @@ fn add_wakes(table: &Table<'_>, woken: &[Waiter], line: &mut Vec<u8>) -> Result<
 }
 
 /// Adds the line for what a call answered; not where it was refused memory or serials.
-pub fn add_answer(
-    table: &Table<'_>,
-    done: &Done<u64>,
-    line: &mut Vec<u8>,
-) -> Result<(), AllocError>
+pub fn add_answer(table: &Table<'_>, done: &Done<u64>, line: &mut Vec<u8>) -> Result<(), AllocError>
     ensures text { OnOk result (line.new.items ≡ line.old.items ++ reply_text done.now.reply ++ wakes_text table.now done.now.woken.items) }
     ensures whole { OnOk result (wants_growth done.now.reply ≡ false) }
 {
