@@ -1,8 +1,8 @@
 -- The names that a command uses, and those that its call uses: a call of a world is refused for an unknown name exactly where a name
 -- of its command was given to what lives no more. So each name is looked for once.
-use Rattle.std.proofs.Common.{◌≡◌, ℕ, List, [], ◌∷◌, Bool, true, false, not, ◌&&◌, if◌then◌else◌, Option, None, Some, Result, Ok, Err, is_some, option_and_then, refl, sym, ◌∙◌}
+use Rattle.std.proofs.Common.{◌≡◌, ℕ, [], ◌∷◌, Bool, true, false, not, ◌&&◌, if◌then◌else◌, Option, None, Some, Ok, Err, is_some, option_and_then, refl, sym, ◌∙◌}
 use Rattle.std.specs.List.{list_all}
-use Rattle.std.specs.Option.{option_map, option_map_or, option_or}
+use Rattle.std.specs.Option.{option_map, option_map_or}
 use Rattle.channel_model.specs.Names.{Names, at}
 use Rattle.channel_model.specs.Refusal.{uses, is_live, refusal}
 use Rattle.channel_model.specs.declared.call.Call.{Call}

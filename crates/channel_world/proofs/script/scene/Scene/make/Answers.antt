@@ -1,4 +1,4 @@
-use Rattle.std.proofs.Common.{◌≡◌, ◌++◌, [], List, ℕ, ap, ◌∙◌, refl, rules}
+use Rattle.std.proofs.Common.{◌≡◌, ◌++◌, List, ℕ, ap, ◌∙◌, refl, rules}
 use Rattle.channel_model.specs.Answer.{answer}
 use Rattle.channel_language.specs.Asked.{with_given}
 use Rattle.channel_language.specs.Said.{said}
