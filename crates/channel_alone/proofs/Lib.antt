@@ -10,3 +10,4 @@ pub mod AloneFacts
 pub mod LoopFacts
 pub mod SceneLoop
 pub mod AmpleFacts
+pub mod AheadFacts

@@ -6,6 +6,7 @@ ghost use Rattle.channel_alone.specs.Ample.{lacks_memory, HasNode};
 ghost use Rattle.channel_alone.specs.Run.{IsAtRest, AnswersAlone};
 ghost use Rattle.channel_alone.specs.Scenes.{RunsInScenes};
 
+use crate::ahead::{receive_alone, send_alone};
 use channel_calls::ask::ChannelAsk;
 use channel_calls::call::ChannelCall;
 use channel_calls::plain::PlainChannel;
@@ -23,15 +24,8 @@ pub struct Done<T> {
     pub kept: Kept<T>,
 }
 
-/// Makes a call of a channel of one owner from its beginning to its end, with no other call under way, and never waits.
-/// Tasks that it wakes go to the sink in order. Want of memory is answered as the call's own refusal, with the message kept
-/// or handed back. Where it is told how many messages the channel holds, it says so of the channel after it.
-///
-/// A poll that holds a listener wants no memory: where that one was told and there is still cause to wait, the node that it leaves
-/// serves the next listener. What can still be refused to it is a serial number, once all 2^64 - 1 of its list were given.
-///
-/// Its steps lead from scene to scene, as those of one party where no other is at work. Own to this project.
-pub fn run_alone<T: Drop, W: Drop, S: Wakes<W>>(
+/// Makes a call from its beginning to its end, and chooses each of its steps.
+fn step_alone<T: Drop, W: Drop, S: Wakes<W>>(
     ask: ChannelAsk<T, W>,
     channel: &mut PlainChannel<T, W>,
     messages: &mut u64,
@@ -54,5 +48,32 @@ pub fn run_alone<T: Drop, W: Drop, S: Wakes<W>>(
             }
             None => {}
         }
+    }
+}
+
+/// Makes a call of a channel of one owner from its beginning to its end, with no other call under way, and never waits.
+/// Tasks that it wakes go to the sink in order. Want of memory is answered as the call's own refusal, with the message kept
+/// or handed back. Where it is told how many messages the channel holds, it says so of the channel after it.
+///
+/// A poll that holds a listener wants no memory: where that one was told and there is still cause to wait, the node that it leaves
+/// serves the next listener. What can still be refused to it is a serial number, once all 2^64 - 1 of its list were given.
+///
+/// Its steps lead from scene to scene, as those of one party where no other is at work. Own to this project.
+pub fn run_alone<T: Drop, W: Drop, S: Wakes<W>>(
+    ask: ChannelAsk<T, W>,
+    channel: &mut PlainChannel<T, W>,
+    messages: &mut u64,
+    sink: &mut S,
+) -> Done<T>
+    requires at_rest { IsAtRest (parts_of channel.old) }
+    ensures alone { AnswersAlone S.wakes ask (parts_of channel.old) sink.old result (parts_of channel.new) sink.new }
+    ensures scenes { RunsInScenes S.wakes ask (parts_of channel.old) sink.old messages.old
+        result (parts_of channel.new) sink.new messages.new }
+    ensures ample { HasNode ask (parts_of channel.old) → lacks_memory result.reply ≡ false }
+{
+    match ask {
+        ChannelAsk::TrySend(message) => send_alone(message, channel, messages, sink),
+        ChannelAsk::TryRecv => receive_alone(channel, messages, sink),
+        ask => step_alone(ask, channel, messages, sink),
     }
 }

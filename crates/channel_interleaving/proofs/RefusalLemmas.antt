@@ -1,11 +1,17 @@
 -- Tests of one name, and names as one call at a time sees them.
-use Rattle.std.proofs.Common.{◌≡◌, ℕ, Bool, true, false, ◌&&◌, ◌||◌, Option, None, Some, is_some, refl, sym, ap, ◌∙◌}
+use Rattle.std.proofs.Common.{◌≡◌, ℕ, Bool, true, false, not, ◌&&◌, ◌||◌, if◌then◌else◌, Option, None, Some, is_some, refl, sym, ap, ◌∙◌}
 use Rattle.std.specs.Option.{option_map, option_map_or}
 use Rattle.channel_model.proofs.DirectoryLemmas.{at_seen}
 use Rattle.channel_model.specs.Names.{at}
 use Rattle.channel_model.specs.Names as model
-use Rattle.channel_model.specs.Refusal.{a_send, operation_fits, is_fit}
-use Rattle.channel_interleaving.specs.Roll.{operation_of, names_of}
+use Rattle.channel_model.specs.Refusal.{Want, a_send, a_sender, a_receiver, handle_fits, operation_fits, is_fit}
+use Rattle.channel_model.specs.declared.call.Call.{Call}
+use Rattle.channel_model.specs.declared.call.Call.TheVariants as call
+use Rattle.channel_model.specs.declared.name.Handle.{Handle}
+use Rattle.channel_model.specs.declared.name.HandleId.{HandleId}
+use Rattle.channel_model.specs.declared.refusal.WorldRefusal.TheVariants.{UnknownName, WrongKind, OpUnderWay}
+use Rattle.channel_interleaving.specs.Refusal.{unfit_handle, begin_refusal}
+use Rattle.channel_interleaving.specs.Roll.{is_polled, operation_of, names_of}
 use Rattle.channel_interleaving.specs.declared.names.Hold.{Hold}
 use Rattle.channel_interleaving.specs.declared.names.Operation.{Operation}
 use Rattle.channel_interleaving.specs.declared.roll.Roll.{Roll}
@@ -40,3 +46,31 @@ module _ {T : Type 0} (r : Roll T) (name : ℕ) where
     same : (o : Option (Operation T)) → option_map_or (λ (x : Operation T). operation_fits a_send (operation_of x)) o false ≡ option_map_or (operation_fits a_send) (option_map operation_of o) false
     same None = refl
     same (Some o) = refl
+
+-- ---- calls through one handle that bring no new name and take nothing whole
+
+abbrev seen_fits : Want → Option Hold → Bool
+seen_fits want o = option_map_or (λ (h : Handle). handle_fits want h.kind) (option_map (λ (h : Hold). h.handle) o) false
+
+by_one : (want : Want) (o : Option Hold)
+    → (if not (is_some (option_map (λ (h : Hold). h.handle) o) && true) then Some UnknownName
+    else (if not (seen_fits want o && true) then Some WrongKind
+    else (if (option_map_or (λ (h : Hold). is_polled h.standing) o false || false) then Some OpUnderWay else None)))
+    ≡ unfit_handle want o
+by_one want None = refl
+by_one want (Some h) = rw (and_true (handle_fits want h.handle.kind), or_false (is_polled h.standing)) refl
+
+module _ {T : Type 0} (r : Roll T) (c : Call T) where
+  pub sends_alike : (sender : HandleId) (m : T) → c ≡ call.TrySend sender m → begin_refusal r c ≡ unfit_handle a_sender (at sender.0 r.handles)
+  sends_alike sender m e = rw e (rw (handle_at r sender.0) (by_one a_sender (at sender.0 r.handles)))
+
+  pub displaces_alike : (sender : HandleId) (m : T) → c ≡ call.ForceSend sender m
+      → begin_refusal r c ≡ unfit_handle a_sender (at sender.0 r.handles)
+  displaces_alike sender m e = rw e (rw (handle_at r sender.0) (by_one a_sender (at sender.0 r.handles)))
+
+  pub receives_alike : (receiver : HandleId) → c ≡ call.TryRecv receiver → begin_refusal r c ≡ unfit_handle a_receiver (at receiver.0 r.handles)
+  receives_alike receiver e = rw e (rw (handle_at r receiver.0) (by_one a_receiver (at receiver.0 r.handles)))
+
+  pub takes_alike : (receiver : HandleId) (n : ℕ) → c ≡ call.RecvMany receiver n
+      → begin_refusal r c ≡ unfit_handle a_receiver (at receiver.0 r.handles)
+  takes_alike receiver n e = rw e (rw (handle_at r receiver.0) (by_one a_receiver (at receiver.0 r.handles)))

@@ -3,18 +3,23 @@ use Rattle.std.specs.Prelude.{ℕ, List, Bool, false, not, Option, None, Some, i
 use Rattle.std.specs.List.{list_all, list_any}
 use Rattle.std.specs.Option.{option_map_or}
 use Rattle.channel_model.specs.Names.{at, is_taken}
-use Rattle.channel_model.specs.Refusal.{uses, is_live, are_fit, takes_borrowed}
+use Rattle.channel_model.specs.Refusal.{Want, uses, is_live, handle_fits, are_fit, takes_borrowed}
 use Rattle.channel_model.specs.declared.call.Call.{Call}
 use Rattle.channel_model.specs.declared.call.Call.TheVariants as call
 use Rattle.channel_model.specs.declared.refusal.WorldRefusal.{WorldRefusal}
 use Rattle.channel_model.specs.declared.refusal.WorldRefusal.TheVariants.{Busy, Idle, UnknownName, WrongKind, OpUnderWay, Borrowed, NameTaken}
-use Rattle.channel_interleaving.specs.Roll.{is_polled, names_of, is_at_work}
+use Rattle.channel_interleaving.specs.Roll.{is_polled, polled_refusal, names_of, is_at_work}
 use Rattle.channel_interleaving.specs.declared.names.Agent.{Agent}
 use Rattle.channel_interleaving.specs.declared.names.Hold.{Hold}
 use Rattle.channel_interleaving.specs.declared.names.Operation.{Operation}
 use Rattle.channel_interleaving.specs.declared.roll.Roll.{Roll}
 use Rattle.channel_interleaving.specs.declared.step.Step.{Step}
 use Rattle.channel_interleaving.specs.declared.step.Step.TheVariants as step
+
+-- why nothing is begun that wants this of what lives under its one name, room and new names aside
+abbrev pub unfit_handle : Want → Option Hold → Option WorldRefusal
+unfit_handle want None = Some UnknownName
+unfit_handle want (Some h) = if not (handle_fits want h.handle.kind) then Some WrongKind else polled_refusal h.standing
 
 module _ {T : Type 0} where
   -- whether a poll of it is under way

@@ -1,5 +1,5 @@
 -- What lives under which name.
-use Rattle.std.specs.Prelude.{◌≡◌, ℕ, ◌+◌, ◌-◌, ◌^◌, min, Bool, true, false, not, nat_eq, List, [], ◌∷◌, map, slice_get, Option, None, Some}
+use Rattle.std.specs.Prelude.{◌≡◌, ℕ, ◌+◌, ◌-◌, ◌^◌, min, Bool, true, false, not, if◌then◌else◌, nat_eq, List, [], ◌∷◌, map, slice_get, Option, None, Some}
 use Rattle.std.specs.List.{list_any}
 use Rattle.std.specs.Option.{option_map, option_map_or}
 use Rattle.event_listener.specs.declared.key.Key.{Key}
@@ -14,6 +14,8 @@ use Rattle.channel_model.specs.declared.name.HandleKind.{HandleKind}
 use Rattle.channel_model.specs.declared.name.HandleKind.TheVariants as handle_kind
 use Rattle.channel_model.specs.declared.name.OpId.{OpId}
 use Rattle.channel_model.specs.declared.name.Waiter.TheVariants.{Op, Stream}
+use Rattle.channel_model.specs.declared.refusal.WorldRefusal.{WorldRefusal}
+use Rattle.channel_model.specs.declared.refusal.WorldRefusal.TheVariants.{OpUnderWay}
 use Rattle.channel_interleaving.specs.declared.names.Agent.{Agent}
 use Rattle.channel_interleaving.specs.declared.names.Hold.{Hold}
 use Rattle.channel_interleaving.specs.declared.names.Operation.{Operation}
@@ -39,6 +41,10 @@ abbrev pub is_polled : Standing → Bool
 is_polled Rests = false
 is_polled (Waits key is_woken) = false
 is_polled (IsPolled brings) = true
+
+-- a poll under way stands against it
+abbrev pub polled_refusal : Standing → Option WorldRefusal
+polled_refusal s = if is_polled s then Some OpUnderWay else None
 
 abbrev pub is_woken : Standing → Bool
 is_woken (Waits key woken) = woken

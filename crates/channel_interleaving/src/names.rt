@@ -2,6 +2,7 @@
 
 use channel_calls::stage::Line;
 use channel_model::name::{Handle, HandleId, HandleKind, OpId};
+use channel_model::refusal::WorldRefusal;
 use event_listener::key::Key;
 
 /// How an operation, or a receiver as a stream, stands.
@@ -25,7 +26,7 @@ pub enum Standing {
 
 impl Standing {
     ghost use Rattle.std.specs.Prelude.{◌≡◌};
-    ghost use Rattle.channel_interleaving.specs.Roll.{key_of, standing_with, is_polled, is_woken, told};
+    ghost use Rattle.channel_interleaving.specs.Roll.{key_of, standing_with, is_polled, polled_refusal, is_woken, told};
 
     /// The listener of one that is pending.
     pub(crate) fn key(self) -> Option<Key>
@@ -57,6 +58,17 @@ impl Standing {
         match self {
             Standing::IsPolled { brings: _ } => true,
             Standing::Rests | Standing::Waits { .. } => false,
+        }
+    }
+
+    /// Why nothing is begun that a poll under way stands against.
+    pub(crate) fn refusal(self) -> Option<WorldRefusal>
+        ensures { result ≡ polled_refusal self }
+    {
+        if self.is_polled() {
+            Some(WorldRefusal::OpUnderWay)
+        } else {
+            None
         }
     }
 

@@ -14,7 +14,7 @@ impl<T> Roll<T> {
     ghost use Rattle.channel_model.specs.Refusal as want;
     ghost use Rattle.channel_interleaving.specs.Roll.{names_of, operation_of};
     ghost use Rattle.channel_interleaving.specs.declared.names.Operation.{Operation};
-    ghost use Rattle.channel_interleaving.specs.Refusal.{is_operation_polled, is_stream_polled, meets_poll, takes_again, begin_refusal};
+    ghost use Rattle.channel_interleaving.specs.Refusal.{is_operation_polled, is_stream_polled, meets_poll, takes_again, unfit_handle, begin_refusal};
 
     /// A live handle, as one call at a time sees it.
     fn handle(&self, handle: HandleId) -> Option<Handle>
@@ -284,8 +284,34 @@ impl<T> Roll<T> {
         }
     }
 
-    /// Why the call is not begun, room and parties aside. Own to this project.
-    pub fn refusal(&self, call: &Call<T>) -> Option<WorldRefusal>
+    /// Why nothing is begun through this handle that wants a sender.
+    fn sender_refusal(&self, sender: HandleId) -> Option<WorldRefusal>
+        ensures { result ≡ unfit_handle want.a_sender (at sender.0 self.now.handles) }
+    {
+        let Some(hold) = self.handles.get(sender.0) else {
+            return Some(WorldRefusal::UnknownName);
+        };
+        match hold.handle.kind {
+            HandleKind::Sender => hold.standing.refusal(),
+            _ => Some(WorldRefusal::WrongKind),
+        }
+    }
+
+    /// Why nothing is begun through this handle that wants a receiver.
+    fn receiver_refusal(&self, receiver: HandleId) -> Option<WorldRefusal>
+        ensures { result ≡ unfit_handle want.a_receiver (at receiver.0 self.now.handles) }
+    {
+        let Some(hold) = self.handles.get(receiver.0) else {
+            return Some(WorldRefusal::UnknownName);
+        };
+        match hold.handle.kind {
+            HandleKind::Receiver => hold.standing.refusal(),
+            _ => Some(WorldRefusal::WrongKind),
+        }
+    }
+
+    /// The first reason that there is why the call is not begun.
+    fn first_refusal(&self, call: &Call<T>) -> Option<WorldRefusal>
         ensures { result ≡ begin_refusal self.now call.now }
     {
         if !self.is_live(call) {
@@ -304,5 +330,19 @@ impl<T> Roll<T> {
             return Some(WorldRefusal::NameTaken);
         }
         None
+    }
+
+    /// Why the call is not begun, room and parties aside. Of a call that doesn't wait one look at its handle tells. Own to this
+    /// project.
+    pub fn refusal(&self, call: &Call<T>) -> Option<WorldRefusal>
+        ensures { result ≡ begin_refusal self.now call.now }
+    {
+        match call {
+            Call::TrySend { sender, .. } => self.sender_refusal(*sender),
+            Call::ForceSend { sender, .. } => self.sender_refusal(*sender),
+            Call::TryRecv { receiver } => self.receiver_refusal(*receiver),
+            Call::RecvMany { receiver, .. } => self.receiver_refusal(*receiver),
+            _ => self.first_refusal(call),
+        }
     }
 }

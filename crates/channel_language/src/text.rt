@@ -1,5 +1,6 @@
 //! Reply lines.
-ghost use Rattle.std.specs.Prelude.{◌≡◌, ◌++◌, false, IfOk, OnOk, string_bytes};
+ghost use Rattle.std.specs.Prelude.{◌≡◌, ◌++◌, false, OnOk};
+ghost use Rattle.std.specs.Fmt.{decimal};
 ghost use Rattle.channel_language.specs.Text.{reply_text, several_text, wakes_text, refused_text, wants_growth, IsTry, IsPoll, poll_text, part_before};
 
 use crate::table::Table;
@@ -9,92 +10,101 @@ use channel_model::name::Waiter;
 use channel_model::refusal::WorldRefusal;
 use channel_model::run::Done;
 use futures::task::Poll;
-use std::alloc::{AllocError, Global};
+use itoa::Buffer;
+use std::alloc::AllocError;
 
-/// The text of messages in order, each after a space.
-fn several_text(alloc: Global, messages: &[u64]) -> Result<String, AllocError>
-    ensures { IfOk result (λ line. string_bytes line ≡ several_text messages.now) }
+/// Adds these bytes, and a number after them.
+pub fn add_number(front: &[u8], number: u64, line: &mut Vec<u8>) -> Result<(), AllocError>
+    ensures { OnOk result (line.new.items ≡ line.old.items ++ (front.now ++ decimal number)) }
 {
-    let mut line = String::from_str(alloc, "ok")?;
-    for message in messages {
-        let text = format!(in alloc; " {message}")?;
-        line.push_str(text.as_str())?;
-    }
-    Ok(line)
+    let mut digits = Buffer::new();
+    line.extend_from_slice(front)?;
+    line.extend_from_slice(digits.format(number).as_bytes())
 }
 
-/// The text of a try to send, or to receive.
-fn try_text(alloc: Global, reply: &Reply<u64>) -> Result<String, AllocError>
+/// Adds the text of messages in order, each after a space.
+fn add_several(messages: &[u64], line: &mut Vec<u8>) -> Result<(), AllocError>
+    ensures { OnOk result (line.new.items ≡ line.old.items ++ several_text messages.now) }
+{
+    line.extend_from_slice(b"ok")?;
+    for message in messages {
+        add_number(b" ", *message, line)?;
+    }
+    Ok(())
+}
+
+/// Adds the text of a try to send, or to receive.
+fn add_try(reply: &Reply<u64>, line: &mut Vec<u8>) -> Result<(), AllocError>
     requires { IsTry reply.now }
-    ensures text { IfOk result (λ line. string_bytes line ≡ reply_text reply.now) }
+    ensures text { OnOk result (line.new.items ≡ line.old.items ++ reply_text reply.now) }
     ensures whole { OnOk result (wants_growth reply.now ≡ false) }
 {
     match reply {
-        Reply::TrySend(Ok(_)) | Reply::ForceSend(Ok(None)) => String::from_str(alloc, "ok"),
+        Reply::TrySend(Ok(_)) | Reply::ForceSend(Ok(None)) => line.extend_from_slice(b"ok"),
         Reply::TrySend(Err(Refused::Plain(TrySendError::Full(msg)))) => {
-            format!(in alloc; "full {msg}")
+            add_number(b"full ", *msg, line)
         }
         Reply::TrySend(Err(Refused::Plain(TrySendError::Closed(msg)))) => {
-            format!(in alloc; "closed {msg}")
+            add_number(b"closed ", *msg, line)
         }
-        Reply::ForceSend(Ok(Some(msg))) => format!(in alloc; "ok displaced {msg}"),
-        Reply::ForceSend(Err(Refused::Plain(SendError(msg)))) => format!(in alloc; "closed {msg}"),
-        Reply::TryRecv(Ok(msg)) => format!(in alloc; "ok {msg}"),
-        Reply::TryRecv(Err(TryRecvError::Empty)) => String::from_str(alloc, "empty"),
-        Reply::TryRecv(Err(TryRecvError::Closed)) => String::from_str(alloc, "closed"),
-        Reply::RecvMany(Ok(messages)) => several_text(alloc, messages.as_slice()),
+        Reply::ForceSend(Ok(Some(msg))) => add_number(b"ok displaced ", *msg, line),
+        Reply::ForceSend(Err(Refused::Plain(SendError(msg)))) => add_number(b"closed ", *msg, line),
+        Reply::TryRecv(Ok(msg)) => add_number(b"ok ", *msg, line),
+        Reply::TryRecv(Err(TryRecvError::Empty)) => line.extend_from_slice(b"empty"),
+        Reply::TryRecv(Err(TryRecvError::Closed)) => line.extend_from_slice(b"closed"),
+        Reply::RecvMany(Ok(messages)) => add_several(messages.as_slice(), line),
         Reply::RecvMany(Err(Refused::Plain(TryRecvError::Empty))) => {
-            String::from_str(alloc, "empty")
+            line.extend_from_slice(b"empty")
         }
         Reply::RecvMany(Err(Refused::Plain(TryRecvError::Closed))) => {
-            String::from_str(alloc, "closed")
+            line.extend_from_slice(b"closed")
         }
         _ => Err(AllocError),
     }
 }
 
-/// The text of a poll.
-fn poll_text(alloc: Global, reply: &Reply<u64>) -> Result<String, AllocError>
+/// Adds the text of a poll.
+fn add_polled(reply: &Reply<u64>, line: &mut Vec<u8>) -> Result<(), AllocError>
     requires { IsPoll reply.now }
-    ensures text { IfOk result (λ line. string_bytes line ≡ reply_text reply.now) }
+    ensures text { OnOk result (line.new.items ≡ line.old.items ++ reply_text reply.now) }
     ensures whole { OnOk result (wants_growth reply.now ≡ false) }
 {
     match reply {
         Reply::SendPoll(Poll::Pending) | Reply::RecvPoll(Poll::Pending) => {
-            String::from_str(alloc, "pending")
+            line.extend_from_slice(b"pending")
         }
         Reply::ClosedPoll(Poll::Pending) | Reply::Next(Poll::Pending) => {
-            String::from_str(alloc, "pending")
+            line.extend_from_slice(b"pending")
         }
-        Reply::SendPoll(Poll::Ready(Ok(_))) => String::from_str(alloc, "ok"),
+        Reply::SendPoll(Poll::Ready(Ok(_))) => line.extend_from_slice(b"ok"),
         Reply::SendPoll(Poll::Ready(Err(Refused::Plain(SendError(msg))))) => {
-            format!(in alloc; "closed {msg}")
+            add_number(b"closed ", *msg, line)
         }
-        Reply::RecvPoll(Poll::Ready(Ok(msg))) => format!(in alloc; "ok {msg}"),
-        Reply::RecvPoll(Poll::Ready(Err(Refused::Plain(_)))) => String::from_str(alloc, "closed"),
-        Reply::ClosedPoll(Poll::Ready(Ok(_))) => String::from_str(alloc, "ready"),
-        Reply::Next(Poll::Ready(None)) => String::from_str(alloc, "none"),
-        Reply::Next(Poll::Ready(Some(Ok(msg)))) => format!(in alloc; "some {msg}"),
+        Reply::RecvPoll(Poll::Ready(Ok(msg))) => add_number(b"ok ", *msg, line),
+        Reply::RecvPoll(Poll::Ready(Err(Refused::Plain(_)))) => line.extend_from_slice(b"closed"),
+        Reply::ClosedPoll(Poll::Ready(Ok(_))) => line.extend_from_slice(b"ready"),
+        Reply::Next(Poll::Ready(None)) => line.extend_from_slice(b"none"),
+        Reply::Next(Poll::Ready(Some(Ok(msg)))) => add_number(b"some ", *msg, line),
         _ => Err(AllocError),
     }
 }
 
-/// The text of a reply; none where the call was refused memory or serials.
-fn reply_text(alloc: Global, reply: &Reply<u64>) -> Result<String, AllocError>
-    ensures text { IfOk result (λ line. string_bytes line ≡ reply_text reply.now) }
+/// Adds the text of a reply; not where the call was refused memory or serials.
+fn add_reply(reply: &Reply<u64>, line: &mut Vec<u8>) -> Result<(), AllocError>
+    ensures text { OnOk result (line.new.items ≡ line.old.items ++ reply_text reply.now) }
     ensures whole { OnOk result (wants_growth reply.now ≡ false) }
 {
     match reply {
-        Reply::TrySend(_) | Reply::ForceSend(_) => try_text(alloc, reply),
-        Reply::TryRecv(_) | Reply::RecvMany(_) => try_text(alloc, reply),
-        Reply::SendPoll(_) | Reply::RecvPoll(_) => poll_text(alloc, reply),
-        Reply::ClosedPoll(_) | Reply::Next(_) => poll_text(alloc, reply),
-        Reply::Closed(true) | Reply::Flag(true) => String::from_str(alloc, "true"),
-        Reply::Closed(false) | Reply::Flag(false) => String::from_str(alloc, "false"),
-        Reply::Count(number) | Reply::Cap(Some(number)) => format!(in alloc; "{number}"),
-        Reply::Cap(None) | Reply::NotMade => String::from_str(alloc, "none"),
-        Reply::Made | Reply::GivenUp(_) | Reply::Unit => String::from_str(alloc, "ok"),
-        Reply::TooMany => String::from_str(alloc, "too many"),
+        Reply::TrySend(_) | Reply::ForceSend(_) => add_try(reply, line),
+        Reply::TryRecv(_) | Reply::RecvMany(_) => add_try(reply, line),
+        Reply::SendPoll(_) | Reply::RecvPoll(_) => add_polled(reply, line),
+        Reply::ClosedPoll(_) | Reply::Next(_) => add_polled(reply, line),
+        Reply::Closed(true) | Reply::Flag(true) => line.extend_from_slice(b"true"),
+        Reply::Closed(false) | Reply::Flag(false) => line.extend_from_slice(b"false"),
+        Reply::Count(number) | Reply::Cap(Some(number)) => add_number(b"", *number as u64, line),
+        Reply::Cap(None) | Reply::NotMade => line.extend_from_slice(b"none"),
+        Reply::Made | Reply::GivenUp(_) | Reply::Unit => line.extend_from_slice(b"ok"),
+        Reply::TooMany => line.extend_from_slice(b"too many"),
     }
 }
 
@@ -113,23 +123,17 @@ fn add_wakes(table: &Table<'_>, woken: &[Waiter], line: &mut Vec<u8>) -> Result<
     Ok(())
 }
 
-/// The line for what a call answered; none where it was refused memory or serials.
-pub fn answer_line(
-    alloc: Global,
-    table: &Table<'_>,
-    done: &Done<u64>,
-) -> Result<Vec<u8>, AllocError>
-    ensures text { IfOk result (λ line. line.items ≡ reply_text done.now.reply ++ wakes_text table.now done.now.woken.items) }
+/// Adds the line for what a call answered; not where it was refused memory or serials.
+pub fn add_answer(table: &Table<'_>, done: &Done<u64>, line: &mut Vec<u8>) -> Result<(), AllocError>
+    ensures text { OnOk result (line.new.items ≡ line.old.items ++ reply_text done.now.reply ++ wakes_text table.now done.now.woken.items) }
     ensures whole { OnOk result (wants_growth done.now.reply ≡ false) }
 {
-    let mut line = reply_text(alloc, &done.reply)?.into_bytes();
-    add_wakes(table, done.woken.as_slice(), &mut line)?;
-    Ok(line)
+    add_reply(&done.reply, line)?;
+    add_wakes(table, done.woken.as_slice(), line)
 }
 
 /// Adds one poll of a settling: its name and its reply. Not where it was refused memory or serials.
 pub fn add_poll(
-    alloc: Global,
     table: &Table<'_>,
     name: Waiter,
     reply: &Reply<u64>,
@@ -138,11 +142,9 @@ pub fn add_poll(
     ensures text { OnOk result (line.new.items ≡ line.old.items ++ poll_text table.now (name, reply.now)) }
     ensures whole { OnOk result (wants_growth reply.now ≡ false) }
 {
-    let text = reply_text(alloc, reply)?;
     line.extend_from_slice(table.waiter_name(name))?;
     line.push(b' ')?;
-    line.extend_from_slice(text.as_bytes())?;
-    Ok(())
+    add_reply(reply, line)
 }
 
 /// What stands before the k-th poll of a settling.
@@ -152,10 +154,9 @@ pub fn part_before(k: usize) -> &'static [u8]
     if k == 0 { b": " } else { b", " }
 }
 
-/// The line for a refusal.
-pub fn refused_line(alloc: Global, why: WorldRefusal) -> Result<Vec<u8>, AllocError>
-    ensures { IfOk result (λ line. line.items ≡ refused_text why) }
+/// Adds the line for a refusal.
+pub fn add_refused(why: WorldRefusal, line: &mut Vec<u8>) -> Result<(), AllocError>
+    ensures { OnOk result (line.new.items ≡ line.old.items ++ refused_text why) }
 {
-    let number = why.number();
-    Ok(format!(in alloc; "refused {number}")?.into_bytes())
+    add_number(b"refused ", u64::from(why.number()), line)
 }

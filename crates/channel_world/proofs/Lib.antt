@@ -33,6 +33,7 @@ pub mod ComingIn
 pub mod Positions
 pub mod SettleFacts
 pub mod ScriptLemmas
+pub mod ScriptNames
 pub mod IoLemmas
 pub mod GrowthLemmas
 pub mod SettleText

@@ -75,11 +75,12 @@ fn follow<'a>(alloc: Global, scene: &mut Scene<'a>, text: &'a [u8], out: &mut Ve
 {
     let mut rest = text;
     let mut number = 2u32;
+    let mut reply = Vec::new(alloc);
     while let Some((line, after)) = first_line(rest) {
         let Some(command) = readable(number, line) else {
             return end_unreadable(alloc, number, out);
         };
-        let Ok(reply) = scene.obey(alloc, &command) else {
+        let Ok(()) = scene.obey(&command, &mut reply) else {
             return ScriptEnd::Memory;
         };
         let Ok(()) = add_line(out, reply.as_slice()) else {

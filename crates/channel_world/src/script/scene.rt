@@ -11,15 +11,15 @@ ghost use Rattle.channel_language.specs.Said.{sort_of, sending_call, making_call
 ghost use Rattle.channel_world.specs.Staged.{scene_of};
 ghost use Rattle.channel_world.specs.View.{at_rest, IsQuiet};
 
-use super::text::settle_line;
+use super::text::add_settling;
 use crate::world::World;
 use channel_language::call::{call_of, given, used};
 use channel_language::command::{Command, Line};
 use channel_language::table::{Named, Table};
-use channel_language::text::{answer_line, refused_line};
+use channel_language::text::{add_answer, add_refused};
 use channel_model::call::Call;
 use channel_model::refusal::WorldRefusal;
-use std::alloc::{AllocError, Global};
+use std::alloc::AllocError;
 
 /// A channel, and the names that its script gave.
 #[derive(Drop)]
@@ -75,7 +75,21 @@ impl<'a> Scene<'a> {
         }
     }
 
-    /// The call of a command that is not refused; or the first reason why it is.
+    /// Why a command has no call: a name that it uses was not given to what lives, or is of the wrong sort.
+    fn why_uncalled(&self, command: &Command<'_>) -> WorldRefusal
+        requires quiet { IsQuiet self.now.world }
+        requires uncalled { call_of self.now.table (said command.now) ≡ None }
+        ensures { checked (scene_of self.now) (said command.now) ≡ Err result }
+    {
+        if self.are_known(command) {
+            WorldRefusal::WrongKind
+        } else {
+            WorldRefusal::UnknownName
+        }
+    }
+
+    /// The call of a command that is not refused; or the first reason why it is. Each name is looked for once: where a call
+    /// uses what lives no more, the world says so.
     fn check(&self, command: &Command<'_>) -> Result<Call<u64>, WorldRefusal>
         requires quiet { IsQuiet self.now.world }
         requires few { length self.now.table < 2 ^ 32 }
@@ -84,11 +98,8 @@ impl<'a> Scene<'a> {
         ensures accepted { IfOk result (λ c. refusal (at_rest self.now.world) c ≡ None) }
         ensures new { OnOk result (is_given_before self.now.table (said command.now) ≡ false) }
     {
-        if !self.are_known(command) {
-            return Err(WorldRefusal::UnknownName);
-        }
         let Some(call) = call_of(&self.table, command) else {
-            return Err(WorldRefusal::WrongKind);
+            return Err(self.why_uncalled(command));
         };
         if let Some(why) = self.world.refusal(&call) {
             return Err(why);
@@ -112,68 +123,74 @@ impl<'a> Scene<'a> {
         }
     }
 
-    /// Makes the call of a command, and gives its reply line.
+    /// Makes the call of a command, and writes its reply line in place of what stands there.
     fn make(
         &mut self,
-        alloc: Global,
         command: &Command<'a>,
         call: Call<u64>,
-    ) -> Result<Vec<u8>, AllocError>
+        line: &mut Vec<u8>,
+    ) -> Result<(), AllocError>
         requires quiet { IsQuiet self.old.world }
         requires accepted { refusal (at_rest self.old.world) call ≡ None }
         requires new { is_given_before self.old.table (said command.now) ≡ false }
         requires few { length self.old.table < 2 ^ 32 }
-        ensures line { IfOk result (λ line. record { after = scene_of self.new; line = line.items } ≡ answered (scene_of self.old) (said command.now) call) }
+        ensures line { OnOk result (record { after = scene_of self.new; line = line.new.items } ≡ answered (scene_of self.old) (said command.now) call) }
         ensures quiet { IsQuiet self.new.world }
     {
         let Ok(done) = self.world.answer(call) else {
             return Err(AllocError);
         };
-        let line = answer_line(alloc, &self.table, &done)?;
+        line.clear();
+        add_answer(&self.table, &done, line)?;
         self.give(command)?;
-        Ok(line)
+        Ok(())
     }
 
-    /// Makes the call that a command says, if it is not refused, and gives its reply line. Where memory or serials are
+    /// Makes the call that a command says, if it is not refused, and writes its reply line. Where memory or serials are
     /// refused nothing is known of the scene.
-    fn call(&mut self, alloc: Global, command: &Command<'a>) -> Result<Vec<u8>, AllocError>
+    fn call(&mut self, command: &Command<'a>, line: &mut Vec<u8>) -> Result<(), AllocError>
         requires quiet { IsQuiet self.old.world }
         requires few { length self.old.table < 2 ^ 32 }
-        ensures line { IfOk result (λ line. record { after = scene_of self.new; line = line.items } ≡ obeyed (scene_of self.old) (said command.now)) }
+        ensures line { OnOk result (record { after = scene_of self.new; line = line.new.items } ≡ obeyed (scene_of self.old) (said command.now)) }
         ensures names { OnOk result (length self.new.table ≤ length self.old.table + 1) }
         ensures quiet { IsQuiet self.new.world }
     {
         match self.check(command) {
-            Ok(call) => self.make(alloc, command, call),
-            Err(why) => refused_line(alloc, why),
+            Ok(call) => self.make(command, call, line),
+            Err(why) => {
+                line.clear();
+                add_refused(why, line)
+            }
         }
     }
 
-    /// Settles, and gives the reply line. Where memory or serials are refused nothing is known of the scene.
-    fn settle(&mut self, alloc: Global) -> Result<Vec<u8>, AllocError>
+    /// Settles, and writes the reply line. Where memory or serials are refused nothing is known of the scene.
+    fn settle(&mut self, line: &mut Vec<u8>) -> Result<(), AllocError>
         requires quiet { IsQuiet self.old.world }
-        ensures line { IfOk result (λ line. record { after = scene_of self.new; line = line.items } ≡ settles (scene_of self.old)) }
+        ensures line { OnOk result (record { after = scene_of self.new; line = line.new.items } ≡ settles (scene_of self.old)) }
         ensures names { self.new.table ≡ self.old.table }
         ensures quiet { IsQuiet self.new.world }
     {
         let Ok(polls) = self.world.settle() else {
             return Err(AllocError);
         };
-        let line = settle_line(alloc, &self.table, polls.as_slice())?;
-        Ok(line)
+        line.clear();
+        add_settling(&self.table, polls.as_slice(), line)?;
+        Ok(())
     }
 
-    /// Does what a line says, and gives its reply line. Where memory or serials are refused nothing is known of the scene.
-    pub fn obey(&mut self, alloc: Global, line: &Line<'a>) -> Result<Vec<u8>, AllocError>
+    /// Does what a line says, and writes its reply line in place of what stands there. Where memory or serials are refused
+    /// nothing is known of the scene.
+    pub fn obey(&mut self, line: &Line<'a>, reply: &mut Vec<u8>) -> Result<(), AllocError>
         requires quiet { IsQuiet self.old.world }
         requires few { length self.old.table < 2 ^ 32 }
-        ensures line { IfOk result (λ text. record { after = scene_of self.new; line = text.items } ≡ obeyed (scene_of self.old) (said_line line.now)) }
+        ensures line { OnOk result (record { after = scene_of self.new; line = reply.new.items } ≡ obeyed (scene_of self.old) (said_line line.now)) }
         ensures names { OnOk result (length self.new.table ≤ length self.old.table + 1) }
         ensures quiet { IsQuiet self.new.world }
     {
         match line {
-            Line::Call(command) => self.call(alloc, command),
-            Line::Settle => self.settle(alloc),
+            Line::Call(command) => self.call(command, reply),
+            Line::Settle => self.settle(reply),
         }
     }
 }

@@ -21,7 +21,7 @@ pub loop-line-preserved : goal.loop-line-preserved
 loop-line-preserved c =
     let whole = followed today (scene_of c.args.scene.now) 2 (lines_of c.args.text.now) in
     let rest = followed today (scene_of c.obey.new.self) (c.loop-line.number + 1) (lines_of c.in-Some.after.now) in
-    let reply = c.in-Ok.reply.items in
+    let reply = c.obey.new.reply.items in
     let command = said_line c.in-Some-readable.command in
     let says : Some command ≡ readable today c.loop-line.number c.in-Some.line.now = search rules in
     let more : followed today (scene_of c.loop-line.scene) c.loop-line.number (lines_of c.loop-line.rest.now) ≡ replying_first reply rest =

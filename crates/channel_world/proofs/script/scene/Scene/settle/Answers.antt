@@ -10,7 +10,7 @@ returns-clause-line c =
     let e = c.in-Ok.ensures in
     let polls = c.in-Ok.polls in
     let few = e.few in
-    let said = c.in_ok-line.ensures in
-    rw (said.text, c.as_slice.ensures.value)
+    let said = c.in_ok-add_settling.ensures in
+    rw (said.text, c.clear.ensures.items, c.as_slice.ensures.value)
     (scene_settles (scene_of c.args.self.now) (at_rest c.settle.new.self) polls.items (rw (sym polls.ok.0) few) e.polls
     (rw (sym c.as_slice.ensures.value) said.whole))

@@ -3,7 +3,7 @@ use Rattle.channel_calls.specs.Plain.{parts_of}
 use Rattle.channel_alone.proofs.AmpleFacts.{ample_first, ample_next}
 use Rattle.channel_alone.proofs.LoopFacts.{plain_step, way_starts, way_nearer, way_more, way_ends}
 use Rattle.channel_alone.proofs.SceneLoop.{scenes_start, scenes_more, scenes_end}
-use Rattle.channel_alone.proofs.run.run_alone.Goals as goal
+use Rattle.channel_alone.proofs.run.step_alone.Goals as goal
 
 pub loop-reply-init : goal.loop-reply-init
 loop-reply-init g c =

@@ -3,10 +3,10 @@ use Rattle.std.specs.Fmt.{decimal}
 use Rattle.channel_world.specs.Settled.{polls_in}
 use Rattle.channel_language.specs.Text.{parted}
 use Rattle.channel_world.specs.Settled.{AreAmple}
-use Rattle.channel_world.proofs.script.text.settle_line.Given as goal
+use Rattle.channel_world.proofs.script.text.add_settling.Given as goal
 
 abbrev pub invariant-loop-k : goal.invariant-loop-k
 invariant-loop-k l = record {
-  text : l.line.items ≡ codes "polls " ++ decimal (length l.polls) ++ parted l.table (polls_in (take l.k l.polls));
+  text : l.line.items ≡ l.fn.line.items ++ (codes "polls " ++ decimal (length l.polls) ++ parted l.table (polls_in (take l.k l.polls)));
   whole : AreAmple (take l.k l.polls);
 }
