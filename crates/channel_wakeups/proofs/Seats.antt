@@ -448,16 +448,16 @@ module _ {T W : Type 0} where
           let a = line_by x v.parts (of s (coupled v (lone_handle {T = T} {W = W} k)).calls) (of s v.calls) (roll s v.rolls) (roll s v.rolls) (of_handed (coupled v (lone_handle {T = T} {W = W} k)).calls.hands v.calls s) refl in
           omega arith
 
+-- the words at the start: that of the queue, and a handle of each kind
+abbrev spare : List ℕ
+spare = 0 ∷ 0 ∷ 0 ∷ 0 ∷ 0 ∷ 0 ∷ 0 ∷ 0 ∷ 0 ∷ 0 ∷ 0 ∷ 0 ∷ 0 ∷ 0 ∷ 0 ∷ []
+
 module _ {T W : Type 0} where
   -- a new seat that has nothing
   pub blank : (slots : ℕ) → Enters {S = Option T} {V = View T W} Woken slots 0 (λ n w. w ≡ nobody)
   blank slots s h wide small =
       let e : (k : Sum T) → total (sum_of k) (s.views ++ nobody ∷ []) ≡ total (sum_of k) s.views = (λ k. let z = nothing T W k in omega (arith, total_snoc (sum_of k) s.views nobody)) in
       (nobody, same_rule s.words s.homes s.views (s.views ++ nobody ∷ []) e (λ g a. agrees_snoc g s.views nobody tt a) h, refl)
-
-  -- the words at the start: that of the queue, and a handle of each kind
-  abbrev spare : List ℕ
-  spare = 0 ∷ 0 ∷ 0 ∷ 0 ∷ 0 ∷ 0 ∷ 0 ∷ 0 ∷ 0 ∷ 0 ∷ 0 ∷ 0 ∷ 0 ∷ 0 ∷ 0 ∷ []
 
   -- the start: there is no message, and nobody waits
   pub begins : Woken {T = T} {W = W} (opening (0 ∷ (spare ++ 1 ∷ (spare ++ 1 ∷ []))) (None ∷ []) everything)
@@ -580,7 +580,7 @@ module _ {T W : Type 0} where
       where
         all_puts : (f : Weight T) → total (puts_of f) vs ≡ puts f v.log
         all_puts f =
-            let o = none_here (puts_of f) parts_of (set vs id nobody) (λ x e. only_none x.parts (puts f x.log) e) no_others s (at_word base shut) vs id v k.law at all in
+            let o = none_here (puts_of f) parts_of (set vs id nobody) (λ x e. only_none x.parts (puts f x.log) e) (no_others s (at_word base shut) vs id v k.law at all) in
             let w = was (puts_of f) refl vs id v at in
             let mine = all.0 in
             let y = only_some v.parts (puts f v.log) (omega arith) in
@@ -588,7 +588,7 @@ module _ {T W : Type 0} where
 
         all_takes : (f : Weight T) → total (takes_of f) vs ≡ takes f v.log
         all_takes f =
-            let o = none_here (takes_of f) parts_of (set vs id nobody) (λ x e. only_none x.parts (takes f x.log) e) no_others s (at_word base shut) vs id v k.law at all in
+            let o = none_here (takes_of f) parts_of (set vs id nobody) (λ x e. only_none x.parts (takes f x.log) e) (no_others s (at_word base shut) vs id v k.law at all) in
             let w = was (takes_of f) refl vs id v at in
             let mine = all.0 in
             let y = only_some v.parts (takes f v.log) (omega arith) in
@@ -596,7 +596,7 @@ module _ {T W : Type 0} where
 
         no_locks : total locks_of vs ≡ 0
         no_locks =
-            let l = none_here locks_of parts_of (set vs id nobody) (λ x e. only_none x.parts (only x.owns 1) e) no_others s (at_word base shut) vs id v k.law at all in
+            let l = none_here locks_of parts_of (set vs id nobody) (λ x e. only_none x.parts (only x.owns 1) e) (no_others s (at_word base shut) vs id v k.law at all) in
             let lw = was locks_of refl vs id v at in
             let mine : locks_of v ≡ 0 = ap (λ (n : ℕ). only v.parts (only n 1)) all.4 ∙ only_zero v.parts in
             omega arith
