@@ -1,5 +1,5 @@
 -- A count of handles is raised, lowered and looked at: each step keeps the rule.
-use Rattle.std.proofs.Common.{◌⊎◌, inl, inr, ◌≡◌, ℕ, zero, suc, ◌+◌, ◌-◌, ◌<◌, ◌≤◌, ◌==◌, List, [], ◌∷◌, ◌++◌, Bool, true, false, Option, true-eqb, eq-eqb, set, sym, refl, ap, ◌∙◌, subst, ⊎_elim, arith}
+use Rattle.std.proofs.Common.{◌⊎◌, inl, inr, ◌≡◌, ℕ, zero, suc, ◌+◌, ◌-◌, ◌<◌, ◌≤◌, ◌==◌, List, [], ◌∷◌, ◌++◌, length, Bool, true, false, Option, true-eqb, eq-eqb, set, sym, refl, ap, ◌∙◌, subst, ⊎_elim, arith}
 use Rattle.std.specs.Prelude.{◌%◌, ◌^◌, slice_index, slice_set}
 use mathlib.Core.Option as home
 use mathlib.Core.Option.{some, none}
@@ -20,12 +20,13 @@ use Rattle.channel_wakeups.specs.declared.rule.Transfer.TheVariants.{Saw}
 use Rattle.channel_wakeups.specs.Counts.{word_for, most, more_hands, fewer_hands, owing_close, raises, lowers, measures, counts}
 use Rattle.channel_wakeups.specs.Lists.{total}
 use Rattle.channel_wakeups.specs.Log.{each_sight, of_closer, of_drained, same_kind, raised_of, lowered_of, last_of, gone_of, is_none}
-use Rattle.channel_wakeups.specs.Views.{count_of, with_count, handed, pass, only, handles_of, closes_of, sights_of, Kept, Counted, Woken, Known}
+use Rattle.channel_wakeups.specs.Views.{count_of, with_count, handed, pass, only, handles_of, closes_of, sights_of, at_word, Kept, Counted, Woken, Known}
 use Rattle.channel_wakeups.proofs.Hands.{none_of, Carries, counted_kept, carries_all, carries_more}
 use Rattle.channel_wakeups.proofs.Laws.{handed_turns, turned_kept}
 use Rattle.channel_wakeups.proofs.Logs.{saw_logs, one_more}
 use Rattle.channel_wakeups.proofs.Moves.{order_saw}
 use Rattle.channel_wakeups.proofs.Sums.{only_some, others, was, becomes, Sights, put_else, took_else}
+use Rattle.channel_wakeups.proofs.Words.{index_same, index_other, counts_wide, Beside, beside_same, shown_beside}
 
 -- the other kind
 abbrev pub other : Kind → Kind
@@ -142,26 +143,43 @@ module _ {T W : Type 0} where
   -- what a step on a count's word may make of the word and one seat
   abbrev pub CountOutcome : Kind → (ℕ → ℕ) → (ℕ → Known T W → Type 0) → Known T W → ℕ → List (View T W) → ℕ → Type 0
   CountOutcome k f then me id views n =
-      (w : View T W) × Counted (f n) k (set views id w) × Carries (other k) me.0 w × ((base : ℕ) (shut : Bool) (slot : home.Option (Option T)) → Kept base shut slot views → Kept base shut slot (set views id w)) × then n (w, me.1)
+      (w : View T W) × Counted (f n) k (set views id w) × Carries (other k) me.0 w × Beside views (set views id w) × then n (w, me.1)
 
-  by_count : (k : Kind) (f : ℕ → ℕ) (then : ℕ → Known T W → Type 0) (slots id : ℕ) (me : Known T W)
+  pub by_count : (k : Kind) (f : ℕ → ℕ) (then : ℕ → Known T W → Type 0) (slots id : ℕ) (me : Known T W)
       → ((n : ℕ) (views : List (View T W)) → n < 18446744073709551616 → Counted n k views → get_elem? views id ≡ some me.0 → CountOutcome k f then me id views n) → Allows Woken slots id me (word_for k) f then
   by_count OfSenders f then slots id me go s h wide at small =
-      let e = ap (λ (ws : List ℕ). slice_index ws 16) h.5 in
-      let r = go h.3 s.views (subst (λ (n : ℕ). n < 18446744073709551616) e small) h.8 at in (
+      let e = h.counts.1 in
+      let r = go h.senders s.views (subst (λ (n : ℕ). n < 18446744073709551616) e small) h.of_senders at in
+      let there : 16 < length s.words = (let wide_so = h.counts.0 in omega arith) in
+      let now : slice_index (slice_set s.words 16 (f (slice_index s.words 16))) 16 ≡ f h.senders = index_same s.words 16 (f (slice_index s.words 16)) there ∙ ap f e in (
         r.0,
         keeps,
         tt,
-        (h.0, h.1, h.2, f h.3, h.4, ap (λ (ws : List ℕ). slice_set ws 16 (f (slice_index ws 16))) h.5, h.6, r.3 h.0 h.1 h.2 h.7, r.1, counted_kept h.4 OfReceivers s.views id me.0 r.0 at r.2 h.9),
+        record {
+          senders = f h.senders;
+          receivers = h.receivers;
+          counts = (counts_wide s.words 16 (f (slice_index s.words 16)) h.counts.0, now, index_other s.words 16 32 (f (slice_index s.words 16)) (λ x. absurd (omega arith)) ∙ h.counts.2);
+          shown = shown_beside s.words s.homes s.views (set s.views id r.0) 16 (f (slice_index s.words 16)) (λ x. absurd (omega arith)) r.3 h.shown;
+          of_senders = r.1;
+          of_receivers = counted_kept h.receivers OfReceivers s.views id me.0 r.0 at r.2 h.of_receivers;
+        },
         subst (λ (n : ℕ). then n (r.0, me.1)) (sym e) r.4,
       )
   by_count OfReceivers f then slots id me go s h wide at small =
-      let e = ap (λ (ws : List ℕ). slice_index ws 32) h.5 in
-      let r = go h.4 s.views (subst (λ (n : ℕ). n < 18446744073709551616) e small) h.9 at in (
+      let e = h.counts.2 in
+      let r = go h.receivers s.views (subst (λ (n : ℕ). n < 18446744073709551616) e small) h.of_receivers at in
+      let now : slice_index (slice_set s.words 32 (f (slice_index s.words 32))) 32 ≡ f h.receivers = index_same s.words 32 (f (slice_index s.words 32)) h.counts.0 ∙ ap f e in (
         r.0,
         keeps,
         tt,
-        (h.0, h.1, h.2, h.3, f h.4, ap (λ (ws : List ℕ). slice_set ws 32 (f (slice_index ws 32))) h.5, h.6, r.3 h.0 h.1 h.2 h.7, counted_kept h.3 OfSenders s.views id me.0 r.0 at r.2 h.8, r.1),
+        record {
+          senders = h.senders;
+          receivers = f h.receivers;
+          counts = (counts_wide s.words 32 (f (slice_index s.words 32)) h.counts.0, index_other s.words 32 16 (f (slice_index s.words 32)) (λ x. absurd (omega arith)) ∙ h.counts.1, now);
+          shown = shown_beside s.words s.homes s.views (set s.views id r.0) 32 (f (slice_index s.words 32)) (λ x. absurd (omega arith)) r.3 h.shown;
+          of_senders = counted_kept h.senders OfSenders s.views id me.0 r.0 at r.2 h.of_senders;
+          of_receivers = r.1;
+        },
         subst (λ (n : ℕ). then n (r.0, me.1)) (sym e) r.4,
       )
 
@@ -171,13 +189,13 @@ module _ {T W : Type 0} where
     me.0,
     subst (λ (x : ℕ). Counted x k (set views id me.0)) (sym same) (subst (λ (vs : List (View T W)). Counted n k vs) (sym (set_again views id me.0 at)) c),
     carries_all (other k) me.0,
-    (λ base shut slot kept. subst (λ (vs : List (View T W)). Kept base shut slot vs) (sym (set_again views id me.0 at)) kept),
+    beside_same views (set views id me.0) (set_again views id me.0 at),
     tells,
   )
 
   -- a pass that saw something of a count
   module _ (p id : ℕ) (l : Lines) (m : Rolls W) (lg : List (Transfer T)) (some_part : 0 < p) (h : Handles) (e : Sight) (views : List (View T W)) (at : get_elem? views id ≡ some (pass p 0 l m lg)) (unseen : each_sight e ≡ 0) (unshut : of_closer e ≡ 0) (undrained : of_drained e ≡ 0) where
-    sights_so : (w : ℕ) (c : Bool) → Sights w w c c (pass {W = W} p 0 l m lg) (pass p 0 (handed h l) m (lg ++ Saw e ∷ []))
+    sights_so : (w : ℕ) (c : Bool) → Sights (at_word w c) (at_word w c) (pass {W = W} p 0 l m lg) (pass p 0 (handed h l) m (lg ++ Saw e ∷ []))
     sights_so w c k (one, seen, drained) =
         let x = unshut in
         let y = unseen in
@@ -187,10 +205,13 @@ module _ {T W : Type 0} where
         let d = one_more p 0 0 l (handed h l) m lg some_part e of_drained in
         (omega arith, (λ more. seen (omega arith)), (λ more. drained (omega arith)))
 
-    kept_so : (base : ℕ) (shut : Bool) (slot : home.Option (Option T)) → Kept base shut slot views → Kept base shut slot (set views id (pass p 0 (handed h l) m (lg ++ Saw e ∷ [])))
-    kept_so base shut slot k =
-        turned_kept base base shut shut views id p 0 0 l (handed h l) m lg (lg ++ Saw e ∷ []) some_part at slot slot (refl, refl, refl, refl) (λ a o z i. i) (handed_turns base shut h l)
-        (saw_logs W (put_else views id) (took_else views id) slot slot e p 0 0 l (handed h l) m lg (λ n f. refl)) (order_saw p 0 0 l (handed h l) m lg e slot id views at) (sights_so base shut) k
+    kept_so : Beside views (set views id (pass p 0 (handed h l) m (lg ++ Saw e ∷ [])))
+    kept_so = record { one = one_so }
+      where
+        one_so : (base : ℕ) (shut : Bool) (slot : home.Option (Option T)) → Kept base shut slot views → Kept base shut slot (set views id (pass p 0 (handed h l) m (lg ++ Saw e ∷ [])))
+        one_so base shut slot k =
+            turned_kept base base shut shut views id p 0 0 l (handed h l) m lg (lg ++ Saw e ∷ []) some_part at slot slot (refl, refl, refl, refl) (λ a o z i. i) (handed_turns (at_word base shut) h l)
+            (saw_logs W (put_else views id) (took_else views id) slot slot e p 0 0 l (handed h l) m lg (λ n f. refl)) (order_saw p 0 0 l (handed h l) m lg e slot id views at) (sights_so base shut) k
 
   -- what the sums become, where a pass has these handles and this entry more
   module _ (p id : ℕ) (l : Lines) (m : Rolls W) (lg : List (Transfer T)) (some_part : 0 < p) (h : Handles) (e : Sight) (views : List (View T W)) (at : get_elem? views id ≡ some (pass p 0 l m lg)) where

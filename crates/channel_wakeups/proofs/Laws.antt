@@ -12,7 +12,7 @@ use Rattle.channel_wakeups.specs.declared.rule.Rolls.{Rolls}
 use Rattle.channel_wakeups.specs.declared.rule.View.{View}
 use Rattle.channel_wakeups.specs.declared.rule.Transfer.{Transfer}
 use Rattle.channel_wakeups.specs.Lists.{told, waits, listed}
-use Rattle.channel_wakeups.specs.Views.{Side, of_receives, of_sends, of_streams, of_closings, Duty, to_one, to_all, of, closed_by, handed, settled, roll, pass, won_place, no_place, no_send, won_message, no_message, no_more, all_owing, still_open, found_closed, only, is_key, listing, wanted, messages, places, Owed, empty, full, out, Ordered, Kept, Fair}
+use Rattle.channel_wakeups.specs.Views.{Side, of_receives, of_sends, of_streams, of_closings, Duty, to_one, to_all, of, closed_by, handed, settled, roll, pass, won_place, no_place, no_send, won_message, no_message, no_more, all_owing, still_open, found_closed, only, is_key, listing, Picture, picture, at_word, wanted, messages, places, Owed, empty, full, out, Ordered, Kept, Fair}
 use Rattle.channel_wakeups.proofs.Sums.{only_some, only_zero, owed_by, turned, Goes, Sights, Places, Tickets, Logs, put_else, took_else}
 
 pub no_home : {T : Type 0} (x : Option T) → some x ≡ none → ⊥
@@ -79,48 +79,48 @@ abbrev by_call : Duty → Line → ℕ
 by_call to_one l = l.answers
 by_call to_all l = l.tells
 
--- nothing is owed afterwards; or the call answers for all of it; or no more is owed, and it answers for no less, with the same in hand
+-- nothing is owed afterwards; or the call answers for all of it; or it answers for as many more as are owed more, with the same in hand
 abbrev Way : ℕ → ℕ → ℕ → ℕ → ℕ → ℕ → Type 0
-Way n m a b i j = (m ≡ 0) ⊎ ((m ≤ b) ⊎ ((m ≤ n) × (a ≤ b) × (j ≡ i)))
+Way n m a b i j = (m ≡ 0) ⊎ ((m ≤ b) ⊎ ((m + a ≤ n + b) × (j ≡ i)))
 
-abbrev pub Turns : Duty → Side → ℕ → ℕ → Bool → Bool → Lines → Lines → Type 0
-Turns d s w x c e l i = Way (wanted d s w c) (wanted d s x e) (by_call d (of s l)) (by_call d (of s i)) (of s l).holds (of s i).holds
+abbrev pub Turns : Duty → Side → Picture → Picture → Lines → Lines → Type 0
+Turns d s w x l i = Way (wanted d s w) (wanted d s x) (by_call d (of s l)) (by_call d (of s i)) (of s l).holds (of s i).holds
 
 goes_on : (n m a b i j w g h key : ℕ) → Way n m a b i j → Owed n w (g + a) (h + is_key key i) → Owed m w (g + b) (h + is_key key j)
 goes_on n m a b i j w g h key (inl none_left) owed some_waiting = inl (omega arith)
 goes_on n m a b i j w g h key (inr (inl all)) owed some_waiting = inl (omega arith)
-goes_on n m a b i j w g h key (inr (inr (less, more, same))) owed some_waiting =
+goes_on n m a b i j w g h key (inr (inr (more, same))) owed some_waiting =
     let held : is_key key j ≡ is_key key i = ap (is_key key) same in
     ⊎_elim (λ (c : n ≤ g + a). inl (omega arith)) (λ (c : 0 < h + is_key key i). inr (omega arith)) (owed some_waiting)
 
 module _ {T W : Type 0} where
   -- so the law of a side goes on, whatever the others count for
-  pub goes_by : (d : Duty) (s : Side) (w x : ℕ) (c e : Bool) (p n o : ℕ) (l i : Lines) (m : Rolls W) (lg mg : List (Transfer T)) → 0 < p → Turns d s w x c e l i → Goes d s w x c e (pass p n l m lg) (pass p o i m mg)
-  goes_by to_one s w x c e p n o l i m lg mg some_part turns key b g h single owed some_waiting =
+  pub goes_by : (d : Duty) (s : Side) (w x : Picture) (p n o : ℕ) (l i : Lines) (m : Rolls W) (lg mg : List (Transfer T)) → 0 < p → Turns d s w x l i → Goes d s w x (pass p n l m lg) (pass p o i m mg)
+  goes_by to_one s w x p n o l i m lg mg some_part turns key b g h single owed some_waiting =
       let r = roll s m in
       let la = only_some p (of s l).answers some_part in
       let lh = only_some p (is_key key (of s l).holds) some_part in
       let ia = only_some p (of s i).answers some_part in
       let ih = only_some p (is_key key (of s i).holds) some_part in
-      let after = goes_on (wanted to_one s w c) (wanted to_one s x e) (of s l).answers (of s i).answers (of s l).holds (of s i).holds (b + only r.here (waits key r.listeners)) (g + only r.here (told r.listeners)) h key turns
-      (λ waited. owed_by (wanted to_one s w c) (g + (only r.here (told r.listeners) + only p (of s l).answers)) (h + only p (is_key key (of s l).holds)) _ _ (omega arith) (omega arith) (owed waited)) some_waiting in
-      owed_by (wanted to_one s x e) _ _ (g + (only r.here (told r.listeners) + only p (of s i).answers)) (h + only p (is_key key (of s i).holds)) (omega arith) (omega arith) after
-  goes_by to_all s w x c e p n o l i m lg mg some_part turns key b g h single owed some_waiting =
+      let after = goes_on (wanted to_one s w) (wanted to_one s x) (of s l).answers (of s i).answers (of s l).holds (of s i).holds (b + only r.here (waits key r.listeners)) (g + only r.here (told r.listeners)) h key turns
+      (λ waited. owed_by (wanted to_one s w) (g + (only r.here (told r.listeners) + only p (of s l).answers)) (h + only p (is_key key (of s l).holds)) _ _ (omega arith) (omega arith) (owed waited)) some_waiting in
+      owed_by (wanted to_one s x) _ _ (g + (only r.here (told r.listeners) + only p (of s i).answers)) (h + only p (is_key key (of s i).holds)) (omega arith) (omega arith) after
+  goes_by to_all s w x p n o l i m lg mg some_part turns key b g h single owed some_waiting =
       let r = roll s m in
       let la = only_some p (of s l).tells some_part in
       let lh = only_some p (is_key key (of s l).holds) some_part in
       let ia = only_some p (of s i).tells some_part in
       let ih = only_some p (is_key key (of s i).holds) some_part in
-      let after = goes_on (wanted to_all s w c) (wanted to_all s x e) (of s l).tells (of s i).tells (of s l).holds (of s i).holds (b + only r.here (waits key r.listeners)) g h key turns
-      (λ waited. owed_by (wanted to_all s w c) (g + only p (of s l).tells) (h + only p (is_key key (of s l).holds)) _ _ (omega arith) (omega arith) (owed waited)) some_waiting in
-      owed_by (wanted to_all s x e) _ _ (g + only p (of s i).tells) (h + only p (is_key key (of s i).holds)) (omega arith) (omega arith) after
+      let after = goes_on (wanted to_all s w) (wanted to_all s x) (of s l).tells (of s i).tells (of s l).holds (of s i).holds (b + only r.here (waits key r.listeners)) g h key turns
+      (λ waited. owed_by (wanted to_all s w) (g + only p (of s l).tells) (h + only p (is_key key (of s l).holds)) _ _ (omega arith) (omega arith) (owed waited)) some_waiting in
+      owed_by (wanted to_all s x) _ _ (g + only p (of s i).tells) (h + only p (is_key key (of s i).holds)) (omega arith) (omega arith) after
 
 -- nothing changes on this side
 as_before : (n a i : ℕ) → Way n n a a i i
-as_before n a i = inr (inr (omega arith, omega arith, refl))
+as_before n a i = inr (inr (omega arith, refl))
 
 -- a push won the slot: it answers for the message, and has the line of streams in hand; and no place is left
-pub fills_turns : (c : Lines) (d : Duty) (s : Side) → Turns d s 0 3 false false c (won_place c)
+pub fills_turns : (c : Lines) (d : Duty) (s : Side) → Turns d s (at_word 0 false) (at_word 3 false) c (won_place c)
 fills_turns c to_one of_receives = inr (inl (omega arith))
 fills_turns c to_one of_sends = inl refl
 fills_turns c to_one of_streams = inl refl
@@ -131,7 +131,7 @@ fills_turns c to_all of_streams = inr (inl (omega arith))
 fills_turns c to_all of_closings = inl refl
 
 -- a displacing push won the slot: it answers for its message, and no place came free
-pub displaces_turns : (c : Lines) (d : Duty) (s : Side) → Turns d s 2 3 false false c (won_place c)
+pub displaces_turns : (c : Lines) (d : Duty) (s : Side) → Turns d s (at_word 2 false) (at_word 3 false) c (won_place c)
 displaces_turns c to_one of_receives = inr (inl (omega arith))
 displaces_turns c to_one of_sends = inl refl
 displaces_turns c to_one of_streams = inl refl
@@ -142,106 +142,106 @@ displaces_turns c to_all of_streams = inr (inl (omega arith))
 displaces_turns c to_all of_closings = inl refl
 
 -- a push found no place
-pub refused_turns : (w : ℕ) (c : Lines) → places w ≡ 0 → (d : Duty) (s : Side) → Turns d s w w false false c (no_place c)
-refused_turns w c none_left to_one of_receives = as_before (messages w) c.receives.answers c.receives.holds
-refused_turns w c none_left to_one of_sends = inl none_left
-refused_turns w c none_left to_one of_streams = inl refl
-refused_turns w c none_left to_one of_closings = inl refl
-refused_turns w c none_left to_all of_receives = inl refl
-refused_turns w c none_left to_all of_sends = inl refl
-refused_turns w c none_left to_all of_streams = as_before (messages w) c.streams.tells c.streams.holds
-refused_turns w c none_left to_all of_closings = inl refl
+pub refused_turns : (n r k : ℕ) (c : Lines) → r ≡ 0 → (d : Duty) (s : Side) → Turns d s (picture n r k false) (picture n r k false) c (no_place c)
+refused_turns n r k c none_left to_one of_receives = as_before n c.receives.answers c.receives.holds
+refused_turns n r k c none_left to_one of_sends = inl none_left
+refused_turns n r k c none_left to_one of_streams = inl refl
+refused_turns n r k c none_left to_one of_closings = inl refl
+refused_turns n r k c none_left to_all of_receives = inl refl
+refused_turns n r k c none_left to_all of_sends = inl refl
+refused_turns n r k c none_left to_all of_streams = as_before n c.streams.tells c.streams.holds
+refused_turns n r k c none_left to_all of_closings = inl refl
 
 -- a push found the channel closed
-pub shut_out_turns : (w : ℕ) (c : Lines) (d : Duty) (s : Side) → Turns d s w w true true c (no_send c)
-shut_out_turns w c to_one of_receives = as_before (messages w) c.receives.answers c.receives.holds
-shut_out_turns w c to_one of_sends = inl refl
-shut_out_turns w c to_one of_streams = inl refl
-shut_out_turns w c to_one of_closings = inl refl
-shut_out_turns w c to_all of_receives = as_before 1 c.receives.tells c.receives.holds
-shut_out_turns w c to_all of_sends = as_before 1 c.sends.tells c.sends.holds
-shut_out_turns w c to_all of_streams = as_before 1 c.streams.tells c.streams.holds
-shut_out_turns w c to_all of_closings = as_before 1 c.closings.tells c.closings.holds
+pub shut_out_turns : (n r k : ℕ) (c : Lines) (d : Duty) (s : Side) → Turns d s (picture n r k true) (picture n r k true) c (no_send c)
+shut_out_turns n r k c to_one of_receives = as_before n c.receives.answers c.receives.holds
+shut_out_turns n r k c to_one of_sends = inl refl
+shut_out_turns n r k c to_one of_streams = inl refl
+shut_out_turns n r k c to_one of_closings = inl refl
+shut_out_turns n r k c to_all of_receives = as_before 1 c.receives.tells c.receives.holds
+shut_out_turns n r k c to_all of_sends = as_before 1 c.sends.tells c.sends.holds
+shut_out_turns n r k c to_all of_streams = as_before 1 c.streams.tells c.streams.holds
+shut_out_turns n r k c to_all of_closings = as_before 1 c.closings.tells c.closings.holds
 
 -- a pop won the message: it answers for the place, and no message is left
-pub wins_turns : (e : Bool) (c : Lines) (d : Duty) (s : Side) → Turns d s 2 1 e e c (won_message c)
+pub wins_turns : (e : Bool) (c : Lines) (d : Duty) (s : Side) → Turns d s (at_word 2 e) (at_word 1 e) c (won_message c)
 wins_turns e c to_one of_receives = inl refl
 wins_turns true c to_one of_sends = inl refl
 wins_turns false c to_one of_sends = inr (inl (omega arith))
 wins_turns e c to_one of_streams = inl refl
 wins_turns e c to_one of_closings = inl refl
-wins_turns e c to_all of_receives = as_before (wanted to_all of_receives 2 e) c.receives.tells c.receives.holds
-wins_turns e c to_all of_sends = as_before (wanted to_all of_sends 2 e) c.sends.tells c.sends.holds
+wins_turns e c to_all of_receives = as_before (wanted to_all of_receives (at_word 2 e)) c.receives.tells c.receives.holds
+wins_turns e c to_all of_sends = as_before (wanted to_all of_sends (at_word 2 e)) c.sends.tells c.sends.holds
 wins_turns true c to_all of_streams = as_before 1 c.streams.tells c.streams.holds
 wins_turns false c to_all of_streams = inl refl
-wins_turns e c to_all of_closings = as_before (wanted to_all of_closings 2 e) c.closings.tells c.closings.holds
+wins_turns e c to_all of_closings = as_before (wanted to_all of_closings (at_word 2 e)) c.closings.tells c.closings.holds
 
 -- a pop found no message
-pub rests_turns : (w : ℕ) (c : Lines) → messages w ≡ 0 → (d : Duty) (s : Side) → Turns d s w w false false c (no_message c)
-rests_turns w c none_left to_one of_receives = inl none_left
-rests_turns w c none_left to_one of_sends = as_before (places w) c.sends.answers c.sends.holds
-rests_turns w c none_left to_one of_streams = inl refl
-rests_turns w c none_left to_one of_closings = inl refl
-rests_turns w c none_left to_all of_receives = inl refl
-rests_turns w c none_left to_all of_sends = inl refl
-rests_turns w c none_left to_all of_streams = inl none_left
-rests_turns w c none_left to_all of_closings = inl refl
+pub rests_turns : (n r k : ℕ) (c : Lines) → n ≡ 0 → (d : Duty) (s : Side) → Turns d s (picture n r k false) (picture n r k false) c (no_message c)
+rests_turns n r k c none_left to_one of_receives = inl none_left
+rests_turns n r k c none_left to_one of_sends = as_before r c.sends.answers c.sends.holds
+rests_turns n r k c none_left to_one of_streams = inl refl
+rests_turns n r k c none_left to_one of_closings = inl refl
+rests_turns n r k c none_left to_all of_receives = inl refl
+rests_turns n r k c none_left to_all of_sends = inl refl
+rests_turns n r k c none_left to_all of_streams = inl none_left
+rests_turns n r k c none_left to_all of_closings = inl refl
 
 -- or found none in a closed channel
-pub drains_turns : (w : ℕ) (c : Lines) → messages w ≡ 0 → (d : Duty) (s : Side) → Turns d s w w true true c (no_more c)
-drains_turns w c none_left to_one of_receives = inl none_left
-drains_turns w c none_left to_one of_sends = inl refl
-drains_turns w c none_left to_one of_streams = inl refl
-drains_turns w c none_left to_one of_closings = inl refl
-drains_turns w c none_left to_all of_receives = as_before 1 c.receives.tells c.receives.holds
-drains_turns w c none_left to_all of_sends = as_before 1 c.sends.tells c.sends.holds
-drains_turns w c none_left to_all of_streams = as_before 1 c.streams.tells c.streams.holds
-drains_turns w c none_left to_all of_closings = as_before 1 c.closings.tells c.closings.holds
+pub drains_turns : (n r k : ℕ) (c : Lines) → n ≡ 0 → (d : Duty) (s : Side) → Turns d s (picture n r k true) (picture n r k true) c (no_more c)
+drains_turns n r k c none_left to_one of_receives = inl none_left
+drains_turns n r k c none_left to_one of_sends = inl refl
+drains_turns n r k c none_left to_one of_streams = inl refl
+drains_turns n r k c none_left to_one of_closings = inl refl
+drains_turns n r k c none_left to_all of_receives = as_before 1 c.receives.tells c.receives.holds
+drains_turns n r k c none_left to_all of_sends = as_before 1 c.sends.tells c.sends.holds
+drains_turns n r k c none_left to_all of_streams = as_before 1 c.streams.tells c.streams.holds
+drains_turns n r k c none_left to_all of_closings = as_before 1 c.closings.tells c.closings.holds
 
 -- the channel was closed: who closed it has every line in hand, what was owed for messages is owed still, and there is no place any more
-pub shuts_turns : (w : ℕ) (c : Lines) (d : Duty) (s : Side) → Turns d s w w false true c (all_owing c)
-shuts_turns w c to_one of_receives = as_before (messages w) c.receives.answers c.receives.holds
-shuts_turns w c to_one of_sends = inl refl
-shuts_turns w c to_one of_streams = inl refl
-shuts_turns w c to_one of_closings = inl refl
-shuts_turns w c to_all of_receives = inr (inl (omega arith))
-shuts_turns w c to_all of_sends = inr (inl (omega arith))
-shuts_turns w c to_all of_streams = inr (inl (omega arith))
-shuts_turns w c to_all of_closings = inr (inl (omega arith))
+pub shuts_turns : (n r k : ℕ) (c : Lines) (d : Duty) (s : Side) → Turns d s (picture n r k false) (picture n r k true) c (all_owing c)
+shuts_turns n r k c to_one of_receives = as_before n c.receives.answers c.receives.holds
+shuts_turns n r k c to_one of_sends = inl refl
+shuts_turns n r k c to_one of_streams = inl refl
+shuts_turns n r k c to_one of_closings = inl refl
+shuts_turns n r k c to_all of_receives = inr (inl (omega arith))
+shuts_turns n r k c to_all of_sends = inr (inl (omega arith))
+shuts_turns n r k c to_all of_streams = inr (inl (omega arith))
+shuts_turns n r k c to_all of_closings = inr (inl (omega arith))
 
 -- a call looked whether it is closed, and it was open, or closed
-pub open_turns : (w : ℕ) (c : Lines) (d : Duty) (s : Side) → Turns d s w w false false c (still_open c)
-open_turns w c to_one of_receives = as_before (messages w) c.receives.answers c.receives.holds
-open_turns w c to_one of_sends = as_before (places w) c.sends.answers c.sends.holds
-open_turns w c to_one of_streams = inl refl
-open_turns w c to_one of_closings = inl refl
-open_turns w c to_all of_receives = inl refl
-open_turns w c to_all of_sends = inl refl
-open_turns w c to_all of_streams = as_before (messages w) c.streams.tells c.streams.holds
-open_turns w c to_all of_closings = inl refl
+pub open_turns : (n r k : ℕ) (c : Lines) (d : Duty) (s : Side) → Turns d s (picture n r k false) (picture n r k false) c (still_open c)
+open_turns n r k c to_one of_receives = as_before n c.receives.answers c.receives.holds
+open_turns n r k c to_one of_sends = as_before r c.sends.answers c.sends.holds
+open_turns n r k c to_one of_streams = inl refl
+open_turns n r k c to_one of_closings = inl refl
+open_turns n r k c to_all of_receives = inl refl
+open_turns n r k c to_all of_sends = inl refl
+open_turns n r k c to_all of_streams = as_before n c.streams.tells c.streams.holds
+open_turns n r k c to_all of_closings = inl refl
 
-pub closed_turns : (w : ℕ) (c : Lines) (d : Duty) (s : Side) → Turns d s w w true true c (found_closed c)
-closed_turns w c to_one of_receives = as_before (messages w) c.receives.answers c.receives.holds
-closed_turns w c to_one of_sends = inl refl
-closed_turns w c to_one of_streams = inl refl
-closed_turns w c to_one of_closings = inl refl
-closed_turns w c to_all of_receives = as_before 1 c.receives.tells c.receives.holds
-closed_turns w c to_all of_sends = as_before 1 c.sends.tells c.sends.holds
-closed_turns w c to_all of_streams = as_before 1 c.streams.tells c.streams.holds
-closed_turns w c to_all of_closings = as_before 1 c.closings.tells c.closings.holds
+pub closed_turns : (n r k : ℕ) (c : Lines) (d : Duty) (s : Side) → Turns d s (picture n r k true) (picture n r k true) c (found_closed c)
+closed_turns n r k c to_one of_receives = as_before n c.receives.answers c.receives.holds
+closed_turns n r k c to_one of_sends = inl refl
+closed_turns n r k c to_one of_streams = inl refl
+closed_turns n r k c to_one of_closings = inl refl
+closed_turns n r k c to_all of_receives = as_before 1 c.receives.tells c.receives.holds
+closed_turns n r k c to_all of_sends = as_before 1 c.sends.tells c.sends.holds
+closed_turns n r k c to_all of_streams = as_before 1 c.streams.tells c.streams.holds
+closed_turns n r k c to_all of_closings = as_before 1 c.closings.tells c.closings.holds
 
 -- the slot is given back, or nothing is done to it, and with it nothing that the law counts
-pub gives_turns : (w x : ℕ) (e : Bool) (c : Lines) → messages w ≡ messages x → (d : Duty) (s : Side) → Turns d s w x e e c c
-gives_turns w x e c same to_one of_receives = inr (inr (omega arith, omega arith, refl))
+pub gives_turns : (w x : ℕ) (e : Bool) (c : Lines) → messages w ≡ messages x → (d : Duty) (s : Side) → Turns d s (at_word w e) (at_word x e) c c
+gives_turns w x e c same to_one of_receives = inr (inr (omega arith, refl))
 gives_turns w x true c same to_one of_sends = inl refl
-gives_turns w x false c same to_one of_sends = inr (inr (omega arith, omega arith, refl))
+gives_turns w x false c same to_one of_sends = inr (inr (omega arith, refl))
 gives_turns w x e c same to_one of_streams = inl refl
 gives_turns w x e c same to_one of_closings = inl refl
-gives_turns w x e c same to_all of_receives = as_before (wanted to_all of_receives w e) c.receives.tells c.receives.holds
-gives_turns w x e c same to_all of_sends = as_before (wanted to_all of_sends w e) c.sends.tells c.sends.holds
+gives_turns w x e c same to_all of_receives = as_before (wanted to_all of_receives (at_word w e)) c.receives.tells c.receives.holds
+gives_turns w x e c same to_all of_sends = as_before (wanted to_all of_sends (at_word w e)) c.sends.tells c.sends.holds
 gives_turns w x true c same to_all of_streams = as_before 1 c.streams.tells c.streams.holds
-gives_turns w x false c same to_all of_streams = inr (inr (omega arith, omega arith, refl))
-gives_turns w x e c same to_all of_closings = as_before (wanted to_all of_closings w e) c.closings.tells c.closings.holds
+gives_turns w x false c same to_all of_streams = inr (inr (omega arith, refl))
+gives_turns w x e c same to_all of_closings = as_before (wanted to_all of_closings (at_word w e)) c.closings.tells c.closings.holds
 
 -- other handles are nothing that the law of a side counts
 pub of_handed : (h : Handles) (l : Lines) (s : Side) → of s (handed h l) ≡ of s l
@@ -250,12 +250,12 @@ of_handed h l of_sends = refl
 of_handed h l of_streams = refl
 of_handed h l of_closings = refl
 
-pub handed_turns : (w : ℕ) (e : Bool) (h : Handles) (c : Lines) (d : Duty) (s : Side) → Turns d s w w e e c (handed h c)
-handed_turns w e h c d s = subst (λ (x : Line). Way (wanted d s w e) (wanted d s w e) (by_call d (of s c)) (by_call d x) (of s c).holds x.holds) (sym (of_handed h c s)) (gives_turns w w e c refl d s)
+pub handed_turns : (p : Picture) (h : Handles) (c : Lines) (d : Duty) (s : Side) → Turns d s p p c (handed h c)
+handed_turns p h c d s = subst (λ (x : Line). Way (wanted d s p) (wanted d s p) (by_call d (of s c)) (by_call d x) (of s c).holds x.holds) (sym (of_handed h c s)) (as_before (wanted d s p) (by_call d (of s c)) (of s c).holds)
 
 -- the channel was found closed, so no closing is owed any more
-pub settles : (w : ℕ) (c : Lines) (d : Duty) (s : Side) → Turns d s w w true true c (settled c)
-settles w c d s = handed_turns w true (closed_by c.hands) c d s
+pub settles : (p : Picture) (c : Lines) (d : Duty) (s : Side) → Turns d s p p c (settled c)
+settles p c d s = handed_turns p (closed_by c.hands) c d s
 
 -- the tickets stay
 abbrev pub SameTickets : Lines → Lines → Type 0
@@ -270,10 +270,10 @@ same_ticket l i (a, b, c, d) of_closings = d
 module _ {T W : Type 0} where
   -- a step on the word, which leaves tickets and lists alone
   pub turned_kept : (w x : ℕ) (c e : Bool) (vs : List (View T W)) (id p n o : ℕ) (l i : Lines) (m : Rolls W) (lg mg : List (Transfer T)) → 0 < p → get_elem? vs id ≡ some (pass p n l m lg) → (s r : home.Option (Option T)) → SameTickets l i
-      → Places w x s r (pass p n l m lg) (pass p o i m mg) → ((d : Duty) (side : Side) → Turns d side w x c e l i) → Logs (put_else vs id) (took_else vs id) s r (pass p n l m lg) (pass p o i m mg)
-      → (Ordered s vs → Ordered r (set vs id (pass p o i m mg))) → Sights w x c e (pass p n l m lg) (pass p o i m mg) → Kept w c s vs → Kept x e r (set vs id (pass p o i m mg))
+      → Places w x s r (pass p n l m lg) (pass p o i m mg) → ((d : Duty) (side : Side) → Turns d side (at_word w c) (at_word x e) l i) → Logs (put_else vs id) (took_else vs id) s r (pass p n l m lg) (pass p o i m mg)
+      → (Ordered s vs → Ordered r (set vs id (pass p o i m mg))) → Sights (at_word w c) (at_word x e) (pass p n l m lg) (pass p o i m mg) → Kept w c s vs → Kept x e r (set vs id (pass p o i m mg))
   turned_kept w x c e vs id p n o l i m lg mg some_part at s r same places turns logs order sights k =
-      turned w x c e vs id (pass p n l m lg) (pass p o i m mg) at s r refl (λ side. refl) places (λ d side. goes_by d side w x c e p n o l i m lg mg some_part (turns d side)) tickets logs order sights k
+      turned w x c e vs id (pass p n l m lg) (pass p o i m mg) at s r refl (λ side. refl) places (λ d side. goes_by d side (at_word w c) (at_word x e) p n o l i m lg mg some_part (turns d side)) tickets logs order sights k
     where
       tickets : (side : Side) → Tickets side (pass {T = T} p n l m lg) (pass p o i m mg)
       tickets side key x y before = let t : is_key key (of side i).ticket ≡ is_key key (of side l).ticket = ap (is_key key) (same_ticket l i same side) in omega arith

@@ -12,7 +12,7 @@ use Rattle.channel_wakeups.specs.declared.rule.Sight.{Sight}
 use Rattle.channel_wakeups.specs.declared.rule.Sight.TheVariants.{Shut, Seen, Drained}
 use Rattle.channel_wakeups.specs.Lists.{total, is_this}
 use Rattle.channel_wakeups.specs.Log.{Weight, puts, takes, sights, each, numbered, held, Once, Balanced, PutBefore, TookBefore, Closings, each_sight, of_closer, of_drained, NotSeen, NotDrained}
-use Rattle.channel_wakeups.specs.Views.{pass, only, puts_of, takes_of, sights_of, messages}
+use Rattle.channel_wakeups.specs.Views.{pass, only, puts_of, takes_of, sights_of, messages, at_word}
 use Rattle.channel_wakeups.proofs.Sums.{only_some, balanced_by, was, Logs, Sights}
 
 module _ {T : Type 0} where
@@ -229,7 +229,7 @@ module _ {T : Type 0} where
 
 module _ {T W : Type 0} where
   -- the log's sights stay, and where the state has a message still, or nobody has seen that it had none
-  pub sights_stay : (w x : ℕ) (c : Bool) (v u : View T W) → ((f : Sight → ℕ) → sights_of f u ≡ sights_of f v) → ((c ≡ true) × (messages w ≡ 0) → messages x ≡ 0) → Sights w x c c v u
+  pub sights_stay : (w x : ℕ) (c : Bool) (v u : View T W) → ((f : Sight → ℕ) → sights_of f u ≡ sights_of f v) → ((c ≡ true) × (messages w ≡ 0) → messages x ≡ 0) → Sights (at_word w c) (at_word x c) v u
   sights_stay w x c v u same still k (one, seen, drained) =
       let a = same of_closer in
       let b = same each_sight in
@@ -249,18 +249,18 @@ module _ {T W : Type 0} where
         let z = only_some p (sights f (lg ++ Saw s ∷ [])) some_part in
         omega arith
 
-  pub sights_seen : (w p o n : ℕ) (l i : Lines) (m : Rolls W) (lg : List (Transfer T)) → 0 < p → Sights w w true true (pass p o l m lg) (pass p n i m (lg ++ Saw Seen ∷ []))
+  pub sights_seen : (w p o n : ℕ) (l i : Lines) (m : Rolls W) (lg : List (Transfer T)) → 0 < p → Sights (at_word w true) (at_word w true) (pass p o l m lg) (pass p n i m (lg ++ Saw Seen ∷ []))
   sights_seen w p o n l i m lg some_part k (one, seen, drained) =
       let a = one_more p o n l i m lg some_part Seen of_closer in
       let d = one_more p o n l i m lg some_part Seen of_drained in
       (omega arith, (λ more. refl), (λ more. drained (omega arith)))
 
-  pub sights_drained : (w p o n : ℕ) (l i : Lines) (m : Rolls W) (lg : List (Transfer T)) → 0 < p → messages w ≡ 0 → Sights w w true true (pass p o l m lg) (pass p n i m (lg ++ Saw Drained ∷ []))
+  pub sights_drained : (w p o n : ℕ) (l i : Lines) (m : Rolls W) (lg : List (Transfer T)) → 0 < p → messages w ≡ 0 → Sights (at_word w true) (at_word w true) (pass p o l m lg) (pass p n i m (lg ++ Saw Drained ∷ []))
   sights_drained w p o n l i m lg some_part none_left k (one, seen, drained) =
       let a = one_more p o n l i m lg some_part Drained of_closer in
       (omega arith, (λ more. refl), (λ more. (refl, none_left)))
 
-  pub sights_shut : (w p o n : ℕ) (l i : Lines) (m : Rolls W) (lg : List (Transfer T)) → 0 < p → Sights w w false true (pass p o l m lg) (pass p n i m (lg ++ Saw Shut ∷ []))
+  pub sights_shut : (w p o n : ℕ) (l i : Lines) (m : Rolls W) (lg : List (Transfer T)) → 0 < p → Sights (at_word w false) (at_word w true) (pass p o l m lg) (pass p n i m (lg ++ Saw Shut ∷ []))
   sights_shut w p o n l i m lg some_part k (one, seen, drained) =
       let a = one_more p o n l i m lg some_part Shut of_closer in
       let d = one_more p o n l i m lg some_part Shut of_drained in

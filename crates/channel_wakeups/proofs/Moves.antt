@@ -1,11 +1,11 @@
 -- Each step keeps the rule.
 use Rattle.std.proofs.Common.{◌⊎◌, inl, inr, ◌≡◌, ℕ, ◌+◌, ◌-◌, ◌<◌, ◌==◌, List, [], ◌∷◌, ◌++◌, Bool, true, false, Option, None, Some, set, sym, refl, ap, ◌∙◌, subst, arith}
-use Rattle.std.specs.Prelude.{slice_index, slice_set, bit_and, bit_or}
+use Rattle.std.specs.Prelude.{slice_index, bit_and, bit_or}
 use mathlib.Core.Option as home
 use mathlib.Core.Option.{some, none}
 use lib.ListN.{get_elem?}
 use prog.Atomic.{either}
-use Rattle.atomic_table.specs.Table.{Me, Act, Valid, carried_after, homes_after, step, keeps, takes, gives, Allows}
+use Rattle.atomic_table.specs.Table.{Me, Act, Valid, carried_after, homes_after, step, stepped, keeps, takes, gives, Allows}
 use Rattle.atomic_table.proofs.Lists.{set_again}
 use Rattle.concurrent_queue.specs.machine.Single.{clear}
 use Rattle.channel_wakeups.specs.declared.listeners.Listener.{Listener}
@@ -21,7 +21,8 @@ use Rattle.channel_wakeups.specs.declared.rule.Sight.{Sight}
 use Rattle.channel_wakeups.specs.declared.rule.Sight.TheVariants.{Shut, Seen, Drained}
 use Rattle.channel_wakeups.specs.Lists.{total, listed}
 use Rattle.channel_wakeups.specs.Log.{Weight, puts, each, held}
-use Rattle.channel_wakeups.specs.Views.{all_words, Side, Duty, to_one, to_all, count_of, of, roll, listing, with_line, with_roll, pass, changed, won_place, no_place, no_send, won_message, no_message, no_more, settled, all_owing, still_open, found_closed, closer, saw_open, only, is_key, here_of, listed_of, tickets_of, locks_of, owns_of, puts_of, word_of, wanted, messages, places, IsSlot, empty, full, out, Ordered, Kept, Counted, Woken, Known, MissesPlace, AtHome, fills, displaces, wins, unlocks, shuts, sees, Fair}
+use Rattle.channel_wakeups.specs.Views.{at_word, Shown, one_slot, Side, Duty, to_one, to_all, count_of, of, roll, listing, with_line, with_roll, pass, changed, won_place, no_place, no_send, won_message, no_message, no_more, settled, all_owing, still_open, found_closed, closer, saw_open, only, is_key, here_of, listed_of, tickets_of, locks_of, owns_of, puts_of, word_of, wanted, messages, places, IsSlot, empty, full, out, Ordered, Kept, Counted, Woken, Known, MissesPlace, AtHome, fills, displaces, wins, unlocks, shuts, sees, Fair}
+use Rattle.channel_wakeups.proofs.Words.{index_same, counts_stay}
 use Rattle.channel_wakeups.proofs.Sums.{only_some, others, others_free, was, turned, Goes, Tickets, Logs, put_else, took_else}
 use Rattle.channel_wakeups.proofs.Logs.{puts_append, same_logs, saw_logs, put_logs, take_logs, comes_next, goes_next, not_seen, not_drained, sights_stay, sights_same, moved, sights_seen, sights_drained, sights_shut}
 use Rattle.channel_wakeups.proofs.History.{agrees_append, agrees_saw, order_stays, order_grows}
@@ -56,25 +57,24 @@ module _ {T W : Type 0} where
   pub by_all : (f : ℕ → ℕ) (then : ℕ → Me (Option T) (View T W) → Type 0) (slots id : ℕ) (me : Me (Option T) (View T W))
       → ((base : ℕ) (shut : Bool) (slot : home.Option (Option T)) (senders receivers : ℕ) (views : List (View T W)) → Kept base shut slot views → Counted senders OfSenders views → Counted receivers OfReceivers views → get_elem? views id ≡ some me.0
       → Outcome f then me id views (word_of base shut) slot) → Allows Woken slots id me 0 f then
-  by_all f then slots id me go s h wide at small =
-      let r = go h.0 h.1 h.2 h.3 h.4 s.views h.7 h.8 h.9 at in (
-        r.0,
-        r.1,
-        subst (λ (hs : List (home.Option (Option T))). Valid hs me.1 r.1) (sym h.6) r.5,
-        (
-          r.3,
-          r.4,
-          r.2,
-          h.3,
-          h.4,
-          ap (λ (ws : List ℕ). slice_set ws 0 (f (slice_index ws 0))) h.5 ∙ ap (λ (n : ℕ). all_words n h.3 h.4) r.7,
-          ap (λ (hs : List (home.Option (Option T))). homes_after hs me.1 r.1) h.6 ∙ r.6,
-          r.8,
-          counted_kept h.3 OfSenders s.views id me.0 r.0 at (r.9 OfSenders) h.8,
-          counted_kept h.4 OfReceivers s.views id me.0 r.0 at (r.9 OfReceivers) h.9,
-        ),
-        subst (λ (n : ℕ). then n (r.0, carried_after me.1 r.1)) (sym (ap (λ (ws : List ℕ). slice_index ws 0) h.5)) r.10,
-      )
+  by_all f then slots id me go s h wide at small = by_shown h.shown
+    where
+      by_shown : Shown s.words s.homes s.views → (w : View T W) × (a : Act (Option T)) × Valid s.homes me.1 a × Woken (stepped s 0 (f (slice_index s.words 0)) id me.1 w a) × then (slice_index s.words 0) (w, carried_after me.1 a)
+      by_shown (one_slot base shut slot word homes kept) =
+          let r = go base shut slot h.senders h.receivers s.views kept h.of_senders h.of_receivers at in (
+            r.0,
+            r.1,
+            subst (λ (hs : List (home.Option (Option T))). Valid hs me.1 r.1) (sym homes) r.5,
+            record {
+              senders = h.senders;
+              receivers = h.receivers;
+              counts = counts_stay s.words 0 (f (slice_index s.words 0)) h.senders h.receivers (λ e. absurd (omega arith)) (λ e. absurd (omega arith)) h.counts;
+              shown = one_slot r.3 r.4 r.2 (index_same s.words 0 (f (slice_index s.words 0)) (let wide_so = h.counts.0 in omega arith) ∙ ap f word ∙ r.7) (ap (λ (hs : List (home.Option (Option T))). homes_after hs me.1 r.1) homes ∙ r.6) r.8;
+              of_senders = counted_kept h.senders OfSenders s.views id me.0 r.0 at (r.9 OfSenders) h.of_senders;
+              of_receivers = counted_kept h.receivers OfReceivers s.views id me.0 r.0 at (r.9 OfReceivers) h.of_receivers;
+            },
+            subst (λ (n : ℕ). then n (r.0, carried_after me.1 r.1)) (sym word) r.10,
+          )
 
   pub by_rule : (f : ℕ → ℕ) (then : ℕ → Me (Option T) (View T W) → Type 0) (slots id : ℕ) (me : Me (Option T) (View T W))
       → ((base : ℕ) (shut : Bool) (slot : home.Option (Option T)) (views : List (View T W)) → Kept base shut slot views → get_elem? views id ≡ some me.0 → Outcome f then me id views (word_of base shut) slot)
@@ -145,11 +145,11 @@ module _ {T W : Type 0} where
       tt,
       refl,
       same,
-      turned_kept n n false false views id p 0 0 l (no_place l) m lg lg some_part at slot slot (refl, refl, refl, refl) (λ a o z i. i) (refused_turns n l none_left)
+      turned_kept n n false false views id p 0 0 l (no_place l) m lg lg some_part at slot slot (refl, refl, refl, refl) (λ a o z i. i) (refused_turns (messages n) (places n) (messages n) l none_left)
           (logs_stay p 0 0 l (no_place l) m lg slot slot id views (λ n f. refl)) (order_same p 0 0 l (no_place l) m lg slot slot id views at (λ x e. e))
           (sights_stay n n false (pass p 0 l m lg) (pass p 0 (no_place l) m lg) (λ f. refl) (λ z. z.1)) k,
       (λ j. carries_same j p 0 0 l (no_place l) m lg refl),
-      missed (pass p 0 (no_place l) m lg, []) (inr (inl (is_open, is_full, home, not_seen views id (pass p 0 l m lg) at some_part (messages n) k.closings, refl))),
+      missed (pass p 0 (no_place l) m lg, []) (inr (inl (is_open, is_full, home, not_seen views id (pass p 0 l m lg) at some_part (messages n) k.law.closings, refl))),
     )
 
     -- it found the channel closed
@@ -164,7 +164,7 @@ module _ {T W : Type 0} where
       tt,
       refl,
       same,
-      turned_kept n n true true views id p 0 0 l (no_send l) m lg (lg ++ Saw Seen ∷ []) some_part at slot slot (refl, refl, refl, refl) (λ a o z i. i) (shut_out_turns n l)
+      turned_kept n n true true views id p 0 0 l (no_send l) m lg (lg ++ Saw Seen ∷ []) some_part at slot slot (refl, refl, refl, refl) (λ a o z i. i) (shut_out_turns (messages n) (places n) (messages n) l)
           (saw_logs W (put_else views id) (took_else views id) slot slot Seen p 0 0 l (no_send l) m lg (λ n f. refl)) (order_saw p 0 0 l (no_send l) m lg Seen slot id views at)
           (sights_seen n p 0 0 l (no_send l) m lg some_part) k,
       (λ j. carries_more j p 0 0 l (no_send l) m lg some_part (Saw Seen) refl refl refl refl refl (inr (omega arith))),
@@ -205,7 +205,7 @@ module _ {T W : Type 0} where
               (logs_stay p 0 3 l (won_place l) m lg (some None) none id views (λ n f. refl)) (order_same p 0 3 l (won_place l) m lg (some None) none id views at (λ x e. absurd (no_home (Some x) (sym e))))
               (λ seen closings. (closings.0, closings.1, λ more. absurd (no_true ((closings.2 more).0)))) kn,
           (λ j. carries_same j p 0 3 l (won_place l) m lg refl),
-          inl (refl, not_seen views id (pass p 0 l m lg) at some_part 0 kn.closings, refl),
+          inl (refl, not_seen views id (pass p 0 l m lg) at some_part 0 kn.law.closings, refl),
         )) k
     fills_at base true slot views k at (empty e d c) =
         as_is fill Filled (pass p 0 l m lg, []) id views base 0 true slot slot e refl (λ kn. push_closed fill Filled 0 slot views at refl refl (not_filled 4 (λ e. absurd (omega arith))) kn) k
@@ -253,7 +253,7 @@ module _ {T W : Type 0} where
           (sights_stay 2 3 false (pass p 0 l m lg) (pass p 3 (won_place l) m (lg ++ Out (total (puts_of each) views - 1) x ∷ []))
           (sights_same p 0 3 l (won_place l) m lg (lg ++ Out (total (puts_of each) views - 1) x ∷ []) (moved lg (Out (total (puts_of each) views - 1) x) (λ f. refl))) (λ z. z.1)) kn,
       (λ j. carries_more j p 0 3 l (won_place l) m lg some_part (Out (total (puts_of each) views - 1) x) refl refl refl refl refl (inl (omega arith))),
-      inl (refl, not_seen views id (pass p 0 l m lg) at some_part 1 kn.closings, (x, total (puts_of each) views - 1, goes_next views id (pass p 0 l m lg) at some_part x kn.balance, refl)),
+      inl (refl, not_seen views id (pass p 0 l m lg) at some_part 1 kn.law.closings, (x, total (puts_of each) views - 1, goes_next views id (pass p 0 l m lg) at some_part x kn.balance, refl)),
     )
 
     displaces_at : (base : ℕ) (shut : Bool) (slot : home.Option (Option T)) (views : List (View T W)) → Kept base shut slot views → get_elem? views id ≡ some (pass p 0 l m lg) → IsSlot base slot (total locks_of views) (total owns_of views) → Displace views (word_of base shut) slot
@@ -297,11 +297,11 @@ module _ {T W : Type 0} where
       tt,
       refl,
       same,
-      turned_kept n n false false views id p 0 0 l (no_message l) m lg lg some_part at slot slot (refl, refl, refl, refl) (λ a o z i. i) (rests_turns n l none_left)
+      turned_kept n n false false views id p 0 0 l (no_message l) m lg lg some_part at slot slot (refl, refl, refl, refl) (λ a o z i. i) (rests_turns (messages n) (places n) (messages n) l none_left)
           (logs_stay p 0 0 l (no_message l) m lg slot slot id views (λ n f. refl)) (order_same p 0 0 l (no_message l) m lg slot slot id views at (λ x e. e))
           (sights_stay n n false (pass p 0 l m lg) (pass p 0 (no_message l) m lg) (λ f. refl) (λ z. z.1)) k,
       (λ j. carries_same j p 0 0 l (no_message l) m lg refl),
-      inr (other, inr (inl (is_empty, is_open, not_seen views id (pass p 0 l m lg) at some_part (messages n) k.closings, refl))),
+      inr (other, inr (inl (is_empty, is_open, not_seen views id (pass p 0 l m lg) at some_part (messages n) k.law.closings, refl))),
     )
 
     -- it found none in a closed channel
@@ -315,7 +315,7 @@ module _ {T W : Type 0} where
       tt,
       refl,
       same,
-      turned_kept n n true true views id p 0 0 l (no_more l) m lg (lg ++ Saw Drained ∷ []) some_part at slot slot (refl, refl, refl, refl) (λ a o z i. i) (drains_turns n l none_left)
+      turned_kept n n true true views id p 0 0 l (no_more l) m lg (lg ++ Saw Drained ∷ []) some_part at slot slot (refl, refl, refl, refl) (λ a o z i. i) (drains_turns (messages n) (places n) (messages n) l none_left)
           (saw_logs W (put_else views id) (took_else views id) slot slot Drained p 0 0 l (no_more l) m lg (λ n f. refl)) (order_saw p 0 0 l (no_more l) m lg Drained slot id views at)
           (sights_drained n p 0 0 l (no_more l) m lg some_part none_left) k,
       (λ j. carries_more j p 0 0 l (no_more l) m lg some_part (Saw Drained) refl refl refl refl refl (inr (omega arith))),
@@ -345,7 +345,7 @@ module _ {T W : Type 0} where
           (sights_stay 2 1 shut (pass p 0 l m lg) (pass p 1 (won_message l) m (lg ++ Out (total (puts_of each) views - 1) x ∷ []))
           (sights_same p 0 1 l (won_message l) m lg (lg ++ Out (total (puts_of each) views - 1) x ∷ []) (moved lg (Out (total (puts_of each) views - 1) x) (λ f. refl))) (λ z. refl)) kn,
       (λ j. carries_more j p 0 1 l (won_message l) m lg some_part (Out (total (puts_of each) views - 1) x) refl refl refl refl refl (inl (omega arith))),
-      inl (is, not_drained views id (pass p 0 l m lg) at some_part shut 1 (omega arith) kn.closings, (x, total (puts_of each) views - 1, goes_next views id (pass p 0 l m lg) at some_part x kn.balance, refl)),
+      inl (is, not_drained views id (pass p 0 l m lg) at some_part shut 1 (omega arith) kn.law.closings, (x, total (puts_of each) views - 1, goes_next views id (pass p 0 l m lg) at some_part x kn.balance, refl)),
     )
 
   module _ (slots id p : ℕ) (l : Lines) (m : Rolls W) (lg : List (Transfer T)) (some_part : 0 < p) where
@@ -396,7 +396,7 @@ module _ {T W : Type 0} where
   module _ (slots id p : ℕ) (l : Lines) (m : Rolls W) (lg : List (Transfer T)) (some_part : 0 < p) where
     -- a call that found the channel closed notes it
     notes : (f : ℕ → ℕ) (then : ℕ → Known T W → Type 0) (i : Lines) (n : ℕ) (slot : home.Option (Option T)) (views : List (View T W)) → get_elem? views id ≡ some (pass p 0 l m lg) → f (n + 4) ≡ n + 4 → SameTickets l i → ((k : Kind) → count_of k i.hands ≡ count_of k l.hands)
-        → ((d : Duty) (s : Side) → Turns d s n n true true l i) → then (n + 4) (pass p 0 i m (lg ++ Saw Seen ∷ []), []) → Kept n true slot views → Outcome f then (pass p 0 l m lg, []) id views (n + 4) slot
+        → ((d : Duty) (s : Side) → Turns d s (at_word n true) (at_word n true) l i) → then (n + 4) (pass p 0 i m (lg ++ Saw Seen ∷ []), []) → Kept n true slot views → Outcome f then (pass p 0 l m lg, []) id views (n + 4) slot
     notes f then i n slot views at same tickets held turns tells k = (
       pass p 0 i m (lg ++ Saw Seen ∷ []),
       keeps,
@@ -431,15 +431,15 @@ module _ {T W : Type 0} where
       tt,
       refl,
       turns,
-      turned_kept n n false true views id p 0 0 l (all_owing l) m lg (lg ++ Saw Shut ∷ []) some_part at slot slot (refl, refl, refl, refl) (λ a o z i. i) (shuts_turns n l)
+      turned_kept n n false true views id p 0 0 l (all_owing l) m lg (lg ++ Saw Shut ∷ []) some_part at slot slot (refl, refl, refl, refl) (λ a o z i. i) (shuts_turns (messages n) (places n) (messages n) l)
           (saw_logs W (put_else views id) (took_else views id) slot slot Shut p 0 0 l (all_owing l) m lg (λ n f. refl)) (order_saw p 0 0 l (all_owing l) m lg Shut slot id views at)
           (sights_shut n p 0 0 l (all_owing l) m lg some_part) k,
       (λ j. carries_more j p 0 0 l (all_owing l) m lg some_part (Saw Shut) (still_held j) refl refl refl refl (inr (omega arith))),
-      inl (is_open, not_seen views id (pass p 0 l m lg) at some_part (messages n) k.closings, refl),
+      inl (is_open, not_seen views id (pass p 0 l m lg) at some_part (messages n) k.law.closings, refl),
     )
 
     shuts_again : (n : ℕ) (slot : home.Option (Option T)) (views : List (View T W)) → get_elem? views id ≡ some (pass p 0 l m lg) → shut_bit (n + 4) ≡ n + 4 → clear (n + 4) 4 ≡ false → Kept n true slot views → Outcome shut_bit HasShut (pass p 0 l m lg, []) id views (n + 4) slot
-    shuts_again n slot views at same is_closed k = notes shut_bit HasShut (settled l) n slot views at same (refl, refl, refl, refl) still_held (settles n l) (inr (is_closed, refl)) k
+    shuts_again n slot views at same is_closed k = notes shut_bit HasShut (settled l) n slot views at same (refl, refl, refl, refl) still_held (settles (at_word n true) l) (inr (is_closed, refl)) k
 
     shuts_at : (base : ℕ) (shut : Bool) (slot : home.Option (Option T)) (views : List (View T W)) → Kept base shut slot views → get_elem? views id ≡ some (pass p 0 l m lg) → IsSlot base slot (total locks_of views) (total owns_of views) → Outcome shut_bit HasShut (pass p 0 l m lg, []) id views (word_of base shut) slot
     shuts_at base false slot views k at (empty e d c) = as_is shut_bit HasShut (pass p 0 l m lg, []) id views base 0 false slot slot e refl (λ kn. shuts_first 0 slot views at refl refl kn) k
@@ -467,15 +467,15 @@ module _ {T W : Type 0} where
       tt,
       refl,
       refl,
-      turned_kept n n false false views id p 0 0 l (still_open l) m lg lg some_part at slot slot (refl, refl, refl, refl) (λ a o z i. i) (open_turns n l)
+      turned_kept n n false false views id p 0 0 l (still_open l) m lg lg some_part at slot slot (refl, refl, refl, refl) (λ a o z i. i) (open_turns (messages n) (places n) (messages n) l)
           (logs_stay p 0 0 l (still_open l) m lg slot slot id views (λ n f. refl)) (order_same p 0 0 l (still_open l) m lg slot slot id views at (λ x e. e))
           (sights_stay n n false (pass p 0 l m lg) (pass p 0 (still_open l) m lg) (λ f. refl) (λ z. z.1)) k,
       (λ j. carries_same j p 0 0 l (still_open l) m lg refl),
-      inl (is_open, not_seen views id (pass p 0 l m lg) at some_part (messages n) k.closings, refl),
+      inl (is_open, not_seen views id (pass p 0 l m lg) at some_part (messages n) k.law.closings, refl),
     )
 
     sees_closed : (n : ℕ) (slot : home.Option (Option T)) (views : List (View T W)) → get_elem? views id ≡ some (pass p 0 l m lg) → same_word (n + 4) ≡ n + 4 → clear (n + 4) 4 ≡ false → Kept n true slot views → Outcome same_word HasLooked (pass p 0 l m lg, []) id views (n + 4) slot
-    sees_closed n slot views at same is_closed k = notes same_word HasLooked (found_closed l) n slot views at same (refl, refl, refl, refl) (λ j. refl) (closed_turns n l) (inr (is_closed, refl)) k
+    sees_closed n slot views at same is_closed k = notes same_word HasLooked (found_closed l) n slot views at same (refl, refl, refl, refl) (λ j. refl) (closed_turns (messages n) (places n) (messages n) l) (inr (is_closed, refl)) k
 
     sees_at : (base : ℕ) (shut : Bool) (slot : home.Option (Option T)) (views : List (View T W)) → Kept base shut slot views → get_elem? views id ≡ some (pass p 0 l m lg) → IsSlot base slot (total locks_of views) (total owns_of views) → Outcome same_word HasLooked (pass p 0 l m lg, []) id views (word_of base shut) slot
     sees_at base false slot views k at (empty e d c) = as_is same_word HasLooked (pass p 0 l m lg, []) id views base 0 false slot slot e refl (λ kn. sees_open 0 slot views at refl kn) k
@@ -589,22 +589,22 @@ module _ {T W : Type 0} where
     keeps_lists s (inl same) = subst (λ (x : Side). here_of x (changed side v m ms) ≡ here_of x v) (sym same) ((λ k. (roll_with W side (listing ms) v.rolls k).here) ∙ sym here)
     keeps_lists s (inr other) = λ k. (other.1 (listing ms) v.rolls k).here
 
-    goes_fair : (w : ℕ) (shut : Bool) (d : Duty) → Goes d side w w shut shut v (changed side v m ms)
+    goes_fair : (w : ℕ) (shut : Bool) (d : Duty) → Goes d side (at_word w shut) (at_word w shut) v (changed side v m ms)
     goes_fair w shut to_one key b g h single owed =
-        lasts_by to_one (wanted to_one side w shut) v.parts b g h key m (of side (with_line side m v.calls)) (listing ms) (roll side (with_roll side (listing ms) v.rolls)) (of_with side m v.calls) (roll_with W side (listing ms) v.rolls)
-        (fair_lasts to_one (wanted to_one side w shut) v.parts b g h key (of side v.calls) m (roll side v.rolls) ms some_part here fair single owed)
+        lasts_by to_one (wanted to_one side (at_word w shut)) v.parts b g h key m (of side (with_line side m v.calls)) (listing ms) (roll side (with_roll side (listing ms) v.rolls)) (of_with side m v.calls) (roll_with W side (listing ms) v.rolls)
+        (fair_lasts to_one (wanted to_one side (at_word w shut)) v.parts b g h key (of side v.calls) m (roll side v.rolls) ms some_part here fair single owed)
     goes_fair w shut to_all key b g h single owed =
-        lasts_by to_all (wanted to_all side w shut) v.parts b g h key m (of side (with_line side m v.calls)) (listing ms) (roll side (with_roll side (listing ms) v.rolls)) (of_with side m v.calls) (roll_with W side (listing ms) v.rolls)
-        (fair_lasts to_all (wanted to_all side w shut) v.parts b g h key (of side v.calls) m (roll side v.rolls) ms some_part here fair single owed)
+        lasts_by to_all (wanted to_all side (at_word w shut)) v.parts b g h key m (of side (with_line side m v.calls)) (listing ms) (roll side (with_roll side (listing ms) v.rolls)) (of_with side m v.calls) (roll_with W side (listing ms) v.rolls)
+        (fair_lasts to_all (wanted to_all side (at_word w shut)) v.parts b g h key (of side v.calls) m (roll side v.rolls) ms some_part here fair single owed)
 
-    goes_beside : (w : ℕ) (shut : Bool) (s : Side) → Untouched W side s → (d : Duty) → Goes d s w w shut shut v (changed side v m ms)
+    goes_beside : (w : ℕ) (shut : Bool) (s : Side) → Untouched W side s → (d : Duty) → Goes d s (at_word w shut) (at_word w shut) v (changed side v m ms)
     goes_beside w shut s other to_one key b g h single owed =
-        lasts_by to_one (wanted to_one s w shut) v.parts b g h key (of s v.calls) (of s (with_line side m v.calls)) (roll s v.rolls) (roll s (with_roll side (listing ms) v.rolls)) (other.0 m v.calls) (other.1 (listing ms) v.rolls) owed
+        lasts_by to_one (wanted to_one s (at_word w shut)) v.parts b g h key (of s v.calls) (of s (with_line side m v.calls)) (roll s v.rolls) (roll s (with_roll side (listing ms) v.rolls)) (other.0 m v.calls) (other.1 (listing ms) v.rolls) owed
     goes_beside w shut s other to_all key b g h single owed =
-        lasts_by to_all (wanted to_all s w shut) v.parts b g h key (of s v.calls) (of s (with_line side m v.calls)) (roll s v.rolls) (roll s (with_roll side (listing ms) v.rolls)) (other.0 m v.calls) (other.1 (listing ms) v.rolls) owed
+        lasts_by to_all (wanted to_all s (at_word w shut)) v.parts b g h key (of s v.calls) (of s (with_line side m v.calls)) (roll s v.rolls) (roll s (with_roll side (listing ms) v.rolls)) (other.0 m v.calls) (other.1 (listing ms) v.rolls) owed
 
-    goes_either : (w : ℕ) (shut : Bool) (d : Duty) (s : Side) → Either s → Goes d s w w shut shut v (changed side v m ms)
-    goes_either w shut d s (inl same) = subst (λ (x : Side). Goes d x w w shut shut v (changed side v m ms)) (sym same) (goes_fair w shut d)
+    goes_either : (w : ℕ) (shut : Bool) (d : Duty) (s : Side) → Either s → Goes d s (at_word w shut) (at_word w shut) v (changed side v m ms)
+    goes_either w shut d s (inl same) = subst (λ (x : Side). Goes d x (at_word w shut) (at_word w shut) v (changed side v m ms)) (sym same) (goes_fair w shut d)
     goes_either w shut d s (inr other) = goes_beside w shut s other d
 
     tickets_fair : Tickets side v (changed side v m ms)

@@ -13,7 +13,7 @@ use Rattle.channel_wakeups.specs.declared.rule.Roll.{Roll}
 use Rattle.channel_wakeups.specs.declared.rule.Rolls.{Rolls}
 use Rattle.channel_wakeups.specs.declared.rule.View.{View}
 use Rattle.channel_wakeups.specs.Lists.{total, told, waits, listed}
-use Rattle.channel_wakeups.specs.Views.{all_words, Side, of_receives, of_sends, of_streams, of_closings, Duty, to_one, to_all, of, roll, idle, idle_lines, no_roll, no_rolls, with_roll, calling, ticketed, nobody, pass, everything, entered, stays, comes_out, without, alone, absorbed, kept_half, given_half, one_ticket, ticket_is, no_ticket, ticket_of, with_ticket, only, is_key, parts_of, here_of, answered_of, holds_of, sights_of, locks_of, owns_of, waits_of, listed_of, tickets_of, puts_of, takes_of, word_of, messages, has_message, is_shut, due, wanted, Owed, IsSlot, empty, full, out, AllAgree, Ordered, Kept, Counted, handed, count_of, handles_of, closes_of, Woken, Known, HasAll, learns}
+use Rattle.channel_wakeups.specs.Views.{Picture, at_word, Law, one_slot, Side, of_receives, of_sends, of_streams, of_closings, Duty, to_one, to_all, of, roll, idle, idle_lines, no_roll, no_rolls, with_roll, calling, ticketed, nobody, pass, everything, entered, stays, comes_out, without, alone, absorbed, kept_half, given_half, one_ticket, ticket_is, no_ticket, ticket_of, with_ticket, only, is_key, parts_of, here_of, answered_of, holds_of, sights_of, locks_of, owns_of, waits_of, listed_of, tickets_of, puts_of, takes_of, word_of, messages, has_message, is_shut, due, wanted, Owed, IsSlot, empty, full, out, AllAgree, Ordered, Kept, Counted, handed, count_of, handles_of, closes_of, Woken, Known, HasAll, learns}
 use Rattle.channel_wakeups.proofs.Sides.{of_with, roll_with, idle_ticket, none_there, which, Untouched}
 use Rattle.channel_wakeups.proofs.Sums.{at_nobody, balanced_by, closings_by, only_none, only_some, only_zero, owed_by, slot_by, none_here, none_both, none_waits, none_listed, none_tickets, none_answered, others, was, total_set, total_snoc, by_itself}
 use Rattle.channel_wakeups.specs.Counts.{one_hand, fewer_hands, lone_handle, coupled, uncoupled}
@@ -25,6 +25,7 @@ use Rattle.channel_wakeups.proofs.Laws.{of_handed}
 use Rattle.channel_wakeups.proofs.History.{agrees_append, agrees_at, agrees_beside, agrees_set, agrees_snoc}
 use Rattle.channel_wakeups.proofs.Laws.{no_empty}
 use Rattle.channel_wakeups.proofs.Moves.{by_all, unchanged}
+use Rattle.channel_wakeups.proofs.Words.{Beside, shown_so}
 use Rattle.channel_wakeups.specs.declared.rule.Transfer.{Transfer}
 
 -- all that is counted of a side
@@ -89,35 +90,46 @@ nothing T W (seeing f) = refl
 nothing T W (on s x) = nowhere W s x 0
 
 module _ {T W : Type 0} where
-  -- the rule speaks of these sums alone
-  same : (w : ℕ) (c : Bool) (s : home.Option (Option T)) (vs ws : List (View T W)) → ((k : Sum T) → total (sum_of k) ws ≡ total (sum_of k) vs) → ((h : List T) → AllAgree h vs → AllAgree h ws) → Kept w c s vs → Kept w c s ws
-  same w c s vs ws each agree k =
+  -- the law speaks of these sums alone
+  same_law : (p : Picture) (vs ws : List (View T W)) → ((k : Sum T) → total (sum_of k) ws ≡ total (sum_of k) vs) → Law p vs → Law p ws
+  same_law p vs ws each k =
       record {
         whole = each parts ∙ k.whole;
         one = λ side. each (on side lists) ∙ k.one side;
-        place = slot_by w s _ _ _ _ (sym (each locks)) (sym (each owns)) k.place;
         owed = λ d side key some_waiting.
             let x : total (waits_of side key) ws ≡ total (waits_of side key) vs = each (on side (waiting key)) in
             let h : total (holds_of side key) vs ≡ total (holds_of side key) ws = sym (each (on side (holding key))) in
-            owed_by (wanted d side w c) (total (answered_of d side) vs) (total (holds_of side key) vs) (total (answered_of d side) ws) (total (holds_of side key) ws) (as_many d side) h (k.owed d side key (omega arith));
+            owed_by (wanted d side p) (total (answered_of d side) vs) (total (holds_of side key) vs) (total (answered_of d side) ws) (total (holds_of side key) ws) (as_many d side) h (k.owed d side key (omega arith));
         tickets = λ side key.
             let x : total (tickets_of side key) ws ≡ total (tickets_of side key) vs = each (on side (tickets key)) in
             let y : total (listed_of side key) ws ≡ total (listed_of side key) vs = each (on side (in_list key)) in
             let was_so = k.tickets side key in
             omega arith;
-        balance = balanced_by s _ _ _ _ (λ f. sym (each (putting f))) (λ f. sym (each (taking f))) k.balance;
-        order = of_history k.order;
-        closings = closings_by c (messages w) _ _ (λ f. sym (each (seeing f))) k.closings;
+        closings = closings_by p.shut p.near _ _ (λ f. sym (each (seeing f))) k.closings;
       }
     where
       as_many : (d : Duty) (side : Side) → total (answered_of d side) vs ≡ total (answered_of d side) ws
       as_many to_one side = sym (each (on side (answering to_one)))
       as_many to_all side = sym (each (on side (answering to_all)))
 
+  -- so does what holds besides of one slot, but for the history
+  same : (w : ℕ) (c : Bool) (s : home.Option (Option T)) (vs ws : List (View T W)) → ((k : Sum T) → total (sum_of k) ws ≡ total (sum_of k) vs) → ((h : List T) → AllAgree h vs → AllAgree h ws) → Kept w c s vs → Kept w c s ws
+  same w c s vs ws each agree k =
+      record {
+        law = same_law (at_word w c) vs ws each k.law;
+        place = slot_by w s _ _ _ _ (sym (each locks)) (sym (each owns)) k.place;
+        balance = balanced_by s _ _ _ _ (λ f. sym (each (putting f))) (λ f. sym (each (taking f))) k.balance;
+        order = of_history k.order;
+      }
+    where
       of_history : Ordered s vs → Ordered s ws
       of_history (h, (counted, last), agrees) =
           let n = sym (each (putting Rattle.channel_wakeups.specs.Log.each)) in
           (h, (counted ∙ n, λ x e. subst (λ (m : ℕ). get_elem? h (m - 1) ≡ some x) n (last x e)), agree h agrees)
+
+  -- so the seats may stand so instead
+  same_beside : (vs ws : List (View T W)) → ((k : Sum T) → total (sum_of k) ws ≡ total (sum_of k) vs) → ((h : List T) → AllAgree h vs → AllAgree h ws) → Beside vs ws
+  same_beside vs ws each agree = record { one = λ base shut slot kept. same base shut slot vs ws each agree kept }
 
   -- and so do the counts
   same_counts : (n : ℕ) (k : Kind) (vs ws : List (View T W)) → ((s : Sum T) → total (sum_of s) ws ≡ total (sum_of s) vs) → Counted n k vs → Counted n k ws
@@ -140,40 +152,32 @@ module _ {T W : Type 0} where
         ends = λ none. ⊎_elim (λ (x : 0 < total (sights_of each_sight) vs). inl (omega arith)) (λ (x : 0 < total closes_of vs). inr (omega arith)) (c.ends none);
       }
 
+  -- the whole rule
+  same_rule : (words : List ℕ) (homes : List (home.Option (Option T))) (vs ws : List (View T W)) → ((k : Sum T) → total (sum_of k) ws ≡ total (sum_of k) vs) → ((h : List T) → AllAgree h vs → AllAgree h ws)
+      → Woken (record { words = words; homes = homes; views = vs }) → Woken (record { words = words; homes = homes; views = ws })
+  same_rule words homes vs ws each agree h =
+      record {
+        senders = h.senders;
+        receivers = h.receivers;
+        counts = h.counts;
+        shown = shown_so words homes vs ws (same_beside vs ws each agree) h.shown;
+        of_senders = same_counts h.senders OfSenders vs ws each h.of_senders;
+        of_receivers = same_counts h.receivers OfReceivers vs ws each h.of_receivers;
+      }
+
   joins : (id : ℕ) (v : View T W) (other : ℕ) (w both : View T W) → ((k : Sum T) → sum_of k both ≡ sum_of k v + sum_of k w) → ((h : List T) → Agrees h v.log → Agrees h w.log → Agrees h both.log) → Joins {S = Option T} Woken id v other w both nobody
   joins id v other w both adds merges s h at apart there =
       let e : (k : Sum T) → total (sum_of k) (set (set s.views id both) other nobody) ≡ total (sum_of k) s.views = (λ k.
       let z = nothing T W k in
       let a = adds k in
-      omega (arith, total_set (sum_of k) s.views id v both at, total_set (sum_of k) (set s.views id both) other w nobody there)) in (
-        h.0,
-        h.1,
-        h.2,
-        h.3,
-        h.4,
-        h.5,
-        h.6,
-        same h.0 h.1 h.2 s.views (set (set s.views id both) other nobody) e
-            (λ g a. agrees_set g (set s.views id both) other nobody tt (agrees_set g s.views id both (merges g (agrees_at g s.views id v at a) (agrees_beside g s.views id other both w apart there a)) a))
-            h.7,
-        same_counts h.3 OfSenders s.views (set (set s.views id both) other nobody) e h.8,
-        same_counts h.4 OfReceivers s.views (set (set s.views id both) other nobody) e h.9,
-      )
+      omega (arith, total_set (sum_of k) s.views id v both at, total_set (sum_of k) (set s.views id both) other w nobody there)) in
+      same_rule s.words s.homes s.views (set (set s.views id both) other nobody) e
+      (λ g a. agrees_set g (set s.views id both) other nobody tt (agrees_set g s.views id both (merges g (agrees_at g s.views id v at a) (agrees_beside g s.views id other both w apart there a)) a)) h
 
   splits : (id : ℕ) (v l r : View T W) → ((k : Sum T) → sum_of k l + sum_of k r ≡ sum_of k v) → ((h : List T) → Agrees h v.log → Agrees h l.log × Agrees h r.log) → Splits {S = Option T} Woken id v l r
   splits id v l r adds parts_of_log s h at =
-      let e : (k : Sum T) → total (sum_of k) (set s.views id l ++ r ∷ []) ≡ total (sum_of k) s.views = (λ k. let a = adds k in omega (arith, total_set (sum_of k) s.views id v l at, total_snoc (sum_of k) (set s.views id l) r)) in (
-        h.0,
-        h.1,
-        h.2,
-        h.3,
-        h.4,
-        h.5,
-        h.6,
-        same h.0 h.1 h.2 s.views (set s.views id l ++ r ∷ []) e (λ g a. let b = parts_of_log g (agrees_at g s.views id v at a) in agrees_snoc g (set s.views id l) r b.1 (agrees_set g s.views id l b.0 a)) h.7,
-        same_counts h.3 OfSenders s.views (set s.views id l ++ r ∷ []) e h.8,
-        same_counts h.4 OfReceivers s.views (set s.views id l ++ r ∷ []) e h.9,
-      )
+      let e : (k : Sum T) → total (sum_of k) (set s.views id l ++ r ∷ []) ≡ total (sum_of k) s.views = (λ k. let a = adds k in omega (arith, total_set (sum_of k) s.views id v l at, total_snoc (sum_of k) (set s.views id l) r)) in
+      same_rule s.words s.homes s.views (set s.views id l ++ r ∷ []) e (λ g a. let b = parts_of_log g (agrees_at g s.views id v at a) in agrees_snoc g (set s.views id l) r b.1 (agrees_set g s.views id l b.0 a)) h
 
 -- ---- a pass goes into a list's seat, and comes out of it
 
@@ -444,30 +448,28 @@ module _ {T W : Type 0} where
           let a = line_by x v.parts (of s (coupled v (lone_handle {T = T} {W = W} k)).calls) (of s v.calls) (roll s v.rolls) (roll s v.rolls) (of_handed (coupled v (lone_handle {T = T} {W = W} k)).calls.hands v.calls s) refl in
           omega arith
 
+-- the words at the start: that of the queue, and a handle of each kind
+abbrev spare : List ℕ
+spare = 0 ∷ 0 ∷ 0 ∷ 0 ∷ 0 ∷ 0 ∷ 0 ∷ 0 ∷ 0 ∷ 0 ∷ 0 ∷ 0 ∷ 0 ∷ 0 ∷ 0 ∷ []
+
 module _ {T W : Type 0} where
   -- a new seat that has nothing
   pub blank : (slots : ℕ) → Enters {S = Option T} {V = View T W} Woken slots 0 (λ n w. w ≡ nobody)
   blank slots s h wide small =
-      let e : (k : Sum T) → total (sum_of k) (s.views ++ nobody ∷ []) ≡ total (sum_of k) s.views = (λ k. let z = nothing T W k in omega (arith, total_snoc (sum_of k) s.views nobody)) in (
-        nobody,
-        (
-          h.0,
-          h.1,
-          h.2,
-          h.3,
-          h.4,
-          h.5,
-          h.6,
-          same h.0 h.1 h.2 s.views (s.views ++ nobody ∷ []) e (λ g a. agrees_snoc g s.views nobody tt a) h.7,
-          same_counts h.3 OfSenders s.views (s.views ++ nobody ∷ []) e h.8,
-          same_counts h.4 OfReceivers s.views (s.views ++ nobody ∷ []) e h.9,
-        ),
-        refl,
-      )
+      let e : (k : Sum T) → total (sum_of k) (s.views ++ nobody ∷ []) ≡ total (sum_of k) s.views = (λ k. let z = nothing T W k in omega (arith, total_snoc (sum_of k) s.views nobody)) in
+      (nobody, same_rule s.words s.homes s.views (s.views ++ nobody ∷ []) e (λ g a. agrees_snoc g s.views nobody tt a) h, refl)
 
   -- the start: there is no message, and nobody waits
-  pub begins : Woken {T = T} {W = W} (opening (all_words 0 1 1) (None ∷ []) everything)
-  begins = (0, false, some None, 1, 1, refl, refl, record { whole = refl; one = one_list; place = empty refl refl refl; owed = nobody_waits; closings = (refl, (λ more. absurd (omega arith)), λ more. absurd (omega arith)); tickets = no_tickets; balance = ((λ k. ((λ less. absurd (omega arith)), λ more. refl)), λ f. refl); order = ([], (refl, λ x e. absurd (no_empty x e)), (tt, tt)) }, one_each OfSenders refl, one_each OfReceivers refl)
+  pub begins : Woken {T = T} {W = W} (opening (0 ∷ (spare ++ 1 ∷ (spare ++ 1 ∷ []))) (None ∷ []) everything)
+  begins =
+      record {
+        senders = 1;
+        receivers = 1;
+        counts = (omega arith, refl, refl);
+        shown = one_slot 0 false (some None) refl refl (record { law = lawful; place = empty refl refl refl; balance = ((λ k. ((λ less. absurd (omega arith)), λ more. refl)), λ f. refl); order = ([], (refl, λ x e. absurd (no_empty x e)), (tt, tt)) });
+        of_senders = one_each OfSenders refl;
+        of_receivers = one_each OfReceivers refl;
+      }
     where
       one_each : (k : Kind) → total (handles_of k) (everything {T = T} {W = W} ∷ []) ≡ 1 → Counted 1 k (everything {T = T} {W = W} ∷ [])
       one_each k is_one = record { there = is_one; ever = refl; last = refl; gone = λ some_gone. absurd (omega arith); ends = λ none. absurd (omega arith) }
@@ -484,7 +486,7 @@ module _ {T W : Type 0} where
       none_waiting of_streams key = refl
       none_waiting of_closings key = refl
 
-      nobody_waits : (d : Duty) (s : Side) (key : ℕ) → Owed (wanted d s 0 false) (total (waits_of s key) (everything {T = T} {W = W} ∷ [])) (total (answered_of d s) (everything {T = T} {W = W} ∷ [])) (total (holds_of s key) (everything {T = T} {W = W} ∷ []))
+      nobody_waits : (d : Duty) (s : Side) (key : ℕ) → Owed (wanted d s (at_word 0 false)) (total (waits_of s key) (everything {T = T} {W = W} ∷ [])) (total (answered_of d s) (everything {T = T} {W = W} ∷ [])) (total (holds_of s key) (everything {T = T} {W = W} ∷ []))
       nobody_waits d s key some_waiting = let none_there = none_waiting s key in absurd (omega arith)
 
       no_tickets : (s : Side) (key : ℕ) → total (tickets_of s key) (everything {T = T} {W = W} ∷ []) ≤ total (listed_of s key) (everything {T = T} {W = W} ∷ [])
@@ -493,56 +495,16 @@ module _ {T W : Type 0} where
       no_tickets of_streams key = omega arith
       no_tickets of_closings key = omega arith
 
+      lawful : Law (at_word 0 false) (everything {T = T} {W = W} ∷ [])
+      lawful = record { whole = refl; one = one_list; owed = nobody_waits; tickets = no_tickets; closings = (refl, (λ more. absurd (omega arith)), λ more. absurd (omega arith)) }
+
   -- ---- who has every part learns the rule
 
-  module _ (s : Side) (base : ℕ) (shut : Bool) (slot : home.Option (Option T)) (vs : List (View T W)) (id : ℕ) (v : View T W) (k : Kept base shut slot vs) (at : get_elem? vs id ≡ some v) (all : HasAll s v) where
+  module _ (s : Side) (p : Picture) (vs : List (View T W)) (id : ℕ) (v : View T W) (k : Law p vs) (at : get_elem? vs id ≡ some v) (all : HasAll s v) where
     no_others : others parts_of vs id ≡ 0
     no_others = let whole = k.whole in let p = was parts_of refl vs id v at in let mine = all.0 in omega arith
 
-    -- what the slot holds, and that it makes up for what is not taken out
-    whole_log : (held : Option T) × (base ≡ cond (is_some held) 2 0) × Accounts held v.log
-    whole_log = by_place k.place k.balance
-      where
-        all_puts : (f : Weight T) → total (puts_of f) vs ≡ puts f v.log
-        all_puts f =
-            let o = none_here (puts_of f) parts_of (set vs id nobody) (λ x e. only_none x.parts (puts f x.log) e) no_others in
-            let w = was (puts_of f) refl vs id v at in
-            let mine = all.0 in
-            let y = only_some v.parts (puts f v.log) (omega arith) in
-            omega arith
-
-        all_takes : (f : Weight T) → total (takes_of f) vs ≡ takes f v.log
-        all_takes f =
-            let o = none_here (takes_of f) parts_of (set vs id nobody) (λ x e. only_none x.parts (takes f x.log) e) no_others in
-            let w = was (takes_of f) refl vs id v at in
-            let mine = all.0 in
-            let y = only_some v.parts (takes f v.log) (omega arith) in
-            omega arith
-
-        no_locks : total locks_of vs ≡ 0
-        no_locks =
-            let l = none_here locks_of parts_of (set vs id nobody) (λ x e. only_none x.parts (only x.owns 1) e) no_others in
-            let lw = was locks_of refl vs id v at in
-            let mine : locks_of v ≡ 0 = ap (λ (n : ℕ). only v.parts (only n 1)) all.4 ∙ only_zero v.parts in
-            omega arith
-
-        of_order : (held : Option T) → slot ≡ some held → Ordered slot vs → (history : List T) × IsHistory (some held) (puts each v.log) history × Agrees history v.log
-        of_order held e (h, (counted, last), agree) =
-            let n = all_puts each in
-            (h, (counted ∙ n, λ x d. subst (λ (m : ℕ). get_elem? h (m - 1) ≡ some x) n (last x (e ∙ d))), agrees_at h vs id v at agree)
-
-        balances : (held : Option T) → slot ≡ some held → Balanced slot (λ f. total (puts_of f) vs) (λ f. total (takes_of f) vs) → Balanced (some held) (λ f. puts f v.log) (λ f. takes f v.log)
-        balances held e b = balanced_by (some held) _ _ _ _ all_puts all_takes (subst (λ (s : home.Option (Option T)). Balanced s (λ f. total (puts_of f) vs) (λ f. total (takes_of f) vs)) e b)
-
-        of_slot : (held : Option T) → slot ≡ some held → Balanced slot (λ f. total (puts_of f) vs) (λ f. total (takes_of f) vs) → Accounts held v.log
-        of_slot held e b = (balances held e b, of_order held e k.order)
-
-        by_place : IsSlot base slot (total locks_of vs) (total owns_of vs) → Balanced slot (λ f. total (puts_of f) vs) (λ f. total (takes_of f) vs) → (held : Option T) × (base ≡ cond (is_some held) 2 0) × Accounts held v.log
-        by_place (empty e d c) b = (None, e, of_slot None d b)
-        by_place (full x e d c) b = (Some x, e, of_slot (Some x) d b)
-        by_place (out d c e w) b = let none_out = no_locks in absurd (omega arith)
-
-    whole_law : (key : ℕ) → 0 < waits key (roll s v.rolls).listeners → (wanted to_one s base shut ≤ told (roll s v.rolls).listeners) × (wanted to_all s base shut ≡ 0)
+    whole_law : (key : ℕ) → 0 < waits key (roll s v.rolls).listeners → (wanted to_one s p ≤ told (roll s v.rolls).listeners) × (wanted to_all s p ≡ 0)
     whole_law key some_waiting =
         let lists = all.1 in
         let mine = all.0 in
@@ -564,8 +526,8 @@ module _ {T W : Type 0} where
         let ts = was (answered_of to_one s) (none_answered T W to_one s) vs id v at in
         let cs = was (answered_of to_all s) (none_answered T W to_all s) vs id v at in
         let hs = was (holds_of s key) refl vs id v at in (
-          ⊎_elim (λ (c : wanted to_one s base shut ≤ total (answered_of to_one s) vs). omega arith) (λ (c : 0 < total (holds_of s key) vs). absurd (omega arith)) (k.owed to_one s key (omega arith)),
-          ⊎_elim (λ (c : wanted to_all s base shut ≤ total (answered_of to_all s) vs). omega arith) (λ (c : 0 < total (holds_of s key) vs). absurd (omega arith)) (k.owed to_all s key (omega arith)),
+          ⊎_elim (λ (c : wanted to_one s p ≤ total (answered_of to_one s) vs). omega arith) (λ (c : 0 < total (holds_of s key) vs). absurd (omega arith)) (k.owed to_one s key (omega arith)),
+          ⊎_elim (λ (c : wanted to_all s p ≤ total (answered_of to_all s) vs). omega arith) (λ (c : 0 < total (holds_of s key) vs). absurd (omega arith)) (k.owed to_all s key (omega arith)),
         )
 
     -- what all saw is what this one did
@@ -578,7 +540,7 @@ module _ {T W : Type 0} where
         omega arith
 
     -- how many handles of a kind are left, and that the channel is closed where none is
-    whole_tally : (n : ℕ) (j : Kind) → Counted n j vs → Leaves shut j n v.log
+    whole_tally : (n : ℕ) (j : Kind) → Counted n j vs → Leaves p.shut j n v.log
     whole_tally n j c =
         let ever = c.ever in
         let last_so = c.last in
@@ -596,8 +558,8 @@ module _ {T W : Type 0} where
         )
 
     -- what is known of the closing
-    whole_closings : Closings shut (messages base) (λ f. sights f v.log)
-    whole_closings = closings_by shut (messages base) (λ f. total (sights_of f) vs) (λ f. sights f v.log) whole_sights k.closings
+    whole_closings : Closings p.shut p.near (λ f. sights f v.log)
+    whole_closings = closings_by p.shut p.near (λ f. total (sights_of f) vs) (λ f. sights f v.log) whole_sights k.closings
 
     whole_ticket : (key : ℕ) → is_key key (of s v.calls).ticket ≤ listed key (roll s v.rolls).listeners
     whole_ticket key =
@@ -609,6 +571,51 @@ module _ {T W : Type 0} where
         let ts = was (tickets_of s key) (none_tickets T W s key) vs id v at in
         let kept = k.tickets s key in
         omega arith
+
+  -- of one slot
+  module _ (s : Side) (base : ℕ) (shut : Bool) (slot : home.Option (Option T)) (vs : List (View T W)) (id : ℕ) (v : View T W) (k : Kept base shut slot vs) (at : get_elem? vs id ≡ some v) (all : HasAll s v) where
+    -- what the slot holds, and that it makes up for what is not taken out
+    whole_log : (held : Option T) × (base ≡ cond (is_some held) 2 0) × Accounts held v.log
+    whole_log = by_place k.place k.balance
+      where
+        all_puts : (f : Weight T) → total (puts_of f) vs ≡ puts f v.log
+        all_puts f =
+            let o = none_here (puts_of f) parts_of (set vs id nobody) (λ x e. only_none x.parts (puts f x.log) e) (no_others s (at_word base shut) vs id v k.law at all) in
+            let w = was (puts_of f) refl vs id v at in
+            let mine = all.0 in
+            let y = only_some v.parts (puts f v.log) (omega arith) in
+            omega arith
+
+        all_takes : (f : Weight T) → total (takes_of f) vs ≡ takes f v.log
+        all_takes f =
+            let o = none_here (takes_of f) parts_of (set vs id nobody) (λ x e. only_none x.parts (takes f x.log) e) (no_others s (at_word base shut) vs id v k.law at all) in
+            let w = was (takes_of f) refl vs id v at in
+            let mine = all.0 in
+            let y = only_some v.parts (takes f v.log) (omega arith) in
+            omega arith
+
+        no_locks : total locks_of vs ≡ 0
+        no_locks =
+            let l = none_here locks_of parts_of (set vs id nobody) (λ x e. only_none x.parts (only x.owns 1) e) (no_others s (at_word base shut) vs id v k.law at all) in
+            let lw = was locks_of refl vs id v at in
+            let mine : locks_of v ≡ 0 = ap (λ (n : ℕ). only v.parts (only n 1)) all.4 ∙ only_zero v.parts in
+            omega arith
+
+        of_order : (held : Option T) → slot ≡ some held → Ordered slot vs → (history : List T) × IsHistory (some held) (puts each v.log) history × Agrees history v.log
+        of_order held e (h, (counted, last), agree) =
+            let n = all_puts each in
+            (h, (counted ∙ n, λ x d. subst (λ (m : ℕ). get_elem? h (m - 1) ≡ some x) n (last x (e ∙ d))), agrees_at h vs id v at agree)
+
+        balances : (held : Option T) → slot ≡ some held → Balanced slot (λ f. total (puts_of f) vs) (λ f. total (takes_of f) vs) → Balanced (some held) (λ f. puts f v.log) (λ f. takes f v.log)
+        balances held e b = balanced_by (some held) _ _ _ _ all_puts all_takes (subst (λ (s : home.Option (Option T)). Balanced s (λ f. total (puts_of f) vs) (λ f. total (takes_of f) vs)) e b)
+
+        of_slot : (held : Option T) → slot ≡ some held → Balanced slot (λ f. total (puts_of f) vs) (λ f. total (takes_of f) vs) → Accounts held v.log
+        of_slot held e b = (balances held e b, of_order held e k.order)
+
+        by_place : IsSlot base slot (total locks_of vs) (total owns_of vs) → Balanced slot (λ f. total (puts_of f) vs) (λ f. total (takes_of f) vs) → (held : Option T) × (base ≡ cond (is_some held) 2 0) × Accounts held v.log
+        by_place (empty e d c) b = (None, e, of_slot None d b)
+        by_place (full x e d c) b = (Some x, e, of_slot (Some x) d b)
+        by_place (out d c e w) b = let none_out = no_locks in absurd (omega arith)
 
   -- at rest the word is that of a slot at home
   abbrev Rests : Side → View T W → ℕ → Type 0
@@ -628,7 +635,7 @@ counts true = refl
 counts false = refl
 
 -- what is owed while nobody is under way
-due_by : (s : Side) (message shut : Bool) (t : ℕ) → wanted to_one s (cond message 2 0) shut ≤ t → wanted to_all s (cond message 2 0) shut ≡ 0 → due s message shut ≤ t
+due_by : (s : Side) (message shut : Bool) (t : ℕ) → wanted to_one s (at_word (cond message 2 0) shut) ≤ t → wanted to_all s (at_word (cond message 2 0) shut) ≡ 0 → due s message shut ≤ t
 due_by of_receives true false t one all = omega arith
 due_by of_receives false false t one all = omega arith
 due_by of_receives message true t one all = absurd (omega arith)
@@ -643,7 +650,7 @@ due_by of_closings message true t one all = absurd (omega arith)
 
 module _ {T W : Type 0} where
   -- what is known of the state says the same of the word
-  rests : (s : Side) (base : ℕ) (shut : Bool) (v : View T W) (held : Option T) → base ≡ cond (is_some held) 2 0 → ((key : ℕ) → 0 < waits key (roll s v.rolls).listeners → (wanted to_one s base shut ≤ told (roll s v.rolls).listeners) × (wanted to_all s base shut ≡ 0))
+  rests : (s : Side) (base : ℕ) (shut : Bool) (v : View T W) (held : Option T) → base ≡ cond (is_some held) 2 0 → ((key : ℕ) → 0 < waits key (roll s v.rolls).listeners → (wanted to_one s (at_word base shut) ≤ told (roll s v.rolls).listeners) × (wanted to_all s (at_word base shut) ≡ 0))
       → ((key : ℕ) → is_key key (of s v.calls).ticket ≤ listed key (roll s v.rolls).listeners) → Accounts held v.log → Closings shut (messages base) (λ f. sights f v.log)
       → Tallied shut v.log → Rests s v (word_of base shut)
   rests s base shut v held is law tied accounts closings tally =
@@ -651,7 +658,7 @@ module _ {T W : Type 0} where
       subst (λ (n : ℕ). Rests s v (word_of n shut)) (sym is) (
         (λ key some_waiting. subst (λ (b : Bool). due s b (is_shut (word_of (cond (is_some held) 2 0) shut)) ≤ told (roll s v.rolls).listeners) (sym m.0)
             (subst (λ (b : Bool). due s (is_some held) b ≤ told (roll s v.rolls).listeners) (sym m.1)
-            (let l = subst (λ (n : ℕ). (wanted to_one s n shut ≤ told (roll s v.rolls).listeners) × (wanted to_all s n shut ≡ 0)) is (law key some_waiting) in due_by s (is_some held) shut (told (roll s v.rolls).listeners) l.0 l.1))),
+            (let l = subst (λ (n : ℕ). (wanted to_one s (at_word n shut) ≤ told (roll s v.rolls).listeners) × (wanted to_all s (at_word n shut) ≡ 0)) is (law key some_waiting) in due_by s (is_some held) shut (told (roll s v.rolls).listeners) l.0 l.1))),
         tied,
         (held, sym m.0, accounts),
         subst (λ (b : Bool). Closings b (cond (has_message (word_of (cond (is_some held) 2 0) shut)) 1 0) (λ f. sights f v.log)) (sym m.1)
@@ -664,11 +671,11 @@ module _ {T W : Type 0} where
   learned : (s : Side) (base : ℕ) (shut : Bool) (slot : home.Option (Option T)) (views : List (View T W)) (id : ℕ) (v : View T W) → Kept base shut slot views → (senders receivers : ℕ) → Counted senders OfSenders views → Counted receivers OfReceivers views → get_elem? views id ≡ some v → HasAll s v → Rests s v (word_of base shut)
   learned s base shut slot views id v k senders receivers cs cr at all =
       let log = whole_log s base shut slot views id v k at all in
-      rests s base shut v log.0 log.1 (whole_law s base shut slot views id v k at all) (whole_ticket s base shut slot views id v k at all) log.2 (whole_closings s base shut slot views id v k at all) tallied
+      rests s base shut v log.0 log.1 (whole_law s (at_word base shut) views id v k.law at all) (whole_ticket s (at_word base shut) views id v k.law at all) log.2 (whole_closings s (at_word base shut) views id v k.law at all) tallied
     where
       left_of : (j : Kind) → (n : ℕ) × Leaves shut j n v.log
-      left_of OfSenders = (senders, whole_tally s base shut slot views id v k at all senders OfSenders cs)
-      left_of OfReceivers = (receivers, whole_tally s base shut slot views id v k at all receivers OfReceivers cr)
+      left_of OfSenders = (senders, whole_tally s (at_word base shut) views id v k.law at all senders OfSenders cs)
+      left_of OfReceivers = (receivers, whole_tally s (at_word base shut) views id v k.law at all receivers OfReceivers cr)
 
       tallied : Tallied shut v.log
       tallied = record { left = left_of }

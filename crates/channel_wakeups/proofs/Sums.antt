@@ -9,7 +9,7 @@ use Rattle.channel_wakeups.specs.declared.rule.View.{View}
 use Rattle.channel_wakeups.specs.Lists.{total, told, waits, listed}
 use Rattle.channel_wakeups.specs.Log.{Weight, Balanced, each, numbered, held, each_sight, of_closer, of_drained, Closings}
 use Rattle.channel_wakeups.specs.declared.rule.Sight.{Sight}
-use Rattle.channel_wakeups.specs.Views.{Side, of_receives, of_sends, of_streams, of_closings, Duty, to_one, to_all, of, roll, idle, no_roll, idle_lines, no_rolls, nobody, only, is_key, parts_of, here_of, answered_of, holds_of, locks_of, owns_of, waits_of, listed_of, tickets_of, puts_of, takes_of, sights_of, messages, wanted, Owed, IsSlot, empty, full, out, Ordered, Kept}
+use Rattle.channel_wakeups.specs.Views.{Side, of_receives, of_sends, of_streams, of_closings, Duty, to_one, to_all, of, roll, idle, no_roll, idle_lines, no_rolls, nobody, only, is_key, parts_of, here_of, answered_of, holds_of, locks_of, owns_of, waits_of, listed_of, tickets_of, puts_of, takes_of, sights_of, wanted, Picture, at_word, Owed, IsSlot, empty, full, out, Ordered, Law, Kept}
 
 pub total_set : {V : Type 0} (f : V → ℕ) (vs : List V) (i : ℕ) (v w : V) → get_elem? vs i ≡ some v → total f (set vs i w) + f v ≡ total f vs + f w
 total_set f [] i v w e = absurd (some-ne-none v (sym e))
@@ -111,14 +111,14 @@ module _ {T W : Type 0} where
   becomes f z vs id v w at = let t = total_set f vs id v w at in let u = total_set f vs id v nobody at in omega arith
 
   -- whatever the others count for, the law of a side goes from v to u
-  abbrev pub Goes : Duty → Side → ℕ → ℕ → Bool → Bool → View T W → View T W → Type 0
-  Goes d s w x c e v u =
-      (key b g h : ℕ) → (here_of s v ≡ 1 → b ≡ 0) → Owed (wanted d s w c) (b + waits_of s key v) (g + answered_of d s v) (h + holds_of s key v)
-      → Owed (wanted d s x e) (b + waits_of s key u) (g + answered_of d s u) (h + holds_of s key u)
+  abbrev pub Goes : Duty → Side → Picture → Picture → View T W → View T W → Type 0
+  Goes d s w x v u =
+      (key b g h : ℕ) → (here_of s v ≡ 1 → b ≡ 0) → Owed (wanted d s w) (b + waits_of s key v) (g + answered_of d s v) (h + holds_of s key v)
+      → Owed (wanted d s x) (b + waits_of s key u) (g + answered_of d s u) (h + holds_of s key u)
 
   -- and what is known of the closing
-  abbrev pub Sights : ℕ → ℕ → Bool → Bool → View T W → View T W → Type 0
-  Sights w x c d v u = (k : (Sight → ℕ) → ℕ) → Closings c (messages w) (λ f. k f + sights_of f v) → Closings d (messages x) (λ f. k f + sights_of f u)
+  abbrev pub Sights : Picture → Picture → View T W → View T W → Type 0
+  Sights w x v u = (k : (Sight → ℕ) → ℕ) → Closings w.shut w.near (λ f. k f + sights_of f v) → Closings x.shut x.near (λ f. k f + sights_of f u)
 
   abbrev pub Tickets : Side → View T W → View T W → Type 0
   Tickets s v u = (key l p : ℕ) → p + tickets_of s key v ≤ l + listed_of s key v → p + tickets_of s key u ≤ l + listed_of s key u
@@ -150,10 +150,10 @@ module _ {T W : Type 0} where
   pub others_free : (vs : List (View T W)) (id : ℕ) → others locks_of vs id ≡ 0 → others owns_of vs id ≡ 0
   others_free vs id e = none_here owns_of locks_of (set vs id nobody) (λ x z. no_lock x.parts x.owns z) e
 
-  module _ (w x : ℕ) (c e : Bool) (vs : List (View T W)) (id : ℕ) (v u : View T W) (at : get_elem? vs id ≡ some v) where
-    owed_turned : (d : Duty) (s : Side) (key : ℕ) → total (here_of s) vs ≡ 1 → Goes d s w x c e v u
-        → Owed (wanted d s w c) (total (waits_of s key) vs) (total (answered_of d s) vs) (total (holds_of s key) vs)
-        → Owed (wanted d s x e) (total (waits_of s key) (set vs id u)) (total (answered_of d s) (set vs id u)) (total (holds_of s key) (set vs id u))
+  module _ (w x : Picture) (vs : List (View T W)) (id : ℕ) (v u : View T W) (at : get_elem? vs id ≡ some v) where
+    owed_turned : (d : Duty) (s : Side) (key : ℕ) → total (here_of s) vs ≡ 1 → Goes d s w x v u
+        → Owed (wanted d s w) (total (waits_of s key) vs) (total (answered_of d s) vs) (total (holds_of s key) vs)
+        → Owed (wanted d s x) (total (waits_of s key) (set vs id u)) (total (answered_of d s) (set vs id u)) (total (holds_of s key) (set vs id u))
     owed_turned d s key one goes k some_waiting =
         let wv = was (waits_of s key) (none_waits T W s key) vs id v at in
         let av = was (answered_of d s) (none_answered T W d s) vs id v at in
@@ -161,10 +161,10 @@ module _ {T W : Type 0} where
         let ww = becomes (waits_of s key) (none_waits T W s key) vs id v u at in
         let aw = becomes (answered_of d s) (none_answered T W d s) vs id v u at in
         let hw = becomes (holds_of s key) refl vs id v u at in
-        let before : Owed (wanted d s w c) (others (waits_of s key) vs id + waits_of s key v) (others (answered_of d s) vs id + answered_of d s v) (others (holds_of s key) vs id + holds_of s key v) =
-        (λ waited. owed_by (wanted d s w c) (total (answered_of d s) vs) (total (holds_of s key) vs) _ _ av hv (k (omega arith))) in
+        let before : Owed (wanted d s w) (others (waits_of s key) vs id + waits_of s key v) (others (answered_of d s) vs id + answered_of d s v) (others (holds_of s key) vs id + holds_of s key v) =
+        (λ waited. owed_by (wanted d s w) (total (answered_of d s) vs) (total (holds_of s key) vs) _ _ av hv (k (omega arith))) in
         let after = goes key (others (waits_of s key) vs id) (others (answered_of d s) vs id) (others (holds_of s key) vs id) (λ is. (by_itself s key vs id v at one is).0) before (omega arith) in
-        owed_by (wanted d s x e) _ _ (total (answered_of d s) (set vs id u)) (total (holds_of s key) (set vs id u)) (sym aw) (sym hw) after
+        owed_by (wanted d s x) _ _ (total (answered_of d s) (set vs id u)) (total (holds_of s key) (set vs id u)) (sym aw) (sym hw) after
 
     tickets_turned : (s : Side) (key : ℕ) → Tickets s v u → total (tickets_of s key) vs ≤ total (listed_of s key) vs → total (tickets_of s key) (set vs id u) ≤ total (listed_of s key) (set vs id u)
     tickets_turned s key goes k =
@@ -175,20 +175,29 @@ module _ {T W : Type 0} where
         let after = goes key (others (listed_of s key) vs id) (others (tickets_of s key) vs id) (omega arith) in
         omega arith
 
-    pub turned : (s r : home.Option (Option T)) → u.parts ≡ v.parts → ((side : Side) → here_of side u ≡ here_of side v) → Places w x s r v u → ((d : Duty) (side : Side) → Goes d side w x c e v u) → ((side : Side) → Tickets side v u)
-        → Logs (put_else vs id) (took_else vs id) s r v u → (Ordered s vs → Ordered r (set vs id u)) → Sights w x c e v u → Kept w c s vs → Kept x e r (set vs id u)
-    turned s r parts lists places goes tickets logs order sees k =
+    -- the law, whatever the form of the queue
+    pub law_turned : u.parts ≡ v.parts → ((side : Side) → here_of side u ≡ here_of side v) → ((d : Duty) (side : Side) → Goes d side w x v u) → ((side : Side) → Tickets side v u) → Sights w x v u → Law w vs → Law x (set vs id u)
+    law_turned parts lists goes tickets sees k =
         let whole = k.whole in
         record {
           whole = omega (arith, total_set parts_of vs id v u at);
           one = λ side. let one = k.one side in let same = lists side in omega (arith, total_set (here_of side) vs id v u at);
-          place = slot_by x r _ _ _ _ (sym (becomes locks_of refl vs id v u at)) (sym (becomes owns_of refl vs id v u at))
-              (places (others locks_of vs id) (others owns_of vs id) (others_free vs id) (slot_by w s _ _ _ _ (was locks_of refl vs id v at) (was owns_of refl vs id v at) k.place));
           owed = λ d side key. owed_turned d side key (k.one side) (goes d side) (k.owed d side key);
           tickets = λ side key. tickets_turned side key (tickets side) (k.tickets side key);
+          closings = closings_by x.shut x.near _ _ (λ f. sym (becomes (sights_of f) refl vs id v u at))
+              (sees (λ f. others (sights_of f) vs id) (closings_by w.shut w.near _ _ (λ f. was (sights_of f) refl vs id v at) k.closings));
+        }
+
+  -- and what holds besides of one slot
+  module _ (w x : ℕ) (c e : Bool) (vs : List (View T W)) (id : ℕ) (v u : View T W) (at : get_elem? vs id ≡ some v) where
+    pub turned : (s r : home.Option (Option T)) → u.parts ≡ v.parts → ((side : Side) → here_of side u ≡ here_of side v) → Places w x s r v u → ((d : Duty) (side : Side) → Goes d side (at_word w c) (at_word x e) v u) → ((side : Side) → Tickets side v u)
+        → Logs (put_else vs id) (took_else vs id) s r v u → (Ordered s vs → Ordered r (set vs id u)) → Sights (at_word w c) (at_word x e) v u → Kept w c s vs → Kept x e r (set vs id u)
+    turned s r parts lists places goes tickets logs order sees k =
+        record {
+          law = law_turned (at_word w c) (at_word x e) vs id v u at parts lists goes tickets sees k.law;
+          place = slot_by x r _ _ _ _ (sym (becomes locks_of refl vs id v u at)) (sym (becomes owns_of refl vs id v u at))
+              (places (others locks_of vs id) (others owns_of vs id) (others_free vs id) (slot_by w s _ _ _ _ (was locks_of refl vs id v at) (was owns_of refl vs id v at) k.place));
           balance = balanced_by r _ _ _ _ (λ f. sym (becomes (puts_of f) refl vs id v u at)) (λ f. sym (becomes (takes_of f) refl vs id v u at))
               (logs (balanced_by s _ _ _ _ (λ f. was (puts_of f) refl vs id v at) (λ f. was (takes_of f) refl vs id v at) k.balance));
           order = order k.order;
-          closings = closings_by e (messages x) _ _ (λ f. sym (becomes (sights_of f) refl vs id v u at))
-              (sees (λ f. others (sights_of f) vs id) (closings_by c (messages w) _ _ (λ f. was (sights_of f) refl vs id v at) k.closings));
         }

@@ -1,5 +1,5 @@
 -- What a seat of the table knows, and the rule over the word, the slot and all seats.
-use Rattle.std.specs.Prelude.{◌≡◌, ◌⊎◌, ℕ, zero, suc, ◌+◌, ◌-◌, ◌/◌, ◌<◌, ◌≤◌, List, [], ◌∷◌, ◌++◌, Option, None, Some, Bool, true, false, not, cond, is_some, bit_and}
+use Rattle.std.specs.Prelude.{◌≡◌, ◌⊎◌, ℕ, zero, suc, ◌+◌, ◌-◌, ◌/◌, ◌<◌, ◌≤◌, List, [], ◌∷◌, ◌++◌, Option, None, Some, Bool, true, false, not, cond, is_some, length, slice_index, bit_and}
 use mathlib.Core.Option as home
 use Rattle.atomic_table.specs.Table.{State, Me, Step}
 use Rattle.atomic_table.specs.Seated.{TableId}
@@ -326,12 +326,10 @@ abbrev pub word_of : ℕ → Bool → ℕ
 word_of base false = base
 word_of base true = base + 4
 
--- the words of the table: that of the queue, and a count of handles of each kind. They lie so far apart that they share no cache line
-abbrev pub spare : List ℕ
-spare = 0 ∷ 0 ∷ 0 ∷ 0 ∷ 0 ∷ 0 ∷ 0 ∷ 0 ∷ 0 ∷ 0 ∷ 0 ∷ 0 ∷ 0 ∷ 0 ∷ 0 ∷ []
-
-abbrev pub all_words : ℕ → ℕ → ℕ → List ℕ
-all_words word senders receivers = word ∷ (spare ++ senders ∷ (spare ++ receivers ∷ []))
+-- the words that count the handles of each kind hold these. They lie so far from the queue's words, and from each other, that they share no
+-- cache line
+abbrev pub CountsAt : List ℕ → ℕ → ℕ → Type 0
+CountsAt words senders receivers = (32 < length words) × (slice_index words 16 ≡ senders) × (slice_index words 32 ≡ receivers)
 
 -- 1 where the channel is closed
 abbrev pub shut_count : Bool → ℕ
@@ -344,17 +342,32 @@ messages base = base / 2
 abbrev pub places : ℕ → ℕ
 places base = 1 - base / 2
 
+-- WHAT A QUEUE SHOWS, whatever its form: how many messages a pop may find, how many places are free, how many messages are there or on
+-- their way in place of one that was taken out, and whether it is closed
+pub record Picture : Type 0 where
+  pub there : ℕ
+  pub free : ℕ
+  pub near : ℕ
+  pub shut : Bool
+
+abbrev pub picture : ℕ → ℕ → ℕ → Bool → Picture
+picture there free near shut = record { there = there; free = free; near = near; shut = shut }
+
+-- what the word of one slot shows
+abbrev pub at_word : ℕ → Bool → Picture
+at_word base shut = picture (messages base) (places base) (messages base) shut
+
 -- WHAT THOSE OF A SIDE ARE OWED: a receive for each message, and a send for each place, of which a closed channel has none; and all of a
--- side, where the channel is closed, and all streams beside a message
-abbrev pub wanted : Duty → Side → ℕ → Bool → ℕ
-wanted to_one of_receives base shut = messages base
-wanted to_one of_sends base shut = cond shut 0 (places base)
-wanted to_one of_streams base shut = 0
-wanted to_one of_closings base shut = 0
-wanted to_all of_receives base shut = shut_count shut
-wanted to_all of_sends base shut = shut_count shut
-wanted to_all of_streams base shut = cond shut 1 (messages base)
-wanted to_all of_closings base shut = shut_count shut
+-- side, where the channel is closed, and all streams beside messages
+abbrev pub wanted : Duty → Side → Picture → ℕ
+wanted to_one of_receives p = p.there
+wanted to_one of_sends p = cond p.shut 0 p.free
+wanted to_one of_streams p = 0
+wanted to_one of_closings p = 0
+wanted to_all of_receives p = shut_count p.shut
+wanted to_all of_sends p = shut_count p.shut
+wanted to_all of_streams p = cond p.shut 1 p.there
+wanted to_all of_closings p = shut_count p.shut
 
 -- whether some of a side have to be told, where a message is there, or none, and no call is under way
 abbrev pub due : Side → Bool → Bool → ℕ
@@ -384,15 +397,20 @@ pub data IsSlot {T : Type 0} (base : ℕ) (slot : home.Option (Option T)) (locks
   full : (x : T) → base ≡ 2 → slot ≡ home.some (Some x) → locks ≡ 0 → IsSlot base slot locks owns
   out : slot ≡ home.none → locks ≡ 1 → owns ≡ base → (base ≡ 1) ⊎ (base ≡ 3) → IsSlot base slot locks owns
 
-pub record Kept {T W : Type 0} (base : ℕ) (shut : Bool) (slot : home.Option (Option T)) (views : List (View T W)) : Type 0 where
+-- what holds of all seats beside such a queue
+pub record Law {T W : Type 0} (p : Picture) (views : List (View T W)) : Type 0 where
   pub whole : total parts_of views ≡ 1024
   pub one : (s : Side) → total (here_of s) views ≡ 1
-  pub place : IsSlot base slot (total locks_of views) (total owns_of views)
-  pub owed : (d : Duty) (s : Side) (key : ℕ) → Owed (wanted d s base shut) (total (waits_of s key) views) (total (answered_of d s) views) (total (holds_of s key) views)
+  pub owed : (d : Duty) (s : Side) (key : ℕ) → Owed (wanted d s p) (total (waits_of s key) views) (total (answered_of d s) views) (total (holds_of s key) views)
   pub tickets : (s : Side) (key : ℕ) → total (tickets_of s key) views ≤ total (listed_of s key) views
+  pub closings : Closings p.shut p.near (λ f. total (sights_of f) views)
+
+-- and what holds besides where the queue has one slot
+pub record Kept {T W : Type 0} (base : ℕ) (shut : Bool) (slot : home.Option (Option T)) (views : List (View T W)) : Type 0 where
+  pub law : Law (at_word base shut) views
+  pub place : IsSlot base slot (total locks_of views) (total owns_of views)
   pub balance : Balanced slot (λ f. total (puts_of f) views) (λ f. total (takes_of f) views)
   pub order : Ordered slot views
-  pub closings : Closings shut (messages base) (λ f. total (sights_of f) views)
 
 -- THE COUNTS: the word of a kind counts its handles, which are 1 at first, one more for each raising, and one less for each lowering. It is
 -- none where one lowering was to none, and stays so. Then the channel was found closed, or a call owes its closing
@@ -417,12 +435,20 @@ Known T W = Me (Option T) (View T W)
 abbrev pub HasAll : {T W : Type 0} → Side → View T W → Type 0
 HasAll s v = (v.parts ≡ 1024) × ((roll s v.rolls).here ≡ 1) × ((of s v.calls).answers ≡ 0) × ((of s v.calls).holds ≡ 0) × (v.owns ≡ 0) × ((of s v.calls).tells ≡ 0) × (v.calls.hands.closes ≡ 0)
 
-module _ {T W : Type 0} where
-  abbrev pub Woken : State (Option T) (View T W) → Type 0
-  Woken s =
-      (base : ℕ) × (shut : Bool) × (slot : home.Option (Option T)) × (senders : ℕ) × (receivers : ℕ) × (s.words ≡ all_words (word_of base shut) senders receivers) × (s.homes ≡ slot ∷ []) × Kept base shut slot s.views
-      × Counted senders OfSenders s.views × Counted receivers OfReceivers s.views
+-- WHAT THE WORDS AND THE SLOTS SHOW, by the form of the queue: of one slot, whose word lies first
+pub data Shown {T W : Type 0} (words : List ℕ) (homes : List (home.Option (Option T))) (views : List (View T W)) : Type 0 where
+  one_slot : (base : ℕ) (shut : Bool) (slot : home.Option (Option T)) → slice_index words 0 ≡ word_of base shut → homes ≡ slot ∷ [] → Kept base shut slot views → Shown words homes views
 
+-- THE RULE
+pub record Woken {T W : Type 0} (s : State (Option T) (View T W)) : Type 0 where
+  pub senders : ℕ
+  pub receivers : ℕ
+  pub counts : CountsAt s.words senders receivers
+  pub shown : Shown s.words s.homes s.views
+  pub of_senders : Counted senders OfSenders s.views
+  pub of_receivers : Counted receivers OfReceivers s.views
+
+module _ {T W : Type 0} where
   -- a pass whose call knows the word to be n while it has the slot, or 0, with other lines and another log
   abbrev pub stepped : ℕ → Lines → List (Transfer T) → View T W → View T W
   stepped n c log v = pass v.parts n c v.rolls log
