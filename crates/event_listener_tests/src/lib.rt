@@ -27,9 +27,9 @@ mod listening;
 #[cfg(test)]
 mod lists;
 #[cfg(test)]
-mod notices;
+mod made;
 #[cfg(test)]
-mod openers;
+mod notices;
 #[cfg(test)]
 mod recorded;
 #[cfg(test)]

@@ -1,10 +1,10 @@
 //! Listeners among threads.
 
 use crate::checks::expect_equal;
-use crate::event::{Polled, event, poll, task};
+use crate::event::{event, task, waker};
 use event_listener::event::Event;
 use event_listener::into_notification::IntoNotification;
-use event_listener::listener::{EventListener, Listener};
+use event_listener::listener::{EventListener, Listener, PollFault};
 use futures::task::Poll;
 use futures::test::MockTask;
 use std::process::Abort;
@@ -108,13 +108,17 @@ fn dropped_elsewhere<R: Wait + Threads + Abort + Copy + Send + Sync>(
     rt: R,
     event: &Event<u32>,
     task: &MockTask,
-) -> (bool, Polled<u32>) {
+) -> (bool, Option<Poll<Result<u32, PollFault>>>) {
     let told = event.listen(&rt).expect(&rt, "memory");
     let mut waiting = event.listen(&rt).expect(&rt, "memory");
     let crosses = all_cross(event, &told);
     let _ = event.notify(&rt, 1u8.tag(7u32));
     thread::join(&rt, move || drop(told), || ());
-    (crosses, poll(task, &mut waiting))
+    let polled = match waker(task) {
+        Some(waker) => Some(waiting.poll(waker)),
+        None => None,
+    };
+    (crosses, polled)
 }
 
 #[test]

@@ -1,125 +1,68 @@
 //! Listeners of one event on one thread, as rows call them. A call names a listener by the place of its making in the row, the first
 //! at 0. A wait names for how many milliseconds it is, and says `nothing` only once they have passed.
 
-use crate::event::{Polled, poll};
+use crate::made::{Limit, Made, NOTHING, Tag};
 use event_listener::error::ListenError;
 use event_listener::event::Event;
-use event_listener::listener::{Listener, PollFault, WaitError};
-use futures::task::Poll;
+use event_listener::id::EventIds;
+use event_listener::stack::StackSlot;
 use futures::test::MockTask;
 use std::alloc::Global;
 use std::sync::Wait;
 use std::time::{Clock, Duration, Instant};
 use worked_rows::{Said, Words};
 
-/// What a notice hands to each listener.
-pub(crate) trait Tag {
-    /// The tag in short.
-    fn said(self) -> Said;
-}
-
-impl Tag for () {
-    fn said(self) -> Said {
-        Said::Word("told")
-    }
-}
-
-impl Tag for u32 {
-    fn said(self) -> Said {
-        Said::Number(u64::from(self))
-    }
-}
-
-/// Where listeners of an event come from.
-pub(crate) trait Opener<T: Drop> {
-    /// A listener.
-    type Made: Listener<T> + Drop;
-
-    /// The event.
-    fn event(&self) -> &Event<T>;
-
-    /// One more listener.
-    fn listen(&mut self) -> Result<Self::Made, ListenError>;
-
-    /// What a poll of a listener as a future gives.
-    fn poll(task: &MockTask, listener: &mut Self::Made) -> Poll<Result<T, PollFault>>;
-
-    /// A row begins, and none of the listeners lives.
-    fn begin(&mut self, alloc: Global);
-}
-
-/// An event, its listeners, and the task that polls them.
+/// A slot of an event, from which all rows have their listeners.
 #[derive(Drop)]
-pub(crate) struct Listening<T: Drop, R, O: Opener<T>> {
-    pub(crate) rt: R,
-    pub(crate) opener: O,
-    pub(crate) listeners: Vec<Option<O::Made>>,
-    pub(crate) task: MockTask,
+struct Slot<'ev, T: Drop, R: Wait + Copy> {
+    event: &'ev Event<T>,
+    slot: StackSlot<'ev, T, R>,
 }
 
-const NOTHING: Said = Said::Word("nothing");
+/// An event, which each row has anew, or the slot of another one; its listeners, and the task that polls them.
+#[derive(Drop)]
+pub(crate) struct Listening<'ev, T: Drop, R: Wait + Copy> {
+    pub(crate) rt: R,
+    alloc: Global,
+    own: Event<T>,
+    slot: Option<Slot<'ev, T, R>>,
+    listeners: Vec<Option<Made<'ev, T, R>>>,
+    task: MockTask,
+}
 
 const NO_LISTENER: Said = Said::Word("no listener");
 
 const NO_CLOCK: Said = Said::Word("no clock");
 
-const FINISHED: Said = Said::Word("finished");
-
-fn said_by_poll<T: Tag + Drop>(polled: Polled<T>) -> Said {
-    match polled {
-        Some(Poll::Ready(Ok(tag))) => tag.said(),
-        Some(Poll::Ready(Err(PollFault::NeverInserted))) => FINISHED,
-        Some(Poll::Pending) => Said::Word("pending"),
-        None => Said::Word("no waker"),
-    }
-}
-
-/// What came of a wait. A listener that was finished comes back, and says when it leaves that it had no tag left.
-fn said_by_wait<T: Tag + Drop, L: Listener<T> + Drop>(
-    waited: Result<Option<T>, WaitError<L>>,
-) -> Said {
-    match waited {
-        Ok(Some(tag)) => tag.said(),
-        Ok(None) => NOTHING,
-        Err(WaitError::NeverInserted(listener)) => {
-            if listener.discard() {
-                Said::Word("finished, and told")
-            } else {
-                FINISHED
-            }
-        }
-        Err(WaitError::NoMemory(_listener)) => Said::Word("memory"),
-    }
-}
-
 /// What a wait for so long says, or one up to a deadline so far off.
-fn wait_for<T: Tag + Drop, L: Listener<T> + Drop, R: Clock>(
+fn wait_for<T: Tag + Drop, R: Wait + Clock + Copy>(
     rt: &R,
     verb: &str,
-    listener: L,
-    limit: Duration,
+    listener: Made<'_, T, R>,
+    timeout: Duration,
 ) -> Said {
     let Ok(start) = Instant::now(rt) else {
         return NO_CLOCK;
     };
-    let deadline = start.checked_add(limit).unwrap_or(start);
+    let deadline = start.checked_add(timeout).unwrap_or(start);
+    let limit = Limit { timeout, deadline };
     let said = match verb {
-        "wait_timeout" => said_by_wait(listener.wait_timeout(rt, limit)),
-        "wait_deadline" => said_by_wait(listener.wait_deadline(rt, deadline)),
+        "wait_timeout" => listener.wait_timeout(rt, limit),
+        "wait_deadline" => listener.wait_deadline(rt, limit),
         _ => Said::NoSuchCall,
     };
     match start.elapsed(rt) {
-        Ok(passed) if said == NOTHING && passed < limit => Said::Word("too early"),
+        Ok(passed) if said == NOTHING && passed < timeout => Said::Word("too early"),
         Ok(_) => said,
         Err(_) => NO_CLOCK,
     }
 }
 
 /// Ends a listener: drops it, discards it, or waits by it.
-fn end<T: Tag + Drop, L: Listener<T> + Drop, R: Clock>(
+fn end<T: Tag + Drop, R: Wait + Clock + Copy>(
     rt: &R,
     verb: &str,
-    listener: L,
+    listener: Made<'_, T, R>,
     words: &mut Words<'_>,
 ) -> Said {
     match verb {
@@ -128,20 +71,55 @@ fn end<T: Tag + Drop, L: Listener<T> + Drop, R: Clock>(
             Said::Ok
         }
         "discard" => Said::flag(listener.discard()),
-        "wait" => said_by_wait(listener.wait().map(Some)),
+        "wait" => listener.wait(),
         _ => wait_for(rt, verb, listener, Duration::from_millis(words.number())),
     }
 }
 
-impl<T: Tag + Drop, R: Wait + Clock, O: Opener<T>> Listening<T, R, O> {
+impl<'ev, T: Tag + Drop, R: Wait + Clock + Copy> Listening<'ev, T, R> {
+    /// A player's listeners that are got from this event, before there are any.
+    pub(crate) fn of(rt: R, alloc: Global, own: Event<T>, task: MockTask) -> Self {
+        Listening {
+            rt,
+            alloc,
+            own,
+            slot: None,
+            listeners: Vec::new(alloc),
+            task,
+        }
+    }
+
+    /// From now on listeners are got from this slot of this event.
+    pub(crate) fn lend(&mut self, event: &'ev Event<T>, slot: StackSlot<'ev, T, R>) {
+        drop(self.slot.replace(Slot { event, slot }));
+    }
+
+    /// The event.
+    pub(crate) fn event(&self) -> &Event<T> {
+        match &self.slot {
+            Some(slot) => slot.event,
+            None => &self.own,
+        }
+    }
+
     /// Lets all listeners go, and begins anew.
-    pub(crate) fn begin(&mut self, alloc: Global) {
+    pub(crate) fn begin(&mut self) {
         self.listeners.clear();
-        self.opener.begin(alloc);
+        if let Ok(id) = EventIds::new().next() {
+            drop(std::mem::replace(&mut self.own, Event::with_tag(self.alloc, id)));
+        }
+    }
+
+    /// One more listener.
+    fn made(&mut self) -> Result<Made<'ev, T, R>, ListenError> {
+        match &mut self.slot {
+            Some(slot) => Ok(Made::InSlot(slot.slot.listen()?)),
+            None => Ok(Made::OnEvent(self.own.listen(&self.rt)?)),
+        }
     }
 
     fn listen(&mut self) -> Said {
-        match self.opener.listen() {
+        match self.made() {
             Ok(listener) => match self.listeners.push(Some(listener)) {
                 Ok(()) => Said::Ok,
                 Err(_) => Said::Word("memory"),
@@ -152,7 +130,7 @@ impl<T: Tag + Drop, R: Wait + Clock, O: Opener<T>> Listening<T, R, O> {
     }
 
     /// The listener at this place.
-    fn listener(&self, place: usize) -> Option<&O::Made> {
+    fn listener(&self, place: usize) -> Option<&Made<'ev, T, R>> {
         match self.listeners.get(place) {
             Some(Some(listener)) => Some(listener),
             _ => None,
@@ -164,18 +142,15 @@ impl<T: Tag + Drop, R: Wait + Clock, O: Opener<T>> Listening<T, R, O> {
         let (Some(first), Some(second)) = (self.listener(first), self.listener(second)) else {
             return NO_LISTENER;
         };
-        Said::flag(first.same_event(second) && first.listens_to(self.opener.event()))
+        Said::flag(first.same_event(second) && first.listens_to(self.event()))
     }
 
     fn poll(&mut self, verb: &str, place: usize) -> Said {
         match self.listeners.get_mut(place) {
-            Some(Some(listener)) => {
-                let polled = match verb {
-                    "poll" => poll(&self.task, listener),
-                    _ => Some(O::poll(&self.task, listener)),
-                };
-                said_by_poll(polled)
-            }
+            Some(Some(listener)) => match verb {
+                "poll" => listener.poll(&self.task),
+                _ => listener.poll_future(&self.task),
+            },
             _ => NO_LISTENER,
         }
     }
@@ -201,10 +176,11 @@ impl<T: Tag + Drop, R: Wait + Clock, O: Opener<T>> Listening<T, R, O> {
 
     /// A call that is the same whatever the tags.
     pub(crate) fn call(&mut self, verb: &str, words: &mut Words<'_>) -> Said {
+        let rt = self.rt;
         match verb {
             "listen" => self.listen(),
-            "total" => Said::count(self.opener.event().total_listeners(&self.rt)),
-            "is_notified" => Said::flag(self.opener.event().is_notified(&self.rt)),
+            "total" => Said::count(self.event().total_listeners(&rt)),
+            "is_notified" => Said::flag(self.event().is_notified(&rt)),
             "is_woken" => Said::flag(self.task.is_woken()),
             _ => self.call_of(verb, words.size(), words),
         }

@@ -1,46 +1,43 @@
 //! Notices with tags, as rows send them.
 
-use crate::listening::{Listening, Opener};
+use crate::listening::Listening;
 use crate::notices::Counted;
 use crate::units::notified;
 use event_listener::into_notification::IntoNotification;
-use std::alloc::{AllocError, AllocGlobal};
+use std::alloc::AllocError;
 use std::sync::Wait;
 use std::time::Clock;
 use worked_rows::{Player, Said, Words};
 
 /// An event whose notices carry numbers, and the last number that a function made for one.
 #[derive(Drop)]
-pub(crate) struct Tags<R, O: Opener<u32>> {
-    pub(crate) rt: R,
-    pub(crate) all: Listening<u32, R, O>,
+pub(crate) struct Tags<'ev, R: Wait + Copy> {
+    pub(crate) all: Listening<'ev, u32, R>,
     pub(crate) made: u32,
 }
 
-impl<R: Wait + Clock + Copy, O: Opener<u32>> Tags<R, O> {
+impl<R: Wait + Clock + Copy> Tags<'_, R> {
     /// A notice with this tag for each.
     fn notify(&mut self, count: u64, tag: u32) -> Said {
-        notified(self.all.opener.event().notify(&self.rt, count.tag(tag)))
+        let rt = self.all.rt;
+        notified(self.all.event().notify(&rt, count.tag(tag)))
     }
 
     /// An additional notice for three that has so many tags, from 0 on.
     fn notify_scarce(&mut self, left: u32) -> Said {
-        notified(
-            self.all
-                .opener
-                .event()
-                .notify(&self.rt, Counted::scarce(left)),
-        )
+        let rt = self.all.rt;
+        notified(self.all.event().notify(&rt, Counted::scarce(left)))
     }
 
     /// A notice whose tags are made as they are wanted, each one more than the last one made.
     fn notify_made(&mut self, count: usize) -> Said {
+        let rt = self.all.rt;
         let made = &mut self.made;
         let notice = count.tag_with(|| {
             *made = made.wrapping_add(1);
             *made
         });
-        notified(self.all.opener.event().notify(&self.rt, notice))
+        notified(self.all.event().notify(&rt, notice))
     }
 
     fn call(&mut self, words: &mut Words<'_>) -> Said {
@@ -58,10 +55,10 @@ impl<R: Wait + Clock + Copy, O: Opener<u32>> Tags<R, O> {
     }
 }
 
-impl<R: Wait + Clock + Copy + AllocGlobal, O: Opener<u32>> Player for Tags<R, O> {
+impl<R: Wait + Clock + Copy> Player for Tags<'_, R> {
     fn begin(&mut self) {
         self.made = 0;
-        self.all.begin(self.rt.alloc());
+        self.all.begin();
     }
 
     fn play(&mut self, words: &mut Words<'_>, answer: &mut String) -> Result<(), AllocError> {

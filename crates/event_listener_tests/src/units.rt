@@ -1,20 +1,18 @@
 //! Notices without a tag, as rows send them.
 
-use crate::listening::{Listening, Opener};
-use crate::openers::OnEvent;
+use crate::listening::Listening;
 use event_listener::error::NotifyError;
 use event_listener::event::Event;
 use event_listener::into_notification::IntoNotification;
-use std::alloc::{AllocError, AllocGlobal};
+use std::alloc::AllocError;
 use std::sync::Wait;
 use std::time::Clock;
 use worked_rows::{Player, Said, Words};
 
 /// An event whose notices carry nothing.
 #[derive(Drop)]
-pub(crate) struct Units<R: Wait + Copy> {
-    pub(crate) rt: R,
-    pub(crate) all: Listening<(), R, OnEvent<(), R>>,
+pub(crate) struct Units<'ev, R: Wait + Copy> {
+    pub(crate) all: Listening<'ev, (), R>,
 }
 
 /// What a notice answered.
@@ -42,24 +40,25 @@ fn notify<R: Wait>(rt: &R, event: &Event<()>, word: &str, count: u8) -> Said {
     })
 }
 
-impl<R: Wait + Clock + Copy> Units<R> {
+impl<R: Wait + Clock + Copy> Units<'_, R> {
     fn call(&mut self, words: &mut Words<'_>) -> Said {
-        let event = self.all.opener.event();
+        let rt = self.all.rt;
+        let event = self.all.event();
         match words.word() {
-            "notify" => notify(&self.rt, event, words.word(), byte(words)),
-            "notify_additional" => Said::count(event.notify_additional(&self.rt, words.size())),
-            "notify_relaxed" => Said::count(event.notify_relaxed(&self.rt, words.size())),
+            "notify" => notify(&rt, event, words.word(), byte(words)),
+            "notify_additional" => Said::count(event.notify_additional(&rt, words.size())),
+            "notify_relaxed" => Said::count(event.notify_relaxed(&rt, words.size())),
             "notify_additional_relaxed" => {
-                Said::count(event.notify_additional_relaxed(&self.rt, words.size()))
+                Said::count(event.notify_additional_relaxed(&rt, words.size()))
             }
             verb => self.all.call(verb, words),
         }
     }
 }
 
-impl<R: Wait + Clock + Copy + AllocGlobal> Player for Units<R> {
+impl<R: Wait + Clock + Copy> Player for Units<'_, R> {
     fn begin(&mut self) {
-        self.all.begin(self.rt.alloc());
+        self.all.begin();
     }
 
     fn play(&mut self, words: &mut Words<'_>, answer: &mut String) -> Result<(), AllocError> {
