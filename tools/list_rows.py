@@ -25,7 +25,8 @@ TEXTS = [
     ("async_channel_tests", "handle_rows", "HANDLES", "all handles, made and dropped, and operations polled up to their ends (`owned`; `calls` of `channel_test_helpers`)", "rows::handles"),
     ("async_channel_thread_tests", "pair_rows", "PAIRS", "`Sender` on one thread and `Receiver` on another, which meet at gates (`pairs`; `calls` of `channel_test_helpers`)", "pairs::rows"),
     ("channel_interleaving_tests", "step_rows", "ROWS", "`World::run_steps` (`channel_rows`)", "rows::steps_by_names"),
-    ("channel_interleaving_tests", "step_rows", "REFUSED", "lists of `World::run_steps` that stop (`channel_rows`)", "rows::refused_steps"),
+    ("channel_interleaving_tests", "step_rows", "REFUSED", "lists of `World::run_steps` that stop (`channel_rows`)", "rows::steps_by_names"),
+    ("channel_interleaving_tests", "step_rows", "SEVERAL", "`World::run_steps` (`channel_rows`)", "rows::steps_by_names"),
     ("channel_world_tests", "call_rows", "SENDS", "`World::run_calls` (`channel_rows`)", "rows::sends"),
     ("channel_world_tests", "call_rows", "RECEIVES", "`World::run_calls` (`channel_rows`)", "rows::receives"),
     ("channel_world_tests", "call_rows", "WAITS", "`World::run_calls` (`channel_rows`)", "rows::waits"),
@@ -49,12 +50,11 @@ brackets. One more row costs no proof.
 """
 TAIL = """
 Four rows are texts that a loop writes. They are `rows::messages_beyond_one_block_come_in_order` and `rows::clones_are_counted` of
-`channel_world_tests`, `rows::lengths_after_each_call` of `async_channel_tests`, and `rows::several_at_once_beside_a_displacing_send` of
-`channel_interleaving_tests`. The last one plays a text for each place between the steps of a call.
+`channel_world_tests`, `rows::lengths_after_each_call` of `async_channel_tests`, and `many::a_million_steps_are_made` of
+`channel_interleaving_tests`. The five interleavings of `giving_up` of that crate are texts too, which a test plays up to each place.
 
 What needs more than two threads, clocks that pass, types of its own or proofs is code: the other tests of these crates. So is what
-takes all memory of its process. So are calls of a channel step by step over one slot (`async_channel_tests`, `calls`), and giving up at
-every place (`channel_interleaving_tests`, `giving_up`). The rows of scripts are texts in `channel_world_tests` (`scripts`), one stored
+takes all memory of its process. So are calls of a channel step by step over one slot (`async_channel_tests`, `calls`). The rows of scripts are texts in `channel_world_tests` (`scripts`), one stored
 run in `channel_script`.
 """
 
