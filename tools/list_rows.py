@@ -23,6 +23,9 @@ TEXTS = [
     ("event_listener_tests", "recorded", "ROWS", "`RecordedEvent` and its record (`records`)", "recorded::rows"),
     ("async_channel_tests", "handle_rows", "OPERATIONS", "`Sender` and `Receiver`, and `Send`, `Recv`, `Closed` and streams, polled by hand (`lent`; `calls` of `channel_test_helpers`)", "rows::operations"),
     ("async_channel_tests", "handle_rows", "HANDLES", "all handles, made and dropped, and operations polled up to their ends (`owned`; `calls` of `channel_test_helpers`)", "rows::handles"),
+    ("async_channel_tests", "handle_rows", "WITHOUT_A_BOUND", "the same, with the calls of `FIFTY` behind it", "rows::handles"),
+    ("async_channel_tests", "handle_rows", "OF_A_THOUSAND_PLACES", "the same, with the calls of `FIFTY` a hundred times behind it", "rows::handles"),
+    ("async_channel_tests", "slot_rows", "STEPS", "`ChannelCall::step` over a channel with one owner (`slots`, `slot_calls`)", "rows::steps"),
     ("async_channel_thread_tests", "pair_rows", "PAIRS", "`Sender` on one thread and `Receiver` on another, which meet at gates (`pairs`; `calls` of `channel_test_helpers`)", "pairs::rows"),
     ("channel_interleaving_tests", "step_rows", "ROWS", "`World::run_steps` (`channel_rows`)", "rows::steps_by_names"),
     ("channel_interleaving_tests", "step_rows", "REFUSED", "lists of `World::run_steps` that stop (`channel_rows`)", "rows::steps_by_names"),
@@ -55,13 +58,12 @@ brackets. One more row costs no proof.
 """
 TAIL = """
 Two rows of `channel_world_tests` are texts that loops write, `crowds::a_message_for_a_crowd_of_streams_is_settled` and
-`crowds::a_closing_for_a_crowd_of_streams_is_settled`; one is of `channel_interleaving_tests`, `many::a_million_steps_are_made`, and one of
-`async_channel_tests`, `rows::lengths_after_each_call`. The five
+`crowds::a_closing_for_a_crowd_of_streams_is_settled`; one is of `channel_interleaving_tests`, `many::a_million_steps_are_made`. The five
 interleavings of `giving_up` of that crate are texts too, which a test plays up to each place. So is the table of `step_counts` of
 `channel_world_tests`, in which a line stands for each call.
 
 What needs more than two threads, clocks that pass, types of its own or proofs is code: the other tests of these crates. So is what
-takes all memory of its process. So are calls of a channel step by step over one slot (`async_channel_tests`, `calls`). One stored run of a script is in `channel_script`.
+takes all memory of its process. One stored run of a script is in `channel_script`.
 """
 
 
