@@ -56,7 +56,7 @@ BODIES = {
     "a receive of several tells one send for all that it took": [],
     "a receive of several stops before its limit beside a message": [],
     "a receive of several drops what it took": [],
-    "a receive of several always answers that memory was refused": ["channel_world_tests/several_at_once"],
+    "a receive of several always answers that memory was refused": ["channel_world_tests/as_many_sends_are_told_as_messages_were_taken"],
     "a call that lost an exchange goes on for ever": [],
     "a stream is always pending": [],
     "handles go round the steps, and lose, double or reorder messages or lose a wake": [

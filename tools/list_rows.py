@@ -23,15 +23,24 @@ TEXTS = [
     ("event_listener_tests", "recorded", "ROWS", "`RecordedEvent` and its record (`records`)", "recorded::rows"),
     ("async_channel_tests", "handle_rows", "OPERATIONS", "`Sender` and `Receiver`, and `Send`, `Recv`, `Closed` and streams, polled by hand (`lent`; `calls` of `channel_test_helpers`)", "rows::operations"),
     ("async_channel_tests", "handle_rows", "HANDLES", "all handles, made and dropped, and operations polled up to their ends (`owned`; `calls` of `channel_test_helpers`)", "rows::handles"),
+    ("async_channel_tests", "handle_rows", "WITHOUT_A_BOUND", "the same, with the calls of `FIFTY` behind it", "rows::handles"),
+    ("async_channel_tests", "handle_rows", "OF_A_THOUSAND_PLACES", "the same, with the calls of `FIFTY` a hundred times behind it", "rows::handles"),
+    ("async_channel_tests", "slot_rows", "STEPS", "`ChannelCall::step` over a channel with one owner (`slots`, `slot_calls`)", "rows::steps"),
     ("async_channel_thread_tests", "pair_rows", "PAIRS", "`Sender` on one thread and `Receiver` on another, which meet at gates (`pairs`; `calls` of `channel_test_helpers`)", "pairs::rows"),
     ("channel_interleaving_tests", "step_rows", "ROWS", "`World::run_steps` (`channel_rows`)", "rows::steps_by_names"),
-    ("channel_interleaving_tests", "step_rows", "REFUSED", "lists of `World::run_steps` that stop (`channel_rows`)", "rows::refused_steps"),
-    ("channel_world_tests", "call_rows", "SENDS", "`World::run_calls` (`channel_rows`)", "rows::sends"),
-    ("channel_world_tests", "call_rows", "RECEIVES", "`World::run_calls` (`channel_rows`)", "rows::receives"),
-    ("channel_world_tests", "call_rows", "WAITS", "`World::run_calls` (`channel_rows`)", "rows::waits"),
-    ("channel_world_tests", "call_rows", "REFUSED", "`World::run_calls` that stops (`channel_rows`)", "rows::refused"),
-    ("channel_world_tests", "call_rows", "BOTH", "`World::run_calls` and `World::run_steps` in turn (`channel_rows`)", "rows::both"),
-    ("channel_world_tests", "call_rows", "SETTLINGS", "`World::settle` (`channel_rows`)", "rows::settlings"),
+    ("channel_interleaving_tests", "step_rows", "REFUSED", "lists of `World::run_steps` that stop (`channel_rows`)", "rows::steps_by_names"),
+    ("channel_interleaving_tests", "step_rows", "SEVERAL", "`World::run_steps` (`channel_rows`)", "rows::steps_by_names"),
+    ("channel_world_tests", "call_rows", "SENDS", "`World::run_calls` (`channel_rows`)", "rows::calls"),
+    ("channel_world_tests", "call_rows", "RECEIVES", "`World::run_calls` (`channel_rows`)", "rows::calls"),
+    ("channel_world_tests", "call_rows", "WAITS", "`World::run_calls` (`channel_rows`)", "rows::calls"),
+    ("channel_world_tests", "call_rows", "REFUSED", "`World::run_calls` that stops (`channel_rows`)", "rows::calls"),
+    ("channel_world_tests", "call_rows", "BOTH", "`World::run_calls` and `World::run_steps` in turn (`channel_rows`)", "rows::calls"),
+    ("channel_world_tests", "call_rows", "SETTLINGS", "`World::settle` (`channel_rows`)", "rows::calls"),
+    ("channel_world_tests", "call_rows", "TOLD", "what a world tells of its lines and positions, and `World::run_party` (`channel_rows`)", "rows::calls"),
+    ("channel_world_tests", "many_rows", "MANY", "`World::run_calls` (`channel_rows`)", "rows::calls"),
+    ("channel_world_tests", "script_rows", "LINES", "`run_script`, a whole script of each row (`scripts::rows`)", "scripts::rows::scripts"),
+    ("channel_world_tests", "script_rows", "POLLS", "`run_script`, a whole script of each row (`scripts::rows`)", "scripts::rows::scripts"),
+    ("channel_world_tests", "script_rows", "OTHERS", "`run_script`, a whole script of each row (`scripts::rows`)", "scripts::rows::scripts"),
     ("history_checker_tests", "history_rows", "ORDERS", "`judge` over logs of calls of one message each (`histories`)", "rows::orders"),
     ("history_checker_tests", "history_rows", "SEVERAL", "`judge`, and `History::fault`, over logs with receives of several (`histories`)", "rows::several"),
     ("history_checker_tests", "history_rows", "RESTS", "`Rest::is_right` (`histories`)", "rows::rests"),
@@ -48,14 +57,13 @@ brackets. One more row costs no proof.
 |---|---|---|---|
 """
 TAIL = """
-Four rows are texts that a loop writes. They are `rows::messages_beyond_one_block_come_in_order` and `rows::clones_are_counted` of
-`channel_world_tests`, `rows::lengths_after_each_call` of `async_channel_tests`, and `rows::several_at_once_beside_a_displacing_send` of
-`channel_interleaving_tests`. The last one plays a text for each place between the steps of a call.
+Two rows of `channel_world_tests` are texts that loops write, `crowds::a_message_for_a_crowd_of_streams_is_settled` and
+`crowds::a_closing_for_a_crowd_of_streams_is_settled`; one is of `channel_interleaving_tests`, `many::a_million_steps_are_made`. The five
+interleavings of `giving_up` of that crate are texts too, which a test plays up to each place. So is the table of `step_counts` of
+`channel_world_tests`, in which a line stands for each call.
 
 What needs more than two threads, clocks that pass, types of its own or proofs is code: the other tests of these crates. So is what
-takes all memory of its process. So are calls of a channel step by step over one slot (`async_channel_tests`, `calls`), and giving up at
-every place (`channel_interleaving_tests`, `giving_up`). The rows of scripts are texts in `channel_world_tests` (`scripts`), one stored
-run in `channel_script`.
+takes all memory of its process. One stored run of a script is in `channel_script`.
 """
 
 
@@ -75,8 +83,8 @@ def texts():
 
 
 def has_test(crate, test):
-    module, _, name = test.partition("::")
-    return f"#[test]\nfn {name}(" in read(f"crates/{crate}/src/{module}.rt")
+    module, _, name = test.rpartition("::")
+    return f"#[test]\nfn {name}(" in read(f"crates/{crate}/src/{module.replace('::', '/')}.rt")
 
 
 def main(words):

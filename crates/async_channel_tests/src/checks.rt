@@ -1,10 +1,8 @@
 //! What tests compare by. Proved once each; a test has no exit of its own at such a call, so it is cheap to prove.
 
-use futures::test::MockTask;
 use std::alloc::AllocGlobal;
 use std::fmt::Debug;
 use std::process::Abort;
-use std::random::RandomSource;
 use worked_rows::{Player, play_rows};
 
 /// Ends the test where these differ, and shows both.
@@ -27,9 +25,4 @@ pub fn expect_rows<A: Abort + AllocGlobal, P: Player>(
     let played = play_rows(rt.alloc(), text, player).expect(rt, "memory");
     assert!(rt; played.differs.is_none(), "{:?}", played.differs);
     assert_eq!(rt; played.rows, rows);
-}
-
-/// A task of its own; without one the test ends.
-pub fn new_task<R: Abort + RandomSource + AllocGlobal>(rt: &R) -> MockTask {
-    MockTask::new(rt).expect(rt, "memory")
 }

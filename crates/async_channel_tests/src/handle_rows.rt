@@ -447,4 +447,285 @@ downgrade r = made
 upgrade 5 = made
 same_channel r 6 = true
 same_channel s 2 = false
+
+row handles_have_their_texts
+bounded 1
+downgrade s = made
+downgrade r = made
+text s = Sender { .. }
+text r = Receiver { .. }
+text 2 = WeakSender { .. }
+text 3 = WeakReceiver { .. }
+
+# It is refused before any memory is asked for, and no identity is taken.
+row capacities_past_the_greatest
+bounded 288230376151711745 = memory
+identity = 0
+
+row a_walk_ends_where_the_channel_is_closed_and_empty
+bounded 3
+try_send s 1 = sent
+try_send s 2 = sent
+try_send s 3 = sent
+close s = true
+walk r 5 = 1 2 3 none none
+unbounded
+try_send 2 1 = sent
+try_send 2 2 = sent
+try_send 2 3 = sent
+close 2 = true
+walk 3 5 = 1 2 3 none none
+
+# A message that is sent after its end is for the next walk.
+row a_walk_that_does_not_wait_stays_ended
+bounded 3
+try_send s 1 = sent
+try_send s 2 = sent
+try_walk r 3 s 3 = 1 2 none sent none
+try_walk r 1 s 4 = 3 sent 4
+try_send s 5 = sent
+close s = true
+try_walk r 1 s 6 = 5 closed 6 none
+unbounded
+try_send 2 1 = sent
+try_send 2 2 = sent
+try_walk 3 3 2 3 = 1 2 none sent none
+try_walk 3 1 2 4 = 3 sent 4
+try_send 2 5 = sent
+close 2 = true
+try_walk 3 1 2 6 = 5 closed 6 none
+
+row messages_fill_the_room_that_is_there
+bounded 5
+try_sends s 1 6 = 5
+fill r 1 4 = 3 holds 9 1 2 3 of 4
+fill r 4 4 = 0 holds 9 9 9 9 of 4
+fill r 0 4 = 2 holds 4 5 of 4
+fill r 0 4 = empty holds of 4
+close s = true
+fill r 0 4 = over holds of 4
+unbounded
+try_sends 2 1 6 = 5
+fill 3 1 4 = 3 holds 9 1 2 3 of 4
+fill 3 4 4 = 0 holds 9 9 9 9 of 4
+fill 3 0 4 = 2 holds 4 5 of 4
+fill 3 0 4 = empty holds of 4
+close 2 = true
+fill 3 0 4 = over holds of 4
+";
+
+/// A channel in which the calls of [`FIFTY`] are made again and again.
+pub(crate) const OF_A_THOUSAND_PLACES: &str = "
+row lengths_after_each_call_of_a_thousand_places
+bounded 1000
+";
+
+/// One in which they are made once.
+pub(crate) const WITHOUT_A_BOUND: &str = "
+row lengths_after_each_call_without_a_bound
+unbounded
+";
+
+/// Fifty sends and fifty receives, with the length right after each.
+pub(crate) const FIFTY: &str = "
+send_to_end s 0 = sent
+len s = 1
+send_to_end s 1 = sent
+len s = 2
+send_to_end s 2 = sent
+len s = 3
+send_to_end s 3 = sent
+len s = 4
+send_to_end s 4 = sent
+len s = 5
+send_to_end s 5 = sent
+len s = 6
+send_to_end s 6 = sent
+len s = 7
+send_to_end s 7 = sent
+len s = 8
+send_to_end s 8 = sent
+len s = 9
+send_to_end s 9 = sent
+len s = 10
+send_to_end s 10 = sent
+len s = 11
+send_to_end s 11 = sent
+len s = 12
+send_to_end s 12 = sent
+len s = 13
+send_to_end s 13 = sent
+len s = 14
+send_to_end s 14 = sent
+len s = 15
+send_to_end s 15 = sent
+len s = 16
+send_to_end s 16 = sent
+len s = 17
+send_to_end s 17 = sent
+len s = 18
+send_to_end s 18 = sent
+len s = 19
+send_to_end s 19 = sent
+len s = 20
+send_to_end s 20 = sent
+len s = 21
+send_to_end s 21 = sent
+len s = 22
+send_to_end s 22 = sent
+len s = 23
+send_to_end s 23 = sent
+len s = 24
+send_to_end s 24 = sent
+len s = 25
+send_to_end s 25 = sent
+len s = 26
+send_to_end s 26 = sent
+len s = 27
+send_to_end s 27 = sent
+len s = 28
+send_to_end s 28 = sent
+len s = 29
+send_to_end s 29 = sent
+len s = 30
+send_to_end s 30 = sent
+len s = 31
+send_to_end s 31 = sent
+len s = 32
+send_to_end s 32 = sent
+len s = 33
+send_to_end s 33 = sent
+len s = 34
+send_to_end s 34 = sent
+len s = 35
+send_to_end s 35 = sent
+len s = 36
+send_to_end s 36 = sent
+len s = 37
+send_to_end s 37 = sent
+len s = 38
+send_to_end s 38 = sent
+len s = 39
+send_to_end s 39 = sent
+len s = 40
+send_to_end s 40 = sent
+len s = 41
+send_to_end s 41 = sent
+len s = 42
+send_to_end s 42 = sent
+len s = 43
+send_to_end s 43 = sent
+len s = 44
+send_to_end s 44 = sent
+len s = 45
+send_to_end s 45 = sent
+len s = 46
+send_to_end s 46 = sent
+len s = 47
+send_to_end s 47 = sent
+len s = 48
+send_to_end s 48 = sent
+len s = 49
+send_to_end s 49 = sent
+len s = 50
+recv_to_end r = received 0
+len s = 49
+recv_to_end r = received 1
+len s = 48
+recv_to_end r = received 2
+len s = 47
+recv_to_end r = received 3
+len s = 46
+recv_to_end r = received 4
+len s = 45
+recv_to_end r = received 5
+len s = 44
+recv_to_end r = received 6
+len s = 43
+recv_to_end r = received 7
+len s = 42
+recv_to_end r = received 8
+len s = 41
+recv_to_end r = received 9
+len s = 40
+recv_to_end r = received 10
+len s = 39
+recv_to_end r = received 11
+len s = 38
+recv_to_end r = received 12
+len s = 37
+recv_to_end r = received 13
+len s = 36
+recv_to_end r = received 14
+len s = 35
+recv_to_end r = received 15
+len s = 34
+recv_to_end r = received 16
+len s = 33
+recv_to_end r = received 17
+len s = 32
+recv_to_end r = received 18
+len s = 31
+recv_to_end r = received 19
+len s = 30
+recv_to_end r = received 20
+len s = 29
+recv_to_end r = received 21
+len s = 28
+recv_to_end r = received 22
+len s = 27
+recv_to_end r = received 23
+len s = 26
+recv_to_end r = received 24
+len s = 25
+recv_to_end r = received 25
+len s = 24
+recv_to_end r = received 26
+len s = 23
+recv_to_end r = received 27
+len s = 22
+recv_to_end r = received 28
+len s = 21
+recv_to_end r = received 29
+len s = 20
+recv_to_end r = received 30
+len s = 19
+recv_to_end r = received 31
+len s = 18
+recv_to_end r = received 32
+len s = 17
+recv_to_end r = received 33
+len s = 16
+recv_to_end r = received 34
+len s = 15
+recv_to_end r = received 35
+len s = 14
+recv_to_end r = received 36
+len s = 13
+recv_to_end r = received 37
+len s = 12
+recv_to_end r = received 38
+len s = 11
+recv_to_end r = received 39
+len s = 10
+recv_to_end r = received 40
+len s = 9
+recv_to_end r = received 41
+len s = 8
+recv_to_end r = received 42
+len s = 7
+recv_to_end r = received 43
+len s = 6
+recv_to_end r = received 44
+len s = 5
+recv_to_end r = received 45
+len s = 4
+recv_to_end r = received 46
+len s = 3
+recv_to_end r = received 47
+len s = 2
+recv_to_end r = received 48
+len s = 1
+recv_to_end r = received 49
+len s = 0
 ";

@@ -6,13 +6,15 @@
 #[cfg(test)]
 mod asking;
 #[cfg(test)]
-mod blocked;
+mod beside;
 #[cfg(test)]
-mod calls;
+mod blocked;
 #[cfg(test)]
 mod checks;
 #[cfg(test)]
 mod counting;
+#[cfg(test)]
+mod errors;
 #[cfg(test)]
 mod handle_rows;
 #[cfg(test)]
@@ -22,8 +24,10 @@ mod order;
 #[cfg(test)]
 mod owned;
 #[cfg(test)]
-mod refusals;
-#[cfg(test)]
 mod rows;
 #[cfg(test)]
-mod walks;
+mod slot_calls;
+#[cfg(test)]
+mod slot_rows;
+#[cfg(test)]
+mod slots;

@@ -117,16 +117,14 @@ where
     polls(rt, &ends.0, &ends.1, &names, closes) && are(rt, &names, want)
 }
 
+/// A closing wakes receives, streams and closings in order; a message wakes a receive before the streams.
 #[test]
-fn a_closing_wakes_receives_streams_and_closings_in_order(rt: HostRuntime) {
-    let ends = opened(rt, rt.alloc(), 0).expect(&rt, "memory");
-    let want = [1, 2, 3, 3, 2, 1];
-    expect_true(&rt, is_order(rt, &ends, true, want.as_slice()));
-}
-
-#[test]
-fn a_message_wakes_a_receive_before_the_streams(rt: HostRuntime) {
-    let ends = opened(rt, rt.alloc(), 0).expect(&rt, "memory");
-    let want = [1, 2, 3, 3, 2];
-    expect_true(&rt, is_order(rt, &ends, false, want.as_slice()));
+fn calls_wake_in_order(rt: HostRuntime) {
+    for (closes, want) in [
+        (true, [1, 2, 3, 3, 2, 1].as_slice()),
+        (false, [1, 2, 3, 3, 2].as_slice()),
+    ] {
+        let ends = opened(rt, rt.alloc(), 0).expect(&rt, "memory");
+        expect_true(&rt, is_order(rt, &ends, closes, want));
+    }
 }

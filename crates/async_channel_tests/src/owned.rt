@@ -8,11 +8,16 @@
 //! | `clones H N` | so many clones | how many were made that are of the same channel |
 //! | `same_channel H H` | whether both are of one channel | |
 //! | `drop H`, `drops H N` | drops this handle, and so many from it on | `ok` |
+//! | `identity` | takes the next identity | its number |
+//! | `text H` | what a programmer is shown | |
+//! | `walk H N` | the first N items of a walk that waits | messages, `none` |
+//! | `try_walk R N S M` | N items of a walk that doesn't wait, then a send of M, then one item more of that walk | the same |
+//! | `fill R N ROOM` | receives into a list of N times 9 that has room for so many in all | how many, or `empty`, `over`; `holds` and the list, `of` and its room |
 //! | `CALL H ..` | a call of a strong handle ([`channel_test_helpers::calls`]) | |
 
 use async_channel::{
-    EventIds, HandleError, OpenError, Receiver, Sender, WeakReceiver, WeakSender, bounded,
-    unbounded,
+    EventIds, HandleError, ListenError, OpenError, Receiver, Sender, TryRecvError, WeakReceiver,
+    WeakSender, bounded, unbounded,
 };
 use channel_test_helpers::Ends;
 use channel_test_helpers::calls::{MEMORY, sender_says, write_received};
@@ -43,6 +48,32 @@ const MADE: Said = Said::Word("made");
 
 const NO_HANDLE: Said = Said::Word("no such handle");
 
+/// What a walk gives.
+fn walked(item: Option<Result<u64, ListenError>>) -> Said {
+    match item {
+        Some(Ok(message)) => Said::Number(message),
+        Some(Err(_)) => MEMORY,
+        None => Said::Word("none"),
+    }
+}
+
+/// What a walk gives that doesn't wait.
+fn tried(item: Option<u64>) -> Said {
+    match item {
+        Some(message) => Said::Number(message),
+        None => Said::Word("none"),
+    }
+}
+
+/// What a receive into a list's room says.
+fn filled(count: Result<usize, TryRecvError>) -> Said {
+    match count {
+        Ok(count) => Said::count(count),
+        Err(TryRecvError::Empty) => Said::Word("empty"),
+        Err(TryRecvError::Closed) => Said::Word("over"),
+    }
+}
+
 /// The number of a handle.
 fn number(words: &mut Words<'_>) -> usize {
     words.place(&["s", "r"]) as usize
@@ -65,6 +96,16 @@ impl<R: Wait + Copy> Handle<R> {
             Handle::Receiver(r) => Ok(Some(Handle::WeakReceiver(r.downgrade()?))),
             Handle::WeakSender(s) => Ok(s.upgrade()?.map(|sender| Handle::Sender(sender))),
             Handle::WeakReceiver(r) => Ok(r.upgrade()?.map(|receiver| Handle::Receiver(receiver))),
+        }
+    }
+
+    /// Writes what a programmer is shown of it.
+    fn write_text(&self, answer: &mut String) -> Result<(), AllocError> {
+        match self {
+            Handle::Sender(s) => write!(answer, "{s:?}"),
+            Handle::Receiver(r) => write!(answer, "{r:?}"),
+            Handle::WeakSender(s) => write!(answer, "{s:?}"),
+            Handle::WeakReceiver(r) => write!(answer, "{r:?}"),
         }
     }
 
@@ -194,6 +235,64 @@ impl<R: Wait + Copy + RandomSource + AllocGlobal> Owned<R> {
         said
     }
 
+    /// The next identity.
+    fn identity(&mut self) -> Said {
+        match self.ids.next() {
+            Ok(id) => Said::Number(id.number()),
+            Err(_) => Said::Word("identities"),
+        }
+    }
+
+    fn write_text(&self, place: usize, answer: &mut String) -> Result<(), AllocError> {
+        match self.handle(place) {
+            Some(handle) => handle.write_text(answer),
+            None => NO_HANDLE.write(answer),
+        }
+    }
+
+    fn write_walk(&self, words: &mut Words<'_>, answer: &mut String) -> Result<(), AllocError> {
+        let Some(Handle::Receiver(r)) = self.handle(number(words)) else {
+            return NO_HANDLE.write(answer);
+        };
+        let mut walk = r.iter();
+        for _ in 0..words.size() {
+            walked(walk.next()).write(answer)?;
+        }
+        Ok(())
+    }
+
+    fn write_try_walk(&self, words: &mut Words<'_>, answer: &mut String) -> Result<(), AllocError> {
+        let Some(Handle::Receiver(r)) = self.handle(number(words)) else {
+            return NO_HANDLE.write(answer);
+        };
+        let mut walk = r.try_iter();
+        for _ in 0..words.size() {
+            tried(walk.next()).write(answer)?;
+        }
+        let Some(Handle::Sender(s)) = self.handle(number(words)) else {
+            return NO_HANDLE.write(answer);
+        };
+        sender_says(self.rt, s, "try_send", words).write(answer)?;
+        tried(walk.next()).write(answer)
+    }
+
+    fn write_fill(&self, words: &mut Words<'_>, answer: &mut String) -> Result<(), AllocError> {
+        let Some(Handle::Receiver(r)) = self.handle(number(words)) else {
+            return NO_HANDLE.write(answer);
+        };
+        let held = words.size();
+        let mut into = Vec::with_capacity(self.alloc, words.size())?;
+        for _ in 0..held {
+            into.push(9)?;
+        }
+        filled(r.recv_many_into(&mut into)).write(answer)?;
+        Said::Word("holds").write(answer)?;
+        for message in into.iter() {
+            Said::Number(*message).write(answer)?;
+        }
+        Said::Both("of", into.capacity() as u64).write(answer)
+    }
+
     fn write_call(
         &mut self,
         verb: &str,
@@ -211,6 +310,7 @@ impl<R: Wait + Copy + RandomSource + AllocGlobal> Owned<R> {
 impl<R: Wait + Copy + RandomSource + AllocGlobal> Player for Owned<R> {
     fn begin(&mut self) {
         self.handles.clear();
+        self.ids = EventIds::new();
     }
 
     fn play(&mut self, words: &mut Words<'_>, answer: &mut String) -> Result<(), AllocError> {
@@ -224,6 +324,11 @@ impl<R: Wait + Copy + RandomSource + AllocGlobal> Player for Owned<R> {
             "same_channel" => self.same_channel(number(words), number(words)),
             "drop" => self.drop(number(words), 1),
             "drops" => self.drop(number(words), words.size()),
+            "identity" => self.identity(),
+            "text" => return self.write_text(number(words), answer),
+            "walk" => return self.write_walk(words, answer),
+            "try_walk" => return self.write_try_walk(words, answer),
+            "fill" => return self.write_fill(words, answer),
             verb => return self.write_call(verb, words, answer),
         };
         said.write(answer)

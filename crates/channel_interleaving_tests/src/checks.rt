@@ -1,21 +1,19 @@
 //! What tests compare by. Proved once each; a test has no exit of its own at such a call, so it is cheap to prove.
 
+use channel_rows::Worlds;
+use std::alloc::AllocGlobal;
 use std::fmt::Debug;
 use std::process::Abort;
-use worked_rows::Played;
+use worked_rows::play_rows;
 
 /// Ends the test where these differ, and shows both.
 pub fn expect_equal<A: Abort, T: PartialEq + Debug>(rt: &A, found: &T, wanted: &T) {
     assert_eq!(rt; found, wanted);
 }
 
-/// Ends the test where this is false.
-pub fn expect_true<A: Abort>(rt: &A, it: bool) {
-    assert!(rt; it);
-}
-
-/// Ends the test at the first call that answered another thing than its row says, and where there are not so many rows.
-pub fn expect_rows<A: Abort>(rt: &A, played: &Played<'_>, rows: u64) {
+/// Plays these rows. Ends the test at the first call that answers another thing than its row says, and where there are not so many rows.
+pub fn expect_rows<A: Abort + AllocGlobal>(rt: &A, text: &str, worlds: &mut Worlds, rows: u64) {
+    let played = play_rows(rt.alloc(), text, worlds).expect(rt, "memory");
     assert!(rt; played.differs.is_none(), "{:?}", played.differs);
     assert_eq!(rt; played.rows, rows);
 }

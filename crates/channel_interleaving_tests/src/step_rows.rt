@@ -188,4 +188,95 @@ then begin 0 0 try_recv r
 then begin 0 0 try_recv 9
 run_steps = stopped busy 1 after 1 left 1
 numbers = 0 0 0 1
+
+# The step that is refused stays in front, with the begin that it is: once the first send has ended, the second begins.
+row a_refused_step_stays_in_front
+bounded 1
+then begin 0 0 try_send s 1
+then begin 0 0 try_send s 2
+then go 0 1
+run_front = stopped busy 1 after 1 left 2
+numbers = 0 0 0 1
+run_front = stopped busy 0 after 0 left 2
+party 0 300 = append nothing nothing nothing nothing sent in 5
+run_front = full 2
+";
+
+/// A full channel of two places: a send that displaces makes so many steps, several are received at once, and the send goes on. What
+/// is displaced, what is received at once and what is left are the three messages, each once and in order, wherever the one call stands
+/// between the other's steps, and after them. Once the oldest is displaced, several are received with the message that is on its way.
+pub(crate) const SEVERAL: &str = "
+row several_at_once_beside_a_displacing_send
+bounded 2
+whole 0 try_send s 1 = sent
+whole 0 try_send s 2 = sent
+begin 0 1 force_send s 3 = goes on
+whole 1 recv_many r 5 = received 1 2
+end 0 = sent
+end 1 = stopped idle 0 after 0 left 1
+whole 1 try_recv r = received 3
+bounded 2
+whole 0 try_send s 1 = sent
+whole 0 try_send s 2 = sent
+begin 0 2 force_send s 3 = goes on
+whole 1 recv_many r 5 = received 1 2
+end 0 = sent
+end 1 = stopped idle 0 after 0 left 1
+whole 1 try_recv r = received 3
+bounded 2
+whole 0 try_send s 1 = sent
+whole 0 try_send s 2 = sent
+begin 0 3 force_send s 3 = goes on
+whole 1 recv_many r 5 = goes on
+end 0 = displaced 1
+end 1 = received 2 3
+whole 1 try_recv r = empty
+bounded 2
+whole 0 try_send s 1 = sent
+whole 0 try_send s 2 = sent
+begin 0 4 force_send s 3 = goes on
+whole 1 recv_many r 5 = goes on
+end 0 = displaced 1
+end 1 = received 2 3
+whole 1 try_recv r = empty
+bounded 2
+whole 0 try_send s 1 = sent
+whole 0 try_send s 2 = sent
+begin 0 5 force_send s 3 = goes on
+whole 1 recv_many r 5 = goes on
+end 0 = displaced 1
+end 1 = received 2 3
+whole 1 try_recv r = empty
+bounded 2
+whole 0 try_send s 1 = sent
+whole 0 try_send s 2 = sent
+begin 0 6 force_send s 3 = goes on
+whole 1 recv_many r 5 = goes on
+end 0 = displaced 1
+end 1 = received 2 3
+whole 1 try_recv r = empty
+bounded 2
+whole 0 try_send s 1 = sent
+whole 0 try_send s 2 = sent
+begin 0 7 force_send s 3 = goes on
+whole 1 recv_many r 5 = received 2 3
+end 0 = displaced 1
+end 1 = stopped idle 0 after 0 left 1
+whole 1 try_recv r = empty
+bounded 2
+whole 0 try_send s 1 = sent
+whole 0 try_send s 2 = sent
+begin 0 8 force_send s 3 = goes on
+whole 1 recv_many r 5 = received 2 3
+end 0 = displaced 1
+end 1 = stopped idle 0 after 0 left 1
+whole 1 try_recv r = empty
+bounded 2
+whole 0 try_send s 1 = sent
+whole 0 try_send s 2 = sent
+begin 0 9 force_send s 3 = displaced 1
+whole 1 recv_many r 5 = received 2 3
+end 0 = stopped idle 0 after 0 left 1
+end 1 = stopped idle 0 after 0 left 1
+whole 1 try_recv r = empty
 ";

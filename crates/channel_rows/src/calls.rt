@@ -108,7 +108,7 @@ fn call_of_handles(verb: &str, words: &mut Words<'_>) -> Option<Call<u64>> {
 }
 
 /// The call that a line names.
-pub(crate) fn call_of(verb: &str, words: &mut Words<'_>) -> Option<Call<u64>> {
+pub fn call_of(verb: &str, words: &mut Words<'_>) -> Option<Call<u64>> {
     match call_of_messages(verb, words) {
         Some(call) => Some(call),
         None => call_of_handles(verb, words),

@@ -10,10 +10,14 @@
 //! | `begin P N CALL` | party P begins a call and makes N steps of it (`run_steps`) | the replies of calls that end there |
 //! | `go P N` | party P makes N more steps | the same |
 //! | `then begin P N CALL`, `then go P N`, and then `run_steps` | makes these steps as one list | the same |
+//! | the same with `run_front` in place of `run_steps` | the same, and keeps what is left of the list | the same |
 //! | `whole P CALL`, `end P` | begins a call, or goes on, a step at a time, up to its end, 64 more at most | the same |
+//! | `party P N` | party P makes N more steps at most, up to its call's end (`run_party`) | each step's mark, and the same; `in` and the number of steps |
 //! | `count CALL` | party 0 makes a call whole (`run_party`) | its reply, `in` and the number of its steps |
 //! | `settle` | polls whoever is woken | each name with its reply |
 //! | `numbers` | the numbers of messages, of the pending, of the woken and of calls under way | |
+//! | `lines` | on each line, how many are pending and how many of them were woken; the messages that calls under way have taken | |
+//! | `has_positions N` | whether there are positions for N messages more | |
 //! | `is_quiet` | whether no call is under way | |
 //!
 //! Behind a reply stand `wakes` and the names of those who were woken; where a list stops, `stopped`, the reason, the place,
@@ -28,5 +32,6 @@ mod replies;
 mod steps;
 mod worlds;
 
+pub use calls::call_of;
 pub use steps::{write_step, write_steps};
 pub use worlds::Worlds;

@@ -6,7 +6,8 @@ use channel_world::step::{Entry, Step};
 use std::alloc::AllocError;
 use std::collections::VecDeque;
 
-fn mark_word(mark: Mark) -> &'static str {
+/// The mark in small letters.
+pub(crate) fn mark_word(mark: Mark) -> &'static str {
     match mark {
         Mark::Nothing => "nothing",
         Mark::Append => "append",

@@ -1,9 +1,11 @@
 use crate::calls::call_of;
 use crate::replies::{OF_ROWS, waiter_said, write_reply, write_stop, write_woken};
+use crate::steps::mark_word;
 use channel_calls::error::OpenError;
+use channel_calls::stage::Line;
 use channel_world::call::{Call, CallRun};
 use channel_world::settle::Settled;
-use channel_world::step::{PartyId, Run, Step};
+use channel_world::step::{Entry, PartyId, Run, Step};
 use channel_world::world::World;
 use event_listener::id::EventIds;
 use std::alloc::{AllocError, Global};
@@ -48,15 +50,41 @@ fn goes_on(run: &Run<u64>) -> bool {
     }
 }
 
+/// Writes what a step answered, and whom it woke.
+fn write_entry(entry: &Entry<u64>, answer: &mut String) -> Result<(), AllocError> {
+    if let Some(reply) = &entry.reply {
+        write_reply(&OF_ROWS, reply, answer)?;
+    }
+    write_woken(&OF_ROWS, entry.woken.as_slice(), answer)
+}
+
 /// Writes what came of a list of steps, of which so many are left.
 fn write_steps(run: &Run<u64>, left: usize, answer: &mut String) -> Result<(), AllocError> {
     for entry in run.trace.iter() {
-        if let Some(reply) = &entry.reply {
-            write_reply(&OF_ROWS, reply, answer)?;
-        }
-        write_woken(&OF_ROWS, entry.woken.as_slice(), answer)?;
+        write_entry(entry, answer)?;
     }
     write_stop(run.stopped, run.trace.len(), left, answer)
+}
+
+/// Writes what a party's steps did, each with its mark, and how many there were.
+fn write_marked(run: &Run<u64>, answer: &mut String) -> Result<(), AllocError> {
+    for entry in run.trace.iter() {
+        Said::Word(mark_word(entry.mark)).write(answer)?;
+        write_entry(entry, answer)?;
+    }
+    write_stop(run.stopped, run.trace.len(), 0, answer)?;
+    Said::Both("in", run.trace.len() as u64).write(answer)
+}
+
+/// Writes how many are pending on this line, and how many of them were woken.
+fn write_line(
+    world: &World<u64>,
+    name: &'static str,
+    line: Line,
+    answer: &mut String,
+) -> Result<(), AllocError> {
+    Said::Both(name, world.pending_of(line) as u64).write(answer)?;
+    Said::count(world.woken_of(line)).write(answer)
 }
 
 fn write_polls(polls: &Vec<Settled<u64>>, answer: &mut String) -> Result<(), AllocError> {
@@ -152,19 +180,35 @@ impl Worlds {
         }
     }
 
-    /// Makes the steps of the list, and writes what comes of them.
-    fn run_steps(&mut self, answer: &mut String) -> Result<(), AllocError> {
+    /// Makes the steps of the list, and writes what comes of them. What is left of it stays.
+    fn run_front(&mut self, answer: &mut String) -> Result<(), AllocError> {
         let Some(world) = &mut self.world else {
             return answer.push_str(NO_CHANNEL);
         };
         let run = world.run_steps(&mut self.steps);
-        let left = self.steps.len();
-        self.steps.clear();
-        write_steps(&run, left, answer)?;
+        write_steps(&run, self.steps.len(), answer)?;
         if answer.is_empty() {
             answer.push_str("goes on")?;
         }
         Ok(())
+    }
+
+    /// The same, and lets go what is left.
+    fn run_steps(&mut self, answer: &mut String) -> Result<(), AllocError> {
+        let written = self.run_front(answer);
+        self.steps.clear();
+        written
+    }
+
+    /// A party makes so many steps of its call at most, up to its end.
+    fn run_party(&mut self, words: &mut Words<'_>, answer: &mut String) -> Result<(), AllocError> {
+        let Some(world) = &mut self.world else {
+            return answer.push_str(NO_CHANNEL);
+        };
+        match world.run_party(PartyId(words.small()), words.size()) {
+            Ok(run) => write_marked(&run, answer),
+            Err(_) => Said::Word("memory").write(answer),
+        }
     }
 
     /// Makes these steps at once, unless they can't be read.
@@ -253,6 +297,21 @@ impl Worlds {
         Said::count(world.under_way()).write(answer)
     }
 
+    /// Writes who is pending on each line, and who of them was woken; and how many messages calls under way have taken.
+    fn write_lines(&self, answer: &mut String) -> Result<(), AllocError> {
+        let Some(world) = &self.world else {
+            return answer.push_str(NO_CHANNEL);
+        };
+        write_line(world, "sends", Line::Sends, answer)?;
+        write_line(world, "receives", Line::Receives, answer)?;
+        write_line(world, "streams", Line::Streams, answer)?;
+        write_line(world, "closings", Line::Closings, answer)?;
+        match world.taken() {
+            Some(taken) => Said::Both("taken", taken).write(answer),
+            None => Said::Word("taken unknown").write(answer),
+        }
+    }
+
     fn is_quiet(&self) -> Said {
         match &self.world {
             Some(world) => Said::flag(world.is_quiet()),
@@ -260,13 +319,22 @@ impl Worlds {
         }
     }
 
-    /// What is done to a list to come.
+    /// Whether there are positions for so many messages more.
+    fn has_positions(&self, count: usize) -> Said {
+        match &self.world {
+            Some(world) => Said::flag(world.has_positions(count)),
+            None => Said::Word(NO_CHANNEL),
+        }
+    }
+
+    /// What is done to a list to come, and what is asked of the world.
     fn prepare(&mut self, verb: &str, words: &mut Words<'_>) -> Said {
         match verb {
             "bounded" => self.open(Some(words.size())),
             "unbounded" => self.open(None),
             "later" => self.add_call(words.word(), words),
             "then" => self.add_turn(words.word(), words),
+            "has_positions" => self.has_positions(words.size()),
             _ => self.is_quiet(),
         }
     }
@@ -294,17 +362,20 @@ impl Player for Worlds {
 
     fn play(&mut self, words: &mut Words<'_>, answer: &mut String) -> Result<(), AllocError> {
         match words.word() {
-            verb @ ("bounded" | "unbounded" | "later" | "then" | "is_quiet") => {
+            verb @ ("bounded" | "unbounded" | "later" | "then" | "has_positions" | "is_quiet") => {
                 self.prepare(verb, words).write(answer)
             }
             verb @ ("begin" | "go") => self.run_turn(verb, words, answer),
             "run_calls" => self.run_calls(answer),
             "run_steps" => self.run_steps(answer),
+            "run_front" => self.run_front(answer),
+            "party" => self.run_party(words, answer),
             "whole" => self.run_whole(words, answer),
             "end" => self.run_to_end(PartyId(words.small()), answer),
             "count" => self.count(words, answer),
             "settle" => self.settle(answer),
             "numbers" => self.write_numbers(answer),
+            "lines" => self.write_lines(answer),
             verb => self.call(verb, words, answer),
         }
     }

@@ -354,3 +354,74 @@ try_recv r = received 1 wakes 3
 settle = 2 pending 3 sent 2 received 2
 numbers = 0 0 0 0
 ";
+
+/// What a world tells of its lines and its positions, and steps of one party without a list.
+pub(crate) const TOLD: &str = "
+# Each is counted on its own line, and as woken once a place came free.
+row each_is_told_of_on_its_line
+bounded 1
+try_send s 1 = sent
+send 0 s 2 = made
+poll 0 = pending
+closed 1 s = made
+poll 1 = pending
+lines = sends 1 0 receives 0 0 streams 0 0 closings 1 0 taken 0
+try_recv r = received 1 wakes 0
+lines = sends 1 1 receives 0 0 streams 0 0 closings 1 0 taken 0
+
+row a_party_is_stepped_without_counting
+bounded 1
+begin 3 0 try_send s 5 = goes on
+party 3 2 = append nothing in 2
+party 3 300 = nothing nothing nothing sent in 3
+party 3 300 = stopped idle 0 after 0 left 0 in 0
+party 3 0 = in 0
+
+# For how many messages more there are positions, before and after two were accepted: 2^61 - 1 in all, and with one place any number.
+row one_place_has_positions_for_any_number
+bounded 1
+has_positions 0 = true
+has_positions 1 = true
+has_positions 2305843009213693949 = true
+has_positions 2305843009213693951 = true
+has_positions 2305843009213693952 = true
+has_positions 18446744073709551615 = true
+whole 0 force_send s 0 = sent
+whole 0 force_send s 1 = displaced 0
+has_positions 0 = true
+has_positions 1 = true
+has_positions 2305843009213693949 = true
+has_positions 2305843009213693951 = true
+has_positions 2305843009213693952 = true
+has_positions 18446744073709551615 = true
+bounded 2
+has_positions 0 = true
+has_positions 1 = true
+has_positions 2305843009213693949 = true
+has_positions 2305843009213693951 = true
+has_positions 2305843009213693952 = false
+has_positions 18446744073709551615 = false
+whole 0 force_send s 0 = sent
+whole 0 force_send s 1 = sent
+has_positions 0 = true
+has_positions 1 = true
+has_positions 2305843009213693949 = true
+has_positions 2305843009213693951 = false
+has_positions 2305843009213693952 = false
+has_positions 18446744073709551615 = false
+unbounded
+has_positions 0 = true
+has_positions 1 = true
+has_positions 2305843009213693949 = true
+has_positions 2305843009213693951 = true
+has_positions 2305843009213693952 = false
+has_positions 18446744073709551615 = false
+whole 0 force_send s 0 = sent
+whole 0 force_send s 1 = sent
+has_positions 0 = true
+has_positions 1 = true
+has_positions 2305843009213693949 = true
+has_positions 2305843009213693951 = false
+has_positions 2305843009213693952 = false
+has_positions 18446744073709551615 = false
+";

@@ -10,17 +10,17 @@ pub mod clients;
 #[cfg(test)]
 mod crowds;
 #[cfg(test)]
-mod lines;
+mod many_rows;
 #[cfg(test)]
 mod openings;
-#[cfg(test)]
-mod positions;
 #[cfg(test)]
 mod printed;
 #[cfg(test)]
 mod refusals;
 #[cfg(test)]
 mod rows;
+#[cfg(test)]
+mod script_rows;
 #[cfg(test)]
 mod scripts;
 #[cfg(test)]

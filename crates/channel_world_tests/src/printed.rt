@@ -1,8 +1,8 @@
 //! What runs of steps did, printed.
 
 use crate::checks::expect_equal;
-use channel_rows::{write_step, write_steps};
-use channel_world::call::{Call, Stopped, WorldRefusal};
+use channel_rows::write_steps;
+use channel_world::call::Call;
 use channel_world::name::{HandleId, OpId};
 use channel_world::step::{PartyId, Step};
 use channel_world::world::World;
@@ -32,16 +32,6 @@ const PRINTED: &str = "\
 0 nothing
 0 nothing: ok 5
 1 nothing: ok
-";
-
-/// A send that nobody waits for, by one party alone, in two runs.
-const ALONE: &str = "\
-3 append
-3 nothing
-later
-3 nothing
-3 nothing
-3 nothing: ok
 ";
 
 /// A party begins a call and makes so many steps of it.
@@ -82,43 +72,5 @@ fn a_list_of_steps_is_printed(rt: HostRuntime) -> Result<(), Fail> {
     let mut text = String::new(rt.alloc());
     write_steps(&interleaving(rt.alloc())?, run.trace.as_slice(), &mut text)?;
     expect_equal(&rt, &text.as_str(), &PRINTED);
-    Ok(())
-}
-
-#[test]
-fn a_party_is_stepped_without_counting(rt: HostRuntime) -> Result<(), Fail> {
-    let mut ids = EventIds::new();
-    let mut world: World<u64> = World::bounded(rt.alloc(), 1, &mut ids)?;
-    let party = PartyId(3);
-    let call = Call::TrySend {
-        sender: HandleId(0),
-        msg: 5,
-    };
-    let mut text = String::new(rt.alloc());
-    let mut steps = VecDeque::new(rt.alloc());
-    steps.push_back(Step::Begin { party, call })?;
-    let _begun = world.run_steps(&mut steps);
-    let first = world.run_party(party, 2)?;
-    for entry in first.trace.iter() {
-        write_step(&Step::Step { party }, entry, &mut text)?;
-    }
-    text.push_str("later\n")?;
-    let rest = world.run_party(party, 300)?;
-    for entry in rest.trace.iter() {
-        write_step(&Step::Step { party }, entry, &mut text)?;
-    }
-    expect_equal(&rt, &text.as_str(), &ALONE);
-    let idle = world.run_party(party, 300)?;
-    expect_equal(&rt, &idle.trace.len(), &0);
-    expect_equal(
-        &rt,
-        &idle.stopped,
-        &Some(Stopped {
-            place: 0,
-            why: WorldRefusal::Idle,
-        }),
-    );
-    let none = world.run_party(party, 0)?;
-    expect_equal(&rt, &none.stopped, &None);
     Ok(())
 }

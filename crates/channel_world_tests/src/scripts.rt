@@ -1,6 +1,5 @@
 //! Scripts from bytes to bytes: worked ones, the greatest ones, and readers and writers that fail.
 
 mod bounds;
-mod cut;
 mod faults;
 mod rows;

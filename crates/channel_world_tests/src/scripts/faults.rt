@@ -1,42 +1,61 @@
 //! Readers and writers in memory that fail, at every place of a short script.
-use super::cut::{check, check_front, check_run, writer};
+
+use crate::checks::expect_equal;
 use channel_world::script::{ScriptEnd, run_script};
+use std::alloc::{AllocGlobal, Global};
 use std::io;
 use std::io::{ErrorKind, Read, Write};
-use std::test::Fail;
+use std::process::Abort;
 
-const SCRIPT: &str = "bounded 1\nrecv a r\npoll a\ndrop r\ntry_recv x\nclose s\n";
+const SCRIPT: &[u8] = b"bounded 1\nrecv a r\npoll a\ndrop r\ntry_recv x\nclose s\n";
 
-const TEXT: &str = "ok\nok\npending\nrefused 6\nrefused 3\ntrue wakes a\n";
+const TEXT: &[u8] = b"ok\nok\npending\nrefused 6\nrefused 3\ntrue wakes a\n";
 
 const READ_FAULT: &[u8] = b"read fault\n";
 
 /// What a reader does once its text is given.
-#[derive(Clone, Copy, PartialEq, Eq)]
+#[derive(Clone, Copy)]
 enum AtEnd {
     Ends,
     Fails,
+    IsInterrupted,
+    /// It gives this byte for ever.
+    Gives(u8),
 }
 
-/// A reader that gives a text byte by byte, and is interrupted before each byte and before its end.
+/// A reader that gives a text byte by byte.
 #[derive(Drop)]
-struct Trickle<'a> {
+struct Reader<'a> {
     text: &'a [u8],
     at_end: AtEnd,
-    was_interrupted: bool,
+    /// How often it is interrupted next.
+    interrupted: u32,
+    /// How often it is interrupted before each byte and before the end, behind the first of these.
+    before_each: u32,
 }
 
-impl<'a> Read for Trickle<'a> {
+/// What a read gives once the text is given.
+fn read_end(at_end: AtEnd, buf: &mut [u8]) -> io::Result<usize> {
+    match at_end {
+        AtEnd::Ends => Ok(0),
+        AtEnd::Fails => Err(io::Error::from(ErrorKind::Other)),
+        AtEnd::IsInterrupted => Err(io::Error::from(ErrorKind::Interrupted)),
+        AtEnd::Gives(byte) => {
+            buf.fill(byte);
+            Ok(buf.len())
+        }
+    }
+}
+
+impl<'a> Read for Reader<'a> {
     fn read(&mut self, buf: &mut [u8]) -> io::Result<usize> {
-        self.was_interrupted = !self.was_interrupted;
-        if self.was_interrupted {
+        if let Some(left) = self.interrupted.checked_sub(1) {
+            self.interrupted = left;
             return Err(io::Error::from(ErrorKind::Interrupted));
         }
+        self.interrupted = self.before_each;
         let Some((byte, rest)) = self.text.split_first() else {
-            if self.at_end == AtEnd::Fails {
-                return Err(io::Error::from(ErrorKind::Other));
-            }
-            return Ok(0);
+            return read_end(self.at_end, buf);
         };
         let Some(place) = buf.first_mut() else {
             return Ok(0);
@@ -47,46 +66,13 @@ impl<'a> Read for Trickle<'a> {
     }
 }
 
-fn trickling(text: &[u8], at_end: AtEnd) -> Trickle<'_> {
-    Trickle {
+/// A reader that is interrupted so often at first, and once before each byte and the end behind the first.
+fn reading(text: &[u8], at_end: AtEnd, interrupted: u32) -> Reader<'_> {
+    Reader {
         text,
         at_end,
-        was_interrupted: false,
-    }
-}
-
-/// A reader that never ends: it gives its byte for ever, or is interrupted for ever.
-#[derive(Drop)]
-struct Endless {
-    byte: Option<u8>,
-}
-
-impl Read for Endless {
-    fn read(&mut self, buf: &mut [u8]) -> io::Result<usize> {
-        let Some(byte) = self.byte else {
-            return Err(io::Error::from(ErrorKind::Interrupted));
-        };
-        buf.fill(byte);
-        Ok(buf.len())
-    }
-}
-
-/// A reader that is interrupted so often, and then ends with nothing given.
-#[derive(Drop)]
-struct Interrupted {
-    left: u32,
-}
-
-impl Read for Interrupted {
-    fn read(&mut self, buf: &mut [u8]) -> io::Result<usize> {
-        let _ = buf;
-        match self.left.checked_sub(1) {
-            Some(left) => {
-                self.left = left;
-                Err(io::Error::from(ErrorKind::Interrupted))
-            }
-            None => Ok(0),
-        }
+        interrupted,
+        before_each: interrupted.min(1),
     }
 }
 
@@ -118,112 +104,115 @@ impl Write for Limited {
     }
 }
 
-/// A script whose reading ends is run, however often the reader is interrupted: a body that always says that reading
-/// failed is refused here, and one that writes nothing.
-#[test]
-fn interrupted_reader_is_asked_again(rt: HostRuntime) -> Result<(), Fail> {
-    let mut reader = trickling(SCRIPT.as_bytes(), AtEnd::Ends);
-    check_run(&rt, &mut reader, TEXT.as_bytes(), ScriptEnd::Done, SCRIPT)
+/// How a script ends that this reader gives, where it writes this text.
+fn reads(alloc: Global, mut reader: Reader<'_>, text: &[u8]) -> Option<ScriptEnd> {
+    let mut out = Vec::new(alloc);
+    let end = run_script(alloc, &mut reader, &mut out);
+    (out.as_slice() == text).then_some(end)
 }
 
+/// How a script ends whose writer takes so many bytes and fails by this error then, where it holds this text up to there.
+fn writes(
+    alloc: Global,
+    mut reader: Reader<'_>,
+    limit: usize,
+    error: Option<ErrorKind>,
+    text: &[u8],
+) -> Option<ScriptEnd> {
+    let mut out = Limited {
+        held: Vec::new(alloc),
+        limit,
+        error,
+    };
+    let end = run_script(alloc, &mut reader, &mut out);
+    let front = text.get(..limit).unwrap_or(text);
+    (out.held.as_slice() == front).then_some(end)
+}
+
+/// Compares what scripts come to whose readers are these, interrupted so often.
+fn expect_reads<A: Abort + AllocGlobal>(
+    rt: &A,
+    rows: &[(&'static [u8], AtEnd, u32, &'static [u8], ScriptEnd)],
+) {
+    for (script, at_end, interrupted, text, end) in rows {
+        let found = reads(rt.alloc(), reading(script, *at_end, *interrupted), text);
+        expect_equal(rt, &(*interrupted, found), &(*interrupted, Some(*end)));
+    }
+}
+
+/// A script whose reading ends is run, however often the reader is interrupted: a body that always says that reading failed is
+/// refused here, and one that writes nothing. A reader that fails, after any byte, or doesn't end leaves a text that says so alone.
 #[test]
-fn read_fault_stands_alone(rt: HostRuntime) -> Result<(), Fail> {
+fn readers(rt: HostRuntime) {
+    expect_reads(
+        &rt,
+        &[
+            (SCRIPT, AtEnd::Ends, 1, TEXT, ScriptEnd::Done),
+            (b"", AtEnd::Gives(b'\n'), 0, READ_FAULT, ScriptEnd::Fault),
+            (b"", AtEnd::IsInterrupted, 0, READ_FAULT, ScriptEnd::Fault),
+        ],
+    );
     for given in 0..=SCRIPT.len() {
-        let mut reader = trickling(&SCRIPT.as_bytes()[..given], AtEnd::Fails);
-        check_run(
-            &rt,
-            &mut reader,
-            READ_FAULT,
-            ScriptEnd::Fault,
-            "a reader that fails",
-        )?;
+        let script = SCRIPT.get(..given).unwrap_or(SCRIPT);
+        let found = reads(rt.alloc(), reading(script, AtEnd::Fails, 1), READ_FAULT);
+        expect_equal(&rt, &(given, found), &(given, Some(ScriptEnd::Fault)));
     }
-    Ok(())
 }
 
 #[test]
-fn endless_reader_is_a_read_fault(rt: HostRuntime) -> Result<(), Fail> {
-    for byte in [Some(b'\n'), None] {
-        check_run(
-            &rt,
-            &mut Endless { byte },
-            READ_FAULT,
-            ScriptEnd::Fault,
-            "an endless reader",
-        )?;
-    }
-    Ok(())
+fn a_reader_is_asked_33554432_times_at_most(rt: HostRuntime) {
+    expect_reads(
+        &rt,
+        &[
+            (b"", AtEnd::Ends, 33_554_431, b"", ScriptEnd::Done),
+            (b"", AtEnd::Ends, 33_554_432, READ_FAULT, ScriptEnd::Fault),
+        ],
+    );
 }
 
+/// A writer that fails holds the front of the text. A write fault wins over an unreadable line, over a capacity of 0, over want of
+/// memory and over a read fault; and a writer that takes every byte, one at a time, gets the whole text.
 #[test]
-fn a_reader_is_asked_33554432_times_at_most(rt: HostRuntime) -> Result<(), Fail> {
-    let rows: [(u32, &[u8], ScriptEnd); 2] = [
-        (33_554_431, b"", ScriptEnd::Done),
-        (33_554_432, READ_FAULT, ScriptEnd::Fault),
+fn writers(rt: HostRuntime) {
+    let rows: [(&[u8], AtEnd, usize, &[u8], ScriptEnd); 5] = [
+        (
+            b"poll",
+            AtEnd::Ends,
+            3,
+            b"line 1: can't be read\n",
+            ScriptEnd::Fault,
+        ),
+        (
+            b"bounded 0",
+            AtEnd::Ends,
+            3,
+            b"capacity must be positive\n",
+            ScriptEnd::Fault,
+        ),
+        (
+            b"bounded 288230376151711745",
+            AtEnd::Ends,
+            3,
+            b"want of memory\n",
+            ScriptEnd::Fault,
+        ),
+        (b"", AtEnd::Fails, 3, READ_FAULT, ScriptEnd::Fault),
+        (SCRIPT, AtEnd::Ends, usize::MAX, TEXT, ScriptEnd::Done),
     ];
-    for (left, text, end) in rows {
-        let mut reader = Interrupted { left };
-        check_run(&rt, &mut reader, text, end, "a reader that ends late")?;
+    for (script, at_end, limit, text, end) in rows {
+        let found = writes(rt.alloc(), reading(script, at_end, 1), limit, None, text);
+        expect_equal(&rt, &(limit, found), &(limit, Some(end)));
     }
-    Ok(())
-}
-
-#[test]
-fn write_fault_leaves_a_front(rt: HostRuntime) -> Result<(), Fail> {
     for error in [None, Some(ErrorKind::Other), Some(ErrorKind::Interrupted)] {
         for limit in 0..TEXT.len() {
-            let held = writer(rt.alloc(), TEXT.as_bytes())?;
-            let mut out = Limited { held, limit, error };
-            let end = run_script(rt.alloc(), &mut SCRIPT.as_bytes(), &mut out);
-            check_front(&rt, out.held.as_slice(), TEXT.as_bytes(), limit, end)?;
+            let found = writes(
+                rt.alloc(),
+                reading(SCRIPT, AtEnd::Ends, 0),
+                limit,
+                error,
+                TEXT,
+            );
+            expect_equal(&rt, &(limit, found), &(limit, Some(ScriptEnd::Fault)));
         }
     }
-    Ok(())
-}
-
-/// A writer that takes every byte, one at a time, gets the whole text.
-#[test]
-fn slow_writer_gets_all(rt: HostRuntime) -> Result<(), Fail> {
-    let held = writer(rt.alloc(), TEXT.as_bytes())?;
-    let mut out = Limited {
-        held,
-        limit: usize::MAX,
-        error: None,
-    };
-    let end = run_script(rt.alloc(), &mut SCRIPT.as_bytes(), &mut out);
-    check(
-        &rt,
-        out.held.as_slice(),
-        TEXT.as_bytes(),
-        end,
-        ScriptEnd::Done,
-        SCRIPT,
-    )
-}
-
-/// A write fault wins over an unreadable line, over a capacity of 0, over want of memory and over a read fault.
-#[test]
-fn write_fault_wins(rt: HostRuntime) -> Result<(), Fail> {
-    for (script, text) in [
-        ("poll", "line 1: can't be read\n"),
-        ("bounded 0", "capacity must be positive\n"),
-        ("bounded 288230376151711745", "want of memory\n"),
-    ] {
-        let held = writer(rt.alloc(), text.as_bytes())?;
-        let mut out = Limited {
-            held,
-            limit: 3,
-            error: None,
-        };
-        let end = run_script(rt.alloc(), &mut script.as_bytes(), &mut out);
-        check_front(&rt, out.held.as_slice(), text.as_bytes(), 3, end)?;
-    }
-    let held = writer(rt.alloc(), READ_FAULT)?;
-    let mut out = Limited {
-        held,
-        limit: 3,
-        error: None,
-    };
-    let end = run_script(rt.alloc(), &mut trickling(b"", AtEnd::Fails), &mut out);
-    check_front(&rt, out.held.as_slice(), READ_FAULT, 3, end)
 }
