@@ -27,7 +27,7 @@ list_of Receives = list.Receives
 list_of Streams = list.Streams
 list_of Closings = list.Closings
 
--- waiting listeners are these names in order, each with its name as its task
+-- a waiting listener is this name, which is its task too; and waiting ones are these names in order
 abbrev pub ShowsUntold : KeysHeld → Key × Option Waiter → Waiter → Type 0
 ShowsUntold held e w = (held w ≡ Some e.0) × (e.1 ≡ Some w)
 
@@ -42,7 +42,7 @@ IsToldSo Receives additional = additional ≡ true
 IsToldSo Streams additional = additional ≡ false
 IsToldSo Closings additional = ⊥
 
--- told listeners are these names, in the order in which they were told
+-- a told listener is this name; and told ones are these names, in the order in which they were told
 abbrev pub ShowsTold : KeysHeld → Bool → Line → Key × Notice Unit → Waiter → Type 0
 ShowsTold held closed line e w = (held w ≡ Some e.0) × (closed ≡ false → IsToldSo line e.1.additional)
 

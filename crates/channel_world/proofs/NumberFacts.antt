@@ -228,10 +228,10 @@ untold_hold held [] [] w h i = absurd (let no : false ≡ true = i in cc)
 untold_hold held [] (v ∷ ws) w h i = absurd h
 untold_hold held (e ∷ es) [] w h i = absurd h
 untold_hold held (e ∷ es) (v ∷ ws) w h i =
-    by (or_true (same_waiter w v) (is_among w ws) i) (λ k. untold_hold held es ws w h.2 k)
+    by (or_true (same_waiter w v) (is_among w ws) i) (λ k. untold_hold held es ws w h.1 k)
   where
     by : (same_waiter w v ≡ true) ⊎ (is_among w ws ≡ true) → (is_among w ws ≡ true → is_some (held w) ≡ true) → is_some (held w) ≡ true
-    by (inl t) on = ap (λ (x : Waiter). is_some (held x)) (same_sound w v t) ∙ ap (λ (o : Option Key). is_some o) h.0
+    by (inl t) on = ap (λ (x : Waiter). is_some (held x)) (same_sound w v t) ∙ ap (λ (o : Option Key). is_some o) h.0.0
     by (inr k) on = on k
 
 -- who has a place and passes is kept

@@ -39,7 +39,7 @@ as_many : (held : KeysHeld) (es : List (Key × Option Waiter)) (ws : List Waiter
 as_many held [] [] h = refl
 as_many held [] (w ∷ ws) h = absurd h
 as_many held (e ∷ es) [] h = absurd h
-as_many held (e ∷ es) (w ∷ ws) h = ap suc (as_many held es ws h.2)
+as_many held (e ∷ es) (w ∷ ws) h = ap suc (as_many held es ws h.1)
 
 module _ {T : Type 0} (f : Floor T) (kept : IsKept f) (quiet : IsQuiet f) where
   -- as many stand untold in a line as wait on its list, where no call is under way
