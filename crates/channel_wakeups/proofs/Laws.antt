@@ -11,9 +11,10 @@ use Rattle.channel_wakeups.specs.declared.rule.Roll.{Roll}
 use Rattle.channel_wakeups.specs.declared.rule.Rolls.{Rolls}
 use Rattle.channel_wakeups.specs.declared.rule.View.{View}
 use Rattle.channel_wakeups.specs.declared.rule.Transfer.{Transfer}
+use Rattle.channel_wakeups.specs.declared.rule.Turn.{Turn}
 use Rattle.channel_wakeups.specs.Lists.{told, waits, listed}
-use Rattle.channel_wakeups.specs.Views.{Side, of_receives, of_sends, of_streams, of_closings, Duty, to_one, to_all, of, closed_by, handed, settled, roll, pass, won_place, no_place, no_send, won_message, no_message, no_more, all_owing, still_open, found_closed, only, is_key, listing, Picture, picture, at_word, wanted, messages, places, Owed, empty, full, out, Ordered, Kept, Fair}
-use Rattle.channel_wakeups.proofs.Sums.{only_some, only_zero, owed_by, turned, Goes, Sights, Places, Tickets, Logs, put_else, took_else}
+use Rattle.channel_wakeups.specs.Views.{Side, of_receives, of_sends, of_streams, of_closings, Duty, to_one, to_all, of, closed_by, handed, settled, roll, pass, turning, Law, won_place, no_place, no_send, won_message, no_message, no_more, all_owing, still_open, found_closed, only, is_key, listing, Picture, picture, at_word, wanted, messages, places, Owed, empty, full, out, Ordered, Kept, Fair}
+use Rattle.channel_wakeups.proofs.Sums.{only_some, only_zero, owed_by, turned, law_turned, Goes, Sights, Places, Tickets, Logs, put_else, took_else}
 
 pub no_home : {T : Type 0} (x : Option T) → some x ≡ none → ⊥
 no_home x e = absurd (cc)
@@ -75,12 +76,12 @@ emptied_place T W p l m lg some_part k o free (out d c e w) =
 -- ---- what a step does to the law of a side: it reads three numbers of the call's line
 
 -- for how many the call answers; or whether it has the line in hand to tell all
-abbrev by_call : Duty → Line → ℕ
+abbrev pub by_call : Duty → Line → ℕ
 by_call to_one l = l.answers
 by_call to_all l = l.tells
 
 -- nothing is owed afterwards; or the call answers for all of it; or it answers for as many more as are owed more, with the same in hand
-abbrev Way : ℕ → ℕ → ℕ → ℕ → ℕ → ℕ → Type 0
+abbrev pub Way : ℕ → ℕ → ℕ → ℕ → ℕ → ℕ → Type 0
 Way n m a b i j = (m ≡ 0) ⊎ ((m ≤ b) ⊎ ((m + a ≤ n + b) × (j ≡ i)))
 
 abbrev pub Turns : Duty → Side → Picture → Picture → Lines → Lines → Type 0
@@ -116,7 +117,7 @@ module _ {T W : Type 0} where
       owed_by (wanted to_all s x) _ _ (g + only p (of s i).tells) (h + only p (is_key key (of s i).holds)) (omega arith) (omega arith) after
 
 -- nothing changes on this side
-as_before : (n a i : ℕ) → Way n n a a i i
+pub as_before : (n a i : ℕ) → Way n n a a i i
 as_before n a i = inr (inr (omega arith, refl))
 
 -- a push won the slot: it answers for the message, and has the line of streams in hand; and no place is left
@@ -243,6 +244,10 @@ gives_turns w x true c same to_all of_streams = as_before 1 c.streams.tells c.st
 gives_turns w x false c same to_all of_streams = inr (inr (omega arith, refl))
 gives_turns w x e c same to_all of_closings = as_before (wanted to_all of_closings (at_word w e)) c.closings.tells c.closings.holds
 
+-- nothing changes
+pub same_turns : (p : Picture) (c : Lines) (d : Duty) (s : Side) → Turns d s p p c c
+same_turns p c d s = as_before (wanted d s p) (by_call d (of s c)) (of s c).holds
+
 -- other handles are nothing that the law of a side counts
 pub of_handed : (h : Handles) (l : Lines) (s : Side) → of s (handed h l) ≡ of s l
 of_handed h l of_receives = refl
@@ -277,6 +282,20 @@ module _ {T W : Type 0} where
     where
       tickets : (side : Side) → Tickets side (pass {T = T} p n l m lg) (pass p o i m mg)
       tickets side key x y before = let t : is_key key (of side i).ticket ≡ is_key key (of side l).ticket = ap (is_key key) (same_ticket l i same side) in omega arith
+
+  -- and of a call that has come some way with a ring
+  goes_turning : (d : Duty) (s : Side) (w x : Picture) (p n o : ℕ) (t u : Turn) (l i : Lines) (m : Rolls W) (lg mg : List (Transfer T)) → 0 < p → Turns d s w x l i → Goes d s w x (turning t (pass p n l m lg)) (turning u (pass p o i m mg))
+  goes_turning to_one s w x p n o t u l i m lg mg some_part turns = goes_by to_one s w x p n o l i m lg mg some_part turns
+  goes_turning to_all s w x p n o t u l i m lg mg some_part turns = goes_by to_all s w x p n o l i m lg mg some_part turns
+
+  -- the law alone, whatever the form of the queue
+  pub law_kept : (w x : Picture) (vs : List (View T W)) (id p n o : ℕ) (t u : Turn) (l i : Lines) (m : Rolls W) (lg mg : List (Transfer T)) → 0 < p → get_elem? vs id ≡ some (turning t (pass p n l m lg)) → SameTickets l i → ((d : Duty) (side : Side) → Turns d side w x l i)
+      → Sights w x (turning t (pass p n l m lg)) (turning u (pass p o i m mg)) → Law w vs → Law x (set vs id (turning u (pass p o i m mg)))
+  law_kept w x vs id p n o t u l i m lg mg some_part at same turns sights k =
+      law_turned w x vs id (turning t (pass p n l m lg)) (turning u (pass p o i m mg)) at refl (λ side. refl) (λ d side. goes_turning d side w x p n o t u l i m lg mg some_part (turns d side)) tickets sights k
+    where
+      tickets : (side : Side) → Tickets side (turning t (pass {T = T} p n l m lg)) (turning u (pass p o i m mg))
+      tickets side key x y before = let e : is_key key (of side i).ticket ≡ is_key key (of side l).ticket = ap (is_key key) (same_ticket l i same side) in omega arith
 
 -- ---- what a fair change does to the law of its side, and to the tickets
 

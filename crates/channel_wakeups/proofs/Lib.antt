@@ -2,10 +2,17 @@ pub mod Words
 pub mod Sides
 pub mod Sums
 pub mod Logs
+pub mod Rings
+pub mod Beside
+pub mod RingSeats
+pub mod RingCells
 pub mod Hands
 pub mod History
 pub mod Received
 pub mod Laws
+pub mod RingLaws
+pub mod RingMoves
+pub mod RingLooks
 pub mod Moves
 pub mod Seats
 pub mod Stages

@@ -1,5 +1,6 @@
 pub mod Lists
 pub mod Log
+pub mod Turns
 pub mod Views
 pub mod Stages
 pub mod Cells
