@@ -13,6 +13,7 @@ pub mod Laws
 pub mod RingLaws
 pub mod RingMoves
 pub mod RingLooks
+pub mod RingForces
 pub mod Moves
 pub mod Seats
 pub mod Stages

@@ -88,7 +88,7 @@ if_other : (r : Ring (Unit {0})) (i j : ℕ) (pl : SlotState (Unit {0})) → (j 
 if_other r i j pl apart = ap (λ (b : Bool). if b then pl else r.at j) (eq_other j i apart)
 
 -- a word that is written as it was
-same_words : (words : List ℕ) (i x : ℕ) → x ≡ slice_index words i → slice_set words i x ≡ words
+pub same_words : (words : List ℕ) (i x : ℕ) → x ≡ slice_index words i → slice_set words i x ≡ words
 same_words words i x e = ap (λ (n : ℕ). slice_set words i n) e ∙ word_again words i
 
 -- a turn that has nothing of the ring owes nothing

@@ -1,4 +1,4 @@
-use Rattle.channel_wakeups.proofs.RingLooks.{sees_tail}
+use Rattle.channel_wakeups.proofs.RingForces.{adds_tail}
 use Rattle.channel_wakeups.proofs.Seats.{blank}
 use Rattle.channel_wakeups.proofs.place.blank.Goals as goal
 
