@@ -7,10 +7,10 @@ use mathlib.Core.Option as home
 use mathlib.Core.Option.{some, none}
 use lib.ListN.{get_elem?}
 use prog.Atomic.{either}
-use Rattle.atomic_table.specs.Table.{keeps, takes, Allows}
+use Rattle.atomic_table.specs.Table.{keeps, takes, gives, Allows}
 use Rattle.concurrent_queue.specs.machine.RingCalls as ring
 use Rattle.concurrent_queue.specs.machine.RingCalls.{IsDuty, KnowsRing, owes}
-use Rattle.concurrent_queue.specs.machine.RingState.{Ring, reach}
+use Rattle.concurrent_queue.specs.machine.RingState.{SlotState, Ring, reach, with_place}
 use Rattle.concurrent_queue.specs.machine.RingWords.{ring_mark, is_marked, stride}
 use Rattle.concurrent_queue.specs.declared.bounded.RingAction.TheVariants as act
 use Rattle.concurrent_queue.proofs.RingShape.{mark_is, IsMark}
@@ -22,7 +22,7 @@ use Rattle.channel_wakeups.specs.declared.rule.Lines.{Lines}
 use Rattle.channel_wakeups.specs.declared.rule.Rolls.{Rolls}
 use Rattle.channel_wakeups.specs.declared.rule.Sight.TheVariants.{Shut, Seen}
 use Rattle.channel_wakeups.specs.declared.rule.Transfer.{Transfer}
-use Rattle.channel_wakeups.specs.declared.rule.Transfer.TheVariants.{Out, Saw}
+use Rattle.channel_wakeups.specs.declared.rule.Transfer.TheVariants.{In, Out, Saw}
 use Rattle.channel_wakeups.specs.declared.rule.Turn.TheVariants.{Rest, Behind, Coming, Displacing}
 use Rattle.channel_wakeups.specs.declared.rule.View.{View}
 use Rattle.channel_wakeups.specs.Lists.{total}
@@ -33,11 +33,11 @@ use Rattle.channel_wakeups.proofs.Hands.{Carries, carries_same, carries_more}
 use Rattle.channel_wakeups.proofs.Laws.{Turns, law_kept, same_turns, shuts_turns, settles}
 use Rattle.channel_wakeups.proofs.Logs.{not_seen, one_more, moved, sights_same}
 use Rattle.channel_wakeups.proofs.Rings.{know_at, put_saw, took_saw, seats_saw, seats_set}
-use Rattle.channel_wakeups.proofs.RingCells.{same_or_other, slots_stay, slots_took, was_home, tail_written, head_written}
-use Rattle.channel_wakeups.proofs.RingLaws.{displaces_turns, making_room, puts_turns, sights_rest, put_took, took_below}
+use Rattle.channel_wakeups.proofs.RingCells.{same_or_other, slots_stay, slots_took, slots_gave, was_home, tail_written, head_written, stamp_written}
+use Rattle.channel_wakeups.proofs.RingLaws.{displaces_turns, making_room, puts_turns, sights_rest, put_below, took_put, put_took, took_below}
 use Rattle.channel_wakeups.proofs.RingLooks.{rest_loose, behind_loose}
-use Rattle.channel_wakeups.proofs.RingMoves.{RingOutcome, by_ring, same_words}
-use Rattle.channel_wakeups.proofs.RingSeats.{Moved, queue_of, is_shown, moved as as_moved, seats_moved, put_later, took_later, holds_it, holds_not, eq_other}
+use Rattle.channel_wakeups.proofs.RingMoves.{RingOutcome, by_ring, same_words, if_here, if_other}
+use Rattle.channel_wakeups.proofs.RingSeats.{Moved, on_end, queue_of, is_shown, moved as as_moved, seats_moved, put_later, took_later, holds_it, holds_not, eq_other}
 use Rattle.channel_wakeups.proofs.Sums.{Sights}
 
 no_true : true ≡ false → ⊥
@@ -309,3 +309,72 @@ module _ {T W : Type 0} (slots id p : ℕ) (l : Lines) (m : Rolls W) (lg : List 
 
       pub adds_tail : l.sends.answers ≤ 1 → Allows Woken slots id coming 48 adds_stride Added
       adds_tail one = by_ring 48 adds_stride Added slots id coming (λ e. absurd (omega arith)) (λ e. absurd (omega arith)) several (λ words homes r views h at. comes_in words homes r views h at one)
+
+      -- ---- and stores the stamp once its own message is in, and gives the slot back
+
+      abbrev holding : Known T W
+      holding = (turning (Displacing c) (pass p 0 l m lg), (c % slots, Some x) ∷ [])
+
+      abbrev brought : View T W
+      brought = turning Rest (pass p 0 l m (lg ++ In (c + slots) x ∷ []))
+
+      abbrev Brought : ℕ → Known T W → Type 0
+      Brought found k = k ≡ (brought, [])
+
+      module _ (words : List ℕ) (homes : List (home.Option (Option T))) (r : Ring (Unit {0})) (views : List (View T W)) (h : Ringed slots words homes r views) (at : get_elem? views id ≡ some (turning (Displacing c) (pass p 0 l m lg))) where
+        stores_own : RingOutcome (c % slots + 64) (λ y. at_number slots (c + slots) + 1) Brought holding id words homes slots views
+        stores_own =
+            let k = know_at slots r views id (turning (Displacing c) (pass p 0 l m lg)) at h.seats.knows some_part in
+            let i = c % slots in
+            let first = keep.force_takes slots h.seats.two r (queue_of slots r) h.seats.sound (is_shown slots r) tt k.0.0 c k.0.2 k.0.3 k.0.4 in
+            let r1 : Ring (Unit {0}) = with_place r i (record { round = (r.at i).round; written = (r.at i).written; slot = None }) in
+            let bare = first.leaves.2 in
+            let second = keep.force_puts slots h.seats.two r1 (queue_of slots r1) first.sound (is_shown slots r1) tt k.0.0 c bare.1 bare.2 bare.3 in
+            let r2 : Ring (Unit {0}) = with_place r1 i (record { round = (r1.at i).round; written = (r1.at i).written; slot = Some tt }) in
+            let full = second.leaves.2 in
+            let third = keep.force_stores slots h.seats.two r2 (queue_of slots r2) second.sound (is_shown slots r2) full.0 k.0.0 c full.2 full.3 full.4 in
+            by_ends r2 k.0.4.0 (k.1, k.2) (on_end slots r (act.ForceTake tt c) r2 (act.ForceStore c k.0.0) (with_place r2 i (record { round = c + slots; written = true; slot = (r2.at i).slot })) act.Finished (stored_place k.0.0)
+            (on_end slots r (act.ForceTake tt c) r1 (act.ForcePut tt c k.0.0) r2 (act.ForceStore c k.0.0) (put_place k.0.0) (as_moved first) (as_moved second)) (as_moved third))
+            (λ j apart. if_other r1 i j (record { round = (r1.at i).round; written = (r1.at i).written; slot = Some tt }) apart ∙ if_other r i j (record { round = (r.at i).round; written = (r.at i).written; slot = None }) apart)
+            (ap (λ (s : SlotState (Unit {0})). is_some s.slot) (if_here r1 i (record { round = (r1.at i).round; written = (r1.at i).written; slot = Some tt })))
+            refl refl refl refl
+          where
+            stored_place : (d : Unit {0}) (y : ring.Duty) → owes {T = Unit {0}} slots (act.ForceStore c d) y ≡ owes {T = Unit {0}} slots (act.ForceTake tt c) y
+            stored_place d (ring.hold j) = refl
+            stored_place d ring.bring = refl
+
+            put_place : (d : Unit {0}) (y : ring.Duty) → owes {T = Unit {0}} slots (act.ForcePut tt c d) y ≡ owes {T = Unit {0}} slots (act.ForceTake tt c) y
+            put_place d (ring.hold j) = refl
+            put_place d ring.bring = refl
+
+            by_ends : (r2 : Ring (Unit {0})) → c + slots < r.tail → PutBefore r.tail lg × TookBefore r.head lg → Moved slots r (act.ForceTake tt c) (with_place r2 (c % slots) (record { round = c + slots; written = true; slot = (r2.at (c % slots)).slot })) act.Finished
+                → ((j : ℕ) → (j ≡ c % slots → ⊥) → r2.at j ≡ r.at j) → is_some (r2.at (c % slots)).slot ≡ true
+                → r2.head ≡ r.head → r2.tail ≡ r.tail → r2.closed ≡ r.closed → r2.coming ≡ r.coming → RingOutcome (c % slots + 64) (λ y. at_number slots (c + slots) + 1) Brought holding id words homes slots views
+            by_ends r2 low logs go others filled heads tails shuts ways =
+                let pl : SlotState (Unit {0}) = record { round = c + slots; written = true; slot = (r2.at (c % slots)).slot } in
+                let r3 : Ring (Unit {0}) = with_place r2 (c % slots) pl in
+                let is : r3.at (c % slots) ≡ pl = if_here r2 (c % slots) pl in
+                let inside = mod_below c slots (let q = several in omega arith) in
+                let as_was : of_ring slots r3 ≡ of_ring slots r = (λ i. picture (tails i - heads i) (heads i + slots - tails i) (tails i + (if ways i then 1 else 0) - heads i) (shuts i)) in (
+                  brought,
+                  gives,
+                  r3,
+                  tt,
+                  record {
+                    cells = stamp_written slots words homes (set homes (c % slots) (some (Some x))) r r3 h.cells (length-set homes (c % slots) (some (Some x)))
+                        (slots_gave slots words homes r h.cells (act.ForceTake tt c) r3 act.Finished go (c % slots) inside (Some x) (sym (ap (λ (s : SlotState (Unit {0})). is_some s.slot) is ∙ filled)) (holds_it slots c) refl
+                        (λ j apart. (holds_not slots c j apart, refl)))
+                        (at_number slots (c + slots) + 1) (c % slots) inside heads tails shuts (λ j apart. if_other r2 (c % slots) j pl apart ∙ others j apart)
+                        (λ i. at_number slots (sym is i).round + (if (sym is i).written then 1 else 0));
+                    seats = seats_moved slots r r3 act.Finished views id (turning (Displacing c) (pass p 0 l m lg)) brought at some_part some_part go (none_owes slots) (let f = h.seats.few in subst (λ (q : ℕ). q ≤ 2 ^ 61) (λ i. sym tails i + (if sym ways i then 1 else 0)) f)
+                        (λ parts. ((true, refl), subst (λ (q : ℕ). PutBefore q (lg ++ In (c + slots) x ∷ [])) (sym tails) (put_below r.tail (c + slots) lg x low logs.0), subst (λ (q : ℕ). TookBefore q (lg ++ In (c + slots) x ∷ [])) (sym heads) (took_put r.head (c + slots) lg x logs.1))) h.seats;
+                    law = subst (λ (q : Picture). Law q (set views id brought)) (sym as_was)
+                        (law_kept (of_ring slots r) (of_ring slots r) views id p 0 0 (Displacing c) Rest l l m lg (lg ++ In (c + slots) x ∷ []) some_part at (refl, refl, refl, refl) (same_turns (of_ring slots r) l)
+                        (sights_rest (of_ring slots r) (of_ring slots r) (turning (Displacing c) (pass p 0 l m lg)) brought refl (λ shut z. z) (sights_same p 0 0 l l m lg (lg ++ In (c + slots) x ∷ []) (moved lg (In (c + slots) x) (λ f. refl)))) h.law);
+                  },
+                  (λ j. carries_more j p 0 0 l l m lg some_part (In (c + slots) x) refl refl refl refl refl (inl (omega arith))),
+                  refl,
+                )
+
+      pub stores_brought : Allows Woken slots id holding (c % slots + 64) (λ y. at_number slots (c + slots) + 1) Brought
+      stores_brought = by_ring (c % slots + 64) (λ y. at_number slots (c + slots) + 1) Brought slots id holding (λ e. absurd (omega arith)) (λ e. absurd (omega arith)) several (λ words homes r views h at. stores_own words homes r views h at)

@@ -81,10 +81,10 @@ module _ {T W : Type 0} where
           )
 
 -- a place of a ring that was changed, and another
-if_here : (r : Ring (Unit {0})) (i : ℕ) (pl : SlotState (Unit {0})) → (with_place r i pl).at i ≡ pl
+pub if_here : (r : Ring (Unit {0})) (i : ℕ) (pl : SlotState (Unit {0})) → (with_place r i pl).at i ≡ pl
 if_here r i pl = ap (λ (b : Bool). if b then pl else r.at i) (eq_self i)
 
-if_other : (r : Ring (Unit {0})) (i j : ℕ) (pl : SlotState (Unit {0})) → (j ≡ i → ⊥) → (with_place r i pl).at j ≡ r.at j
+pub if_other : (r : Ring (Unit {0})) (i j : ℕ) (pl : SlotState (Unit {0})) → (j ≡ i → ⊥) → (with_place r i pl).at j ≡ r.at j
 if_other r i j pl apart = ap (λ (b : Bool). if b then pl else r.at j) (eq_other j i apart)
 
 -- a word that is written as it was
