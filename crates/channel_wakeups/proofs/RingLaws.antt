@@ -18,11 +18,11 @@ puts_turns n f k h true c some_place one to_one of_sends = inl refl
 puts_turns n f k h false c some_place one to_one of_sends = inr (inr (omega arith, refl))
 puts_turns n f k h e c some_place one to_one of_streams = inl refl
 puts_turns n f k h e c some_place one to_one of_closings = inl refl
-puts_turns n f k h e c some_place one to_all of_receives = as_before (wanted to_all of_receives (picture n f k e)) c.receives.tells c.receives.holds
-puts_turns n f k h e c some_place one to_all of_sends = as_before (wanted to_all of_sends (picture n f k e)) c.sends.tells c.sends.holds
+puts_turns n f k h e c some_place one to_all of_receives = as_before (wanted to_all of_receives (picture n f k e)) c.receives.tells c.receives.fresh
+puts_turns n f k h e c some_place one to_all of_sends = as_before (wanted to_all of_sends (picture n f k e)) c.sends.tells c.sends.fresh
 puts_turns n f k h true c some_place one to_all of_streams = inr (inr (omega arith, refl))
 puts_turns n f k h false c some_place one to_all of_streams = inr (inr (omega arith, refl))
-puts_turns n f k h e c some_place one to_all of_closings = as_before (wanted to_all of_closings (picture n f k e)) c.closings.tells c.closings.holds
+puts_turns n f k h e c some_place one to_all of_closings = as_before (wanted to_all of_closings (picture n f k e)) c.closings.tells c.closings.fresh
 
 -- a pop has a message: it answers for a place more, and for its message no more, and one message fewer is there
 pub takes_turns : (n f k h : ℕ) (e : Bool) (c : Lines) → 0 < n → c.receives.answers ≤ 1 → (d : Duty) (s : Side) → Turns d s (picture n f k e) (picture (n - 1) (f + 1) h e) c (won_message c)
@@ -31,11 +31,11 @@ takes_turns n f k h true c some_message one to_one of_sends = inl refl
 takes_turns n f k h false c some_message one to_one of_sends = inr (inr (omega arith, refl))
 takes_turns n f k h e c some_message one to_one of_streams = inl refl
 takes_turns n f k h e c some_message one to_one of_closings = inl refl
-takes_turns n f k h e c some_message one to_all of_receives = as_before (wanted to_all of_receives (picture n f k e)) c.receives.tells c.receives.holds
-takes_turns n f k h e c some_message one to_all of_sends = as_before (wanted to_all of_sends (picture n f k e)) c.sends.tells c.sends.holds
-takes_turns n f k h true c some_message one to_all of_streams = as_before 1 c.streams.tells c.streams.holds
+takes_turns n f k h e c some_message one to_all of_receives = as_before (wanted to_all of_receives (picture n f k e)) c.receives.tells c.receives.fresh
+takes_turns n f k h e c some_message one to_all of_sends = as_before (wanted to_all of_sends (picture n f k e)) c.sends.tells c.sends.fresh
+takes_turns n f k h true c some_message one to_all of_streams = as_before 1 c.streams.tells c.streams.fresh
 takes_turns n f k h false c some_message one to_all of_streams = inr (inr (omega arith, refl))
-takes_turns n f k h e c some_message one to_all of_closings = as_before (wanted to_all of_closings (picture n f k e)) c.closings.tells c.closings.holds
+takes_turns n f k h e c some_message one to_all of_closings = as_before (wanted to_all of_closings (picture n f k e)) c.closings.tells c.closings.fresh
 
 -- a displacing push has taken the oldest message out: it answers for the place until its own is in
 abbrev pub making_room : Lines → Lines
@@ -47,11 +47,11 @@ displaces_turns n f k h true c to_one of_sends = inl refl
 displaces_turns n f k h false c to_one of_sends = inr (inr (omega arith, refl))
 displaces_turns n f k h e c to_one of_streams = inl refl
 displaces_turns n f k h e c to_one of_closings = inl refl
-displaces_turns n f k h e c to_all of_receives = as_before (wanted to_all of_receives (picture n f k e)) c.receives.tells c.receives.holds
-displaces_turns n f k h e c to_all of_sends = as_before (wanted to_all of_sends (picture n f k e)) c.sends.tells c.sends.holds
-displaces_turns n f k h true c to_all of_streams = as_before 1 c.streams.tells c.streams.holds
+displaces_turns n f k h e c to_all of_receives = as_before (wanted to_all of_receives (picture n f k e)) c.receives.tells c.receives.fresh
+displaces_turns n f k h e c to_all of_sends = as_before (wanted to_all of_sends (picture n f k e)) c.sends.tells c.sends.fresh
+displaces_turns n f k h true c to_all of_streams = as_before 1 c.streams.tells c.streams.fresh
 displaces_turns n f k h false c to_all of_streams = inr (inr (omega arith, refl))
-displaces_turns n f k h e c to_all of_closings = as_before (wanted to_all of_closings (picture n f k e)) c.closings.tells c.closings.holds
+displaces_turns n f k h e c to_all of_closings = as_before (wanted to_all of_closings (picture n f k e)) c.closings.tells c.closings.fresh
 
 module _ {T W : Type 0} where
   -- the log's sights stay, and where nothing was there or on its way in a closed channel, nothing is

@@ -13,7 +13,7 @@ use Rattle.channel_wakeups.specs.declared.rule.Roll.{Roll}
 use Rattle.channel_wakeups.specs.declared.rule.Rolls.{Rolls}
 use Rattle.channel_wakeups.specs.declared.rule.View.{View}
 use Rattle.channel_wakeups.specs.Lists.{total, told, waits, listed}
-use Rattle.channel_wakeups.specs.Views.{Picture, at_word, Law, Shown, one_slot, a_ring, Knowing, AllKnow, owes_of, Side, of_receives, of_sends, of_streams, of_closings, Duty, to_one, to_all, of, roll, idle, idle_lines, no_roll, no_rolls, with_roll, calling, ticketed, nobody, pass, everything, entered, stays, comes_out, without, alone, absorbed, kept_half, given_half, one_ticket, ticket_is, no_ticket, ticket_of, with_ticket, only, is_key, parts_of, here_of, answered_of, holds_of, sights_of, locks_of, owns_of, waits_of, listed_of, tickets_of, puts_of, takes_of, word_of, messages, has_message, is_shut, due, wanted, Owed, IsSlot, empty, full, out, AllAgree, Ordered, Kept, Counted, handed, count_of, handles_of, closes_of, Woken, Known, HasAll, learns}
+use Rattle.channel_wakeups.specs.Views.{in_hand, Picture, at_word, Law, Shown, one_slot, a_ring, Knowing, AllKnow, owes_of, Side, of_receives, of_sends, of_streams, of_closings, Duty, to_one, to_all, of, roll, idle, idle_lines, no_roll, no_rolls, with_roll, calling, ticketed, nobody, pass, everything, entered, stays, comes_out, without, alone, absorbed, kept_half, given_half, one_ticket, ticket_is, no_ticket, ticket_of, with_ticket, only, is_key, parts_of, here_of, answered_of, holds_of, sights_of, locks_of, owns_of, waits_of, listed_of, tickets_of, puts_of, takes_of, word_of, messages, has_message, is_shut, due, wanted, Owed, IsSlot, empty, full, out, AllAgree, Ordered, Kept, Counted, handed, count_of, handles_of, closes_of, Woken, Known, HasAll, learns}
 use Rattle.channel_wakeups.proofs.Sides.{of_with, roll_with, idle_ticket, none_there, which, Untouched}
 use Rattle.channel_wakeups.proofs.Sums.{at_nobody, balanced_by, closings_by, only_none, only_some, only_zero, owed_by, slot_by, none_here, none_both, none_waits, none_listed, none_tickets, none_answered, others, was, total_set, total_snoc, by_itself}
 use Rattle.channel_wakeups.specs.Counts.{one_hand, fewer_hands, lone_handle, coupled, uncoupled}
@@ -37,7 +37,8 @@ use Rattle.channel_wakeups.specs.declared.rule.Transfer.{Transfer}
 data LineSum : Type 0 where
   lists : LineSum
   answering : Duty → LineSum
-  waiting holding tickets in_list : ℕ → LineSum
+  holding : Duty → ℕ → LineSum
+  waiting tickets in_list : ℕ → LineSum
 
 -- all that is counted
 data Sum (T : Type 0) : Type 0 where
@@ -54,7 +55,7 @@ module _ {W : Type 0} where
   line_sum (answering to_one) p l r = only r.here (told r.listeners) + only p l.answers
   line_sum (answering to_all) p l r = only p l.tells
   line_sum (waiting key) p l r = only r.here (waits key r.listeners)
-  line_sum (holding key) p l r = only p (is_key key l.holds)
+  line_sum (holding d key) p l r = only p (is_key key (in_hand d l))
   line_sum (tickets key) p l r = is_key key l.ticket
   line_sum (in_list key) p l r = only r.here (listed key r.listeners)
 
@@ -85,7 +86,8 @@ idle_line W lists p = refl
 idle_line W (answering to_one) p = let z = only_zero p in omega arith
 idle_line W (answering to_all) p = only_zero p
 idle_line W (waiting key) p = refl
-idle_line W (holding key) p = only_zero p
+idle_line W (holding to_one key) p = only_zero p
+idle_line W (holding to_all key) p = only_zero p
 idle_line W (tickets key) p = refl
 idle_line W (in_list key) p = refl
 
@@ -114,8 +116,8 @@ module _ {T W : Type 0} where
         one = λ side. each (on side lists) ∙ k.one side;
         owed = λ d side key some_waiting.
             let x : total (waits_of side key) ws ≡ total (waits_of side key) vs = each (on side (waiting key)) in
-            let h : total (holds_of side key) vs ≡ total (holds_of side key) ws = sym (each (on side (holding key))) in
-            owed_by (wanted d side p) (total (answered_of d side) vs) (total (holds_of side key) vs) (total (answered_of d side) ws) (total (holds_of side key) ws) (as_many d side) h (k.owed d side key (omega arith));
+            let h : total (holds_of d side key) vs ≡ total (holds_of d side key) ws = sym (each (on side (holding d key))) in
+            owed_by (wanted d side p) (total (answered_of d side) vs) (total (holds_of d side key) vs) (total (answered_of d side) ws) (total (holds_of d side key) ws) (as_many d side) h (k.owed d side key (omega arith));
         tickets = λ side key.
             let x : total (tickets_of side key) ws ≡ total (tickets_of side key) vs = each (on side (tickets key)) in
             let y : total (listed_of side key) ws ≡ total (listed_of side key) vs = each (on side (in_list key)) in
@@ -211,7 +213,7 @@ module _ {W : Type 0} where
   enters_line (answering to_one) n p l m r q no_part untied no_list = let y = only_none q.here (told q.listeners) no_list in let z = only_none n l.answers no_part in omega arith
   enters_line (answering to_all) n p l m r q no_part untied no_list = let z = only_none n l.tells no_part in omega arith
   enters_line (waiting key) n p l m r q no_part untied no_list = let z = only_none q.here (waits key q.listeners) no_list in omega arith
-  enters_line (holding key) n p l m r q no_part untied no_list = let z = only_none n (is_key key l.holds) no_part in omega arith
+  enters_line (holding d key) n p l m r q no_part untied no_list = let z = only_none n (is_key key (in_hand d l)) no_part in omega arith
   enters_line (tickets key) n p l m r q no_part untied no_list = let z : is_key key l.ticket ≡ 0 = ap (is_key key) untied in omega arith
   enters_line (in_list key) n p l m r q no_part untied no_list = let z = only_none q.here (listed key q.listeners) no_list in omega arith
 
@@ -237,7 +239,8 @@ module _ {W : Type 0} where
   leaves_line (answering to_one) p l r = omega arith
   leaves_line (answering to_all) p l r = omega arith
   leaves_line (waiting key) p l r = omega arith
-  leaves_line (holding key) p l r = omega arith
+  leaves_line (holding to_one key) p l r = omega arith
+  leaves_line (holding to_all key) p l r = omega arith
   leaves_line (tickets key) p l r = omega arith
   leaves_line (in_list key) p l r = omega arith
 
@@ -352,7 +355,7 @@ module _ {W : Type 0} where
   any_parts (answering to_one) p q l r sp sq = let a = only_some p l.answers sp in let b = only_some q l.answers sq in omega arith
   any_parts (answering to_all) p q l r sp sq = only_some p l.tells sp ∙ sym (only_some q l.tells sq)
   any_parts (waiting key) p q l r sp sq = refl
-  any_parts (holding key) p q l r sp sq = only_some p (is_key key l.holds) sp ∙ sym (only_some q (is_key key l.holds) sq)
+  any_parts (holding d key) p q l r sp sq = only_some p (is_key key (in_hand d l)) sp ∙ sym (only_some q (is_key key (in_hand d l)) sq)
   any_parts (tickets key) p q l r sp sq = refl
   any_parts (in_list key) p q l r sp sq = refl
 
@@ -362,7 +365,8 @@ module _ {W : Type 0} where
   ticket_line (answering to_one) p t l r = omega arith
   ticket_line (answering to_all) p t l r = omega arith
   ticket_line (waiting key) p t l r = omega arith
-  ticket_line (holding key) p t l r = omega arith
+  ticket_line (holding to_one key) p t l r = omega arith
+  ticket_line (holding to_all key) p t l r = omega arith
   ticket_line (tickets key) p t l r = omega arith
   ticket_line (in_list key) p t l r = omega arith
 
@@ -526,7 +530,7 @@ module _ {T W : Type 0} where
       none_waiting of_streams key = refl
       none_waiting of_closings key = refl
 
-      nobody_waits : (d : Duty) (s : Side) (key : ℕ) → Owed (wanted d s (at_word 0 false)) (total (waits_of s key) (everything {T = T} {W = W} ∷ [])) (total (answered_of d s) (everything {T = T} {W = W} ∷ [])) (total (holds_of s key) (everything {T = T} {W = W} ∷ []))
+      nobody_waits : (d : Duty) (s : Side) (key : ℕ) → Owed (wanted d s (at_word 0 false)) (total (waits_of s key) (everything {T = T} {W = W} ∷ [])) (total (answered_of d s) (everything {T = T} {W = W} ∷ [])) (total (holds_of d s key) (everything {T = T} {W = W} ∷ []))
       nobody_waits d s key some_waiting = let none_there = none_waiting s key in absurd (omega arith)
 
       no_tickets : (s : Side) (key : ℕ) → total (tickets_of s key) (everything {T = T} {W = W} ∷ []) ≤ total (listed_of s key) (everything {T = T} {W = W} ∷ [])
@@ -555,19 +559,23 @@ module _ {T W : Type 0} where
         let no_a = none_both (answered_of to_one s) (here_of s) parts_of (set vs id nobody)
         (λ x e d. let n = only_none (roll s x.rolls).here (told (roll s x.rolls).listeners) e in let m = only_none x.parts (of s x.calls).answers d in omega arith) z.2 no_others in
         let no_c = none_here (answered_of to_all s) parts_of (set vs id nobody) (λ x e. only_none x.parts (of s x.calls).tells e) no_others in
-        let no_h = none_here (holds_of s key) parts_of (set vs id nobody) (λ x e. only_none x.parts (is_key key (of s x.calls).holds) e) no_others in
+        let no_h = none_here (holds_of to_one s key) parts_of (set vs id nobody) (λ x e. only_none x.parts (is_key key (of s x.calls).holds) e) no_others in
+        let no_f = none_here (holds_of to_all s key) parts_of (set vs id nobody) (λ x e. only_none x.parts (is_key key (of s x.calls).fresh) e) no_others in
         let wv = only_some (roll s v.rolls).here (waits key (roll s v.rolls).listeners) (omega arith) in
         let tv = only_some (roll s v.rolls).here (told (roll s v.rolls).listeners) (omega arith) in
         let av = only_some v.parts (of s v.calls).answers (omega arith) in
         let cv = only_some v.parts (of s v.calls).tells (omega arith) in
         let hv = only_some v.parts (is_key key (of s v.calls).holds) (omega arith) in
-        let none_held : is_key key (of s v.calls).holds ≡ 0 = ap (is_key key) all.3 in
+        let fv = only_some v.parts (is_key key (of s v.calls).fresh) (omega arith) in
+        let none_held : is_key key (of s v.calls).holds ≡ 0 = ap (is_key key) all.3.0 in
+        let none_fresh : is_key key (of s v.calls).fresh ≡ 0 = ap (is_key key) all.3.1 in
         let ws = was (waits_of s key) (none_waits T W s key) vs id v at in
         let ts = was (answered_of to_one s) (none_answered T W to_one s) vs id v at in
         let cs = was (answered_of to_all s) (none_answered T W to_all s) vs id v at in
-        let hs = was (holds_of s key) refl vs id v at in (
-          ⊎_elim (λ (c : wanted to_one s p ≤ total (answered_of to_one s) vs). omega arith) (λ (c : 0 < total (holds_of s key) vs). absurd (omega arith)) (k.owed to_one s key (omega arith)),
-          ⊎_elim (λ (c : wanted to_all s p ≤ total (answered_of to_all s) vs). omega arith) (λ (c : 0 < total (holds_of s key) vs). absurd (omega arith)) (k.owed to_all s key (omega arith)),
+        let hs = was (holds_of to_one s key) refl vs id v at in
+        let fs = was (holds_of to_all s key) refl vs id v at in (
+          ⊎_elim (λ (c : wanted to_one s p ≤ total (answered_of to_one s) vs). omega arith) (λ (c : 0 < total (holds_of to_one s key) vs). absurd (omega arith)) (k.owed to_one s key (omega arith)),
+          ⊎_elim (λ (c : wanted to_all s p ≤ total (answered_of to_all s) vs). omega arith) (λ (c : 0 < total (holds_of to_all s key) vs). absurd (omega arith)) (k.owed to_all s key (omega arith)),
         )
 
     -- what all saw is what this one did

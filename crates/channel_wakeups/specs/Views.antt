@@ -55,7 +55,16 @@ pub data Duty : Type 0 where
 -- for how many messages, or places, it answers, the listener that it has in hand, by its key plus 1, or 0, the listener whose ticket
 -- it has, and whether it has to tell all
 abbrev pub call_line : ℕ → ℕ → ℕ → ℕ → Line
-call_line answers holds ticket tells = record { answers = answers; holds = holds; ticket = ticket; tells = tells }
+call_line answers holds ticket tells = record { answers = answers; holds = holds; fresh = holds; ticket = ticket; tells = tells }
+
+-- one that has a listener in hand for a message, or a place, and this one beside a closing
+abbrev pub line_of : ℕ → ℕ → ℕ → ℕ → ℕ → Line
+line_of answers holds fresh ticket tells = record { answers = answers; holds = holds; fresh = fresh; ticket = ticket; tells = tells }
+
+-- the listener that a call has in hand beside what is owed to one, or to all
+abbrev pub in_hand : Duty → Line → ℕ
+in_hand to_one l = l.holds
+in_hand to_all l = l.fresh
 
 abbrev pub calling : ℕ → ℕ → ℕ → Line
 calling answers holds ticket = call_line answers holds ticket 0
@@ -69,21 +78,25 @@ idle = calling 0 0 0
 
 -- a line whose ticket is another
 abbrev pub ticketed : ℕ → Line → Line
-ticketed ticket l = call_line l.answers l.holds ticket l.tells
+ticketed ticket l = line_of l.answers l.holds l.fresh ticket l.tells
 
 -- the call answers for one more; or for nothing any more; or for nothing, and leaves the listener behind that it had in hand
 abbrev pub answering : Line → Line
-answering l = call_line (l.answers + 1) l.holds l.ticket l.tells
+answering l = line_of (l.answers + 1) l.holds l.fresh l.ticket l.tells
 
 abbrev pub resolved : Line → Line
-resolved l = call_line 0 l.holds l.ticket l.tells
+resolved l = line_of 0 l.holds l.fresh l.ticket l.tells
+
+-- the call saw the channel open
+abbrev pub seen_open : Line → Line
+seen_open l = line_of l.answers l.holds 0 l.ticket l.tells
 
 abbrev pub ended : Line → Line
 ended l = call_line 0 0 l.ticket l.tells
 
 -- the call has the line in hand to tell all
 abbrev pub owing : Line → Line
-owing l = call_line l.answers l.holds l.ticket (l.tells + 1)
+owing l = line_of l.answers l.holds l.fresh l.ticket (l.tells + 1)
 
 -- ---- the lines of all sides
 
@@ -288,8 +301,8 @@ module _ {T W : Type 0} where
   answered_of to_one s v = only (roll s v.rolls).here (told (roll s v.rolls).listeners) + only v.parts (of s v.calls).answers
   answered_of to_all s v = only v.parts (of s v.calls).tells
 
-  abbrev pub holds_of : Side → ℕ → View T W → ℕ
-  holds_of s key v = only v.parts (is_key key (of s v.calls).holds)
+  abbrev pub holds_of : Duty → Side → ℕ → View T W → ℕ
+  holds_of d s key v = only v.parts (is_key key (in_hand d (of s v.calls)))
 
   -- whether it has the slot
   abbrev pub locks_of : View T W → ℕ
@@ -426,7 +439,7 @@ pub data IsSlot {T : Type 0} (base : ℕ) (slot : home.Option (Option T)) (locks
 pub record Law {T W : Type 0} (p : Picture) (views : List (View T W)) : Type 0 where
   pub whole : total parts_of views ≡ 1024
   pub one : (s : Side) → total (here_of s) views ≡ 1
-  pub owed : (d : Duty) (s : Side) (key : ℕ) → Owed (wanted d s p) (total (waits_of s key) views) (total (answered_of d s) views) (total (holds_of s key) views)
+  pub owed : (d : Duty) (s : Side) (key : ℕ) → Owed (wanted d s p) (total (waits_of s key) views) (total (answered_of d s) views) (total (holds_of d s key) views)
   pub tickets : (s : Side) (key : ℕ) → total (tickets_of s key) views ≤ total (listed_of s key) views
   pub closings : Closings p.shut p.near (λ f. total (sights_of f) views)
 
@@ -458,7 +471,7 @@ Known T W = Me (Option T) (View T W)
 
 -- the seat has every part and the list of this side, and no call is under way
 abbrev pub HasAll : {T W : Type 0} → Side → View T W → Type 0
-HasAll s v = (v.parts ≡ 1024) × ((roll s v.rolls).here ≡ 1) × ((of s v.calls).answers ≡ 0) × ((of s v.calls).holds ≡ 0) × (v.owns ≡ 0) × ((of s v.calls).tells ≡ 0) × (v.calls.hands.closes ≡ 0)
+HasAll s v = (v.parts ≡ 1024) × ((roll s v.rolls).here ≡ 1) × ((of s v.calls).answers ≡ 0) × (((of s v.calls).holds ≡ 0) × ((of s v.calls).fresh ≡ 0)) × (v.owns ≡ 0) × ((of s v.calls).tells ≡ 0) × (v.calls.hands.closes ≡ 0)
 
 -- THE CELLS OF A RING: the head lies first, the tail and the stamps behind the counts. A slot is out where a call has it
 abbrev pub IsHome : {T : Type 0} → Bool → Bool → home.Option (home.Option (Option T)) → Type 0
@@ -591,7 +604,8 @@ module _ {W : Type 0} where
   abbrev pub MayWait : Line → List (Listener W) → Line → List (Listener W) → ℕ → Type 0
   MayWait l ls m ms key =
       0 < waits key ms
-      → (0 < is_key key m.holds) ⊎ ((0 < waits key ls) × (told ls + l.answers ≤ told ms + m.answers) × (is_key key l.holds ≤ is_key key m.holds) × (l.tells ≤ m.tells))
+      → ((0 < is_key key m.holds) × (0 < is_key key m.fresh))
+      ⊎ ((0 < waits key ls) × (told ls + l.answers ≤ told ms + m.answers) × (is_key key l.holds ≤ is_key key m.holds) × (is_key key l.fresh ≤ is_key key m.fresh) × (l.tells ≤ m.tells))
 
   abbrev pub MayTicket : Line → List (Listener W) → Line → List (Listener W) → ℕ → Type 0
   MayTicket l ls m ms key = is_key key m.ticket + listed key ls ≤ listed key ms + is_key key l.ticket

@@ -176,10 +176,12 @@ pub enum Transfer<T> {
 }
 
 /// What a seat's call knows of those who wait on one side: for how many messages, or places, it answers, the listener that it has in
-/// hand, of which listener it is the ticket, and whether it has the line in hand to tell all. No value is made.
+/// hand, of which listener it is the ticket, and whether it has the line in hand to tell all. Of the listener it says besides whether the
+/// call has it in hand beside a closing still: one that saw the channel open since has it in hand for a place alone. No value is made.
 pub struct Line {
     pub answers: u64,
     pub holds: u64,
+    pub fresh: u64,
     pub ticket: u64,
     pub tells: u64,
 }
