@@ -80,9 +80,9 @@ abbrev pub by_call : Duty → Line → ℕ
 by_call to_one l = l.answers
 by_call to_all l = l.tells
 
--- nothing is owed afterwards; or the call answers for all of it; or it answers for as many more as are owed more, with the same in hand
+-- nothing is owed afterwards; or the call answers for all of it; or it answers for as many more as are owed more, with the same in hand, or where it had none
 abbrev pub Way : ℕ → ℕ → ℕ → ℕ → ℕ → ℕ → Type 0
-Way n m a b i j = (m ≡ 0) ⊎ ((m ≤ b) ⊎ ((m + a ≤ n + b) × (j ≡ i)))
+Way n m a b i j = (m ≡ 0) ⊎ ((m ≤ b) ⊎ ((m + a ≤ n + b) × ((j ≡ i) ⊎ (i ≡ 0))))
 
 abbrev pub Turns : Duty → Side → Picture → Picture → Lines → Lines → Type 0
 Turns d s w x l i = Way (wanted d s w) (wanted d s x) (by_call d (of s l)) (by_call d (of s i)) (in_hand d (of s l)) (in_hand d (of s i))
@@ -90,8 +90,11 @@ Turns d s w x l i = Way (wanted d s w) (wanted d s x) (by_call d (of s l)) (by_c
 goes_on : (n m a b i j w g h key : ℕ) → Way n m a b i j → Owed n w (g + a) (h + is_key key i) → Owed m w (g + b) (h + is_key key j)
 goes_on n m a b i j w g h key (inl none_left) owed some_waiting = inl (omega arith)
 goes_on n m a b i j w g h key (inr (inl all)) owed some_waiting = inl (omega arith)
-goes_on n m a b i j w g h key (inr (inr (more, same))) owed some_waiting =
+goes_on n m a b i j w g h key (inr (inr (more, inl same))) owed some_waiting =
     let held : is_key key j ≡ is_key key i = ap (is_key key) same in
+    ⊎_elim (λ (c : n ≤ g + a). inl (omega arith)) (λ (c : 0 < h + is_key key i). inr (omega arith)) (owed some_waiting)
+goes_on n m a b i j w g h key (inr (inr (more, inr none_so))) owed some_waiting =
+    let held : is_key key i ≡ 0 = ap (is_key key) none_so in
     ⊎_elim (λ (c : n ≤ g + a). inl (omega arith)) (λ (c : 0 < h + is_key key i). inr (omega arith)) (owed some_waiting)
 
 module _ {T W : Type 0} where
@@ -118,7 +121,7 @@ module _ {T W : Type 0} where
 
 -- nothing changes on this side
 pub as_before : (n a i : ℕ) → Way n n a a i i
-as_before n a i = inr (inr (omega arith, refl))
+as_before n a i = inr (inr (omega arith, inl refl))
 
 -- a push won the slot: it answers for the message, and has the line of streams in hand; and no place is left
 pub fills_turns : (c : Lines) (d : Duty) (s : Side) → Turns d s (at_word 0 false) (at_word 3 false) c (won_place c)
@@ -233,15 +236,15 @@ closed_turns n r k c to_all of_closings = as_before 1 c.closings.tells c.closing
 
 -- the slot is given back, or nothing is done to it, and with it nothing that the law counts
 pub gives_turns : (w x : ℕ) (e : Bool) (c : Lines) → messages w ≡ messages x → (d : Duty) (s : Side) → Turns d s (at_word w e) (at_word x e) c c
-gives_turns w x e c same to_one of_receives = inr (inr (omega arith, refl))
+gives_turns w x e c same to_one of_receives = inr (inr (omega arith, inl refl))
 gives_turns w x true c same to_one of_sends = inl refl
-gives_turns w x false c same to_one of_sends = inr (inr (omega arith, refl))
+gives_turns w x false c same to_one of_sends = inr (inr (omega arith, inl refl))
 gives_turns w x e c same to_one of_streams = inl refl
 gives_turns w x e c same to_one of_closings = inl refl
 gives_turns w x e c same to_all of_receives = as_before (wanted to_all of_receives (at_word w e)) c.receives.tells c.receives.fresh
 gives_turns w x e c same to_all of_sends = as_before (wanted to_all of_sends (at_word w e)) c.sends.tells c.sends.fresh
 gives_turns w x true c same to_all of_streams = as_before 1 c.streams.tells c.streams.fresh
-gives_turns w x false c same to_all of_streams = inr (inr (omega arith, refl))
+gives_turns w x false c same to_all of_streams = inr (inr (omega arith, inl refl))
 gives_turns w x e c same to_all of_closings = as_before (wanted to_all of_closings (at_word w e)) c.closings.tells c.closings.fresh
 
 -- nothing changes

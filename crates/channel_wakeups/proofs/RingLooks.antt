@@ -29,13 +29,13 @@ use Rattle.channel_wakeups.specs.declared.rule.View.{View}
 use Rattle.channel_wakeups.specs.Lists.{total}
 use Rattle.channel_wakeups.specs.Log.{Closings, NotSeen, of_closer, of_drained}
 use Rattle.channel_wakeups.specs.Turns.{owed_by_turn}
-use Rattle.channel_wakeups.specs.Views.{Side, Duty, count_of, settled, all_owing, only, sights_of, pass, turning, no_send, Picture, picture, at_number, of_ring, Law, RingCells, RingSeats, Ringed, Knowing, Woken, Known}
+use Rattle.channel_wakeups.specs.Views.{Side, Duty, count_of, settled, all_owing, only, sights_of, pass, turning, no_place, Picture, picture, at_number, of_ring, Law, RingCells, RingSeats, Ringed, Knowing, Woken, Known}
 use Rattle.channel_wakeups.proofs.Hands.{Carries, carries_same, carries_more}
-use Rattle.channel_wakeups.proofs.Laws.{Turns, SameTickets, law_kept, same_turns, shut_out_turns, shuts_turns, settles}
+use Rattle.channel_wakeups.proofs.Laws.{Turns, SameTickets, law_kept, same_turns}
 use Rattle.channel_wakeups.proofs.Logs.{not_seen, one_more}
 use Rattle.channel_wakeups.proofs.Rings.{know_at, seats_set, put_saw, took_saw}
 use Rattle.channel_wakeups.proofs.RingCells.{same_or_other, slots_stay, tail_written}
-use Rattle.channel_wakeups.proofs.RingLaws.{sights_rest}
+use Rattle.channel_wakeups.proofs.RingLaws.{no_send_again, seen_open_line, seen_turns, shut_again_turns, full_turns, sights_rest}
 use Rattle.channel_wakeups.proofs.RingMoves.{RingOutcome, by_ring}
 use Rattle.channel_wakeups.proofs.RingSeats.{Moved, queue_of, is_shown, moved as as_moved, seats_moved}
 use Rattle.channel_wakeups.proofs.Sums.{Sights}
@@ -191,10 +191,10 @@ module _ {T W : Type 0} (slots id p : ℕ) (l : Lines) (m : Rolls W) (lg : List 
 
   abbrev SawTail : ℕ → Known T W → Type 0
   SawTail found k =
-      ((is_marked (ring_mark slots) found ≡ true) × (k ≡ (turning Rest (pass p 0 (no_send l) m (lg ++ Saw Seen ∷ [])), [])))
-      ⊎ ((is_marked (ring_mark slots) found ≡ false) × NotSeen lg × ((c : ℕ) × (found ≡ at_number slots c) × (k ≡ (at_turn (Tailed c), []))))
+      ((is_marked (ring_mark slots) found ≡ true) × (k ≡ (turning Rest (pass p 0 (no_send_again l) m (lg ++ Saw Seen ∷ [])), [])))
+      ⊎ ((is_marked (ring_mark slots) found ≡ false) × NotSeen lg × ((c : ℕ) × (found ≡ at_number slots c) × (k ≡ (turning (Tailed c) (pass p 0 (seen_open_line l) m lg), []))))
 
-  module _ (words : List ℕ) (homes : List (home.Option (Option T))) (r : Ring (Unit {0})) (views : List (View T W)) (h : Ringed slots words homes r views) (at : get_elem? views id ≡ some (at_turn Rest)) where
+  module _ (words : List ℕ) (homes : List (home.Option (Option T))) (r : Ring (Unit {0})) (views : List (View T W)) (h : Ringed slots words homes r views) (at : get_elem? views id ≡ some (at_turn Rest)) (kept_in_hand : (l.sends.holds ≡ l.sends.fresh) ⊎ (l.sends.fresh ≡ 0)) where
     marked : is_marked (ring_mark slots) (slice_index words 48) ≡ r.closed
     marked = ap (is_marked (ring_mark slots)) h.cells.tail ∙ denote.marked_is slots (ring_mark slots) (omega (arith, several)) (mark_is slots (omega (arith, several)) h.seats.limit) r.tail r.closed
 
@@ -202,20 +202,50 @@ module _ {T W : Type 0} (slots id p : ℕ) (l : Lines) (m : Rolls W) (lg : List 
     its_tail unshut = h.cells.tail ∙ (λ i. at_number slots r.tail + (if unshut i then ring_mark slots else 0)) ∙ (omega arith)
 
     by_turn : (b : Bool) → r.closed ≡ b → RingOutcome 48 (λ x. x) SawTail (at_turn Rest, []) id words homes slots views
-    by_turn true shut = only_looks 48 SawTail Rest Rest (rest_loose slots) (rest_loose slots) words homes r views h at (no_send l) (lg ++ Saw Seen ∷ []) (refl, refl, refl, refl)
-        (λ d s. subst (λ (b : Bool). Turns d s (picture (r.tail - r.head) (r.head + slots - r.tail) (reach r - r.head) b) (picture (r.tail - r.head) (r.head + slots - r.tail) (reach r - r.head) b) l (no_send l)) (sym shut)
-        (shut_out_turns (r.tail - r.head) (r.head + slots - r.tail) (reach r - r.head) l d s))
-        seen_so (λ k parts. let z = k parts in ((true, refl), put_saw r.tail lg Seen z.1, took_saw r.head lg Seen z.2)) (λ k. carries_more k p 0 0 l (no_send l) m lg some_part (Saw Seen) refl refl refl refl refl (inr (omega arith)))
+    by_turn true shut = only_looks 48 SawTail Rest Rest (rest_loose slots) (rest_loose slots) words homes r views h at (no_send_again l) (lg ++ Saw Seen ∷ []) (refl, refl, refl, refl)
+        (λ d s. subst (λ (b : Bool). Turns d s (picture (r.tail - r.head) (r.head + slots - r.tail) (reach r - r.head) b) (picture (r.tail - r.head) (r.head + slots - r.tail) (reach r - r.head) b) l (no_send_again l)) (sym shut)
+        (shut_again_turns (r.tail - r.head) (r.head + slots - r.tail) (reach r - r.head) l kept_in_hand d s))
+        seen_so (λ k parts. let z = k parts in ((true, refl), put_saw r.tail lg Seen z.1, took_saw r.head lg Seen z.2)) (λ k. carries_more k p 0 0 l (no_send_again l) m lg some_part (Saw Seen) refl refl refl refl refl (inr (omega arith)))
         (inl (marked ∙ shut, refl))
       where
-        seen_so : Sights (of_ring slots r) (of_ring slots r) (at_turn Rest) (turning Rest (pass p 0 (no_send l) m (lg ++ Saw Seen ∷ [])))
+        seen_so : Sights (of_ring slots r) (of_ring slots r) (at_turn Rest) (turning Rest (pass p 0 (no_send_again l) m (lg ++ Saw Seen ∷ [])))
         seen_so k (one, seen, gone) =
-            let a = one_more p 0 0 l (no_send l) m lg some_part Seen of_closer in
-            let d = one_more p 0 0 l (no_send l) m lg some_part Seen of_drained in
-            let e : k of_closer + sights_of of_closer (turning Rest (pass {W = W} p 0 (no_send l) m (lg ++ Saw Seen ∷ []))) ≡ k of_closer + sights_of of_closer (at_turn Rest) = omega arith in
+            let a = one_more p 0 0 l (no_send_again l) m lg some_part Seen of_closer in
+            let d = one_more p 0 0 l (no_send_again l) m lg some_part Seen of_drained in
+            let e : k of_closer + sights_of of_closer (turning Rest (pass {W = W} p 0 (no_send_again l) m (lg ++ Saw Seen ∷ []))) ≡ k of_closer + sights_of of_closer (at_turn Rest) = omega arith in
             (e ∙ one, (λ more. shut), (λ more. gone (omega arith)))
-    by_turn false unshut = turns_only 48 SawTail Rest (Tailed r.tail) (rest_loose slots) (tailed_loose slots r.tail) words homes r views h at (λ k parts. let z = k parts in ((true, refl, (omega arith, inl refl)), z.1, z.2))
+    by_turn false unshut = only_looks 48 SawTail Rest (Tailed r.tail) (rest_loose slots) (tailed_loose slots r.tail) words homes r views h at (seen_open_line l) lg (refl, refl, refl, refl)
+        (λ d s. subst (λ (b : Bool). Turns d s (picture (r.tail - r.head) (r.head + slots - r.tail) (reach r - r.head) b) (picture (r.tail - r.head) (r.head + slots - r.tail) (reach r - r.head) b) l (seen_open_line l)) (sym unshut)
+        (seen_turns (r.tail - r.head) (r.head + slots - r.tail) (reach r - r.head) l d s))
+        (sights_rest (of_ring slots r) (of_ring slots r) (at_turn Rest) (turning (Tailed r.tail) (pass p 0 (seen_open_line l) m lg)) refl (λ shut z. z) (λ f. refl))
+        (λ k parts. let z = k parts in ((true, refl, (omega arith, inl refl)), z.1, z.2)) (λ k. carries_same k p 0 0 l (seen_open_line l) m lg refl)
         (inr (marked ∙ unshut, not_seen views id (at_turn Rest) at some_part (reach r - r.head) (subst (λ (b : Bool). Closings b (reach r - r.head) (λ f. total (sights_of f) views)) unshut h.law.closings), (r.tail, its_tail unshut, refl)))
 
-  pub sees_tail : Allows Woken slots id (at_turn Rest, []) 48 (λ x. x) SawTail
-  sees_tail = by_ring 48 (λ x. x) SawTail slots id (at_turn Rest, []) (λ e. absurd (omega arith)) (λ e. absurd (omega arith)) several (λ words homes r views h at. by_turn words homes r views h at r.closed refl)
+  pub sees_tail : (l.sends.holds ≡ l.sends.fresh) ⊎ (l.sends.fresh ≡ 0) → Allows Woken slots id (at_turn Rest, []) 48 (λ x. x) SawTail
+  sees_tail kept_in_hand = by_ring 48 (λ x. x) SawTail slots id (at_turn Rest, []) (λ e. absurd (omega arith)) (λ e. absurd (omega arith)) several (λ words homes r views h at. by_turn words homes r views h at kept_in_hand r.closed refl)
+
+  -- ---- a push that found the message of the lap before looks whether that is the oldest
+
+  module _ (c : ℕ) where
+    abbrev SawFull : ℕ → Known T W → Type 0
+    SawFull found k =
+        ((found ≡ at_number slots c) × (k ≡ (turning Rest (pass p 0 (no_place l) m lg), []))) ⊎ ((found ≡ at_number slots c → ⊥) × (k ≡ (at_turn Rest, [])))
+
+    looks_full : l.sends.fresh ≡ 0 → (words : List ℕ) (homes : List (home.Option (Option T))) (r : Ring (Unit {0})) (views : List (View T W)) → Ringed slots words homes r views → get_elem? views id ≡ some (at_turn (Behind c))
+        → RingOutcome 0 (λ x. x) SawFull (at_turn (Behind c), []) id words homes slots views
+    looks_full seen words homes r views h at = ⊎_elim
+        (λ (e : slice_index words 0 ≡ at_number slots c).
+        let k = know_at slots r views id (at_turn (Behind c)) at h.seats.knows some_part in
+        let t = denote.same_pos slots (ring_mark slots) (omega (arith, several)) (mark_is slots (omega (arith, several)) h.seats.limit) r.head c (sym h.cells.head ∙ e) in
+        let late : c + slots ≤ r.tail = k.0.2.0 in
+        let none_free : r.head + slots - r.tail ≡ 0 = omega arith in
+        only_looks 0 SawFull (Behind c) Rest (behind_loose slots c) (rest_loose slots) words homes r views h at (no_place l) lg (refl, refl, refl, refl)
+        (λ d s. full_turns (r.tail - r.head) (r.head + slots - r.tail) (reach r - r.head) r.closed l none_free seen d s)
+        (sights_rest (of_ring slots r) (of_ring slots r) (at_turn (Behind c)) (turning Rest (pass p 0 (no_place l) m lg)) refl (λ shut z. z) (λ f. refl))
+        (λ q parts. let z = q parts in ((true, refl), z.1, z.2)) (λ q. carries_same q p 0 0 l (no_place l) m lg refl) (inl (e, refl)))
+        (λ (e : slice_index words 0 ≡ at_number slots c → ⊥).
+        turns_only 0 SawFull (Behind c) Rest (behind_loose slots c) (rest_loose slots) words homes r views h at (λ q parts. let z = q parts in ((true, refl), z.1, z.2)) (inr (e, refl)))
+        (same_or_other (at_number slots c) (slice_index words 0))
+
+    pub sees_full : l.sends.fresh ≡ 0 → Allows Woken slots id (at_turn (Behind c), []) 0 (λ x. x) SawFull
+    sees_full seen = by_ring 0 (λ x. x) SawFull slots id (at_turn (Behind c), []) (λ e. absurd (omega arith)) (λ e. absurd (omega arith)) several (λ words homes r views h at. looks_full seen words homes r views h at)
