@@ -14,6 +14,7 @@ pub mod RingLaws
 pub mod RingMoves
 pub mod RingLooks
 pub mod RingForces
+pub mod RingBegins
 pub mod Moves
 pub mod Seats
 pub mod Stages
