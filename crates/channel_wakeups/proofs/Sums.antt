@@ -9,7 +9,7 @@ use Rattle.channel_wakeups.specs.declared.rule.View.{View}
 use Rattle.channel_wakeups.specs.Lists.{total, told, waits, listed}
 use Rattle.channel_wakeups.specs.Log.{Weight, Balanced, each, numbered, held, each_sight, of_closer, of_drained, Closings}
 use Rattle.channel_wakeups.specs.declared.rule.Sight.{Sight}
-use Rattle.channel_wakeups.specs.Views.{Side, of_receives, of_sends, of_streams, of_closings, Duty, to_one, to_all, of, roll, idle, no_roll, idle_lines, no_rolls, nobody, only, is_key, parts_of, here_of, answered_of, holds_of, locks_of, owns_of, waits_of, listed_of, tickets_of, puts_of, takes_of, sights_of, messages, wanted, Picture, at_word, Owed, IsSlot, empty, full, out, Ordered, Law, Kept}
+use Rattle.channel_wakeups.specs.Views.{Side, of_receives, of_sends, of_streams, of_closings, Duty, to_one, to_all, of, roll, idle, no_roll, idle_lines, no_rolls, nobody, only, is_key, parts_of, here_of, answered_of, holds_of, locks_of, owns_of, waits_of, listed_of, tickets_of, puts_of, takes_of, sights_of, wanted, Picture, at_word, Owed, IsSlot, empty, full, out, Ordered, Law, Kept}
 
 pub total_set : {V : Type 0} (f : V → ℕ) (vs : List V) (i : ℕ) (v w : V) → get_elem? vs i ≡ some v → total f (set vs i w) + f v ≡ total f vs + f w
 total_set f [] i v w e = absurd (some-ne-none v (sym e))
