@@ -109,15 +109,3 @@ module _ {T : Type 0} (cap : ℕ) (words : List ℕ) (homes hs : List (home.Opti
             (same_or_other i j);
         slots = slots;
       }
-
-  -- nothing is written
-  pub none_written : o.head ≡ r.head → o.tail ≡ r.tail → o.closed ≡ r.closed → ((i : ℕ) → o.at i ≡ r.at i) → RingCells cap words hs o
-  none_written heads tails shuts ats =
-      record {
-        size = size ∙ c.size;
-        wide = c.wide;
-        head = c.head ∙ ap (at_number cap) (sym heads);
-        tail = c.tail ∙ (λ k. at_number cap (sym tails k) + (if sym shuts k then ring_mark cap else 0));
-        stamps = λ i small. c.stamps i small ∙ (λ k. at_number cap (sym (ats i) k).round + (if (sym (ats i) k).written then 1 else 0));
-        slots = slots;
-      }

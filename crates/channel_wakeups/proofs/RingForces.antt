@@ -27,14 +27,15 @@ use Rattle.channel_wakeups.specs.declared.rule.Turn.TheVariants.{Rest, Behind, C
 use Rattle.channel_wakeups.specs.declared.rule.View.{View}
 use Rattle.channel_wakeups.specs.Lists.{total}
 use Rattle.channel_wakeups.specs.Log.{PutBefore, TookBefore, Closings, NotSeen, of_closer, of_drained}
+use Rattle.channel_wakeups.specs.RingSteps.{won_ring_place, making_room, mark_set, oldest_won, tail_passed, message_stored, moved_on}
 use Rattle.channel_wakeups.specs.Turns.{phase_of, owed_by_turn}
-use Rattle.channel_wakeups.specs.Views.{Side, Duty, count_of, settled, all_owing, only, sights_of, pass, turning, won_place, Picture, picture, at_number, of_ring, Law, RingCells, RingSeats, Ringed, Knowing, Woken, Known}
+use Rattle.channel_wakeups.specs.Views.{Side, Duty, count_of, settled, all_owing, only, sights_of, pass, turning, Picture, picture, at_number, of_ring, Law, RingCells, RingSeats, Ringed, Knowing, Woken, Known}
 use Rattle.channel_wakeups.proofs.Hands.{Carries, carries_same, carries_more}
 use Rattle.channel_wakeups.proofs.Laws.{Turns, law_kept, same_turns, shuts_turns, settles}
 use Rattle.channel_wakeups.proofs.Logs.{not_seen, one_more, moved, sights_same}
 use Rattle.channel_wakeups.proofs.Rings.{know_at, put_saw, took_saw, seats_saw, seats_set}
 use Rattle.channel_wakeups.proofs.RingCells.{same_or_other, slots_stay, slots_took, slots_gave, was_home, tail_written, head_written, stamp_written}
-use Rattle.channel_wakeups.proofs.RingLaws.{displaces_turns, making_room, puts_turns, sights_rest, put_below, took_put, put_took, took_below}
+use Rattle.channel_wakeups.proofs.RingLaws.{displaces_turns, puts_turns, sights_rest, put_below, took_put, put_took, took_below}
 use Rattle.channel_wakeups.proofs.RingLooks.{rest_loose, behind_loose}
 use Rattle.channel_wakeups.proofs.RingMoves.{RingOutcome, by_ring, same_words, if_here, if_other}
 use Rattle.channel_wakeups.proofs.RingSeats.{Moved, on_end, queue_of, is_shown, moved as as_moved, seats_moved, put_later, took_later, holds_it, holds_not, eq_other}
@@ -71,9 +72,7 @@ module _ {T W : Type 0} (slots id p : ℕ) (l : Lines) (m : Rolls W) (lg : List 
   marks x = bit_or x (ring_mark slots)
 
   abbrev HasShut : ℕ → Known T W → Type 0
-  HasShut found k =
-      ((is_marked (ring_mark slots) found ≡ false) × NotSeen lg × (k ≡ (turning Rest (pass p 0 (all_owing l) m (lg ++ Saw Shut ∷ [])), [])))
-      ⊎ ((is_marked (ring_mark slots) found ≡ true) × (k ≡ (turning Rest (pass p 0 (settled l) m (lg ++ Saw Seen ∷ [])), [])))
+  HasShut = mark_set slots (pass p 0 l m lg)
 
   still_held : (k : Kind) → count_of k (settled l).hands ≡ count_of k l.hands
   still_held OfSenders = refl
@@ -159,12 +158,10 @@ module _ {T W : Type 0} (slots id p : ℕ) (l : Lines) (m : Rolls W) (lg : List 
     behind = turning (Behind c) (pass p 0 l m lg)
 
     abbrev Displaced : ℕ → Known T W → Type 0
-    Displaced found k =
-        ((found ≡ at_number slots c) × TookBefore c lg × ((x : T) × (k ≡ (turning (Coming c) (pass p 0 (making_room l) m (lg ++ Out c x ∷ [])), (c % slots, Some x) ∷ []))))
-        ⊎ ((found ≡ at_number slots c → ⊥) × (k ≡ (turning Rest (pass p 0 l m lg), [])))
+    Displaced = oldest_won slots c (pass p 0 l m lg)
 
     abbrev move_head : ℕ → ℕ
-    move_head x = either (x == at_number slots c) (at_number slots (c + 1)) x
+    move_head = moved_on slots c
 
     module _ (words : List ℕ) (homes : List (home.Option (Option T))) (r : Ring (Unit {0})) (views : List (View T W)) (h : Ringed slots words homes r views) (at : get_elem? views id ≡ some behind) (low : c + slots + 1 ≤ 2 ^ 61) where
       abbrev roomy : Ring (Unit {0})
@@ -245,7 +242,7 @@ module _ {T W : Type 0} (slots id p : ℕ) (l : Lines) (m : Rolls W) (lg : List 
       adds_stride y = (y + stride slots (ring_mark slots) (at_number slots c)) % 2 ^ 64
 
       abbrev Added : ℕ → Known T W → Type 0
-      Added found k = PutBefore (c + slots) lg × TookBefore (c + slots) lg × (k ≡ (turning (Displacing c) (pass p 0 (won_place l) m lg), (c % slots, Some x) ∷ []))
+      Added = tail_passed slots c x (pass p 0 l m lg)
 
       module _ (words : List ℕ) (homes : List (home.Option (Option T))) (r : Ring (Unit {0})) (views : List (View T W)) (h : Ringed slots words homes r views) (at : get_elem? views id ≡ some (turning (Coming c) (pass p 0 l m lg))) (one : l.sends.answers ≤ 1) where
         abbrev come : Ring (Unit {0})
@@ -281,21 +278,21 @@ module _ {T W : Type 0} (slots id p : ℕ) (l : Lines) (m : Rolls W) (lg : List 
             let there = kept.leaves.2 in
             let order = h.seats.sound.order in
             (
-              turning (Displacing c) (pass p 0 (won_place l) m lg),
+              turning (Displacing c) (pass p 0 (won_ring_place l) m lg),
               keeps,
               come,
               tt,
               record {
                 cells = tail_written slots words homes homes r come h.cells refl (slots_stay slots words homes r h.cells (act.ForceAdd tt c) come (act.ForceTake tt c) go (λ i. refl) (λ i. refl)) (adds_stride (slice_index words 48)) refl (λ i. refl) (next_tail t);
-                seats = seats_moved slots r come (act.ForceTake tt c) views id (turning (Coming c) (pass p 0 l m lg)) (turning (Displacing c) (pass p 0 (won_place l) m lg)) at some_part some_part go (λ d. refl) (few_so r.coming way h.seats.few)
+                seats = seats_moved slots r come (act.ForceTake tt c) views id (turning (Coming c) (pass p 0 l m lg)) (turning (Displacing c) (pass p 0 (won_ring_place l) m lg)) at some_part some_part go (λ d. refl) (few_so r.coming way h.seats.few)
                     (λ parts. ((tt, refl, there.2, there.3, there.4), put_later r.tail (r.tail + 1) lg (omega arith) k.1, k.2)) h.seats;
-                law = law_kept (of_ring slots r) (of_ring slots come) views id p 0 0 (Coming c) (Displacing c) l (won_place l) m lg lg some_part at (refl, refl, refl, refl)
-                    (λ d s. subst (λ (a : ℕ). Turns d s (of_ring slots r) (picture a (r.head + slots - (r.tail + 1)) (reach come - r.head) r.closed) l (won_place l)) (let e : r.tail - r.head + 1 ≡ r.tail + 1 - r.head = omega arith in e)
-                    (subst (λ (b : ℕ). Turns d s (of_ring slots r) (picture (r.tail - r.head + 1) b (reach come - r.head) r.closed) l (won_place l)) (let e : r.head + slots - r.tail - 1 ≡ r.head + slots - (r.tail + 1) = omega arith in e)
+                law = law_kept (of_ring slots r) (of_ring slots come) views id p 0 0 (Coming c) (Displacing c) l (won_ring_place l) m lg lg some_part at (refl, refl, refl, refl)
+                    (λ d s. subst (λ (a : ℕ). Turns d s (of_ring slots r) (picture a (r.head + slots - (r.tail + 1)) (reach come - r.head) r.closed) l (won_ring_place l)) (let e : r.tail - r.head + 1 ≡ r.tail + 1 - r.head = omega arith in e)
+                    (subst (λ (b : ℕ). Turns d s (of_ring slots r) (picture (r.tail - r.head + 1) b (reach come - r.head) r.closed) l (won_ring_place l)) (let e : r.head + slots - r.tail - 1 ≡ r.head + slots - (r.tail + 1) = omega arith in e)
                     (puts_turns (r.tail - r.head) (r.head + slots - r.tail) (reach r - r.head) (reach come - r.head) r.closed l (omega arith) one d s)))
-                    (sights_rest (of_ring slots r) (of_ring slots come) (turning (Coming c) (pass p 0 l m lg)) (turning (Displacing c) (pass p 0 (won_place l) m lg)) refl (λ shut z. near_so r.coming way z) (λ f. refl)) h.law;
+                    (sights_rest (of_ring slots r) (of_ring slots come) (turning (Coming c) (pass p 0 l m lg)) (turning (Displacing c) (pass p 0 (won_ring_place l) m lg)) refl (λ shut z. near_so r.coming way z) (λ f. refl)) h.law;
               },
-              (λ j. carries_same j p 0 0 l (won_place l) m lg refl),
+              (λ j. carries_same j p 0 0 l (won_ring_place l) m lg refl),
               ((λ j more. k.1 j (omega arith)), took_later r.head (c + slots) lg (omega arith) k.2, refl),
             )
           where
@@ -319,7 +316,7 @@ module _ {T W : Type 0} (slots id p : ℕ) (l : Lines) (m : Rolls W) (lg : List 
       brought = turning Rest (pass p 0 l m (lg ++ In (c + slots) x ∷ []))
 
       abbrev Brought : ℕ → Known T W → Type 0
-      Brought found k = k ≡ (brought, [])
+      Brought = message_stored (c + slots) x (pass p 0 l m lg)
 
       module _ (words : List ℕ) (homes : List (home.Option (Option T))) (r : Ring (Unit {0})) (views : List (View T W)) (h : Ringed slots words homes r views) (at : get_elem? views id ≡ some (turning (Displacing c) (pass p 0 l m lg))) where
         stores_own : RingOutcome (c % slots + 64) (λ y. at_number slots (c + slots) + 1) Brought holding id words homes slots views

@@ -6,13 +6,14 @@ use Rattle.channel_wakeups.specs.declared.rule.Transfer.{Transfer}
 use Rattle.channel_wakeups.specs.declared.rule.Transfer.TheVariants.{In, Out, Saw}
 use Rattle.channel_wakeups.specs.declared.rule.View.{View}
 use Rattle.channel_wakeups.specs.Log.{numbered, puts, takes, PutBefore, TookBefore, each_sight, of_closer, of_drained}
-use Rattle.channel_wakeups.specs.Views.{Side, of_receives, of_sends, of_streams, of_closings, Duty, to_one, to_all, with_line, answering, call_line, seen_open, no_place, won_place, won_message, Picture, picture, wanted, sights_of}
+use Rattle.channel_wakeups.specs.RingSteps.{won_ring_place, making_room, seen_open_line, no_send_again}
+use Rattle.channel_wakeups.specs.Views.{Side, of_receives, of_sends, of_streams, of_closings, Duty, to_one, to_all, no_place, won_message, Picture, picture, wanted, sights_of}
 use Rattle.channel_wakeups.proofs.Laws.{Turns, as_before}
 use Rattle.channel_wakeups.proofs.Logs.{puts_append, takes_append, this_other}
 use Rattle.channel_wakeups.proofs.Sums.{Sights}
 
 -- a push has a place: it answers for a message more, and for its place no more, and one place fewer is free
-pub puts_turns : (n f k h : ℕ) (e : Bool) (c : Lines) → 0 < f → c.sends.answers ≤ 1 → (d : Duty) (s : Side) → Turns d s (picture n f k e) (picture (n + 1) (f - 1) h e) c (won_place c)
+pub puts_turns : (n f k h : ℕ) (e : Bool) (c : Lines) → 0 < f → c.sends.answers ≤ 1 → (d : Duty) (s : Side) → Turns d s (picture n f k e) (picture (n + 1) (f - 1) h e) c (won_ring_place c)
 puts_turns n f k h e c some_place one to_one of_receives = inr (inr (omega arith, inl refl))
 puts_turns n f k h true c some_place one to_one of_sends = inl refl
 puts_turns n f k h false c some_place one to_one of_sends = inr (inr (omega arith, inl refl))
@@ -38,9 +39,6 @@ takes_turns n f k h false c some_message one to_all of_streams = inr (inr (omega
 takes_turns n f k h e c some_message one to_all of_closings = as_before (wanted to_all of_closings (picture n f k e)) c.closings.tells c.closings.fresh
 
 -- a displacing push has taken the oldest message out: it answers for the place until its own is in
-abbrev pub making_room : Lines → Lines
-making_room c = with_line of_sends (answering c.sends) c
-
 pub displaces_turns : (n f k h : ℕ) (e : Bool) (c : Lines) → (d : Duty) (s : Side) → Turns d s (picture n f k e) (picture (n - 1) (f + 1) h e) c (making_room c)
 displaces_turns n f k h e c to_one of_receives = inr (inr (omega arith, inl refl))
 displaces_turns n f k h true c to_one of_sends = inl refl
@@ -54,9 +52,6 @@ displaces_turns n f k h false c to_all of_streams = inr (inr (omega arith, inl r
 displaces_turns n f k h e c to_all of_closings = as_before (wanted to_all of_closings (picture n f k e)) c.closings.tells c.closings.fresh
 
 -- a push saw the ring open at this moment: it has its listener in hand for a place alone from now on
-abbrev pub seen_open_line : Lines → Lines
-seen_open_line c = with_line of_sends (seen_open c.sends) c
-
 pub seen_turns : (n f k : ℕ) (c : Lines) (d : Duty) (s : Side) → Turns d s (picture n f k false) (picture n f k false) c (seen_open_line c)
 seen_turns n f k c to_one of_receives = as_before n c.receives.answers c.receives.holds
 seen_turns n f k c to_one of_sends = as_before f c.sends.answers c.sends.holds
@@ -68,9 +63,6 @@ seen_turns n f k c to_all of_streams = as_before n c.streams.tells c.streams.fre
 seen_turns n f k c to_all of_closings = inl refl
 
 -- a push found the ring closed: it has its listener in hand as it had it first
-abbrev pub no_send_again : Lines → Lines
-no_send_again c = with_line of_sends (call_line 0 c.sends.holds c.sends.ticket c.sends.tells) c
-
 pub shut_again_turns : (n f k : ℕ) (c : Lines) → (c.sends.holds ≡ c.sends.fresh) ⊎ (c.sends.fresh ≡ 0) → (d : Duty) (s : Side) → Turns d s (picture n f k true) (picture n f k true) c (no_send_again c)
 shut_again_turns n f k c in_hand_so to_one of_receives = as_before n c.receives.answers c.receives.holds
 shut_again_turns n f k c in_hand_so to_one of_sends = inl refl

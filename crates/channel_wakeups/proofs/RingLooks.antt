@@ -28,6 +28,7 @@ use Rattle.channel_wakeups.specs.declared.rule.Turn.TheVariants.{Rest, Tailed, R
 use Rattle.channel_wakeups.specs.declared.rule.View.{View}
 use Rattle.channel_wakeups.specs.Lists.{total}
 use Rattle.channel_wakeups.specs.Log.{Closings, NotSeen, of_closer, of_drained}
+use Rattle.channel_wakeups.specs.RingSteps.{seen_open_line, no_send_again, tail_read, place_read, full_read, head_read, message_read}
 use Rattle.channel_wakeups.specs.Turns.{owed_by_turn}
 use Rattle.channel_wakeups.specs.Views.{Side, Duty, count_of, settled, all_owing, only, sights_of, pass, turning, no_place, Picture, picture, at_number, of_ring, Law, RingCells, RingSeats, Ringed, Knowing, Woken, Known}
 use Rattle.channel_wakeups.proofs.Hands.{Carries, carries_same, carries_more}
@@ -35,7 +36,7 @@ use Rattle.channel_wakeups.proofs.Laws.{Turns, SameTickets, law_kept, same_turns
 use Rattle.channel_wakeups.proofs.Logs.{not_seen, one_more}
 use Rattle.channel_wakeups.proofs.Rings.{know_at, seats_set, put_saw, took_saw}
 use Rattle.channel_wakeups.proofs.RingCells.{same_or_other, slots_stay, tail_written}
-use Rattle.channel_wakeups.proofs.RingLaws.{no_send_again, seen_open_line, seen_turns, shut_again_turns, full_turns, sights_rest}
+use Rattle.channel_wakeups.proofs.RingLaws.{seen_turns, shut_again_turns, full_turns, sights_rest}
 use Rattle.channel_wakeups.proofs.RingMoves.{RingOutcome, by_ring}
 use Rattle.channel_wakeups.proofs.RingSeats.{Moved, queue_of, is_shown, moved as as_moved, seats_moved}
 use Rattle.channel_wakeups.proofs.Sums.{Sights}
@@ -104,7 +105,7 @@ module _ {T W : Type 0} (slots id p : ℕ) (l : Lines) (m : Rolls W) (lg : List 
   -- ---- a pop reads the head
 
   abbrev SawHead : ℕ → Known T W → Type 0
-  SawHead found k = (c : ℕ) × (found ≡ at_number slots c) × (k ≡ (at_turn (Headed c), []))
+  SawHead = head_read slots (pass p 0 l m lg)
 
   pub sees_head : Allows Woken slots id (at_turn Rest, []) 0 (λ x. x) SawHead
   sees_head = by_ring 0 (λ x. x) SawHead slots id (at_turn Rest, []) (λ e. absurd (omega arith)) (λ e. absurd (omega arith)) several (λ words homes r views h at.
@@ -114,9 +115,7 @@ module _ {T W : Type 0} (slots id p : ℕ) (l : Lines) (m : Rolls W) (lg : List 
 
   module _ (n : ℕ) where
     abbrev SawStamp : ℕ → Known T W → Type 0
-    SawStamp found k =
-        ((found ≡ at_number slots n + 1) × (k ≡ (at_turn (Written n), [])))
-        ⊎ (((found ≡ at_number slots n) × (k ≡ (at_turn (Vacant n), []))) ⊎ ((found ≡ at_number slots n + 1 → ⊥) × (found ≡ at_number slots n → ⊥) × (k ≡ (at_turn Rest, []))))
+    SawStamp = message_read slots n (pass p 0 l m lg)
 
     module _ (words : List ℕ) (homes : List (home.Option (Option T))) (r : Ring (Unit {0})) (views : List (View T W)) (h : Ringed slots words homes r views) where
       inside : n % slots < slots
@@ -154,10 +153,7 @@ module _ {T W : Type 0} (slots id p : ℕ) (l : Lines) (m : Rolls W) (lg : List 
     -- ---- a push reads the stamp at the tail
 
     abbrev SawPlace : ℕ → Known T W → Type 0
-    SawPlace found k =
-        ((found ≡ at_number slots n) × (k ≡ (at_turn (Ready n), [])))
-        ⊎ (((slots ≤ n) × (found ≡ at_number slots (n - slots) + 1) × (k ≡ (at_turn (Behind (n - slots)), [])))
-        ⊎ ((found ≡ at_number slots n → ⊥) × (k ≡ (at_turn Rest, []))))
+    SawPlace = place_read slots n (pass p 0 l m lg)
 
     module _ (words : List ℕ) (homes : List (home.Option (Option T))) (r : Ring (Unit {0})) (views : List (View T W)) (h : Ringed slots words homes r views) (at : get_elem? views id ≡ some (at_turn (Tailed n))) where
       -- the message of the lap before is there
@@ -190,9 +186,7 @@ module _ {T W : Type 0} (slots id p : ℕ) (l : Lines) (m : Rolls W) (lg : List 
   -- ---- a push reads the tail
 
   abbrev SawTail : ℕ → Known T W → Type 0
-  SawTail found k =
-      ((is_marked (ring_mark slots) found ≡ true) × (k ≡ (turning Rest (pass p 0 (no_send_again l) m (lg ++ Saw Seen ∷ [])), [])))
-      ⊎ ((is_marked (ring_mark slots) found ≡ false) × NotSeen lg × ((c : ℕ) × (found ≡ at_number slots c) × (k ≡ (turning (Tailed c) (pass p 0 (seen_open_line l) m lg), []))))
+  SawTail = tail_read slots (pass p 0 l m lg)
 
   module _ (words : List ℕ) (homes : List (home.Option (Option T))) (r : Ring (Unit {0})) (views : List (View T W)) (h : Ringed slots words homes r views) (at : get_elem? views id ≡ some (at_turn Rest)) (kept_in_hand : (l.sends.holds ≡ l.sends.fresh) ⊎ (l.sends.fresh ≡ 0)) where
     marked : is_marked (ring_mark slots) (slice_index words 48) ≡ r.closed
@@ -228,8 +222,7 @@ module _ {T W : Type 0} (slots id p : ℕ) (l : Lines) (m : Rolls W) (lg : List 
 
   module _ (c : ℕ) where
     abbrev SawFull : ℕ → Known T W → Type 0
-    SawFull found k =
-        ((found ≡ at_number slots c) × (k ≡ (turning Rest (pass p 0 (no_place l) m lg), []))) ⊎ ((found ≡ at_number slots c → ⊥) × (k ≡ (at_turn Rest, [])))
+    SawFull = full_read slots c (pass p 0 l m lg)
 
     looks_full : l.sends.fresh ≡ 0 → (words : List ℕ) (homes : List (home.Option (Option T))) (r : Ring (Unit {0})) (views : List (View T W)) → Ringed slots words homes r views → get_elem? views id ≡ some (at_turn (Behind c))
         → RingOutcome 0 (λ x. x) SawFull (at_turn (Behind c), []) id words homes slots views

@@ -32,8 +32,9 @@ use Rattle.channel_wakeups.specs.declared.rule.Turn.TheVariants.{Rest, Ready, Fi
 use Rattle.channel_wakeups.specs.declared.rule.View.{View}
 use Rattle.channel_wakeups.specs.Lists.{total}
 use Rattle.channel_wakeups.specs.Log.{PutBefore, TookBefore, Closings, NotSeen, NotDrained, of_closer}
+use Rattle.channel_wakeups.specs.RingSteps.{won_ring_place, tail_moved, end_read, head_moved, message_stored, moved_on}
 use Rattle.channel_wakeups.specs.Turns.{phase_of, owed_by_turn}
-use Rattle.channel_wakeups.specs.Views.{only, sights_of, pass, turning, won_place, won_message, no_message, no_more, Picture, picture, at_number, of_ring, Law, RingCells, RingSeats, Ringed, Shown, one_slot, a_ring, Knowing, Woken, Known}
+use Rattle.channel_wakeups.specs.Views.{only, sights_of, pass, turning, won_message, no_message, no_more, Picture, picture, at_number, of_ring, Law, RingCells, RingSeats, Ringed, Shown, one_slot, a_ring, Knowing, Woken, Known}
 use Rattle.channel_wakeups.proofs.Hands.{Carries, counted_kept, carries_same, carries_more}
 use Rattle.channel_wakeups.proofs.Laws.{Turns, law_kept, same_turns, rests_turns, drains_turns}
 use Rattle.channel_wakeups.proofs.Logs.{not_seen, not_drained, one_more, moved, sights_same}
@@ -113,18 +114,16 @@ module _ {T W : Type 0} (slots id p n : ℕ) (l : Lines) (m : Rolls W) (lg : Lis
   -- ---- a push moves the tail on, or finds that it has moved
 
   abbrev Swapped : ℕ → Known T W → Type 0
-  Swapped found k =
-      ((found ≡ at_number slots n) × PutBefore n lg × TookBefore n lg × ((x : Option T) × (k ≡ (turning (Filling n) (pass p 0 (won_place l) m lg), (n % slots, x) ∷ []))))
-      ⊎ ((found ≡ at_number slots n → ⊥) × (k ≡ (turning Rest (pass p 0 l m lg), [])))
+  Swapped = tail_moved slots n (pass p 0 l m lg)
 
   abbrev swap_tail : ℕ → ℕ
-  swap_tail x = either (x == at_number slots n) (at_number slots (n + 1)) x
+  swap_tail = moved_on slots n
 
   abbrev ready : View T W
   ready = turning (Ready n) (pass p 0 l m lg)
 
   abbrev filling : View T W
-  filling = turning (Filling n) (pass p 0 (won_place l) m lg)
+  filling = turning (Filling n) (pass p 0 (won_ring_place l) m lg)
 
   module _ (words : List ℕ) (homes : List (home.Option (Option T))) (r : Ring (Unit {0})) (views : List (View T W)) (h : Ringed slots words homes r views) (at : get_elem? views id ≡ some ready) (one : l.sends.answers ≤ 1) (low : n + 2 ≤ 2 ^ 61) where
     positive : 0 < slots
@@ -165,7 +164,7 @@ module _ {T W : Type 0} (slots id p n : ℕ) (l : Lines) (m : Rolls W) (lg : Lis
                 (λ parts. ((refl, knows_so.2.1, knows_so.2.2), (λ j more. k.1 j (omega arith)), k.2)) h.seats;
             law = law_so t.1 room order;
           },
-          (λ j. carries_same j p 0 0 l (won_place l) m lg refl),
+          (λ j. carries_same j p 0 0 l (won_ring_place l) m lg refl),
           inl (found, (λ j more. k.1 j (omega (arith, t.0))), took_later r.head n lg (omega (arith, t.0)) k.2, (x.0, refl)),
         )
       where
@@ -175,9 +174,9 @@ module _ {T W : Type 0} (slots id p n : ℕ) (l : Lines) (m : Rolls W) (lg : Lis
 
         law_so : r.closed ≡ false → r.tail + 1 ≤ r.head + slots → r.head ≤ r.tail → Law (of_ring slots (record r { all = r.all ++ tt ∷ []; tail = r.tail + 1; coming = r.coming })) (set views id filling)
         law_so unshut room order =
-            law_kept (of_ring slots r) (of_ring slots (record r { all = r.all ++ tt ∷ []; tail = r.tail + 1; coming = r.coming })) views id p 0 0 (Ready n) (Filling n) l (won_place l) m lg lg some_part at (refl, refl, refl, refl)
-            (λ d s. subst (λ (x : ℕ). Turns d s (of_ring slots r) (picture x (r.head + slots - (r.tail + 1)) (reach (record r { all = r.all ++ tt ∷ []; tail = r.tail + 1; coming = r.coming }) - r.head) r.closed) l (won_place l)) (let e : r.tail - r.head + 1 ≡ r.tail + 1 - r.head = omega arith in e)
-            (subst (λ (y : ℕ). Turns d s (of_ring slots r) (picture (r.tail - r.head + 1) y (reach (record r { all = r.all ++ tt ∷ []; tail = r.tail + 1; coming = r.coming }) - r.head) r.closed) l (won_place l)) (let e : r.head + slots - r.tail - 1 ≡ r.head + slots - (r.tail + 1) = omega arith in e)
+            law_kept (of_ring slots r) (of_ring slots (record r { all = r.all ++ tt ∷ []; tail = r.tail + 1; coming = r.coming })) views id p 0 0 (Ready n) (Filling n) l (won_ring_place l) m lg lg some_part at (refl, refl, refl, refl)
+            (λ d s. subst (λ (x : ℕ). Turns d s (of_ring slots r) (picture x (r.head + slots - (r.tail + 1)) (reach (record r { all = r.all ++ tt ∷ []; tail = r.tail + 1; coming = r.coming }) - r.head) r.closed) l (won_ring_place l)) (let e : r.tail - r.head + 1 ≡ r.tail + 1 - r.head = omega arith in e)
+            (subst (λ (y : ℕ). Turns d s (of_ring slots r) (picture (r.tail - r.head + 1) y (reach (record r { all = r.all ++ tt ∷ []; tail = r.tail + 1; coming = r.coming }) - r.head) r.closed) l (won_ring_place l)) (let e : r.head + slots - r.tail - 1 ≡ r.head + slots - (r.tail + 1) = omega arith in e)
             (puts_turns (r.tail - r.head) (r.head + slots - r.tail) (reach r - r.head) (reach (record r { all = r.all ++ tt ∷ []; tail = r.tail + 1; coming = r.coming }) - r.head) r.closed l (omega arith) one d s)))
             (sights_rest (of_ring slots r) (of_ring slots (record r { all = r.all ++ tt ∷ []; tail = r.tail + 1; coming = r.coming })) ready filling refl (λ shut. absurd (no_true (sym shut ∙ unshut))) (λ f. refl)) h.law
 
@@ -208,10 +207,7 @@ module _ {T W : Type 0} (slots id p n : ℕ) (l : Lines) (m : Rolls W) (lg : Lis
   -- ---- a pop that found no message looks whether the tail is there too
 
   abbrev Looked : ℕ → Known T W → Type 0
-  Looked found k =
-      ((unmarked (ring_mark slots) found ≡ at_number slots n) × (is_marked (ring_mark slots) found ≡ false) × NotSeen lg × (k ≡ (turning Rest (pass p 0 (no_message l) m lg), [])))
-      ⊎ (((unmarked (ring_mark slots) found ≡ at_number slots n) × (is_marked (ring_mark slots) found ≡ true) × (k ≡ (turning Rest (pass p 0 (no_more l) m (lg ++ Saw Drained ∷ [])), [])))
-      ⊎ ((unmarked (ring_mark slots) found ≡ at_number slots n → ⊥) × (k ≡ (turning Rest (pass p 0 l m lg), []))))
+  Looked = end_read slots n (pass p 0 l m lg)
 
   abbrev vacant : View T W
   vacant = turning (Vacant n) (pass p 0 l m lg)
@@ -299,12 +295,10 @@ module _ {T W : Type 0} (slots id p n : ℕ) (l : Lines) (m : Rolls W) (lg : Lis
   -- ---- a pop moves the head on, and takes the message, or finds that it has moved
 
   abbrev Caught : ℕ → Known T W → Type 0
-  Caught found k =
-      ((found ≡ at_number slots n) × NotDrained lg × TookBefore n lg × ((x : T) × (k ≡ (turning (Emptying n) (pass p 0 (won_message l) m (lg ++ Out n x ∷ [])), (n % slots, Some x) ∷ []))))
-      ⊎ ((found ≡ at_number slots n → ⊥) × (k ≡ (turning Rest (pass p 0 l m lg), [])))
+  Caught = head_moved slots n (pass p 0 l m lg)
 
   abbrev swap_head : ℕ → ℕ
-  swap_head x = either (x == at_number slots n) (at_number slots (n + 1)) x
+  swap_head = moved_on slots n
 
   abbrev written : View T W
   written = turning (Written n) (pass p 0 l m lg)
@@ -402,7 +396,7 @@ module _ {T W : Type 0} (slots id p n : ℕ) (l : Lines) (m : Rolls W) (lg : Lis
     stored = turning Rest (pass p 0 l m (lg ++ In n x ∷ []))
 
     abbrev Stored : ℕ → Known T W → Type 0
-    Stored found k = k ≡ (stored, [])
+    Stored = message_stored n x (pass p 0 l m lg)
 
     module _ (words : List ℕ) (homes : List (home.Option (Option T))) (r : Ring (Unit {0})) (views : List (View T W)) (h : Ringed slots words homes r views) (at : get_elem? views id ≡ some (turning (Filling n) (pass p 0 l m lg))) where
       stores_in : RingOutcome (n % slots + 64) (λ y. at_number slots n + 1) Stored full_slot id words homes slots views

@@ -9,3 +9,4 @@ pub mod Calls
 pub mod Several
 pub mod Counts
 pub mod Blocks
+pub mod RingSteps

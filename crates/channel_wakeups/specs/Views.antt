@@ -160,7 +160,7 @@ tickets_alone c = lines (calling 0 0 c.receives.ticket) (calling 0 0 c.sends.tic
 -- a push won the slot: it answers for a message, and has the line of streams in hand to tell all; or there was no place; or the channel
 -- was closed
 abbrev pub won_place : Lines → Lines
-won_place c = lines_with c.hands (answering c.receives) (resolved c.sends) (owing c.streams) c.closings
+won_place c = lines_with c.hands (answering c.receives) (ended c.sends) (owing c.streams) c.closings
 
 abbrev pub no_place : Lines → Lines
 no_place c = with_line of_sends (ended c.sends) c

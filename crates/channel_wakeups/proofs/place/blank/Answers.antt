@@ -1,5 +1,4 @@
-use Rattle.channel_wakeups.proofs.RingBegins.{begins_ring}
-use Rattle.channel_wakeups.proofs.RingForces.{adds_tail}
+
 use Rattle.channel_wakeups.proofs.Seats.{blank}
 use Rattle.channel_wakeups.proofs.place.blank.Goals as goal
 
