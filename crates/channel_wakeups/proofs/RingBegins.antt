@@ -1,21 +1,19 @@
 -- The rule holds of a ring that was just made: it is open and empty, and each of its slots waits for its first message.
-use Rattle.std.proofs.Common.{◌≡◌, ℕ, zero, suc, ◌+◌, ◌-◌, ◌*◌, ◌/◌, ◌%◌, ◌^◌, ◌<◌, ◌≤◌, List, [], ◌∷◌, Bool, true, false, nat_lt, if◌then◌else◌, length, map, Option, None, Some, is_some, mod-eq_of_lt, refl, sym, ap, ◌∙◌, subst, arith}
+use Rattle.std.proofs.Common.{◌≡◌, ℕ, zero, suc, ◌+◌, ◌-◌, ◌*◌, ◌/◌, ◌^◌, ◌<◌, ◌≤◌, List, [], ◌∷◌, Bool, true, false, nat_lt, if◌then◌else◌, length, map, Option, None, mod-eq_of_lt, refl, sym, ap, ◌∙◌, subst, arith}
 use Rattle.std.specs.Prelude.{slice_index}
 use Rattle.std.proofs.lemmas.Nat.{div-mul-add}
 use Rattle.std.proofs.lemmas.Bool.Decides.{nat_tests}
-use mathlib.Core.Option as home
-use mathlib.Core.Option.{some, none}
+use mathlib.Core.Option.{some}
 use lib.ListN.{get_elem?}
 use Rattle.atomic_table.specs.Table.{opening}
 use Rattle.concurrent_queue.specs.machine.Positions.{pos}
 use Rattle.concurrent_queue.specs.machine.RingCalls as ring
 use Rattle.concurrent_queue.specs.machine.RingCalls.{IsDuty, owed}
 use Rattle.concurrent_queue.specs.machine.RingState.{Ring, SoundRing}
-use Rattle.concurrent_queue.specs.machine.RingWords.{ring_mark}
 use Rattle.channel_wakeups.specs.declared.rule.Kind.{Kind}
 use Rattle.channel_wakeups.specs.declared.rule.Kind.TheVariants.{OfSenders, OfReceivers}
 use Rattle.channel_wakeups.specs.Lists.{total}
-use Rattle.channel_wakeups.specs.Views.{Side, of_receives, of_sends, of_streams, of_closings, Duty, everything, at_number, of_ring, wanted, Owed, here_of, waits_of, answered_of, holds_of, tickets_of, listed_of, handles_of, owes_of, Law, RingCells, RingSeats, a_ring, Counted, Woken}
+use Rattle.channel_wakeups.specs.Views.{Side, of_receives, of_sends, of_streams, of_closings, Duty, everything, at_number, of_ring, wanted, Owed, here_of, waits_of, answered_of, holds_of, tickets_of, listed_of, handles_of, owes_of, Law, a_ring, Counted, Woken}
 
 -- how it is at first
 abbrev pub new_ring : Ring (Unit {0})

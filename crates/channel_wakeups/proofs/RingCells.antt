@@ -1,5 +1,5 @@
 -- What a step of a call on a ring leaves of its words and its slots.
-use Rattle.std.proofs.Common.{◌⊎◌, inl, inr, ◌≡◌, ℕ, ◌+◌, ◌*◌, ◌%◌, ◌^◌, ◌<◌, ◌≤◌, ◌==◌, Bool, true, false, if◌then◌else◌, List, length, Option, None, Some, is_some, true-eqb, eq-eqb, set, refl, sym, ap, ◌∙◌, subst, ⊎_elim, arith}
+use Rattle.std.proofs.Common.{◌⊎◌, inl, inr, ◌≡◌, ℕ, ◌+◌, ◌<◌, ◌≤◌, ◌==◌, Bool, true, false, if◌then◌else◌, List, length, Option, is_some, true-eqb, eq-eqb, set, refl, sym, ap, ◌∙◌, subst, ⊎_elim, arith}
 use Rattle.std.proofs.lemmas.List.{length-set}
 use Rattle.std.specs.Prelude.{slice_index, slice_set}
 use Rattle.atomic_table.proofs.Lists.{set_here, set_else}
@@ -7,7 +7,7 @@ use mathlib.Core.Option as home
 use mathlib.Core.Option.{some, none}
 use lib.ListN.{get_elem?}
 use Rattle.concurrent_queue.specs.machine.RingCalls as ring
-use Rattle.concurrent_queue.specs.machine.RingCalls.{owes, owed}
+use Rattle.concurrent_queue.specs.machine.RingCalls.{owes}
 use Rattle.concurrent_queue.specs.machine.RingState.{SlotState, Ring, busy}
 use Rattle.concurrent_queue.specs.machine.RingWords.{ring_mark}
 use Rattle.concurrent_queue.specs.declared.bounded.RingAction.{RingAction}

@@ -1,6 +1,6 @@
 -- A ring is closed, and a displacing push takes the oldest message out, and moves the tail on for its own.
-use Rattle.std.proofs.Common.{◌⊎◌, inl, inr, ◌≡◌, ℕ, ◌+◌, ◌-◌, ◌*◌, ◌%◌, ◌^◌, ◌<◌, ◌≤◌, ◌==◌, List, [], ◌∷◌, ◌++◌, Bool, true, false, if◌then◌else◌, Option, None, Some, is_some, eq-eqb, mod-eq_of_lt, cond, set, sym, refl, ap, ◌∙◌, subst, ⊎_elim, arith}
-use Rattle.std.specs.Prelude.{slice_index, slice_set, bit_or}
+use Rattle.std.proofs.Common.{◌⊎◌, inl, inr, ◌≡◌, ℕ, ◌+◌, ◌-◌, ◌%◌, ◌^◌, ◌<◌, ◌≤◌, List, [], ◌∷◌, ◌++◌, Bool, true, false, if◌then◌else◌, Option, None, Some, is_some, eq-eqb, mod-eq_of_lt, cond, set, sym, refl, ap, ◌∙◌, subst, ⊎_elim, arith}
+use Rattle.std.specs.Prelude.{slice_index, bit_or}
 use Rattle.std.proofs.lemmas.Nat.{mod_below}
 use Rattle.std.proofs.lemmas.List.{length-set}
 use mathlib.Core.Option as home
@@ -26,11 +26,11 @@ use Rattle.channel_wakeups.specs.declared.rule.Transfer.TheVariants.{In, Out, Sa
 use Rattle.channel_wakeups.specs.declared.rule.Turn.TheVariants.{Rest, Behind, Coming, Displacing}
 use Rattle.channel_wakeups.specs.declared.rule.View.{View}
 use Rattle.channel_wakeups.specs.Lists.{total}
-use Rattle.channel_wakeups.specs.Log.{PutBefore, TookBefore, Closings, NotSeen, of_closer, of_drained}
+use Rattle.channel_wakeups.specs.Log.{PutBefore, TookBefore, Closings, of_closer, of_drained}
 use Rattle.channel_wakeups.specs.RingSteps.{won_ring_place, making_room, mark_set, oldest_won, tail_passed, message_stored, moved_on}
 use Rattle.channel_wakeups.specs.Turns.{phase_of, owed_by_turn}
-use Rattle.channel_wakeups.specs.Views.{Side, Duty, count_of, settled, all_owing, only, sights_of, pass, turning, Picture, picture, at_number, of_ring, Law, RingCells, RingSeats, Ringed, Knowing, Woken, Known}
-use Rattle.channel_wakeups.proofs.Hands.{Carries, carries_same, carries_more}
+use Rattle.channel_wakeups.specs.Views.{Duty, count_of, settled, all_owing, only, sights_of, pass, turning, Picture, picture, at_number, of_ring, Law, RingCells, RingSeats, Ringed, Woken, Known}
+use Rattle.channel_wakeups.proofs.Hands.{carries_same, carries_more}
 use Rattle.channel_wakeups.proofs.Laws.{Turns, law_kept, same_turns, shuts_turns, settles}
 use Rattle.channel_wakeups.proofs.Logs.{not_seen, one_more, moved, sights_same}
 use Rattle.channel_wakeups.proofs.Rings.{know_at, put_saw, took_saw, seats_saw, seats_set}
@@ -276,8 +276,7 @@ module _ {T W : Type 0} (slots id p : ℕ) (l : Lines) (m : Rolls W) (lg : List 
             let kept = keep.force_adds slots h.seats.two r (queue_of slots r) h.seats.sound (is_shown slots r) tt k.0.0 c k.0.2 low t way in
             let go : Moved slots r (act.ForceAdd tt c) come (act.ForceTake tt c) = as_moved kept in
             let there = kept.leaves.2 in
-            let order = h.seats.sound.order in
-            (
+            let order = h.seats.sound.order in (
               turning (Displacing c) (pass p 0 (won_ring_place l) m lg),
               keeps,
               come,

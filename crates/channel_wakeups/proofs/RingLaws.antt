@@ -3,9 +3,9 @@ use Rattle.std.proofs.Common.{◌⊎◌, inl, inr, ◌≡◌, ℕ, ◌+◌, ◌-
 use Rattle.channel_wakeups.specs.declared.rule.Lines.{Lines}
 use Rattle.channel_wakeups.specs.declared.rule.Sight.{Sight}
 use Rattle.channel_wakeups.specs.declared.rule.Transfer.{Transfer}
-use Rattle.channel_wakeups.specs.declared.rule.Transfer.TheVariants.{In, Out, Saw}
+use Rattle.channel_wakeups.specs.declared.rule.Transfer.TheVariants.{In, Out}
 use Rattle.channel_wakeups.specs.declared.rule.View.{View}
-use Rattle.channel_wakeups.specs.Log.{numbered, puts, takes, PutBefore, TookBefore, each_sight, of_closer, of_drained}
+use Rattle.channel_wakeups.specs.Log.{numbered, PutBefore, TookBefore, each_sight, of_closer, of_drained}
 use Rattle.channel_wakeups.specs.RingSteps.{won_ring_place, making_room, seen_open_line, no_send_again}
 use Rattle.channel_wakeups.specs.Views.{Side, of_receives, of_sends, of_streams, of_closings, Duty, to_one, to_all, no_place, won_message, Picture, picture, wanted, sights_of}
 use Rattle.channel_wakeups.proofs.Laws.{Turns, as_before}

@@ -1,7 +1,7 @@
 -- What calls on a ring learn of its words, each by one load: a pop of the head and of the stamp there, and a push of the tail and of the
 -- stamp there. And the closing of a ring.
-use Rattle.std.proofs.Common.{◌⊎◌, inl, inr, ◌≡◌, ℕ, ◌+◌, ◌-◌, ◌*◌, ◌%◌, ◌^◌, ◌<◌, ◌≤◌, ◌==◌, List, [], ◌∷◌, ◌++◌, Bool, true, false, if◌then◌else◌, Option, None, Some, set, sym, refl, ap, ◌∙◌, subst, ⊎_elim, arith}
-use Rattle.std.specs.Prelude.{slice_index, slice_set, bit_or}
+use Rattle.std.proofs.Common.{◌⊎◌, inl, inr, ◌≡◌, ℕ, ◌+◌, ◌-◌, ◌%◌, ◌<◌, ◌≤◌, List, [], ◌∷◌, ◌++◌, Bool, true, false, if◌then◌else◌, Option, sym, refl, ap, ◌∙◌, subst, ⊎_elim, arith}
+use Rattle.std.specs.Prelude.{slice_index}
 use Rattle.std.proofs.lemmas.Nat.{mod_below}
 use Rattle.std.proofs.lemmas.Bool.{cases_lt}
 use mathlib.Core.Option as home
@@ -11,34 +11,30 @@ use Rattle.atomic_table.specs.Table.{keeps, Allows}
 use Rattle.concurrent_queue.specs.machine.RingCalls as ring
 use Rattle.concurrent_queue.specs.machine.RingState.{Ring, reach}
 use Rattle.concurrent_queue.specs.machine.RingWords.{ring_mark, is_marked}
-use Rattle.concurrent_queue.specs.declared.bounded.RingAction.TheVariants as act
 use Rattle.concurrent_queue.proofs.RingShape.{mark_is, IsMark}
 use Rattle.concurrent_queue.proofs.RingPlaces.{turn-index}
 use Rattle.concurrent_queue.proofs.RingDenotes as denote
-use Rattle.concurrent_queue.proofs.RingKeeps as keep
 use Rattle.channel_wakeups.specs.declared.rule.Kind.{Kind}
-use Rattle.channel_wakeups.specs.declared.rule.Kind.TheVariants.{OfSenders, OfReceivers}
 use Rattle.channel_wakeups.specs.declared.rule.Lines.{Lines}
 use Rattle.channel_wakeups.specs.declared.rule.Rolls.{Rolls}
-use Rattle.channel_wakeups.specs.declared.rule.Sight.TheVariants.{Shut, Seen}
+use Rattle.channel_wakeups.specs.declared.rule.Sight.TheVariants.{Seen}
 use Rattle.channel_wakeups.specs.declared.rule.Transfer.{Transfer}
 use Rattle.channel_wakeups.specs.declared.rule.Transfer.TheVariants.{Saw}
 use Rattle.channel_wakeups.specs.declared.rule.Turn.{Turn}
 use Rattle.channel_wakeups.specs.declared.rule.Turn.TheVariants.{Rest, Tailed, Ready, Behind, Headed, Written, Vacant}
 use Rattle.channel_wakeups.specs.declared.rule.View.{View}
 use Rattle.channel_wakeups.specs.Lists.{total}
-use Rattle.channel_wakeups.specs.Log.{Closings, NotSeen, of_closer, of_drained}
+use Rattle.channel_wakeups.specs.Log.{Closings, of_closer, of_drained}
 use Rattle.channel_wakeups.specs.RingSteps.{seen_open_line, no_send_again, tail_read, place_read, full_read, head_read, message_read}
 use Rattle.channel_wakeups.specs.Turns.{owed_by_turn}
-use Rattle.channel_wakeups.specs.Views.{Side, Duty, count_of, settled, all_owing, only, sights_of, pass, turning, no_place, Picture, picture, at_number, of_ring, Law, RingCells, RingSeats, Ringed, Knowing, Woken, Known}
+use Rattle.channel_wakeups.specs.Views.{Side, Duty, only, sights_of, pass, turning, no_place, picture, at_number, of_ring, RingCells, Ringed, Knowing, Woken, Known}
 use Rattle.channel_wakeups.proofs.Hands.{Carries, carries_same, carries_more}
 use Rattle.channel_wakeups.proofs.Laws.{Turns, SameTickets, law_kept, same_turns}
 use Rattle.channel_wakeups.proofs.Logs.{not_seen, one_more}
 use Rattle.channel_wakeups.proofs.Rings.{know_at, seats_set, put_saw, took_saw}
-use Rattle.channel_wakeups.proofs.RingCells.{same_or_other, slots_stay, tail_written}
+use Rattle.channel_wakeups.proofs.RingCells.{same_or_other}
 use Rattle.channel_wakeups.proofs.RingLaws.{seen_turns, shut_again_turns, full_turns, sights_rest}
 use Rattle.channel_wakeups.proofs.RingMoves.{RingOutcome, by_ring}
-use Rattle.channel_wakeups.proofs.RingSeats.{Moved, queue_of, is_shown, moved as as_moved, seats_moved}
 use Rattle.channel_wakeups.proofs.Sums.{Sights}
 use Rattle.channel_wakeups.proofs.Words.{word_again}
 

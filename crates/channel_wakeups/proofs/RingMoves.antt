@@ -1,6 +1,6 @@
 -- The steps of calls on a ring keep the rule: the exchange of the tail by a push, the exchange of the head by a pop, the stamp that a push
 -- stores once its message is in, and the second look of a pop that found no message.
-use Rattle.std.proofs.Common.{◌⊎◌, inl, inr, ◌≡◌, ℕ, ◌+◌, ◌-◌, ◌*◌, ◌%◌, ◌^◌, ◌<◌, ◌≤◌, ◌==◌, List, [], ◌∷◌, ◌++◌, Bool, true, false, if◌then◌else◌, length, Option, None, Some, is_some, true-eqb, eq-eqb, set, sym, refl, ap, ◌∙◌, subst, ⊎_elim, arith}
+use Rattle.std.proofs.Common.{◌⊎◌, inl, inr, ◌≡◌, ℕ, ◌+◌, ◌-◌, ◌%◌, ◌^◌, ◌<◌, ◌≤◌, List, [], ◌∷◌, ◌++◌, Bool, true, false, if◌then◌else◌, length, Option, None, Some, is_some, eq-eqb, set, sym, refl, ap, ◌∙◌, subst, ⊎_elim, arith}
 use Rattle.std.specs.Prelude.{slice_index, slice_set}
 use Rattle.std.proofs.lemmas.Nat.{mod_below}
 use Rattle.std.proofs.lemmas.List.{length-set}
@@ -8,14 +8,13 @@ use mathlib.Core.Option as home
 use mathlib.Core.Option.{some, none}
 use lib.ListN.{get_elem?}
 use prog.Atomic.{either}
-use Rattle.atomic_table.specs.Table.{Me, Act, Valid, carried_after, homes_after, keeps, takes, gives, chain, Allows}
+use Rattle.atomic_table.specs.Table.{Act, Valid, carried_after, homes_after, keeps, takes, gives, Allows}
 use Rattle.concurrent_queue.specs.machine.RingCalls as ring
 use Rattle.concurrent_queue.specs.machine.RingCalls.{KnowsRing, owes}
 use Rattle.concurrent_queue.specs.machine.RingState.{SlotState, Ring, reach, with_place}
 use Rattle.concurrent_queue.specs.machine.RingWords.{ring_mark, is_marked, unmarked}
-use Rattle.concurrent_queue.specs.declared.bounded.RingAction.{RingAction}
 use Rattle.concurrent_queue.specs.declared.bounded.RingAction.TheVariants as act
-use Rattle.concurrent_queue.specs.declared.bounded.WhenFull.TheVariants.{Refuse, Displace}
+use Rattle.concurrent_queue.specs.declared.bounded.WhenFull.TheVariants.{Refuse}
 use Rattle.concurrent_queue.proofs.RingShape.{mark_is, IsMark}
 use Rattle.concurrent_queue.proofs.RingDenotes as denote
 use Rattle.concurrent_queue.proofs.RingKeeps as keep
@@ -24,14 +23,13 @@ use Rattle.channel_wakeups.specs.declared.rule.Kind.{Kind}
 use Rattle.channel_wakeups.specs.declared.rule.Kind.TheVariants.{OfSenders, OfReceivers}
 use Rattle.channel_wakeups.specs.declared.rule.Lines.{Lines}
 use Rattle.channel_wakeups.specs.declared.rule.Rolls.{Rolls}
-use Rattle.channel_wakeups.specs.declared.rule.Sight.TheVariants.{Seen, Drained}
+use Rattle.channel_wakeups.specs.declared.rule.Sight.TheVariants.{Drained}
 use Rattle.channel_wakeups.specs.declared.rule.Transfer.{Transfer}
 use Rattle.channel_wakeups.specs.declared.rule.Transfer.TheVariants.{In, Out, Saw}
-use Rattle.channel_wakeups.specs.declared.rule.Turn.{Turn}
 use Rattle.channel_wakeups.specs.declared.rule.Turn.TheVariants.{Rest, Ready, Filling, Written, Vacant, Emptying}
 use Rattle.channel_wakeups.specs.declared.rule.View.{View}
 use Rattle.channel_wakeups.specs.Lists.{total}
-use Rattle.channel_wakeups.specs.Log.{PutBefore, TookBefore, Closings, NotSeen, NotDrained, of_closer}
+use Rattle.channel_wakeups.specs.Log.{PutBefore, TookBefore, Closings, of_closer}
 use Rattle.channel_wakeups.specs.RingSteps.{won_ring_place, tail_moved, end_read, head_moved, message_stored, moved_on}
 use Rattle.channel_wakeups.specs.Turns.{phase_of, owed_by_turn}
 use Rattle.channel_wakeups.specs.Views.{only, sights_of, pass, turning, won_message, no_message, no_more, Picture, picture, at_number, of_ring, Law, RingCells, RingSeats, Ringed, Shown, one_slot, a_ring, Knowing, Woken, Known}

@@ -1,14 +1,11 @@
 -- What a step of a call on a ring leaves to all seats: what the queue's own proof says of it, for the views of all seats.
-use Rattle.std.proofs.Common.{◌⊎◌, inl, inr, ◌≡◌, ℕ, zero, suc, ◌+◌, ◌-◌, ◌%◌, ◌^◌, ◌<◌, ◌≤◌, ◌==◌, Bool, true, false, if◌then◌else◌, List, [], ◌∷◌, length, drop, Option, None, Some, is_some, true-eqb, set, refl, sym, ap, ◌∙◌, subst, ⊎_elim, arith}
-use Rattle.std.proofs.lemmas.Nat.{mod_below}
-use Rattle.std.proofs.lemmas.List.{length-set}
-use Rattle.std.specs.Prelude.{slice_set}
+use Rattle.std.proofs.Common.{◌≡◌, ℕ, zero, suc, ◌+◌, ◌-◌, ◌%◌, ◌^◌, ◌<◌, ◌≤◌, ◌==◌, Bool, true, false, if◌then◌else◌, List, [], ◌∷◌, drop, Option, Some, is_some, true-eqb, set, refl, sym, ap, ◌∙◌, subst, arith}
 use mathlib.Core.Option as home
 use mathlib.Core.Option.{some, none}
 use lib.ListN.{get_elem?}
 use Rattle.concurrent_queue.specs.Queue.{Queue, Phase}
 use Rattle.concurrent_queue.specs.machine.RingCalls as ring
-use Rattle.concurrent_queue.specs.machine.RingCalls.{IsDuty, KnowsRing, held, holds, owes, owed}
+use Rattle.concurrent_queue.specs.machine.RingCalls.{IsDuty, holds, owes, owed}
 use Rattle.concurrent_queue.specs.machine.RingMeans as means
 use Rattle.concurrent_queue.specs.machine.RingMeans.{Later}
 use Rattle.concurrent_queue.specs.machine.RingState.{SlotState, Ring, SoundRing, IsShown, busy, reach}
@@ -22,7 +19,6 @@ use Rattle.channel_wakeups.specs.Lists.{total}
 use Rattle.channel_wakeups.specs.Log.{PutBefore, TookBefore}
 use Rattle.channel_wakeups.specs.Turns.{action_of, phase_of, owed_by_turn}
 use Rattle.channel_wakeups.specs.Views.{nobody, IsHome, Knowing, AllKnow, owes_of, RingSeats}
-use Rattle.channel_wakeups.proofs.Rings.{know_at}
 use Rattle.channel_wakeups.proofs.Sums.{only_some, total_set, was, others}
 
 -- what one step, or several on end, of a call do to a ring

@@ -10,6 +10,8 @@ ghost use Rattle.channel_wakeups.specs.RingSteps.{PushReadsTail, PushReadsStamp,
 /// clause is one step, and says what the call knows before it, and what it learns. A call that pushes answers for one place at most
 /// before its exchange, one that pops for one message at most, and positions end at 2^61.
 ///
+/// Beside a ring the rule speaks of wake-ups, of counts of handles and of closings. That what left is what was accepted is not in it there.
+///
 /// No code makes these steps on a table yet: a channel of this crate has one slot. So nothing is said of a channel of two places or
 /// more between threads that run.
 ///

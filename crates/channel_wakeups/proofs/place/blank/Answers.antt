@@ -1,4 +1,3 @@
-
 use Rattle.channel_wakeups.proofs.Seats.{blank}
 use Rattle.channel_wakeups.proofs.place.blank.Goals as goal
 
