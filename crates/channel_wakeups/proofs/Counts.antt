@@ -17,16 +17,19 @@ use Rattle.channel_wakeups.specs.declared.rule.Sight.{Sight}
 use Rattle.channel_wakeups.specs.declared.rule.Sight.TheVariants.{Raised, Lowered, Last, Gone, Crowded}
 use Rattle.channel_wakeups.specs.declared.rule.Transfer.{Transfer}
 use Rattle.channel_wakeups.specs.declared.rule.Transfer.TheVariants.{Saw}
+use Rattle.channel_wakeups.specs.declared.rule.Turn.TheVariants.{Rest}
 use Rattle.channel_wakeups.specs.Counts.{word_for, most, more_hands, fewer_hands, owing_close, raises, lowers, measures, counts}
 use Rattle.channel_wakeups.specs.Lists.{total}
 use Rattle.channel_wakeups.specs.Log.{each_sight, of_closer, of_drained, same_kind, raised_of, lowered_of, last_of, gone_of, is_none}
-use Rattle.channel_wakeups.specs.Views.{count_of, with_count, handed, pass, only, handles_of, closes_of, sights_of, at_word, Kept, Counted, Woken, Known}
+use Rattle.channel_wakeups.specs.Views.{count_of, with_count, handed, pass, only, handles_of, closes_of, sights_of, Picture, at_word, Law, Kept, Counted, Woken, Known}
 use Rattle.channel_wakeups.proofs.Hands.{none_of, Carries, counted_kept, carries_all, carries_more}
-use Rattle.channel_wakeups.proofs.Laws.{handed_turns, turned_kept}
+use Rattle.channel_wakeups.proofs.Laws.{handed_turns, turned_kept, law_kept}
 use Rattle.channel_wakeups.proofs.Logs.{saw_logs, one_more}
 use Rattle.channel_wakeups.proofs.Moves.{order_saw}
 use Rattle.channel_wakeups.proofs.Sums.{only_some, others, was, becomes, Sights, put_else, took_else}
-use Rattle.channel_wakeups.proofs.Words.{index_same, index_other, counts_wide, Beside, beside_same, shown_beside}
+use Rattle.channel_wakeups.proofs.Rings.{seats_saw}
+use Rattle.channel_wakeups.proofs.Beside.{Beside, beside_same, shown_beside}
+use Rattle.channel_wakeups.proofs.Words.{index_same, index_other, counts_wide}
 
 -- the other kind
 abbrev pub other : Kind → Kind
@@ -159,7 +162,7 @@ module _ {T W : Type 0} where
           senders = f h.senders;
           receivers = h.receivers;
           counts = (counts_wide s.words 16 (f (slice_index s.words 16)) h.counts.0, now, index_other s.words 16 32 (f (slice_index s.words 16)) (λ x. absurd (omega arith)) ∙ h.counts.2);
-          shown = shown_beside s.words s.homes s.views (set s.views id r.0) 16 (f (slice_index s.words 16)) (λ x. absurd (omega arith)) r.3 h.shown;
+          shown = shown_beside s.words s.homes s.views (set s.views id r.0) 16 (f (slice_index s.words 16)) (λ x. absurd (omega arith)) (λ x. absurd (omega arith)) (omega arith) r.3 h.shown;
           of_senders = r.1;
           of_receivers = counted_kept h.receivers OfReceivers s.views id me.0 r.0 at r.2 h.of_receivers;
         },
@@ -176,7 +179,7 @@ module _ {T W : Type 0} where
           senders = h.senders;
           receivers = f h.receivers;
           counts = (counts_wide s.words 32 (f (slice_index s.words 32)) h.counts.0, index_other s.words 32 16 (f (slice_index s.words 32)) (λ x. absurd (omega arith)) ∙ h.counts.1, now);
-          shown = shown_beside s.words s.homes s.views (set s.views id r.0) 32 (f (slice_index s.words 32)) (λ x. absurd (omega arith)) r.3 h.shown;
+          shown = shown_beside s.words s.homes s.views (set s.views id r.0) 32 (f (slice_index s.words 32)) (λ x. absurd (omega arith)) (λ x. absurd (omega arith)) (omega arith) r.3 h.shown;
           of_senders = counted_kept h.senders OfSenders s.views id me.0 r.0 at r.2 h.of_senders;
           of_receivers = r.1;
         },
@@ -195,8 +198,8 @@ module _ {T W : Type 0} where
 
   -- a pass that saw something of a count
   module _ (p id : ℕ) (l : Lines) (m : Rolls W) (lg : List (Transfer T)) (some_part : 0 < p) (h : Handles) (e : Sight) (views : List (View T W)) (at : get_elem? views id ≡ some (pass p 0 l m lg)) (unseen : each_sight e ≡ 0) (unshut : of_closer e ≡ 0) (undrained : of_drained e ≡ 0) where
-    sights_so : (w : ℕ) (c : Bool) → Sights (at_word w c) (at_word w c) (pass {W = W} p 0 l m lg) (pass p 0 (handed h l) m (lg ++ Saw e ∷ []))
-    sights_so w c k (one, seen, drained) =
+    sights_so : (q : Picture) → Sights q q (pass {W = W} p 0 l m lg) (pass p 0 (handed h l) m (lg ++ Saw e ∷ []))
+    sights_so q k (one, seen, drained) =
         let x = unshut in
         let y = unseen in
         let z = undrained in
@@ -206,12 +209,15 @@ module _ {T W : Type 0} where
         (omega arith, (λ more. seen (omega arith)), (λ more. drained (omega arith)))
 
     kept_so : Beside views (set views id (pass p 0 (handed h l) m (lg ++ Saw e ∷ [])))
-    kept_so = record { one = one_so }
+    kept_so = record { one = one_so; law = law_so; seats = λ cap r k. seats_saw cap r views id p 0 0 l (handed h l) m lg e Rest at k }
       where
         one_so : (base : ℕ) (shut : Bool) (slot : home.Option (Option T)) → Kept base shut slot views → Kept base shut slot (set views id (pass p 0 (handed h l) m (lg ++ Saw e ∷ [])))
         one_so base shut slot k =
             turned_kept base base shut shut views id p 0 0 l (handed h l) m lg (lg ++ Saw e ∷ []) some_part at slot slot (refl, refl, refl, refl) (λ a o z i. i) (handed_turns (at_word base shut) h l)
-            (saw_logs W (put_else views id) (took_else views id) slot slot e p 0 0 l (handed h l) m lg (λ n f. refl)) (order_saw p 0 0 l (handed h l) m lg e slot id views at) (sights_so base shut) k
+            (saw_logs W (put_else views id) (took_else views id) slot slot e p 0 0 l (handed h l) m lg (λ n f. refl)) (order_saw p 0 0 l (handed h l) m lg e slot id views at) (sights_so (at_word base shut)) k
+
+        law_so : (q : Picture) → Law q views → Law q (set views id (pass p 0 (handed h l) m (lg ++ Saw e ∷ [])))
+        law_so q k = law_kept q q views id p 0 0 Rest Rest l (handed h l) m lg (lg ++ Saw e ∷ []) some_part at (refl, refl, refl, refl) (handed_turns q h l) (sights_so q) k
 
   -- what the sums become, where a pass has these handles and this entry more
   module _ (p id : ℕ) (l : Lines) (m : Rolls W) (lg : List (Transfer T)) (some_part : 0 < p) (h : Handles) (e : Sight) (views : List (View T W)) (at : get_elem? views id ≡ some (pass p 0 l m lg)) where

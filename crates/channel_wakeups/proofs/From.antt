@@ -18,7 +18,7 @@ use Rattle.channel_wakeups.specs.declared.rule.View.{View}
 use Rattle.channel_wakeups.specs.declared.rule.Line.{Line}
 use Rattle.channel_wakeups.specs.declared.rule.Lines.{Lines}
 use Rattle.channel_wakeups.specs.Seats.{Calls, Lists, IsIdle}
-use Rattle.channel_wakeups.specs.Views.{Side, of_receives, of, idle, idle_lines, calling, nobody, entered, absorbed, kept_half, given_half, one_ticket, with_ticket, handed, hands, no_hands, no_rolls, count_of, pass, Known, Woken}
+use Rattle.channel_wakeups.specs.Views.{Side, of_receives, of, idle, idle_lines, calling, nobody, entered, absorbed, kept_half, given_half, one_ticket, with_ticket, handed, hands, no_hands, no_rolls, count_of, pass, turning, Known, Woken}
 use Rattle.channel_wakeups.proofs.Counts.{raises_so, lowers_so, measures_so, asks_so}
 use Rattle.channel_wakeups.proofs.Seats.{idle_pass, enters, absorbs, shares, takes_ticket, couples}
 use Rattle.channel_wakeups.proofs.Sides.{view_of}
@@ -70,8 +70,12 @@ module _ {T W : Type 0} where
   idle_holds table s p (i, none_out, (ep, eo, el, eb, er, some_part)) = (i, none_out, (ep, eo, el, eb ∙ (λ k. handed (hands 0 0 ((sym eb k).hands.closes)) idle_lines), er, some_part))
 
   -- a pass with other handles
-  pub holds_other : (h g : Handles) (v : View T W) (p : ℕ) (lg : List (Transfer T)) → Calls of_receives p idle (handed g idle_lines) v → Calls of_receives p idle (handed h idle_lines) (pass v.parts v.owns (handed h v.calls) v.rolls lg)
+  pub holds_other : (h g : Handles) (v : View T W) (p : ℕ) (lg : List (Transfer T)) → Calls of_receives p idle (handed g idle_lines) v → Calls of_receives p idle (handed h idle_lines) (turning v.turn (pass v.parts v.owns (handed h v.calls) v.rolls lg))
   holds_other h g v p lg (ep, eo, el, eb, er, some_part) = (ep, eo, el, (λ k. handed h (eb k)), er, some_part)
+
+  -- the same of one that saw something besides
+  holds_after : (h g : Handles) (v : View T W) (p : ℕ) (lg : List (Transfer T)) → Calls of_receives p idle (handed g idle_lines) v → Calls of_receives p idle (handed h idle_lines) (pass v.parts v.owns (handed h v.calls) v.rolls lg)
+  holds_after h g v p lg (ep, eo, el, eb, er, some_part) = (ep, (eo.0, refl), el, (λ k. handed h (eb k)), er, some_part)
 
   pub couples_from : (k : Kind) (id : ℕ) (v : View T W) (port : ℕ) (m : View T W × List (ℕ × Option T)) → m ≡ (lone_handle k, []) → Joins {S = Option T} Woken id v port m.0 (coupled v m.0) nobody
   couples_from k id v port m e = subst (λ (x : View T W × List (ℕ × Option T)). Joins {S = Option T} Woken id v port x.0 (coupled v x.0) nobody) (sym e) (couples k id v port)
@@ -87,21 +91,21 @@ module _ {T W : Type 0} where
   pub raised_holds : (k : Kind) (v : View T W) (p : ℕ) → Calls of_receives p idle idle_lines v → Calls of_receives p idle (handed (one_hand k) idle_lines) (handled (more_hands k v.calls.hands) (Raised k) v)
   raised_holds k v p calls =
       let h : more_hands k v.calls.hands ≡ one_hand k = (λ j. more_hands k (calls.3 j).hands) ∙ more_is_one k in
-      subst (λ (x : Handles). Calls of_receives p idle (handed x idle_lines) (handled (more_hands k v.calls.hands) (Raised k) v)) h (holds_other (more_hands k v.calls.hands) no_hands v p (v.log ++ Saw (Raised k) ∷ []) calls)
+      subst (λ (x : Handles). Calls of_receives p idle (handed x idle_lines) (handled (more_hands k v.calls.hands) (Raised k) v)) h (holds_after (more_hands k v.calls.hands) no_hands v p (v.log ++ Saw (Raised k) ∷ []) calls)
 
   pub lowered_holds : (k : Kind) (v : View T W) (p : ℕ) → Calls of_receives p idle (handed (one_hand k) idle_lines) v → Calls of_receives p idle idle_lines (handled (fewer_hands k v.calls.hands) (Lowered k) v)
   lowered_holds k v p calls =
       let h : fewer_hands k v.calls.hands ≡ no_hands = (λ j. fewer_hands k (calls.3 j).hands) ∙ fewer_is_none k in
-      subst (λ (x : Handles). Calls of_receives p idle (handed x idle_lines) (handled (fewer_hands k v.calls.hands) (Lowered k) v)) h (holds_other (fewer_hands k v.calls.hands) (one_hand k) v p (v.log ++ Saw (Lowered k) ∷ []) calls)
+      subst (λ (x : Handles). Calls of_receives p idle (handed x idle_lines) (handled (fewer_hands k v.calls.hands) (Lowered k) v)) h (holds_after (fewer_hands k v.calls.hands) (one_hand k) v p (v.log ++ Saw (Lowered k) ∷ []) calls)
 
   pub last_holds : (k : Kind) (v : View T W) (p : ℕ) → Calls of_receives p idle (handed (one_hand k) idle_lines) v → Calls of_receives p idle (handed (hands 0 0 1) idle_lines) (handled (owing_close (fewer_hands k v.calls.hands)) (Last k) v)
   last_holds k v p calls =
       let h : owing_close (fewer_hands k v.calls.hands) ≡ hands 0 0 1 = (λ j. owing_close (fewer_hands k (calls.3 j).hands)) ∙ ap owing_close (fewer_is_none k) in
-      subst (λ (x : Handles). Calls of_receives p idle (handed x idle_lines) (handled (owing_close (fewer_hands k v.calls.hands)) (Last k) v)) h (holds_other (owing_close (fewer_hands k v.calls.hands)) (one_hand k) v p (v.log ++ Saw (Last k) ∷ []) calls)
+      subst (λ (x : Handles). Calls of_receives p idle (handed x idle_lines) (handled (owing_close (fewer_hands k v.calls.hands)) (Last k) v)) h (holds_after (owing_close (fewer_hands k v.calls.hands)) (one_hand k) v p (v.log ++ Saw (Last k) ∷ []) calls)
 
   looked_holds : (e : Sight) (v : View T W) (p : ℕ) → Calls of_receives p idle idle_lines v → Calls of_receives p idle idle_lines (handled v.calls.hands e v)
   looked_holds e v p calls =
-      subst (λ (x : Handles). Calls of_receives p idle (handed x idle_lines) (handled v.calls.hands e v)) (λ j. (calls.3 j).hands) (holds_other v.calls.hands no_hands v p (v.log ++ Saw e ∷ []) calls)
+      subst (λ (x : Handles). Calls of_receives p idle (handed x idle_lines) (handled v.calls.hands e v)) (λ j. (calls.3 j).hands) (holds_after v.calls.hands no_hands v p (v.log ++ Saw e ∷ []) calls)
 
   pub gone_holds : (k : Kind) (v : View T W) (p : ℕ) → Calls of_receives p idle idle_lines v → Calls of_receives p idle idle_lines (handled v.calls.hands (Gone k) v)
   gone_holds k v p calls = looked_holds (Gone k) v p calls

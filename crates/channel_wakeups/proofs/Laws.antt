@@ -11,9 +11,10 @@ use Rattle.channel_wakeups.specs.declared.rule.Roll.{Roll}
 use Rattle.channel_wakeups.specs.declared.rule.Rolls.{Rolls}
 use Rattle.channel_wakeups.specs.declared.rule.View.{View}
 use Rattle.channel_wakeups.specs.declared.rule.Transfer.{Transfer}
+use Rattle.channel_wakeups.specs.declared.rule.Turn.{Turn}
 use Rattle.channel_wakeups.specs.Lists.{told, waits, listed}
-use Rattle.channel_wakeups.specs.Views.{Side, of_receives, of_sends, of_streams, of_closings, Duty, to_one, to_all, of, closed_by, handed, settled, roll, pass, won_place, no_place, no_send, won_message, no_message, no_more, all_owing, still_open, found_closed, only, is_key, listing, Picture, picture, at_word, wanted, messages, places, Owed, empty, full, out, Ordered, Kept, Fair}
-use Rattle.channel_wakeups.proofs.Sums.{only_some, only_zero, owed_by, turned, Goes, Sights, Places, Tickets, Logs, put_else, took_else}
+use Rattle.channel_wakeups.specs.Views.{Side, of_receives, of_sends, of_streams, of_closings, Duty, to_one, to_all, of, closed_by, handed, settled, roll, pass, in_hand, turning, Law, won_place, no_place, no_send, won_message, no_message, no_more, all_owing, still_open, found_closed, only, is_key, listing, Picture, picture, at_word, wanted, messages, places, Owed, empty, full, out, Ordered, Kept, Fair}
+use Rattle.channel_wakeups.proofs.Sums.{only_some, only_zero, owed_by, turned, law_turned, Goes, Sights, Places, Tickets, Logs, put_else, took_else}
 
 pub no_home : {T : Type 0} (x : Option T) → some x ≡ none → ⊥
 no_home x e = absurd (cc)
@@ -75,22 +76,25 @@ emptied_place T W p l m lg some_part k o free (out d c e w) =
 -- ---- what a step does to the law of a side: it reads three numbers of the call's line
 
 -- for how many the call answers; or whether it has the line in hand to tell all
-abbrev by_call : Duty → Line → ℕ
+abbrev pub by_call : Duty → Line → ℕ
 by_call to_one l = l.answers
 by_call to_all l = l.tells
 
--- nothing is owed afterwards; or the call answers for all of it; or it answers for as many more as are owed more, with the same in hand
-abbrev Way : ℕ → ℕ → ℕ → ℕ → ℕ → ℕ → Type 0
-Way n m a b i j = (m ≡ 0) ⊎ ((m ≤ b) ⊎ ((m + a ≤ n + b) × (j ≡ i)))
+-- nothing is owed afterwards; or the call answers for all of it; or it answers for as many more as are owed more, with the same in hand, or where it had none
+abbrev pub Way : ℕ → ℕ → ℕ → ℕ → ℕ → ℕ → Type 0
+Way n m a b i j = (m ≡ 0) ⊎ ((m ≤ b) ⊎ ((m + a ≤ n + b) × ((j ≡ i) ⊎ (i ≡ 0))))
 
 abbrev pub Turns : Duty → Side → Picture → Picture → Lines → Lines → Type 0
-Turns d s w x l i = Way (wanted d s w) (wanted d s x) (by_call d (of s l)) (by_call d (of s i)) (of s l).holds (of s i).holds
+Turns d s w x l i = Way (wanted d s w) (wanted d s x) (by_call d (of s l)) (by_call d (of s i)) (in_hand d (of s l)) (in_hand d (of s i))
 
 goes_on : (n m a b i j w g h key : ℕ) → Way n m a b i j → Owed n w (g + a) (h + is_key key i) → Owed m w (g + b) (h + is_key key j)
 goes_on n m a b i j w g h key (inl none_left) owed some_waiting = inl (omega arith)
 goes_on n m a b i j w g h key (inr (inl all)) owed some_waiting = inl (omega arith)
-goes_on n m a b i j w g h key (inr (inr (more, same))) owed some_waiting =
+goes_on n m a b i j w g h key (inr (inr (more, inl same))) owed some_waiting =
     let held : is_key key j ≡ is_key key i = ap (is_key key) same in
+    ⊎_elim (λ (c : n ≤ g + a). inl (omega arith)) (λ (c : 0 < h + is_key key i). inr (omega arith)) (owed some_waiting)
+goes_on n m a b i j w g h key (inr (inr (more, inr none_so))) owed some_waiting =
+    let held : is_key key i ≡ 0 = ap (is_key key) none_so in
     ⊎_elim (λ (c : n ≤ g + a). inl (omega arith)) (λ (c : 0 < h + is_key key i). inr (omega arith)) (owed some_waiting)
 
 module _ {T W : Type 0} where
@@ -108,16 +112,16 @@ module _ {T W : Type 0} where
   goes_by to_all s w x p n o l i m lg mg some_part turns key b g h single owed some_waiting =
       let r = roll s m in
       let la = only_some p (of s l).tells some_part in
-      let lh = only_some p (is_key key (of s l).holds) some_part in
+      let lh = only_some p (is_key key (of s l).fresh) some_part in
       let ia = only_some p (of s i).tells some_part in
-      let ih = only_some p (is_key key (of s i).holds) some_part in
-      let after = goes_on (wanted to_all s w) (wanted to_all s x) (of s l).tells (of s i).tells (of s l).holds (of s i).holds (b + only r.here (waits key r.listeners)) g h key turns
-      (λ waited. owed_by (wanted to_all s w) (g + only p (of s l).tells) (h + only p (is_key key (of s l).holds)) _ _ (omega arith) (omega arith) (owed waited)) some_waiting in
-      owed_by (wanted to_all s x) _ _ (g + only p (of s i).tells) (h + only p (is_key key (of s i).holds)) (omega arith) (omega arith) after
+      let ih = only_some p (is_key key (of s i).fresh) some_part in
+      let after = goes_on (wanted to_all s w) (wanted to_all s x) (of s l).tells (of s i).tells (of s l).fresh (of s i).fresh (b + only r.here (waits key r.listeners)) g h key turns
+      (λ waited. owed_by (wanted to_all s w) (g + only p (of s l).tells) (h + only p (is_key key (of s l).fresh)) _ _ (omega arith) (omega arith) (owed waited)) some_waiting in
+      owed_by (wanted to_all s x) _ _ (g + only p (of s i).tells) (h + only p (is_key key (of s i).fresh)) (omega arith) (omega arith) after
 
 -- nothing changes on this side
-as_before : (n a i : ℕ) → Way n n a a i i
-as_before n a i = inr (inr (omega arith, refl))
+pub as_before : (n a i : ℕ) → Way n n a a i i
+as_before n a i = inr (inr (omega arith, inl refl))
 
 -- a push won the slot: it answers for the message, and has the line of streams in hand; and no place is left
 pub fills_turns : (c : Lines) (d : Duty) (s : Side) → Turns d s (at_word 0 false) (at_word 3 false) c (won_place c)
@@ -149,7 +153,7 @@ refused_turns n r k c none_left to_one of_streams = inl refl
 refused_turns n r k c none_left to_one of_closings = inl refl
 refused_turns n r k c none_left to_all of_receives = inl refl
 refused_turns n r k c none_left to_all of_sends = inl refl
-refused_turns n r k c none_left to_all of_streams = as_before n c.streams.tells c.streams.holds
+refused_turns n r k c none_left to_all of_streams = as_before n c.streams.tells c.streams.fresh
 refused_turns n r k c none_left to_all of_closings = inl refl
 
 -- a push found the channel closed
@@ -158,10 +162,10 @@ shut_out_turns n r k c to_one of_receives = as_before n c.receives.answers c.rec
 shut_out_turns n r k c to_one of_sends = inl refl
 shut_out_turns n r k c to_one of_streams = inl refl
 shut_out_turns n r k c to_one of_closings = inl refl
-shut_out_turns n r k c to_all of_receives = as_before 1 c.receives.tells c.receives.holds
-shut_out_turns n r k c to_all of_sends = as_before 1 c.sends.tells c.sends.holds
-shut_out_turns n r k c to_all of_streams = as_before 1 c.streams.tells c.streams.holds
-shut_out_turns n r k c to_all of_closings = as_before 1 c.closings.tells c.closings.holds
+shut_out_turns n r k c to_all of_receives = as_before 1 c.receives.tells c.receives.fresh
+shut_out_turns n r k c to_all of_sends = as_before 1 c.sends.tells c.sends.fresh
+shut_out_turns n r k c to_all of_streams = as_before 1 c.streams.tells c.streams.fresh
+shut_out_turns n r k c to_all of_closings = as_before 1 c.closings.tells c.closings.fresh
 
 -- a pop won the message: it answers for the place, and no message is left
 pub wins_turns : (e : Bool) (c : Lines) (d : Duty) (s : Side) → Turns d s (at_word 2 e) (at_word 1 e) c (won_message c)
@@ -170,11 +174,11 @@ wins_turns true c to_one of_sends = inl refl
 wins_turns false c to_one of_sends = inr (inl (omega arith))
 wins_turns e c to_one of_streams = inl refl
 wins_turns e c to_one of_closings = inl refl
-wins_turns e c to_all of_receives = as_before (wanted to_all of_receives (at_word 2 e)) c.receives.tells c.receives.holds
-wins_turns e c to_all of_sends = as_before (wanted to_all of_sends (at_word 2 e)) c.sends.tells c.sends.holds
-wins_turns true c to_all of_streams = as_before 1 c.streams.tells c.streams.holds
+wins_turns e c to_all of_receives = as_before (wanted to_all of_receives (at_word 2 e)) c.receives.tells c.receives.fresh
+wins_turns e c to_all of_sends = as_before (wanted to_all of_sends (at_word 2 e)) c.sends.tells c.sends.fresh
+wins_turns true c to_all of_streams = as_before 1 c.streams.tells c.streams.fresh
 wins_turns false c to_all of_streams = inl refl
-wins_turns e c to_all of_closings = as_before (wanted to_all of_closings (at_word 2 e)) c.closings.tells c.closings.holds
+wins_turns e c to_all of_closings = as_before (wanted to_all of_closings (at_word 2 e)) c.closings.tells c.closings.fresh
 
 -- a pop found no message
 pub rests_turns : (n r k : ℕ) (c : Lines) → n ≡ 0 → (d : Duty) (s : Side) → Turns d s (picture n r k false) (picture n r k false) c (no_message c)
@@ -193,10 +197,10 @@ drains_turns n r k c none_left to_one of_receives = inl none_left
 drains_turns n r k c none_left to_one of_sends = inl refl
 drains_turns n r k c none_left to_one of_streams = inl refl
 drains_turns n r k c none_left to_one of_closings = inl refl
-drains_turns n r k c none_left to_all of_receives = as_before 1 c.receives.tells c.receives.holds
-drains_turns n r k c none_left to_all of_sends = as_before 1 c.sends.tells c.sends.holds
-drains_turns n r k c none_left to_all of_streams = as_before 1 c.streams.tells c.streams.holds
-drains_turns n r k c none_left to_all of_closings = as_before 1 c.closings.tells c.closings.holds
+drains_turns n r k c none_left to_all of_receives = as_before 1 c.receives.tells c.receives.fresh
+drains_turns n r k c none_left to_all of_sends = as_before 1 c.sends.tells c.sends.fresh
+drains_turns n r k c none_left to_all of_streams = as_before 1 c.streams.tells c.streams.fresh
+drains_turns n r k c none_left to_all of_closings = as_before 1 c.closings.tells c.closings.fresh
 
 -- the channel was closed: who closed it has every line in hand, what was owed for messages is owed still, and there is no place any more
 pub shuts_turns : (n r k : ℕ) (c : Lines) (d : Duty) (s : Side) → Turns d s (picture n r k false) (picture n r k true) c (all_owing c)
@@ -217,7 +221,7 @@ open_turns n r k c to_one of_streams = inl refl
 open_turns n r k c to_one of_closings = inl refl
 open_turns n r k c to_all of_receives = inl refl
 open_turns n r k c to_all of_sends = inl refl
-open_turns n r k c to_all of_streams = as_before n c.streams.tells c.streams.holds
+open_turns n r k c to_all of_streams = as_before n c.streams.tells c.streams.fresh
 open_turns n r k c to_all of_closings = inl refl
 
 pub closed_turns : (n r k : ℕ) (c : Lines) (d : Duty) (s : Side) → Turns d s (picture n r k true) (picture n r k true) c (found_closed c)
@@ -225,23 +229,27 @@ closed_turns n r k c to_one of_receives = as_before n c.receives.answers c.recei
 closed_turns n r k c to_one of_sends = inl refl
 closed_turns n r k c to_one of_streams = inl refl
 closed_turns n r k c to_one of_closings = inl refl
-closed_turns n r k c to_all of_receives = as_before 1 c.receives.tells c.receives.holds
-closed_turns n r k c to_all of_sends = as_before 1 c.sends.tells c.sends.holds
-closed_turns n r k c to_all of_streams = as_before 1 c.streams.tells c.streams.holds
-closed_turns n r k c to_all of_closings = as_before 1 c.closings.tells c.closings.holds
+closed_turns n r k c to_all of_receives = as_before 1 c.receives.tells c.receives.fresh
+closed_turns n r k c to_all of_sends = as_before 1 c.sends.tells c.sends.fresh
+closed_turns n r k c to_all of_streams = as_before 1 c.streams.tells c.streams.fresh
+closed_turns n r k c to_all of_closings = as_before 1 c.closings.tells c.closings.fresh
 
 -- the slot is given back, or nothing is done to it, and with it nothing that the law counts
 pub gives_turns : (w x : ℕ) (e : Bool) (c : Lines) → messages w ≡ messages x → (d : Duty) (s : Side) → Turns d s (at_word w e) (at_word x e) c c
-gives_turns w x e c same to_one of_receives = inr (inr (omega arith, refl))
+gives_turns w x e c same to_one of_receives = inr (inr (omega arith, inl refl))
 gives_turns w x true c same to_one of_sends = inl refl
-gives_turns w x false c same to_one of_sends = inr (inr (omega arith, refl))
+gives_turns w x false c same to_one of_sends = inr (inr (omega arith, inl refl))
 gives_turns w x e c same to_one of_streams = inl refl
 gives_turns w x e c same to_one of_closings = inl refl
-gives_turns w x e c same to_all of_receives = as_before (wanted to_all of_receives (at_word w e)) c.receives.tells c.receives.holds
-gives_turns w x e c same to_all of_sends = as_before (wanted to_all of_sends (at_word w e)) c.sends.tells c.sends.holds
-gives_turns w x true c same to_all of_streams = as_before 1 c.streams.tells c.streams.holds
-gives_turns w x false c same to_all of_streams = inr (inr (omega arith, refl))
-gives_turns w x e c same to_all of_closings = as_before (wanted to_all of_closings (at_word w e)) c.closings.tells c.closings.holds
+gives_turns w x e c same to_all of_receives = as_before (wanted to_all of_receives (at_word w e)) c.receives.tells c.receives.fresh
+gives_turns w x e c same to_all of_sends = as_before (wanted to_all of_sends (at_word w e)) c.sends.tells c.sends.fresh
+gives_turns w x true c same to_all of_streams = as_before 1 c.streams.tells c.streams.fresh
+gives_turns w x false c same to_all of_streams = inr (inr (omega arith, inl refl))
+gives_turns w x e c same to_all of_closings = as_before (wanted to_all of_closings (at_word w e)) c.closings.tells c.closings.fresh
+
+-- nothing changes
+pub same_turns : (p : Picture) (c : Lines) (d : Duty) (s : Side) → Turns d s p p c c
+same_turns p c d s = as_before (wanted d s p) (by_call d (of s c)) (in_hand d (of s c))
 
 -- other handles are nothing that the law of a side counts
 pub of_handed : (h : Handles) (l : Lines) (s : Side) → of s (handed h l) ≡ of s l
@@ -251,7 +259,7 @@ of_handed h l of_streams = refl
 of_handed h l of_closings = refl
 
 pub handed_turns : (p : Picture) (h : Handles) (c : Lines) (d : Duty) (s : Side) → Turns d s p p c (handed h c)
-handed_turns p h c d s = subst (λ (x : Line). Way (wanted d s p) (wanted d s p) (by_call d (of s c)) (by_call d x) (of s c).holds x.holds) (sym (of_handed h c s)) (as_before (wanted d s p) (by_call d (of s c)) (of s c).holds)
+handed_turns p h c d s = subst (λ (x : Line). Way (wanted d s p) (wanted d s p) (by_call d (of s c)) (by_call d x) (in_hand d (of s c)) (in_hand d x)) (sym (of_handed h c s)) (as_before (wanted d s p) (by_call d (of s c)) (in_hand d (of s c)))
 
 -- the channel was found closed, so no closing is owed any more
 pub settles : (p : Picture) (c : Lines) (d : Duty) (s : Side) → Turns d s p p c (settled c)
@@ -278,13 +286,27 @@ module _ {T W : Type 0} where
       tickets : (side : Side) → Tickets side (pass {T = T} p n l m lg) (pass p o i m mg)
       tickets side key x y before = let t : is_key key (of side i).ticket ≡ is_key key (of side l).ticket = ap (is_key key) (same_ticket l i same side) in omega arith
 
+  -- and of a call that has come some way with a ring
+  goes_turning : (d : Duty) (s : Side) (w x : Picture) (p n o : ℕ) (t u : Turn) (l i : Lines) (m : Rolls W) (lg mg : List (Transfer T)) → 0 < p → Turns d s w x l i → Goes d s w x (turning t (pass p n l m lg)) (turning u (pass p o i m mg))
+  goes_turning to_one s w x p n o t u l i m lg mg some_part turns = goes_by to_one s w x p n o l i m lg mg some_part turns
+  goes_turning to_all s w x p n o t u l i m lg mg some_part turns = goes_by to_all s w x p n o l i m lg mg some_part turns
+
+  -- the law alone, whatever the form of the queue
+  pub law_kept : (w x : Picture) (vs : List (View T W)) (id p n o : ℕ) (t u : Turn) (l i : Lines) (m : Rolls W) (lg mg : List (Transfer T)) → 0 < p → get_elem? vs id ≡ some (turning t (pass p n l m lg)) → SameTickets l i → ((d : Duty) (side : Side) → Turns d side w x l i)
+      → Sights w x (turning t (pass p n l m lg)) (turning u (pass p o i m mg)) → Law w vs → Law x (set vs id (turning u (pass p o i m mg)))
+  law_kept w x vs id p n o t u l i m lg mg some_part at same turns sights k =
+      law_turned w x vs id (turning t (pass p n l m lg)) (turning u (pass p o i m mg)) at refl (λ side. refl) (λ d side. goes_turning d side w x p n o t u l i m lg mg some_part (turns d side)) tickets sights k
+    where
+      tickets : (side : Side) → Tickets side (turning t (pass {T = T} p n l m lg)) (turning u (pass p o i m mg))
+      tickets side key x y before = let e : is_key key (of side i).ticket ≡ is_key key (of side l).ticket = ap (is_key key) (same_ticket l i same side) in omega arith
+
 -- ---- what a fair change does to the law of its side, and to the tickets
 
 module _ {W : Type 0} where
   -- the law of a side, of whose call and list these are the line and the roll
   abbrev pub Lasts : Duty → ℕ → ℕ → ℕ → ℕ → ℕ → ℕ → Line → Roll W → Type 0
   Lasts to_one n p b g h key l r = Owed n (b + only r.here (waits key r.listeners)) (g + (only r.here (told r.listeners) + only p l.answers)) (h + only p (is_key key l.holds))
-  Lasts to_all n p b g h key l r = Owed n (b + only r.here (waits key r.listeners)) (g + only p l.tells) (h + only p (is_key key l.holds))
+  Lasts to_all n p b g h key l r = Owed n (b + only r.here (waits key r.listeners)) (g + only p l.tells) (h + only p (is_key key l.fresh))
 
   pub lasts_by : (d : Duty) (n p b g h key : ℕ) (l i : Line) (r q : Roll W) → i ≡ l → q ≡ r → Lasts d n p b g h key l r → Lasts d n p b g h key i q
   lasts_by d n p b g h key l i r q e f k = subst (λ (y : Roll W). Lasts d n p b g h key i y) (sym f) (subst (λ (y : Line). Lasts d n p b g h key y r) (sym e) k)
@@ -298,7 +320,7 @@ module _ {W : Type 0} where
       let lh = only_some p (is_key key l.holds) some_part in
       let ma = only_some p m.answers some_part in
       let mh = only_some p (is_key key m.holds) some_part in
-      ⊎_elim (λ (e : 0 < is_key key m.holds). inr (omega arith)) (λ (e : (0 < waits key r.listeners) × (told r.listeners + l.answers ≤ told ms + m.answers) × (is_key key l.holds ≤ is_key key m.holds) × (l.tells ≤ m.tells)).
+      ⊎_elim (λ (e : (0 < is_key key m.holds) × (0 < is_key key m.fresh)). let e0 = e.0 in let e1 = e.1 in inr (omega arith)) (λ (e : (0 < waits key r.listeners) × (told r.listeners + l.answers ≤ told ms + m.answers) × (is_key key l.holds ≤ is_key key m.holds) × (is_key key l.fresh ≤ is_key key m.fresh) × (l.tells ≤ m.tells)).
       let e0 = e.0 in
       let e1 = e.1 in
       let e2 = e.2 in
@@ -307,14 +329,14 @@ module _ {W : Type 0} where
       let no_b = single here in
       let lw = only_some r.here (waits key r.listeners) (omega arith) in
       let la = only_some p l.tells some_part in
-      let lh = only_some p (is_key key l.holds) some_part in
+      let lh = only_some p (is_key key l.fresh) some_part in
       let ma = only_some p m.tells some_part in
-      let mh = only_some p (is_key key m.holds) some_part in
-      ⊎_elim (λ (e : 0 < is_key key m.holds). inr (omega arith)) (λ (e : (0 < waits key r.listeners) × (told r.listeners + l.answers ≤ told ms + m.answers) × (is_key key l.holds ≤ is_key key m.holds) × (l.tells ≤ m.tells)).
+      let mh = only_some p (is_key key m.fresh) some_part in
+      ⊎_elim (λ (e : (0 < is_key key m.holds) × (0 < is_key key m.fresh)). let e0 = e.0 in let e1 = e.1 in inr (omega arith)) (λ (e : (0 < waits key r.listeners) × (told r.listeners + l.answers ≤ told ms + m.answers) × (is_key key l.holds ≤ is_key key m.holds) × (is_key key l.fresh ≤ is_key key m.fresh) × (l.tells ≤ m.tells)).
       let e0 = e.0 in
-      let e2 = e.2 in
       let e3 = e.3 in
-      ⊎_elim (λ (c : n ≤ g + only p l.tells). inl (omega arith)) (λ (c : 0 < h + only p (is_key key l.holds)). inr (omega arith)) (owed (omega arith))) (fair.0 key (omega arith))
+      let e4 = e.4 in
+      ⊎_elim (λ (c : n ≤ g + only p l.tells). inl (omega arith)) (λ (c : 0 < h + only p (is_key key l.fresh)). inr (omega arith)) (owed (omega arith))) (fair.0 key (omega arith))
 
   pub fair_tickets : (key x y : ℕ) (l m : Line) (r : Roll W) (ms : List (Listener W)) → r.here ≡ 1 → Fair l r.listeners m ms → y + is_key key l.ticket ≤ x + only r.here (listed key r.listeners) → y + is_key key m.ticket ≤ x + listed key ms
   fair_tickets key x y l m r ms here fair before =

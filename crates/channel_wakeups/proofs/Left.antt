@@ -32,7 +32,7 @@ module _ {T W : Type 0} (table : TableId) where
   -- a pass that has nothing of the slot, in the words of clauses, from whichever side
   over : (s : Side) (p : ℕ) (l : Lines) (log : List (Transfer T)) (c : SlotCells T W) → 0 < p → IsOver table p l log c → IsAt c.stage c.seat.me → IsPass s table c.seat p (of s l) (besides s l)
   over s p l log c some_part (i, g, e) at =
-      (i, (subst (λ (x : Stage). IsAt x c.seat.me) g at).2, ((λ k. (e k).parts), (λ k. (e k).owns), (λ k. of s (e k).calls), (λ k. besides s (e k).calls), (λ k. (e k).rolls), some_part))
+      (i, (subst (λ (x : Stage). IsAt x c.seat.me) g at).2, ((λ k. (e k).parts), ((λ k. (e k).owns), (λ k. (e k).turn)), (λ k. of s (e k).calls), (λ k. besides s (e k).calls), (λ k. (e k).rolls), some_part))
 
   logged : (p : ℕ) (l : Lines) (log : List (Transfer T)) (c : SlotCells T W) → IsOver table p l log c → c.seat.me.0.log ≡ log
   logged p l log c (i, g, e) = λ k. (e k).log

@@ -42,7 +42,7 @@ module _ {T : Type 0} where
 pub this_same : (n k : ℕ) → n ≡ k → is_this n k ≡ 1
 this_same n k e = ap (λ (b : Bool). cond b 1 0) (eq-eqb n k e)
 
-this_other : (n k : ℕ) → (n ≡ k → ⊥) → is_this n k ≡ 0
+pub this_other : (n k : ℕ) → (n ≡ k → ⊥) → is_this n k ≡ 0
 this_other n k ne = by_case (n == k) refl
   where
     by_case : (b : Bool) → (n == k) ≡ b → is_this n k ≡ 0

@@ -21,9 +21,11 @@ use Rattle.channel_wakeups.specs.declared.rule.Sight.{Sight}
 use Rattle.channel_wakeups.specs.declared.rule.Sight.TheVariants.{Shut, Seen, Drained}
 use Rattle.channel_wakeups.specs.Lists.{total, listed}
 use Rattle.channel_wakeups.specs.Log.{Weight, puts, each, held}
-use Rattle.channel_wakeups.specs.Views.{at_word, Shown, one_slot, Side, Duty, to_one, to_all, count_of, of, roll, listing, with_line, with_roll, pass, changed, won_place, no_place, no_send, won_message, no_message, no_more, settled, all_owing, still_open, found_closed, closer, saw_open, only, is_key, here_of, listed_of, tickets_of, locks_of, owns_of, puts_of, word_of, wanted, messages, places, IsSlot, empty, full, out, Ordered, Kept, Counted, Woken, Known, MissesPlace, AtHome, fills, displaces, wins, unlocks, shuts, sees, Fair}
-use Rattle.channel_wakeups.proofs.Words.{index_same, counts_stay}
-use Rattle.channel_wakeups.proofs.Sums.{only_some, others, others_free, was, turned, Goes, Tickets, Logs, put_else, took_else}
+use Rattle.channel_wakeups.specs.Views.{Picture, at_word, Law, Shown, one_slot, a_ring, Side, Duty, to_one, to_all, count_of, of, roll, listing, with_line, with_roll, pass, changed, won_place, no_place, no_send, won_message, no_message, no_more, settled, all_owing, still_open, found_closed, closer, saw_open, only, is_key, here_of, listed_of, tickets_of, locks_of, owns_of, puts_of, word_of, wanted, messages, places, IsSlot, empty, full, out, Ordered, Kept, Counted, Woken, Known, MissesPlace, AtHome, fills, displaces, wins, unlocks, shuts, sees, Fair}
+use Rattle.channel_wakeups.proofs.Beside.{Beside, shown_so}
+use Rattle.channel_wakeups.proofs.Rings.{seats_set}
+use Rattle.channel_wakeups.proofs.Words.{index_same, counts_stay, word_again}
+use Rattle.channel_wakeups.proofs.Sums.{only_some, others, others_free, was, turned, law_turned, Goes, Tickets, Logs, put_else, took_else}
 use Rattle.channel_wakeups.proofs.Logs.{puts_append, same_logs, saw_logs, put_logs, take_logs, comes_next, goes_next, not_seen, not_drained, sights_stay, sights_same, moved, sights_seen, sights_drained, sights_shut}
 use Rattle.channel_wakeups.proofs.History.{agrees_append, agrees_saw, order_stays, order_grows}
 use Rattle.channel_wakeups.proofs.Hands.{hands_with, Carries, counted_kept, carries_all, carries_same, carries_more}
@@ -56,8 +58,8 @@ module _ {T W : Type 0} where
   -- of what is known of the counts too
   pub by_all : (f : ℕ → ℕ) (then : ℕ → Me (Option T) (View T W) → Type 0) (slots id : ℕ) (me : Me (Option T) (View T W))
       → ((base : ℕ) (shut : Bool) (slot : home.Option (Option T)) (senders receivers : ℕ) (views : List (View T W)) → Kept base shut slot views → Counted senders OfSenders views → Counted receivers OfReceivers views → get_elem? views id ≡ some me.0
-      → Outcome f then me id views (word_of base shut) slot) → Allows Woken slots id me 0 f then
-  by_all f then slots id me go s h wide at small = by_shown h.shown
+      → Outcome f then me id views (word_of base shut) slot) → slots ≡ 1 → Allows Woken slots id me 0 f then
+  by_all f then slots id me go single s h wide at small = by_shown h.shown
     where
       by_shown : Shown s.words s.homes s.views → (w : View T W) × (a : Act (Option T)) × Valid s.homes me.1 a × Woken (stepped s 0 (f (slice_index s.words 0)) id me.1 w a) × then (slice_index s.words 0) (w, carried_after me.1 a)
       by_shown (one_slot base shut slot word homes kept) =
@@ -75,10 +77,11 @@ module _ {T W : Type 0} where
             },
             subst (λ (n : ℕ). then n (r.0, carried_after me.1 r.1)) (sym word) r.10,
           )
+      by_shown (a_ring cap r ringed) = let more = ringed.seats.two in let size = ringed.cells.size in absurd (omega arith)
 
   pub by_rule : (f : ℕ → ℕ) (then : ℕ → Me (Option T) (View T W) → Type 0) (slots id : ℕ) (me : Me (Option T) (View T W))
       → ((base : ℕ) (shut : Bool) (slot : home.Option (Option T)) (views : List (View T W)) → Kept base shut slot views → get_elem? views id ≡ some me.0 → Outcome f then me id views (word_of base shut) slot)
-      → Allows Woken slots id me 0 f then
+      → slots ≡ 1 → Allows Woken slots id me 0 f then
   by_rule f then slots id me go = by_all f then slots id me (λ base shut slot senders receivers views k cs cr at. go base shut slot views k at)
 
   -- the state and the slot are these
@@ -222,7 +225,7 @@ module _ {T W : Type 0} where
     fills_at base true slot views k at (out d c e (inr w)) =
         as_is fill Filled (pass p 0 l m lg, []) id views base 3 true slot slot w refl (λ kn. push_closed fill Filled 3 slot views at refl refl (not_filled 7 (λ e. absurd (omega arith))) kn) k
 
-    pub fills_so : Allows Woken slots id (pass p 0 l m lg, []) 0 fill Filled
+    pub fills_so : slots ≡ 1 → Allows Woken slots id (pass p 0 l m lg, []) 0 fill Filled
     fills_so = by_rule fill Filled slots id (pass p 0 l m lg, []) (λ base shut slot views k at. fills_at base shut slot views k at k.place)
 
     -- ---- a displacing push wins the full slot, or finds none
@@ -274,7 +277,7 @@ module _ {T W : Type 0} where
     displaces_at base true slot views k at (out d c e (inr w)) =
         as_is (swap 2 3) DidDisplace (pass p 0 l m lg, []) id views base 3 true slot slot w refl (λ kn. push_closed (swap 2 3) DidDisplace 3 slot views at refl refl (not_displaced 7 (λ e. absurd (omega arith))) kn) k
 
-    pub displaces_so : Allows Woken slots id (pass p 0 l m lg, []) 0 (λ n. either (n == 2) 3 n) (displaces {T = T} (step slots 0 2 3 none) (pass p 0 l m lg, []))
+    pub displaces_so : slots ≡ 1 → Allows Woken slots id (pass p 0 l m lg, []) 0 (λ n. either (n == 2) 3 n) (displaces {T = T} (step slots 0 2 3 none) (pass p 0 l m lg, []))
     displaces_so = by_rule (λ n. either (n == 2) 3 n) (displaces {T = T} (step slots 0 2 3 none) (pass p 0 l m lg, [])) slots id (pass p 0 l m lg, []) (λ base shut slot views k at. displaces_at base shut slot views k at k.place)
 
   -- ---- a pop wins the message, or finds none: of an open channel, from 2 to 1, or of a closed one, from 6 to 5
@@ -367,7 +370,7 @@ module _ {T W : Type 0} where
     wins_at base true slot views k at (out d c e (inr w)) =
         as_is (swap 2 1) (Won slots id p l m lg some_part 2 1) (pass p 0 l m lg, []) id views base 3 true slot slot w refl (λ kn. wins_later slots id p l m lg some_part 2 1 3 true slot views at refl (λ e. absurd (omega arith)) refl (inr refl) kn) k
 
-    pub wins_so : Allows Woken slots id (pass p 0 l m lg, []) 0 (λ n. either (n == 2) 1 n) (wins {T = T} 2 (step slots 0 2 1 none) (pass p 0 l m lg, []))
+    pub wins_so : slots ≡ 1 → Allows Woken slots id (pass p 0 l m lg, []) 0 (λ n. either (n == 2) 1 n) (wins {T = T} 2 (step slots 0 2 1 none) (pass p 0 l m lg, []))
     wins_so = by_rule (λ n. either (n == 2) 1 n) (wins {T = T} 2 (step slots 0 2 1 none) (pass p 0 l m lg, [])) slots id (pass p 0 l m lg, []) (λ base shut slot views k at. wins_at base shut slot views k at k.place)
 
     last_at : (base : ℕ) (shut : Bool) (slot : home.Option (Option T)) (views : List (View T W)) → Kept base shut slot views → get_elem? views id ≡ some (pass p 0 l m lg) → IsSlot base slot (total locks_of views) (total owns_of views) → Win slots id p l m lg some_part 6 5 views (word_of base shut) slot
@@ -388,7 +391,7 @@ module _ {T W : Type 0} where
     last_at base true slot views k at (out d c e (inr w)) =
         as_is (swap 6 5) (Won slots id p l m lg some_part 6 5) (pass p 0 l m lg, []) id views base 3 true slot slot w refl (λ kn. wins_later slots id p l m lg some_part 6 5 3 true slot views at refl (λ e. absurd (omega arith)) refl (inr refl) kn) k
 
-    pub last_so : Allows Woken slots id (pass p 0 l m lg, []) 0 (λ n. either (n == 6) 5 n) (wins {T = T} 6 (step slots 0 6 5 none) (pass p 0 l m lg, []))
+    pub last_so : slots ≡ 1 → Allows Woken slots id (pass p 0 l m lg, []) 0 (λ n. either (n == 6) 5 n) (wins {T = T} 6 (step slots 0 6 5 none) (pass p 0 l m lg, []))
     last_so = by_rule (λ n. either (n == 6) 5 n) (wins {T = T} 6 (step slots 0 6 5 none) (pass p 0 l m lg, [])) slots id (pass p 0 l m lg, []) (λ base shut slot views k at. last_at base shut slot views k at k.place)
 
   -- ---- a call closes the channel, or finds it closed; and a call looks whether it is
@@ -451,7 +454,7 @@ module _ {T W : Type 0} where
     shuts_at base true slot views k at (out d c e (inl w)) = as_is shut_bit HasShut (pass p 0 l m lg, []) id views base 1 true slot slot w refl (λ kn. shuts_again 1 slot views at refl refl kn) k
     shuts_at base true slot views k at (out d c e (inr w)) = as_is shut_bit HasShut (pass p 0 l m lg, []) id views base 3 true slot slot w refl (λ kn. shuts_again 3 slot views at refl refl kn) k
 
-    pub shuts_so : Allows Woken slots id (pass p 0 l m lg, []) 0 shut_bit HasShut
+    pub shuts_so : slots ≡ 1 → Allows Woken slots id (pass p 0 l m lg, []) 0 shut_bit HasShut
     shuts_so = by_rule shut_bit HasShut slots id (pass p 0 l m lg, []) (λ base shut slot views k at. shuts_at base shut slot views k at k.place)
 
     abbrev HasLooked : ℕ → Known T W → Type 0
@@ -487,7 +490,7 @@ module _ {T W : Type 0} where
     sees_at base true slot views k at (out d c e (inl w)) = as_is same_word HasLooked (pass p 0 l m lg, []) id views base 1 true slot slot w refl (λ kn. sees_closed 1 slot views at refl refl kn) k
     sees_at base true slot views k at (out d c e (inr w)) = as_is same_word HasLooked (pass p 0 l m lg, []) id views base 3 true slot slot w refl (λ kn. sees_closed 3 slot views at refl refl kn) k
 
-    pub sees_so : Allows Woken slots id (pass p 0 l m lg, []) 0 same_word HasLooked
+    pub sees_so : slots ≡ 1 → Allows Woken slots id (pass p 0 l m lg, []) 0 same_word HasLooked
     sees_so = by_rule same_word HasLooked slots id (pass p 0 l m lg, []) (λ base shut slot views k at. sees_at base shut slot views k at k.place)
 
   -- ---- who has the slot gives it back
@@ -535,7 +538,7 @@ module _ {T W : Type 0} where
   )
 
   pub unlocks_filled : (slots id p : ℕ) (l : Lines) (m : Rolls W) (lg : List (Transfer T)) (x : T) → 0 < p
-      → Allows Woken slots id (pass {W = W} p 3 l m lg, (0, Some x) ∷ []) 0 (λ n. bit_and n 18446744073709551614) (unlocks {T = T} (step slots 0 18446744073709551614 0 none) (pass p 3 l m lg, (0, Some x) ∷ []))
+      → slots ≡ 1 → Allows Woken slots id (pass {W = W} p 3 l m lg, (0, Some x) ∷ []) 0 (λ n. bit_and n 18446744073709551614) (unlocks {T = T} (step slots 0 18446744073709551614 0 none) (pass p 3 l m lg, (0, Some x) ∷ []))
   unlocks_filled slots id p l m lg x some_part =
       by_rule unlocked (unlocks {T = T} (step slots 0 18446744073709551614 0 none) (pass p 3 l m lg, (0, Some x) ∷ [])) slots id (pass p 3 l m lg, (0, Some x) ∷ []) (λ base shut slot views k at.
       let is = held_word 3 p l m lg id base slot views some_part (omega arith) at k.place in
@@ -567,7 +570,7 @@ module _ {T W : Type 0} where
   )
 
   pub unlocks_emptied : (slots id p : ℕ) (l : Lines) (m : Rolls W) (lg : List (Transfer T)) → 0 < p
-      → Allows Woken slots id (pass {W = W} p 1 l m lg, (0, None) ∷ []) 0 (λ n. bit_and n 18446744073709551614) (unlocks {T = T} (step slots 0 18446744073709551614 0 none) (pass p 1 l m lg, (0, None) ∷ []))
+      → slots ≡ 1 → Allows Woken slots id (pass {W = W} p 1 l m lg, (0, None) ∷ []) 0 (λ n. bit_and n 18446744073709551614) (unlocks {T = T} (step slots 0 18446744073709551614 0 none) (pass p 1 l m lg, (0, None) ∷ []))
   unlocks_emptied slots id p l m lg some_part =
       by_rule unlocked (unlocks {T = T} (step slots 0 18446744073709551614 0 none) (pass p 1 l m lg, (0, None) ∷ [])) slots id (pass p 1 l m lg, (0, None) ∷ []) (λ base shut slot views k at.
       let is = held_word 1 p l m lg id base slot views some_part (omega arith) at k.place in
@@ -589,23 +592,23 @@ module _ {T W : Type 0} where
     keeps_lists s (inl same) = subst (λ (x : Side). here_of x (changed side v m ms) ≡ here_of x v) (sym same) ((λ k. (roll_with W side (listing ms) v.rolls k).here) ∙ sym here)
     keeps_lists s (inr other) = λ k. (other.1 (listing ms) v.rolls k).here
 
-    goes_fair : (w : ℕ) (shut : Bool) (d : Duty) → Goes d side (at_word w shut) (at_word w shut) v (changed side v m ms)
-    goes_fair w shut to_one key b g h single owed =
-        lasts_by to_one (wanted to_one side (at_word w shut)) v.parts b g h key m (of side (with_line side m v.calls)) (listing ms) (roll side (with_roll side (listing ms) v.rolls)) (of_with side m v.calls) (roll_with W side (listing ms) v.rolls)
-        (fair_lasts to_one (wanted to_one side (at_word w shut)) v.parts b g h key (of side v.calls) m (roll side v.rolls) ms some_part here fair single owed)
-    goes_fair w shut to_all key b g h single owed =
-        lasts_by to_all (wanted to_all side (at_word w shut)) v.parts b g h key m (of side (with_line side m v.calls)) (listing ms) (roll side (with_roll side (listing ms) v.rolls)) (of_with side m v.calls) (roll_with W side (listing ms) v.rolls)
-        (fair_lasts to_all (wanted to_all side (at_word w shut)) v.parts b g h key (of side v.calls) m (roll side v.rolls) ms some_part here fair single owed)
+    goes_fair : (w : Picture) (d : Duty) → Goes d side w w v (changed side v m ms)
+    goes_fair w to_one key b g h single owed =
+        lasts_by to_one (wanted to_one side w) v.parts b g h key m (of side (with_line side m v.calls)) (listing ms) (roll side (with_roll side (listing ms) v.rolls)) (of_with side m v.calls) (roll_with W side (listing ms) v.rolls)
+        (fair_lasts to_one (wanted to_one side w) v.parts b g h key (of side v.calls) m (roll side v.rolls) ms some_part here fair single owed)
+    goes_fair w to_all key b g h single owed =
+        lasts_by to_all (wanted to_all side w) v.parts b g h key m (of side (with_line side m v.calls)) (listing ms) (roll side (with_roll side (listing ms) v.rolls)) (of_with side m v.calls) (roll_with W side (listing ms) v.rolls)
+        (fair_lasts to_all (wanted to_all side w) v.parts b g h key (of side v.calls) m (roll side v.rolls) ms some_part here fair single owed)
 
-    goes_beside : (w : ℕ) (shut : Bool) (s : Side) → Untouched W side s → (d : Duty) → Goes d s (at_word w shut) (at_word w shut) v (changed side v m ms)
-    goes_beside w shut s other to_one key b g h single owed =
-        lasts_by to_one (wanted to_one s (at_word w shut)) v.parts b g h key (of s v.calls) (of s (with_line side m v.calls)) (roll s v.rolls) (roll s (with_roll side (listing ms) v.rolls)) (other.0 m v.calls) (other.1 (listing ms) v.rolls) owed
-    goes_beside w shut s other to_all key b g h single owed =
-        lasts_by to_all (wanted to_all s (at_word w shut)) v.parts b g h key (of s v.calls) (of s (with_line side m v.calls)) (roll s v.rolls) (roll s (with_roll side (listing ms) v.rolls)) (other.0 m v.calls) (other.1 (listing ms) v.rolls) owed
+    goes_beside : (w : Picture) (s : Side) → Untouched W side s → (d : Duty) → Goes d s w w v (changed side v m ms)
+    goes_beside w s other to_one key b g h single owed =
+        lasts_by to_one (wanted to_one s w) v.parts b g h key (of s v.calls) (of s (with_line side m v.calls)) (roll s v.rolls) (roll s (with_roll side (listing ms) v.rolls)) (other.0 m v.calls) (other.1 (listing ms) v.rolls) owed
+    goes_beside w s other to_all key b g h single owed =
+        lasts_by to_all (wanted to_all s w) v.parts b g h key (of s v.calls) (of s (with_line side m v.calls)) (roll s v.rolls) (roll s (with_roll side (listing ms) v.rolls)) (other.0 m v.calls) (other.1 (listing ms) v.rolls) owed
 
-    goes_either : (w : ℕ) (shut : Bool) (d : Duty) (s : Side) → Either s → Goes d s (at_word w shut) (at_word w shut) v (changed side v m ms)
-    goes_either w shut d s (inl same) = subst (λ (x : Side). Goes d x (at_word w shut) (at_word w shut) v (changed side v m ms)) (sym same) (goes_fair w shut d)
-    goes_either w shut d s (inr other) = goes_beside w shut s other d
+    goes_either : (w : Picture) (d : Duty) (s : Side) → Either s → Goes d s w w v (changed side v m ms)
+    goes_either w d s (inl same) = subst (λ (x : Side). Goes d x w w v (changed side v m ms)) (sym same) (goes_fair w d)
+    goes_either w d s (inr other) = goes_beside w s other d
 
     tickets_fair : Tickets side v (changed side v m ms)
     tickets_fair key x y before =
@@ -623,9 +626,20 @@ module _ {T W : Type 0} where
 
     changes : (w : ℕ) (shut : Bool) (views : List (View T W)) (id : ℕ) → get_elem? views id ≡ some v → (slot : home.Option (Option T)) → Kept w shut slot views → Kept w shut slot (set views id (changed side v m ms))
     changes w shut views id at slot k =
-        turned w w shut shut views id v (changed side v m ms) at slot slot refl (λ s. keeps_lists s (which W side s)) (λ a o z i. i) (λ d s. goes_either w shut d s (which W side s)) (λ s. tickets_either s (which W side s))
+        turned w w shut shut views id v (changed side v m ms) at slot slot refl (λ s. keeps_lists s (which W side s)) (λ a o z i. i) (λ d s. goes_either (at_word w shut) d s (which W side s)) (λ s. tickets_either s (which W side s))
         (same_logs W (put_else views id) (took_else views id) slot slot v (changed side v m ms) (λ n f. refl) refl refl)
         (order_stays views id v (changed side v m ms) at slot slot refl (λ h i a. a) (λ x e. e)) (sights_stay w w shut v (changed side v m ms) (λ f. refl) (λ z. z.1)) k
+
+    changes_law : (p : Picture) (views : List (View T W)) (id : ℕ) → get_elem? views id ≡ some v → Law p views → Law p (set views id (changed side v m ms))
+    changes_law p views id at k =
+        law_turned p p views id v (changed side v m ms) at refl (λ s. keeps_lists s (which W side s)) (λ d s. goes_either p d s (which W side s)) (λ s. tickets_either s (which W side s)) (λ j z. z) k
+
+    changes_beside : (views : List (View T W)) (id : ℕ) → get_elem? views id ≡ some v → Beside views (set views id (changed side v m ms))
+    changes_beside views id at = record {
+      one = λ base shut slot k. changes base shut views id at slot k;
+      law = λ p k. changes_law p views id at k;
+      seats = λ cap r k. seats_set cap r views id v (changed side v m ms) at (λ d. refl) (λ a. a) k;
+    }
 
   carries_changed : (k : Kind) (v : View T W) (side : Side) (m : Line) (ms : List (Listener W)) → Carries k v (changed side v m ms)
   carries_changed k v side m ms =
@@ -634,5 +648,17 @@ module _ {T W : Type 0} where
 
   pub aims : (slots id : ℕ) (me : Known T W) (side : Side) (m : Line) (ms : List (Listener W)) → 0 < me.0.parts → (roll side me.0.rolls).here ≡ 1 → Fair (of side me.0.calls) (roll side me.0.rolls).listeners m ms
       → Allows {S = Option T} Woken slots id me 0 (λ n. n) (λ n k. k ≡ (changed side me.0 m ms, me.1))
-  aims slots id me side m ms some_part here fair =
-      by_rule (λ n. n) (λ n k. k ≡ (changed side me.0 m ms, me.1)) slots id me (λ base shut slot views k at. (changed side me.0 m ms, keeps, slot, base, shut, tt, refl, refl, changes side me.0 m ms some_part here fair base shut views id at slot k, (λ j. carries_changed j me.0 side m ms), refl))
+  aims slots id me side m ms some_part here fair s h wide at small = (
+    changed side me.0 m ms,
+    keeps,
+    tt,
+    subst (λ (ws : List ℕ). Woken (record { words = ws; homes = s.homes; views = set s.views id (changed side me.0 m ms) })) (sym (word_again s.words 0)) (record {
+      senders = h.senders;
+      receivers = h.receivers;
+      counts = h.counts;
+      shown = shown_so s.words s.homes s.views (set s.views id (changed side me.0 m ms)) (changes_beside side me.0 m ms some_part here fair s.views id at) h.shown;
+      of_senders = counted_kept h.senders OfSenders s.views id me.0 (changed side me.0 m ms) at (carries_changed OfSenders me.0 side m ms) h.of_senders;
+      of_receivers = counted_kept h.receivers OfReceivers s.views id me.0 (changed side me.0 m ms) at (carries_changed OfReceivers me.0 side m ms) h.of_receivers;
+    }),
+    refl,
+  )

@@ -13,11 +13,11 @@ use Rattle.channel_wakeups.specs.declared.rule.Roll.{Roll}
 use Rattle.channel_wakeups.specs.declared.rule.Rolls.{Rolls}
 use Rattle.channel_wakeups.specs.declared.rule.View.{View}
 use Rattle.channel_wakeups.specs.Lists.{total, told, waits, listed}
-use Rattle.channel_wakeups.specs.Views.{Picture, at_word, Law, one_slot, Side, of_receives, of_sends, of_streams, of_closings, Duty, to_one, to_all, of, roll, idle, idle_lines, no_roll, no_rolls, with_roll, calling, ticketed, nobody, pass, everything, entered, stays, comes_out, without, alone, absorbed, kept_half, given_half, one_ticket, ticket_is, no_ticket, ticket_of, with_ticket, only, is_key, parts_of, here_of, answered_of, holds_of, sights_of, locks_of, owns_of, waits_of, listed_of, tickets_of, puts_of, takes_of, word_of, messages, has_message, is_shut, due, wanted, Owed, IsSlot, empty, full, out, AllAgree, Ordered, Kept, Counted, handed, count_of, handles_of, closes_of, Woken, Known, HasAll, learns}
+use Rattle.channel_wakeups.specs.Views.{in_hand, Picture, at_word, Law, one_slot, Knowing, AllKnow, owes_of, Side, of_receives, of_sends, of_streams, of_closings, Duty, to_one, to_all, of, roll, idle, idle_lines, no_roll, no_rolls, with_roll, calling, ticketed, nobody, pass, everything, entered, stays, comes_out, without, alone, absorbed, kept_half, given_half, one_ticket, ticket_is, no_ticket, ticket_of, with_ticket, only, is_key, parts_of, here_of, answered_of, holds_of, sights_of, locks_of, owns_of, waits_of, listed_of, tickets_of, puts_of, takes_of, word_of, messages, has_message, is_shut, due, wanted, Owed, IsSlot, empty, full, out, AllAgree, Ordered, Kept, Counted, handed, count_of, handles_of, closes_of, Woken, Known, HasAll, learns}
 use Rattle.channel_wakeups.proofs.Sides.{of_with, roll_with, idle_ticket, none_there, which, Untouched}
 use Rattle.channel_wakeups.proofs.Sums.{at_nobody, balanced_by, closings_by, only_none, only_some, only_zero, owed_by, slot_by, none_here, none_both, none_waits, none_listed, none_tickets, none_answered, others, was, total_set, total_snoc, by_itself}
 use Rattle.channel_wakeups.specs.Counts.{one_hand, fewer_hands, lone_handle, coupled, uncoupled}
-use Rattle.channel_wakeups.specs.Log.{Weight, puts, takes, sights, each, each_sight, raised_of, lowered_of, last_of, gone_of, is_none, Leaves, Tallied, Agrees, IsHistory, Balanced, Accounts, Closings}
+use Rattle.channel_wakeups.specs.Log.{Weight, numbered, PutBefore, TookBefore, puts, takes, sights, each, each_sight, raised_of, lowered_of, last_of, gone_of, Leaves, Tallied, Agrees, IsHistory, Balanced, Accounts, Closings}
 use Rattle.channel_wakeups.specs.declared.rule.Sight.{Sight}
 use Rattle.channel_wakeups.proofs.Logs.{puts_append, takes_append, sights_append}
 use Rattle.channel_wakeups.proofs.Hands.{none_of, hands_with}
@@ -25,19 +25,26 @@ use Rattle.channel_wakeups.proofs.Laws.{of_handed}
 use Rattle.channel_wakeups.proofs.History.{agrees_append, agrees_at, agrees_beside, agrees_set, agrees_snoc}
 use Rattle.channel_wakeups.proofs.Laws.{no_empty}
 use Rattle.channel_wakeups.proofs.Moves.{by_all, unchanged}
-use Rattle.channel_wakeups.proofs.Words.{Beside, shown_so}
+use Rattle.channel_wakeups.proofs.Rings.{know_at, know_beside, know_set, know_snoc, seats_so}
+use Rattle.channel_wakeups.proofs.Beside.{Beside, shown_so}
+use Rattle.concurrent_queue.specs.machine.RingCalls as ring
+use Rattle.concurrent_queue.specs.machine.RingState.{Ring}
+use Rattle.channel_wakeups.specs.declared.rule.Turn.TheVariants.{Rest}
+use Rattle.channel_wakeups.specs.Turns.{owed_by_turn}
 use Rattle.channel_wakeups.specs.declared.rule.Transfer.{Transfer}
 
 -- all that is counted of a side
 data LineSum : Type 0 where
   lists : LineSum
   answering : Duty → LineSum
-  waiting holding tickets in_list : ℕ → LineSum
+  holding : Duty → ℕ → LineSum
+  waiting tickets in_list : ℕ → LineSum
 
 -- all that is counted
 data Sum (T : Type 0) : Type 0 where
   parts locks owns closing : Sum T
   handing : Kind → Sum T
+  going : ℕ → ring.Duty → Sum T
   putting taking : Weight T → Sum T
   seeing : (Sight → ℕ) → Sum T
   on : Side → LineSum → Sum T
@@ -48,7 +55,7 @@ module _ {W : Type 0} where
   line_sum (answering to_one) p l r = only r.here (told r.listeners) + only p l.answers
   line_sum (answering to_all) p l r = only p l.tells
   line_sum (waiting key) p l r = only r.here (waits key r.listeners)
-  line_sum (holding key) p l r = only p (is_key key l.holds)
+  line_sum (holding d key) p l r = only p (is_key key (in_hand d l))
   line_sum (tickets key) p l r = is_key key l.ticket
   line_sum (in_list key) p l r = only r.here (listed key r.listeners)
 
@@ -59,10 +66,19 @@ module _ {T W : Type 0} where
   sum_of owns v = owns_of v
   sum_of closing v = closes_of v
   sum_of (handing k) v = handles_of k v
+  sum_of (going cap d) v = owes_of cap d v
   sum_of (putting f) v = puts_of f v
   sum_of (taking f) v = takes_of f v
   sum_of (seeing f) v = sights_of f v
   sum_of (on s x) v = line_sum x v.parts (of s v.calls) (roll s v.rolls)
+
+-- a call at rest has nothing to do before others can go on
+none_owed : (cap : ℕ) (d : ring.Duty) → owed_by_turn cap d Rest ≡ 0
+none_owed cap (ring.hold i) = refl
+none_owed cap ring.bring = refl
+
+only_by : (p : ℕ) {n : ℕ} → n ≡ 0 → only p n ≡ 0
+only_by p e = ap (only p) e ∙ only_zero p
 
 -- an idle line without a list counts for nothing
 idle_line : (W : Type 0) (x : LineSum) (p : ℕ) → line_sum {W = W} x p idle no_roll ≡ 0
@@ -70,7 +86,8 @@ idle_line W lists p = refl
 idle_line W (answering to_one) p = let z = only_zero p in omega arith
 idle_line W (answering to_all) p = only_zero p
 idle_line W (waiting key) p = refl
-idle_line W (holding key) p = only_zero p
+idle_line W (holding to_one key) p = only_zero p
+idle_line W (holding to_all key) p = only_zero p
 idle_line W (tickets key) p = refl
 idle_line W (in_list key) p = refl
 
@@ -84,6 +101,7 @@ nothing T W locks = refl
 nothing T W owns = refl
 nothing T W closing = refl
 nothing T W (handing k) = none_of k
+nothing T W (going cap d) = refl
 nothing T W (putting f) = refl
 nothing T W (taking f) = refl
 nothing T W (seeing f) = refl
@@ -98,8 +116,8 @@ module _ {T W : Type 0} where
         one = λ side. each (on side lists) ∙ k.one side;
         owed = λ d side key some_waiting.
             let x : total (waits_of side key) ws ≡ total (waits_of side key) vs = each (on side (waiting key)) in
-            let h : total (holds_of side key) vs ≡ total (holds_of side key) ws = sym (each (on side (holding key))) in
-            owed_by (wanted d side p) (total (answered_of d side) vs) (total (holds_of side key) vs) (total (answered_of d side) ws) (total (holds_of side key) ws) (as_many d side) h (k.owed d side key (omega arith));
+            let h : total (holds_of d side key) vs ≡ total (holds_of d side key) ws = sym (each (on side (holding d key))) in
+            owed_by (wanted d side p) (total (answered_of d side) vs) (total (holds_of d side key) vs) (total (answered_of d side) ws) (total (holds_of d side key) ws) (as_many d side) h (k.owed d side key (omega arith));
         tickets = λ side key.
             let x : total (tickets_of side key) ws ≡ total (tickets_of side key) vs = each (on side (tickets key)) in
             let y : total (listed_of side key) ws ≡ total (listed_of side key) vs = each (on side (in_list key)) in
@@ -128,8 +146,12 @@ module _ {T W : Type 0} where
           (h, (counted ∙ n, λ x e. subst (λ (m : ℕ). get_elem? h (m - 1) ≡ some x) n (last x e)), agree h agrees)
 
   -- so the seats may stand so instead
-  same_beside : (vs ws : List (View T W)) → ((k : Sum T) → total (sum_of k) ws ≡ total (sum_of k) vs) → ((h : List T) → AllAgree h vs → AllAgree h ws) → Beside vs ws
-  same_beside vs ws each agree = record { one = λ base shut slot kept. same base shut slot vs ws each agree kept }
+  same_beside : (vs ws : List (View T W)) → ((k : Sum T) → total (sum_of k) ws ≡ total (sum_of k) vs) → ((h : List T) → AllAgree h vs → AllAgree h ws) → ((cap : ℕ) (r : Ring (Unit {0})) → AllKnow cap r vs → AllKnow cap r ws) → Beside vs ws
+  same_beside vs ws each agree know = record {
+    one = λ base shut slot kept. same base shut slot vs ws each agree kept;
+    law = λ p kept. same_law p vs ws each kept;
+    seats = λ cap r kept. seats_so cap r vs ws (λ d. each (going cap d)) (know cap r) kept;
+  }
 
   -- and so do the counts
   same_counts : (n : ℕ) (k : Kind) (vs ws : List (View T W)) → ((s : Sum T) → total (sum_of s) ws ≡ total (sum_of s) vs) → Counted n k vs → Counted n k ws
@@ -154,30 +176,34 @@ module _ {T W : Type 0} where
 
   -- the whole rule
   same_rule : (words : List ℕ) (homes : List (home.Option (Option T))) (vs ws : List (View T W)) → ((k : Sum T) → total (sum_of k) ws ≡ total (sum_of k) vs) → ((h : List T) → AllAgree h vs → AllAgree h ws)
-      → Woken (record { words = words; homes = homes; views = vs }) → Woken (record { words = words; homes = homes; views = ws })
-  same_rule words homes vs ws each agree h =
+      → ((cap : ℕ) (r : Ring (Unit {0})) → AllKnow cap r vs → AllKnow cap r ws) → Woken (record { words = words; homes = homes; views = vs }) → Woken (record { words = words; homes = homes; views = ws })
+  same_rule words homes vs ws each agree know h =
       record {
         senders = h.senders;
         receivers = h.receivers;
         counts = h.counts;
-        shown = shown_so words homes vs ws (same_beside vs ws each agree) h.shown;
+        shown = shown_so words homes vs ws (same_beside vs ws each agree know) h.shown;
         of_senders = same_counts h.senders OfSenders vs ws each h.of_senders;
         of_receivers = same_counts h.receivers OfReceivers vs ws each h.of_receivers;
       }
 
-  joins : (id : ℕ) (v : View T W) (other : ℕ) (w both : View T W) → ((k : Sum T) → sum_of k both ≡ sum_of k v + sum_of k w) → ((h : List T) → Agrees h v.log → Agrees h w.log → Agrees h both.log) → Joins {S = Option T} Woken id v other w both nobody
-  joins id v other w both adds merges s h at apart there =
+  joins : (id : ℕ) (v : View T W) (other : ℕ) (w both : View T W) → ((k : Sum T) → sum_of k both ≡ sum_of k v + sum_of k w) → ((h : List T) → Agrees h v.log → Agrees h w.log → Agrees h both.log)
+      → ((cap : ℕ) (r : Ring (Unit {0})) → Knowing cap r v → Knowing cap r w → Knowing cap r both) → Joins {S = Option T} Woken id v other w both nobody
+  joins id v other w both adds merges knows s h at apart there =
       let e : (k : Sum T) → total (sum_of k) (set (set s.views id both) other nobody) ≡ total (sum_of k) s.views = (λ k.
       let z = nothing T W k in
       let a = adds k in
       omega (arith, total_set (sum_of k) s.views id v both at, total_set (sum_of k) (set s.views id both) other w nobody there)) in
       same_rule s.words s.homes s.views (set (set s.views id both) other nobody) e
-      (λ g a. agrees_set g (set s.views id both) other nobody tt (agrees_set g s.views id both (merges g (agrees_at g s.views id v at a) (agrees_beside g s.views id other both w apart there a)) a)) h
+      (λ g a. agrees_set g (set s.views id both) other nobody tt (agrees_set g s.views id both (merges g (agrees_at g s.views id v at a) (agrees_beside g s.views id other both w apart there a)) a))
+      (λ cap r a. know_set cap r (set s.views id both) other nobody (λ none. absurd (omega arith)) (know_set cap r s.views id both (knows cap r (know_at cap r s.views id v at a) (know_beside cap r s.views id other both w apart there a)) a)) h
 
-  splits : (id : ℕ) (v l r : View T W) → ((k : Sum T) → sum_of k l + sum_of k r ≡ sum_of k v) → ((h : List T) → Agrees h v.log → Agrees h l.log × Agrees h r.log) → Splits {S = Option T} Woken id v l r
-  splits id v l r adds parts_of_log s h at =
+  splits : (id : ℕ) (v l r : View T W) → ((k : Sum T) → sum_of k l + sum_of k r ≡ sum_of k v) → ((h : List T) → Agrees h v.log → Agrees h l.log × Agrees h r.log)
+      → ((cap : ℕ) (o : Ring (Unit {0})) → Knowing cap o v → Knowing cap o l × Knowing cap o r) → Splits {S = Option T} Woken id v l r
+  splits id v l r adds parts_of_log knows s h at =
       let e : (k : Sum T) → total (sum_of k) (set s.views id l ++ r ∷ []) ≡ total (sum_of k) s.views = (λ k. let a = adds k in omega (arith, total_set (sum_of k) s.views id v l at, total_snoc (sum_of k) (set s.views id l) r)) in
-      same_rule s.words s.homes s.views (set s.views id l ++ r ∷ []) e (λ g a. let b = parts_of_log g (agrees_at g s.views id v at a) in agrees_snoc g (set s.views id l) r b.1 (agrees_set g s.views id l b.0 a)) h
+      same_rule s.words s.homes s.views (set s.views id l ++ r ∷ []) e (λ g a. let b = parts_of_log g (agrees_at g s.views id v at a) in agrees_snoc g (set s.views id l) r b.1 (agrees_set g s.views id l b.0 a))
+      (λ cap o a. let b = knows cap o (know_at cap o s.views id v at a) in know_snoc cap o (set s.views id l) r b.1 (know_set cap o s.views id l b.0 a)) h
 
 -- ---- a pass goes into a list's seat, and comes out of it
 
@@ -187,13 +213,13 @@ module _ {W : Type 0} where
   enters_line (answering to_one) n p l m r q no_part untied no_list = let y = only_none q.here (told q.listeners) no_list in let z = only_none n l.answers no_part in omega arith
   enters_line (answering to_all) n p l m r q no_part untied no_list = let z = only_none n l.tells no_part in omega arith
   enters_line (waiting key) n p l m r q no_part untied no_list = let z = only_none q.here (waits key q.listeners) no_list in omega arith
-  enters_line (holding key) n p l m r q no_part untied no_list = let z = only_none n (is_key key l.holds) no_part in omega arith
+  enters_line (holding d key) n p l m r q no_part untied no_list = let z = only_none n (is_key key (in_hand d l)) no_part in omega arith
   enters_line (tickets key) n p l m r q no_part untied no_list = let z : is_key key l.ticket ≡ 0 = ap (is_key key) untied in omega arith
   enters_line (in_list key) n p l m r q no_part untied no_list = let z = only_none q.here (listed key q.listeners) no_list in omega arith
 
 module _ {T W : Type 0} where
   pub enters : (id : ℕ) (v : View T W) (port : ℕ) (w : View T W) → v.parts ≡ 0 → v.calls ≡ idle_lines → w.rolls ≡ no_rolls → Joins {S = Option T} Woken id v port w (entered v w) nobody
-  enters id v port w no_part no_call no_list = joins id v port w (entered v w) adds (λ g x y. y)
+  enters id v port w no_part no_call no_list = joins id v port w (entered v w) adds (λ g x y. y) (λ cap r x y. y)
     where
       adds : (k : Sum T) → sum_of k (entered v w) ≡ sum_of k v + sum_of k w
       adds parts = omega arith
@@ -201,6 +227,7 @@ module _ {T W : Type 0} where
       adds owns = let z = only_none v.parts v.owns no_part in omega arith
       adds closing = let z = only_none v.parts v.calls.hands.closes no_part in omega arith
       adds (handing k) = let z : count_of k v.calls.hands ≡ 0 = (λ j. count_of k (no_call j).hands) ∙ none_of k in omega arith
+      adds (going cap d) = let z = only_none v.parts (owed_by_turn cap d v.turn) no_part in omega arith
       adds (putting f) = let z = only_none v.parts (puts f v.log) no_part in omega arith
       adds (taking f) = let z = only_none v.parts (takes f v.log) no_part in omega arith
       adds (seeing f) = let z = only_none v.parts (sights f v.log) no_part in omega arith
@@ -212,13 +239,14 @@ module _ {W : Type 0} where
   leaves_line (answering to_one) p l r = omega arith
   leaves_line (answering to_all) p l r = omega arith
   leaves_line (waiting key) p l r = omega arith
-  leaves_line (holding key) p l r = omega arith
+  leaves_line (holding to_one key) p l r = omega arith
+  leaves_line (holding to_all key) p l r = omega arith
   leaves_line (tickets key) p l r = omega arith
   leaves_line (in_list key) p l r = omega arith
 
 module _ {T W : Type 0} where
   pub leaves : (id : ℕ) (v : View T W) → Splits {S = Option T} Woken id v (stays v) (comes_out v)
-  leaves id v = splits id v (stays v) (comes_out v) adds (λ g b. (tt, b))
+  leaves id v = splits id v (stays v) (comes_out v) adds (λ g b. (tt, b)) (λ cap r b. ((λ none. absurd (omega arith)), b))
     where
       adds : (k : Sum T) → sum_of k (stays v) + sum_of k (comes_out v) ≡ sum_of k v
       adds parts = omega arith
@@ -226,6 +254,7 @@ module _ {T W : Type 0} where
       adds owns = omega arith
       adds closing = omega arith
       adds (handing k) = let z = none_of k in omega arith
+      adds (going cap d) = omega arith
       adds (putting f) = omega arith
       adds (taking f) = omega arith
       adds (seeing f) = omega arith
@@ -239,10 +268,17 @@ module _ {W : Type 0} where
   line_by : (x : LineSum) (p : ℕ) (l m : Line) (r q : Roll W) → l ≡ m → r ≡ q → line_sum x p l r ≡ line_sum x p m q
   line_by x p l m r q e d = λ k. line_sum x p (e k) (d k)
 
+module _ {T : Type 0} where
+  put_both : (k : ℕ) (lg mg : List (Transfer T)) → PutBefore k lg → PutBefore k mg → PutBefore k (lg ++ mg)
+  put_both k lg mg a b j more = let e = puts_append (numbered j) lg mg in let x = a j more in let y = b j more in omega arith
+
+  took_both : (k : ℕ) (lg mg : List (Transfer T)) → TookBefore k lg → TookBefore k mg → TookBefore k (lg ++ mg)
+  took_both k lg mg a b j more = let e = takes_append (numbered j) lg mg in let x = a j more in let y = b j more in omega arith
+
 module _ {T W : Type 0} where
   -- a seat of lists gives one of them away
   pub divides : (side : Side) (id : ℕ) (v : View T W) → v.parts ≡ 0 → v.calls ≡ idle_lines → Splits {S = Option T} Woken id v (without side v) (alone side v)
-  divides side id v no_part no_call = splits id v (without side v) (alone side v) adds (λ g b. (tt, tt))
+  divides side id v no_part no_call = splits id v (without side v) (alone side v) adds (λ g b. (tt, tt)) (λ cap r b. ((λ none. absurd (omega arith)), (λ none. absurd (omega arith))))
     where
       -- the line of a seat without a call
       idle_there : (s : Side) (x : LineSum) (r : Roll W) → line_sum {W = W} x v.parts (of s v.calls) r ≡ line_sum {W = W} x 0 (of s idle_lines) r
@@ -268,6 +304,7 @@ module _ {T W : Type 0} where
       adds owns = let z = only_none v.parts v.owns no_part in omega arith
       adds closing = let z = only_none v.parts v.calls.hands.closes no_part in omega arith
       adds (handing k) = let y = none_of k in let z : count_of k v.calls.hands ≡ 0 = (λ j. count_of k (no_call j).hands) ∙ none_of k in omega arith
+      adds (going cap d) = let z = only_none v.parts (owed_by_turn cap d v.turn) no_part in omega arith
       adds (putting f) = let z = only_none v.parts (puts f v.log) no_part in omega arith
       adds (taking f) = let z = only_none v.parts (takes f v.log) no_part in omega arith
       adds (seeing f) = let z = only_none v.parts (sights f v.log) no_part in omega arith
@@ -280,6 +317,7 @@ module _ {T W : Type 0} where
 
   pub absorbs : (id p port q : ℕ) (lg mg : List (Transfer T)) → 0 < p → 0 < q → Joins {S = Option T} Woken id (idle_pass p lg) port (idle_pass q mg) (absorbed (idle_pass p lg) (idle_pass q mg)) nobody
   absorbs id p port q lg mg sp sq = joins id (idle_pass p lg) port (idle_pass q mg) (absorbed (idle_pass p lg) (idle_pass q mg)) adds (λ g b c. agrees_append g lg mg b c)
+      (λ cap r b c some_part. let x = b sp in let y = c sq in ((true, refl), put_both r.tail lg mg x.1 y.1, took_both r.head lg mg x.2 y.2))
     where
       adds : (k : Sum T) → sum_of k (absorbed (idle_pass p lg) (idle_pass q mg)) ≡ sum_of k (idle_pass p lg) + sum_of k (idle_pass q mg)
       adds parts = refl
@@ -287,13 +325,14 @@ module _ {T W : Type 0} where
       adds owns = omega (arith, only_zero (p + q), only_zero p, only_zero q)
       adds closing = omega (arith, only_zero (p + q), only_zero p, only_zero q)
       adds (handing k) = let z = none_of k in omega arith
+      adds (going cap d) = let o = none_owed cap d in omega (arith, only_by (p + q) o, only_by p o, only_by q o)
       adds (putting f) = omega (arith, puts_append f lg mg, only_some (p + q) (puts f (lg ++ mg)) (omega arith), only_some p (puts f lg) sp, only_some q (puts f mg) sq)
       adds (taking f) = omega (arith, takes_append f lg mg, only_some (p + q) (takes f (lg ++ mg)) (omega arith), only_some p (takes f lg) sp, only_some q (takes f mg) sq)
       adds (seeing f) = omega (arith, sights_append f lg mg, only_some (p + q) (sights f (lg ++ mg)) (omega arith), only_some p (sights f lg) sp, only_some q (sights f mg) sq)
       adds (on s x) = omega (arith, nowhere W s x (p + q), nowhere W s x p, nowhere W s x q)
 
   pub shares : (id p : ℕ) (lg : List (Transfer T)) → 1 < p → Splits {S = Option T} Woken id (idle_pass p lg) (kept_half (idle_pass p lg)) (given_half (idle_pass p lg))
-  shares id p lg more = splits id (idle_pass p lg) (kept_half (idle_pass p lg)) (given_half (idle_pass p lg)) adds (λ g b. (b, tt))
+  shares id p lg more = splits id (idle_pass p lg) (kept_half (idle_pass p lg)) (given_half (idle_pass p lg)) adds (λ g b. (b, tt)) (λ cap r b. let x = b (omega arith) in ((λ some_part. x), (λ some_part. ((true, refl), (λ j m. refl), (λ j m. refl)))))
     where
       adds : (k : Sum T) → sum_of k (kept_half (idle_pass p lg)) + sum_of k (given_half (idle_pass p lg)) ≡ sum_of k (idle_pass p lg)
       adds parts = omega arith
@@ -301,6 +340,7 @@ module _ {T W : Type 0} where
       adds owns = omega (arith, only_zero (p - p / 2), only_zero (p / 2), only_zero p)
       adds closing = omega (arith, only_zero (p - p / 2), only_zero (p / 2), only_zero p)
       adds (handing k) = let z = none_of k in omega arith
+      adds (going cap d) = let o = none_owed cap d in omega (arith, only_by (p - p / 2) o, only_by (p / 2) o, only_by p o)
       adds (putting f) = omega (arith, only_some (p - p / 2) (puts f lg) (omega arith), only_zero (p / 2), only_some p (puts f lg) (omega arith))
       adds (taking f) = omega (arith, only_some (p - p / 2) (takes f lg) (omega arith), only_zero (p / 2), only_some p (takes f lg) (omega arith))
       adds (seeing f) = omega (arith, only_some (p - p / 2) (sights f lg) (omega arith), only_zero (p / 2), only_some p (sights f lg) (omega arith))
@@ -315,7 +355,7 @@ module _ {W : Type 0} where
   any_parts (answering to_one) p q l r sp sq = let a = only_some p l.answers sp in let b = only_some q l.answers sq in omega arith
   any_parts (answering to_all) p q l r sp sq = only_some p l.tells sp ∙ sym (only_some q l.tells sq)
   any_parts (waiting key) p q l r sp sq = refl
-  any_parts (holding key) p q l r sp sq = only_some p (is_key key l.holds) sp ∙ sym (only_some q (is_key key l.holds) sq)
+  any_parts (holding d key) p q l r sp sq = only_some p (is_key key (in_hand d l)) sp ∙ sym (only_some q (is_key key (in_hand d l)) sq)
   any_parts (tickets key) p q l r sp sq = refl
   any_parts (in_list key) p q l r sp sq = refl
 
@@ -325,7 +365,8 @@ module _ {W : Type 0} where
   ticket_line (answering to_one) p t l r = omega arith
   ticket_line (answering to_all) p t l r = omega arith
   ticket_line (waiting key) p t l r = omega arith
-  ticket_line (holding key) p t l r = omega arith
+  ticket_line (holding to_one key) p t l r = omega arith
+  ticket_line (holding to_all key) p t l r = omega arith
   ticket_line (tickets key) p t l r = omega arith
   ticket_line (in_list key) p t l r = omega arith
 
@@ -369,6 +410,7 @@ module _ {T W : Type 0} where
         let b : handles_of k (one_ticket {T = T} {W = W} side t) ≡ 0 = (λ j. count_of k (hands_with side (calling 0 0 t) idle_lines j)) ∙ none_of k in
         let c : handles_of k (ticket_is side q t v) ≡ count_of k v.calls.hands = (λ j. count_of k (hands_with side (ticketed t (of side v.calls)) v.calls j)) in
         omega arith
+    ticket_adds e (going cap d) = omega (arith, only_some p (owed_by_turn cap d v.turn) some_part, only_some q (owed_by_turn cap d v.turn) more, none_owed cap d)
     ticket_adds e (putting f) = omega (arith, only_some p (puts f v.log) some_part, only_some q (puts f v.log) more)
     ticket_adds e (taking f) = omega (arith, only_some p (takes f v.log) some_part, only_some q (takes f v.log) more)
     ticket_adds e (seeing f) = omega (arith, only_some p (sights f v.log) some_part, only_some q (sights f v.log) more)
@@ -383,11 +425,11 @@ module _ {T W : Type 0} where
 
   pub gives_ticket : (s : Side) (id : ℕ) (v : View T W) → 1 < v.parts → Splits {S = Option T} Woken id v (no_ticket s v) (ticket_of s v)
   gives_ticket s id v more =
-      splits id v (no_ticket s v) (ticket_of s v) (λ k. ticket_adds s v (v.parts - 1) v.parts (of s v.calls).ticket (omega arith) (omega arith) (omega arith) k ∙ ap (λ (u : View T W). sum_of k u) (as_it_is s v)) (λ g b. (b, tt))
+      splits id v (no_ticket s v) (ticket_of s v) (λ k. ticket_adds s v (v.parts - 1) v.parts (of s v.calls).ticket (omega arith) (omega arith) (omega arith) k ∙ ap (λ (u : View T W). sum_of k u) (as_it_is s v)) (λ g b. (b, tt)) (λ cap r b. let x = b (omega arith) in ((λ some_part. x), (λ some_part. ((true, refl), (λ j m. refl), (λ j m. refl)))))
 
   pub takes_ticket : (s : Side) (id : ℕ) (v : View T W) (port t : ℕ) → 0 < v.parts → (of s v.calls).ticket ≡ 0 → Joins {S = Option T} Woken id v port (one_ticket s t) (with_ticket s v (one_ticket s t)) nobody
   takes_ticket s id v port t some_part untied =
-      joins id v port (one_ticket s t) (with_ticket s v (one_ticket s t)) adds (λ g b c. b)
+      joins id v port (one_ticket s t) (with_ticket s v (one_ticket s t)) adds (λ g b c. b) (λ cap r b c some_parts. b some_part)
     where
       adds : (k : Sum T) → sum_of k (with_ticket s v (one_ticket s t)) ≡ sum_of k v + sum_of {W = W} k (one_ticket s t)
       adds k =
@@ -418,7 +460,7 @@ module _ {W : Type 0} where
 
 module _ {T W : Type 0} where
   pub uncouples : (k : Kind) (id : ℕ) (v : View T W) → 0 < count_of k v.calls.hands → Splits {S = Option T} Woken id v (uncoupled k v) (lone_handle k)
-  uncouples k id v positive = splits id v (uncoupled k v) (lone_handle k) adds (λ g b. (b, tt))
+  uncouples k id v positive = splits id v (uncoupled k v) (lone_handle k) adds (λ g b. (b, tt)) (λ cap r b. (b, (λ none. absurd (omega arith))))
     where
       adds : (x : Sum T) → sum_of x (uncoupled k v) + sum_of {W = W} x (lone_handle k) ≡ sum_of x v
       adds parts = omega arith
@@ -426,13 +468,14 @@ module _ {T W : Type 0} where
       adds owns = omega arith
       adds closing = let e : closes_of (uncoupled k v) ≡ closes_of v = (λ j. only v.parts (fewer_closes k v.calls.hands j)) in omega arith
       adds (handing j) = fewer_and_one k j v.calls.hands positive
+      adds (going cap d) = omega arith
       adds (putting f) = omega arith
       adds (taking f) = omega arith
       adds (seeing f) = omega arith
       adds (on s x) = line_and_none s x v.parts (fewer_hands k v.calls.hands) (one_hand k) v.calls v.rolls
 
   pub couples : (k : Kind) (id : ℕ) (v : View T W) (port : ℕ) → Joins {S = Option T} Woken id v port (lone_handle k) (coupled v (lone_handle k)) nobody
-  couples k id v port = joins id v port (lone_handle k) (coupled v (lone_handle k)) adds (λ g b c. b)
+  couples k id v port = joins id v port (lone_handle k) (coupled v (lone_handle k)) adds (λ g b c. b) (λ cap r b c. b)
     where
       adds : (x : Sum T) → sum_of x (coupled v (lone_handle k)) ≡ sum_of x v + sum_of {W = W} x (lone_handle k)
       adds parts = omega arith
@@ -441,6 +484,7 @@ module _ {T W : Type 0} where
       adds closing = omega arith
       adds (handing OfSenders) = refl
       adds (handing OfReceivers) = refl
+      adds (going cap d) = omega arith
       adds (putting f) = omega arith
       adds (taking f) = omega arith
       adds (seeing f) = omega arith
@@ -457,7 +501,7 @@ module _ {T W : Type 0} where
   pub blank : (slots : ℕ) → Enters {S = Option T} {V = View T W} Woken slots 0 (λ n w. w ≡ nobody)
   blank slots s h wide small =
       let e : (k : Sum T) → total (sum_of k) (s.views ++ nobody ∷ []) ≡ total (sum_of k) s.views = (λ k. let z = nothing T W k in omega (arith, total_snoc (sum_of k) s.views nobody)) in
-      (nobody, same_rule s.words s.homes s.views (s.views ++ nobody ∷ []) e (λ g a. agrees_snoc g s.views nobody tt a) h, refl)
+      (nobody, same_rule s.words s.homes s.views (s.views ++ nobody ∷ []) e (λ g a. agrees_snoc g s.views nobody tt a) (λ cap r a. know_snoc cap r s.views nobody (λ none. absurd (omega arith)) a) h, refl)
 
   -- the start: there is no message, and nobody waits
   pub begins : Woken {T = T} {W = W} (opening (0 ∷ (spare ++ 1 ∷ (spare ++ 1 ∷ []))) (None ∷ []) everything)
@@ -486,7 +530,7 @@ module _ {T W : Type 0} where
       none_waiting of_streams key = refl
       none_waiting of_closings key = refl
 
-      nobody_waits : (d : Duty) (s : Side) (key : ℕ) → Owed (wanted d s (at_word 0 false)) (total (waits_of s key) (everything {T = T} {W = W} ∷ [])) (total (answered_of d s) (everything {T = T} {W = W} ∷ [])) (total (holds_of s key) (everything {T = T} {W = W} ∷ []))
+      nobody_waits : (d : Duty) (s : Side) (key : ℕ) → Owed (wanted d s (at_word 0 false)) (total (waits_of s key) (everything {T = T} {W = W} ∷ [])) (total (answered_of d s) (everything {T = T} {W = W} ∷ [])) (total (holds_of d s key) (everything {T = T} {W = W} ∷ []))
       nobody_waits d s key some_waiting = let none_there = none_waiting s key in absurd (omega arith)
 
       no_tickets : (s : Side) (key : ℕ) → total (tickets_of s key) (everything {T = T} {W = W} ∷ []) ≤ total (listed_of s key) (everything {T = T} {W = W} ∷ [])
@@ -515,19 +559,23 @@ module _ {T W : Type 0} where
         let no_a = none_both (answered_of to_one s) (here_of s) parts_of (set vs id nobody)
         (λ x e d. let n = only_none (roll s x.rolls).here (told (roll s x.rolls).listeners) e in let m = only_none x.parts (of s x.calls).answers d in omega arith) z.2 no_others in
         let no_c = none_here (answered_of to_all s) parts_of (set vs id nobody) (λ x e. only_none x.parts (of s x.calls).tells e) no_others in
-        let no_h = none_here (holds_of s key) parts_of (set vs id nobody) (λ x e. only_none x.parts (is_key key (of s x.calls).holds) e) no_others in
+        let no_h = none_here (holds_of to_one s key) parts_of (set vs id nobody) (λ x e. only_none x.parts (is_key key (of s x.calls).holds) e) no_others in
+        let no_f = none_here (holds_of to_all s key) parts_of (set vs id nobody) (λ x e. only_none x.parts (is_key key (of s x.calls).fresh) e) no_others in
         let wv = only_some (roll s v.rolls).here (waits key (roll s v.rolls).listeners) (omega arith) in
         let tv = only_some (roll s v.rolls).here (told (roll s v.rolls).listeners) (omega arith) in
         let av = only_some v.parts (of s v.calls).answers (omega arith) in
         let cv = only_some v.parts (of s v.calls).tells (omega arith) in
         let hv = only_some v.parts (is_key key (of s v.calls).holds) (omega arith) in
-        let none_held : is_key key (of s v.calls).holds ≡ 0 = ap (is_key key) all.3 in
+        let fv = only_some v.parts (is_key key (of s v.calls).fresh) (omega arith) in
+        let none_held : is_key key (of s v.calls).holds ≡ 0 = ap (is_key key) all.3.0 in
+        let none_fresh : is_key key (of s v.calls).fresh ≡ 0 = ap (is_key key) all.3.1 in
         let ws = was (waits_of s key) (none_waits T W s key) vs id v at in
         let ts = was (answered_of to_one s) (none_answered T W to_one s) vs id v at in
         let cs = was (answered_of to_all s) (none_answered T W to_all s) vs id v at in
-        let hs = was (holds_of s key) refl vs id v at in (
-          ⊎_elim (λ (c : wanted to_one s p ≤ total (answered_of to_one s) vs). omega arith) (λ (c : 0 < total (holds_of s key) vs). absurd (omega arith)) (k.owed to_one s key (omega arith)),
-          ⊎_elim (λ (c : wanted to_all s p ≤ total (answered_of to_all s) vs). omega arith) (λ (c : 0 < total (holds_of s key) vs). absurd (omega arith)) (k.owed to_all s key (omega arith)),
+        let hs = was (holds_of to_one s key) refl vs id v at in
+        let fs = was (holds_of to_all s key) refl vs id v at in (
+          ⊎_elim (λ (c : wanted to_one s p ≤ total (answered_of to_one s) vs). omega arith) (λ (c : 0 < total (holds_of to_one s key) vs). absurd (omega arith)) (k.owed to_one s key (omega arith)),
+          ⊎_elim (λ (c : wanted to_all s p ≤ total (answered_of to_all s) vs). omega arith) (λ (c : 0 < total (holds_of to_all s key) vs). absurd (omega arith)) (k.owed to_all s key (omega arith)),
         )
 
     -- what all saw is what this one did
@@ -680,7 +728,7 @@ module _ {T W : Type 0} where
       tallied : Tallied shut v.log
       tallied = record { left = left_of }
 
-  pub learns_so : (s : Side) (slots id : ℕ) (me : Known T W) → Allows Woken slots id me 0 (λ n. n) (λ n m. learns s (step slots 0 0 0 none) me n m)
+  pub learns_so : (s : Side) (slots id : ℕ) (me : Known T W) → slots ≡ 1 → Allows Woken slots id me 0 (λ n. n) (λ n m. learns s (step slots 0 0 0 none) me n m)
   learns_so s slots id me =
       by_all (λ n. n) (λ n m. learns s (step slots 0 0 0 none) me n m) slots id me (λ base shut slot senders receivers views k cs cr at.
       unchanged (λ n m. learns s (step slots 0 0 0 none) me n m) (λ n. n) me id views base shut slot at refl (refl, λ all. learned s base shut slot views id me.0 k senders receivers cs cr at all) k)

@@ -38,7 +38,7 @@ module _ {W : Type 0} (ls ls' : List (Listener W)) where
       may_wait k some =
           let f = free k some in
           let w = fewer k in
-          ⊎_elim (λ (t : told ls ≤ told ls'). inr (omega arith, omega arith, omega arith, omega arith)) (λ (t : (j : ℕ) → waits j ls' ≡ 0). let z = t k in absurd (omega arith)) how
+          ⊎_elim (λ (t : told ls ≤ told ls'). inr (omega arith, omega arith, omega arith, omega arith, omega arith)) (λ (t : (j : ℕ) → waits j ls' ≡ 0). let z = t k in absurd (omega arith)) how
 
       may_ticket : (k : ℕ) → MayTicket (calling 0 h (key + 1)) ls idle ls' k
       may_ticket k = let o = off k in let i = is_key_of k key in omega arith

@@ -50,7 +50,7 @@ module _ {T W : Type 0} (table : TableId) where
   -- a call of sends that has nothing of the slot, in the words of clauses
   over : (p : ℕ) (l : Line) (log : List (Transfer T)) (c : SlotCells T W) → 0 < p → IsOver table p (only_on of_sends l) log c → IsAt c.stage c.seat.me → IsPass of_sends table c.seat p l idle_lines
   over p l log c some_part (i, g, e) at =
-      (i, (subst (λ (x : Stage). IsAt x c.seat.me) g at).2, ((λ k. (e k).parts), (λ k. (e k).owns), (λ k. of of_sends (e k).calls), (λ k. besides of_sends (e k).calls), (λ k. (e k).rolls), some_part))
+      (i, (subst (λ (x : Stage). IsAt x c.seat.me) g at).2, ((λ k. (e k).parts), ((λ k. (e k).owns), (λ k. (e k).turn)), (λ k. of of_sends (e k).calls), (λ k. besides of_sends (e k).calls), (λ k. (e k).rolls), some_part))
 
   logged : (p : ℕ) (l : Line) (log : List (Transfer T)) (c : SlotCells T W) → IsOver table p (only_on of_sends l) log c → c.seat.me.0.log ≡ log
   logged p l log c (i, g, e) = λ k. (e k).log

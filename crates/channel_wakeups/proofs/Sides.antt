@@ -45,7 +45,7 @@ takes_so s a h which = ⊎_elim (λ (e : s ≡ of_receives). subst (λ (x : Side
 
 -- a pass, from what clauses say of it
 pub view_of : {T W : Type 0} (s : Side) (v : View T W) (p : ℕ) (l : Line) (b : Lines) → Calls s p l b v → v ≡ pass p 0 (with_line s l b) no_rolls v.log
-view_of s v p l b (ep, eo, el, eb, er, some_part) = λ k. record { parts = ep k; owns = eo k; calls = (sym (rebuilt s v.calls) ∙ (λ j. with_line s (el j) (eb j))) k; rolls = er k; log = v.log }
+view_of s v p l b (ep, (eo, et), el, eb, er, some_part) = λ k. record { parts = ep k; owns = eo k; turn = et k; calls = (sym (rebuilt s v.calls) ∙ (λ j. with_line s (el j) (eb j))) k; rolls = er k; log = v.log }
 
 module _ (W : Type 0) where
   pub roll_with : (s : Side) (r : Roll W) (rs : Rolls W) → roll s (with_roll s r rs) ≡ r

@@ -24,68 +24,68 @@ module _ {T W : Type 0} where
   at_stage : (m : Known T W) (s g : Stage) → s ≡ g → IsAt s m → IsAt g m
   at_stage m s g e i = subst (λ (x : Stage). IsAt x m) e i
 
-  fills_free : (slots id : ℕ) (m : Known T W) → IsAt Free m → Allows Woken slots id m 0 (λ n. either (n == 0) 3 n) (fills (step slots 0 0 3 none) m)
-  fills_free slots id m (some_part, e, f) =
+  fills_free : (slots id : ℕ) (m : Known T W) → IsAt Free m → slots ≡ 1 → Allows Woken slots id m 0 (λ n. either (n == 0) 3 n) (fills (step slots 0 0 3 none) m)
+  fills_free slots id m (some_part, e, f) single =
       subst (λ (x : Known T W). Allows Woken slots id x 0 (λ n. either (n == 0) 3 n) (fills (step slots 0 0 3 none) x)) (sym (both m (having 0 m.0) [] e f))
-      (fills_so slots id m.0.parts m.0.calls m.0.rolls m.0.log some_part)
+      (fills_so slots id m.0.parts m.0.calls m.0.rolls m.0.log some_part single)
 
-  pub fills_from : (slots id : ℕ) (m : Known T W) (s : Stage) → s ≡ Free → IsAt s m → Allows Woken slots id m 0 (λ n. either (n == 0) 3 n) (fills (step slots 0 0 3 none) m)
+  pub fills_from : (slots id : ℕ) (m : Known T W) (s : Stage) → s ≡ Free → IsAt s m → slots ≡ 1 → Allows Woken slots id m 0 (λ n. either (n == 0) 3 n) (fills (step slots 0 0 3 none) m)
   fills_from slots id m s e i = fills_free slots id m (at_stage m s Free e i)
 
-  displaces_free : (slots id : ℕ) (m : Known T W) → IsAt Free m → Allows Woken slots id m 0 (λ n. either (n == 2) 3 n) (displaces (step slots 0 2 3 none) m)
-  displaces_free slots id m (some_part, e, f) =
+  displaces_free : (slots id : ℕ) (m : Known T W) → IsAt Free m → slots ≡ 1 → Allows Woken slots id m 0 (λ n. either (n == 2) 3 n) (displaces (step slots 0 2 3 none) m)
+  displaces_free slots id m (some_part, e, f) single =
       subst (λ (x : Known T W). Allows Woken slots id x 0 (λ n. either (n == 2) 3 n) (displaces (step slots 0 2 3 none) x)) (sym (both m (having 0 m.0) [] e f))
-      (displaces_so slots id m.0.parts m.0.calls m.0.rolls m.0.log some_part)
+      (displaces_so slots id m.0.parts m.0.calls m.0.rolls m.0.log some_part single)
 
-  pub displaces_from : (slots id : ℕ) (m : Known T W) (s : Stage) → s ≡ Free → IsAt s m → Allows Woken slots id m 0 (λ n. either (n == 2) 3 n) (displaces (step slots 0 2 3 none) m)
+  pub displaces_from : (slots id : ℕ) (m : Known T W) (s : Stage) → s ≡ Free → IsAt s m → slots ≡ 1 → Allows Woken slots id m 0 (λ n. either (n == 2) 3 n) (displaces (step slots 0 2 3 none) m)
   displaces_from slots id m s e i = displaces_free slots id m (at_stage m s Free e i)
 
-  wins_free : (slots id : ℕ) (m : Known T W) → IsAt Free m → Allows Woken slots id m 0 (λ n. either (n == 2) 1 n) (wins 2 (step slots 0 2 1 none) m)
-  wins_free slots id m (some_part, e, f) =
+  wins_free : (slots id : ℕ) (m : Known T W) → IsAt Free m → slots ≡ 1 → Allows Woken slots id m 0 (λ n. either (n == 2) 1 n) (wins 2 (step slots 0 2 1 none) m)
+  wins_free slots id m (some_part, e, f) single =
       subst (λ (x : Known T W). Allows Woken slots id x 0 (λ n. either (n == 2) 1 n) (wins 2 (step slots 0 2 1 none) x)) (sym (both m (having 0 m.0) [] e f))
-      (wins_so slots id m.0.parts m.0.calls m.0.rolls m.0.log some_part)
+      (wins_so slots id m.0.parts m.0.calls m.0.rolls m.0.log some_part single)
 
-  pub wins_from : (slots id : ℕ) (m : Known T W) (s : Stage) → s ≡ Free → IsAt s m → Allows Woken slots id m 0 (λ n. either (n == 2) 1 n) (wins 2 (step slots 0 2 1 none) m)
+  pub wins_from : (slots id : ℕ) (m : Known T W) (s : Stage) → s ≡ Free → IsAt s m → slots ≡ 1 → Allows Woken slots id m 0 (λ n. either (n == 2) 1 n) (wins 2 (step slots 0 2 1 none) m)
   wins_from slots id m s e i = wins_free slots id m (at_stage m s Free e i)
 
-  last_free : (slots id : ℕ) (m : Known T W) → IsAt Free m → Allows Woken slots id m 0 (λ n. either (n == 6) 5 n) (wins 6 (step slots 0 6 5 none) m)
-  last_free slots id m (some_part, e, f) =
+  last_free : (slots id : ℕ) (m : Known T W) → IsAt Free m → slots ≡ 1 → Allows Woken slots id m 0 (λ n. either (n == 6) 5 n) (wins 6 (step slots 0 6 5 none) m)
+  last_free slots id m (some_part, e, f) single =
       subst (λ (x : Known T W). Allows Woken slots id x 0 (λ n. either (n == 6) 5 n) (wins 6 (step slots 0 6 5 none) x)) (sym (both m (having 0 m.0) [] e f))
-      (last_so slots id m.0.parts m.0.calls m.0.rolls m.0.log some_part)
+      (last_so slots id m.0.parts m.0.calls m.0.rolls m.0.log some_part single)
 
-  pub last_from : (slots id : ℕ) (m : Known T W) (s : Stage) → s ≡ Free → IsAt s m → Allows Woken slots id m 0 (λ n. either (n == 6) 5 n) (wins 6 (step slots 0 6 5 none) m)
+  pub last_from : (slots id : ℕ) (m : Known T W) (s : Stage) → s ≡ Free → IsAt s m → slots ≡ 1 → Allows Woken slots id m 0 (λ n. either (n == 6) 5 n) (wins 6 (step slots 0 6 5 none) m)
   last_from slots id m s e i = last_free slots id m (at_stage m s Free e i)
 
-  shuts_free : (slots id : ℕ) (m : Known T W) → IsAt Free m → Allows Woken slots id m 0 (λ n. bit_or n 4) (shuts (step slots 0 4 0 none) m)
-  shuts_free slots id m (some_part, e, f) =
+  shuts_free : (slots id : ℕ) (m : Known T W) → IsAt Free m → slots ≡ 1 → Allows Woken slots id m 0 (λ n. bit_or n 4) (shuts (step slots 0 4 0 none) m)
+  shuts_free slots id m (some_part, e, f) single =
       subst (λ (x : Known T W). Allows Woken slots id x 0 (λ n. bit_or n 4) (shuts (step slots 0 4 0 none) x)) (sym (both m (having 0 m.0) [] e f))
-      (shuts_so slots id m.0.parts m.0.calls m.0.rolls m.0.log some_part)
+      (shuts_so slots id m.0.parts m.0.calls m.0.rolls m.0.log some_part single)
 
-  pub shuts_from : (slots id : ℕ) (m : Known T W) (s : Stage) → s ≡ Free → IsAt s m → Allows Woken slots id m 0 (λ n. bit_or n 4) (shuts (step slots 0 4 0 none) m)
+  pub shuts_from : (slots id : ℕ) (m : Known T W) (s : Stage) → s ≡ Free → IsAt s m → slots ≡ 1 → Allows Woken slots id m 0 (λ n. bit_or n 4) (shuts (step slots 0 4 0 none) m)
   shuts_from slots id m s e i = shuts_free slots id m (at_stage m s Free e i)
 
-  sees_free : (slots id : ℕ) (m : Known T W) → IsAt Free m → Allows Woken slots id m 0 (λ n. n) (sees (step slots 0 0 0 none) m)
-  sees_free slots id m (some_part, e, f) =
+  sees_free : (slots id : ℕ) (m : Known T W) → IsAt Free m → slots ≡ 1 → Allows Woken slots id m 0 (λ n. n) (sees (step slots 0 0 0 none) m)
+  sees_free slots id m (some_part, e, f) single =
       subst (λ (x : Known T W). Allows Woken slots id x 0 (λ n. n) (sees (step slots 0 0 0 none) x)) (sym (both m (having 0 m.0) [] e f))
-      (sees_so slots id m.0.parts m.0.calls m.0.rolls m.0.log some_part)
+      (sees_so slots id m.0.parts m.0.calls m.0.rolls m.0.log some_part single)
 
-  pub sees_from : (slots id : ℕ) (m : Known T W) (s : Stage) → s ≡ Free → IsAt s m → Allows Woken slots id m 0 (λ n. n) (sees (step slots 0 0 0 none) m)
+  pub sees_from : (slots id : ℕ) (m : Known T W) (s : Stage) → s ≡ Free → IsAt s m → slots ≡ 1 → Allows Woken slots id m 0 (λ n. n) (sees (step slots 0 0 0 none) m)
   sees_from slots id m s e i = sees_free slots id m (at_stage m s Free e i)
 
   abbrev MayUnlock : ℕ → ℕ → Known T W → Type 0
   MayUnlock slots id m = Allows Woken slots id m 0 (λ n. bit_and n 18446744073709551614) (unlocks (step slots 0 18446744073709551614 0 none) m)
 
-  unlocks_full : (slots id : ℕ) (m : Known T W) → IsAt Filled m → MayUnlock slots id m
-  unlocks_full slots id m (some_part, e, f) =
+  unlocks_full : (slots id : ℕ) (m : Known T W) → IsAt Filled m → slots ≡ 1 → MayUnlock slots id m
+  unlocks_full slots id m (some_part, e, f) single =
       let y = some_message m.1 f in
-      subst (MayUnlock slots id) (sym (both m (having 3 m.0) ((0, Some y.0) ∷ []) e y.1)) (unlocks_filled slots id m.0.parts m.0.calls m.0.rolls m.0.log y.0 some_part)
+      subst (MayUnlock slots id) (sym (both m (having 3 m.0) ((0, Some y.0) ∷ []) e y.1)) (unlocks_filled slots id m.0.parts m.0.calls m.0.rolls m.0.log y.0 some_part single)
 
-  unlocks_empty : (slots id : ℕ) (m : Known T W) → IsAt Emptied m → MayUnlock slots id m
-  unlocks_empty slots id m (some_part, e, f) =
-      subst (MayUnlock slots id) (sym (both m (having 1 m.0) ((0, None) ∷ []) e f)) (unlocks_emptied slots id m.0.parts m.0.calls m.0.rolls m.0.log some_part)
+  unlocks_empty : (slots id : ℕ) (m : Known T W) → IsAt Emptied m → slots ≡ 1 → MayUnlock slots id m
+  unlocks_empty slots id m (some_part, e, f) single =
+      subst (MayUnlock slots id) (sym (both m (having 1 m.0) ((0, None) ∷ []) e f)) (unlocks_emptied slots id m.0.parts m.0.calls m.0.rolls m.0.log some_part single)
 
-  pub unlocks_from : (slots id : ℕ) (m : Known T W) (s : Stage) → (s ≡ Filled) ⊎ (s ≡ Emptied) → IsAt s m → MayUnlock slots id m
-  unlocks_from slots id m s which i = ⊎_elim (λ (e : s ≡ Filled). unlocks_full slots id m (at_stage m s Filled e i)) (λ (e : s ≡ Emptied). unlocks_empty slots id m (at_stage m s Emptied e i)) which
+  pub unlocks_from : (slots id : ℕ) (m : Known T W) (s : Stage) → (s ≡ Filled) ⊎ (s ≡ Emptied) → IsAt s m → slots ≡ 1 → MayUnlock slots id m
+  unlocks_from slots id m s which i single = ⊎_elim (λ (e : s ≡ Filled). unlocks_full slots id m (at_stage m s Filled e i) single) (λ (e : s ≡ Emptied). unlocks_empty slots id m (at_stage m s Emptied e i) single) which
 
   -- a call that won a message has the slot at hand, whether it takes it or puts its own there
   abbrev HasSlot : Known T W → Type 0

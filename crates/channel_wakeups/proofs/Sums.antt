@@ -113,8 +113,8 @@ module _ {T W : Type 0} where
   -- whatever the others count for, the law of a side goes from v to u
   abbrev pub Goes : Duty → Side → Picture → Picture → View T W → View T W → Type 0
   Goes d s w x v u =
-      (key b g h : ℕ) → (here_of s v ≡ 1 → b ≡ 0) → Owed (wanted d s w) (b + waits_of s key v) (g + answered_of d s v) (h + holds_of s key v)
-      → Owed (wanted d s x) (b + waits_of s key u) (g + answered_of d s u) (h + holds_of s key u)
+      (key b g h : ℕ) → (here_of s v ≡ 1 → b ≡ 0) → Owed (wanted d s w) (b + waits_of s key v) (g + answered_of d s v) (h + holds_of d s key v)
+      → Owed (wanted d s x) (b + waits_of s key u) (g + answered_of d s u) (h + holds_of d s key u)
 
   -- and what is known of the closing
   abbrev pub Sights : Picture → Picture → View T W → View T W → Type 0
@@ -152,19 +152,19 @@ module _ {T W : Type 0} where
 
   module _ (w x : Picture) (vs : List (View T W)) (id : ℕ) (v u : View T W) (at : get_elem? vs id ≡ some v) where
     owed_turned : (d : Duty) (s : Side) (key : ℕ) → total (here_of s) vs ≡ 1 → Goes d s w x v u
-        → Owed (wanted d s w) (total (waits_of s key) vs) (total (answered_of d s) vs) (total (holds_of s key) vs)
-        → Owed (wanted d s x) (total (waits_of s key) (set vs id u)) (total (answered_of d s) (set vs id u)) (total (holds_of s key) (set vs id u))
+        → Owed (wanted d s w) (total (waits_of s key) vs) (total (answered_of d s) vs) (total (holds_of d s key) vs)
+        → Owed (wanted d s x) (total (waits_of s key) (set vs id u)) (total (answered_of d s) (set vs id u)) (total (holds_of d s key) (set vs id u))
     owed_turned d s key one goes k some_waiting =
         let wv = was (waits_of s key) (none_waits T W s key) vs id v at in
         let av = was (answered_of d s) (none_answered T W d s) vs id v at in
-        let hv = was (holds_of s key) refl vs id v at in
+        let hv = was (holds_of d s key) refl vs id v at in
         let ww = becomes (waits_of s key) (none_waits T W s key) vs id v u at in
         let aw = becomes (answered_of d s) (none_answered T W d s) vs id v u at in
-        let hw = becomes (holds_of s key) refl vs id v u at in
-        let before : Owed (wanted d s w) (others (waits_of s key) vs id + waits_of s key v) (others (answered_of d s) vs id + answered_of d s v) (others (holds_of s key) vs id + holds_of s key v) =
-        (λ waited. owed_by (wanted d s w) (total (answered_of d s) vs) (total (holds_of s key) vs) _ _ av hv (k (omega arith))) in
-        let after = goes key (others (waits_of s key) vs id) (others (answered_of d s) vs id) (others (holds_of s key) vs id) (λ is. (by_itself s key vs id v at one is).0) before (omega arith) in
-        owed_by (wanted d s x) _ _ (total (answered_of d s) (set vs id u)) (total (holds_of s key) (set vs id u)) (sym aw) (sym hw) after
+        let hw = becomes (holds_of d s key) refl vs id v u at in
+        let before : Owed (wanted d s w) (others (waits_of s key) vs id + waits_of s key v) (others (answered_of d s) vs id + answered_of d s v) (others (holds_of d s key) vs id + holds_of d s key v) =
+        (λ waited. owed_by (wanted d s w) (total (answered_of d s) vs) (total (holds_of d s key) vs) _ _ av hv (k (omega arith))) in
+        let after = goes key (others (waits_of s key) vs id) (others (answered_of d s) vs id) (others (holds_of d s key) vs id) (λ is. (by_itself s key vs id v at one is).0) before (omega arith) in
+        owed_by (wanted d s x) _ _ (total (answered_of d s) (set vs id u)) (total (holds_of d s key) (set vs id u)) (sym aw) (sym hw) after
 
     tickets_turned : (s : Side) (key : ℕ) → Tickets s v u → total (tickets_of s key) vs ≤ total (listed_of s key) vs → total (tickets_of s key) (set vs id u) ≤ total (listed_of s key) (set vs id u)
     tickets_turned s key goes k =

@@ -15,7 +15,7 @@ use Rattle.channel_wakeups.specs.declared.rule.Transfer.{Transfer}
 use Rattle.channel_wakeups.specs.declared.rule.Transfer.TheVariants.{Saw}
 use Rattle.channel_wakeups.specs.Log.{HasSeen, NotSeen}
 use Rattle.channel_wakeups.specs.Seats.{IsPass}
-use Rattle.channel_wakeups.specs.Views.{of_receives, idle, idle_lines, handed, hands, no_hands, count_of, with_count, no_rolls, pass, Known}
+use Rattle.channel_wakeups.specs.Views.{of_receives, idle, idle_lines, handed, hands, no_hands, count_of, with_count, no_rolls, pass, turning, Known}
 
 -- the word that counts the handles of a kind
 abbrev pub word_for : Kind → ℕ
@@ -51,10 +51,10 @@ module _ {T W : Type 0} where
   lone_handle k = pass 0 0 (handed (one_hand k) idle_lines) no_rolls []
 
   abbrev pub coupled : View T W → View T W → View T W
-  coupled v w = pass v.parts v.owns (handed (hands (v.calls.hands.senders + w.calls.hands.senders) (v.calls.hands.receivers + w.calls.hands.receivers) v.calls.hands.closes) v.calls) v.rolls v.log
+  coupled v w = turning v.turn (pass v.parts v.owns (handed (hands (v.calls.hands.senders + w.calls.hands.senders) (v.calls.hands.receivers + w.calls.hands.receivers) v.calls.hands.closes) v.calls) v.rolls v.log)
 
   abbrev pub uncoupled : Kind → View T W → View T W
-  uncoupled k v = pass v.parts v.owns (handed (fewer_hands k v.calls.hands) v.calls) v.rolls v.log
+  uncoupled k v = turning v.turn (pass v.parts v.owns (handed (fewer_hands k v.calls.hands) v.calls) v.rolls v.log)
 
   -- a count was raised from what it had been found to be; or it was another
   abbrev pub raises : Kind → Step (Option T) → Known T W → ℕ → Known T W → Type 0

@@ -1,5 +1,6 @@
 pub mod Lists
 pub mod Log
+pub mod Turns
 pub mod Views
 pub mod Stages
 pub mod Cells
@@ -8,3 +9,4 @@ pub mod Calls
 pub mod Several
 pub mod Counts
 pub mod Blocks
+pub mod RingSteps

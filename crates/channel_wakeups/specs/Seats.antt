@@ -4,13 +4,18 @@ use Rattle.atomic_table.specs.declared.shared.Seat.{Seat}
 use Rattle.atomic_table.specs.Seated.{TableId}
 use Rattle.channel_wakeups.specs.declared.rule.Line.{Line}
 use Rattle.channel_wakeups.specs.declared.rule.Lines.{Lines}
+use Rattle.channel_wakeups.specs.declared.rule.Turn.TheVariants.{Rest}
 use Rattle.channel_wakeups.specs.declared.rule.View.{View}
 use Rattle.channel_wakeups.specs.Views.{Side, of_receives, of, besides, calling, idle_lines, tickets_alone, listing, no_rolls, roll, with_roll}
 
 module _ {T W : Type 0} where
+  -- it has nothing of the queue
+  abbrev pub HasNothing : View T W → Type 0
+  HasNothing v = (v.owns ≡ 0) × (v.turn ≡ Rest)
+
   -- a pass with these parts, whose call knows this of one side, and this of the others
   abbrev pub Calls : Side → ℕ → Line → Lines → View T W → Type 0
-  Calls s parts line beside v = (v.parts ≡ parts) × (v.owns ≡ 0) × (of s v.calls ≡ line) × (besides s v.calls ≡ beside) × (v.rolls ≡ no_rolls) × (0 < parts)
+  Calls s parts line beside v = (v.parts ≡ parts) × HasNothing v × (of s v.calls ≡ line) × (besides s v.calls ≡ beside) × (v.rolls ≡ no_rolls) × (0 < parts)
 
   -- the same of a seat of this table
   abbrev pub IsPass : Side → TableId → Seat (Option T) (View T W) → ℕ → Line → Lines → Type 0
@@ -27,7 +32,7 @@ module _ {T W : Type 0} where
   -- a pass with every part, which has nothing but tickets
   abbrev pub IsWhole : TableId → Seat (Option T) (View T W) → Type 0
   IsWhole table seat =
-      (seat.table_id ≡ table) × (seat.me.1 ≡ []) × (seat.me.0.parts ≡ 1024) × (seat.me.0.owns ≡ 0) × (seat.me.0.calls ≡ tickets_alone seat.me.0.calls) × (seat.me.0.rolls ≡ no_rolls)
+      (seat.table_id ≡ table) × (seat.me.1 ≡ []) × (seat.me.0.parts ≡ 1024) × HasNothing seat.me.0 × (seat.me.0.calls ≡ tickets_alone seat.me.0.calls) × (seat.me.0.rolls ≡ no_rolls)
 
   -- the ticket of one that is pending, whose listener is under this key plus 1
   abbrev pub IsTicket : Side → TableId → Seat (Option T) (View T W) → ℕ → Type 0

@@ -1,6 +1,7 @@
 -- What a seat of the table knows, and the rule over the word, the slot and all seats.
-use Rattle.std.specs.Prelude.{◌≡◌, ◌⊎◌, ℕ, zero, suc, ◌+◌, ◌-◌, ◌/◌, ◌<◌, ◌≤◌, List, [], ◌∷◌, ◌++◌, Option, None, Some, Bool, true, false, not, cond, is_some, length, slice_index, bit_and}
+use Rattle.std.specs.Prelude.{◌≡◌, ◌⊎◌, ℕ, zero, suc, ◌+◌, ◌-◌, ◌*◌, ◌/◌, ◌^◌, ◌<◌, ◌≤◌, List, [], ◌∷◌, ◌++◌, Option, None, Some, Bool, true, false, not, cond, if◌then◌else◌, is_some, length, slice_index, bit_and}
 use mathlib.Core.Option as home
+use lib.ListN.{get_elem?}
 use Rattle.atomic_table.specs.Table.{State, Me, Step}
 use Rattle.atomic_table.specs.Seated.{TableId}
 use Rattle.channel_wakeups.specs.declared.rule.Handles.{Handles}
@@ -18,6 +19,14 @@ use Rattle.channel_wakeups.specs.declared.rule.Sight.TheVariants.{Shut, Seen, Dr
 use Rattle.concurrent_queue.specs.machine.Single.{clear}
 use Rattle.channel_wakeups.specs.declared.listeners.Listener.{Listener}
 use Rattle.channel_wakeups.specs.Lists.{total, told, waits, listed, is_this}
+use Rattle.concurrent_queue.specs.machine.Positions.{pos}
+use Rattle.concurrent_queue.specs.machine.RingCalls as ring
+use Rattle.concurrent_queue.specs.machine.RingCalls.{IsDuty, owed}
+use Rattle.concurrent_queue.specs.machine.RingState.{Ring, SoundRing, busy, reach}
+use Rattle.concurrent_queue.specs.machine.RingWords.{ring_mark}
+use Rattle.channel_wakeups.specs.declared.rule.Turn.{Turn}
+use Rattle.channel_wakeups.specs.declared.rule.Turn.TheVariants.{Rest}
+use Rattle.channel_wakeups.specs.Turns.{Knows, owed_by_turn}
 use Rattle.channel_wakeups.specs.Log.{Weight, puts, takes, sights, each, each_sight, raised_of, lowered_of, last_of, gone_of, is_none, Tallied, Agrees, IsHistory, Balanced, Accounts, PutBefore, TookBefore, Closings, NotSeen, NotDrained}
 
 abbrev pub no_table : TableId
@@ -46,7 +55,16 @@ pub data Duty : Type 0 where
 -- for how many messages, or places, it answers, the listener that it has in hand, by its key plus 1, or 0, the listener whose ticket
 -- it has, and whether it has to tell all
 abbrev pub call_line : ℕ → ℕ → ℕ → ℕ → Line
-call_line answers holds ticket tells = record { answers = answers; holds = holds; ticket = ticket; tells = tells }
+call_line answers holds ticket tells = record { answers = answers; holds = holds; fresh = holds; ticket = ticket; tells = tells }
+
+-- one that has a listener in hand for a message, or a place, and this one beside a closing
+abbrev pub line_of : ℕ → ℕ → ℕ → ℕ → ℕ → Line
+line_of answers holds fresh ticket tells = record { answers = answers; holds = holds; fresh = fresh; ticket = ticket; tells = tells }
+
+-- the listener that a call has in hand beside what is owed to one, or to all
+abbrev pub in_hand : Duty → Line → ℕ
+in_hand to_one l = l.holds
+in_hand to_all l = l.fresh
 
 abbrev pub calling : ℕ → ℕ → ℕ → Line
 calling answers holds ticket = call_line answers holds ticket 0
@@ -60,21 +78,25 @@ idle = calling 0 0 0
 
 -- a line whose ticket is another
 abbrev pub ticketed : ℕ → Line → Line
-ticketed ticket l = call_line l.answers l.holds ticket l.tells
+ticketed ticket l = line_of l.answers l.holds l.fresh ticket l.tells
 
 -- the call answers for one more; or for nothing any more; or for nothing, and leaves the listener behind that it had in hand
 abbrev pub answering : Line → Line
-answering l = call_line (l.answers + 1) l.holds l.ticket l.tells
+answering l = line_of (l.answers + 1) l.holds l.fresh l.ticket l.tells
 
 abbrev pub resolved : Line → Line
-resolved l = call_line 0 l.holds l.ticket l.tells
+resolved l = line_of 0 l.holds l.fresh l.ticket l.tells
+
+-- the call saw the channel open
+abbrev pub seen_open : Line → Line
+seen_open l = line_of l.answers l.holds 0 l.ticket l.tells
 
 abbrev pub ended : Line → Line
 ended l = call_line 0 0 l.ticket l.tells
 
 -- the call has the line in hand to tell all
 abbrev pub owing : Line → Line
-owing l = call_line l.answers l.holds l.ticket (l.tells + 1)
+owing l = line_of l.answers l.holds l.fresh l.ticket (l.tells + 1)
 
 -- ---- the lines of all sides
 
@@ -201,7 +223,11 @@ module _ {T W : Type 0} where
   -- a seat: its parts of the right to know the whole, what the word is while its call has the slot, or 0, what its call knows of those
   -- who wait, the lists that lie with it, and what it put in and took out
   abbrev pub pass : ℕ → ℕ → Lines → Rolls W → List (Transfer T) → View T W
-  pass parts owns calls rolls log = record { parts = parts; owns = owns; calls = calls; rolls = rolls; log = log }
+  pass parts owns calls rolls log = record { parts = parts; owns = owns; turn = Rest; calls = calls; rolls = rolls; log = log }
+
+  -- the same seat, whose call has come so far with a ring
+  abbrev pub turning : Turn → View T W → View T W
+  turning t v = record { parts = v.parts; owns = v.owns; turn = t; calls = v.calls; rolls = v.rolls; log = v.log }
 
   abbrev pub nobody : View T W
   nobody = pass 0 0 idle_lines no_rolls []
@@ -212,20 +238,20 @@ module _ {T W : Type 0} where
 
   -- with another line and another list on a side
   abbrev pub changed : Side → View T W → Line → List (Listener W) → View T W
-  changed s v l ls = pass v.parts v.owns (with_line s l v.calls) (with_roll s (listing ls) v.rolls) v.log
+  changed s v l ls = turning v.turn (pass v.parts v.owns (with_line s l v.calls) (with_roll s (listing ls) v.rolls) v.log)
 
   -- ---- seats are joined and split
 
   -- a call enters the section: its pass goes into the list's seat, which has no part
   abbrev pub entered : View T W → View T W → View T W
-  entered v w = pass w.parts w.owns w.calls v.rolls w.log
+  entered v w = turning w.turn (pass w.parts w.owns w.calls v.rolls w.log)
 
   -- and comes out of it
   abbrev pub stays : View T W → View T W
   stays v = pass 0 0 idle_lines v.rolls []
 
   abbrev pub comes_out : View T W → View T W
-  comes_out v = pass v.parts v.owns v.calls no_rolls v.log
+  comes_out v = turning v.turn (pass v.parts v.owns v.calls no_rolls v.log)
 
   -- a seat of lists gives one of them away
   abbrev pub without : Side → View T W → View T W
@@ -250,7 +276,7 @@ module _ {T W : Type 0} where
 
   -- a pass with these parts and this ticket
   abbrev pub ticket_is : Side → ℕ → ℕ → View T W → View T W
-  ticket_is s parts key v = pass parts v.owns (with_line s (ticketed key (of s v.calls)) v.calls) v.rolls v.log
+  ticket_is s parts key v = turning v.turn (pass parts v.owns (with_line s (ticketed key (of s v.calls)) v.calls) v.rolls v.log)
 
   -- a pass that gave its ticket out; the ticket; and a pass that took one in
   abbrev pub no_ticket : Side → View T W → View T W
@@ -275,8 +301,8 @@ module _ {T W : Type 0} where
   answered_of to_one s v = only (roll s v.rolls).here (told (roll s v.rolls).listeners) + only v.parts (of s v.calls).answers
   answered_of to_all s v = only v.parts (of s v.calls).tells
 
-  abbrev pub holds_of : Side → ℕ → View T W → ℕ
-  holds_of s key v = only v.parts (is_key key (of s v.calls).holds)
+  abbrev pub holds_of : Duty → Side → ℕ → View T W → ℕ
+  holds_of d s key v = only v.parts (is_key key (in_hand d (of s v.calls)))
 
   -- whether it has the slot
   abbrev pub locks_of : View T W → ℕ
@@ -309,6 +335,18 @@ module _ {T W : Type 0} where
 
   abbrev pub closes_of : View T W → ℕ
   closes_of v = only v.parts v.calls.hands.closes
+
+  -- what its call has to do before others can go on with a ring
+  abbrev pub owes_of : ℕ → ring.Duty → View T W → ℕ
+  owes_of cap d v = only v.parts (owed_by_turn cap d v.turn)
+
+  -- what it knows of a ring, and that all it put in and took out came before
+  abbrev pub Knowing : ℕ → Ring (Unit {0}) → View T W → Type 0
+  Knowing cap r v = 0 < v.parts → Knows cap r v.turn × PutBefore r.tail v.log × TookBefore r.head v.log
+
+  abbrev pub AllKnow : ℕ → Ring (Unit {0}) → List (View T W) → Type 0
+  AllKnow cap r [] = Unit {0}
+  AllKnow cap r (v ∷ vs) = Knowing cap r v × AllKnow cap r vs
 
   -- each message of each log stands in the history under its number
   abbrev pub AllAgree : List T → List (View T W) → Type 0
@@ -401,7 +439,7 @@ pub data IsSlot {T : Type 0} (base : ℕ) (slot : home.Option (Option T)) (locks
 pub record Law {T W : Type 0} (p : Picture) (views : List (View T W)) : Type 0 where
   pub whole : total parts_of views ≡ 1024
   pub one : (s : Side) → total (here_of s) views ≡ 1
-  pub owed : (d : Duty) (s : Side) (key : ℕ) → Owed (wanted d s p) (total (waits_of s key) views) (total (answered_of d s) views) (total (holds_of s key) views)
+  pub owed : (d : Duty) (s : Side) (key : ℕ) → Owed (wanted d s p) (total (waits_of s key) views) (total (answered_of d s) views) (total (holds_of d s key) views)
   pub tickets : (s : Side) (key : ℕ) → total (tickets_of s key) views ≤ total (listed_of s key) views
   pub closings : Closings p.shut p.near (λ f. total (sights_of f) views)
 
@@ -433,11 +471,46 @@ Known T W = Me (Option T) (View T W)
 
 -- the seat has every part and the list of this side, and no call is under way
 abbrev pub HasAll : {T W : Type 0} → Side → View T W → Type 0
-HasAll s v = (v.parts ≡ 1024) × ((roll s v.rolls).here ≡ 1) × ((of s v.calls).answers ≡ 0) × ((of s v.calls).holds ≡ 0) × (v.owns ≡ 0) × ((of s v.calls).tells ≡ 0) × (v.calls.hands.closes ≡ 0)
+HasAll s v = (v.parts ≡ 1024) × ((roll s v.rolls).here ≡ 1) × ((of s v.calls).answers ≡ 0) × (((of s v.calls).holds ≡ 0) × ((of s v.calls).fresh ≡ 0)) × (v.owns ≡ 0) × ((of s v.calls).tells ≡ 0) × (v.calls.hands.closes ≡ 0)
 
--- WHAT THE WORDS AND THE SLOTS SHOW, by the form of the queue: of one slot, whose word lies first
+-- THE CELLS OF A RING: the head lies first, the tail and the stamps behind the counts. A slot is out where a call has it
+abbrev pub IsHome : {T : Type 0} → Bool → Bool → home.Option (home.Option (Option T)) → Type 0
+IsHome true has h = h ≡ home.some home.none
+IsHome {T = T} false has h = (x : Option T) × (h ≡ home.some (home.some x)) × (is_some x ≡ has)
+
+abbrev pub at_number : ℕ → ℕ → ℕ
+at_number cap n = pos cap (2 * ring_mark cap) n
+
+pub record RingCells {T : Type 0} (cap : ℕ) (words : List ℕ) (homes : List (home.Option (Option T))) (r : Ring (Unit {0})) : Type 0 where
+  pub size : length homes ≡ cap
+  pub wide : cap + 64 ≤ length words
+  pub head : slice_index words 0 ≡ at_number cap r.head
+  pub tail : slice_index words 48 ≡ at_number cap r.tail + (if r.closed then ring_mark cap else 0)
+  pub stamps : (i : ℕ) → i < cap → slice_index words (i + 64) ≡ at_number cap (r.at i).round + (if (r.at i).written then 1 else 0)
+  pub slots : (i : ℕ) → i < cap → IsHome (busy r i) (is_some (r.at i).slot) (get_elem? homes i)
+
+-- THE SEATS BESIDE IT, as the queue's own proof has its calls. Positions end early enough
+pub record RingSeats {T W : Type 0} (cap : ℕ) (r : Ring (Unit {0})) (views : List (View T W)) : Type 0 where
+  pub two : 2 ≤ cap
+  pub limit : cap ≤ 2 ^ 58
+  pub sound : SoundRing cap r
+  pub few : reach r ≤ 2 ^ 61
+  pub owners : (d : ring.Duty) → IsDuty cap d → total (owes_of cap d) views ≡ owed r d
+  pub knows : AllKnow cap r views
+
+-- what it shows
+abbrev pub of_ring : ℕ → Ring (Unit {0}) → Picture
+of_ring cap r = picture (r.tail - r.head) (r.head + cap - r.tail) (reach r - r.head) r.closed
+
+pub record Ringed {T W : Type 0} (cap : ℕ) (words : List ℕ) (homes : List (home.Option (Option T))) (r : Ring (Unit {0})) (views : List (View T W)) : Type 0 where
+  pub cells : RingCells cap words homes r
+  pub seats : RingSeats cap r views
+  pub law : Law (of_ring cap r) views
+
+-- WHAT THE WORDS AND THE SLOTS SHOW, by the form of the queue: of one slot, whose word lies first; or of a ring
 pub data Shown {T W : Type 0} (words : List ℕ) (homes : List (home.Option (Option T))) (views : List (View T W)) : Type 0 where
   one_slot : (base : ℕ) (shut : Bool) (slot : home.Option (Option T)) → slice_index words 0 ≡ word_of base shut → homes ≡ slot ∷ [] → Kept base shut slot views → Shown words homes views
+  a_ring : (cap : ℕ) (r : Ring (Unit {0})) → Ringed cap words homes r views → Shown words homes views
 
 -- THE RULE
 pub record Woken {T W : Type 0} (s : State (Option T) (View T W)) : Type 0 where
@@ -452,6 +525,10 @@ module _ {T W : Type 0} where
   -- a pass whose call knows the word to be n while it has the slot, or 0, with other lines and another log
   abbrev pub stepped : ℕ → Lines → List (Transfer T) → View T W → View T W
   stepped n c log v = pass v.parts n c v.rolls log
+
+  -- a call that has come so far with a ring, with other lines and another log
+  abbrev pub came : Turn → Lines → List (Transfer T) → View T W → View T W
+  came t c log v = turning t (pass v.parts 0 c v.rolls log)
 
   -- a push won nothing: the channel was closed, or full, or a message was on its way out
   abbrev pub MissesPlace : Known T W → ℕ → Known T W → Type 0
@@ -527,7 +604,8 @@ module _ {W : Type 0} where
   abbrev pub MayWait : Line → List (Listener W) → Line → List (Listener W) → ℕ → Type 0
   MayWait l ls m ms key =
       0 < waits key ms
-      → (0 < is_key key m.holds) ⊎ ((0 < waits key ls) × (told ls + l.answers ≤ told ms + m.answers) × (is_key key l.holds ≤ is_key key m.holds) × (l.tells ≤ m.tells))
+      → ((0 < is_key key m.holds) × (0 < is_key key m.fresh))
+      ⊎ ((0 < waits key ls) × (told ls + l.answers ≤ told ms + m.answers) × (is_key key l.holds ≤ is_key key m.holds) × (is_key key l.fresh ≤ is_key key m.fresh) × (l.tells ≤ m.tells))
 
   abbrev pub MayTicket : Line → List (Listener W) → Line → List (Listener W) → ℕ → Type 0
   MayTicket l ls m ms key = is_key key m.ticket + listed key ls ≤ listed key ms + is_key key l.ticket

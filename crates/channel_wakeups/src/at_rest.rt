@@ -88,6 +88,7 @@ fn see_all<T: Drop, W: Wake, B: Room, R: Wait>(
     call: Place<T, W>,
 ) -> (Rest, Place<T, W>)
     requires table { (table.now.shared.table_id ≡ B.table) × (0 < B.table.words) }
+    requires single { B.table.slots ≡ 1 }
     requires call { IsWhole B.table call }
     ensures same { (result.1.table_id ≡ B.table) × (result.1.me ≡ call.me) }
     ensures receives { 0 < call.me.0.calls.receives.ticket → (result.0.message ≡ true) ⊎ (result.0.closed ≡ true) → result.0.receive_told ≡ true }
@@ -120,6 +121,7 @@ pub(crate) fn look<T: Drop, W: Wake, B: Room, R: Wait>(
     waiting: Tickets<T, W, B>,
 ) -> (Rest, Tickets<T, W, B>)
     requires table { (table.now.shared.table_id ≡ B.table) × (0 < B.table.words) }
+    requires single { B.table.slots ≡ 1 }
     requires pass { IsIdle B.table pass.old pass.old.me.0.parts }
     requires parts { pass.old.me.0.parts + held (is_some waiting.receive) + held (is_some waiting.send) + held (is_some waiting.stream) + held (is_some waiting.closing) ≡ 1024 }
     ensures pass { IsIdle B.table pass.new pass.old.me.0.parts }

@@ -21,6 +21,7 @@ pub(crate) struct SlotCells<'a, T: Drop, W: Drop> {
     pub(crate) seat: Place<T, W>,
     pub(crate) stage: Stage,
     ghost one: { 0 < table.now.shared.table_id.words },
+    ghost single: { table.now.shared.table_id.slots ≡ 1 },
     ghost seated: { seat.table_id ≡ table.now.shared.table_id },
     ghost tied: { IsAt stage seat.me },
 }

@@ -38,7 +38,7 @@ impl<T: Drop, W: Drop> Model for Opened<T, W> {
 
     ghost view = { λ o. o.table.shared.table_id };
 
-    ghost invariant = { λ o. (0 < o.table.shared.table_id.words) × (32 < o.table.shared.table_id.words) × (o.seat.table_id ≡ o.table.shared.table_id) × (o.seat.me ≡ (everything, [])) };
+    ghost invariant = { λ o. (0 < o.table.shared.table_id.words) × (32 < o.table.shared.table_id.words) × (o.table.shared.table_id.slots ≡ 1) × (o.seat.table_id ≡ o.table.shared.table_id) × (o.seat.me ≡ (everything, [])) };
 }
 
 /// A channel of one slot in room `B`, whose receives and sends wait with tasks of type `W`.
@@ -56,7 +56,7 @@ impl<T: Drop, W: Drop, B: Room> Model for SlotChannel<T, W, B> {
 
     ghost view = { λ c. tt };
 
-    ghost invariant = { λ c. (c.table.shared.table_id ≡ B.table) × (0 < B.table.words) × (32 < B.table.words) };
+    ghost invariant = { λ c. (c.table.shared.table_id ≡ B.table) × (0 < B.table.words) × (32 < B.table.words) × (B.table.slots ≡ 1) };
 }
 
 /// What a thread calls with, and which has no call under way: so many parts of the right to know the whole, and a log of what was put

@@ -215,6 +215,7 @@ impl<T: Drop, W: Drop, B: Room, S: Waiting> Desk<T, W, B, S> {
         call: Place<T, W>,
     ) -> ((bool, bool), bool, Place<T, W>)
         requires table { (table.now.shared.table_id ≡ B.table) × (0 < B.table.words) }
+        requires single { B.table.slots ≡ 1 }
         requires call { IsPass S.side B.table call 1024 (calling 0 0 (of S.side call.me.0.calls).ticket) (besides S.side call.me.0.calls) }
         requires owes { call.me.0.calls.hands.closes ≡ 0 }
         ensures same { (result.2.table_id ≡ B.table) × (result.2.me ≡ call.me) }

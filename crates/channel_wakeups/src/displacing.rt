@@ -22,6 +22,7 @@ pub(crate) fn displace<T: Drop, W: Wake, B: Room, R: Wait>(
     message: T,
 ) -> Result<Option<T>, ForcePushError<T>>
     requires table { (table.now.shared.table_id ≡ B.table) × (0 < B.table.words) }
+    requires single { B.table.slots ≡ 1 }
     requires pass { IsIdle B.table pass.old pass.old.me.0.parts }
     ensures pass { IsIdle B.table pass.new pass.old.me.0.parts }
     ensures displaced { Displaced message result pass.old.me.0.log pass.new.me.0.log }

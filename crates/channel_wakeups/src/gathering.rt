@@ -30,6 +30,7 @@ fn take_up_to<T: Drop, W: Drop, R: Wait>(
     into: &mut Vec<T>,
 ) -> (Option<PopError>, Place<T, W>)
     requires table { 0 < table.now.shared.table_id.words }
+    requires single { table.now.shared.table_id.slots ≡ 1 }
     requires call { IsCall of_sends table.now.shared.table_id call call.me.0.parts 0 0 0 }
     requires empty { (into.old.items ≡ []) × (vec_len into.old ≡ 0) }
     requires room { vec_capacity into.old ≡ limit }
@@ -61,6 +62,7 @@ pub(crate) fn gather<T: Drop, W: Wake, B: Room, R: Wait>(
     limit: usize,
 ) -> Result<Vec<T>, Untaken>
     requires table { (table.now.shared.table_id ≡ B.table) × (0 < B.table.words) }
+    requires single { B.table.slots ≡ 1 }
     requires pass { IsIdle B.table pass.old pass.old.me.0.parts }
     ensures pass { IsIdle B.table pass.new pass.old.me.0.parts }
     ensures gathered { MatchResult result (λ messages. Gathered limit messages.items pass.old.me.0.log pass.new.me.0.log) (λ why. NoneGathered limit why pass.old.me.0.log pass.new.me.0.log) }

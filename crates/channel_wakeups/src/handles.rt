@@ -153,6 +153,7 @@ pub(crate) fn upgrade<T: Drop, W: Drop, K: Counting, R: Wait>(
     pass: &mut Place<T, W>,
 ) -> Upgrade<Place<T, W>>
     requires table { 32 < table.now.shared.table_id.words }
+    requires single { table.now.shared.table_id.slots ≡ 1 }
     requires pass { IsIdle table.now.shared.table_id pass.old pass.old.me.0.parts }
     ensures pass { IsIdle table.now.shared.table_id pass.new pass.old.me.0.parts }
     ensures handle { IfMade result (λ h. IsHandle K.kind table.now.shared.table_id h) }
@@ -185,6 +186,7 @@ pub(crate) fn let_go<T: Drop, W: Wake, B: Room, K: Counting, R: Wait>(
     handle: Place<T, W>,
 ) -> bool
     requires table { (table.now.shared.table_id ≡ B.table) × (32 < B.table.words) }
+    requires single { B.table.slots ≡ 1 }
     requires pass { IsIdle B.table pass.old pass.old.me.0.parts }
     requires handle { IsHandle K.kind B.table handle }
     ensures pass { IsIdle B.table pass.new pass.old.me.0.parts }

@@ -15,6 +15,7 @@ mod made;
 mod offers;
 mod place;
 pub mod polled;
+pub mod ring_law;
 pub mod rule;
 mod shutting;
 mod stage;

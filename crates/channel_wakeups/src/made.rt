@@ -26,6 +26,7 @@ fn make_push<T: Drop, W: Drop, R: Wait>(
     message: T,
 ) -> (QueueReply<T>, Place<T, W>)
     requires table { 0 < table.now.shared.table_id.words }
+    requires single { table.now.shared.table_id.slots ≡ 1 }
     requires call { IsCall of_sends table.now.shared.table_id seat seat.me.0.parts seat.me.0.calls.sends.answers seat.me.0.calls.sends.holds 0 }
     ensures leaves { PushLeaves table.now.shared.table_id seat.me.0.parts seat.me.0.calls.sends.holds seat.me.0.log message result.0 result.1 }
     ensures answers { MayAnswer (Bounded 1) (ask.Push message) result.0 }
@@ -48,6 +49,7 @@ fn make_force<T: Drop, W: Drop, R: Wait>(
     message: T,
 ) -> (QueueReply<T>, Place<T, W>)
     requires table { 0 < table.now.shared.table_id.words }
+    requires single { table.now.shared.table_id.slots ≡ 1 }
     requires idle { IsIdle table.now.shared.table_id seat seat.me.0.parts }
     ensures leaves { ForceLeaves table.now.shared.table_id seat.me.0.parts seat.me.0.log message result.0 result.1 }
     ensures answers { MayAnswer (Bounded 1) (ask.ForcePush message) result.0 }
@@ -69,6 +71,7 @@ fn make_pop<T: Drop, W: Drop, S: Taking, R: Wait>(
     seat: Place<T, W>,
 ) -> (QueueReply<T>, Place<T, W>)
     requires table { 0 < table.now.shared.table_id.words }
+    requires single { table.now.shared.table_id.slots ≡ 1 }
     requires call { IsCall S.side table.now.shared.table_id seat seat.me.0.parts (of S.side seat.me.0.calls).answers (of S.side seat.me.0.calls).holds 0 }
     ensures leaves { PopLeaves S.side table.now.shared.table_id seat.me.0.parts (of S.side seat.me.0.calls).holds seat.me.0.log result.0 result.1 }
 {
@@ -89,6 +92,7 @@ fn make_pop_more<T: Drop, W: Drop, R: Wait>(
     seat: Place<T, W>,
 ) -> (QueueReply<T>, Place<T, W>)
     requires table { 0 < table.now.shared.table_id.words }
+    requires single { table.now.shared.table_id.slots ≡ 1 }
     requires call { IsCall of_sends table.now.shared.table_id seat seat.me.0.parts seat.me.0.calls.sends.answers 0 0 }
     ensures leaves { PopMoreLeaves table.now.shared.table_id seat.me.0.parts seat.me.0.calls.sends.answers seat.me.0.log result.0 result.1 }
 {
@@ -109,6 +113,7 @@ fn make_close<T: Drop, W: Drop, R: Wait>(
     seat: Place<T, W>,
 ) -> (QueueReply<T>, Place<T, W>)
     requires table { 0 < table.now.shared.table_id.words }
+    requires single { table.now.shared.table_id.slots ≡ 1 }
     requires call { IsHolding (hands 0 0 seat.me.0.calls.hands.closes) table.now.shared.table_id seat seat.me.0.parts }
     ensures leaves { CloseLeaves table.now.shared.table_id seat.me.0.parts seat.me.0.log result.0 result.1 }
 {
@@ -129,6 +134,7 @@ fn make_ask<T: Drop, W: Drop, R: Wait>(
     seat: Place<T, W>,
 ) -> (QueueReply<T>, Place<T, W>)
     requires table { 0 < table.now.shared.table_id.words }
+    requires single { table.now.shared.table_id.slots ≡ 1 }
     requires call { IsCall of_closings table.now.shared.table_id seat seat.me.0.parts seat.me.0.calls.closings.answers seat.me.0.calls.closings.holds 0 }
     ensures leaves { AskLeaves table.now.shared.table_id seat.me.0.parts seat.me.0.calls.closings.holds seat.me.0.log result.0 result.1 }
 {
@@ -151,6 +157,7 @@ pub(crate) fn push<T: Drop, W: Drop, R: Wait>(
     message: T,
 ) -> (Result<(), PushError<T>>, Place<T, W>)
     requires table { 0 < table.now.shared.table_id.words }
+    requires single { table.now.shared.table_id.slots ≡ 1 }
     requires call { IsCall of_sends table.now.shared.table_id call call.me.0.parts call.me.0.calls.sends.answers call.me.0.calls.sends.holds 0 }
     ensures ok { IfOk result.0 (λ _. IsPass of_receives table.now.shared.table_id result.1 call.me.0.parts (calling 1 0 0) to_streams) }
     ensures err { IfErr result.0 (λ e. PushRefused table.now.shared.table_id call.me.0.parts call.me.0.calls.sends.holds e result.1) }
@@ -177,6 +184,7 @@ pub(crate) fn force<T: Drop, W: Drop, R: Wait>(
     message: T,
 ) -> (Result<Option<T>, ForcePushError<T>>, Place<T, W>)
     requires table { 0 < table.now.shared.table_id.words }
+    requires single { table.now.shared.table_id.slots ≡ 1 }
     requires call { IsIdle table.now.shared.table_id call call.me.0.parts }
     ensures ok { IfOk result.0 (λ _. IsPass of_receives table.now.shared.table_id result.1 call.me.0.parts (calling 1 0 0) to_streams) }
     ensures err { IfErr result.0 (λ _. IsIdle table.now.shared.table_id result.1 call.me.0.parts) }
@@ -200,6 +208,7 @@ pub(crate) fn pop<T: Drop, W: Drop, S: Taking, R: Wait>(
     call: Place<T, W>,
 ) -> (Result<T, PopError>, Place<T, W>)
     requires table { 0 < table.now.shared.table_id.words }
+    requires single { table.now.shared.table_id.slots ≡ 1 }
     requires call { IsCall S.side table.now.shared.table_id call call.me.0.parts (of S.side call.me.0.calls).answers (of S.side call.me.0.calls).holds 0 }
     ensures ok { IfOk result.0 (λ _. IsPass of_sends table.now.shared.table_id result.1 call.me.0.parts (calling 1 0 0) (only_on S.side (calling 0 (of S.side call.me.0.calls).holds 0))) }
     ensures err { IfErr result.0 (λ e. PopRefused S.side table.now.shared.table_id call.me.0.parts (of S.side call.me.0.calls).holds e result.1) }
@@ -221,6 +230,7 @@ pub(crate) fn pop_more<T: Drop, W: Drop, R: Wait>(
     call: Place<T, W>,
 ) -> (Result<T, PopError>, Place<T, W>)
     requires table { 0 < table.now.shared.table_id.words }
+    requires single { table.now.shared.table_id.slots ≡ 1 }
     requires call { IsCall of_sends table.now.shared.table_id call call.me.0.parts call.me.0.calls.sends.answers 0 0 }
     ensures ok { IfOk result.0 (λ _. IsCall of_sends table.now.shared.table_id result.1 call.me.0.parts (call.me.0.calls.sends.answers + 1) 0 0) }
     ensures err { IfErr result.0 (λ _. IsCall of_sends table.now.shared.table_id result.1 call.me.0.parts call.me.0.calls.sends.answers 0 0) }
@@ -242,6 +252,7 @@ pub(crate) fn shut<T: Drop, W: Drop, R: Wait>(
     call: Place<T, W>,
 ) -> (bool, Place<T, W>)
     requires table { 0 < table.now.shared.table_id.words }
+    requires single { table.now.shared.table_id.slots ≡ 1 }
     requires call { IsHolding (hands 0 0 call.me.0.calls.hands.closes) table.now.shared.table_id call call.me.0.parts }
     ensures first { result.0 ≡ true → IsPass of_receives table.now.shared.table_id result.1 call.me.0.parts (telling 1) to_others }
     ensures other { result.0 ≡ false → IsIdle table.now.shared.table_id result.1 call.me.0.parts }
@@ -262,6 +273,7 @@ pub(crate) fn ask<T: Drop, W: Drop, R: Wait>(
     call: Place<T, W>,
 ) -> (bool, Place<T, W>)
     requires table { 0 < table.now.shared.table_id.words }
+    requires single { table.now.shared.table_id.slots ≡ 1 }
     requires call { IsCall of_closings table.now.shared.table_id call call.me.0.parts call.me.0.calls.closings.answers call.me.0.calls.closings.holds 0 }
     ensures closed { result.0 ≡ true → IsCall of_closings table.now.shared.table_id result.1 call.me.0.parts 0 call.me.0.calls.closings.holds 0 }
     ensures open { result.0 ≡ false → IsIdle table.now.shared.table_id result.1 call.me.0.parts }

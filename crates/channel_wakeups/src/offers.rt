@@ -26,6 +26,7 @@ pub(crate) fn send<T: Drop, W: Wake, B: Room, R: Wait>(
     message: T,
 ) -> Result<(), PushError<T>>
     requires table { (table.now.shared.table_id ≡ B.table) × (0 < B.table.words) }
+    requires single { B.table.slots ≡ 1 }
     requires pass { IsIdle B.table pass.old pass.old.me.0.parts }
     ensures pass { IsIdle B.table pass.new pass.old.me.0.parts }
     ensures sent { Sent message result pass.old.me.0.log pass.new.me.0.log }
@@ -54,6 +55,7 @@ fn put_or_listen<T: Drop, W: Wake, B: Room, R: Wait>(
     task: W,
 ) -> (Offered<T>, Option<Ticket<T, W, B, Sends>>, Place<T, W>)
     requires table { (table.now.shared.table_id ≡ B.table) × (0 < B.table.words) }
+    requires single { B.table.slots ≡ 1 }
     requires call { IsCall of_sends B.table call call.me.0.parts call.me.0.calls.sends.answers 0 0 }
     requires parts { 1 < call.me.0.parts }
     ensures call { IsIdle B.table result.2 (call.me.0.parts - held (is_some result.1)) }
@@ -105,6 +107,7 @@ pub(crate) fn offer<T: Drop, W: Wake, B: Room, R: Wait>(
     task: W,
 ) -> Offered<T>
     requires table { (table.now.shared.table_id ≡ B.table) × (0 < B.table.words) }
+    requires single { B.table.slots ≡ 1 }
     requires pass { IsIdle B.table pass.old pass.old.me.0.parts }
     requires parts { 1 < pass.old.me.0.parts + held (is_some waiting.old) }
     ensures pass { IsIdle B.table pass.new (pass.old.me.0.parts + held (is_some waiting.old) - held (is_some waiting.new)) }

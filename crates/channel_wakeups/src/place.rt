@@ -214,6 +214,7 @@ pub(crate) fn learn<T: Drop, W: Drop, S: Waiting>(
     seat: &mut Place<T, W>,
 ) -> (bool, bool)
     requires table { 0 < table.now.shared.table_id.words }
+    requires single { table.now.shared.table_id.slots ≡ 1 }
     requires seat { seat.old.table_id ≡ table.now.shared.table_id }
     requires all { HasAll S.side seat.old.me.0 }
     ensures same { (seat.new.table_id ≡ table.now.shared.table_id) × (seat.new.me ≡ seat.old.me) }

@@ -176,10 +176,12 @@ pub enum Transfer<T> {
 }
 
 /// What a seat's call knows of those who wait on one side: for how many messages, or places, it answers, the listener that it has in
-/// hand, of which listener it is the ticket, and whether it has the line in hand to tell all. No value is made.
+/// hand, of which listener it is the ticket, and whether it has the line in hand to tell all. Of the listener it says besides whether the
+/// call has it in hand beside a closing still: one that saw the channel open since has it in hand for a place alone. No value is made.
 pub struct Line {
     pub answers: u64,
     pub holds: u64,
+    pub fresh: u64,
     pub ticket: u64,
     pub tells: u64,
 }
@@ -214,11 +216,30 @@ pub struct Rolls<W> {
     pub closings: Roll<W>,
 }
 
+/// How far a call has come with the ring, by the numbers of messages; at rest it has nothing of it. A push read the tail, or found the
+/// place free, or found the message of a lap before there; it has the place to put its message in; or it took the oldest message out, and
+/// its own is on its way, or is in. A pop read the head, or found the message in, or the place free still; or it has the place to take the
+/// message out of. No value is made.
+pub enum Turn {
+    Rest,
+    Tailed(u64),
+    Ready(u64),
+    Behind(u64),
+    Filling(u64),
+    Coming(u64),
+    Displacing(u64),
+    Headed(u64),
+    Written(u64),
+    Vacant(u64),
+    Emptying(u64),
+}
+
 /// What a seat knows: the parts of a pass, what the word is while its call has the slot, its closed bit aside, what its call knows of
-/// those who wait, the lists that lie with it, and what was done with the pass. No value is made.
+/// those who wait, the lists that lie with it, and what was done with the pass. Of a ring it is how far its call has come. No value is made.
 pub struct View<T, W> {
     pub parts: u64,
     pub owns: u64,
+    pub turn: Turn,
     pub calls: Lines,
     pub rolls: Rolls<W>,
     pub log: LinkedList<Transfer<T>>,

@@ -28,6 +28,7 @@ pub(crate) fn close_now<T: Drop, W: Wake, B: Room, R: Wait>(
     call: Place<T, W>,
 ) -> (bool, Place<T, W>)
     requires table { (table.now.shared.table_id ≡ B.table) × (0 < B.table.words) }
+    requires single { B.table.slots ≡ 1 }
     requires call { IsHolding (hands 0 0 call.me.0.calls.hands.closes) B.table call call.me.0.parts }
     ensures idle { IsIdle B.table result.1 call.me.0.parts }
     ensures answers { Closes result.0 call.me.0.log result.1.me.0.log }
@@ -52,6 +53,7 @@ pub(crate) fn close<T: Drop, W: Wake, B: Room, R: Wait>(
     pass: &mut Place<T, W>,
 ) -> bool
     requires table { (table.now.shared.table_id ≡ B.table) × (0 < B.table.words) }
+    requires single { B.table.slots ≡ 1 }
     requires pass { IsIdle B.table pass.old pass.old.me.0.parts }
     ensures pass { IsIdle B.table pass.new pass.old.me.0.parts }
     ensures answers { Closes result pass.old.me.0.log pass.new.me.0.log }
@@ -69,6 +71,7 @@ pub(crate) fn is_closed<T: Drop, W: Drop, R: Wait>(
     pass: &mut Place<T, W>,
 ) -> bool
     requires table { 0 < table.now.shared.table_id.words }
+    requires single { table.now.shared.table_id.slots ≡ 1 }
     requires pass { IsIdle table.now.shared.table_id pass.old pass.old.me.0.parts }
     ensures pass { IsIdle table.now.shared.table_id pass.new pass.old.me.0.parts }
     ensures answers { IsClosed result pass.old.me.0.log pass.new.me.0.log }
@@ -88,6 +91,7 @@ fn look_or_listen<T: Drop, W: Wake, B: Room, R: Wait>(
     task: W,
 ) -> (Watched, Option<Ticket<T, W, B, Closings>>, Place<T, W>)
     requires table { (table.now.shared.table_id ≡ B.table) × (0 < B.table.words) }
+    requires single { B.table.slots ≡ 1 }
     requires call { IsCall of_closings B.table call call.me.0.parts call.me.0.calls.closings.answers 0 0 }
     requires parts { 1 < call.me.0.parts }
     ensures call { IsIdle B.table result.2 (call.me.0.parts - held (is_some result.1)) }
@@ -122,6 +126,7 @@ pub(crate) fn watch<T: Drop, W: Wake, B: Room, R: Wait>(
     task: W,
 ) -> Watched
     requires table { (table.now.shared.table_id ≡ B.table) × (0 < B.table.words) }
+    requires single { B.table.slots ≡ 1 }
     requires pass { IsIdle B.table pass.old pass.old.me.0.parts }
     requires parts { 1 < pass.old.me.0.parts + held (is_some waiting.old) }
     ensures pass { IsIdle B.table pass.new (pass.old.me.0.parts + held (is_some waiting.old) - held (is_some waiting.new)) }

@@ -29,6 +29,7 @@ fn try_or_listen<T: Drop, W: Wake, B: Room, S: Taking, R: Wait>(
     task: W,
 ) -> (Polled<T>, Option<Ticket<T, W, B, S>>, Place<T, W>)
     requires table { (table.now.shared.table_id ≡ B.table) × (0 < B.table.words) }
+    requires single { B.table.slots ≡ 1 }
     requires call { IsCall S.side B.table call call.me.0.parts (of S.side call.me.0.calls).answers 0 0 }
     requires parts { 1 < call.me.0.parts }
     ensures call { IsIdle B.table result.2 (call.me.0.parts - held (is_some result.1)) }
@@ -79,6 +80,7 @@ pub(crate) fn poll<T: Drop, W: Wake, B: Room, S: Taking, R: Wait>(
     task: W,
 ) -> Polled<T>
     requires table { (table.now.shared.table_id ≡ B.table) × (0 < B.table.words) }
+    requires single { B.table.slots ≡ 1 }
     requires pass { IsIdle B.table pass.old pass.old.me.0.parts }
     requires parts { 1 < pass.old.me.0.parts + held (is_some waiting.old) }
     ensures pass { IsIdle B.table pass.new (pass.old.me.0.parts + held (is_some waiting.old) - held (is_some waiting.new)) }
