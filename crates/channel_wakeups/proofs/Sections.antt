@@ -4,7 +4,8 @@ use Rattle.channel_wakeups.specs.declared.rule.Line.{Line}
 use Rattle.channel_wakeups.specs.declared.listeners.Listener.{Listener}
 use Rattle.channel_wakeups.specs.Lists.{told, waits, listed, is_this}
 use Rattle.channel_wakeups.proofs.Listed.{small_this}
-use Rattle.channel_wakeups.specs.Views.{calling, idle, is_key, MayWait, MayTicket, Fair}
+use Rattle.channel_wakeups.specs.Sections.{MayWait, MayTicket, Fair}
+use Rattle.channel_wakeups.specs.Views.{calling, idle, is_key}
 
 -- a key and its successor
 is_key_of : (k key : ℕ) → is_key k (key + 1) ≡ is_this key k

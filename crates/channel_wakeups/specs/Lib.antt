@@ -4,6 +4,7 @@ pub mod Turns
 pub mod Views
 pub mod Stages
 pub mod Cells
+pub mod Sections
 pub mod Seats
 pub mod Calls
 pub mod Several

@@ -7,7 +7,8 @@ ghost use Rattle.channel_wakeups.specs.Counts.{IsHandle};
 ghost use Rattle.channel_wakeups.specs.declared.rule.Kind.TheVariants.{OfReceivers, OfSenders};
 ghost use Rattle.channel_wakeups.specs.Lists.{told, waits, listed};
 ghost use Rattle.channel_wakeups.specs.Seats.{IsCall, IsIdle, IsPass, IsTicket, IsList, Calls, Lists};
-ghost use Rattle.channel_wakeups.specs.Views.{of, besides, roll, call_line, calling, changed, comes_out, entered, stays, alone, without, is_key, everything, due, of_receives, of_sends, of_streams, of_closings, idle_lines, HasAll, Fair};
+ghost use Rattle.channel_wakeups.specs.Sections.{Fair};
+ghost use Rattle.channel_wakeups.specs.Views.{of, besides, roll, call_line, calling, changed, comes_out, entered, stays, alone, without, is_key, everything, due, of_receives, of_sends, of_streams, of_closings, idle_lines, HasAll};
 
 use crate::cells::{Place, SlotTable};
 use crate::handles::uncouple;

@@ -1,6 +1,7 @@
 use Rattle.std.proofs.Common.{List, sym, subst}
 use Rattle.channel_wakeups.specs.declared.listeners.Listener.{Listener}
-use Rattle.channel_wakeups.specs.Views.{of, roll, idle, Fair}
+use Rattle.channel_wakeups.specs.Sections.{Fair}
+use Rattle.channel_wakeups.specs.Views.{of, roll, idle}
 use Rattle.channel_wakeups.proofs.Sections.{off_from}
 use Rattle.channel_wakeups.proofs.desk.Desk.take_off.Goals as goal
 
