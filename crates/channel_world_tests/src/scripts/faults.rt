@@ -1,5 +1,8 @@
 //! Readers and writers in memory that fail, at every place of a short script.
 
+ghost use Rattle.std.specs.Counts.{IsPrefixLen};
+ghost use Rattle.std.specs.Result.{IfOk};
+
 use crate::checks::expect_equal;
 use channel_world::script::{ScriptEnd, run_script};
 use std::alloc::{AllocGlobal, Global};
@@ -35,7 +38,9 @@ struct Reader<'a> {
 }
 
 /// What a read gives once the text is given.
-fn read_end(at_end: AtEnd, buf: &mut [u8]) -> io::Result<usize> {
+fn read_end(at_end: AtEnd, buf: &mut [u8]) -> io::Result<usize>
+    ensures { IfOk result (λ n. IsPrefixLen n buf.new) }
+{
     match at_end {
         AtEnd::Ends => Ok(0),
         AtEnd::Fails => Err(io::Error::from(ErrorKind::Other)),
