@@ -19,7 +19,7 @@ use Rattle.channel_calls.specs.declared.stage.Waiting.{Waiting}
 use Rattle.channel_calls.specs.declared.stage.Waiting.TheVariants as waiting
 use Rattle.channel_model.specs.Answer.{weak_of, strong_of}
 use Rattle.channel_model.specs.Asked.{KeysHeld, poll_asked, refusal_asked, giving_up_asked, drop_asked, clone_asked, upgrade_asked}
-use Rattle.channel_model.specs.Names.{at}
+use Rattle.channel_model.specs.Names.{at, without_name}
 use Rattle.channel_model.specs.Names as model
 use Rattle.channel_model.specs.declared.call.Call.{Call}
 use Rattle.channel_model.specs.declared.call.Call.TheVariants as call
@@ -32,13 +32,13 @@ use Rattle.channel_model.specs.declared.name.Waiter.{Waiter}
 use Rattle.channel_interleaving.specs.AskedBy.{listening_first, IsOrListens}
 use Rattle.channel_interleaving.specs.Bookkeeping.{asks, errand_of, names_begun, lent_by, leave_handle_of, new_from, operation_named, handle_named}
 use Rattle.channel_interleaving.specs.Counted.{is_strong, strong_lives, live_on, same_side, is_lowering, is_raising, makes_strong}
-use Rattle.channel_interleaving.specs.Roll.{operation_at, held_of, with_lent, with_standing}
+use Rattle.channel_interleaving.specs.Roll.{operation_at, held_of, with_lent, with_borrowed, with_standing}
 use Rattle.channel_interleaving.specs.declared.names.Errand.{Errand}
 use Rattle.channel_interleaving.specs.declared.names.Hold.{Hold}
 use Rattle.channel_interleaving.specs.declared.names.Operation.{Operation}
 use Rattle.channel_interleaving.specs.declared.names.Standing.TheVariants.{IsPolled}
 use Rattle.channel_interleaving.specs.declared.roll.Roll.{Roll}
-use Rattle.channel_interleaving.proofs.CountNames.{bit, without_live, spent_live, lent_live, standing_live}
+use Rattle.channel_interleaving.proofs.CountNames.{bit, without_live, spent_live, lent_live, borrowed_live, handed_over_live, standing_live}
 
 -- ---- what is asked
 
@@ -214,8 +214,8 @@ module _ (T : Type 0) where
     lent : (handle : HandleId) → live_on side (with_lent handle r).handles + 0 ≡ live_on side r.handles
     lent handle = let same = lent_live side handle r in omega (arith, same)
 
-    made : (op : OpId) (handle : HandleId) → live_on side (with_lent handle (operation_named op r)).handles + 0 ≡ live_on side r.handles
-    made op handle = let same = lent_live side handle (operation_named op r) in omega (arith, same)
+    made : (op : OpId) (handle : HandleId) → live_on side (with_borrowed handle (operation_named op r)).handles + 0 ≡ live_on side r.handles
+    made op handle = let same = borrowed_live side handle (operation_named op r) in omega (arith, same)
 
     named : (handle new : HandleId) → live_on side (with_lent handle (handle_named new r)).handles ≡ live_on side r.handles
     named handle new =
@@ -265,7 +265,8 @@ module _ (T : Type 0) where
         (aside (live_on side r.handles) (asks r (call.PollRefused op)) a.0 refl, sym a.1)
     begins_so (call.GiveUp op) =
         let a = gives_up_aside side (held_of r) op (operation_at op r) in
-        (aside (live_on side r.handles) (asks r (call.GiveUp op)) a.0 refl, leaves_aside (at op.0 r.operations) ∙ sym a.1)
+        let live = handed_over_live side (at op.0 r.operations) (record r { operations = without_name op.0 r.operations }) in
+        (aside _ (asks r (call.GiveUp op)) a.0 live, leaves_aside (at op.0 r.operations) ∙ sym a.1)
     begins_so (call.SendIsTerminated op) =
         let same = lent_by_live (at op.0 r.operations) in
         (omega (arith, same), leaves_aside (at op.0 r.operations))

@@ -14,13 +14,14 @@ use Rattle.channel_model.specs.declared.name.HandleKind.{HandleKind}
 use Rattle.channel_model.specs.declared.name.HandleKind.TheVariants as handle_kind
 use Rattle.channel_model.specs.declared.name.Waiter.{Waiter}
 use Rattle.channel_model.specs.declared.name.Waiter.TheVariants.{Op, Stream}
-use Rattle.channel_interleaving.specs.Bookkeeping.{written_back, installed, with_one_woken, all_woken}
+use Rattle.channel_interleaving.specs.Bookkeeping.{written_back, installed, with_one_woken, all_woken, handed_over_by}
 use Rattle.channel_interleaving.specs.Counted.{is_strong, strong_lives, live_on, makes_strong}
 use Rattle.channel_interleaving.specs.Owners.{Post, free, vacant, no_stream_post, stream_post, post, posted, Suits}
-use Rattle.channel_interleaving.specs.Roll.{standing_with, used_more, used_less, with_handle, with_lent, with_given_back, with_standing}
+use Rattle.channel_interleaving.specs.Roll.{standing_with, unused, used_more, used_less, borrowed_more, handed_over, with_handle, with_lent, with_given_back, with_borrowed, with_standing}
 use Rattle.channel_interleaving.specs.declared.names.Errand.{Errand}
 use Rattle.channel_interleaving.specs.declared.names.Errand.TheVariants as errand
 use Rattle.channel_interleaving.specs.declared.names.Hold.{Hold}
+use Rattle.channel_interleaving.specs.declared.names.Operation.{Operation}
 use Rattle.channel_interleaving.specs.declared.names.Standing.{Standing}
 use Rattle.channel_interleaving.specs.declared.names.Standing.TheVariants.{Rests, Waits, IsPolled}
 use Rattle.channel_interleaving.specs.declared.roll.Roll.{Roll}
@@ -133,6 +134,15 @@ module _ {T : Type 0} where
       → live_on side (with_given_back handle r).handles ≡ live_on side r.handles
   back_live side handle r = handle_live side used_less handle r (λ h. refl)
 
+  pub borrowed_live : (side : Side) (handle : HandleId) (r : Roll T)
+      → live_on side (with_borrowed handle r).handles ≡ live_on side r.handles
+  borrowed_live side handle r = handle_live side borrowed_more handle r (λ h. refl)
+
+  pub handed_over_live : (side : Side) (o : Option (Operation T)) (r : Roll T)
+      → live_on side (handed_over_by o r).handles ≡ live_on side r.handles
+  handed_over_live side None r = refl
+  handed_over_live side (Some o) r = handle_live side handed_over o.handle r (λ h. refl)
+
   pub standing_live : (side : Side) (s : Standing) (handle : HandleId) (r : Roll T)
       → live_on side (with_standing s handle r).handles ≡ live_on side r.handles
   standing_live side s handle r = handle_live side (λ (h : Hold). record h { standing = s }) handle r (λ h. refl)
@@ -151,7 +161,7 @@ module _ {T : Type 0} where
       → live_on side (installed new kind y r).handles ≡ live_on side r.handles + bit (is_strong side kind && is_made (Some y))
   installed_live side new kind reply.Made r e =
       let there = vacant_is (lookup (nat_eq new.0) r.handles) e in
-      let set = set_live side new.0 r.handles (Some (record { handle = record { kind = kind; borrowers = 0 }; standing = Rests })) there.0 there.1 in
+      let set = set_live side new.0 r.handles (Some (unused kind)) there.0 there.1 in
       let none : bit (strong_lives side there.0) ≡ 0 = ap bit (there.2 side) in
       let all : bit (is_strong side kind && true) ≡ bit (is_strong side kind) = ap bit (and_true (is_strong side kind)) in
       omega (arith, set, none, all)

@@ -1,5 +1,5 @@
 -- What a call that begins takes over from the names.
-use Rattle.std.proofs.Common.{◌≡◌, ℕ, nat_eq, Bool, true, false, not, ◌&&◌, if◌then◌else◌, Option, None, Some, is_some, ◌⊎◌, inl, inr, refl, sym, ap, ◌∙◌, subst}
+use Rattle.std.proofs.Common.{◌≡◌, ℕ, nat_eq, Bool, true, false, not, ◌&&◌, ◌||◌, if◌then◌else◌, Option, None, Some, is_some, ◌⊎◌, inl, inr, refl, sym, ap, ◌∙◌, subst}
 use Rattle.std.specs.List.{list_all}
 use Rattle.std.specs.Map.{lookup}
 use Rattle.std.specs.Option.{option_map, option_map_or}
@@ -33,7 +33,7 @@ use Rattle.channel_model.specs.declared.name.Waiter.TheVariants.{Op}
 use Rattle.channel_interleaving.specs.AskedBy.{listening_first, IsOrListens}
 use Rattle.channel_interleaving.specs.Bookkeeping.{asks, names_begun, lent_to_poll, polled_ask, with_operation}
 use Rattle.channel_interleaving.specs.Owners.{Post, free, vacant, amiss, rests, waits, polled, post_on, posted, operation_post, post, holding, task_at, wait_of, line_asked, Bears, subject, Suits}
-use Rattle.channel_interleaving.specs.Refusal.{begin_refusal, meets_poll, takes_again}
+use Rattle.channel_interleaving.specs.Refusal.{begin_refusal, meets_poll, takes_used, takes_again}
 use Rattle.channel_interleaving.specs.Roll.{key_of, is_polled, line_of_kind, operation_of, names_of, held_of}
 use Rattle.channel_interleaving.specs.declared.names.Errand.{Errand}
 use Rattle.channel_interleaving.specs.declared.names.Errand.TheVariants as errand
@@ -247,7 +247,7 @@ module _ {T : Type 0} where
       let a = if_none (not (list_all (is_live (names_of r)) (uses c))) _ _ h in
       let b = if_none (not (are_fit (names_of r) c)) _ _ a.1 in
       let d = if_none (meets_poll r c) _ _ b.1 in
-      let e = if_none (takes_borrowed (names_of r) c) _ _ d.1 in
+      let e = if_none (takes_borrowed (names_of r) c || takes_used r c) _ _ d.1 in
       let f = if_none (takes_again r c) _ None e.1 in
       record { live = not_false _ a.0; fit = not_false _ b.0; free_of_polls = d.0; new = f.0 }
 

@@ -12,7 +12,7 @@ use Rattle.channel_calls.specs.declared.stage.Line.TheVariants.{Sends, Receives,
 use Rattle.channel_calls.specs.declared.stage.Side.TheVariants.{Senders, Receivers}
 use Rattle.channel_model.specs.Answer.{weak_of, strong_of}
 use Rattle.channel_model.specs.Asked.{KeysHeld as HeldBy, refusal_asked, giving_up_asked, drop_asked, clone_asked, upgrade_asked}
-use Rattle.channel_model.specs.Names.{at, is_taken}
+use Rattle.channel_model.specs.Names.{at, is_taken, without_name}
 use Rattle.channel_model.specs.Refusal.{handle_fits, a_receiver}
 use Rattle.channel_model.specs.declared.call.Call.{Call}
 use Rattle.channel_model.specs.declared.call.Call.TheVariants as call
@@ -23,10 +23,10 @@ use Rattle.channel_model.specs.declared.name.HandleKind.TheVariants as handle_ki
 use Rattle.channel_model.specs.declared.name.OpId.{OpId}
 use Rattle.channel_model.specs.declared.name.Waiter.{Waiter}
 use Rattle.channel_model.specs.declared.name.Waiter.TheVariants.{Op, Stream}
-use Rattle.channel_interleaving.specs.Bookkeeping.{asks, errand_of, names_begun, lent_by, leave_handle_of, new_from, operation_named, handle_named}
+use Rattle.channel_interleaving.specs.Bookkeeping.{asks, errand_of, names_begun, lent_by, handed_over_by, leave_handle_of, new_from, operation_named, handle_named}
 use Rattle.channel_interleaving.specs.Owners.{Post, free, vacant, amiss, polled, post_on, no_stream_post, stream_post, posted, post, wait_of, subject, Suits}
 use Rattle.channel_interleaving.specs.Refusal.{is_stream_polled}
-use Rattle.channel_interleaving.specs.Roll.{key_of, is_polled, line_of_kind, operation_of, names_of, handle_at, held_of, with_lent, with_standing}
+use Rattle.channel_interleaving.specs.Roll.{key_of, is_polled, line_of_kind, operation_of, names_of, handle_at, held_of, with_lent, with_borrowed, with_standing}
 use Rattle.channel_interleaving.specs.declared.names.Errand.TheVariants as errand
 use Rattle.channel_interleaving.specs.declared.names.Hold.{Hold}
 use Rattle.channel_interleaving.specs.declared.names.Operation.{Operation}
@@ -36,7 +36,7 @@ use Rattle.channel_interleaving.specs.declared.names.Standing.{Standing}
 use Rattle.channel_interleaving.specs.declared.names.Standing.TheVariants.{Rests, Waits, IsPolled}
 use Rattle.channel_interleaving.specs.declared.roll.Roll.{Roll}
 use Rattle.channel_interleaving.proofs.OwnerBegins.{IsLoose, held_in, ask_holds, Quiet, Touches, Admitted, handle_as, untaken, on_line, as_model, Sane, Found, find, key_is, held_is, loose_is, now_polled, polls}
-use Rattle.channel_interleaving.proofs.OwnerNames.{Sets, Same, same_both, sets_same, op_post, hold_post, found, op_set, op_spent, handle_set, handle_spent, handle_changed, lent_same}
+use Rattle.channel_interleaving.proofs.OwnerNames.{Sets, Same, same_both, sets_same, op_post, hold_post, found, op_set, op_spent, handle_set, handle_spent, handle_changed, lent_same, borrowed_same, handed_over_same}
 use Rattle.channel_interleaving.proofs.RefusalLemmas as seen
 
 abbrev Idle : HandleKind → Standing → Type 0
@@ -173,10 +173,12 @@ module _ {T : Type 0} where
       let same : asks r (call.GiveUp op) ≡ ask.GiveUp (line_of_kind o.kind) is.0 (key_of o.standing) =
       ap (λ x. giving_up_asked (held_of r) op (option_map operation_of x)) f.is ∙ is.1 in
       let looked : is_some (lookup (nat_eq op.0) r.operations) ≡ true = ap (λ x. is_some x) (found op.0 r.operations o f.is) in
+      let gone : Roll T = record r { operations = without_name op.0 r.operations } in
       record {
         name = Op op;
         now = vacant;
-        sets = op_set r op None looked;
+        sets = sets_same (post r) (post gone) (post (handed_over_by (at op.0 r.operations) gone)) (Op op) vacant (op_set r op None looked)
+            (handed_over_same gone (at op.0 r.operations));
         busy = tt;
         loose = loose_is r op f;
         takes = ap ask_holds same ∙ held_is r op f;
@@ -189,10 +191,10 @@ module _ {T : Type 0} where
   -- a new operation has a new name
   names_operation : (r : Roll T) (op : OpId) (handle : HandleId) (o : Operation T) → o.standing ≡ Rests
       → is_taken op.0 r.operations ≡ false
-      → Touches (post r) (post (with_lent handle (operation_named op r))) (errand.Make op o) ask.Make
+      → Touches (post r) (post (with_borrowed handle (operation_named op r))) (errand.Make op o) ask.Make
   names_operation r op handle o new untook =
-      let s = sets_same (post r) (post (operation_named op r)) (post (with_lent handle (operation_named op r))) (Op op) vacant
-      (op_spent r op) (lent_same (operation_named op r) handle) in
+      let s = sets_same (post r) (post (operation_named op r)) (post (with_borrowed handle (operation_named op r))) (Op op) vacant
+      (op_spent r op) (borrowed_same (operation_named op r) handle) in
       let is_free : post r (Op op) ≡ free = untaken op_post op.0 r.operations untook in
       record {
         name = Op op;

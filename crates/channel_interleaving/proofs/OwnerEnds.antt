@@ -23,7 +23,7 @@ use Rattle.channel_model.specs.declared.name.Waiter.{Waiter}
 use Rattle.channel_model.specs.declared.name.Waiter.TheVariants.{Op, Stream}
 use Rattle.channel_interleaving.specs.Bookkeeping.{restored, installed, written_back}
 use Rattle.channel_interleaving.specs.Owners.{Post, free, vacant, amiss, rests, waits, polled, post_on, no_stream_post, stream_post, posted, operation_post, post, wait_of, subject, Suits}
-use Rattle.channel_interleaving.specs.Roll.{standing_with, line_of_kind, with_given_back, with_standing}
+use Rattle.channel_interleaving.specs.Roll.{standing_with, line_of_kind, unused, with_given_back, with_standing}
 use Rattle.channel_interleaving.specs.declared.names.Errand.{Errand}
 use Rattle.channel_interleaving.specs.declared.names.Errand.TheVariants as errand
 use Rattle.channel_interleaving.specs.declared.names.Hold.{Hold}
@@ -273,7 +273,7 @@ module _ {T : Type 0} where
   installs r new k reply.Made v = (
     stream_post k Rests,
     calm_stream k,
-    handle_set r new (Some (record { handle = record { kind = k; borrowers = 0 }; standing = Rests }))
+    handle_set r new (Some (unused k))
         (vacant_taken hold_post (lookup (nat_eq new.0) r.handles) v),
   )
   installs r new k y v = (vacant, tt, record { there = v; others = λ w other. refl })

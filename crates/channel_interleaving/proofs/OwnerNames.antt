@@ -12,9 +12,9 @@ use Rattle.channel_model.specs.declared.name.HandleKind.TheVariants as handle_ki
 use Rattle.channel_model.specs.declared.name.OpId.{OpId}
 use Rattle.channel_model.specs.declared.name.Waiter.{Waiter}
 use Rattle.channel_model.specs.declared.name.Waiter.TheVariants.{Op, Stream}
-use Rattle.channel_interleaving.specs.Bookkeeping.{with_operation, operation_named, handle_named, with_one_woken, all_woken}
+use Rattle.channel_interleaving.specs.Bookkeeping.{with_operation, handed_over_by, operation_named, handle_named, with_one_woken, all_woken}
 use Rattle.channel_interleaving.specs.Owners.{IsAmong, Post, free, vacant, amiss, rests, waits, polled, post_on, no_stream_post, stream_post, posted, send_post, operation_post, post}
-use Rattle.channel_interleaving.specs.Roll.{told, used_more, used_less, with_handle, with_lent, with_given_back}
+use Rattle.channel_interleaving.specs.Roll.{told, used_more, used_less, borrowed_more, handed_over, with_handle, with_lent, with_given_back, with_borrowed}
 use Rattle.channel_interleaving.specs.declared.names.Hold.{Hold}
 use Rattle.channel_interleaving.specs.declared.names.Operation.{Operation}
 use Rattle.channel_interleaving.specs.declared.names.OperationKind.{OperationKind}
@@ -264,6 +264,13 @@ module _ {T : Type 0} where
 
   pub given_back_same : (r : Roll T) (handle : HandleId) → Same (post r) (post (with_given_back handle r))
   given_back_same r handle = handle_kept r handle used_less (λ h. refl)
+
+  pub borrowed_same : (r : Roll T) (handle : HandleId) → Same (post r) (post (with_borrowed handle r))
+  borrowed_same r handle = handle_kept r handle borrowed_more (λ h. refl)
+
+  pub handed_over_same : (r : Roll T) (o : Option (Operation T)) → Same (post r) (post (handed_over_by o r))
+  handed_over_same r None v = refl
+  handed_over_same r (Some o) v = handle_kept r o.handle handed_over (λ h. refl) v
 
   -- ---- wakes
 

@@ -7,7 +7,7 @@ use Rattle.channel_calls.specs.Parts.{listeners}
 use Rattle.channel_calls.specs.declared.ask.ChannelAsk.{ChannelAsk}
 use Rattle.channel_calls.specs.declared.stage.Line.{Line}
 use Rattle.channel_model.specs.Lines.{is_among, without_waiter}
-use Rattle.channel_model.specs.Names.{at}
+use Rattle.channel_model.specs.Names.{at, without_name}
 use Rattle.channel_model.specs.declared.call.Call.{Call}
 use Rattle.channel_model.specs.declared.call.Call.TheVariants as call
 use Rattle.channel_model.specs.declared.name.HandleId.{HandleId}
@@ -17,18 +17,18 @@ use Rattle.channel_model.specs.declared.name.Waiter.TheVariants.{Op, Stream}
 use Rattle.channel_steps.specs.Run.{Begins, new_scene}
 use Rattle.channel_steps.specs.Scene.{Scene}
 use Rattle.channel_steps.specs.declared.party.Entry.{Entry as ChannelEntry}
-use Rattle.channel_interleaving.specs.Bookkeeping.{errand_of, names_begun, lent_by, operation_named, handle_named}
+use Rattle.channel_interleaving.specs.Bookkeeping.{errand_of, names_begun, lent_by, handed_over_by, operation_named, handle_named}
 use Rattle.channel_interleaving.specs.Order.{placed, order_begun}
 use Rattle.channel_interleaving.specs.Owners.{IsAmong, NoneTwice, Post, vacant, post, subject, Owned}
 use Rattle.channel_interleaving.specs.OwnerOrder.{woken_key, Within, NeedsPlace, InOrder}
-use Rattle.channel_interleaving.specs.Roll.{first_roll, with_lent}
+use Rattle.channel_interleaving.specs.Roll.{first_roll, with_lent, with_borrowed}
 use Rattle.channel_interleaving.specs.Run.{Book, book_begun}
 use Rattle.channel_interleaving.specs.declared.names.Operation.{Operation}
 use Rattle.channel_interleaving.specs.declared.roll.Roll.{Roll}
 use Rattle.channel_interleaving.specs.declared.step.PartyId.{PartyId}
 use Rattle.channel_interleaving.proofs.OwnerBegins.{IsBusy, Admitted, handle_as, Sane, find}
 use Rattle.channel_interleaving.proofs.OwnerCalls.{BeginsSo, begins_so}
-use Rattle.channel_interleaving.proofs.OwnerNames.{Sets, Same, same_both, sets_same, waiter_or, found, op_set, op_spent, handle_set, handle_spent, lent_same}
+use Rattle.channel_interleaving.proofs.OwnerNames.{Sets, Same, same_both, sets_same, waiter_or, found, op_set, op_spent, handle_set, handle_spent, lent_same, borrowed_same, handed_over_same}
 use Rattle.channel_interleaving.proofs.OwnerOrder.{busy_keyless, calm_placeless, needs_same}
 use Rattle.channel_interleaving.proofs.OwnerOrderNames.{stays_among, once_without, stays_placed, is_placed, once_placed}
 use Rattle.channel_interleaving.proofs.OwnerOrderWakes.{key_on, keys_are}
@@ -181,7 +181,9 @@ module _ {T : Type 0} where
       let f = find r op sane a.live a.free_of_polls in
       let looked : is_some (lookup (nat_eq op.0) r.operations) ≡ true =
       ap (λ x. is_some x) (found op.0 r.operations f.operation f.is) in
-      op_set r op None looked
+      let gone : Roll T = record r { operations = without_name op.0 r.operations } in
+      sets_same (post r) (post gone) (post (handed_over_by (at op.0 r.operations) gone)) (Op op) vacant (op_set r op None looked)
+      (handed_over_same gone (at op.0 r.operations))
 
   dropped : (r : Roll T) (handle : HandleId) → Admitted r (call.Drop handle)
       → Sets (post r) (post (names_begun r (call.Drop handle))) (Stream handle) vacant
@@ -199,10 +201,10 @@ module _ {T : Type 0} where
   lent_by_eased r (Some o) v = lent_eased r o.handle v
 
   -- a new name is taken
-  operation_eased : (r : Roll T) (op : OpId) (handle : HandleId) → Eased (post r) (post (with_lent handle (operation_named op r)))
-  operation_eased r op handle = vacant_eased (post r) (post (with_lent handle (operation_named op r))) (Op op)
-      (sets_same (post r) (post (operation_named op r)) (post (with_lent handle (operation_named op r))) (Op op) vacant
-      (op_spent r op) (lent_same (operation_named op r) handle))
+  operation_eased : (r : Roll T) (op : OpId) (handle : HandleId) → Eased (post r) (post (with_borrowed handle (operation_named op r)))
+  operation_eased r op handle = vacant_eased (post r) (post (with_borrowed handle (operation_named op r))) (Op op)
+      (sets_same (post r) (post (operation_named op r)) (post (with_borrowed handle (operation_named op r))) (Op op) vacant
+      (op_spent r op) (borrowed_same (operation_named op r) handle))
 
   handle_eased : (r : Roll T) (new from : HandleId) → Eased (post r) (post (with_lent from (handle_named new r)))
   handle_eased r new from = vacant_eased (post r) (post (with_lent from (handle_named new r))) (Stream new)

@@ -1,4 +1,4 @@
--- How many use each handle, as calls begin, make steps and end.
+-- How many calls use each handle and how many operations borrow it, as calls begin, make steps and end.
 use Rattle.std.proofs.Common.{arith, ◌≡◌, ℕ, zero, suc, ◌+◌, ◌≤◌, nat_eq, Bool, true, false, cond, List, [], ◌∷◌, ◌++◌, length, slice_get, unwrap_or, Option, None, Some, ◌⊎◌, inl, inr, refl, sym, ap, ◌∙◌, subst}
 use Rattle.std.specs.List.{remove}
 use Rattle.std.specs.Option.{option_map, option_map_or}
@@ -19,8 +19,8 @@ use Rattle.channel_model.specs.declared.name.HandleKind.TheVariants as handle_ki
 use Rattle.channel_model.specs.declared.name.OpId.{OpId}
 use Rattle.channel_model.specs.declared.name.Waiter.{Waiter}
 use Rattle.channel_model.specs.declared.name.Waiter.TheVariants.{Op, Stream}
-use Rattle.channel_interleaving.specs.Bookkeeping.{names_begun, written_back, installed, with_one_woken, all_woken, lent_by, lent_to_poll, with_operation, operation_named, handle_named, errand_of, leave_handle_of, new_from}
-use Rattle.channel_interleaving.specs.Roll.{standing_with, used_more, used_less, with_handle, with_lent, with_given_back, with_standing, unused, first_roll, handle_at}
+use Rattle.channel_interleaving.specs.Bookkeeping.{names_begun, written_back, installed, with_one_woken, all_woken, lent_by, handed_over_by, lent_to_poll, with_operation, operation_named, handle_named, errand_of, leave_handle_of, new_from}
+use Rattle.channel_interleaving.specs.Roll.{standing_with, used_more, used_less, borrowed_more, handed_over, with_handle, with_lent, with_given_back, with_borrowed, with_handed_over, with_standing, unused, first_roll, handle_at}
 use Rattle.channel_interleaving.specs.Run.{Book, book_begun, book_ended, with_woken}
 use Rattle.channel_interleaving.specs.Users.{one, times_used, all_uses, FewUsers}
 use Rattle.channel_interleaving.specs.declared.names.Agent.{Agent}
@@ -34,9 +34,19 @@ use Rattle.channel_interleaving.specs.declared.roll.Roll.{Roll}
 use Rattle.channel_interleaving.specs.declared.step.PartyId.{PartyId}
 use Rattle.channel_interleaving.proofs.OwnerNames.{same_number, own_number, number_or, set_there, set_other, found, is_there, handle_none}
 
--- each handle is used by no more than so many
-abbrev AreFew : (ℕ → ℕ) → Directory Hold → Type 0
-AreFew n d = (name : ℕ) (h : Hold) → at name d ≡ Some h → h.handle.borrowers ≤ n name
+-- a handle is used by no more calls, and borrowed by no more operations, than these
+abbrev Few : ℕ → ℕ → Hold → Type 0
+Few n m h = (h.users ≤ n) × (h.handle.borrowers ≤ m)
+
+-- and so is each
+abbrev AreFew : (ℕ → ℕ) → ℕ → Directory Hold → Type 0
+AreFew n m d = (name : ℕ) (h : Hold) → at name d ≡ Some h → Few (n name) m h
+
+allows : (n o m p : ℕ) (h : Hold) → n ≤ o → m ≤ p → Few n m h → Few o p h
+allows n o m p h more higher f =
+    let users : h.users ≤ n = f.0 in
+    let borrowers : h.handle.borrowers ≤ m = f.1 in
+    (omega (arith, users, more), omega (arith, borrowers, higher))
 
 abbrev NoMore : (ℕ → ℕ) → (ℕ → ℕ) → Type 0
 NoMore n m = (name : ℕ) → n name ≤ m name
@@ -64,15 +74,15 @@ changed {X} n m d v g there = by (number_or m n) where
       inl (e, subst (λ (k : ℕ). at k (set_value (nat_eq n) d v) ≡ v) (sym e) (ap (λ (o : Option (Option X)). living o) set))
   by (inr f) = inr (f, ap (λ (o : Option (Option X)). living o) (set_other n m d v f))
 
-more_few : (n m : ℕ → ℕ) (d : Directory Hold) → NoMore n m → AreFew n d → AreFew m d
-more_few n m d le few name h i = let f = few name h i in let l = le name in omega (arith, f, l)
+more_few : (n o : ℕ → ℕ) (m p : ℕ) (d : Directory Hold) → NoMore n o → m ≤ p → AreFew n m d → AreFew o p d
+more_few n o m p d more higher few name h i = allows (n name) (o name) m p h (more name) higher (few name h i)
 
 -- under a name that was just taken nothing lives
-spent_few : (n : ℕ → ℕ) (name : ℕ) (d : Directory Hold) → AreFew n d → AreFew n (with_spent name d)
-spent_few n name d few m h i = by (nat_eq m name) i where
-  by : (t : Bool) → living (cond t (Some None) (lookup (nat_eq m) d)) ≡ Some h → h.handle.borrowers ≤ n m
+spent_few : (n : ℕ → ℕ) (m name : ℕ) (d : Directory Hold) → AreFew n m d → AreFew n m (with_spent name d)
+spent_few n m name d few k h i = by (nat_eq k name) i where
+  by : (t : Bool) → living (cond t (Some None) (lookup (nat_eq k) d)) ≡ Some h → Few (n k) m h
   by true e = absurd (never h e)
-  by false e = few m h e
+  by false e = few k h e
 
 -- and one that didn't live doesn't
 spent_none : (n m : ℕ) (d : Directory Hold) → at m d ≡ None → at m (with_spent n d) ≡ None
@@ -97,12 +107,12 @@ set_at n m (f ∷ d) v = elim (decided (nat_eq n f.0)) [
 ]
 
 -- so many may use it that is set
-set_few : (n : ℕ → ℕ) (name : ℕ) (d : Directory Hold) (v : Option Hold) → AreFew n d
-    → ((h : Hold) → v ≡ Some h → (m : ℕ) → h.handle.borrowers ≤ n m) → AreFew n (set_value (nat_eq name) d v)
-set_few n name d v few new m h i = by (set_at name m d v) where
-  by : (at m (set_value (nat_eq name) d v) ≡ at m d) ⊎ (at m (set_value (nat_eq name) d v) ≡ v) → h.handle.borrowers ≤ n m
-  by (inl e) = few m h (sym e ∙ i)
-  by (inr e) = new h (sym e ∙ i) m
+set_few : (n : ℕ → ℕ) (m name : ℕ) (d : Directory Hold) (v : Option Hold) → AreFew n m d
+    → ((h : Hold) → v ≡ Some h → (k : ℕ) → Few (n k) m h) → AreFew n m (set_value (nat_eq name) d v)
+set_few n m name d v few new k h i = by (set_at name k d v) where
+  by : (at k (set_value (nat_eq name) d v) ≡ at k d) ⊎ (at k (set_value (nat_eq name) d v) ≡ v) → Few (n k) m h
+  by (inl e) = few k h (sym e ∙ i)
+  by (inr e) = new h (sym e ∙ i) k
 
 set_length_at : {X : Type 0} (t : Bool) (n : ℕ) (f : ℕ × Option X) (d : Directory X) (v : Option X)
     → length (set_value (nat_eq n) d v) ≡ length d → length (cond t ((f.0, v) ∷ d) (f ∷ set_value (nat_eq n) d v)) ≡ suc (length d)
@@ -132,47 +142,65 @@ one_other name handle f = by (nat_eq name handle.0) refl where
   by false e = refl
 
 module _ {T : Type 0} where
-  handle_few : (n m : ℕ → ℕ) (change : Hold → Hold) (handle : HandleId) (r : Roll T)
-      → ((name : ℕ) → (name ≡ handle.0 → ⊥) → n name ≤ m name)
-      → ((h : Hold) → h.handle.borrowers ≤ n handle.0 → (change h).handle.borrowers ≤ m handle.0)
-      → AreFew n r.handles → AreFew m (with_handle change handle r).handles
-  handle_few n m change handle r le bound few = by (at handle.0 r.handles) refl where
-    by : (o : Option Hold) → at handle.0 r.handles ≡ o
-        → AreFew m (option_map_or (λ (h : Hold). with_changed handle.0 (change h) r.handles) o r.handles)
+  handle_few : (n o : ℕ → ℕ) (m p : ℕ) (change : Hold → Hold) (handle : HandleId) (r : Roll T)
+      → ((name : ℕ) → (name ≡ handle.0 → ⊥) → n name ≤ o name) → m ≤ p
+      → ((h : Hold) → Few (n handle.0) m h → Few (o handle.0) p (change h))
+      → AreFew n m r.handles → AreFew o p (with_handle change handle r).handles
+  handle_few n o m p change handle r more higher bound few = by (at handle.0 r.handles) refl where
+    by : (x : Option Hold) → at handle.0 r.handles ≡ x
+        → AreFew o p (option_map_or (λ (h : Hold). with_changed handle.0 (change h) r.handles) x r.handles)
     by None e name h i = one_of (number_or name handle.0) where
-      one_of : (name ≡ handle.0) ⊎ (name ≡ handle.0 → ⊥) → h.handle.borrowers ≤ m name
+      one_of : (name ≡ handle.0) ⊎ (name ≡ handle.0 → ⊥) → Few (o name) p h
       one_of (inl same) = absurd (never h (sym e ∙ subst (λ (k : ℕ). at k r.handles ≡ Some h) same i))
-      one_of (inr other) = let f = few name h i in let l = le name other in omega (arith, f, l)
+      one_of (inr other) = allows (n name) (o name) m p h (more name other) higher (few name h i)
     by (Some g) e name h i = one_of (changed handle.0 name r.handles (Some (change g)) g e) where
       one_of : ((name ≡ handle.0) × (at name (set_value (nat_eq handle.0) r.handles (Some (change g))) ≡ Some (change g)))
           ⊎ ((name ≡ handle.0 → ⊥) × (at name (set_value (nat_eq handle.0) r.handles (Some (change g))) ≡ at name r.handles))
-          → h.handle.borrowers ≤ m name
+          → Few (o name) p h
       one_of (inl (same, is)) =
-          subst (λ (k : ℕ). h.handle.borrowers ≤ m k) (sym same)
-          (subst (λ (x : Hold). x.handle.borrowers ≤ m handle.0) (inner (change g) h (sym is ∙ i)) (bound g (few handle.0 g e)))
-      one_of (inr (other, is)) = let f = few name h (sym is ∙ i) in let l = le name other in omega (arith, f, l)
+          subst (λ (k : ℕ). Few (o k) p h) (sym same)
+          (subst (λ (x : Hold). Few (o handle.0) p x) (inner (change g) h (sym is ∙ i)) (bound g (few handle.0 g e)))
+      one_of (inr (other, is)) = allows (n name) (o name) m p h (more name other) higher (few name h (sym is ∙ i))
 
-  -- one more may use it
-  lent_few : (n : ℕ → ℕ) (handle : HandleId) (r : Roll T) → AreFew n r.handles
-      → AreFew (λ name. n name + one name handle) (with_lent handle r).handles
-  lent_few n handle r few =
+  -- one more call may use it
+  lent_few : (n : ℕ → ℕ) (m : ℕ) (handle : HandleId) (r : Roll T) → AreFew n m r.handles
+      → AreFew (λ name. n name + one name handle) m (with_lent handle r).handles
+  lent_few n m handle r few =
       let there = one_there handle in
-      handle_few n (λ name. n name + one name handle) used_more handle r (λ name other. omega arith)
-      (λ h f. omega (arith, f, there)) few
+      handle_few n (λ name. n name + one name handle) m m used_more handle r (λ name other. omega arith) (omega arith)
+      (λ h f. (let users : h.users ≤ n handle.0 = f.0 in omega (arith, users, there), f.1)) few
 
   -- and one fewer
-  given_back_few : (n : ℕ → ℕ) (handle : HandleId) (r : Roll T) → AreFew (λ name. n name + one name handle) r.handles
-      → AreFew n (with_given_back handle r).handles
-  given_back_few n handle r few =
+  given_back_few : (n : ℕ → ℕ) (m : ℕ) (handle : HandleId) (r : Roll T) → AreFew (λ name. n name + one name handle) m r.handles
+      → AreFew n m (with_given_back handle r).handles
+  given_back_few n m handle r few =
       let there = one_there handle in
-      handle_few (λ name. n name + one name handle) n used_less handle r
-      (λ name other. let none = one_other name handle other in omega (arith, none))
-      (λ h f. omega (arith, f, there)) few
+      handle_few (λ name. n name + one name handle) n m m used_less handle r
+      (λ name other. let none = one_other name handle other in omega (arith, none)) (omega arith)
+      (λ h f. (let users : h.users ≤ n handle.0 + one handle.0 handle = f.0 in omega (arith, users, there), f.1)) few
 
-  standing_few : (n : ℕ → ℕ) (s : Standing) (handle : HandleId) (r : Roll T) → AreFew n r.handles
-      → AreFew n (with_standing s handle r).handles
-  standing_few n s handle r few =
-      handle_few n n (λ (h : Hold). record h { standing = s }) handle r (λ name other. omega arith) (λ h f. f) few
+  -- one more operation may borrow it
+  borrowed_few : (n : ℕ → ℕ) (m : ℕ) (handle : HandleId) (r : Roll T) → AreFew n m r.handles
+      → AreFew n (suc m) (with_borrowed handle r).handles
+  borrowed_few n m handle r few =
+      handle_few n n m (suc m) borrowed_more handle r (λ name other. omega arith) (omega arith)
+      (λ h f. (f.0, let borrowers : h.handle.borrowers ≤ m = f.1 in omega (arith, borrowers))) few
+
+  -- one more call may use it, and no more operations borrow it
+  handed_over_few : (n : ℕ → ℕ) (m : ℕ) (handle : HandleId) (r : Roll T) → AreFew n m r.handles
+      → AreFew (λ name. n name + one name handle) m (with_handed_over handle r).handles
+  handed_over_few n m handle r few =
+      let there = one_there handle in
+      handle_few n (λ name. n name + one name handle) m m handed_over handle r (λ name other. omega arith) (omega arith)
+      (λ h f. (
+        let users : h.users ≤ n handle.0 = f.0 in omega (arith, users, there),
+        let borrowers : h.handle.borrowers ≤ m = f.1 in omega (arith, borrowers),
+      )) few
+
+  standing_few : (n : ℕ → ℕ) (m : ℕ) (s : Standing) (handle : HandleId) (r : Roll T) → AreFew n m r.handles
+      → AreFew n m (with_standing s handle r).handles
+  standing_few n m s handle r few =
+      handle_few n n m m (λ (h : Hold). record h { standing = s }) handle r (λ name other. omega arith) (omega arith) (λ h f. f) few
 
   -- ---- the beginning of a call
 
@@ -184,68 +212,67 @@ module _ {T : Type 0} where
     by None = refl
     by (Some x) = set_length op.0 r.operations (Some (change x))
 
-  -- so many are allowed then
-  abbrev allowed : (ℕ → ℕ) → Call T → Roll T → ℕ → ℕ
-  allowed n c r name = length (names_begun r c).operations + (n name + times_used name (errand_of r c))
-
-  module _ (n : ℕ → ℕ) (r : Roll T) (few : AreFew (λ name. length r.operations + n name) r.handles) where
-    abbrev now : ℕ → ℕ
-    now name = length r.operations + n name
-
+  module _ (n : ℕ → ℕ) (r : Roll T) (few : AreFew n (length r.operations) r.handles) where
     -- an operation is made
     made : (op : OpId) (handle : HandleId)
-        → AreFew (λ name. length (operation_named op r).operations + (n name + 0)) (with_lent handle (operation_named op r)).handles
+        → AreFew (λ name. n name + 0) (length (operation_named op r).operations) (with_borrowed handle (operation_named op r)).handles
     made op handle =
-        more_few (λ name. now name + one name handle) (λ name. length (operation_named op r).operations + (n name + 0))
-        (with_lent handle (operation_named op r)).handles (λ name. let most = one_most name handle in omega (arith, most))
-        (lent_few now handle (operation_named op r) few)
+        more_few n (λ name. n name + 0) (suc (length r.operations)) (length (operation_named op r).operations)
+        (with_borrowed handle (operation_named op r)).handles (λ name. omega arith) (omega arith)
+        (borrowed_few n (length r.operations) handle (operation_named op r) few)
 
     once : (handle : HandleId)
-        → AreFew (λ name. length r.operations + (n name + one name handle)) (with_lent handle r).handles
-    once handle =
-        more_few (λ name. now name + one name handle) (λ name. length r.operations + (n name + one name handle))
-        (with_lent handle r).handles (λ name. omega arith) (lent_few now handle r few)
+        → AreFew (λ name. n name + one name handle) (length r.operations) (with_lent handle r).handles
+    once handle = lent_few n (length r.operations) handle r few
 
     -- a handle is made from one that lives, or that doesn't
     named : (handle new : HandleId) (kind : HandleKind → HandleKind)
-        → AreFew (λ name. length r.operations + (n name + times_used name (let e : Errand T = new_from handle new kind (handle_at handle r) in e)))
+        → AreFew (λ name. n name + times_used name (let e : Errand T = new_from handle new kind (handle_at handle r) in e)) (length r.operations)
         (with_lent handle (handle_named new r)).handles
     named handle new kind = by (at handle.0 r.handles) refl where
-      spent : AreFew now (handle_named new r).handles
-      spent = spent_few now new.0 r.handles few
+      spent : AreFew n (length r.operations) (handle_named new r).handles
+      spent = spent_few n (length r.operations) new.0 r.handles few
 
       by : (o : Option Hold) → at handle.0 r.handles ≡ o
-          → AreFew (λ name. length r.operations + (n name + times_used name (let e : Errand T = new_from handle new kind (let f : Option Handle = option_map (λ (h : Hold). h.handle) o in f) in e)))
+          → AreFew (λ name. n name + times_used name (let e : Errand T = new_from handle new kind (let f : Option Handle = option_map (λ (h : Hold). h.handle) o in f) in e)) (length r.operations)
           (with_lent handle (handle_named new r)).handles
       by None e =
-          subst (λ (x : Roll T). AreFew (λ name. length r.operations + (n name + 0)) x.handles)
+          subst (λ (x : Roll T). AreFew (λ name. n name + 0) (length r.operations) x.handles)
           (sym (handle_none (handle_named new r) handle used_more (spent_none new.0 handle.0 r.handles e)))
-          (more_few now (λ name. length r.operations + (n name + 0)) (handle_named new r).handles (λ name. omega arith) spent)
-      by (Some h) e =
-          more_few (λ name. now name + one name handle) (λ name. length r.operations + (n name + one name handle))
-          (with_lent handle (handle_named new r)).handles (λ name. omega arith) (lent_few now handle (handle_named new r) spent)
+          (more_few n (λ name. n name + 0) (length r.operations) (length r.operations) (handle_named new r).handles (λ name. omega arith) (omega arith) spent)
+      by (Some h) e = lent_few n (length r.operations) handle (handle_named new r) spent
 
-    same : (l : ℕ) (m : ℕ → ℕ) → l ≡ length r.operations → AreFew (λ name. l + (n name + m name)) r.handles
-    same l m e = more_few now (λ name. l + (n name + m name)) r.handles (λ name. omega (arith, e)) few
+    same : (l : ℕ) → l ≡ length r.operations → AreFew (λ name. n name + 0) l r.handles
+    same l e = more_few n (λ name. n name + 0) (length r.operations) l r.handles (λ name. omega arith) (omega (arith, e)) few
 
     lent_by_few : (o : Option (Operation T))
-        → AreFew (λ name. length (lent_by o r).operations + (n name + times_used name (let e : Errand T = leave_handle_of o in e))) (lent_by o r).handles
-    lent_by_few None = same (length r.operations) (λ name. 0) refl
+        → AreFew (λ name. n name + times_used name (let e : Errand T = leave_handle_of o in e)) (length (lent_by o r).operations) (lent_by o r).handles
+    lent_by_few None = same (length r.operations) refl
     lent_by_few (Some o) = once o.handle
 
-    pub begun_few : (c : Call T) → AreFew (allowed n c r) (names_begun r c).handles
+    -- an operation is given up
+    handed_over_by_few : (op : OpId) (o : Option (Operation T))
+        → (let gone : Roll T = record r { operations = without_name op.0 r.operations } in
+        AreFew (λ name. n name + times_used name (let e : Errand T = leave_handle_of o in e)) (length (handed_over_by o gone).operations) (handed_over_by o gone).handles)
+    handed_over_by_few op None = same (length (without_name op.0 r.operations)) (set_length op.0 r.operations None)
+    handed_over_by_few op (Some o) =
+        let gone : Roll T = record r { operations = without_name op.0 r.operations } in
+        let as_many = set_length op.0 r.operations None in
+        more_few (λ name. n name + one name o.handle) (λ name. n name + one name o.handle) (length r.operations)
+        (length (without_name op.0 r.operations)) (with_handed_over o.handle gone).handles (λ name. omega arith) (omega (arith, as_many))
+        (handed_over_few n (length r.operations) o.handle gone few)
+
+    pub begun_few : (c : Call T) → AreFew (λ name. n name + times_used name (errand_of r c)) (length (names_begun r c).operations) (names_begun r c).handles
     begun_few (call.NewSend op sender msg) = made op sender
     begun_few (call.NewRecv op receiver) = made op receiver
     begun_few (call.NewClosed op sender) = made op sender
-    begun_few (call.Poll op) = same _ (λ name. 0) (operation_length lent_to_poll op r)
-    begun_few (call.PollRefused op) = same _ (λ name. 0) (operation_length lent_to_poll op r)
-    begun_few (call.GiveUp op) = same _ (λ name. times_used name (errand_of r (call.GiveUp op))) (set_length op.0 r.operations None)
+    begun_few (call.Poll op) = same _ (operation_length lent_to_poll op r)
+    begun_few (call.PollRefused op) = same _ (operation_length lent_to_poll op r)
+    begun_few (call.GiveUp op) = handed_over_by_few op (at op.0 r.operations)
     begun_few (call.SendIsTerminated op) = lent_by_few (at op.0 r.operations)
     begun_few (call.PollNext receiver) =
         let stands : Roll T = with_standing (IsPolled false) receiver r in
-        more_few (λ name. now name + one name receiver) (λ name. length r.operations + (n name + one name receiver))
-        (with_lent receiver stands).handles (λ name. omega arith)
-        (lent_few now receiver stands (standing_few now (IsPolled false) receiver r few))
+        lent_few n (length r.operations) receiver stands (standing_few n (length r.operations) (IsPolled false) receiver r few)
     begun_few (call.StreamIsTerminated receiver) = once receiver
     begun_few (call.TrySend sender msg) = once sender
     begun_few (call.ForceSend sender msg) = once sender
@@ -253,15 +280,15 @@ module _ {T : Type 0} where
     begun_few (call.RecvMany receiver limit) = once receiver
     begun_few (call.Close handle) = once handle
     begun_few (call.Drop handle) =
-        more_few now (λ name. length r.operations + (n name + 0)) (without_name handle.0 r.handles) (λ name. omega arith)
-        (set_few now handle.0 r.handles None few (λ h e m. absurd (never h e)))
+        more_few n (λ name. n name + 0) (length r.operations) (length r.operations) (without_name handle.0 r.handles) (λ name. omega arith) (omega arith)
+        (set_few n (length r.operations) handle.0 r.handles None few (λ h e k. absurd (never h e)))
     begun_few (call.TryClone handle new) = named handle new (λ k. k)
     begun_few (call.Downgrade handle new) = named handle new weak_of
     begun_few (call.Upgrade weak new) = named weak new strong_of
     begun_few (call.SameChannel a b) =
-        more_few (λ name. now name + one name a + one name b) (λ name. length r.operations + (n name + (one name a + one name b)))
-        (with_lent b (with_lent a r)).handles (λ name. omega arith)
-        (lent_few (λ name. now name + one name a) b (with_lent a r) (lent_few now a r few))
+        more_few (λ name. n name + one name a + one name b) (λ name. n name + (one name a + one name b)) (length r.operations) (length r.operations)
+        (with_lent b (with_lent a r)).handles (λ name. omega arith) (omega arith)
+        (lent_few (λ name. n name + one name a) (length r.operations) b (with_lent a r) (lent_few n (length r.operations) a r few))
     begun_few (call.IsClosed handle) = once handle
     begun_few (call.IsEmpty handle) = once handle
     begun_few (call.IsFull handle) = once handle
@@ -272,29 +299,29 @@ module _ {T : Type 0} where
 
   -- ---- its end
 
-  installed_few : (n : ℕ → ℕ) (new : HandleId) (kind : HandleKind) (y : Reply T) (r : Roll T) → AreFew n r.handles
-      → AreFew n (installed new kind y r).handles
-  installed_few n new kind reply.Made r few =
-      set_few n new.0 r.handles _ few (λ h e m. subst (λ (x : Hold). x.handle.borrowers ≤ n m) (inner _ h e) (omega arith))
-  installed_few n new kind y r few = few
+  installed_few : (n : ℕ → ℕ) (m : ℕ) (new : HandleId) (kind : HandleKind) (y : Reply T) (r : Roll T) → AreFew n m r.handles
+      → AreFew n m (installed new kind y r).handles
+  installed_few n m new kind reply.Made r few =
+      set_few n m new.0 r.handles _ few (λ h e k. subst (λ (x : Hold). Few (n k) m x) (inner (unused kind) h e) (omega arith, omega arith))
+  installed_few n m new kind y r few = few
 
   -- a handle that it gives back is used by one fewer
-  settled_few : (n : ℕ → ℕ) (e : Errand T) (y : Reply T) (left : Kept T) (r : Roll T)
-      → AreFew (λ name. n name + times_used name e) r.handles → AreFew n (written_back e y left r).handles
-  settled_few n errand.Nothing y left r few = more_few (λ name. n name + 0) n r.handles (λ name. omega arith) few
-  settled_few n (errand.Leave handle) y left r few = given_back_few n handle r few
-  settled_few n (errand.LeaveBoth a b) y left r few =
-      given_back_few n b (with_given_back a r)
-      (given_back_few (λ name. n name + one name b) a r
-      (more_few (λ name. n name + (one name a + one name b)) (λ name. n name + one name b + one name a) r.handles (λ name. omega arith) few))
-  settled_few n (errand.Make op operation) y left r few = more_few (λ name. n name + 0) n r.handles (λ name. omega arith) few
-  settled_few n (errand.Poll op) y left r few = more_few (λ name. n name + 0) n r.handles (λ name. omega arith) few
-  settled_few n (errand.PollNext receiver) y left r few =
+  settled_few : (n : ℕ → ℕ) (m : ℕ) (e : Errand T) (y : Reply T) (left : Kept T) (r : Roll T)
+      → AreFew (λ name. n name + times_used name e) m r.handles → AreFew n m (written_back e y left r).handles
+  settled_few n m errand.Nothing y left r few = more_few (λ name. n name + 0) n m m r.handles (λ name. omega arith) (omega arith) few
+  settled_few n m (errand.Leave handle) y left r few = given_back_few n m handle r few
+  settled_few n m (errand.LeaveBoth a b) y left r few =
+      given_back_few n m b (with_given_back a r)
+      (given_back_few (λ name. n name + one name b) m a r
+      (more_few (λ name. n name + (one name a + one name b)) (λ name. n name + one name b + one name a) m m r.handles (λ name. omega arith) (omega arith) few))
+  settled_few n m (errand.Make op operation) y left r few = more_few (λ name. n name + 0) n m m r.handles (λ name. omega arith) (omega arith) few
+  settled_few n m (errand.Poll op) y left r few = more_few (λ name. n name + 0) n m m r.handles (λ name. omega arith) (omega arith) few
+  settled_few n m (errand.PollNext receiver) y left r few =
       let stands = standing_with left.key in
-      given_back_few n receiver (with_standing stands receiver r)
-      (standing_few (λ name. n name + one name receiver) stands receiver r few)
-  settled_few n (errand.New from new kind) y left r few =
-      installed_few n new kind y (with_given_back from r) (given_back_few n from r few)
+      given_back_few n m receiver (with_standing stands receiver r)
+      (standing_few (λ name. n name + one name receiver) m stands receiver r few)
+  settled_few n m (errand.New from new kind) y left r few =
+      installed_few n m new kind y (with_given_back from r) (given_back_few n m from r few)
 
   installed_length : (new : HandleId) (kind : HandleKind) (y : Reply T) (r : Roll T)
       → length (installed new kind y r).operations ≡ length r.operations
@@ -313,12 +340,12 @@ module _ {T : Type 0} where
 
   -- ---- wakes
 
-  all_woken_few : (n : ℕ → ℕ) (names : List Waiter) (r : Roll T) → AreFew n r.handles → AreFew n (all_woken names r).handles
-  all_woken_few n [] r few = few
-  all_woken_few n (Op op ∷ names) r few = all_woken_few n names (with_one_woken (Op op) r) few
-  all_woken_few n (Stream handle ∷ names) r few =
-      all_woken_few n names (with_one_woken (Stream handle) r)
-      (handle_few n n _ handle r (λ name other. omega arith) (λ h f. f) few)
+  all_woken_few : (n : ℕ → ℕ) (m : ℕ) (names : List Waiter) (r : Roll T) → AreFew n m r.handles → AreFew n m (all_woken names r).handles
+  all_woken_few n m [] r few = few
+  all_woken_few n m (Op op ∷ names) r few = all_woken_few n m names (with_one_woken (Op op) r) few
+  all_woken_few n m (Stream handle ∷ names) r few =
+      all_woken_few n m names (with_one_woken (Stream handle) r)
+      (handle_few n n m m _ handle r (λ name other. omega arith) (omega arith) (λ h f. f) few)
 
   all_woken_length : (names : List Waiter) (r : Roll T) → length (all_woken names r).operations ≡ length r.operations
   all_woken_length [] r = refl
@@ -349,34 +376,38 @@ module _ {T : Type 0} where
   users_begun q c b few name h i =
       let most = begun_few (λ (n : ℕ). all_uses n b.agents) b.roll few c name h i in
       let more = uses_more name b.agents (record { party = q.0; errand = errand_of b.roll c }) in
-      omega (arith, most, more)
+      let users : h.users ≤ all_uses name b.agents + times_used name (errand_of b.roll c) = most.0 in
+      (omega (arith, users, more), most.1)
 
   pub users_ended : (k : ℕ) (a : Agent T) (y : Option (Reply T)) (left : Option (Kept T)) (names : List Waiter) (b : Book T)
       → slice_get b.agents k ≡ Some a → FewUsers b → FewUsers (book_ended k a y left (with_woken names b))
   users_ended k a None left names b there few name h i =
-      let most = all_woken_few (λ (n : ℕ). length b.roll.operations + all_uses n b.agents) names b.roll few name h i in
+      let most = all_woken_few (λ (n : ℕ). all_uses n b.agents) (length b.roll.operations) names b.roll few name h i in
+      let borrowers : h.handle.borrowers ≤ length b.roll.operations = most.1 in
       let same = all_woken_length names b.roll in
-      omega (arith, most, same)
+      (most.0, omega (arith, borrowers, same))
   users_ended k a (Some y) left names b there few name h i =
       let woken_now : Roll T = all_woken names b.roll in
-      let n : ℕ → ℕ = λ x. length b.roll.operations + all_uses x (remove b.agents k) in
-      let start : AreFew (λ x. n x + times_used x a.errand) b.roll.handles =
-      more_few (λ x. length b.roll.operations + all_uses x b.agents) (λ x. n x + times_used x a.errand) b.roll.handles
-      (λ x. let fewer = uses_fewer x k b.agents a there in omega (arith, fewer)) few in
+      let n : ℕ → ℕ = λ x. all_uses x (remove b.agents k) in
+      let m : ℕ = length b.roll.operations in
+      let start : AreFew (λ x. n x + times_used x a.errand) m b.roll.handles =
+      more_few (λ x. all_uses x b.agents) (λ x. n x + times_used x a.errand) m m b.roll.handles
+      (λ x. let fewer = uses_fewer x k b.agents a there in omega (arith, fewer)) (omega arith) few in
       let kept : Kept T = unwrap_or left nothing_kept in
-      let most = settled_few n a.errand y kept woken_now (all_woken_few (λ x. n x + times_used x a.errand) names b.roll start) name h i in
+      let most = settled_few n m a.errand y kept woken_now (all_woken_few (λ x. n x + times_used x a.errand) m names b.roll start) name h i in
+      let borrowers : h.handle.borrowers ≤ m = most.1 in
       let same = all_woken_length names b.roll in
       let also = settled_length a.errand y kept woken_now in
-      omega (arith, most, same, also)
+      (most.0, omega (arith, borrowers, same, also))
 
 -- at first nobody uses a handle
 pub users_first : (T : Type 0) → FewUsers {T = T} (record { roll = first_roll; order = []; agents = [] })
 users_first T name h i = by (nat_eq name 1) (nat_eq name 0) i where
-  none : (kind : HandleKind) (x : Hold) → Some (unused kind) ≡ Some x → x.handle.borrowers ≤ 0
-  none kind x e = subst (λ (y : Hold). y.handle.borrowers ≤ 0) (inner (unused kind) x e) (omega arith)
+  none : (kind : HandleKind) (x : Hold) → Some (unused kind) ≡ Some x → Few 0 0 x
+  none kind x e = subst (λ (y : Hold). Few 0 0 y) (inner (unused kind) x e) (omega arith, omega arith)
 
   by : (t u : Bool) → living (cond t (Some (Some (unused handle_kind.Receiver))) (cond u (Some (Some (unused handle_kind.Sender))) None)) ≡ Some h
-      → h.handle.borrowers ≤ 0
+      → Few 0 0 h
   by true u e = none handle_kind.Receiver h e
   by false true e = none handle_kind.Sender h e
   by false false e = absurd (never h e)

@@ -20,7 +20,7 @@ use Rattle.event_listener.specs.declared.key.Key.{Key}
 use Rattle.channel_model.specs.declared.name.OpId.{OpId}
 use Rattle.channel_model.specs.declared.name.Waiter.{Waiter}
 use Rattle.channel_model.specs.declared.name.Waiter.TheVariants as waiter
-use Rattle.channel_interleaving.specs.Roll.{key_of, standing_with, told, is_done, names_of, operation_at, handle_at, held_of, with_handle, with_lent, with_given_back, with_standing}
+use Rattle.channel_interleaving.specs.Roll.{key_of, standing_with, told, is_done, unused, names_of, operation_at, handle_at, held_of, with_handle, with_lent, with_given_back, with_borrowed, with_handed_over, with_standing}
 use Rattle.channel_interleaving.specs.declared.beginning.Begun.{Begun}
 use Rattle.channel_interleaving.specs.declared.names.Errand.{Errand}
 use Rattle.channel_interleaving.specs.declared.names.Errand.TheVariants.{Nothing, Leave, LeaveBoth, Make, Poll, PollNext, New}
@@ -108,15 +108,20 @@ module _ {T : Type 0} where
   lent_by None r = r
   lent_by (Some o) r = with_lent o.handle r
 
-  -- the names once a call has begun: what it makes has its name, what it polls is lent to it, what it gives up or drops lives
-  -- no more, and the handles that it goes through are in use
+  -- the handle of this operation goes over to the call that gives it up
+  abbrev pub handed_over_by : Option (Operation T) → Roll T → Roll T
+  handed_over_by None r = r
+  handed_over_by (Some o) r = with_handed_over o.handle r
+
+  -- the names once a call has begun: what it makes has its name, and an operation borrows its handle, what it polls is lent to
+  -- it, what it gives up or drops lives no more, and the handles that it goes through are in use
   abbrev pub names_begun : Roll T → Call T → Roll T
-  names_begun r (call.NewSend op sender msg) = with_lent sender (operation_named op r)
-  names_begun r (call.NewRecv op receiver) = with_lent receiver (operation_named op r)
-  names_begun r (call.NewClosed op sender) = with_lent sender (operation_named op r)
+  names_begun r (call.NewSend op sender msg) = with_borrowed sender (operation_named op r)
+  names_begun r (call.NewRecv op receiver) = with_borrowed receiver (operation_named op r)
+  names_begun r (call.NewClosed op sender) = with_borrowed sender (operation_named op r)
   names_begun r (call.Poll op) = with_operation lent_to_poll op r
   names_begun r (call.PollRefused op) = with_operation lent_to_poll op r
-  names_begun r (call.GiveUp op) = record r { operations = without_name op.0 r.operations }
+  names_begun r (call.GiveUp op) = handed_over_by (at op.0 r.operations) (record r { operations = without_name op.0 r.operations })
   names_begun r (call.SendIsTerminated op) = lent_by (at op.0 r.operations) r
   names_begun r (call.PollNext receiver) = with_lent receiver (with_standing (IsPolled false) receiver r)
   names_begun r (call.StreamIsTerminated receiver) = with_lent receiver r
@@ -183,7 +188,7 @@ module _ {T : Type 0} where
 
   -- a handle of this kind lives under the name, if the reply says that it was made
   abbrev pub installed : HandleId → HandleKind → Reply T → Roll T → Roll T
-  installed new kind reply.Made r = record r { handles = with_changed new.0 (record { handle = record { kind = kind; borrowers = 0 }; standing = Rests }) r.handles }
+  installed new kind reply.Made r = record r { handles = with_changed new.0 (unused kind) r.handles }
   installed new kind x r = r
 
   -- the names after a call that gave this reply and left this

@@ -1,5 +1,5 @@
 -- Which steps are refused, and why. Room for memory is another matter: see `Run`.
-use Rattle.std.specs.Prelude.{ℕ, List, Bool, false, not, Option, None, Some, if◌then◌else◌}
+use Rattle.std.specs.Prelude.{ℕ, nat_lt, List, Bool, false, not, ◌||◌, Option, None, Some, if◌then◌else◌}
 use Rattle.std.specs.List.{list_all, list_any}
 use Rattle.std.specs.Option.{option_map_or}
 use Rattle.channel_model.specs.Names.{at, is_taken}
@@ -37,6 +37,16 @@ module _ {T : Type 0} where
   meets_poll r (call.SendIsTerminated op) = false
   meets_poll r c = list_any (λ u. is_stream_polled u.0 r) (uses c)
 
+  -- whether a call under way uses the handle
+  abbrev pub is_used : ℕ → Roll T → Bool
+  is_used handle r = option_map_or (λ (h : Hold). nat_lt 0 h.users) (at handle r.handles) false
+
+  -- dropping, or polling as a stream, a handle that a call under way uses
+  abbrev pub takes_used : Roll T → Call T → Bool
+  takes_used r (call.Drop handle) = is_used handle.0 r
+  takes_used r (call.PollNext receiver) = is_used receiver.0 r
+  takes_used r c = false
+
   -- a new name that was taken before
   abbrev pub takes_again : Roll T → Call T → Bool
   takes_again r (call.NewSend op sender msg) = is_taken op.0 r.operations
@@ -47,13 +57,13 @@ module _ {T : Type 0} where
   takes_again r (call.Upgrade weak new) = is_taken new.0 r.handles
   takes_again r c = false
 
-  -- the first of these reasons that there is; a handle is borrowed as long as a live operation or a call under way uses it
+  -- the first of these reasons that there is; a handle is borrowed as long as an operation borrows it or a call under way uses it
   abbrev pub begin_refusal : Roll T → Call T → Option WorldRefusal
   begin_refusal r c =
       if not (list_all (is_live (names_of r)) (uses c)) then Some UnknownName
       else (if not (are_fit (names_of r) c) then Some WrongKind
       else (if meets_poll r c then Some OpUnderWay
-      else (if takes_borrowed (names_of r) c then Some Borrowed
+      else (if takes_borrowed (names_of r) c || takes_used r c then Some Borrowed
       else (if takes_again r c then Some NameTaken else None))))
 
   -- why a step is refused

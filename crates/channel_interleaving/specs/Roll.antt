@@ -86,17 +86,25 @@ module _ {T : Type 0} where
 
 -- handle 0 is the first sender, handle 1 the first receiver; nobody uses them
 abbrev pub unused : HandleKind → Hold
-unused kind = record { handle = record { kind = kind; borrowers = 0 }; standing = Rests }
+unused kind = record { handle = record { kind = kind; borrowers = 0 }; users = 0; standing = Rests }
 
 abbrev pub first_handles : Directory Hold
 first_handles = (1, Some (unused handle_kind.Receiver)) ∷ (0, Some (unused handle_kind.Sender)) ∷ []
 
--- one more uses it, or one fewer
+-- one more call under way uses it, or one fewer
 abbrev pub used_more : Hold → Hold
-used_more h = record h { handle = record h.handle { borrowers = min (h.handle.borrowers + 1) (2 ^ 64 - 1) } }
+used_more h = record h { users = min (h.users + 1) (2 ^ 64 - 1) }
 
 abbrev pub used_less : Hold → Hold
-used_less h = record h { handle = record h.handle { borrowers = h.handle.borrowers - 1 } }
+used_less h = record h { users = h.users - 1 }
+
+-- one more operation borrows it
+abbrev pub borrowed_more : Hold → Hold
+borrowed_more h = record h { handle = record h.handle { borrowers = h.handle.borrowers + 1 } }
+
+-- an operation borrows it no more, and the call that gives this up uses it
+abbrev pub handed_over : Hold → Hold
+handed_over h = record h { handle = record h.handle { borrowers = h.handle.borrowers - 1 }; users = min (h.users + 1) (2 ^ 64 - 1) }
 
 module _ {T : Type 0} where
   abbrev pub first_roll : Roll T
@@ -132,6 +140,12 @@ module _ {T : Type 0} where
 
   abbrev pub with_given_back : HandleId → Roll T → Roll T
   with_given_back handle r = with_handle used_less handle r
+
+  abbrev pub with_borrowed : HandleId → Roll T → Roll T
+  with_borrowed handle r = with_handle borrowed_more handle r
+
+  abbrev pub with_handed_over : HandleId → Roll T → Roll T
+  with_handed_over handle r = with_handle handed_over handle r
 
   -- the receiver's stream stands so
   abbrev pub with_standing : Standing → HandleId → Roll T → Roll T

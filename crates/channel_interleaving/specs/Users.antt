@@ -1,4 +1,4 @@
--- How many use each handle.
+-- How many calls use each handle, and how many operations borrow it.
 use Rattle.std.specs.Prelude.{◌≡◌, ℕ, ◌+◌, ◌≤◌, nat_eq, cond, List, [], ◌∷◌, length, Some}
 use Rattle.channel_model.specs.Names.{at}
 use Rattle.channel_model.specs.declared.name.HandleId.{HandleId}
@@ -27,9 +27,9 @@ module _ {T : Type 0} where
   all_uses name [] = 0
   all_uses name (a ∷ more) = times_used name a.errand + all_uses name more
 
-  -- no handle is used by more than one for each name of an operation that was ever taken, and the calls under way that give
-  -- it back
+  -- no handle is used by more than the calls under way that give it back, nor borrowed by more than one for each name of an
+  -- operation that was ever taken
   abbrev pub FewUsers : Book T → Type 0
   FewUsers b =
       (name : ℕ) (h : Hold) → at name b.roll.handles ≡ Some h
-      → h.handle.borrowers ≤ length b.roll.operations + all_uses name b.agents
+      → (h.users ≤ all_uses name b.agents) × (h.handle.borrowers ≤ length b.roll.operations)

@@ -105,12 +105,13 @@ fn own_message<T: Drop>(kind: OperationKind, message: Option<T>) -> Option<T>
 
 impl<T: Drop> Roll<T> {
     ghost use Rattle.std.specs.Prelude.{◌≡◌, None, Some, List, false, is_some, IfOk, OnErr, IfErr, IfSome, IfNone};
+    ghost use Rattle.std.specs.Bool.{OnTrue, OnFalse};
     ghost use Rattle.std.specs.Option.{option_map};
     ghost use Rattle.channel_model.specs.Names.{at, is_taken};
     ghost use Rattle.channel_model.specs.declared.name.Waiter.{Waiter};
     ghost use Rattle.channel_interleaving.specs.Order.{order_begun};
     ghost use Rattle.channel_interleaving.specs.Refusal.{takes_again};
-    ghost use Rattle.channel_interleaving.specs.Roll.{key_of, with_lent};
+    ghost use Rattle.channel_interleaving.specs.Roll.{key_of, with_lent, with_borrowed};
     ghost use Rattle.channel_interleaving.specs.Bookkeeping.{BeginsByName, Starts, IsLent, unpolled, operation_named, handle_named};
 
     /// A call through a handle asks this.
@@ -124,6 +125,25 @@ impl<T: Drop> Roll<T> {
         }
     }
 
+    /// A new name is taken for an operation, which borrows the handle. False where there was no room.
+    fn name_operation(&mut self, op: OpId, handle: HandleId) -> bool
+        requires { is_taken op.0 self.old.operations ≡ false }
+        ensures ok { OnTrue result (self.new ≡ with_borrowed handle (operation_named op self.old)) }
+        ensures err { OnFalse result (self.new ≡ self.old) }
+    {
+        let Some(hold) = self.handles.get(handle.0) else {
+            return self.operations.spend(op.0);
+        };
+        let Some(borrowed) = (*hold).borrowed_more() else {
+            return false;
+        };
+        if !self.operations.spend(op.0) {
+            return false;
+        }
+        self.handles.set(handle.0, borrowed);
+        true
+    }
+
     /// An operation is being made; it comes back where its name found no room.
     fn make_operation(
         &mut self,
@@ -135,14 +155,13 @@ impl<T: Drop> Roll<T> {
         requires { is_taken op.0 self.old.operations ≡ false }
         ensures ok { IfOk result
             (λ b. Starts ChannelAsk.Make (Errand.Make op (unpolled kind handle message))
-            (with_lent handle (operation_named op self.old)) b self.new) }
+            (with_borrowed handle (operation_named op self.old)) b self.new) }
         ensures err { OnErr result (self.new ≡ self.old) }
         ensures back { IfErr result (λ m. m ≡ message) }
     {
-        if !self.operations.spend(op.0) {
+        if !self.name_operation(op, handle) {
             return Err(message);
         }
-        self.lend(handle);
         let operation = Operation {
             kind,
             handle,
@@ -223,6 +242,7 @@ impl<T: Drop> Roll<T> {
             message,
             standing,
         } = operation;
+        self.hand_over(handle);
         Begun {
             ask: ChannelAsk::GiveUp(kind.line(), own_message(kind, message), standing.key()),
             errand: Errand::Leave { handle },

@@ -5,7 +5,7 @@ use crate::order::Order;
 use crate::roll::Roll;
 use channel_calls::reply::Reply;
 use channel_calls::stage::Kept;
-use channel_model::name::{Handle, HandleId, HandleKind, OpId, Waiter};
+use channel_model::name::{HandleId, HandleKind, OpId, Waiter};
 
 impl<T: Drop> Roll<T> {
     ghost use Rattle.std.specs.Prelude.{◌≡◌, Option};
@@ -38,11 +38,7 @@ impl<T: Drop> Roll<T> {
         ensures { self.new ≡ installed new kind reply.now self.old }
     {
         if let Reply::Made = reply {
-            let hold = Hold {
-                handle: Handle { kind, borrowers: 0 },
-                standing: Standing::Rests,
-            };
-            self.handles.set(new.0, hold);
+            self.handles.set(new.0, Hold::unused(kind));
         }
     }
 

@@ -155,10 +155,75 @@ impl<T> Operation<T> {
 /// A live handle.
 #[derive(Clone, Copy, Debug, PartialEq, Eq)]
 pub struct Hold {
-    /// What it is, and how many live operations and calls under way use it.
+    /// What it is, and how many operations borrow it.
     pub handle: Handle,
+    /// How many calls under way use it.
+    pub users: usize,
     /// How it stands as a stream.
     pub standing: Standing,
+}
+
+impl Hold {
+    ghost use Rattle.std.specs.Prelude.{◌≡◌, IfSome};
+    ghost use Rattle.channel_interleaving.specs.Roll.{unused, used_more, used_less, borrowed_more, handed_over};
+
+    /// A handle that nobody uses.
+    pub(crate) fn unused(kind: HandleKind) -> Hold
+        ensures { result ≡ unused kind }
+    {
+        Hold {
+            handle: Handle { kind, borrowers: 0 },
+            users: 0,
+            standing: Standing::Rests,
+        }
+    }
+
+    /// The same, used by one more call.
+    pub(crate) fn used_more(self) -> Hold
+        ensures { result ≡ used_more self }
+    {
+        Hold {
+            users: self.users.saturating_add(1),
+            ..self
+        }
+    }
+
+    /// The same, used by one fewer.
+    pub(crate) fn used_less(self) -> Hold
+        ensures { result ≡ used_less self }
+    {
+        Hold {
+            users: self.users.saturating_sub(1),
+            ..self
+        }
+    }
+
+    /// The same, borrowed by one more operation. None where as many borrow it as can be counted.
+    pub(crate) fn borrowed_more(self) -> Option<Hold>
+        ensures { IfSome result (λ h. h ≡ borrowed_more self) }
+    {
+        let Handle { kind, borrowers } = self.handle;
+        if borrowers == usize::MAX {
+            return None;
+        }
+        let borrowers = borrowers + 1;
+        Some(Hold {
+            handle: Handle { kind, borrowers },
+            ..self
+        })
+    }
+
+    /// The same, once the call that gives up an operation uses it, and the operation borrows it no more.
+    pub(crate) fn handed_over(self) -> Hold
+        ensures { result ≡ handed_over self }
+    {
+        let Handle { kind, borrowers } = self.handle;
+        let borrowers = borrowers.saturating_sub(1);
+        Hold {
+            handle: Handle { kind, borrowers },
+            ..self.used_more()
+        }
+    }
 }
 
 /// What a call under way has to write back at its end.

@@ -6,7 +6,7 @@ use channel_model::name::{Handle, HandleId, HandleKind, OpId};
 use channel_model::refusal::WorldRefusal;
 
 impl<T> Roll<T> {
-    ghost use Rattle.std.specs.Prelude.{◌≡◌, is_some, false};
+    ghost use Rattle.std.specs.Prelude.{◌≡◌, ◌||◌, is_some, false};
     ghost use Rattle.std.specs.Option.{option_map_or};
     ghost use Rattle.std.specs.List.{list_all};
     ghost use Rattle.channel_model.specs.Names.{at};
@@ -14,7 +14,7 @@ impl<T> Roll<T> {
     ghost use Rattle.channel_model.specs.Refusal as want;
     ghost use Rattle.channel_interleaving.specs.Roll.{names_of, operation_of};
     ghost use Rattle.channel_interleaving.specs.declared.names.Operation.{Operation};
-    ghost use Rattle.channel_interleaving.specs.Refusal.{is_operation_polled, is_stream_polled, meets_poll, takes_again, unfit_handle, begin_refusal};
+    ghost use Rattle.channel_interleaving.specs.Refusal.{is_operation_polled, is_stream_polled, meets_poll, is_used, takes_used, takes_again, unfit_handle, begin_refusal};
 
     /// A live handle, as one call at a time sees it.
     fn handle(&self, handle: HandleId) -> Option<Handle>
@@ -113,12 +113,22 @@ impl<T> Roll<T> {
         }
     }
 
-    /// Whether a live operation borrows the handle, or a call under way uses it.
+    /// Whether an operation borrows the handle.
     fn is_borrowed(&self, handle: HandleId) -> bool
         ensures { result ≡ is_borrowed handle.0 (names_of self.now) }
     {
         match self.handle(handle) {
             Some(handle) => 0 < handle.borrowers,
+            None => false,
+        }
+    }
+
+    /// Whether a call under way uses the handle.
+    fn is_used(&self, handle: HandleId) -> bool
+        ensures { result ≡ is_used handle.0 self.now }
+    {
+        match self.handles.get(handle.0) {
+            Some(hold) => 0 < hold.users,
             None => false,
         }
     }
@@ -261,11 +271,11 @@ impl<T> Roll<T> {
 
     /// Whether the call takes a handle whole that is in use.
     fn takes_borrowed(&self, call: &Call<T>) -> bool
-        ensures { result ≡ takes_borrowed (names_of self.now) call.now }
+        ensures { result ≡ takes_borrowed (names_of self.now) call.now || takes_used self.now call.now }
     {
         match call {
-            Call::Drop { handle } => self.is_borrowed(*handle),
-            Call::PollNext { receiver } => self.is_borrowed(*receiver),
+            Call::Drop { handle } => self.is_borrowed(*handle) || self.is_used(*handle),
+            Call::PollNext { receiver } => self.is_borrowed(*receiver) || self.is_used(*receiver),
             _ => false,
         }
     }

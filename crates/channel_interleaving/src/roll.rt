@@ -17,27 +17,17 @@ pub struct Roll<T> {
 }
 
 ghost use Rattle.std.specs.Prelude.{◌≡◌, IfOk};
-ghost use Rattle.channel_interleaving.specs.Roll.{unused, first_handles};
-
-/// A handle that nobody uses.
-fn unused(kind: HandleKind) -> Hold
-    ensures { result ≡ unused kind }
-{
-    Hold {
-        handle: Handle { kind, borrowers: 0 },
-        standing: Standing::Rests,
-    }
-}
+ghost use Rattle.channel_interleaving.specs.Roll.{first_handles};
 
 /// The first sender and the first receiver.
 fn first_handles(alloc: Global) -> Result<Directory<Hold>, AllocError>
     ensures { IfOk result (λ handles. handles ≡ first_handles) }
 {
     let mut handles = Directory::new(alloc)?;
-    let Ok(()) = handles.add(0, unused(HandleKind::Sender)) else {
+    let Ok(()) = handles.add(0, Hold::unused(HandleKind::Sender)) else {
         return Err(AllocError);
     };
-    let Ok(()) = handles.add(1, unused(HandleKind::Receiver)) else {
+    let Ok(()) = handles.add(1, Hold::unused(HandleKind::Receiver)) else {
         return Err(AllocError);
     };
     Ok(handles)
@@ -45,7 +35,7 @@ fn first_handles(alloc: Global) -> Result<Directory<Hold>, AllocError>
 
 impl<T> Roll<T> {
     ghost use Rattle.std.specs.Prelude.{◌≡◌, [], IfOk};
-    ghost use Rattle.channel_interleaving.specs.Roll.{first_roll, with_lent, with_given_back};
+    ghost use Rattle.channel_interleaving.specs.Roll.{first_roll, with_lent, with_given_back, with_handed_over};
 
     /// The first sender and the first receiver, and no operations.
     pub(crate) fn new(alloc: Global) -> Result<Roll<T>, AllocError>
@@ -59,23 +49,13 @@ impl<T> Roll<T> {
         })
     }
 
-    /// One more uses the handle.
+    /// One more call uses the handle.
     pub(crate) fn lend(&mut self, handle: HandleId)
         ensures { self.new ≡ with_lent handle self.old }
     {
         if let Some(hold) = self.handles.get(handle.0) {
-            let Hold {
-                handle: Handle { kind, borrowers },
-                standing,
-            } = *hold;
-            let borrowers = borrowers.saturating_add(1);
-            self.handles.set(
-                handle.0,
-                Hold {
-                    handle: Handle { kind, borrowers },
-                    standing,
-                },
-            );
+            let lent = (*hold).used_more();
+            self.handles.set(handle.0, lent);
         }
     }
 
@@ -84,18 +64,18 @@ impl<T> Roll<T> {
         ensures { self.new ≡ with_given_back handle self.old }
     {
         if let Some(hold) = self.handles.get(handle.0) {
-            let Hold {
-                handle: Handle { kind, borrowers },
-                standing,
-            } = *hold;
-            let borrowers = borrowers.saturating_sub(1);
-            self.handles.set(
-                handle.0,
-                Hold {
-                    handle: Handle { kind, borrowers },
-                    standing,
-                },
-            );
+            let left = (*hold).used_less();
+            self.handles.set(handle.0, left);
+        }
+    }
+
+    /// The call that gives up an operation uses the handle that this borrowed.
+    pub(crate) fn hand_over(&mut self, handle: HandleId)
+        ensures { self.new ≡ with_handed_over handle self.old }
+    {
+        if let Some(hold) = self.handles.get(handle.0) {
+            let left = (*hold).handed_over();
+            self.handles.set(handle.0, left);
         }
     }
 }
@@ -107,7 +87,7 @@ impl<T> Roll<T> {
     ghost use Rattle.channel_interleaving.specs.Roll.{key_of, handle_at, with_standing};
     ghost use Rattle.channel_interleaving.specs.declared.names.Hold.{Hold};
 
-    /// What a handle is, and how many use it.
+    /// What a handle is, and how many operations borrow it.
     pub(crate) fn seen(&self, handle: HandleId) -> Option<Handle>
         ensures { result ≡ handle_at handle self.now }
     {
@@ -132,14 +112,8 @@ impl<T> Roll<T> {
         ensures { self.new ≡ with_standing standing handle self.old }
     {
         if let Some(hold) = self.handles.get(handle.0) {
-            let handle_now = hold.handle;
-            self.handles.set(
-                handle.0,
-                Hold {
-                    handle: handle_now,
-                    standing,
-                },
-            );
+            let stands = Hold { standing, ..*hold };
+            self.handles.set(handle.0, stands);
         }
     }
 

@@ -1,5 +1,5 @@
 -- A call that is made alone on a channel at rest answers as the model may, and leaves the model's state.
-use Rattle.channel_rest.proofs.Words.{tasks_are, told_holds, arith, ◌≡◌, ◌≤◌, ◌+◌, List, [], ◌∷◌, ◌++◌, Bool, true, false, Option, None, Some, IsSome, is_some, inl, inr, refl, sym, ap, subst, ◌∙◌, filter-append, option_map_or, Key, Channel, Reply, Held, Line, Sends, Receives, Streams, Closings, Outcome, Alone, left_among, or_right, Answer, AwakeIn, times, times_in, line_at, Waiting, same_waiter, is_among, without_waiter, Names, State, Call, Waiter, Op, Stream, HandleId, Admitted, admitted, keeper, Matches, held_after, with_held, Scene, asks, AllKept, names_alone, order_alone, book_alone, woken_in, IsAmong, amiss, waits, post, begin_refusal, names_of, held_of, Book, but_for, CanBeLent, NonePolled, RefusalsAgree, LoneCallsAnswer, PollsAnswer, state_at, IsWorld}
+use Rattle.channel_rest.proofs.Words.{tasks_are, told_holds, arith, ℕ, ◌≡◌, ◌≤◌, ◌+◌, List, [], ◌∷◌, ◌++◌, Bool, true, false, Option, None, Some, IsSome, is_some, inl, inr, refl, sym, ap, subst, ◌∙◌, filter-append, option_map_or, Key, Channel, Reply, Held, Line, Sends, Receives, Streams, Closings, Outcome, Alone, left_among, or_right, Answer, AwakeIn, times, times_in, line_at, Waiting, same_waiter, is_among, without_waiter, Names, State, Call, Waiter, Op, Stream, HandleId, Admitted, admitted, is_used, at, Hold, keeper, Matches, held_after, with_held, Scene, asks, AllKept, names_alone, order_alone, book_alone, woken_in, IsAmong, amiss, waits, post, begin_refusal, names_of, held_of, Book, but_for, NonePolled, RefusalsAgree, LoneCallsAnswer, PollsAnswer, state_at, IsWorld}
 use Rattle.channel_refinement.proofs.Names.{among_its_line}
 use Rattle.channel_model.proofs.Interface.{awake_after}
 use Rattle.channel_model.specs.Refused.{Answers}
@@ -7,6 +7,8 @@ use Rattle.channel_model.specs.Settling.{poll_of}
 use Rattle.channel_model.proofs.LawSteps.{poll_awake}
 use Rattle.channel_refinement.proofs.Streams.{poll_next}
 use Rattle.channel_interleaving.proofs.WokenPolls.{woken_admitted, poll_accepted}
+use Rattle.std.specs.Prelude.{zero, suc, nat_lt}
+use Rattle.channel_interleaving.specs.Users.{all_uses}
 use Rattle.channel_interleaving.specs.declared.names.Agent.{Agent}
 use Rattle.channel_model.specs.Asked.{KeysHeld as Holding}
 use Rattle.channel_model.specs.Channel.{ModelChannel as PlainChannel}
@@ -54,21 +56,36 @@ same_waiting a b c d e f g h i j ea eb ec ed ee =
     ∙ (ap (λ (x : List Waiter). lines f g x d e) ec ∙ (ap (λ (x : List Waiter). lines f g h x e) ed
     ∙ ap (λ (x : List Waiter). lines f g h i x) ee)))
 
+not_above : (n : ℕ) → n ≤ 0 → nat_lt 0 n ≡ false
+not_above zero h = refl
+not_above (suc n) h = absurd (omega (arith, h))
+
 module _ {T : Type 0} where
   -- where nobody is at work, nobody is polled
   none_polled : (b : Book T) (s : Scene T Waiter) → AllKept b s → b.agents ≡ [] → NonePolled b.roll
   none_polled b s kept none w line e =
       let h = kept.polled w line e in subst (λ (l : List (Agent T)). IsAmong h.0 l) none h.1
 
+  -- and no handle is used
+  none_used : (b : Book T) (s : Scene T Waiter) → AllKept b s → b.agents ≡ [] → (handle : ℕ) → is_used handle b.roll ≡ false
+  none_used b s kept none handle = by (at handle b.roll.handles) refl
+    where
+      by : (o : Option Hold) → at handle b.roll.handles ≡ o → is_used handle b.roll ≡ false
+      by None e = rw e refl
+      by (Some h) e =
+          let few : h.users ≤ all_uses handle b.agents = (kept.users handle h e).0 in
+          let nobody : all_uses handle b.agents ≡ 0 = ap (all_uses handle) none in
+          rw e (not_above h.users (omega (arith, few, nobody)))
+
   pub refusals_agree : (b : Book T) (s : Scene T Waiter) (c : Call T) → AllKept b s → b.agents ≡ []
       → begin_refusal b.roll c ≡ model.refusal (state_at b s) c
   refusals_agree b s c kept none =
       let o = kept.owned in
-      refusal_same b.roll (none_polled b s kept none) o.none_amiss (state_at b s) c refl
+      refusal_same b.roll (none_polled b s kept none) o.none_amiss (none_used b s kept none) (state_at b s) c refl
 
   -- a call whose operation, receiver or handle lives, is of its kind and is not being polled, and that matches what the model may
   -- answer; also where its receiver is borrowed
-  module _ (b : Book T) (s t : Scene T Waiter) (c : Call T) (o : Outcome T Waiter) (kept : AllKept b s) (few : CanBeLent b.roll)
+  module _ (b : Book T) (s t : Scene T Waiter) (c : Call T) (o : Outcome T Waiter) (kept : AllKept b s)
       (ok : Admitted b.roll c) (alone : Alone (asks b.roll c) s.now o) (now : t.now ≡ o.channel)
       (matches : Matches (held_of b.roll) (state_at b s) c o) (awake : AwakeIn matches.answer.after) where
     abbrev before : State T
@@ -142,7 +159,7 @@ module _ {T : Type 0} where
         })
 
     names_same : names_of (names_alone b.roll c o.reply o.kept o.woken) ≡ answer.after.names
-    names_same = names_follow b.roll before refl few s.now o c alone ∙ sym matches.names
+    names_same = names_follow b.roll before refl s.now o c alone ∙ sym matches.names
 
     after : State T
     after = state_at (book_alone b c o) t
@@ -166,18 +183,18 @@ pub they_agree : (T : Type 0) → RefusalsAgree T
 they_agree T b s c kept none = refusals_agree b s c kept none
 
 pub they_answer : (T : Type 0) → LoneCallsAnswer T
-they_answer T b s t c o kept none rest few fine alone now =
+they_answer T b s t c o kept none rest fine alone now =
     let world : IsWorld b s = rest_is_a_world T b s kept rest in
     let accepted : model.refusal (state_at b s) c ≡ None = sym (refusals_agree b s c kept none) ∙ fine in
     let matches : Matches (held_of b.roll) (state_at b s) c o =
     world.calls c o accepted (subst (λ a. Alone a s.now o) (asks_same b.roll (none_polled b s kept none) c) alone) in
     let awake : AwakeIn matches.answer.after = awake_after (state_at b s) c matches.answer accepted world.awake matches.allowed in
-    lone_answers b s t c o kept few (admitted b.roll c fine) alone now matches awake
+    lone_answers b s t c o kept (admitted b.roll c fine) alone now matches awake
 
 -- ---- a poll of settling: of a stream whether or not a live operation borrows its receiver
 
 module _ {T : Type 0} (b : Book T) (s t : Scene T Waiter) (o : Outcome T Waiter) (kept : AllKept b s) (none : b.agents ≡ [])
-    (rest : s.under_way ≡ []) (few : CanBeLent b.roll) (now : t.now ≡ o.channel) where
+    (rest : s.under_way ≡ []) (now : t.now ≡ o.channel) where
   -- a stream that is pending is polled, and answers as the model may
   stream_polls_answer : (receiver : HandleId) → is_among (Stream receiver) (woken_in b.roll b.order) ≡ true
       → Alone (asks b.roll (call.PollNext receiver)) s.now o
@@ -190,13 +207,13 @@ module _ {T : Type 0} (b : Book T) (s t : Scene T Waiter) (o : Outcome T Waiter)
       poll_next (held_of b.roll) s.now (state_at b s) world.shows world.awake receiver o
       (subst (λ a. Alone a s.now o) (asks_same b.roll (none_polled b s kept none) c) alone) in
       let awake : AwakeIn matches.answer.after = poll_awake (state_at b s) (Stream receiver) matches.answer world.awake matches.allowed in
-      lone_answers b s t c o kept few (woken_admitted b.roll b.order (Stream receiver) e) alone now matches awake
+      lone_answers b s t c o kept (woken_admitted b.roll b.order (Stream receiver) e) alone now matches awake
 
   polls_answer : (w : Waiter) → is_among w (woken_in b.roll b.order) ≡ true → Alone (asks b.roll (poll_of w)) s.now o
       → Answers (state_at b s) (poll_of w) (record { after = state_at (book_alone b (poll_of w) o) t; reply = o.reply; woken = o.woken })
   polls_answer (Stream receiver) e alone = stream_polls_answer receiver e alone
   polls_answer (Op op) e alone =
-      they_answer T b s t (call.Poll op) o kept none rest few (poll_accepted b.roll op (woken_admitted b.roll b.order (Op op) e)) alone now
+      they_answer T b s t (call.Poll op) o kept none rest (poll_accepted b.roll op (woken_admitted b.roll b.order (Op op) e)) alone now
 
 pub they_poll : (T : Type 0) → PollsAnswer T
-they_poll T b s t w o kept none rest few e alone now = polls_answer b s t o kept none rest few now w e alone
+they_poll T b s t w o kept none rest e alone now = polls_answer b s t o kept none rest now w e alone

@@ -1,11 +1,11 @@
 -- Where no poll is under way a call asks what it asks in the model, and is refused where and why it is refused there.
-use Rattle.channel_rest.proofs.Words.{◌≡◌, ℕ, Bool, true, false, not, if◌then◌else◌, List, [], ◌∷◌, ◌||◌, Option, None, Some, ◌⊎◌, inl, inr, refl, sym, ap, ◌∙◌, list_all, list_any, option_map, option_map_or, Line, Sends, Receives, Streams, Closings, taken_seen, asked, poll_asked, refusal_asked, giving_up_asked, drop_asked, clone_asked, upgrade_asked, at, uses, is_live, are_fit, takes_borrowed, State, Call, Handle, HandleId, HandleKind, OpId, Waiter, Op, Stream, asks, amiss, polled, stream_post, operation_post, post, is_operation_polled, is_stream_polled, meets_poll, takes_again, begin_refusal, is_polled, has_finished, is_done, operation_of, names_of, held_of, Hold, Operation, OperationKind, Standing, Rests, Waits, IsPolled, Roll, op_is, NonePolled}
+use Rattle.channel_rest.proofs.Words.{◌≡◌, ℕ, Bool, true, false, not, if◌then◌else◌, List, [], ◌∷◌, ◌||◌, Option, None, Some, ◌⊎◌, inl, inr, refl, sym, ap, ◌∙◌, list_all, list_any, option_map, option_map_or, Line, Sends, Receives, Streams, Closings, taken_seen, asked, poll_asked, refusal_asked, giving_up_asked, drop_asked, clone_asked, upgrade_asked, at, uses, is_live, are_fit, takes_borrowed, State, Call, Handle, HandleId, HandleKind, OpId, Waiter, Op, Stream, asks, amiss, polled, stream_post, operation_post, post, is_operation_polled, is_stream_polled, meets_poll, is_used, takes_used, takes_again, begin_refusal, is_polled, has_finished, is_done, operation_of, names_of, held_of, Hold, Operation, OperationKind, Standing, Rests, Waits, IsPolled, Roll, op_is, NonePolled}
 use Rattle.channel_calls.specs.declared.ask.ChannelAsk.{ChannelAsk}
 use Rattle.channel_model.specs.declared.refusal.WorldRefusal.{WorldRefusal}
 use Rattle.channel_model.specs.declared.refusal.WorldRefusal.TheVariants.{UnknownName, WrongKind, OpUnderWay, Borrowed, NameTaken}
 use Rattle.channel_interleaving.specs.declared.names.OperationKind.TheVariants.{Send, Receive, Closing}
 use Rattle.channel_interleaving.proofs.OwnerCalls.{hold_is}
-use Rattle.channel_interleaving.proofs.RefusalLemmas.{operation_at, handle_there}
+use Rattle.channel_interleaving.proofs.RefusalLemmas.{or_false, operation_at, handle_there}
 use Rattle.channel_calls.specs.declared.ask.ChannelAsk.TheVariants as ask
 use Rattle.channel_model.specs.Answer as model
 use Rattle.channel_model.specs.Names as names
@@ -143,11 +143,19 @@ module _ {T : Type 0} where
           else (if borrowed then Some Borrowed
           else (if taken then Some NameTaken else None))))
 
-      pub refusal_same : (s : State T) (c : Call T) → s.names ≡ names_of r → begin_refusal r c ≡ wants.refusal s c
-      refusal_same s c e =
+      takes_none : ((handle : ℕ) → is_used handle r ≡ false) → (c : Call T) → takes_used r c ≡ false
+      takes_none idle (call.Drop handle) = idle handle.0
+      takes_none idle (call.PollNext receiver) = idle receiver.0
+      takes_none idle c = refl
+
+      pub refusal_same : ((handle : ℕ) → is_used handle r ≡ false) → (s : State T) (c : Call T) → s.names ≡ names_of r
+          → begin_refusal r c ≡ wants.refusal s c
+      refusal_same idle s c e =
           let live = list_all (is_live (names_of r)) (uses c) in
           let fit = are_fit (names_of r) c in
           let borrowed = takes_borrowed (names_of r) c in
-          let idle : begin_refusal r c ≡ first_of live fit false borrowed (takes_again r c) =
-          ap (λ (b : Bool). first_of live fit b borrowed (takes_again r c)) (meets_none c) in
-          idle ∙ (ap (λ (b : Bool). first_of live fit false borrowed b) (taken_same c) ∙ rw e refl)
+          let in_use : (borrowed || takes_used r c) ≡ borrowed =
+          ap (λ (b : Bool). borrowed || b) (takes_none idle c) ∙ or_false borrowed in
+          ap (λ (b : Bool). first_of live fit b (borrowed || takes_used r c) (takes_again r c)) (meets_none c)
+          ∙ (ap (λ (b : Bool). first_of live fit false b (takes_again r c)) in_use
+          ∙ (ap (λ (b : Bool). first_of live fit false borrowed b) (taken_same c) ∙ rw e refl))

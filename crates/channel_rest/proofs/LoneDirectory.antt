@@ -1,5 +1,5 @@
 -- What lives under a name and is changed, seen or not.
-use Rattle.channel_rest.proofs.Words.{is_some, ◌≡◌, ℕ, nat_eq, false, [], ◌∷◌, map, Option, None, Some, inl, inr, refl, sym, ap, ◌∙◌, set_value, option_map, option_map_or, set_twice, at_seen, decided, same_number, Directory, at, with_changed, found, set_there, set_other}
+use Rattle.channel_rest.proofs.Words.{is_some, ◌≡◌, ℕ, nat_eq, [], ◌∷◌, map, Option, None, Some, inl, inr, refl, sym, ap, ◌∙◌, set_value, option_map, option_map_or, set_twice, at_seen, decided, Directory, at, with_changed, found, set_there}
 use Rattle.std.proofs.lemmas.Map.Steps.{set_value_same}
 
 -- each thing seen through this function
@@ -9,9 +9,6 @@ views f es = map (λ e. (e.0, option_map f e.1)) es
 -- what lives under the name is changed so, where something lives
 abbrev pub changed_at : {X : Type 0} → (X → X) → ℕ → Directory X → Directory X
 changed_at change name es = option_map_or (λ x. with_changed name (change x) es) (at name es) es
-
-apart : (m n : ℕ) → (m ≡ n → ⊥) → nat_eq m n ≡ false
-apart m n other = elim (decided (nat_eq m n)) [ inl t ↦ absurd (other (same_number m n t)) | inr t ↦ t ]
 
 -- ---- one entry is set
 
@@ -64,59 +61,6 @@ module _ {X : Type 0} where
       by None e = changed_none g name es e
       by (Some x) e =
           changed_some g name es x e ∙ (ap (λ (y : X). with_changed name y es) (same x e) ∙ same_put_back name es x e)
-
-  -- a change that is taken back
-  pub changed_back : (g h : X → X) (name : ℕ) (es : Directory X) → ((x : X) → at name es ≡ Some x → h (g x) ≡ x)
-      → changed_at h name (changed_at g name es) ≡ es
-  changed_back g h name es same =
-      changed_twice g h (λ x. h (g x)) (λ x. refl) name es ∙ changed_not (λ x. h (g x)) name es same
-
-  -- ---- under two names
-
-  set_swap : (m n : ℕ) (es : Directory X) (x y : Option X) → (m ≡ n → ⊥)
-      → set_value (nat_eq m) (set_value (nat_eq n) es y) x ≡ set_value (nat_eq n) (set_value (nat_eq m) es x) y
-  set_swap m n [] x y other = refl
-  set_swap m n (f ∷ es) x y other = elim (decided (nat_eq n f.0)) [
-    | inl t ↦
-        let off : nat_eq m f.0 ≡ false = apart m f.0 (λ e. other (e ∙ sym (same_number n f.0 t))) in
-        rw (t, off) (rw t refl)
-    | inr t ↦ elim (decided (nat_eq m f.0)) [
-      | inl u ↦ rw (t, u) (rw t refl)
-      | inr u ↦ rw (t, u) (rw t (ap (λ (l : Directory X). f ∷ l) (set_swap m n es x y other)))
-    ]
-  ]
-
-  -- a change under another name
-  pub at_other : (g : X → X) (m n : ℕ) (es : Directory X) → (m ≡ n → ⊥) → at m (changed_at g n es) ≡ at m es
-  at_other g m n es other = by (at n es) refl
-    where
-      by : (o : Option X) → at n es ≡ o → at m (changed_at g n es) ≡ at m es
-      by None e = ap (λ (d : Directory X). at m d) (changed_none g n es e)
-      by (Some x) e =
-          ap (λ (d : Directory X). at m d) (changed_some g n es x e)
-          ∙ ap (λ (o : Option (Option X)). option_map_or (λ (z : Option X). z) o None) (set_other n m es (Some (g x)) other)
-
-  pub changed_swap : (g h : X → X) (m n : ℕ) (es : Directory X) → (m ≡ n → ⊥)
-      → changed_at g m (changed_at h n es) ≡ changed_at h n (changed_at g m es)
-  changed_swap g h m n es other = by (at m es) (at n es) refl refl
-    where
-      back : n ≡ m → ⊥
-      back e = other (sym e)
-
-      by : (o p : Option X) → at m es ≡ o → at n es ≡ p
-          → changed_at g m (changed_at h n es) ≡ changed_at h n (changed_at g m es)
-      by None p e f =
-          changed_none g m (changed_at h n es) (at_other h m n es other ∙ e)
-          ∙ sym (ap (λ (d : Directory X). changed_at h n d) (changed_none g m es e))
-      by o None e f =
-          ap (λ (d : Directory X). changed_at g m d) (changed_none h n es f)
-          ∙ sym (changed_none h n (changed_at g m es) (at_other g n m es back ∙ f))
-      by (Some x) (Some y) e f =
-          changed_some g m (changed_at h n es) x (at_other h m n es other ∙ e)
-          ∙ (ap (λ (d : Directory X). with_changed m (g x) d) (changed_some h n es y f)
-          ∙ (set_swap m n es (Some (g x)) (Some (h y)) other
-          ∙ (sym (ap (λ (d : Directory X). with_changed n (h y) d) (changed_some g m es x e))
-          ∙ sym (changed_some h n (changed_at g m es) y (at_other g n m es back ∙ f)))))
 
 -- ---- seen
 

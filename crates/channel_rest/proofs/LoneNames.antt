@@ -1,12 +1,12 @@
 -- A call that was made alone leaves the names that the model leaves.
-use Rattle.channel_rest.proofs.Words.{◌≡◌, ℕ, ◌+◌, ◌-◌, ◌^◌, ◌<◌, arith, nat_eq, Bool, true, false, List, Option, None, Some, refl, sym, ap, ◌∙◌, nat_eq_equiv, option_map, option_map_or, Channel, Reply, Kept, Outcome, Alone, at_seen, nothing_to_end, weak_of, strong_of, poll_asked, Directory, Names, at, with_spent, with_new, with_changed, State, Call, Handle, HandleId, HandleKind, OpId, Waiter, polled_names, refused_names, given_up_names, made_names, kind_at, names_after, asks, unpolled, leave_handle_of, new_from, lent_by, operation_named, handle_named, lent_to_poll, installed, written_back, with_operation, all_woken, names_of, operation_of, operation_at, handle_at, held_of, with_lent, with_standing, with_given_back, standing_with, Errand, Hold, Operation, IsPolled, Roll, names_alone, CanBeLent}
+use Rattle.channel_rest.proofs.Words.{◌≡◌, ℕ, nat_eq, true, false, List, Option, None, Some, refl, sym, ap, ◌∙◌, nat_eq_equiv, option_map, Channel, Reply, Kept, Outcome, Alone, at_seen, nothing_to_end, weak_of, strong_of, poll_asked, Directory, Names, at, with_spent, with_new, with_changed, State, Call, Handle, HandleId, HandleKind, OpId, Waiter, polled_names, refused_names, given_up_names, made_names, kind_at, names_after, asks, unpolled, leave_handle_of, new_from, lent_by, handed_over_by, operation_named, handle_named, lent_to_poll, installed, written_back, with_operation, all_woken, names_of, operation_of, operation_at, handle_at, held_of, unused, with_lent, with_borrowed, with_handed_over, with_standing, with_given_back, standing_with, Errand, Operation, IsPolled, Roll, names_alone}
 use Rattle.channel_calls.specs.declared.reply.Reply.TheVariants as reply
 use Rattle.channel_model.specs.Names as model
 use Rattle.channel_model.specs.declared.call.Call.TheVariants as call
 use Rattle.channel_interleaving.specs.declared.names.Errand.TheVariants as errand
 use Rattle.channel_interleaving.specs.declared.names.OperationKind.TheVariants as kind
-use Rattle.channel_rest.proofs.LoneDirectory.{views_set, changed_at, changed_none, changed_some, changed_twice, same_put_back}
-use Rattle.channel_rest.proofs.LoneSeen.{used_by, handle_of, more_of, Lendable, back_lent, back_both, lent_is, with_message, put_twice, borrowed_is, lent_names, back_names, left_names, with_operations, seen_lent, seen_back, seen_standing, seen_to_poll, seen_restored, all_seen}
+use Rattle.channel_rest.proofs.LoneDirectory.{views_set, changed_some, changed_none, changed_twice, same_put_back}
+use Rattle.channel_rest.proofs.LoneSeen.{used_by, handle_of, with_message, put_twice, borrowed_is, left_names, with_operations, seen_lent, seen_back, seen_standing, seen_borrowed, seen_handed_over, seen_to_poll, seen_restored, all_seen}
 
 own : (n : ℕ) → nat_eq n n ≡ true
 own n = nat_eq_equiv.refl n
@@ -29,34 +29,32 @@ module _ {T : Type 0} where
 
   abbrev settled_names : Errand T → Reply T → Kept T → Names T → Names T
   settled_names errand.Nothing x kept n = n
-  settled_names (errand.Leave handle) x kept n = back_names handle n
-  settled_names (errand.LeaveBoth a b) x kept n = back_names b (back_names a n)
+  settled_names (errand.Leave handle) x kept n = n
+  settled_names (errand.LeaveBoth a b) x kept n = n
   settled_names (errand.Make op operation) x kept n =
       with_operations (with_changed op.0 (operation_of operation) n.operations) n
   settled_names (errand.Poll op) x kept n = left_names kept.message op n
-  settled_names (errand.PollNext receiver) x kept n = back_names receiver n
-  settled_names (errand.New from new k) x kept n = installed_names new k x (back_names from n)
+  settled_names (errand.PollNext receiver) x kept n = n
+  settled_names (errand.New from new k) x kept n = installed_names new k x n
 
   seen_installed : (new : HandleId) (k : HandleKind) (x : Reply T) (r : Roll T)
       → names_of (installed new k x r) ≡ installed_names new k x (names_of r)
   seen_installed new k reply.Made r =
       ap (λ (d : Directory Handle). model.with_handles d (names_of r))
-      (views_set handle_of new.0 r.handles (Some (record { handle = record { kind = k; borrowers = 0 }; standing = _ })))
+      (views_set handle_of new.0 r.handles (Some (unused k)))
   seen_installed new k x r = refl
 
   seen_settled : (e : Errand T) (x : Reply T) (kept : Kept T) (r : Roll T)
       → names_of (written_back e x kept r) ≡ settled_names e x kept (names_of r)
   seen_settled errand.Nothing x kept r = refl
   seen_settled (errand.Leave handle) x kept r = seen_back r handle
-  seen_settled (errand.LeaveBoth a b) x kept r =
-      seen_back (with_given_back a r) b ∙ ap (back_names b) (seen_back r a)
+  seen_settled (errand.LeaveBoth a b) x kept r = seen_back (with_given_back a r) b ∙ seen_back r a
   seen_settled (errand.Make op operation) x kept r =
       ap (λ (d : Directory (model.ModelOperation T)). with_operations d (names_of r))
       (views_set operation_of op.0 r.operations (Some operation))
   seen_settled (errand.Poll op) x kept r = seen_restored r kept op
   seen_settled (errand.PollNext receiver) x kept r =
-      seen_back (with_standing (standing_with kept.key) receiver r) receiver
-      ∙ ap (back_names receiver) (seen_standing r (λ h. standing_with kept.key) receiver)
+      seen_back (with_standing (standing_with kept.key) receiver r) receiver ∙ seen_standing r (standing_with kept.key) receiver
   seen_settled (errand.New from new k) x kept r =
       seen_installed new k x (with_given_back from r) ∙ ap (installed_names new k x) (seen_back r from)
 
@@ -137,18 +135,24 @@ module _ {T : Type 0} where
 
     -- ---- what lives no more
 
+    abbrev without : OpId → Roll T
+    without op = record r { operations = model.without_name op.0 r.operations }
+
+    gone : (op : OpId) → names_of (without op) ≡ with_operations (model.without_name op.0 operations) (names_of r)
+    gone op =
+        ap (λ (d : Directory (model.ModelOperation T)). with_operations d (names_of r)) (views_set operation_of op.0 r.operations None)
+
     gives_up : (op : OpId) (y : Option (Operation T)) (x : Reply T) (kept : Kept T) (ws : List Waiter) → at op.0 r.operations ≡ y
-        → names_of (written_back (leave_handle_of y) x kept (all_woken ws (record r { operations = model.without_name op.0 r.operations })))
+        → names_of (written_back (leave_handle_of y) x kept (all_woken ws (handed_over_by y (without op))))
         ≡ given_up_names op (option_map operation_of y) (names_of r)
     gives_up op None x kept ws e =
-        ends_so errand.Nothing x kept ws (record r { operations = model.without_name op.0 r.operations }) (names_of r)
-        (ap (λ (d : Directory (model.ModelOperation T)). with_operations d (names_of r))
-        (views_set operation_of op.0 r.operations None
-        ∙ nothing_to_end op.0 operations (at_seen operation_of op.0 r.operations ∙ ap (option_map operation_of) e)))
+        ends_so errand.Nothing x kept ws (without op) (names_of r)
+        (gone op ∙ ap (λ (d : Directory (model.ModelOperation T)). with_operations d (names_of r))
+        (nothing_to_end op.0 operations (at_seen operation_of op.0 r.operations ∙ ap (option_map operation_of) e)))
     gives_up op (Some y) x kept ws e =
-        ends_so (errand.Leave y.handle) x kept ws (record r { operations = model.without_name op.0 r.operations }) _
-        (ap (λ (d : Directory (model.ModelOperation T)). with_operations d (names_of r))
-        (views_set operation_of op.0 r.operations None))
+        ends_so (errand.Leave y.handle) x kept ws (with_handed_over y.handle (without op)) _
+        (seen_handed_over (without op) y.handle
+        ∙ ap (λ (n : Names T). model.with_handles (model.used_once_less y.handle n.handles) n) (gone op))
         ∙ ap (λ (h : HandleId). let n : Names T =
         record { handles = model.used_once_less h handles; operations = model.without_name op.0 operations } in n)
         (sym (borrowed_is y))
@@ -162,62 +166,23 @@ module _ {T : Type 0} where
 
   -- ---- calls through handles
 
-  module _ (r : Roll T) (few : CanBeLent r) where
-    lendable : (name : ℕ) → Lendable 2 name (handles r)
-    lendable name h e = by (at name r.handles) refl (sym (at_seen handle_of name r.handles) ∙ e)
-      where
-        by : (o : Option Hold) → at name r.handles ≡ o → option_map handle_of o ≡ Some h → h.borrowers + 2 < 2 ^ 64 - 1
-        by None f g = absurd (let no : None ≡ Some h = g in cc)
-        by (Some x) f g =
-            let same : x.handle.borrowers ≡ h.borrowers =
-            ap (λ (o : Option Handle). option_map_or (λ (y : Handle). y.borrowers) o 0) g in
-            let small : x.handle.borrowers + 2 < 2 ^ 64 - 1 = few name x f in
-            omega (arith, same, small)
-
-    lendable_once : (name : ℕ) → Lendable 1 name (handles r)
-    lendable_once name h e = let small : h.borrowers + 2 < 2 ^ 64 - 1 = lendable name h e in omega (arith, small)
-
-    -- a new name is no reason to lend less
-    spent_lendable : (name new : ℕ) → Lendable 1 name (with_spent new (handles r))
-    spent_lendable name new h e = by (nat_eq name new) refl e
-      where
-        by : (t : Bool) → nat_eq name new ≡ t → at name (with_spent new (handles r)) ≡ Some h → h.borrowers + 1 < 2 ^ 64 - 1
-        by true u g = absurd (let no : None ≡ Some h = sym (gone u) ∙ g in cc)
-          where
-            gone : nat_eq name new ≡ true → at name (with_spent new (handles r)) ≡ None
-            gone v = rw v refl
-        by false u g = lendable_once name h (sym (there u) ∙ g)
-          where
-            there : nat_eq name new ≡ false → at name (with_spent new (handles r)) ≡ at name (handles r)
-            there v = rw v refl
-
-    back_is : (handle : HandleId) → back_names handle (lent_names handle (names_of r)) ≡ names_of r
-    back_is handle =
-        ap (λ (d : Directory Handle). model.with_handles d (names_of r)) (back_lent handle.0 (handles r) (lendable_once handle.0))
-
+  module _ (r : Roll T) where
     through : (handle : HandleId) (x : Reply T) (kept : Kept T) (ws : List Waiter)
         → names_of (written_back (errand.Leave handle) x kept (all_woken ws (with_lent handle r))) ≡ names_of r
-    through handle x kept ws =
-        ends_so (errand.Leave handle) x kept ws (with_lent handle r) (lent_names handle (names_of r)) (seen_lent r handle)
-        ∙ back_is handle
+    through handle x kept ws = ends_so (errand.Leave handle) x kept ws (with_lent handle r) (names_of r) (seen_lent r handle)
 
     through_both : (a b : HandleId) (x : Reply T) (kept : Kept T) (ws : List Waiter)
         → names_of (written_back (errand.LeaveBoth a b) x kept (all_woken ws (with_lent b (with_lent a r)))) ≡ names_of r
     through_both a b x kept ws =
-        ends_so (errand.LeaveBoth a b) x kept ws (with_lent b (with_lent a r)) (lent_names b (lent_names a (names_of r)))
-        (seen_lent (with_lent a r) b ∙ ap (lent_names b) (seen_lent r a))
-        ∙ ap (λ (d : Directory Handle). model.with_handles d (names_of r))
-        (back_both a.0 b.0 (handles r) (lendable a.0) (lendable b.0))
+        ends_so (errand.LeaveBoth a b) x kept ws (with_lent b (with_lent a r)) (names_of r)
+        (seen_lent (with_lent a r) b ∙ seen_lent r a)
 
     streamed : (receiver : HandleId) (x : Reply T) (kept : Kept T) (ws : List Waiter)
         → names_of (written_back (errand.PollNext receiver) x kept
         (all_woken ws (with_lent receiver (with_standing (IsPolled false) receiver r)))) ≡ names_of r
     streamed receiver x kept ws =
-        ends_so (errand.PollNext receiver) x kept ws (with_lent receiver (with_standing (IsPolled false) receiver r))
-        (lent_names receiver (names_of r))
-        (seen_lent (with_standing (IsPolled false) receiver r) receiver
-        ∙ ap (lent_names receiver) (seen_standing r (λ h. IsPolled false) receiver))
-        ∙ back_is receiver
+        ends_so (errand.PollNext receiver) x kept ws (with_lent receiver (with_standing (IsPolled false) receiver r)) (names_of r)
+        (seen_lent (with_standing (IsPolled false) receiver r) receiver ∙ seen_standing r (IsPolled false) receiver)
 
     -- a call through the handle of an operation
     through_of : (o : Option (Operation T)) (x : Reply T) (kept : Kept T) (ws : List Waiter)
@@ -229,18 +194,17 @@ module _ {T : Type 0} where
 
     made : (op : OpId) (handle : HandleId) (operation : Operation T) (x : Reply T) (kept : Kept T) (ws : List Waiter)
         → operation.handle ≡ handle
-        → names_of (written_back (errand.Make op operation) x kept (all_woken ws (with_lent handle (operation_named op r))))
+        → names_of (written_back (errand.Make op operation) x kept (all_woken ws (with_borrowed handle (operation_named op r))))
         ≡ model.with_new_operation op (operation_of operation) (names_of r)
     made op handle operation x kept ws same =
-        ends_so (errand.Make op operation) x kept ws (with_lent handle (operation_named op r)) _
-        (seen_lent (operation_named op r) handle)
+        ends_so (errand.Make op operation) x kept ws (with_borrowed handle (operation_named op r)) _
+        (seen_borrowed (operation_named op r) handle)
         ∙ (ap (λ (d : Directory (model.ModelOperation T)). let n : Names T =
-        record { handles = changed_at more_of handle.0 (handles r); operations = d } in n)
+        record { handles = model.lent_once_more handle (handles r); operations = d } in n)
         (set_first op.0 (operation_of operation) (operations r))
-        ∙ ap (λ (d : Directory Handle). let n : Names T =
-        record { handles = d; operations = with_new op.0 (operation_of operation) (operations r) } in n)
-        (lent_is handle (handles r) (lendable_once handle.0)
-        ∙ ap (λ (h : HandleId). model.lent_once_more h (handles r)) (sym (borrowed_is operation ∙ same))))
+        ∙ ap (λ (h : HandleId). let n : Names T =
+        record { handles = model.lent_once_more h (handles r); operations = with_new op.0 (operation_of operation) (operations r) } in n)
+        (sym (borrowed_is operation ∙ same)))
 
     -- ---- new handles
 
@@ -250,36 +214,27 @@ module _ {T : Type 0} where
         ≡ made_names new (option_map (λ (h : Handle). to h.kind) o) x (names_of r)
     newly from new to None x kept ws e =
         ends_so errand.Nothing x kept ws (with_lent from (handle_named new r)) _ (seen_lent (handle_named new r) from)
-        ∙ ap (λ (d : Directory Handle). model.with_handles d (names_of r))
-        (changed_none more_of from.0 (with_spent new.0 (handles r)) (by (nat_eq from.0 new.0) refl))
-      where
-        by : (t : Bool) → nat_eq from.0 new.0 ≡ t → at from.0 (with_spent new.0 (handles r)) ≡ None
-        by true u = rw u refl
-        by false u = rw u e
     newly from new to (Some h) x kept ws e =
         ends_so (errand.New from new (to h.kind)) x kept ws (with_lent from (handle_named new r)) _
         (seen_lent (handle_named new r) from)
-        ∙ (ap (λ (d : Directory Handle). installed_names new (to h.kind) x (model.with_handles d (names_of r)))
-        (back_lent from.0 (with_spent new.0 (handles r)) (spent_lendable from.0 new.0))
-        ∙ installed_is r new (to h.kind) x)
+        ∙ installed_is r new (to h.kind) x
 
-  module _ (r : Roll T) (s : State T) (same : s.names ≡ names_of r) (few : CanBeLent r) (channel : Channel T Waiter)
-      (o : Outcome T Waiter) where
+  module _ (r : Roll T) (s : State T) (same : s.names ≡ names_of r) (channel : Channel T Waiter) (o : Outcome T Waiter) where
     -- what holds of these names
     follow : (f : Names T → Names T) (n : Names T) → n ≡ f (names_of r) → n ≡ f s.names
     follow f n h = h ∙ sym (ap f same)
 
     begins : (op : OpId) (handle : HandleId) (operation : Operation T) → operation.handle ≡ handle
-        → names_of (written_back (errand.Make op operation) o.reply o.kept (all_woken o.woken (with_lent handle (operation_named op r))))
+        → names_of (written_back (errand.Make op operation) o.reply o.kept (all_woken o.woken (with_borrowed handle (operation_named op r))))
         ≡ model.with_new_operation op (operation_of operation) s.names
     begins op handle operation is =
-        follow (λ n. model.with_new_operation op (operation_of operation) n) _ (made r few op handle operation o.reply o.kept o.woken is)
+        follow (λ n. model.with_new_operation op (operation_of operation) n) _ (made r op handle operation o.reply o.kept o.woken is)
 
     renewed : (from new : HandleId) (to : HandleKind → HandleKind)
         → names_of (written_back (new_from from new to (handle_at from r)) o.reply o.kept (all_woken o.woken (with_lent from (handle_named new r))))
         ≡ made_names new (option_map to (kind_at from (names_of r))) o.reply (names_of r)
     renewed from new to =
-        newly r few from new to (handle_at from r) o.reply o.kept o.woken (seen_at r from)
+        newly r from new to (handle_at from r) o.reply o.kept o.woken (seen_at r from)
         ∙ ap (λ k. made_names new k o.reply (names_of r)) (sym (kinds to (handle_at from r))
         ∙ ap (λ y. option_map to (option_map (λ (h : Handle). h.kind) y)) (sym (seen_at r from)))
 
@@ -304,17 +259,17 @@ module _ {T : Type 0} where
         (gives_up r op (at op.0 r.operations) o.reply o.kept o.woken refl
         ∙ ap (λ y. given_up_names op y (names_of r)) (sym (operation_seen r op)))
     names_follow (call.SendIsTerminated op) alone =
-        follow (λ n. n) _ (through_of r few (at op.0 r.operations) o.reply o.kept o.woken)
-    names_follow (call.PollNext receiver) alone = follow (λ n. n) _ (streamed r few receiver o.reply o.kept o.woken)
+        follow (λ n. n) _ (through_of r (at op.0 r.operations) o.reply o.kept o.woken)
+    names_follow (call.PollNext receiver) alone = follow (λ n. n) _ (streamed r receiver o.reply o.kept o.woken)
     names_follow (call.Drop handle) alone =
         follow (λ n. model.with_handles (model.without_name handle.0 n.handles) n) _ (drops r handle o.reply o.kept o.woken)
     names_follow (call.TryClone handle new) alone =
         follow (λ n. made_names new (kind_at handle n) o.reply n) _
-        (newly r few handle new (λ k. k) (handle_at handle r) o.reply o.kept o.woken (seen_at r handle)
+        (newly r handle new (λ k. k) (handle_at handle r) o.reply o.kept o.woken (seen_at r handle)
         ∙ ap (λ y. made_names new (option_map (λ (h : Handle). h.kind) y) o.reply (names_of r)) (sym (seen_at r handle)))
     names_follow (call.Downgrade handle new) alone =
         follow (λ n. made_names new (option_map weak_of (kind_at handle n)) o.reply n) _ (renewed handle new weak_of)
     names_follow (call.Upgrade weak new) alone =
         follow (λ n. made_names new (option_map strong_of (kind_at weak n)) o.reply n) _ (renewed weak new strong_of)
-    names_follow (call.SameChannel a b) alone = follow (λ n. n) _ (through_both r few a b o.reply o.kept o.woken)
-    names_follow c alone = follow (λ n. n) _ (through r few (used_by c) o.reply o.kept o.woken)
+    names_follow (call.SameChannel a b) alone = follow (λ n. n) _ (through_both r a b o.reply o.kept o.woken)
+    names_follow c alone = follow (λ n. n) _ (through r (used_by c) o.reply o.kept o.woken)

@@ -1,102 +1,21 @@
 -- What the parts of a call do to the names, as one call at a time sees them.
-use Rattle.channel_rest.proofs.Words.{◌≡◌, ℕ, ◌+◌, ◌-◌, ◌^◌, ◌<◌, ◌≤◌, min, arith, nat_eq, true, false, List, [], ◌∷◌, Option, None, Some, refl, sym, ap, subst, ◌∙◌, inl, inr, nat_eq_equiv, decided, same_number, Directory, Names, at, lent_once_more, with_changed, Want, uses, Call, option_map_or, Handle, HandleId, OpId, Waiter, Op, Stream, Kept, lent_to_poll, restored, with_operation, with_one_woken, all_woken, operation_of, used_more, used_less, names_of, told, with_handle, with_lent, with_given_back, Hold, Operation, OperationKind, Standing, Roll}
-use Rattle.std.proofs.Math.Nat.{min-eq_left}
+use Rattle.channel_rest.proofs.Words.{◌≡◌, ℕ, ◌+◌, ◌-◌, List, [], ◌∷◌, Option, None, Some, refl, sym, ap, ◌∙◌, Directory, Names, lent_once_more, used_once_less, Want, uses, Call, option_map_or, Handle, HandleId, OpId, Waiter, Op, Stream, Kept, lent_to_poll, restored, with_operation, with_one_woken, all_woken, operation_of, used_more, used_less, borrowed_more, handed_over, names_of, told, with_handle, with_lent, with_given_back, with_borrowed, with_handed_over, with_standing, Hold, Operation, OperationKind, Standing, Roll}
 use Rattle.std.specs.Prelude.{slice_get}
 use Rattle.channel_model.specs.Names as model
 use Rattle.channel_interleaving.specs.declared.names.OperationKind.TheVariants as kind
-use Rattle.channel_rest.proofs.LoneDirectory.{changed_at, changed_back, changed_swap, at_changed_at, changed_none, changed_some, views_changed, views_kept}
+use Rattle.channel_rest.proofs.LoneDirectory.{changed_at, views_changed, views_kept}
 
 -- ---- handles
 
 abbrev pub handle_of : Hold → Handle
 handle_of h = h.handle
 
--- one more uses it, as far as can be counted, or one fewer
-abbrev pub more_of : Handle → Handle
-more_of h = record h { borrowers = min (h.borrowers + 1) (2 ^ 64 - 1) }
-
-abbrev pub less_of : Handle → Handle
-less_of h = record h { borrowers = h.borrowers - 1 }
-
+-- one more operation borrows it, or one fewer
 abbrev pub one_more : Handle → Handle
 one_more h = record h { borrowers = h.borrowers + 1 }
 
--- fewer by this than can be counted use the handle of this name
-abbrev pub Lendable : ℕ → ℕ → Directory Handle → Type 0
-Lendable n name d = (h : Handle) → at name d ≡ Some h → h.borrowers + n < 2 ^ 64 - 1
-
-same_borrowers : (h : Handle) (n : ℕ) → n ≡ h.borrowers → record h { borrowers = n } ≡ h
-same_borrowers h n e = ap (λ (m : ℕ). let x : Handle = record h { borrowers = m } in x) e
-
--- within the bound, one more is one more
-pub more_is : (h : Handle) → h.borrowers + 1 < 2 ^ 64 - 1 → more_of h ≡ one_more h
-more_is h few =
-    let fits : h.borrowers + 1 ≤ 2 ^ 64 - 1 = omega (arith, few) in
-    ap (λ (m : ℕ). let x : Handle = record h { borrowers = m } in x) (min-eq_left fits)
-
-pub less_more : (h : Handle) → h.borrowers + 1 < 2 ^ 64 - 1 → less_of (more_of h) ≡ h
-less_more h few =
-    let fits : h.borrowers + 1 ≤ 2 ^ 64 - 1 = omega (arith, few) in
-    let least : min (h.borrowers + 1) (2 ^ 64 - 1) ≡ h.borrowers + 1 = min-eq_left fits in
-    let back : min (h.borrowers + 1) (2 ^ 64 - 1) - 1 ≡ h.borrowers = omega (arith, least) in
-    same_borrowers h (min (h.borrowers + 1) (2 ^ 64 - 1) - 1) back
-
--- what is lent and given back is as it was
-pub back_lent : (name : ℕ) (d : Directory Handle) → Lendable 1 name d → changed_at less_of name (changed_at more_of name d) ≡ d
-back_lent name d few = changed_back more_of less_of name d (λ h e. less_more h (few h e))
-
--- one that is lent once may be lent again
-lent_once : (name : ℕ) (d : Directory Handle) → Lendable 2 name d → Lendable 1 name (changed_at more_of name d)
-lent_once name d few h e = by (at name d) refl
-  where
-    by : (o : Option Handle) → at name d ≡ o → h.borrowers + 1 < 2 ^ 64 - 1
-    by None f =
-        absurd (let no : None ≡ Some h =
-        sym f ∙ (ap (λ (l : Directory Handle). at name l) (sym (changed_none more_of name d f)) ∙ e) in cc)
-    by (Some x) f =
-        let small : x.borrowers + 2 < 2 ^ 64 - 1 = few x f in
-        let once : x.borrowers + 1 < 2 ^ 64 - 1 = omega (arith, small) in
-        let same : one_more x ≡ h =
-        sym (more_is x once) ∙ cc (sym (at_changed_at more_of name d x f) ∙ e) in
-        let counted : x.borrowers + 1 ≡ h.borrowers = ap (λ (y : Handle). y.borrowers) same in
-        omega (arith, small, counted)
-
--- two that are lent and given back, or one that is lent twice
-pub back_both : (a b : ℕ) (d : Directory Handle) → Lendable 2 a d → Lendable 2 b d
-    → changed_at less_of b (changed_at less_of a (changed_at more_of b (changed_at more_of a d))) ≡ d
-back_both a b d few more = elim (decided (nat_eq a b)) [
-  | inl t ↦ subst (λ (n : ℕ). changed_at less_of n (changed_at less_of a (changed_at more_of n (changed_at more_of a d))) ≡ d)
-      (same_number a b t) same
-  | inr t ↦ other (λ e. absurd (let never : true ≡ false = sym (own a) ∙ (ap (λ (n : ℕ). nat_eq a n) e ∙ t) in cc))
-]
-  where
-    less : (n : ℕ) → Lendable 2 n d → Lendable 1 n d
-    less n f h e = let small : h.borrowers + 2 < 2 ^ 64 - 1 = f h e in omega (arith, small)
-
-    own : (n : ℕ) → nat_eq n n ≡ true
-    own n = nat_eq_equiv.refl n
-
-    same : changed_at less_of a (changed_at less_of a (changed_at more_of a (changed_at more_of a d))) ≡ d
-    same =
-        ap (changed_at less_of a) (back_lent a (changed_at more_of a d) (lent_once a d few)) ∙ back_lent a d (less a few)
-
-    other : (a ≡ b → ⊥) → changed_at less_of b (changed_at less_of a (changed_at more_of b (changed_at more_of a d))) ≡ d
-    other apart =
-        ap (changed_at less_of b) (changed_swap less_of more_of a b (changed_at more_of a d) apart)
-        ∙ (ap (λ (l : Directory Handle). changed_at less_of b (changed_at more_of b l)) (back_lent a d (less a few))
-        ∙ back_lent b d (less b more))
-
--- within the bound, it is lent as the model lends it
-pub lent_is : (handle : HandleId) (d : Directory Handle) → Lendable 1 handle.0 d
-    → changed_at more_of handle.0 d ≡ lent_once_more handle d
-lent_is handle d few = by (at handle.0 d) refl
-  where
-    by : (o : Option Handle) → at handle.0 d ≡ o → changed_at more_of handle.0 d ≡ changed_at one_more handle.0 d
-    by None e = changed_none more_of handle.0 d e ∙ sym (changed_none one_more handle.0 d e)
-    by (Some x) e =
-        changed_some more_of handle.0 d x e
-        ∙ (ap (λ (y : Handle). with_changed handle.0 y d) (more_is x (few x e))
-        ∙ sym (changed_some one_more handle.0 d x e))
+abbrev pub one_less : Handle → Handle
+one_less h = record h { borrowers = h.borrowers - 1 }
 
 -- the handle that a call goes through, where it uses one alone
 abbrev pub used_by : {T : Type 0} → Call T → HandleId
@@ -137,33 +56,39 @@ module _ {T : Type 0} where
 
   -- ---- all names
 
-  abbrev pub lent_names : HandleId → Names T → Names T
-  lent_names handle n = model.with_handles (changed_at more_of handle.0 n.handles) n
-
-  abbrev pub back_names : HandleId → Names T → Names T
-  back_names handle n = model.with_handles (changed_at less_of handle.0 n.handles) n
-
   abbrev pub left_names : Option T → OpId → Names T → Names T
   left_names left op n = record n { operations = changed_at (with_message left) op.0 n.operations }
 
   abbrev pub with_operations : Directory (model.ModelOperation T) → Names T → Names T
   with_operations d n = record n { operations = d }
 
-  pub seen_lent : (r : Roll T) (handle : HandleId) → names_of (with_lent handle r) ≡ lent_names handle (names_of r)
-  seen_lent r handle =
-      ap (λ (d : Directory Handle). model.with_handles d (names_of r))
-      (views_changed handle_of used_more more_of (λ h. refl) handle.0 r.handles)
+  -- calls that use a handle, and how it stands as a stream, are not seen
+  pub seen_handle : (r : Roll T) (change : Hold → Hold) → ((h : Hold) → (change h).handle ≡ h.handle) → (handle : HandleId)
+      → names_of (with_handle change handle r) ≡ names_of r
+  seen_handle r change same handle =
+      ap (λ (d : Directory Handle). model.with_handles d (names_of r)) (views_kept handle_of change same handle.0 r.handles)
 
-  pub seen_back : (r : Roll T) (handle : HandleId) → names_of (with_given_back handle r) ≡ back_names handle (names_of r)
-  seen_back r handle =
-      ap (λ (d : Directory Handle). model.with_handles d (names_of r))
-      (views_changed handle_of used_less less_of (λ h. refl) handle.0 r.handles)
+  pub seen_lent : (r : Roll T) (handle : HandleId) → names_of (with_lent handle r) ≡ names_of r
+  seen_lent r handle = seen_handle r used_more (λ h. refl) handle
 
-  pub seen_standing : (r : Roll T) (standing : Hold → Standing) (handle : HandleId)
-      → names_of (with_handle (λ (h : Hold). record h { standing = standing h }) handle r) ≡ names_of r
-  seen_standing r standing handle =
+  pub seen_back : (r : Roll T) (handle : HandleId) → names_of (with_given_back handle r) ≡ names_of r
+  seen_back r handle = seen_handle r used_less (λ h. refl) handle
+
+  pub seen_standing : (r : Roll T) (standing : Standing) (handle : HandleId) → names_of (with_standing standing handle r) ≡ names_of r
+  seen_standing r standing handle = seen_handle r (λ (h : Hold). record h { standing = standing }) (λ h. refl) handle
+
+  -- operations that borrow it are
+  pub seen_borrowed : (r : Roll T) (handle : HandleId)
+      → names_of (with_borrowed handle r) ≡ model.with_handles (lent_once_more handle (names_of r).handles) (names_of r)
+  seen_borrowed r handle =
       ap (λ (d : Directory Handle). model.with_handles d (names_of r))
-      (views_kept handle_of (λ (h : Hold). record h { standing = standing h }) (λ h. refl) handle.0 r.handles)
+      (views_changed handle_of borrowed_more one_more (λ h. refl) handle.0 r.handles)
+
+  pub seen_handed_over : (r : Roll T) (handle : HandleId)
+      → names_of (with_handed_over handle r) ≡ model.with_handles (used_once_less handle (names_of r).handles) (names_of r)
+  seen_handed_over r handle =
+      ap (λ (d : Directory Handle). model.with_handles d (names_of r))
+      (views_changed handle_of handed_over one_less (λ h. refl) handle.0 r.handles)
 
   pub seen_to_poll : (r : Roll T) (op : OpId)
       → names_of (with_operation lent_to_poll op r) ≡ left_names None op (names_of r)
@@ -184,7 +109,7 @@ module _ {T : Type 0} where
   seen_woken (Op op) r =
       ap (λ (d : Directory (model.ModelOperation T)). with_operations d (names_of r))
       (views_kept operation_of (λ (o : Operation T). record o { standing = told o.standing }) (λ o. refl) op.0 r.operations)
-  seen_woken (Stream handle) r = seen_standing r (λ h. told h.standing) handle
+  seen_woken (Stream handle) r = seen_handle r (λ (h : Hold). record h { standing = told h.standing }) (λ h. refl) handle
 
   pub all_seen : (ws : List Waiter) (r : Roll T) → names_of (all_woken ws r) ≡ names_of r
   all_seen [] r = refl

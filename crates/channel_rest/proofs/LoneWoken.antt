@@ -1,5 +1,5 @@
 -- A call that was made alone leaves those who were woken in the order in which the model leaves them.
-use Rattle.channel_rest.proofs.Words.{◌≡◌, ◌≤◌, nat_eq, List, [], ◌∷◌, ◌++◌, Bool, true, false, Option, None, Some, inl, inr, refl, sym, ap, subst, ◌∙◌, lookup, option_map, option_map_or, Reply, Held, Outcome, among_self, or_right, at_seen, left_among, weak_of, strong_of, stream_of, times, same_waiter, is_among, without_waiter, Names, at, is_taken, State, Call, Handle, HandleId, HandleKind, OpId, Waiter, Op, Stream, keeper, woken_after, errand_of, names_begun, unpolled, leave_handle_of, new_from, lent_by, operation_named, handle_named, lent_to_poll, restored, installed, with_operation, all_woken, placed, order_begun, all_moved_last, was_woken, woken_in, IsAmong, Post, waits, no_stream_post, stream_post, posted, post, names_of, handle_at, with_lent, with_standing, with_given_back, standing_with, Hold, Operation, OperationKind, Standing, Rests, IsPolled, Roll, Admitted, untaken, found, op_post, hold_post, op_spent, handle_spent, lent_same, given_back_same, names_alone, order_alone, but_for}
+use Rattle.channel_rest.proofs.Words.{◌≡◌, ◌≤◌, nat_eq, List, [], ◌∷◌, ◌++◌, Bool, true, false, Option, None, Some, inl, inr, refl, sym, ap, subst, ◌∙◌, lookup, option_map, option_map_or, Reply, Held, Outcome, among_self, or_right, at_seen, left_among, weak_of, strong_of, stream_of, times, same_waiter, is_among, without_waiter, Names, at, is_taken, State, Call, Handle, HandleId, HandleKind, OpId, Waiter, Op, Stream, keeper, woken_after, errand_of, names_begun, unpolled, leave_handle_of, new_from, lent_by, handed_over_by, operation_named, handle_named, lent_to_poll, restored, installed, with_operation, all_woken, placed, order_begun, all_moved_last, was_woken, woken_in, IsAmong, Post, waits, no_stream_post, stream_post, posted, post, names_of, handle_at, unused, with_lent, with_borrowed, with_standing, with_given_back, standing_with, Hold, Operation, OperationKind, Standing, Rests, IsPolled, Roll, Admitted, untaken, found, op_post, hold_post, op_spent, handle_spent, lent_same, borrowed_same, handed_over_same, given_back_same, names_alone, order_alone, but_for}
 use Rattle.channel_calls.specs.declared.reply.Reply.TheVariants as reply
 use Rattle.channel_model.specs.declared.call.Call.TheVariants as call
 use Rattle.channel_model.specs.declared.name.HandleKind.TheVariants as handle_kind
@@ -64,24 +64,24 @@ module _ {T : Type 0} where
     -- ---- new names
 
     makes : (op : OpId) (handle : HandleId) (k : OperationKind) (m : Option T) → is_taken op.0 r.operations ≡ false
-        → Starts r (with_lent handle (operation_named op r)) order order None
-        × EndsSo (with_lent handle (operation_named op r)) (errand.Make op (unpolled k handle m)) None
+        → Starts r (with_borrowed handle (operation_named op r)) order order None
+        × EndsSo (with_borrowed handle (operation_named op r)) (errand.Make op (unpolled k handle m)) None
     makes op handle k m untook = (alike_starts r new order (off_alike r new (Op op) same was is), ends)
       where
         new : Roll T
-        new = with_lent handle (operation_named op r)
+        new = with_borrowed handle (operation_named op r)
 
         same : (v : Waiter) → same_waiter (Op op) v ≡ false
-            → post (with_lent handle (operation_named op r)) v ≡ post r v
-        same v t = lent_same (operation_named op r) handle v ∙ (op_spent r op).others v (not_same v (Op op) t)
+            → post (with_borrowed handle (operation_named op r)) v ≡ post r v
+        same v t = borrowed_same (operation_named op r) handle v ∙ (op_spent r op).others v (not_same v (Op op) t)
 
         was : is_pending (post r (Op op)) ≡ false
         was = ap is_pending (untaken op_post op.0 r.operations untook)
 
-        is : is_pending (post (with_lent handle (operation_named op r)) (Op op)) ≡ false
-        is = ap is_pending (lent_same (operation_named op r) handle (Op op) ∙ (op_spent r op).there)
+        is : is_pending (post (with_borrowed handle (operation_named op r)) (Op op)) ≡ false
+        is = ap is_pending (borrowed_same (operation_named op r) handle (Op op) ∙ (op_spent r op).there)
 
-        ends : EndsSo (with_lent handle (operation_named op r)) (errand.Make op (unpolled k handle m)) None
+        ends : EndsSo (with_borrowed handle (operation_named op r)) (errand.Make op (unpolled k handle m)) None
         ends x kept r' ws p =
             let made = with_op_value op (Some (unpolled k handle m)) r' in
             let a : Alike r' made = off_alike r' made (Op op) (op_value_other r' op (Some (unpolled k handle m)))
@@ -94,7 +94,7 @@ module _ {T : Type 0} where
         → woken_in (installed new k x (with_given_back from r')) ws ≡ woken_in r' ws
     installs from new k reply.Made r' ws off =
         let back = with_given_back from r' in
-        let h : Hold = record { handle = record { kind = k; borrowers = 0 }; standing = Rests } in
+        let h : Hold = unused k in
         let made = with_handle_value new (Some h) back in
         let a : Alike back made = off_alike back made (Stream new) (handle_value_other back new (Some h))
         (ap is_pending (given_back_same r' from (Stream new)) ∙ off)
@@ -166,13 +166,22 @@ module _ {T : Type 0} where
     given_up : (op : OpId) → is_pending (post (with_op_value op None r) (Op op)) ≡ false
     given_up op = op_value_own r op None is_pending sees_pending refl
 
-    gives_up : (op : OpId) → Starts r (with_op_value op None r) order (without_waiter (Op op) order) (Some (Op op))
-    gives_up op = gone_starts r (with_op_value op None r) (Op op) (op_value_other r op None) (given_up op) order
+    abbrev hands_over : OpId → Option (Operation T) → Roll T
+    hands_over op o = handed_over_by o (with_op_value op None r)
 
-    gives_up_end : (op : OpId) (o : Option (Operation T)) → EndsSo (with_op_value op None r) (leave_handle_of o) (Some (Op op))
-    gives_up_end op None x kept new ws p = off_woken new (Op op) ws (p (Op op) ∙ given_up op)
+    handed : (op : OpId) (o : Option (Operation T)) → is_pending (post (hands_over op o) (Op op)) ≡ false
+    handed op o = ap is_pending (handed_over_same (with_op_value op None r) o (Op op)) ∙ given_up op
+
+    gives_up : (op : OpId) (o : Option (Operation T))
+        → Starts r (hands_over op o) order (without_waiter (Op op) order) (Some (Op op))
+    gives_up op o =
+        gone_starts r (hands_over op o) (Op op)
+        (λ v t. handed_over_same (with_op_value op None r) o v ∙ op_value_other r op None v t) (handed op o) order
+
+    gives_up_end : (op : OpId) (o : Option (Operation T)) → EndsSo (hands_over op o) (leave_handle_of o) (Some (Op op))
+    gives_up_end op None x kept new ws p = off_woken new (Op op) ws (p (Op op) ∙ handed op None)
     gives_up_end op (Some o) x kept new ws p =
-        left_woken new o.handle ws ∙ off_woken new (Op op) ws (p (Op op) ∙ given_up op)
+        left_woken new o.handle ws ∙ off_woken new (Op op) ws (p (Op op) ∙ handed op (Some o))
 
     dropped : (handle : HandleId) → is_pending (post (with_handle_value handle None r) (Stream handle)) ≡ false
     dropped handle = handle_value_own r handle None is_pending sees_pending refl
@@ -232,7 +241,8 @@ module _ {T : Type 0} where
         record { starts = polls r order op; ends = polls_end r order (names_begun r (call.Poll op)) op }
     goes (call.PollRefused op) a =
         record { starts = polls r order op; ends = polls_end r order (names_begun r (call.PollRefused op)) op }
-    goes (call.GiveUp op) a = record { starts = gives_up r order op; ends = gives_up_end r order op (at op.0 r.operations) }
+    goes (call.GiveUp op) a =
+        record { starts = gives_up r order op (at op.0 r.operations); ends = gives_up_end r order op (at op.0 r.operations) }
     goes (call.SendIsTerminated op) a =
         record {
           starts = lends_by r order (at op.0 r.operations);

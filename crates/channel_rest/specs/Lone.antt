@@ -1,5 +1,5 @@
 -- A call that is made alone on a channel at rest: what it leaves is what the model says.
-use Rattle.std.specs.Prelude.{◌≡◌, ℕ, ◌+◌, ◌-◌, ◌^◌, ◌<◌, true, List, [], Option, None, Some}
+use Rattle.std.specs.Prelude.{◌≡◌, true, List, [], Option, None, Some}
 use Rattle.channel_calls.specs.declared.stage.Line.{Line}
 use Rattle.channel_alone.specs.Alone.{Outcome, Alone}
 use Rattle.channel_interleaving.specs.Bookkeeping.{asks}
@@ -9,10 +9,8 @@ use Rattle.channel_interleaving.specs.OwnerOrder.{woken_in}
 use Rattle.channel_interleaving.specs.Owners.{polled, post}
 use Rattle.channel_interleaving.specs.Refusal.{begin_refusal}
 use Rattle.channel_interleaving.specs.Run.{Book}
-use Rattle.channel_interleaving.specs.declared.names.Hold.{Hold}
 use Rattle.channel_interleaving.specs.declared.roll.Roll.{Roll}
 use Rattle.channel_model.specs.Lines.{is_among, without_waiter}
-use Rattle.channel_model.specs.Names.{at}
 use Rattle.channel_model.specs.Refusal as model
 use Rattle.channel_model.specs.Refused.{Answers}
 use Rattle.channel_model.specs.Settling.{poll_of}
@@ -27,10 +25,6 @@ but_for None ws = ws
 but_for (Some w) ws = without_waiter w ws
 
 module _ {T : Type 0} where
-  -- no handle is used by as many as can be counted
-  abbrev pub CanBeLent : Roll T → Type 0
-  CanBeLent r = (handle : ℕ) (h : Hold) → at handle r.handles ≡ Some h → h.handle.borrowers + 2 < 2 ^ 64 - 1
-
   -- no poll is under way
   abbrev pub NonePolled : Roll T → Type 0
   NonePolled r = (w : Waiter) (line : Line) → post r w ≡ polled line → ⊥
@@ -46,7 +40,7 @@ RefusalsAgree T =
 abbrev pub LoneCallsAnswer : Type 0 → Type 0
 LoneCallsAnswer T =
     (b : Book T) (s t : Scene T Waiter) (c : Call T) (o : Outcome T Waiter)
-    → AllKept b s → b.agents ≡ [] → s.under_way ≡ [] → CanBeLent b.roll → begin_refusal b.roll c ≡ None
+    → AllKept b s → b.agents ≡ [] → s.under_way ≡ [] → begin_refusal b.roll c ≡ None
     → Alone (asks b.roll c) s.now o → t.now ≡ o.channel
     → Answers (state_at b s) c (record { after = state_at (book_alone b c o) t; reply = o.reply; woken = o.woken })
 
@@ -56,7 +50,7 @@ LoneCallsAnswer T =
 abbrev pub PollsAnswer : Type 0 → Type 0
 PollsAnswer T =
     (b : Book T) (s t : Scene T Waiter) (w : Waiter) (o : Outcome T Waiter)
-    → AllKept b s → b.agents ≡ [] → s.under_way ≡ [] → CanBeLent b.roll → is_among w (woken_in b.roll b.order) ≡ true
+    → AllKept b s → b.agents ≡ [] → s.under_way ≡ [] → is_among w (woken_in b.roll b.order) ≡ true
     → Alone (asks b.roll (poll_of w)) s.now o → t.now ≡ o.channel
     → Answers (state_at b s) (poll_of w)
     (record { woken = o.woken; after = state_at (book_alone b (poll_of w) o) t; reply = o.reply })

@@ -1,5 +1,5 @@
 -- One poll of settling: what the channel did is an answer of the model.
-use Rattle.std.proofs.Common.{arith, ◌≡◌, ◌<◌, ◌≤◌, ◌+◌, ◌-◌, ◌^◌, ℕ, suc, List, [], ◌∷◌, length, Option, true, refl, sym, ap, subst, ◌∙◌}
+use Rattle.std.proofs.Common.{arith, ◌≡◌, ◌≤◌, ◌+◌, ◌-◌, ℕ, suc, List, [], ◌∷◌, length, Option, true, refl, sym, ap, subst, ◌∙◌}
 use Rattle.event_listener.specs.declared.key.Key.{Key}
 use Rattle.channel_calls.specs.Moves.{Channel}
 use Rattle.channel_calls.specs.Parts.{Roster, listeners}
@@ -32,7 +32,6 @@ use Rattle.channel_steps.specs.Scene.{Scene}
 use Rattle.channel_world.specs.Settled.{Polls}
 use Rattle.channel_world.specs.World.{at_rest}
 use Rattle.channel_world.proofs.Opening.{at_rest_is}
-use Rattle.channel_world.proofs.Whole.{can_be_lent}
 
 -- a list shows a line of as many names as wait on it
 as_many : (held : KeysHeld) (es : List (Key × Option Waiter)) (ws : List Waiter) → AreUntold held es ws → length es ≡ length ws
@@ -66,14 +65,14 @@ module _ {T : Type 0} (f : Floor T) (kept : IsKept f) (quiet : IsQuiet f) where
       let world = rests (book_of f) k.scene k.kept (none_under_way f k.scene quiet k.shown) in
       subst (λ (x : State T). AwakeIn x) (sym (at_rest_is f k.scene k.shown quiet)) world.awake
 
-  module _ (few : length f.roll.operations < 2 ^ 63) (answer : PollsAnswer T) (w : Waiter) (there : is_among w (at_rest f).waiting.woken ≡ true) where
+  module _ (answer : PollsAnswer T) (w : Waiter) (there : is_among w (at_rest f).waiting.woken ≡ true) where
     -- whatever the poll does alone, the model allows
     allowed : (s t : Scene T Waiter) (o : Outcome T Waiter) → Shown f s → AllKept (book_of f) s
         → Alone (asks f.roll (poll_of w)) s.now o → t.now ≡ o.channel
         → Answers (at_rest f) (poll_of w) (record { after = state_at (book_alone (book_of f) (poll_of w) o) t; reply = o.reply; woken = o.woken })
     allowed s t o sh k alone now =
         let nobody = no_agents f kept.at_work quiet in
-        let a = answer (book_of f) s t w o k nobody (none_under_way f s quiet sh) (can_be_lent f k.users nobody few) there alone now in
+        let a = answer (book_of f) s t w o k nobody (none_under_way f s quiet sh) there alone now in
         subst (λ (x : State T). Answers x (poll_of w)
         (record { after = state_at (book_alone (book_of f) (poll_of w) o) t; reply = o.reply; woken = o.woken }))
         (sym (at_rest_is f s sh quiet)) a

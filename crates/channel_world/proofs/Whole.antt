@@ -1,5 +1,5 @@
 -- One whole call: what the channel did alone is the answer of the model.
-use Rattle.std.proofs.Common.{arith, ◌≡◌, ◌<◌, ◌≤◌, ◌^◌, ℕ, List, [], length, None, Result, Ok, Err, IfOk, refl, sym, ap, subst, ◌∙◌}
+use Rattle.std.proofs.Common.{arith, ◌≡◌, ◌≤◌, ℕ, List, [], length, None, Result, Ok, Err, IfOk, refl, sym, ap, subst, ◌∙◌}
 use Rattle.channel_calls.specs.declared.reply.Reply.{Reply}
 use Rattle.channel_alone.specs.Alone.{Outcome, Alone}
 use Rattle.channel_interleaving.proofs.Interface.{none_under_way, no_agents}
@@ -9,7 +9,6 @@ use Rattle.channel_interleaving.specs.Kept.{AllKept}
 use Rattle.channel_interleaving.specs.Lone.{book_alone, CallsAlone, WakesAtMost}
 use Rattle.channel_interleaving.specs.Refusal as names
 use Rattle.channel_interleaving.specs.Run.{Book}
-use Rattle.channel_interleaving.specs.Users.{all_uses, FewUsers}
 use Rattle.channel_interleaving.specs.declared.floor.Floor.{Floor}
 use Rattle.channel_model.specs.Refusal.{refusal}
 use Rattle.channel_model.specs.Refused.{Answers}
@@ -17,7 +16,7 @@ use Rattle.channel_model.specs.State.{State}
 use Rattle.channel_model.specs.declared.call.Call.{Call}
 use Rattle.channel_model.specs.declared.name.Waiter.{Waiter}
 use Rattle.channel_model.specs.declared.run.Done.{Done}
-use Rattle.channel_rest.specs.Lone.{CanBeLent, RefusalsAgree, LoneCallsAnswer}
+use Rattle.channel_rest.specs.Lone.{RefusalsAgree, LoneCallsAnswer}
 use Rattle.channel_rest.specs.Rest.{state_at}
 use Rattle.channel_steps.specs.Scene.{Scene}
 use Rattle.channel_world.specs.World.{at_rest, most_woken}
@@ -25,13 +24,6 @@ use Rattle.channel_world.proofs.Few.{few_woken}
 use Rattle.channel_world.proofs.Opening.{at_rest_is}
 
 module _ {T : Type 0} where
-  -- where nobody is at work, no handle is used by more than operations were named
-  pub can_be_lent : (f : Floor T) → FewUsers (book_of f) → f.agents.items ≡ [] → length f.roll.operations < 2 ^ 63 → CanBeLent f.roll
-  can_be_lent f few nobody low handle h e =
-      let users = few handle h e in
-      let none = ap (all_uses handle) nobody in
-      omega (arith, users, none, low)
-
   module _ (agree : RefusalsAgree T) (f : Floor T) (kept : IsKept f) (quiet : IsQuiet f) (c : Call T) where
     abbrev nobody : f.agents.items ≡ []
     nobody = no_agents f kept.at_work quiet
@@ -43,7 +35,7 @@ module _ {T : Type 0} where
         agree (book_of f) o.scene c o.kept nobody
         ∙ ap (λ (x : State T). refusal x c) (sym (at_rest_is f o.scene o.shown quiet))
 
-    module _ (few : length f.roll.operations < 2 ^ 63) (answer : LoneCallsAnswer T) (fine : refusal (at_rest f) c ≡ None) where
+    module _ (answer : LoneCallsAnswer T) (fine : refusal (at_rest f) c ≡ None) where
       accepted : names.begin_refusal f.roll c ≡ None
       accepted = refused_alike ∙ fine
 
@@ -53,7 +45,7 @@ module _ {T : Type 0} where
           → Answers (at_rest f) c (record { after = state_at (book_alone (book_of f) c o) t; reply = o.reply; woken = o.woken })
       allowed s t o sh k alone now =
           let a =
-          answer (book_of f) s t c o k nobody (none_under_way f s quiet sh) (can_be_lent f k.users nobody few) accepted alone now in
+          answer (book_of f) s t c o k nobody (none_under_way f s quiet sh) accepted alone now in
           subst (λ (x : State T). Answers x c (record { after = state_at (book_alone (book_of f) c o) t; reply = o.reply; woken = o.woken }))
           (sym (at_rest_is f s sh quiet)) a
 

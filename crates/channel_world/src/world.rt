@@ -105,7 +105,7 @@ impl<T: Drop> World<T> {
 }
 
 impl<T: Drop> World<T> {
-    ghost use Rattle.std.specs.Prelude.{◌≡◌, ◌<◌, ◌+◌, ◌^◌, [], length, None, Some, IfSome, IsTrue, vec_len};
+    ghost use Rattle.std.specs.Prelude.{◌≡◌, ◌+◌, [], length, None, Some, IfSome, IsTrue, vec_len};
     ghost use Rattle.channel_model.specs.declared.name.Waiter.{Waiter};
     ghost use Rattle.channel_steps.specs.Scene.{Scene};
     ghost use Rattle.channel_interleaving.specs.Apart.{AreApart};
@@ -173,11 +173,10 @@ impl<T: Drop> World<T> {
         self.keeps_names();
     }
 
-    /// Says what is always so, that no name stands twice, and that not all numbers were given to operations; and does nothing.
+    /// Says what is always so, and that no name stands twice; and does nothing.
     pub(crate) fn keeps_names(&self)
         ensures kept { IsKept self.now }
         ensures apart { AreApart (names_in self.now) }
-        ensures few { length (names_in self.now).operations < 2 ^ 63 }
     {
         let _handles = self.floor.roll.handles.iter();
         let _operations = self.floor.roll.operations.iter();

@@ -17,7 +17,7 @@ call_alone-requires-clause-room g c =
     let laws = c.a_call_made_alone_is_the_models.ensures in
     let k = c.keeps_names.ensures in
     rw (inside_is c.self.inside.floor c.args.self.now c.self.view_is)
-    (wakes_few laws.refused (floor_of c.args.self.now) k.kept c.requires.quiet c.args.call k.few laws.answered c.requires.accepted c.in-Some.room c.in-Some.ensures)
+    (wakes_few laws.refused (floor_of c.args.self.now) k.kept c.requires.quiet c.args.call laws.answered c.requires.accepted c.in-Some.room c.in-Some.ensures)
 
 pub invariant_of-self : goal.invariant_of-self
 invariant_of-self g c =
@@ -31,7 +31,7 @@ pub returns-clause-ok : goal.returns-clause-ok
 returns-clause-ok g c =
     let laws = c.a_call_made_alone_is_the_models.ensures in
     let k = c.keeps_names.ensures in
-    answers_whatever laws.refused (floor_of c.args.self.now) k.kept c.requires.quiet c.args.call k.few laws.answered c.requires.accepted c.call_alone.new.self
+    answers_whatever laws.refused (floor_of c.args.self.now) k.kept c.requires.quiet c.args.call laws.answered c.requires.accepted c.call_alone.new.self
     c.call_alone.result c.call_alone.ensures.quiet (rw (sym (inside_is c.self.inside.floor c.args.self.now c.self.view_is)) c.call_alone.ensures.ok)
 
 pub returns-in_default-clause-leads : goal.returns-in_default-clause-leads

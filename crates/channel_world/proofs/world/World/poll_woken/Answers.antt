@@ -12,14 +12,14 @@ pub poll_alone-requires-clause-room : goal.poll_alone-requires-clause-room
 poll_alone-requires-clause-room g c =
     let k = c.keeps_names.ensures in
     rw (inside_is c.self.inside.floor c.args.self.now c.self.view_is)
-    (poll_wakes_few (floor_of c.args.self.now) k.kept c.requires.quiet k.few c.a_poll_of_settling_is_the_models.ensures c.args.name c.requires.woken _ _
+    (poll_wakes_few (floor_of c.args.self.now) k.kept c.requires.quiet c.a_poll_of_settling_is_the_models.ensures c.args.name c.requires.woken _ _
     c.requires.room)
 
 pub poll_alone-requires-clause-limit : goal.poll_alone-requires-clause-limit
 poll_alone-requires-clause-limit g c =
     let k = c.keeps_names.ensures in
     rw (inside_is c.self.inside.floor c.args.self.now c.self.view_is)
-    (poll_brings_within (floor_of c.args.self.now) k.kept c.requires.quiet k.few c.a_poll_of_settling_is_the_models.ensures c.args.name c.requires.woken
+    (poll_brings_within (floor_of c.args.self.now) k.kept c.requires.quiet c.a_poll_of_settling_is_the_models.ensures c.args.name c.requires.woken
     c.requires.limit)
 
 pub invariant_of-self : goal.invariant_of-self
@@ -34,7 +34,7 @@ invariant_of-self g c =
 pub returns-clause-polled : goal.returns-clause-polled
 returns-clause-polled g c =
     let k = c.keeps_names.ensures in
-    poll_answers (floor_of c.args.self.now) k.kept c.requires.quiet k.few c.a_poll_of_settling_is_the_models.ensures c.args.name c.requires.woken
+    poll_answers (floor_of c.args.self.now) k.kept c.requires.quiet c.a_poll_of_settling_is_the_models.ensures c.args.name c.requires.woken
     c.poll_alone.new.self c.args.names.items c.poll_alone.result.reply c.poll_alone.result.names.items c.poll_alone.ensures.quiet
     (rw (sym (inside_is c.self.inside.floor c.args.self.now c.self.view_is)) c.poll_alone.ensures.polled)
 
