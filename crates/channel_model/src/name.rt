@@ -30,11 +30,11 @@ pub enum HandleKind {
     WeakReceiver,
 }
 
-/// A live handle: what it is, and how many live operations and calls under way use it.
+/// A live handle: what it is, and how many live operations borrow it.
 #[derive(Clone, Copy, Debug, PartialEq, Eq)]
 pub struct Handle {
     /// What it is.
     pub kind: HandleKind,
-    /// How many live operations and calls under way use it.
+    /// How many live operations borrow it.
     pub borrowers: usize,
 }
