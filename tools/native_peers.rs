@@ -2,7 +2,13 @@
 //! `channel_bench handles`: tries on one thread and between two, blocking calls in a stream and in turns. With `--cfg ported` the
 //! crates that are ported here stand beside them, and crossbeam's, in the versions that the system packages; so do their queues and events.
 //!
-//! usage: native_peers [WORD ..], of `parts`, `alone`, `between`, `bytes` and `script`; all of them where none is named.
+//! usage: native_peers [WORD ..], of `parts`, `alone`, `queues`, `between`, `why`, `bytes` and `script`; all of them
+//! where none is named.
+mod native_parts;
+
+#[cfg(ported)]
+use native_parts::Lists;
+use native_parts::measure_parts_of_ours;
 use std::alloc::{GlobalAlloc, Layout, System};
 use std::collections::{HashMap, VecDeque};
 use std::fmt::Write;
@@ -181,18 +187,19 @@ fn alone(c: &impl Channel) -> u64 {
     (0..ALONE).filter(|message| c.put(*message)).map(|_| c.get().unwrap()).sum()
 }
 
-fn tries(c: &impl Channel) -> u64 {
+/// One thread puts and one gets, each again until it goes.
+fn pass_on(put: impl Fn(u64) -> bool + Sync, get: impl Fn() -> Option<u64>) -> u64 {
     thread::scope(|scope| {
         scope.spawn(|| {
             for message in 0..BETWEEN {
-                while !c.put(message) {
+                while !put(message) {
                     thread::yield_now();
                 }
             }
         });
         (0..BETWEEN)
             .map(|_| loop {
-                match c.get() {
+                match get() {
                     Some(message) => break message,
                     None => thread::yield_now(),
                 }
@@ -254,36 +261,67 @@ fn compare<C: Channel>(wanted: &Wanted, name: &str, capacity: usize, open: impl 
         measure(&name, "a message by tries on one thread", ROUNDS_ALONE, ALONE, || alone(&there));
     }
     if wanted.has("between") {
-        measure(&name, "a message by tries between two threads", ROUNDS_BETWEEN, BETWEEN, || tries(&there));
+        measure(&name, "a message by tries between two threads", ROUNDS_BETWEEN, BETWEEN, || pass_on(|message| there.put(message), || there.get()));
         measure(&name, "a message in a stream of blocking calls", ROUNDS_BETWEEN, BETWEEN, || stream(&there));
         measure(&name, "a message there and back", ROUNDS_BETWEEN, TURNS, || turns(&there, &back));
     }
 }
 
-/// A push and a pop of each queue, of one owner and shared.
+/// A push and a pop of a shared queue, on one thread and between two.
 #[cfg(ported)]
-fn measure_queues(capacity: usize) {
+fn measure_queue(wanted: &Wanted, name: &str, capacity: usize, put: impl Fn(u64) -> bool + Sync, get: impl Fn() -> Option<u64>) {
     let what = format!("a push and a pop, capacity {capacity}");
+    if wanted.has("parts") {
+        measure_call(name, &what, |message| {
+            put(message);
+            get().unwrap_or(0)
+        });
+    }
+    if wanted.has("queues") {
+        measure(name, &format!("{what}, between two threads"), ROUNDS_BETWEEN, BETWEEN, || pass_on(&put, &get));
+    }
+}
+
+#[cfg(ported)]
+fn measure_queues(wanted: &Wanted, capacity: usize) {
     let queue = match capacity {
         0 => concurrent_queue::ConcurrentQueue::unbounded(),
         _ => concurrent_queue::ConcurrentQueue::bounded(capacity),
     };
-    measure_call("concurrent-queue", &what, |message| {
-        let _ = queue.push(message);
-        queue.pop().unwrap_or(0)
-    });
+    measure_queue(wanted, "concurrent-queue", capacity, |message| queue.push(message).is_ok(), || queue.pop().ok());
     if capacity == 0 {
         let queue = crossbeam_queue::SegQueue::new();
-        measure_call("crossbeam-queue", &what, |message| {
-            queue.push(message);
-            queue.pop().unwrap_or(0)
-        });
+        measure_queue(wanted, "SegQueue", capacity, |message| queue.push(message) == (), || queue.pop());
     } else {
         let queue = crossbeam_queue::ArrayQueue::new(capacity);
-        measure_call("crossbeam-queue", &what, |message| {
-            let _ = queue.push(message);
-            queue.pop().unwrap_or(0)
-        });
+        measure_queue(wanted, "ArrayQueue", capacity, |message| queue.push(message).is_ok(), || queue.pop());
+    }
+}
+
+/// A stream of blocking calls with the sections of ours beside each message: two of the sender, and one of the receiver.
+#[cfg(ported)]
+fn measure_sections(what: &str, lists: Lists) {
+    let channel = Ported::open(128);
+    measure("parts", what, ROUNDS_BETWEEN, BETWEEN, || {
+        thread::scope(|scope| {
+            scope.spawn(|| {
+                for message in 0..BETWEEN {
+                    channel.send(message);
+                    (lists.tell(0), lists.tell(1));
+                }
+            });
+            (0..BETWEEN).map(|_| (channel.receive(), lists.tell(2)).0).sum()
+        })
+    });
+}
+
+/// Of what a stream between two threads takes its time: of ours, and of Rust's with more beside it.
+fn measure_why() {
+    measure_parts_of_ours();
+    #[cfg(ported)]
+    {
+        measure_sections("async-channel, sections on lists apart", Lists::apart());
+        measure_sections("async-channel, sections on lists that lie as ours", Lists::as_ours());
     }
 }
 
@@ -322,10 +360,7 @@ fn measure_parts() {
         deque.pop_front().unwrap_or(0)
     });
     #[cfg(ported)]
-    {
-        [1, 3, 128, 0].into_iter().for_each(measure_queues);
-        measure_handles_and_events();
-    }
+    measure_handles_and_events();
 }
 
 /// The bytes that each of many takes of what this makes, while they are held and at the most on the way there.
@@ -403,11 +438,16 @@ fn main() {
     }
     for capacity in [1, 3, 128, 0] {
         #[cfg(ported)]
+        measure_queues(&wanted, capacity);
+        #[cfg(ported)]
         compare(&wanted, "async-channel", capacity, Ported::open);
         #[cfg(ported)]
         compare(&wanted, "crossbeam-channel", capacity, Crossbeam::open);
         compare(&wanted, "mpsc", capacity, mpsc);
         compare(&wanted, "a deque behind a lock", capacity, locked);
+    }
+    if wanted.has("why") {
+        measure_why();
     }
     if wanted.has("bytes") {
         count_all_bytes();

@@ -13,6 +13,7 @@ sources=/usr/share/cargo/registry
 if ls -d "$sources"/async-channel-* >/dev/null 2>&1; then
     mkdir -p "$room/src" "$room/.cargo"
     cp tools/native_peers.rs "$room/src/main.rs"
+    cp tools/native_parts.rs "$room/src/"
     cat >"$room/Cargo.toml" <<'END'
 [package]
 name = "native_peers"

@@ -10,6 +10,7 @@ mod handles;
 mod list;
 mod queue;
 mod recorded;
+mod refused;
 mod rounds;
 mod settle;
 mod several;
@@ -37,6 +38,7 @@ fn measure<R: Clock + Print + Wait + Threads + Copy + Sync + Send>(
         "pairs" => queue::make_pairs(&rt, alloc),
         "queue" => queue::measure_queues(&rt, alloc),
         "recorded" => recorded::measure_recorded(&rt, alloc),
+        "refused" => refused::measure_refused(&rt, alloc),
         "settle" => settle::measure_settling(&rt, alloc),
         "several" => several::measure_several(rt, alloc),
         "shared" => shared::measure_shared(&rt, alloc),

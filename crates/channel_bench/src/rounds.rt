@@ -1,6 +1,8 @@
-//! What the rounds of a measurement took.
+//! What the rounds of a measurement took, and how that stands beside others.
 
+use crate::decimal::Decimal;
 use std::alloc::Global;
+use std::fmt;
 
 /// The nanoseconds of each round.
 #[derive(Drop)]
@@ -36,5 +38,40 @@ impl Rounds {
             Some(nanos) => *nanos,
             None => 0,
         }
+    }
+
+    /// What one of so many calls takes, and how many times as long these rounds took as those.
+    pub fn beside(&self, calls: u64, others: &Rounds) -> Beside {
+        let calls = calls as u128;
+        Beside {
+            least: Decimal::of(self.least(), calls),
+            median: Decimal::of(self.median(), calls),
+            ratio: Decimal::of(self.least(), others.least()),
+            middle: Decimal::of(self.median(), others.median()),
+        }
+    }
+}
+
+/// What a message takes at the least and in the median, and how many times as long either is as of others.
+#[derive(Clone, Copy)]
+pub struct Beside {
+    least: Decimal,
+    median: Decimal,
+    ratio: Decimal,
+    middle: Decimal,
+}
+
+impl fmt::Display for Beside {
+    fn fmt<W: fmt::Write>(&self, f: &mut fmt::Formatter<W>) -> fmt::Result {
+        let Beside {
+            least,
+            median,
+            ratio,
+            middle,
+        } = *self;
+        write!(
+            f,
+            "{least} ns a message at the least, {median} in the median; {ratio} and {middle}"
+        )
     }
 }

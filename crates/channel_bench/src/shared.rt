@@ -3,7 +3,7 @@
 
 ghost use Rattle.std.specs.Prelude.{◌<◌};
 
-use crate::decimal::Decimal;
+use crate::rounds::Rounds;
 use crate::watch::Watch;
 use concurrent_queue::shared::queue::ConcurrentQueue;
 use crossbeam_channel::{Receiver, Sender};
@@ -14,7 +14,7 @@ use std::sync::Wait;
 use std::thread::Threads;
 use std::{io, thread};
 
-/// How many messages go through a queue in one round, and how many rounds there are. The best round counts.
+/// How many messages go through a queue in one round, and how many rounds there are.
 pub const ALONE: u64 = 200_000;
 
 const BETWEEN: u64 = 100_000;
@@ -129,73 +129,66 @@ pub fn pass_on<Q: Shared + Sync, R: Threads + Wait + Sync>(
     sum
 }
 
-/// The nanoseconds of the best rounds, and the sum of all messages that were popped.
-#[derive(Clone, Copy)]
+/// What the rounds of one queue took, on one thread and between two, and the sum of all messages that were popped.
+#[derive(Drop)]
 struct Costs {
-    alone: u128,
-    between: u128,
+    alone: Rounds,
+    between: Rounds,
     sum: u64,
 }
 
 impl Costs {
-    fn none() -> Self {
+    fn none(alloc: Global) -> Self {
         Costs {
-            alone: u128::MAX,
-            between: u128::MAX,
+            alone: Rounds::new(alloc),
+            between: Rounds::new(alloc),
             sum: 0,
         }
     }
 
-    fn per_message(self) -> (Decimal, Decimal) {
-        (
-            Decimal::of(self.alone, ALONE as u128),
-            Decimal::of(self.between, BETWEEN as u128),
-        )
+    /// One round of each.
+    fn round<Q: Shared + Sync, R: Threads + Wait + Clock + Sync>(&mut self, rt: &R, queue: &Q) {
+        let watch = Watch::start(rt);
+        let first = both(rt, queue, ALONE);
+        self.alone.add(watch.nanos(rt));
+        let watch = Watch::start(rt);
+        let second = pass_on(rt, queue, BETWEEN);
+        self.between.add(watch.nanos(rt));
+        self.sum = self.sum.wrapping_add(first).wrapping_add(second);
     }
 }
 
-fn round<Q: Shared + Sync, R: Threads + Wait + Clock + Sync>(
-    rt: &R,
-    queue: &Q,
-    costs: Costs,
-) -> Costs {
-    let watch = Watch::start(rt);
-    let first = both(rt, queue, ALONE);
-    let alone = watch.nanos(rt);
-    let watch = Watch::start(rt);
-    let second = pass_on(rt, queue, BETWEEN);
-    let between = watch.nanos(rt);
-    Costs {
-        alone: costs.alone.min(alone),
-        between: costs.between.min(between),
-        sum: costs.sum.wrapping_add(first).wrapping_add(second),
+/// What a push and a pop of ours take beside those of another queue, on one thread and between two.
+fn report<R: Print>(rt: &R, ours: &Costs, name: &str, theirs: &Costs) -> io::Result<()> {
+    if ours.sum != theirs.sum {
+        return println!(rt; "shared: a message was lost");
     }
+    let alone = ours.alone.beside(ALONE, &theirs.alone);
+    println!(rt; "shared, a push and a pop on one thread: {alone} times {name}")?;
+    let between = ours.between.beside(BETWEEN, &theirs.between);
+    println!(rt; "shared, a push and a pop between two threads: {between} times {name}")
 }
 
-fn report<R: Print>(rt: &R, name: &str, costs: Costs) -> io::Result<()> {
-    let (alone, between) = costs.per_message();
-    println!(rt; "shared, {name}: {alone} ns on one thread, {between} ns between two")
+fn report_both<R: Print>(rt: &R, ours: &Costs, array: &Costs, ends: &Costs) -> io::Result<()> {
+    report(rt, ours, "ArrayQueue", array)?;
+    report(rt, ours, "crossbeam_channel", ends)
 }
 
 /// A queue with a bound beside one of the kit and a channel, in turns.
 fn compare_bounded<R: Threads + Wait + Clock + Print + Sync>(
     rt: &R,
+    alloc: Global,
     ours: &ConcurrentQueue<u64>,
     array: &ArrayQueue<u64>,
     ends: &Ends,
 ) -> io::Result<()> {
-    let mut costs = (Costs::none(), Costs::none(), Costs::none());
+    let mut costs = (Costs::none(alloc), Costs::none(alloc), Costs::none(alloc));
     for _ in 0..ROUNDS {
-        costs.0 = round(rt, ours, costs.0);
-        costs.1 = round(rt, array, costs.1);
-        costs.2 = round(rt, ends, costs.2);
+        costs.0.round(rt, ours);
+        costs.1.round(rt, array);
+        costs.2.round(rt, ends);
     }
-    if costs.0.sum != costs.1.sum || costs.1.sum != costs.2.sum {
-        return println!(rt; "shared: a message was lost");
-    }
-    report(rt, "a push and a pop", costs.0)?;
-    report(rt, "of ArrayQueue", costs.1)?;
-    report(rt, "of crossbeam_channel", costs.2)
+    report_both(rt, &costs.0, &costs.1, &costs.2)
 }
 
 /// A queue of this capacity beside one of the kit and a channel.
@@ -210,7 +203,7 @@ fn measure_bounded<R: Threads + Wait + Clock + Print + Sync>(
     let array = ArrayQueue::new(alloc, capacity)?;
     let (to, from) = crossbeam_channel::bounded(alloc, capacity)?;
     match ConcurrentQueue::bounded(alloc, capacity) {
-        Ok(ours) => compare_bounded(rt, &ours, &array, &Ends { to, from }),
+        Ok(ours) => compare_bounded(rt, alloc, &ours, &array, &Ends { to, from }),
         Err(_) => println!(rt; "shared: want of memory"),
     }
 }
@@ -218,19 +211,16 @@ fn measure_bounded<R: Threads + Wait + Clock + Print + Sync>(
 /// An unbounded queue beside one of the kit, in turns.
 fn compare_unbounded<R: Threads + Wait + Clock + Print + Sync>(
     rt: &R,
+    alloc: Global,
     ours: &ConcurrentQueue<u64>,
     segments: &SegQueue<u64>,
 ) -> io::Result<()> {
-    let mut costs = (Costs::none(), Costs::none());
+    let mut costs = (Costs::none(alloc), Costs::none(alloc));
     for _ in 0..ROUNDS {
-        costs.0 = round(rt, ours, costs.0);
-        costs.1 = round(rt, segments, costs.1);
+        costs.0.round(rt, ours);
+        costs.1.round(rt, segments);
     }
-    if costs.0.sum != costs.1.sum {
-        return println!(rt; "shared: a message was lost");
-    }
-    report(rt, "a push and a pop", costs.0)?;
-    report(rt, "of SegQueue", costs.1)
+    report(rt, &costs.0, "SegQueue", &costs.1)
 }
 
 /// An unbounded queue beside one of the kit.
@@ -241,7 +231,7 @@ fn measure_unbounded<R: Threads + Wait + Clock + Print + Sync>(
     println!(rt; "shared, unbounded")?;
     let segments = SegQueue::new(alloc)?;
     match ConcurrentQueue::unbounded(alloc) {
-        Ok(ours) => compare_unbounded(rt, &ours, &segments),
+        Ok(ours) => compare_unbounded(rt, alloc, &ours, &segments),
         Err(_) => println!(rt; "shared: want of memory"),
     }
 }
