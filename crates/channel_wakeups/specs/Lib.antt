@@ -11,3 +11,6 @@ pub mod Several
 pub mod Counts
 pub mod Blocks
 pub mod RingSteps
+pub mod RingStages
+pub mod RingDeeds
+pub mod RingLeaves
