@@ -20,6 +20,12 @@ pub mod Seats
 pub mod Stages
 pub mod Machine
 pub mod Left
+pub mod RingWalks
+pub mod RingWalksPop
+pub mod RingWalksPush
+pub mod RingWalksClose
+pub mod RingWalksLeft
+pub mod RingWalksBegin
 pub mod From
 pub mod Listed
 pub mod Sections
