@@ -444,7 +444,7 @@ impl<'a, T: Drop, W: Drop> RingCells<'a, T, W> {
 
 impl<'a, T: Drop, W: Drop> Cells<T> for RingCells<'a, T, W> {
     ghost use Rattle.std.specs.Prelude.{◌≡◌};
-    ghost use Rattle.std.proofs.Common.{ap};
+    ghost use Rattle.std.proofs.Common.{◌∙◌, sym, ap};
     ghost use Rattle.atomic_table.specs.Seated.{TableId};
     ghost use Rattle.concurrent_queue.specs.Contents.{no_contents};
     ghost use Rattle.concurrent_queue.specs.declared.cells.QueueForm.TheVariants.{Bounded};
@@ -452,13 +452,13 @@ impl<'a, T: Drop, W: Drop> Cells<T> for RingCells<'a, T, W> {
 
     ghost known = { ⊥ };
 
-    ghost contents = { λ c. no_contents (Bounded c.seat.table_id.slots) };
+    ghost contents = { λ c. no_contents (Bounded c.table.now.shared.table_id.slots) };
 
-    ghost form_of = { λ c. Bounded c.seat.table_id.slots };
+    ghost form_of = { λ c. Bounded c.table.now.shared.table_id.slots };
 
     ghost did = { λ d a b. RingDid d a b };
 
-    ghost keeps_form = { λ d a b did. ap (λ (z : TableId). Bounded z.slots) did.0 };
+    ghost keeps_form = { λ d a b did. ap (λ (z : TableId). Bounded z.slots) (sym b.seated ∙ did.0 ∙ a.seated) };
 
     ghost exact_form = { λ known. absurd known };
 
