@@ -13,7 +13,9 @@ pub mod Laws
 pub mod RingLaws
 pub mod RingMoves
 pub mod RingLooks
+pub mod RingEnds
 pub mod RingForces
+pub mod RingStages
 pub mod RingBegins
 pub mod Moves
 pub mod Seats

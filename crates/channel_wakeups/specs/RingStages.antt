@@ -1,12 +1,13 @@
 -- How far a call has come with a ring, stage by stage, and what its seat knows and has at hand then.
-use Rattle.std.specs.Prelude.{◌≡◌, ℕ, zero, suc, ◌+◌, ◌%◌, ◌^◌, ◌<◌, ◌≤◌, List, [], ◌∷◌, Bool, true, false, cond, Option, None, Some}
+use Rattle.std.specs.Prelude.{◌≡◌, ◌⊎◌, ℕ, zero, suc, ◌+◌, ◌-◌, ◌*◌, ◌%◌, ◌^◌, ◌<◌, ◌≤◌, List, [], ◌∷◌, Bool, true, false, cond, Option, None, Some}
+use Rattle.concurrent_queue.specs.machine.RingWords.{ring_mark}
 use Rattle.channel_wakeups.specs.declared.ring_stage.RingStage.{RingStage}
 use Rattle.channel_wakeups.specs.declared.ring_stage.RingStage.TheVariants as stage
 use Rattle.channel_wakeups.specs.declared.rule.Transfer.{Transfer}
 use Rattle.channel_wakeups.specs.declared.rule.Turn.{Turn}
 use Rattle.channel_wakeups.specs.declared.rule.Turn.TheVariants.{Rest, Tailed, Ready, Behind, Filling, Coming, Displacing, Headed, Written, Vacant, Emptying}
 use Rattle.channel_wakeups.specs.Log.{PutBefore, TookBefore}
-use Rattle.channel_wakeups.specs.RingSteps.{at_turn, won_ring_place}
+use Rattle.channel_wakeups.specs.RingSteps.{at_turn, rests, won_ring_place}
 use Rattle.channel_wakeups.specs.Views.{at_number, came, given, Known}
 
 -- the number that a turn is about
@@ -143,6 +144,23 @@ module _ {T W : Type 0} where
       (0 < m.0.parts) × (m.0 ≡ at_turn (turn_at s (number_of m.0.turn)) m.0) × (m.1 ≡ out_at s (number_of m.0.turn % slots) m.1)
       × (position_at s (at_number slots (number_of m.0.turn)) ≡ at_number slots (number_of m.0.turn)) × (number_of m.0.turn + needed_at slots s ≤ 2 ^ 61)
       × (places_at displaces s m.0.calls.sends.answers ≤ 1) × (messages_at s m.0.calls.receives.answers ≤ 1) × (m.0.calls.sends.fresh ≡ fresh_at s m.0.calls.sends.holds m.0.calls.sends.fresh)
+
+  -- what a push finds at the place whose number it knows, in words: it is free; or the message of the lap before is there; or neither
+  abbrev pub place_found : ℕ → Known T W → ℕ → Known T W → Type 0
+  place_found slots m found after =
+      let t = at_number slots (number_of m.0.turn) in
+      ((found ≡ t) × (after ≡ (at_turn (Ready (number_of m.0.turn)) m.0, [])))
+      ⊎ (((found ≡ t → ⊥) × (2 * ring_mark slots ≤ t) × (found ≡ t - 2 * ring_mark slots + 1) × (t - 2 * ring_mark slots ≡ at_number slots (number_of m.0.turn - slots)) × (number_of m.0.turn - slots + slots ≡ number_of m.0.turn)
+      × (after ≡ (at_turn (Behind (number_of m.0.turn - slots)) m.0, [])))
+      ⊎ ((found ≡ t → ⊥) × (2 * ring_mark slots ≤ t → found ≡ t - 2 * ring_mark slots + 1 → ⊥) × (after ≡ rests m.0)))
+
+  -- what a pop finds there: the message; or that its place is free still; or neither
+  abbrev pub message_found : ℕ → Known T W → ℕ → Known T W → Type 0
+  message_found slots m found after =
+      let h = at_number slots (number_of m.0.turn) in
+      ((found ≡ (h + 1) % 2 ^ 64) × (after ≡ (at_turn (Written (number_of m.0.turn)) m.0, [])))
+      ⊎ (((found ≡ (h + 1) % 2 ^ 64 → ⊥) × (found ≡ h) × (after ≡ (at_turn (Vacant (number_of m.0.turn)) m.0, [])))
+      ⊎ ((found ≡ (h + 1) % 2 ^ 64 → ⊥) × (found ≡ h → ⊥) × (after ≡ rests m.0)))
 
   -- the slot is given back so
   abbrev pub gave_back : ℕ → Known T W → Known T W → Type 0

@@ -1,8 +1,8 @@
 //! A law of the rule, beside rings that no code runs over it yet. It is the contract of a function that does nothing.
 
-ghost use Rattle.channel_wakeups.specs.RingSteps.{PushReadsTail, PushReadsStamp, PushFindsItFull, PushMovesTail, PushStoresStamp, ForceMovesHead, ForceMovesTail, ForceStoresStamp, PopReadsHead, PopReadsStamp, PopReadsTail, PopMovesHead, PopStoresStamp, CloseSetsMark, NewRingHolds};
+ghost use Rattle.channel_wakeups.specs.RingSteps.{PushReadsTail, PushReadsStamp, PushFindsItFull, PushMovesTail, PushStoresStamp, ForceMovesHead, ForceMovesTail, ForceStoresStamp, PopReadsHead, PopReadsStamp, PopReadsTail, PopMovesHead, PopStoresStamp, CloseSetsMark, EndSetsMark, AskReadsTail, NewRingHolds};
 
-/// Of a ring of two places or more, each step of a push, a displacing push, a pop and a closing keeps the rule of wake-ups: from every
+/// Of a ring of two places or more, each step of a push, a displacing push, a pop, a closing and a question whether it is closed keeps the rule of wake-ups: from every
 /// state in which it holds, whatever all other calls know and are about, it holds after the step. So it holds whatever others do
 /// between two steps of a call. And it holds of a ring that was just made.
 ///
@@ -31,5 +31,7 @@ pub fn ring_steps_keep_the_rule<T, W>()
     ensures pop_moves_head { PopMovesHead T W }
     ensures pop_stores_stamp { PopStoresStamp T W }
     ensures close_sets_mark { CloseSetsMark T W }
+    ensures end_sets_mark { EndSetsMark T W }
+    ensures ask_reads_tail { AskReadsTail T W }
     ensures new_ring_holds { NewRingHolds T W }
 {}

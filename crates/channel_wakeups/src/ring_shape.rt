@@ -1,6 +1,6 @@
 //! The measures of a ring.
 
-ghost use Rattle.std.specs.Prelude.{◌≡◌, ℕ, ◌<◌, ◌≤◌, ◌^◌, ◌*◌, ◌+◌, ◌%◌, bit_and};
+ghost use Rattle.std.specs.Prelude.{◌≡◌, ℕ, ◌<◌, ◌≤◌, ◌^◌, ◌*◌, ◌+◌, ◌-◌, ◌%◌, true, false, nat_le, bit_and, IfNone, IfSome};
 ghost use Rattle.concurrent_queue.specs.machine.RingWords.{ring_mark, index, is_marked, unmarked, stride, next_word};
 
 /// The measures of a ring: its capacity, its mark, which is the least power of two above that, and a lap of two marks, less one.
@@ -9,6 +9,7 @@ pub(crate) struct RingShape {
     pub(crate) cap: u64,
     pub(crate) mark: u64,
     mask: u64,
+    ghost positive: { 0 < cap },
     ghost most: { cap ≤ 2 ^ 58 },
     ghost marks: { mark ≡ ring_mark cap },
     ghost small: { mark < 2 ^ 60 },
@@ -20,7 +21,8 @@ impl RingShape {
     /// The measures of a ring of so many places.
     #[inline(always)]
     pub(crate) fn of(slots: usize) -> RingShape
-        requires { slots ≤ 2 ^ 58 }
+        requires positive { 0 < slots }
+        requires most { slots ≤ 2 ^ 58 }
         ensures { result.cap ≡ slots }
     {
         let cap = slots as u64;
@@ -86,5 +88,30 @@ impl RingShape {
         ensures { result ≡ next_word self.cap self.mark position }
     {
         position.wrapping_add(self.stride(position))
+    }
+
+    /// The position a lap before this one, where the stamp says that the message of that lap is in.
+    #[inline(always)]
+    pub(crate) fn lap_before(self, position: u64, stamp: u64) -> Option<u64>
+        ensures before { IfSome result (λ head. (2 * self.mark ≤ position) × (stamp ≡ position - 2 * self.mark + 1) × (head ≡ position - 2 * self.mark)) }
+        ensures other { IfNone result (2 * self.mark ≤ position → stamp ≡ position - 2 * self.mark + 1 → ⊥) }
+    {
+        let lap = self.lap();
+        if position < lap {
+            return None;
+        }
+        if stamp == position - lap + 1 {
+            return Some(position - lap);
+        }
+        None
+    }
+
+    /// A word without the mark, behind the last position of which the next lap has words.
+    #[inline(always)]
+    pub(crate) fn beyond(self) -> u64
+        ensures open { is_marked self.mark result ≡ false }
+        ensures end { nat_le (2 ^ 64 - 2 * self.mark) result ≡ true }
+    {
+        0u64.wrapping_sub(self.lap())
     }
 }

@@ -430,10 +430,9 @@ impl<T, W> Play<Option<T>, View<T, W>> for ReadsTail {
 pub(crate) struct ReadsPlace;
 
 impl<T, W> Play<Option<T>, View<T, W>> for ReadsPlace {
-    ghost use Rattle.channel_wakeups.specs.RingStages.{number_of};
-    ghost use Rattle.channel_wakeups.specs.RingSteps.{place_read};
+    ghost use Rattle.channel_wakeups.specs.RingStages.{place_found};
 
-    ghost then = { λ st m found after. place_read st.slots (number_of m.0.turn) m.0 found after };
+    ghost then = { λ st m found after. place_found st.slots m found after };
 }
 
 /// A push that found the message of the lap before looks whether that is the oldest.
@@ -497,10 +496,9 @@ impl<T, W> Play<Option<T>, View<T, W>> for ReadsHead {
 pub(crate) struct ReadsMessage;
 
 impl<T, W> Play<Option<T>, View<T, W>> for ReadsMessage {
-    ghost use Rattle.channel_wakeups.specs.RingStages.{number_of};
-    ghost use Rattle.channel_wakeups.specs.RingSteps.{message_read};
+    ghost use Rattle.channel_wakeups.specs.RingStages.{message_found};
 
-    ghost then = { λ st m found after. message_read st.slots (number_of m.0.turn) m.0 found after };
+    ghost then = { λ st m found after. message_found st.slots m found after };
 }
 
 /// A pop that found no message looks whether the tail is there too.
