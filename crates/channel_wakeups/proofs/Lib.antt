@@ -27,7 +27,6 @@ pub mod RingWalksPop
 pub mod RingWalksPush
 pub mod RingWalksClose
 pub mod RingWalksLeft
-pub mod RingWalksBegin
 pub mod From
 pub mod Listed
 pub mod Sections

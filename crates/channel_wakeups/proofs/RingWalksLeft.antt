@@ -26,7 +26,7 @@ use Rattle.channel_wakeups.specs.Counts.{IsHolding}
 use Rattle.channel_wakeups.specs.RingDeeds.{RingDid}
 use Rattle.channel_wakeups.specs.RingLeaves.{RingPushLeaves, RingForceLeaves}
 use Rattle.channel_wakeups.specs.RingStages.{has_shut}
-use Rattle.channel_wakeups.specs.RingSteps.{no_send_again, won_ring_place}
+use Rattle.channel_wakeups.specs.RingSteps.{won_ring_place}
 use Rattle.channel_wakeups.specs.Seats.{IsCall, IsPass, IsIdle}
 use Rattle.channel_wakeups.specs.Several.{PopMoreLeaves}
 use Rattle.channel_wakeups.specs.Views.{Side, of_receives, of_sends, of_streams, of_closings, of, besides, with_line, only_on, calling, idle, idle_lines, handed, hands, no_place, all_owing}

@@ -1,11 +1,10 @@
 -- What a pop, made by the queue's machine on a ring's cells, does to what the call's seat knows: one lemma for each action.
-use Rattle.std.proofs.Common.{inl, inr, ◌≡◌, ◌⊎◌, ℕ, ◌+◌, ◌^◌, ◌%◌, ◌<◌, ◌≤◌, ◌==◌, List, [], ◌∷◌, ◌++◌, Bool, true, false, if◌then◌else◌, Option, None, Some, Result, Ok, Err, sym, refl, ap, ◌∙◌, subst}
+use Rattle.std.proofs.Common.{inl, inr, ◌≡◌, ℕ, ◌+◌, ◌^◌, ◌%◌, ◌<◌, ◌≤◌, ◌==◌, List, [], ◌∷◌, ◌++◌, Bool, false, if◌then◌else◌, None, Some, Ok, Err, sym, refl, ap, ◌∙◌}
 use Rattle.atomic_table.specs.Seated.{TableId}
 use Rattle.concurrent_queue.specs.Deeds.{loaded, stored, exchanged, did_take}
 use Rattle.concurrent_queue.specs.Walked.{StateMakes, MakesRing, WalkedFrom}
 use Rattle.concurrent_queue.specs.machine.Dispatch.{in_ring}
 use Rattle.concurrent_queue.specs.machine.RingWords.{ring_mark, index, is_marked, unmarked, stays, finishes}
-use Rattle.concurrent_queue.specs.declared.bounded.RingAction.{RingAction}
 use Rattle.concurrent_queue.specs.declared.bounded.RingAction.TheVariants as act
 use Rattle.concurrent_queue.specs.declared.call.QueueAsk.TheVariants as ask
 use Rattle.concurrent_queue.specs.declared.call.QueueReply.{QueueReply}
@@ -18,16 +17,14 @@ use Rattle.concurrent_queue.specs.declared.queue_call.CallState.{CallState}
 use Rattle.concurrent_queue.specs.declared.queue_call.CallState.TheVariants.{Asked, Ring}
 use Rattle.concurrent_queue.proofs.RingLater.{eq_self}
 use Rattle.channel_wakeups.specs.declared.ring_cells.RingCells.{RingCells}
-use Rattle.channel_wakeups.specs.declared.ring_stage.RingStage.{RingStage}
 use Rattle.channel_wakeups.specs.declared.ring_stage.RingStage.TheVariants as stage
 use Rattle.channel_wakeups.specs.declared.rule.Lines.{Lines}
 use Rattle.channel_wakeups.specs.declared.rule.Sight.TheVariants.{Drained}
 use Rattle.channel_wakeups.specs.declared.rule.Transfer.{Transfer}
 use Rattle.channel_wakeups.specs.declared.rule.Transfer.TheVariants.{Out, Saw}
 use Rattle.channel_wakeups.specs.declared.rule.Turn.TheVariants as turn
-use Rattle.channel_wakeups.specs.declared.rule.View.{View}
 use Rattle.channel_wakeups.specs.Log.{TookBefore, NotSeen, NotDrained}
-use Rattle.channel_wakeups.specs.RingDeeds.{RingDid, HeadRead, MessageRead, EndRead, HeadMoved, TookOut, GaveBack}
+use Rattle.channel_wakeups.specs.RingDeeds.{RingDid, MessageRead, EndRead}
 use Rattle.channel_wakeups.specs.RingStages.{stored_log}
 use Rattle.channel_wakeups.specs.RingSteps.{at_turn, rests}
 use Rattle.channel_wakeups.specs.Views.{no_message, no_more, won_message, came, Known}

@@ -1,6 +1,6 @@
 -- What a push, and one that displaces, made by the queue's machine on a ring's cells, do to what the call's seat knows: one lemma for
 -- each action. They go the same way up to where a push has found the message of the lap before.
-use Rattle.std.proofs.Common.{inl, inr, ◌≡◌, ◌⊎◌, ⊎_elim, ℕ, ◌+◌, ◌-◌, ◌*◌, ◌^◌, ◌%◌, ◌<◌, ◌≤◌, ◌==◌, ◌&&◌, List, [], ◌∷◌, ◌++◌, Bool, true, false, if◌then◌else◌, nat_le, Option, None, Some, Result, Ok, Err, arith, sym, refl, ap, ◌∙◌, subst}
+use Rattle.std.proofs.Common.{inl, inr, ◌≡◌, ◌⊎◌, ⊎_elim, ℕ, ◌+◌, ◌-◌, ◌*◌, ◌^◌, ◌%◌, ◌<◌, ◌≤◌, ◌==◌, ◌&&◌, List, [], ◌∷◌, ◌++◌, Bool, true, false, if◌then◌else◌, nat_le, Option, None, Some, Ok, Err, arith, sym, refl, ap, ◌∙◌, subst}
 use Rattle.std.proofs.lemmas.Bool.Decides.{leb_tells}
 use Rattle.atomic_table.specs.Seated.{TableId}
 use Rattle.concurrent_queue.specs.Deeds.{loaded, stored, exchanged, added, bits_set, did_put, did_take}
@@ -23,7 +23,6 @@ use Rattle.concurrent_queue.specs.declared.queue_call.CallState.{CallState}
 use Rattle.concurrent_queue.specs.declared.queue_call.CallState.TheVariants.{Asked, Ring}
 use Rattle.concurrent_queue.proofs.RingLater.{eq_self}
 use Rattle.channel_wakeups.specs.declared.ring_cells.RingCells.{RingCells}
-use Rattle.channel_wakeups.specs.declared.ring_stage.RingStage.{RingStage}
 use Rattle.channel_wakeups.specs.declared.ring_stage.RingStage.TheVariants as stage
 use Rattle.channel_wakeups.specs.declared.rule.Lines.{Lines}
 use Rattle.channel_wakeups.specs.declared.rule.Sight.TheVariants.{Shut, Seen}
@@ -31,7 +30,7 @@ use Rattle.channel_wakeups.specs.declared.rule.Transfer.{Transfer}
 use Rattle.channel_wakeups.specs.declared.rule.Transfer.TheVariants.{In, Out, Saw}
 use Rattle.channel_wakeups.specs.declared.rule.Turn.TheVariants as turn
 use Rattle.channel_wakeups.specs.Log.{PutBefore, TookBefore, NotSeen}
-use Rattle.channel_wakeups.specs.RingDeeds.{RingDid, TailRead, PlaceRead, FullRead, TailMoved, OldestWon, EndMarked}
+use Rattle.channel_wakeups.specs.RingDeeds.{RingDid, TailRead, PlaceRead, FullRead, EndMarked}
 use Rattle.channel_wakeups.specs.RingStages.{number_of, stored_log}
 use Rattle.channel_wakeups.specs.RingSteps.{at_turn, rests, seen_open_line, no_send_again, won_ring_place, making_room}
 use Rattle.channel_wakeups.specs.Views.{of_sends, only_on, line_of, no_place, all_owing, came, Known}

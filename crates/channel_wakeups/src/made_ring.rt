@@ -23,7 +23,7 @@ use std::sync::Wait;
 /// Every step of the queue's push on the ring, by a call that answers for one place at most. It tells besides whether the call closed the
 /// channel, since positions ended.
 #[inline(always)]
-fn make_push<T: Drop, W: Drop, R: Wait>(
+pub(crate) fn make_push<T: Drop, W: Drop, R: Wait>(
     rt: &R,
     table: &SlotTable<T, W>,
     shape: RingShape,
@@ -53,7 +53,7 @@ fn make_push<T: Drop, W: Drop, R: Wait>(
 
 /// Every step of the queue's displacing push on the ring. It tells besides whether the call closed the channel, since positions ended.
 #[inline(always)]
-fn make_force<T: Drop, W: Drop, R: Wait>(
+pub(crate) fn make_force<T: Drop, W: Drop, R: Wait>(
     rt: &R,
     table: &SlotTable<T, W>,
     shape: RingShape,
@@ -82,7 +82,7 @@ fn make_force<T: Drop, W: Drop, R: Wait>(
 
 /// Every step of the queue's pop on the ring, by a call that answers for one message at most.
 #[inline(always)]
-fn make_pop<T: Drop, W: Drop, S: Taking, R: Wait>(
+pub(crate) fn make_pop<T: Drop, W: Drop, S: Taking, R: Wait>(
     rt: &R,
     table: &SlotTable<T, W>,
     shape: RingShape,
@@ -110,7 +110,7 @@ fn make_pop<T: Drop, W: Drop, S: Taking, R: Wait>(
 
 /// The queue's pop on the ring once more, by a call that answers for the places of messages that it took before.
 #[inline(always)]
-fn make_pop_more<T: Drop, W: Drop, R: Wait>(
+pub(crate) fn make_pop_more<T: Drop, W: Drop, R: Wait>(
     rt: &R,
     table: &SlotTable<T, W>,
     shape: RingShape,
@@ -137,7 +137,7 @@ fn make_pop_more<T: Drop, W: Drop, R: Wait>(
 
 /// The queue's closing on the ring.
 #[inline(always)]
-fn make_close<T: Drop, W: Drop, R: Wait>(
+pub(crate) fn make_close<T: Drop, W: Drop, R: Wait>(
     rt: &R,
     table: &SlotTable<T, W>,
     shape: RingShape,
@@ -164,7 +164,7 @@ fn make_close<T: Drop, W: Drop, R: Wait>(
 
 /// The queue's question whether the ring is closed.
 #[inline(always)]
-fn make_ask<T: Drop, W: Drop, R: Wait>(
+pub(crate) fn make_ask<T: Drop, W: Drop, R: Wait>(
     rt: &R,
     table: &SlotTable<T, W>,
     shape: RingShape,
