@@ -6,6 +6,7 @@ pub mod Stages
 pub mod Cells
 pub mod Sections
 pub mod Seats
+pub mod Sends
 pub mod Calls
 pub mod Several
 pub mod Counts
@@ -14,3 +15,4 @@ pub mod RingSteps
 pub mod RingStages
 pub mod RingDeeds
 pub mod RingLeaves
+pub mod Forms

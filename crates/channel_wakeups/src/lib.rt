@@ -8,6 +8,7 @@ mod cells;
 pub mod channel;
 mod desk;
 mod displacing;
+pub mod form;
 mod gathering;
 mod handles;
 pub mod listeners;
@@ -32,9 +33,10 @@ pub mod wake;
 
 pub use at_rest::Rest;
 pub use channel::{
-    Closing, FirstHandles, Handle, Opened, Pass, Receive, Receiver, Sender, Sending, SlotChannel,
-    Streaming, Waiter,
+    Channel, Closing, FirstHandles, Handle, Opened, Opening, Pass, Receive, Receiver, Sender,
+    Sending, SlotChannel, Streaming, Waiter,
 };
+pub use form::{Form, OneSlot};
 pub use polled::{Blocked, Offered, Polled, Untaken, Upgrade, Watched};
 pub use rule::{
     Closings, Counting, Receivers, Receives, Room, Senders, Sends, Streams, Taking, Waiting,
