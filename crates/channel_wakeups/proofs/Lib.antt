@@ -32,3 +32,5 @@ pub mod Listed
 pub mod Sections
 pub mod Several
 pub mod Counts
+pub mod RingForms
+pub mod NewRings

@@ -16,3 +16,4 @@ pub mod RingStages
 pub mod RingDeeds
 pub mod RingLeaves
 pub mod Forms
+pub mod NewRings

@@ -15,8 +15,10 @@ pub mod listeners;
 mod made;
 mod made_ring;
 mod offers;
+pub mod opened;
 mod place;
 pub mod polled;
+pub mod ring;
 mod ring_cells;
 pub mod ring_law;
 mod ring_shape;
@@ -37,7 +39,9 @@ pub use channel::{
     Sending, SlotChannel, Streaming, Waiter,
 };
 pub use form::{Form, OneSlot};
+pub use opened::{OpenedRing, RingChannel, Unopened};
 pub use polled::{Blocked, Offered, Polled, Untaken, Upgrade, Watched};
+pub use ring::Ring;
 pub use rule::{
     Closings, Counting, Receivers, Receives, Room, Senders, Sends, Streams, Taking, Waiting,
 };
