@@ -12,6 +12,7 @@ mod gathering;
 mod handles;
 pub mod listeners;
 mod made;
+mod made_ring;
 mod offers;
 mod place;
 pub mod polled;
