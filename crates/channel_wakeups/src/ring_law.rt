@@ -2,9 +2,9 @@
 
 ghost use Rattle.channel_wakeups.specs.RingSteps.{PushReadsTail, PushReadsStamp, PushFindsItFull, PushMovesTail, PushStoresStamp, ForceMovesHead, ForceMovesTail, ForceStoresStamp, PopReadsHead, PopReadsStamp, PopReadsTail, PopMovesHead, PopStoresStamp, CloseSetsMark, EndSetsMark, AskReadsTail, NewRingHolds};
 
-/// Of a ring of two places or more, each step of a push, a displacing push, a pop, a closing and a question whether it is closed keeps the rule of wake-ups: from every
-/// state in which it holds, whatever all other calls know and are about, it holds after the step. So it holds whatever others do
-/// between two steps of a call. And it holds of a ring that was just made.
+/// Of a ring of two places or more, each step of a push, a displacing push, a pop, a closing and a question keeps the rule of wake-ups: from
+/// every state in which it holds, whatever all other calls know and are about, it holds after the step. So it holds whatever others do
+/// between two steps of a call. And it holds of a ring that was just made. The question is whether the ring is closed.
 ///
 /// A step is one operation on the head, on the tail or on a stamp, with the plain writes of the slot that its call has out by then. Each
 /// clause is one step, and says what the call knows before it, and what it learns. A call that pushes answers for one place at most
