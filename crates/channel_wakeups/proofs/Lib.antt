@@ -16,6 +16,12 @@ pub mod RingLooks
 pub mod RingEnds
 pub mod RingForces
 pub mod RingStages
+pub mod RingWalks
+pub mod RingWalksBegin
+pub mod RingWalksPush
+pub mod RingWalksPop
+pub mod RingWalksClose
+pub mod RingWalksLeft
 pub mod RingBegins
 pub mod Moves
 pub mod Seats
