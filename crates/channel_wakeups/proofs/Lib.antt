@@ -17,7 +17,6 @@ pub mod RingEnds
 pub mod RingForces
 pub mod RingStages
 pub mod RingWalks
-pub mod RingWalksBegin
 pub mod RingWalksPush
 pub mod RingWalksPop
 pub mod RingWalksClose
@@ -28,11 +27,6 @@ pub mod Seats
 pub mod Stages
 pub mod Machine
 pub mod Left
-pub mod RingWalks
-pub mod RingWalksPop
-pub mod RingWalksPush
-pub mod RingWalksClose
-pub mod RingWalksLeft
 pub mod From
 pub mod Listed
 pub mod Sections

@@ -1,8 +1,8 @@
 -- A ring that was just made: its words are those that the rule wants at first.
-use Rattle.std.proofs.Common.{◌≡◌, ℕ, zero, suc, ◌+◌, ◌-◌, ◌==◌, ◌<◌, ◌≤◌, List, [], ◌∷◌, ◌++◌, Option, cond, length, refl, sym, ap, ◌∙◌, subst, ⊎_elim, arith}
+use Rattle.std.proofs.Common.{◌≡◌, ℕ, zero, suc, ◌+◌, ◌-◌, ◌==◌, ◌<◌, ◌≤◌, List, [], ◌∷◌, ◌++◌, Option, cond, length, refl, sym, ap, ◌∙◌, subst, ⊎_elim, inl, inr, arith}
 use Rattle.std.specs.Prelude.{None, ◌⊎◌, ◌^◌, slice_index, replicate}
 use Rattle.std.proofs.lemmas.Bool.{ne_eqb}
-use Rattle.std.proofs.lemmas.List.{get_or_push, get_or_append_left, length-replicate}
+use Rattle.std.proofs.lemmas.List.{get_or_push, get_or_append_left, length-append, length-replicate}
 use mathlib.Core.Option.{some}
 use lib.ListN.{get_elem?}
 use Rattle.atomic_table.specs.Table.{opening}
@@ -15,7 +15,7 @@ pub one_more : (count : ℕ) (words : List ℕ) → AreFirst count words → Are
 one_more count words (size, each) = (longer, next)
   where
     longer : length (words ++ first_word count ∷ []) ≡ count + 1
-    longer = search
+    longer = length-append words (first_word count ∷ []) ∙ ap (λ n. n + 1) size
 
     next : (i : ℕ) → i < count + 1 → slice_index (words ++ first_word count ∷ []) i ≡ first_word i
     next i low = ⊎_elim (λ (e : i < count). get_or_append_left words (first_word count ∷ []) 0 i (subst (λ (n : ℕ). i < n) (sym size) e) ∙ each i e)
@@ -23,7 +23,10 @@ one_more count words (size, each) = (longer, next)
         (below i count low)
       where
         below : (i count : ℕ) → i < count + 1 → (i < count) ⊎ (i ≡ count)
-        below i count low = omega arith
+        below zero zero low = inr refl
+        below zero (suc n) low = inl (omega arith)
+        below (suc i) zero low = absurd (omega arith)
+        below (suc i) (suc n) low = ⊎_elim (λ (e : i < n). inl (let less : suc i < suc n = omega arith in less)) (λ (e : i ≡ n). inr (ap suc e)) (below i n (omega arith))
 
 -- the stamp of a place is its number
 stamp : (i : ℕ) → first_word (i + 64) ≡ i
