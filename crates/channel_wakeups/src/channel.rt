@@ -150,7 +150,6 @@ pub type Closing<T, W, B> = Waiter<T, W, B, Closings>;
 
 impl<T: Drop, W: Drop> Opening<T, W, OneSlot> {
     /// A channel with no message. `Err` where there is no memory for its words and its slot.
-    #[tactic(auto, using(crate::proofs::Seats::begins))]
     pub fn new(alloc: Global) -> Result<Opened<T, W>, AllocError> {
         let mut words = [0; 2 * APART + 1];
         words[APART] = 1;
