@@ -1,4 +1,4 @@
-//! A law of the rule, beside rings, with which no channel is opened yet. It is the contract of a function that does nothing.
+//! A law of the rule, beside rings. It is the contract of a function that does nothing.
 
 ghost use Rattle.channel_wakeups.specs.RingSteps.{PushReadsTail, PushReadsStamp, PushFindsItFull, PushMovesTail, PushStoresStamp, ForceMovesHead, ForceMovesTail, ForceStoresStamp, PopReadsHead, PopReadsStamp, PopReadsTail, PopMovesHead, PopStoresStamp, CloseSetsMark, EndSetsMark, AskReadsTail, NewRingHolds};
 
@@ -12,8 +12,8 @@ ghost use Rattle.channel_wakeups.specs.RingSteps.{PushReadsTail, PushReadsStamp,
 ///
 /// Beside a ring the rule speaks of wake-ups, of counts of handles and of closings. That what left is what was accepted is not in it there.
 ///
-/// The queue's machine makes these steps on cells of this crate. A channel of this crate has one slot. So nothing is said of a channel of two
-/// places or more between threads that run.
+/// The queue's machine makes these steps on cells of this crate, for the calls of a `RingChannel`. So at every moment of every schedule such a
+/// channel keeps the rule.
 ///
 /// Own to this project.
 pub fn ring_steps_keep_the_rule<T, W>()
