@@ -145,6 +145,7 @@ PLACES = {
     "a clone that was counted is refused": 2,
     "an upgrade that counted answers that there is none": 2,
     "a drop that lowers nothing": 2,
+    "between threads: two pushers win one place": 2,  # one slot, and a ring
 }
 # What a sentence names as standing against a wrong body: the first of it.
 CLAUSE = re.compile(r"[Aa]gainst it stands? (.*?)(?:[.;]|, |: |$)|[Tt]he ((?:clauses?|invariant) .*?)(?: refuses?|,)|(What .*? requires)")

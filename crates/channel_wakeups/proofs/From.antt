@@ -40,9 +40,9 @@ module _ {T W : Type 0} where
   ticket_view : (s : Side) (w : View T W) (t : ℕ) → Calls s 1 (calling 0 0 t) idle_lines w → w.log ≡ [] → w ≡ one_ticket s t
   ticket_view s w t calls e = view_of s w 1 (calling 0 0 t) idle_lines calls ∙ (λ k. record (one_ticket s t) { log = e k })
 
-  pub takes_from : (s : Side) (id : ℕ) (v : View T W) (port : ℕ) (w : View T W) (p a h t : ℕ) (b : Lines) → Calls s p (calling a h 0) b v → 0 < v.parts → Calls s 1 (calling 0 0 t) idle_lines w → w.log ≡ [] → Joins {S = Option T} Woken id v port w (with_ticket s v w) nobody
-  takes_from s id v port w p a h t b cv some_part cw e =
-      let none : (of s v.calls).ticket ≡ 0 = (λ k. (cv.2 k).ticket) in
+  pub takes_from : (s : Side) (id : ℕ) (v : View T W) (port : ℕ) (w : View T W) (p t : ℕ) (l : Line) (b : Lines) → Calls s p l b v → l.ticket ≡ 0 → 0 < v.parts → Calls s 1 (calling 0 0 t) idle_lines w → w.log ≡ [] → Joins {S = Option T} Woken id v port w (with_ticket s v w) nobody
+  takes_from s id v port w p t l b cv untied some_part cw e =
+      let none : (of s v.calls).ticket ≡ 0 = (λ k. (cv.2 k).ticket) ∙ untied in
       subst (λ (y : View T W). Joins {S = Option T} Woken id v port y (with_ticket s v y) nobody) (sym (ticket_view s w t cw e)) (takes_ticket s id v port t some_part none)
 
 -- ---- handles

@@ -13,7 +13,14 @@ pub mod Laws
 pub mod RingLaws
 pub mod RingMoves
 pub mod RingLooks
+pub mod RingEnds
 pub mod RingForces
+pub mod RingStages
+pub mod RingWalks
+pub mod RingWalksPush
+pub mod RingWalksPop
+pub mod RingWalksClose
+pub mod RingWalksLeft
 pub mod RingBegins
 pub mod Moves
 pub mod Seats
@@ -25,3 +32,5 @@ pub mod Listed
 pub mod Sections
 pub mod Several
 pub mod Counts
+pub mod RingForms
+pub mod NewRings

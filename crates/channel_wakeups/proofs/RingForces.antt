@@ -45,7 +45,7 @@ no_true : true ≡ false → ⊥
 no_true e = absurd (cc)
 
 -- who closes a ring has nothing of it
-resting : (cap : ℕ) (r o : Ring (Unit {0})) → Moved cap r act.Close o act.Finished → Moved cap r act.Capacity o act.Finished
+pub resting : (cap : ℕ) (r o : Ring (Unit {0})) → Moved cap r act.Close o act.Finished → Moved cap r act.Capacity o act.Finished
 resting cap r o m =
     let l = m.later in
     record {
@@ -58,7 +58,7 @@ resting cap r o m =
     owners_so (ring.hold i) is = m.owners (ring.hold i) is
     owners_so ring.bring is = m.owners ring.bring is
 
-none_owes : (cap : ℕ) (d : ring.Duty) → owed_by_turn cap d Rest ≡ owes {T = Unit {0}} cap act.Finished d
+pub none_owes : (cap : ℕ) (d : ring.Duty) → owed_by_turn cap d Rest ≡ owes {T = Unit {0}} cap act.Finished d
 none_owes cap (ring.hold i) = refl
 none_owes cap ring.bring = refl
 

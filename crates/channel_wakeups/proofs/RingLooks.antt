@@ -1,13 +1,15 @@
 -- What calls on a ring learn of its words, each by one load: a pop of the head and of the stamp there, and a push of the tail and of the
 -- stamp there. And the closing of a ring.
-use Rattle.std.proofs.Common.{◌⊎◌, inl, inr, ◌≡◌, ℕ, ◌+◌, ◌-◌, ◌%◌, ◌<◌, ◌≤◌, List, [], ◌∷◌, ◌++◌, Bool, true, false, if◌then◌else◌, Option, sym, refl, ap, ◌∙◌, subst, ⊎_elim, arith}
+use Rattle.std.proofs.Common.{◌⊎◌, inl, inr, ◌≡◌, ℕ, ◌+◌, ◌-◌, ◌*◌, ◌/◌, ◌%◌, ◌^◌, ◌<◌, ◌≤◌, List, [], ◌∷◌, ◌++◌, Bool, true, false, if◌then◌else◌, Option, sym, refl, ap, ◌∙◌, subst, ⊎_elim, arith}
 use Rattle.std.specs.Prelude.{slice_index}
-use Rattle.std.proofs.lemmas.Nat.{mod_below}
+use Rattle.std.proofs.lemmas.Nat.{mod_below, div-add-mod'}
+use Rattle.std.proofs.Math.Nat.{mul-le-mul_left}
 use Rattle.std.proofs.lemmas.Bool.{cases_lt}
 use mathlib.Core.Option as home
 use mathlib.Core.Option.{some}
 use lib.ListN.{get_elem?}
 use Rattle.atomic_table.specs.Table.{keeps, Allows}
+use Rattle.concurrent_queue.specs.machine.Positions.{pos}
 use Rattle.concurrent_queue.specs.machine.RingCalls as ring
 use Rattle.concurrent_queue.specs.machine.RingState.{Ring, reach}
 use Rattle.concurrent_queue.specs.machine.RingWords.{ring_mark, is_marked}
@@ -24,9 +26,9 @@ use Rattle.channel_wakeups.specs.declared.rule.Turn.{Turn}
 use Rattle.channel_wakeups.specs.declared.rule.Turn.TheVariants.{Rest, Tailed, Ready, Behind, Headed, Written, Vacant}
 use Rattle.channel_wakeups.specs.declared.rule.View.{View}
 use Rattle.channel_wakeups.specs.Lists.{total}
-use Rattle.channel_wakeups.specs.Log.{Closings, of_closer, of_drained}
+use Rattle.channel_wakeups.specs.Log.{Closings, NotSeen, of_closer, of_drained}
 use Rattle.channel_wakeups.specs.RingSteps.{seen_open_line, no_send_again, tail_read, place_read, full_read, head_read, message_read}
-use Rattle.channel_wakeups.specs.Turns.{owed_by_turn}
+use Rattle.channel_wakeups.specs.Turns.{Knows, owed_by_turn}
 use Rattle.channel_wakeups.specs.Views.{Side, Duty, only, sights_of, pass, turning, no_place, picture, at_number, of_ring, RingCells, Ringed, Knowing, Woken, Known}
 use Rattle.channel_wakeups.proofs.Hands.{Carries, carries_same, carries_more}
 use Rattle.channel_wakeups.proofs.Laws.{Turns, SameTickets, law_kept, same_turns}
@@ -37,6 +39,15 @@ use Rattle.channel_wakeups.proofs.RingLaws.{seen_turns, shut_again_turns, full_t
 use Rattle.channel_wakeups.proofs.RingMoves.{RingOutcome, by_ring}
 use Rattle.channel_wakeups.proofs.Sums.{Sights}
 use Rattle.channel_wakeups.proofs.Words.{word_again}
+
+-- the number of a position is not above it
+pub number_below : (cap m : ℕ) → 0 < cap → IsMark cap m → (n : ℕ) → n ≤ pos cap (2 * m) n
+unfolding pos
+number_below cap m positive k n =
+    let w = k.wide in
+    let e = div-add-mod' n cap in
+    let f : n / cap * cap ≤ n / cap * (2 * m) = mul-le-mul_left (n / cap) (let g : cap ≤ 2 * m = omega arith in g) in
+    omega arith
 
 -- such a turn has nothing of the ring
 abbrev pub IsLoose : ℕ → Turn → Type 0
@@ -105,7 +116,7 @@ module _ {T W : Type 0} (slots id p : ℕ) (l : Lines) (m : Rolls W) (lg : List 
 
   pub sees_head : Allows Woken slots id (at_turn Rest, []) 0 (λ x. x) SawHead
   sees_head = by_ring 0 (λ x. x) SawHead slots id (at_turn Rest, []) (λ e. absurd (omega arith)) (λ e. absurd (omega arith)) several (λ words homes r views h at.
-      turns_only 0 SawHead Rest (Headed r.head) (rest_loose slots) (headed_loose slots r.head) words homes r views h at (λ k parts. let z = k parts in ((true, refl, omega arith), z.1, z.2)) (r.head, h.cells.head, refl))
+      turns_only 0 SawHead Rest (Headed r.head) (rest_loose slots) (headed_loose slots r.head) words homes r views h at (λ k parts. let z = k parts in ((true, refl, omega arith), z.1, z.2)) (r.head, h.cells.head, (let a = h.seats.few in let b = h.seats.sound.order in let c : r.tail ≤ reach r = omega arith in omega arith), refl))
 
   -- ---- a pop reads the stamp there
 
@@ -165,13 +176,13 @@ module _ {T W : Type 0} (slots id p : ℕ) (l : Lines) (m : Rolls W) (lg : List 
           (λ (e : slice_index words (n % slots + 64) ≡ at_number slots n). let q = is_free words homes r views h e in
           turns_only (n % slots + 64) SawPlace (Tailed n) (Ready n) (tailed_loose slots n) (ready_loose slots n) words homes r views h at (λ k parts. let z = k parts in ((true, refl, (let a = q.0 in omega arith)), z.1, z.2)) (inl (e, refl)))
           (λ (e : slice_index words (n % slots + 64) ≡ at_number slots n → ⊥). ⊎_elim
-          (λ (early : n < slots). turns_only (n % slots + 64) SawPlace (Tailed n) Rest (tailed_loose slots n) (rest_loose slots) words homes r views h at (λ k parts. let z = k parts in ((true, refl), z.1, z.2)) (inr (inr (e, refl))))
+          (λ (early : n < slots). turns_only (n % slots + 64) SawPlace (Tailed n) Rest (tailed_loose slots n) (rest_loose slots) words homes r views h at (λ k parts. let z = k parts in ((true, refl), z.1, z.2)) (inr (inr (e, (λ (late : slots ≤ n) f. absurd (omega arith)), refl))))
           (λ (late : slots ≤ n). ⊎_elim
           (λ (f : slice_index words (n % slots + 64) ≡ at_number slots (n - slots) + 1). let q = is_behind late f in
           turns_only (n % slots + 64) SawPlace (Tailed n) (Behind (n - slots)) (tailed_loose slots n) (behind_loose slots (n - slots)) words homes r views h at
-          (λ k parts. let z = k parts in let low = z.0.2.0 in ((true, refl, (omega arith, inl refl), (let a = q.0 in omega arith, λ g. q.1)), z.1, z.2)) (inr (inl (late, f, refl))))
+          (λ k parts. let z = k parts in let low = z.0.2.0 in ((true, refl, (omega arith, inl refl), (let a = q.0 in omega arith, λ g. q.1)), z.1, z.2)) (inr (inl (e, late, f, refl))))
           (λ (f : slice_index words (n % slots + 64) ≡ at_number slots (n - slots) + 1 → ⊥).
-          turns_only (n % slots + 64) SawPlace (Tailed n) Rest (tailed_loose slots n) (rest_loose slots) words homes r views h at (λ k parts. let z = k parts in ((true, refl), z.1, z.2)) (inr (inr (e, refl))))
+          turns_only (n % slots + 64) SawPlace (Tailed n) Rest (tailed_loose slots n) (rest_loose slots) words homes r views h at (λ k parts. let z = k parts in ((true, refl), z.1, z.2)) (inr (inr (e, (λ late g. f g), refl))))
           (same_or_other (at_number slots (n - slots) + 1) (slice_index words (n % slots + 64))))
           (cases_lt n slots))
           (same_or_other (at_number slots n) (slice_index words (n % slots + 64)))
@@ -191,6 +202,10 @@ module _ {T W : Type 0} (slots id p : ℕ) (l : Lines) (m : Rolls W) (lg : List 
     pub its_tail : r.closed ≡ false → slice_index words 48 ≡ at_number slots r.tail
     its_tail unshut = h.cells.tail ∙ (λ i. at_number slots r.tail + (if unshut i then ring_mark slots else 0)) ∙ (omega arith)
 
+    -- its number is not above it
+    its_number : r.closed ≡ false → r.tail ≤ slice_index words 48
+    its_number unshut = let k = mark_is slots (omega (arith, several)) h.seats.limit in let a = number_below slots (ring_mark slots) (omega (arith, several)) k r.tail in let e = its_tail unshut in omega arith
+
     by_turn : (b : Bool) → r.closed ≡ b → RingOutcome 48 (λ x. x) SawTail (at_turn Rest, []) id words homes slots views
     by_turn true shut = only_looks 48 SawTail Rest Rest (rest_loose slots) (rest_loose slots) words homes r views h at (no_send_again l) (lg ++ Saw Seen ∷ []) (refl, refl, refl, refl)
         (λ d s. subst (λ (b : Bool). Turns d s (picture (r.tail - r.head) (r.head + slots - r.tail) (reach r - r.head) b) (picture (r.tail - r.head) (r.head + slots - r.tail) (reach r - r.head) b) l (no_send_again l)) (sym shut)
@@ -204,12 +219,18 @@ module _ {T W : Type 0} (slots id p : ℕ) (l : Lines) (m : Rolls W) (lg : List 
             let d = one_more p 0 0 l (no_send_again l) m lg some_part Seen of_drained in
             let e : k of_closer + sights_of of_closer (turning Rest (pass {W = W} p 0 (no_send_again l) m (lg ++ Saw Seen ∷ []))) ≡ k of_closer + sights_of of_closer (at_turn Rest) = omega arith in
             (e ∙ one, (λ more. shut), (λ more. gone (omega arith)))
-    by_turn false unshut = only_looks 48 SawTail Rest (Tailed r.tail) (rest_loose slots) (tailed_loose slots r.tail) words homes r views h at (seen_open_line l) lg (refl, refl, refl, refl)
-        (λ d s. subst (λ (b : Bool). Turns d s (picture (r.tail - r.head) (r.head + slots - r.tail) (reach r - r.head) b) (picture (r.tail - r.head) (r.head + slots - r.tail) (reach r - r.head) b) l (seen_open_line l)) (sym unshut)
-        (seen_turns (r.tail - r.head) (r.head + slots - r.tail) (reach r - r.head) l d s))
-        (sights_rest (of_ring slots r) (of_ring slots r) (at_turn Rest) (turning (Tailed r.tail) (pass p 0 (seen_open_line l) m lg)) refl (λ shut z. z) (λ f. refl))
-        (λ k parts. let z = k parts in ((true, refl, (omega arith, inl refl)), z.1, z.2)) (λ k. carries_same k p 0 0 l (seen_open_line l) m lg refl)
-        (inr (marked ∙ unshut, not_seen views id (at_turn Rest) at some_part (reach r - r.head) (subst (λ (b : Bool). Closings b (reach r - r.head) (λ f. total (sights_of f) views)) unshut h.law.closings), (r.tail, its_tail unshut, refl)))
+    by_turn false unshut = ⊎_elim (λ (late : 2 ^ 61 < slice_index words 48 + 2). open_at Rest (rest_loose slots) (λ z. z) (inr (inr (marked ∙ unshut, unseen, late, refl))))
+        (λ (early : slice_index words 48 + 2 ≤ 2 ^ 61). open_at (Tailed r.tail) (tailed_loose slots r.tail) (λ z. (true, refl, (omega arith, inl refl))) (inr (inl (marked ∙ unshut, unseen, early, (r.tail, its_tail unshut, its_number unshut, refl))))) (cases_lt (2 ^ 61) (slice_index words 48 + 2))
+      where
+        unseen : NotSeen lg
+        unseen = not_seen views id (at_turn Rest) at some_part (reach r - r.head) (subst (λ (b : Bool). Closings b (reach r - r.head) (λ f. total (sights_of f) views)) unshut h.law.closings)
+
+        open_at : (u : Turn) → IsLoose slots u → (Knows slots r Rest → Knows slots r u) → SawTail (slice_index words 48) (turning u (pass p 0 (seen_open_line l) m lg), []) → RingOutcome 48 (λ x. x) SawTail (at_turn Rest, []) id words homes slots views
+        open_at u free know told = only_looks 48 SawTail Rest u (rest_loose slots) free words homes r views h at (seen_open_line l) lg (refl, refl, refl, refl)
+            (λ d s. subst (λ (b : Bool). Turns d s (picture (r.tail - r.head) (r.head + slots - r.tail) (reach r - r.head) b) (picture (r.tail - r.head) (r.head + slots - r.tail) (reach r - r.head) b) l (seen_open_line l)) (sym unshut)
+            (seen_turns (r.tail - r.head) (r.head + slots - r.tail) (reach r - r.head) l d s))
+            (sights_rest (of_ring slots r) (of_ring slots r) (at_turn Rest) (turning u (pass p 0 (seen_open_line l) m lg)) refl (λ shut z. z) (λ f. refl))
+            (λ k parts. let z = k parts in (know z.0, z.1, z.2)) (λ k. carries_same k p 0 0 l (seen_open_line l) m lg refl) told
 
   pub sees_tail : (l.sends.holds ≡ l.sends.fresh) ⊎ (l.sends.fresh ≡ 0) → Allows Woken slots id (at_turn Rest, []) 48 (λ x. x) SawTail
   sees_tail kept_in_hand = by_ring 48 (λ x. x) SawTail slots id (at_turn Rest, []) (λ e. absurd (omega arith)) (λ e. absurd (omega arith)) several (λ words homes r views h at. by_turn words homes r views h at kept_in_hand r.closed refl)

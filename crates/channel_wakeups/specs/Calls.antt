@@ -19,6 +19,7 @@ use Rattle.concurrent_queue.specs.declared.error.ForcePushError.{ForcePushError}
 use Rattle.concurrent_queue.specs.declared.error.ForcePushError.TheVariants as force_error
 use Rattle.channel_wakeups.specs.Log.{Accounts, Tallied, Closings, sights, HasPut, HasTaken, Replaces, HasSeen, NotSeen, NotDrained}
 use Rattle.channel_wakeups.specs.Seats.{IsCall, IsPass, IsIdle}
+use Rattle.channel_wakeups.specs.Sends.{OffersIn, SentIn, DisplacedIn}
 use Rattle.channel_wakeups.specs.declared.polled.Watched.{Watched}
 use Rattle.channel_wakeups.specs.declared.polled.Watched.TheVariants as watched
 use Rattle.channel_wakeups.specs.declared.rule.Lines.{Lines}
@@ -116,25 +117,15 @@ module _ {T : Type 0} where
   Received Closed log after = HasSeen Drained log after
   Received NoMemory log after = NotSeen log × (after ≡ log)
 
-  -- what a poll of a send accepted was put in; else the message is handed back, and nothing was put in
+  -- a poll of a send, a push, and a displacing push, of one slot, where positions do not end
   abbrev pub Offers : T → Offered T → List (Transfer T) → List (Transfer T) → Type 0
-  Offers x offered.Accepted log after = NotSeen log × HasPut x log after
-  Offers x (offered.Pending y) log after = (y ≡ x) × (after ≡ log)
-  Offers x (offered.Closed y) log after = (y ≡ x) × HasSeen Seen log after
-  Offers x (offered.NoMemory y) log after = (y ≡ x) × NotSeen log × (after ≡ log)
+  Offers x offered log after = OffersIn false x offered log after
 
-  -- what is accepted was put in, and nothing else; what the full slot, or the closed channel, refused is handed back
   abbrev pub Sent : T → Result Unit (PushError T) → List (Transfer T) → List (Transfer T) → Type 0
-  Sent x (Ok u) log after = NotSeen log × HasPut x log after
-  Sent x (Err (push_error.Full y)) log after = (y ≡ x) × NotSeen log × (after ≡ log)
-  Sent x (Err (push_error.Closed y)) log after = (y ≡ x) × HasSeen Seen log after
-  Sent x (Err (push_error.NoMemory y)) log after = ⊥
+  Sent x sent log after = SentIn false x sent log after
 
-  -- what a displacing send put in, with the message that it took out to make room; what the closed channel refused is handed back
   abbrev pub Displaced : T → Result (Option T) (ForcePushError T) → List (Transfer T) → List (Transfer T) → Type 0
-  Displaced x (Ok old) log after = NotSeen log × Replaces old x log after
-  Displaced x (Err (force_error.Closed y)) log after = (y ≡ x) × HasSeen Seen log after
-  Displaced x (Err (force_error.NoMemory y)) log after = ⊥
+  Displaced x sent log after = DisplacedIn false x sent log after
 
   -- the first who closes the channel is told so; nobody before had seen it closed
   abbrev pub Closes : Bool → List (Transfer T) → List (Transfer T) → Type 0

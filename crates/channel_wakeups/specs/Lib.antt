@@ -6,8 +6,14 @@ pub mod Stages
 pub mod Cells
 pub mod Sections
 pub mod Seats
+pub mod Sends
 pub mod Calls
 pub mod Several
 pub mod Counts
 pub mod Blocks
 pub mod RingSteps
+pub mod RingStages
+pub mod RingDeeds
+pub mod RingLeaves
+pub mod Forms
+pub mod NewRings

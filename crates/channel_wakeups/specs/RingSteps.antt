@@ -12,7 +12,7 @@ use Rattle.channel_wakeups.specs.declared.rule.Turn.{Turn}
 use Rattle.channel_wakeups.specs.declared.rule.Turn.TheVariants.{Rest, Tailed, Ready, Behind, Filling, Coming, Displacing, Headed, Written, Vacant, Emptying}
 use Rattle.channel_wakeups.specs.declared.rule.View.{View}
 use Rattle.channel_wakeups.specs.Log.{PutBefore, TookBefore, NotSeen, NotDrained}
-use Rattle.channel_wakeups.specs.Views.{of_sends, with_line, lines_with, answering, resolved, owing, call_line, seen_open, no_place, won_message, no_message, no_more, settled, all_owing, everything, came, at_number, Known, Woken}
+use Rattle.channel_wakeups.specs.Views.{of_sends, with_line, lines_with, answering, resolved, owing, call_line, seen_open, no_place, won_message, no_message, no_more, settled, all_owing, still_open, found_closed, everything, came, at_number, Known, Woken}
 
 -- ---- the words: the head, the tail, and the stamp of the place for a number
 
@@ -73,18 +73,20 @@ module _ {T W : Type 0} where
 
   -- ---- what the call learns, from what was found: a push
 
-  -- the ring is closed; or it is open, and the call knows the tail
+  -- the ring is closed; or it is open, and the call knows the tail; or it is open, and positions end there
   abbrev pub tail_read : ℕ → View T W → ℕ → Known T W → Type 0
   tail_read slots v found m =
       ((is_marked (ring_mark slots) found ≡ true) × (m ≡ (came Rest (no_send_again v.calls) (v.log ++ Saw Seen ∷ []) v, [])))
-      ⊎ ((is_marked (ring_mark slots) found ≡ false) × NotSeen v.log × ((c : ℕ) × (found ≡ at_number slots c) × (m ≡ (came (Tailed c) (seen_open_line v.calls) v.log v, []))))
+      ⊎ (((is_marked (ring_mark slots) found ≡ false) × NotSeen v.log × (found + 2 ≤ 2 ^ 61)
+      × ((c : ℕ) × (found ≡ at_number slots c) × (c ≤ found) × (m ≡ (came (Tailed c) (seen_open_line v.calls) v.log v, []))))
+      ⊎ ((is_marked (ring_mark slots) found ≡ false) × NotSeen v.log × (2 ^ 61 < found + 2) × (m ≡ (came Rest (seen_open_line v.calls) v.log v, []))))
 
   -- the place is free; or the message of the lap before is there; or the tail has moved
   abbrev pub place_read : ℕ → ℕ → View T W → ℕ → Known T W → Type 0
   place_read slots n v found m =
       ((found ≡ at_number slots n) × (m ≡ (at_turn (Ready n) v, [])))
-      ⊎ (((slots ≤ n) × (found ≡ at_number slots (n - slots) + 1) × (m ≡ (at_turn (Behind (n - slots)) v, [])))
-      ⊎ ((found ≡ at_number slots n → ⊥) × (m ≡ rests v)))
+      ⊎ (((found ≡ at_number slots n → ⊥) × (slots ≤ n) × (found ≡ at_number slots (n - slots) + 1) × (m ≡ (at_turn (Behind (n - slots)) v, [])))
+      ⊎ ((found ≡ at_number slots n → ⊥) × (slots ≤ n → found ≡ at_number slots (n - slots) + 1 → ⊥) × (m ≡ rests v)))
 
   -- that message is the oldest, so the ring is full; or it has left
   abbrev pub full_read : ℕ → ℕ → View T W → ℕ → Known T W → Type 0
@@ -115,9 +117,9 @@ module _ {T W : Type 0} where
 
   -- ---- a pop
 
-  -- it knows the head
+  -- it knows the head, which lies before the end of positions
   abbrev pub head_read : ℕ → View T W → ℕ → Known T W → Type 0
-  head_read slots v found m = (c : ℕ) × (found ≡ at_number slots c) × (m ≡ (at_turn (Headed c) v, []))
+  head_read slots v found m = (c : ℕ) × (found ≡ at_number slots c) × (c ≤ 2 ^ 61) × (m ≡ (at_turn (Headed c) v, []))
 
   -- the message is in; or its place is free still; or the head has moved
   abbrev pub message_read : ℕ → ℕ → View T W → ℕ → Known T W → Type 0
@@ -144,6 +146,20 @@ module _ {T W : Type 0} where
   mark_set slots v found m =
       ((is_marked (ring_mark slots) found ≡ false) × NotSeen v.log × (m ≡ (came Rest (all_owing v.calls) (v.log ++ Saw Shut ∷ []) v, [])))
       ⊎ ((is_marked (ring_mark slots) found ≡ true) × (m ≡ (came Rest (settled v.calls) (v.log ++ Saw Seen ∷ []) v, [])))
+
+  -- the same of a push that found the tail where positions end: it has no listener in hand where it closed the ring, since it has to tell
+  -- all, and the one that it had first where it found it closed
+  abbrev pub end_marked : ℕ → View T W → ℕ → Known T W → Type 0
+  end_marked slots v found m =
+      ((is_marked (ring_mark slots) found ≡ false) × NotSeen v.log × (m ≡ (came Rest (all_owing (no_place v.calls)) (v.log ++ Saw Shut ∷ []) v, [])))
+      ⊎ ((is_marked (ring_mark slots) found ≡ true) × (m ≡ (came Rest (no_send_again v.calls) (v.log ++ Saw Seen ∷ []) v, [])))
+
+  -- ---- a question whether the ring is closed: it is open, so the call leaves its listener behind; or it is closed
+
+  abbrev pub tail_asked : ℕ → View T W → ℕ → Known T W → Type 0
+  tail_asked slots v found m =
+      ((is_marked (ring_mark slots) found ≡ false) × NotSeen v.log × (m ≡ (came Rest (still_open v.calls) v.log v, [])))
+      ⊎ ((is_marked (ring_mark slots) found ≡ true) × (m ≡ (came Rest (found_closed v.calls) (v.log ++ Saw Seen ∷ []) v, [])))
 
 -- ---- THE CLAUSES OF THE LAW: the steps of a push, whose listener is in hand for a place and beside a closing, or for a place alone
 
@@ -197,6 +213,15 @@ PopStoresStamp T W = (slots n : ℕ) (v : View T W) → Keeps slots v (Emptying 
 
 abbrev pub CloseSetsMark : Type 0 → Type 0 → Type 0
 CloseSetsMark T W = (slots : ℕ) (v : View T W) → Keeps slots v Rest [] tail_word (λ found. bit_or found (ring_mark slots)) (mark_set slots v)
+
+-- of a push that found the tail where positions end
+abbrev pub EndSetsMark : Type 0 → Type 0 → Type 0
+EndSetsMark T W = (slots : ℕ) (v : View T W) → (v.calls.sends.holds ≡ v.calls.sends.fresh) ⊎ (v.calls.sends.fresh ≡ 0) → Keeps slots v Rest [] tail_word (λ found. bit_or found (ring_mark slots)) (end_marked slots v)
+
+-- ---- of a question whether the ring is closed
+
+abbrev pub AskReadsTail : Type 0 → Type 0 → Type 0
+AskReadsTail T W = (slots : ℕ) (v : View T W) → Keeps slots v Rest [] tail_word as_found (tail_asked slots v)
 
 -- ---- and of a ring that was just made: its words are 0 but for the counts of handles, and the stamps, which say of each slot that it
 -- waits for its first message

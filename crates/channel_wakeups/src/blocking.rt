@@ -1,15 +1,17 @@
 //! Calls that block their thread: rounds of polls, between which the thread sleeps.
 
 ghost use Rattle.std.specs.Prelude.{◌≡◌, ◌<◌};
-ghost use Rattle.channel_wakeups.specs.Blocks.{SentAtLast, TakenAtLast};
+ghost use Rattle.channel_wakeups.specs.Blocks.{TakenAtLast};
+ghost use Rattle.channel_wakeups.specs.Sends.{SentAtLastIn};
 
-use crate::channel::{Pass, Receive, Sending, SlotChannel};
+use crate::channel::{Channel, Pass, Receive, Sending};
+use crate::form::Form;
 use crate::polled::{Blocked, Offered, Polled};
 use crate::rule::Room;
 use crate::wake::Sleeps;
 use std::sync::Wait;
 
-impl<T: Drop, W: Sleeps, B: Room> SlotChannel<T, W, B> {
+impl<T: Drop, W: Sleeps, B: Room, F: Form> Channel<T, W, B, F> {
     /// Sends the message, as soon as there is a place: each round polls the send with a task of this thread, which sleeps while the send
     /// is pending. `Closed` hands the message back: there will be no place. So does `NoMemory`, where there was none for a listener, or no
     /// further task. It may wait for ever.
@@ -22,7 +24,7 @@ impl<T: Drop, W: Sleeps, B: Room> SlotChannel<T, W, B> {
     ) -> Result<(), Blocked<T>>
         requires { 1 < pass.old.parts }
         ensures pass { pass.new.parts ≡ pass.old.parts }
-        ensures sent { SentAtLast message result pass.old.log pass.new.log }
+        ensures sent { SentAtLastIn F.ends message result pass.old.log pass.new.log }
     {
         let mut send = Sending::new();
         let mut message = message;

@@ -2,15 +2,17 @@
 
 ghost use Rattle.std.specs.Prelude.{◌≡◌, ◌⊎◌, ℕ, ◌+◌, ◌-◌, ◌/◌, ◌<◌, [], ◌++◌, true, false, is_some, MatchResult};
 ghost use Rattle.atomic_table.specs.Seated.{TableId};
-ghost use Rattle.channel_wakeups.specs.Calls.{held, is_pending, is_waiting, is_watching, Closes, Displaced, Hand, IsClosed, Looked, Offers, Received, Sent, Watches};
+ghost use Rattle.channel_wakeups.specs.Calls.{held, is_pending, is_waiting, is_watching, Closes, Hand, IsClosed, Looked, Received, Watches};
 ghost use Rattle.channel_wakeups.specs.Counts.{IsHandle};
 ghost use Rattle.channel_wakeups.specs.Seats.{IsIdle, IsTicket};
+ghost use Rattle.channel_wakeups.specs.Sends.{DisplacedIn, OffersIn, SentIn};
 ghost use Rattle.channel_wakeups.specs.Several.{Gathered, NoneGathered};
 ghost use Rattle.channel_wakeups.specs.Views.{everything};
 
 use crate::at_rest::{Rest, Tickets};
 use crate::cells::{Place, SlotTable};
 use crate::desk::Desk;
+use crate::form::{Form, OneSlot};
 use crate::place::{ListSeats, absorb, begin, share};
 use crate::polled::{Offered, Polled, Untaken, Watched};
 use crate::rule::{
@@ -27,23 +29,28 @@ use std::sync::{Mutex, Wait};
 
 /// A channel that is in no room yet. Contracts see which one it is.
 #[derive(Drop)]
-pub struct Opened<T: Drop, W: Drop> {
-    alloc: Global,
-    table: SlotTable<T, W>,
-    seat: Place<T, W>,
+pub struct Opening<T: Drop, W: Drop, F: Form> {
+    pub(crate) alloc: Global,
+    pub(crate) table: SlotTable<T, W>,
+    pub(crate) seat: Place<T, W>,
+    pub(crate) form: F,
 }
 
-impl<T: Drop, W: Drop> Model for Opened<T, W> {
+impl<T: Drop, W: Drop, F: Form> Model for Opening<T, W, F> {
     ghost Value = { TableId };
 
     ghost view = { λ o. o.table.shared.table_id };
 
-    ghost invariant = { λ o. (0 < o.table.shared.table_id.words) × (32 < o.table.shared.table_id.words) × (o.table.shared.table_id.slots ≡ 1) × (o.seat.table_id ≡ o.table.shared.table_id) × (o.seat.me ≡ (everything, [])) };
+    ghost invariant = { λ o. (0 < o.table.shared.table_id.words) × (32 < o.table.shared.table_id.words) × F.fits o.form o.table.shared.table_id × (o.seat.table_id ≡ o.table.shared.table_id) × (o.seat.me ≡ (everything, [])) };
 }
 
-/// A channel of one slot in room `B`, whose receives and sends wait with tasks of type `W`.
+/// A channel of one slot that is in no room yet.
+pub type Opened<T, W> = Opening<T, W, OneSlot>;
+
+/// A channel in room `B`, whose receives and sends wait with tasks of type `W`, and whose queue has form `F`.
 #[derive(Drop)]
-pub struct SlotChannel<T: Drop, W: Drop, B: Room> {
+pub struct Channel<T: Drop, W: Drop, B: Room, F: Form> {
+    pub(crate) form: F,
     pub(crate) table: SlotTable<T, W>,
     pub(crate) receives: Mutex<Desk<T, W, B, Receives>>,
     pub(crate) sends: Mutex<Desk<T, W, B, Sends>>,
@@ -51,13 +58,16 @@ pub struct SlotChannel<T: Drop, W: Drop, B: Room> {
     pub(crate) closings: Mutex<Desk<T, W, B, Closings>>,
 }
 
-impl<T: Drop, W: Drop, B: Room> Model for SlotChannel<T, W, B> {
+impl<T: Drop, W: Drop, B: Room, F: Form> Model for Channel<T, W, B, F> {
     ghost Value = { Unit {0} };
 
     ghost view = { λ c. tt };
 
-    ghost invariant = { λ c. (c.table.shared.table_id ≡ B.table) × (0 < B.table.words) × (32 < B.table.words) × (B.table.slots ≡ 1) };
+    ghost invariant = { λ c. (c.table.shared.table_id ≡ B.table) × (0 < B.table.words) × (32 < B.table.words) × F.fits c.form B.table };
 }
+
+/// A channel of one slot.
+pub type SlotChannel<T, W, B> = Channel<T, W, B, OneSlot>;
 
 /// What a thread calls with, and which has no call under way: so many parts of the right to know the whole, and a log of what was put
 /// in and taken out with it, and of what it saw of the closing. It has no bytes, and the log is there for contracts alone.
@@ -138,23 +148,35 @@ pub type Streaming<T, W, B> = Waiter<T, W, B, Streams>;
 /// One who waits for the closing alone.
 pub type Closing<T, W, B> = Waiter<T, W, B, Closings>;
 
-impl<T: Drop, W: Drop> Opened<T, W> {
+impl<T: Drop, W: Drop> Opening<T, W, OneSlot> {
     /// A channel with no message. `Err` where there is no memory for its words and its slot.
     pub fn new(alloc: Global) -> Result<Opened<T, W>, AllocError> {
         let mut words = [0; 2 * APART + 1];
         words[APART] = 1;
         words[2 * APART] = 1;
         let (table, seat) = Table::vacant(alloc, &words, 1, &())?;
-        Ok(Opened { alloc, table, seat })
+        Ok(Opening {
+            alloc,
+            table,
+            seat,
+            form: OneSlot,
+        })
     }
+}
 
+impl<T: Drop, W: Drop, F: Form> Opening<T, W, F> {
     /// The channel, its first pass and its first handles, in a room: values of a room fit one another and no other's.
-    pub fn enter<B: Room>(self) -> (SlotChannel<T, W, B>, Pass<T, W, B>, FirstHandles<T, W, B>)
+    pub fn enter<B: Room>(self) -> (Channel<T, W, B, F>, Pass<T, W, B>, FirstHandles<T, W, B>)
         requires { self ≡ B.table }
         ensures parts { result.1.parts ≡ 1024 }
         ensures log { result.1.log ≡ [] }
     {
-        let Opened { alloc, table, seat } = self;
+        let Opening {
+            alloc,
+            table,
+            seat,
+            form,
+        } = self;
         let (pass, lists, (sender, receiver)) = begin(&table, seat);
         let ListSeats {
             receives,
@@ -162,7 +184,8 @@ impl<T: Drop, W: Drop> Opened<T, W> {
             streams,
             closings,
         } = lists;
-        let channel = SlotChannel {
+        let channel = Channel {
+            form,
             table,
             receives: Mutex::new(Desk::new(alloc, receives)),
             sends: Mutex::new(Desk::new(alloc, sends)),
@@ -196,7 +219,7 @@ impl<T: Drop, W: Drop, B: Room, S: Waiting> Waiter<T, W, B, S> {
     }
 }
 
-impl<T: Drop, W: Drop, B: Room> SlotChannel<T, W, B> {
+impl<T: Drop, W: Drop, B: Room, F: Form> Channel<T, W, B, F> {
     /// The lists.
     #[inline(always)]
     pub(crate) fn desks(&self) -> Desks<T, W, B> {
@@ -209,7 +232,7 @@ impl<T: Drop, W: Drop, B: Room> SlotChannel<T, W, B> {
     }
 }
 
-impl<T: Drop, W: Wake, B: Room> SlotChannel<T, W, B> {
+impl<T: Drop, W: Wake, B: Room, F: Form> Channel<T, W, B, F> {
     /// A new pass, which gets half of the parts of this one.
     pub fn another(&self, pass: &mut Pass<T, W, B>) -> Pass<T, W, B>
         requires { 1 < pass.old.parts }
@@ -232,8 +255,8 @@ impl<T: Drop, W: Wake, B: Room> SlotChannel<T, W, B> {
         absorb(&self.table, &mut pass.seat, other.seat);
     }
 
-    /// Puts the message into the slot if it is empty, and wakes the first receive and all streams that wait untold. `Err` hands the
-    /// message back: the slot was full, or the channel is closed. It may wait, for the lock of the list and while another call is between the
+    /// Puts the message in if there is a place, and wakes the first receive and all streams that wait untold. `Err` hands the
+    /// message back: every place was taken, or the channel is closed. It may wait, for the lock of the list and while another call is between the
     /// operations that it needs to take a message out.
     pub fn try_send<R: Wait>(
         &self,
@@ -242,9 +265,16 @@ impl<T: Drop, W: Wake, B: Room> SlotChannel<T, W, B> {
         message: T,
     ) -> Result<(), PushError<T>>
         ensures pass { pass.new.parts ≡ pass.old.parts }
-        ensures sent { Sent message result pass.old.log pass.new.log }
+        ensures sent { SentIn F.ends message result pass.old.log pass.new.log }
     {
-        offers::send(rt, &self.table, &self.desks(), &mut pass.seat, message)
+        offers::send(
+            rt,
+            self.form,
+            &self.table,
+            &self.desks(),
+            &mut pass.seat,
+            message,
+        )
     }
 
     /// Puts the message into the slot, in place of the one that is there, if there is one, and wakes the first receive and all streams that
@@ -257,9 +287,16 @@ impl<T: Drop, W: Wake, B: Room> SlotChannel<T, W, B> {
         message: T,
     ) -> Result<Option<T>, ForcePushError<T>>
         ensures pass { pass.new.parts ≡ pass.old.parts }
-        ensures displaced { Displaced message result pass.old.log pass.new.log }
+        ensures displaced { DisplacedIn F.ends message result pass.old.log pass.new.log }
     {
-        displacing::displace(rt, &self.table, &self.desks(), &mut pass.seat, message)
+        displacing::displace(
+            rt,
+            self.form,
+            &self.table,
+            &self.desks(),
+            &mut pass.seat,
+            message,
+        )
     }
 
     /// Polls a send: it puts the message in, and wakes the first receive and all streams that wait untold, or waits with this task. The
@@ -276,10 +313,11 @@ impl<T: Drop, W: Wake, B: Room> SlotChannel<T, W, B> {
         requires { 1 < pass.old.parts + send.old }
         ensures pass { pass.new.parts + send.new ≡ pass.old.parts + send.old }
         ensures pending { send.new ≡ held (is_waiting result) }
-        ensures sent { Offers message result pass.old.log pass.new.log }
+        ensures sent { OffersIn F.ends message result pass.old.log pass.new.log }
     {
         offers::offer(
             rt,
+            self.form,
             &self.table,
             &self.desks(),
             &mut pass.seat,
@@ -314,6 +352,7 @@ impl<T: Drop, W: Wake, B: Room> SlotChannel<T, W, B> {
     {
         takes::poll(
             rt,
+            self.form,
             &self.table,
             &self.receives,
             &self.sends,
@@ -336,7 +375,15 @@ impl<T: Drop, W: Wake, B: Room> SlotChannel<T, W, B> {
         ensures pass { pass.new.parts ≡ pass.old.parts }
         ensures gathered { MatchResult result (λ messages. Gathered limit messages.items pass.old.log pass.new.log) (λ why. NoneGathered limit why pass.old.log pass.new.log) }
     {
-        gathering::gather(rt, &self.table, &self.sends, &mut pass.seat, alloc, limit)
+        gathering::gather(
+            rt,
+            self.form,
+            &self.table,
+            &self.sends,
+            &mut pass.seat,
+            alloc,
+            limit,
+        )
     }
 
     /// Gives a receive up. If it was told, the notice goes to another one.
@@ -370,6 +417,7 @@ impl<T: Drop, W: Wake, B: Room> SlotChannel<T, W, B> {
     {
         takes::poll(
             rt,
+            self.form,
             &self.table,
             &self.streams,
             &self.sends,
@@ -414,6 +462,7 @@ impl<T: Drop, W: Wake, B: Room> SlotChannel<T, W, B> {
     {
         shutting::watch(
             rt,
+            self.form,
             &self.table,
             &self.closings,
             &mut pass.seat,
@@ -447,7 +496,7 @@ impl<T: Drop, W: Wake, B: Room> SlotChannel<T, W, B> {
         ensures pass { pass.new.parts ≡ pass.old.parts }
         ensures answers { Closes result pass.old.log pass.new.log }
     {
-        shutting::close(rt, &self.table, &self.desks(), &mut pass.seat)
+        shutting::close(rt, self.form, &self.table, &self.desks(), &mut pass.seat)
     }
 
     /// Whether the channel is closed.
@@ -455,9 +504,11 @@ impl<T: Drop, W: Wake, B: Room> SlotChannel<T, W, B> {
         ensures pass { pass.new.parts ≡ pass.old.parts }
         ensures answers { IsClosed result pass.old.log pass.new.log }
     {
-        shutting::is_closed(rt, &self.table, &mut pass.seat)
+        shutting::is_closed(rt, self.form, &self.table, &mut pass.seat)
     }
+}
 
+impl<T: Drop, W: Wake, B: Room> Channel<T, W, B, OneSlot> {
     /// All parts are back, so no call is under way, and at most one is pending of each side. Whether a message is there, whether the
     /// channel is closed, and of each side whether some listener was woken. Beside a message there is one where a receive is pending, and
     /// where a stream is. Beside a free place there is one where a send is pending, and in a closed channel wherever one is. The log of

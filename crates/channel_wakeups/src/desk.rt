@@ -4,7 +4,7 @@ ghost use Rattle.std.specs.Prelude.{◌≡◌, ◌⊎◌, ℕ, ◌+◌, ◌-◌,
 ghost use Rattle.channel_wakeups.specs.Calls.{Looked};
 ghost use Rattle.channel_wakeups.specs.Lists.{told, waits, listed};
 ghost use Rattle.channel_wakeups.specs.Seats.{IsCall, IsPass, IsTicket, IsList};
-ghost use Rattle.channel_wakeups.specs.Views.{of, besides, roll, calling, telling, due};
+ghost use Rattle.channel_wakeups.specs.Views.{of, besides, roll, calling, telling, due, idle_lines, line_of};
 
 use crate::cells::{Place, SlotTable};
 use crate::listeners::{Listener, add, any_told, remove, renew, take_told, tell_one};
@@ -189,8 +189,9 @@ impl<T: Drop, W: Drop, B: Room, S: Waiting> Desk<T, W, B, S> {
         call: Place<T, W>,
     ) -> (Option<W>, Place<T, W>)
         requires table { (table.now.shared.table_id ≡ B.table) × (0 < B.table.words) }
-        requires call { IsCall S.side B.table call call.me.0.parts 0 (of S.side call.me.0.calls).holds (key + 1) }
+        requires call { IsPass S.side B.table call call.me.0.parts (line_of 0 (of S.side call.me.0.calls).holds (of S.side call.me.0.calls).fresh (key + 1) 0) idle_lines }
         requires holds { ((of S.side call.me.0.calls).holds ≡ 0) ⊎ ((of S.side call.me.0.calls).holds ≡ key + 1) }
+        requires fresh { ((of S.side call.me.0.calls).fresh ≡ 0) ⊎ ((of S.side call.me.0.calls).fresh ≡ key + 1) }
         ensures idle { IsCall S.side B.table result.1 call.me.0.parts 0 0 0 }
         ensures log { result.1.me.0.log ≡ call.me.0.log }
     {

@@ -9,7 +9,8 @@ ghost use Rattle.channel_wakeups.specs.Views.{count_of, hands};
 ghost use Rattle.channel_wakeups.specs.declared.rule.Sight.TheVariants.{Crowded, Gone, Last, Lowered, Raised};
 
 use crate::cells::{Place, SlotTable};
-use crate::channel::{Handle, Pass, SlotChannel};
+use crate::channel::{Channel, Handle, Pass};
+use crate::form::Form;
 use crate::place::blank;
 use crate::polled::Upgrade;
 use crate::rule::{Asks, Counting, Couples, Lowers, Measures, Raises, Room, Uncouples};
@@ -147,19 +148,20 @@ pub(crate) fn another<T: Drop, W: Drop, K: Counting, R: Wait>(
 }
 
 /// One handle more, if there is one and the channel is open.
-pub(crate) fn upgrade<T: Drop, W: Drop, K: Counting, R: Wait>(
+pub(crate) fn upgrade<T: Drop, W: Drop, F: Form, K: Counting, R: Wait>(
     rt: &R,
+    form: F,
     table: &SlotTable<T, W>,
     pass: &mut Place<T, W>,
 ) -> Upgrade<Place<T, W>>
     requires table { 32 < table.now.shared.table_id.words }
-    requires single { table.now.shared.table_id.slots ≡ 1 }
+    requires fits { F.fits form table.now.shared.table_id }
     requires pass { IsIdle table.now.shared.table_id pass.old pass.old.me.0.parts }
     ensures pass { IsIdle table.now.shared.table_id pass.new pass.old.me.0.parts }
     ensures handle { IfMade result (λ h. IsHandle K.kind table.now.shared.table_id h) }
     ensures upgraded { Upgraded K.kind (count_upgraded result) pass.old.me.0.log pass.new.me.0.log }
 {
-    if is_closed(rt, table, pass) {
+    if is_closed(rt, form, table, pass) {
         return Upgrade::Gone;
     }
     for _ in rt.forever() {
@@ -178,15 +180,16 @@ pub(crate) fn upgrade<T: Drop, W: Drop, K: Counting, R: Wait>(
 }
 
 /// Lets a handle go. Who lets the last one go closes the channel: whether its call did.
-pub(crate) fn let_go<T: Drop, W: Wake, B: Room, K: Counting, R: Wait>(
+pub(crate) fn let_go<T: Drop, W: Wake, B: Room, F: Form, K: Counting, R: Wait>(
     rt: &R,
+    form: F,
     table: &SlotTable<T, W>,
     desks: &Desks<T, W, B>,
     pass: &mut Place<T, W>,
     handle: Place<T, W>,
 ) -> bool
     requires table { (table.now.shared.table_id ≡ B.table) × (32 < B.table.words) }
-    requires single { B.table.slots ≡ 1 }
+    requires fits { F.fits form B.table }
     requires pass { IsIdle B.table pass.old pass.old.me.0.parts }
     requires handle { IsHandle K.kind B.table handle }
     ensures pass { IsIdle B.table pass.new pass.old.me.0.parts }
@@ -198,12 +201,12 @@ pub(crate) fn let_go<T: Drop, W: Wake, B: Room, K: Counting, R: Wait>(
         *pass = call;
         return false;
     }
-    let (closed, call) = close_now(rt, table, desks, call);
+    let (closed, call) = close_now(rt, form, table, desks, call);
     *pass = call;
     closed
 }
 
-impl<T: Drop, W: Wake, B: Room> SlotChannel<T, W, B> {
+impl<T: Drop, W: Wake, B: Room, F: Form> Channel<T, W, B, F> {
     /// A handle more of the same kind: their count is raised. `None` where it is above half of the greatest. It may wait, while others
     /// change the count.
     pub fn another_handle<K: Counting, R: Wait>(
@@ -232,7 +235,7 @@ impl<T: Drop, W: Wake, B: Room> SlotChannel<T, W, B> {
         ensures pass { pass.new.parts ≡ pass.old.parts }
         ensures upgraded { Upgraded K.kind (count_upgraded result) pass.old.log pass.new.log }
     {
-        match upgrade::<T, W, K, R>(rt, &self.table, &mut pass.seat) {
+        match upgrade::<T, W, F, K, R>(rt, self.form, &self.table, &mut pass.seat) {
             Upgrade::Made(seat) => Upgrade::Made(Handle {
                 seat,
                 room: PhantomData,
@@ -254,6 +257,13 @@ impl<T: Drop, W: Wake, B: Room> SlotChannel<T, W, B> {
         ensures gone { LetGo K.kind result pass.old.log pass.new.log }
     {
         let Handle { seat, room: _ } = handle;
-        let_go::<T, W, B, K, R>(rt, &self.table, &self.desks(), &mut pass.seat, seat)
+        let_go::<T, W, B, F, K, R>(
+            rt,
+            self.form,
+            &self.table,
+            &self.desks(),
+            &mut pass.seat,
+            seat,
+        )
     }
 }

@@ -1,5 +1,5 @@
-//! A channel of one slot between threads, of which it is proved that no wake-up is lost, and that what left, followed by what is held,
-//! is what was accepted, in order.
+//! Channels with a bound between threads, of which it is proved that no wake-up is lost: of one slot, and of a ring of two places or more.
+//! Of one slot it is proved too that what left, followed by what is held, is what was accepted, in order.
 #![tactic(auto)]
 
 pub mod at_rest;
@@ -8,14 +8,22 @@ mod cells;
 pub mod channel;
 mod desk;
 mod displacing;
+pub mod form;
 mod gathering;
 mod handles;
 pub mod listeners;
 mod made;
+mod made_ring;
 mod offers;
+pub mod opened;
 mod place;
 pub mod polled;
+pub mod ring;
+mod ring_cells;
 pub mod ring_law;
+mod ring_shape;
+mod ring_stage;
+mod ring_steps;
 pub mod rule;
 mod shutting;
 mod stage;
@@ -27,10 +35,13 @@ pub mod wake;
 
 pub use at_rest::Rest;
 pub use channel::{
-    Closing, FirstHandles, Handle, Opened, Pass, Receive, Receiver, Sender, Sending, SlotChannel,
-    Streaming, Waiter,
+    Channel, Closing, FirstHandles, Handle, Opened, Opening, Pass, Receive, Receiver, Sender,
+    Sending, SlotChannel, Streaming, Waiter,
 };
+pub use form::{Form, OneSlot};
+pub use opened::{OpenedRing, RingChannel, Unopened};
 pub use polled::{Blocked, Offered, Polled, Untaken, Upgrade, Watched};
+pub use ring::Ring;
 pub use rule::{
     Closings, Counting, Receivers, Receives, Room, Senders, Sends, Streams, Taking, Waiting,
 };

@@ -8,7 +8,7 @@ ghost use Rattle.channel_wakeups.specs.declared.rule.Kind.TheVariants.{OfReceive
 ghost use Rattle.channel_wakeups.specs.Lists.{told, waits, listed};
 ghost use Rattle.channel_wakeups.specs.Seats.{IsCall, IsIdle, IsPass, IsTicket, IsList, Calls, Lists};
 ghost use Rattle.channel_wakeups.specs.Sections.{Fair};
-ghost use Rattle.channel_wakeups.specs.Views.{of, besides, roll, call_line, calling, changed, comes_out, entered, stays, alone, without, is_key, everything, due, of_receives, of_sends, of_streams, of_closings, idle_lines, HasAll};
+ghost use Rattle.channel_wakeups.specs.Views.{of, besides, roll, call_line, calling, changed, line_of, comes_out, entered, stays, alone, without, is_key, everything, due, of_receives, of_sends, of_streams, of_closings, idle_lines, HasAll};
 
 use crate::cells::{Place, SlotTable};
 use crate::handles::uncouple;
@@ -200,9 +200,9 @@ pub(crate) fn take_ticket<T: Drop, W: Drop, S: Waiting>(
     ticket: Place<T, W>,
 )
     requires table { 0 < table.now.shared.table_id.words }
-    requires call { IsPass S.side table.now.shared.table_id call.old call.old.me.0.parts (calling (of S.side call.old.me.0.calls).answers (of S.side call.old.me.0.calls).holds 0) (besides S.side call.old.me.0.calls) }
+    requires call { IsPass S.side table.now.shared.table_id call.old call.old.me.0.parts (line_of (of S.side call.old.me.0.calls).answers (of S.side call.old.me.0.calls).holds (of S.side call.old.me.0.calls).fresh 0 (of S.side call.old.me.0.calls).tells) (besides S.side call.old.me.0.calls) }
     requires ticket { IsTicket S.side table.now.shared.table_id ticket (of S.side ticket.me.0.calls).ticket }
-    ensures call { IsPass S.side table.now.shared.table_id call.new (call.old.me.0.parts + 1) (calling (of S.side call.old.me.0.calls).answers (of S.side call.old.me.0.calls).holds (of S.side ticket.me.0.calls).ticket) (besides S.side call.old.me.0.calls) }
+    ensures call { IsPass S.side table.now.shared.table_id call.new (call.old.me.0.parts + 1) (line_of (of S.side call.old.me.0.calls).answers (of S.side call.old.me.0.calls).holds (of S.side call.old.me.0.calls).fresh (of S.side ticket.me.0.calls).ticket (of S.side call.old.me.0.calls).tells) (besides S.side call.old.me.0.calls) }
     ensures log { call.new.me.0.log ≡ call.old.me.0.log }
 {
     table.shared.join_seat::<TakesTicket<S>>(call, ticket);

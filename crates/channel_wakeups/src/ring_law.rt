@@ -1,10 +1,10 @@
-//! A law of the rule, beside rings that no code runs over it yet. It is the contract of a function that does nothing.
+//! A law of the rule, beside rings. It is the contract of a function that does nothing.
 
-ghost use Rattle.channel_wakeups.specs.RingSteps.{PushReadsTail, PushReadsStamp, PushFindsItFull, PushMovesTail, PushStoresStamp, ForceMovesHead, ForceMovesTail, ForceStoresStamp, PopReadsHead, PopReadsStamp, PopReadsTail, PopMovesHead, PopStoresStamp, CloseSetsMark, NewRingHolds};
+ghost use Rattle.channel_wakeups.specs.RingSteps.{PushReadsTail, PushReadsStamp, PushFindsItFull, PushMovesTail, PushStoresStamp, ForceMovesHead, ForceMovesTail, ForceStoresStamp, PopReadsHead, PopReadsStamp, PopReadsTail, PopMovesHead, PopStoresStamp, CloseSetsMark, EndSetsMark, AskReadsTail, NewRingHolds};
 
-/// Of a ring of two places or more, each step of a push, a displacing push, a pop and a closing keeps the rule of wake-ups: from every
-/// state in which it holds, whatever all other calls know and are about, it holds after the step. So it holds whatever others do
-/// between two steps of a call. And it holds of a ring that was just made.
+/// Of a ring of two places or more, each step of a push, a displacing push, a pop, a closing and a question keeps the rule of wake-ups: from
+/// every state in which it holds, whatever all other calls know and are about, it holds after the step. So it holds whatever others do
+/// between two steps of a call. And it holds of a ring that was just made. The question is whether the ring is closed.
 ///
 /// A step is one operation on the head, on the tail or on a stamp, with the plain writes of the slot that its call has out by then. Each
 /// clause is one step, and says what the call knows before it, and what it learns. A call that pushes answers for one place at most
@@ -12,8 +12,8 @@ ghost use Rattle.channel_wakeups.specs.RingSteps.{PushReadsTail, PushReadsStamp,
 ///
 /// Beside a ring the rule speaks of wake-ups, of counts of handles and of closings. That what left is what was accepted is not in it there.
 ///
-/// No code makes these steps on a table yet: a channel of this crate has one slot. So nothing is said of a channel of two places or
-/// more between threads that run.
+/// The queue's machine makes these steps on cells of this crate, for the calls of a `RingChannel`. So at every moment of every schedule such a
+/// channel keeps the rule.
 ///
 /// Own to this project.
 pub fn ring_steps_keep_the_rule<T, W>()
@@ -31,5 +31,7 @@ pub fn ring_steps_keep_the_rule<T, W>()
     ensures pop_moves_head { PopMovesHead T W }
     ensures pop_stores_stamp { PopStoresStamp T W }
     ensures close_sets_mark { CloseSetsMark T W }
+    ensures end_sets_mark { EndSetsMark T W }
+    ensures ask_reads_tail { AskReadsTail T W }
     ensures new_ring_holds { NewRingHolds T W }
 {}

@@ -417,6 +417,137 @@ impl<T, W> Play<Option<T>, View<T, W>> for Unlocks {
     ghost then = { unlocks };
 }
 
+/// A push reads the tail of a ring.
+pub(crate) struct ReadsTail;
+
+impl<T, W> Play<Option<T>, View<T, W>> for ReadsTail {
+    ghost use Rattle.channel_wakeups.specs.RingSteps.{tail_read};
+
+    ghost then = { λ st m found after. tail_read st.slots m.0 found after };
+}
+
+/// A push reads the stamp of the place at the tail.
+pub(crate) struct ReadsPlace;
+
+impl<T, W> Play<Option<T>, View<T, W>> for ReadsPlace {
+    ghost use Rattle.channel_wakeups.specs.RingStages.{place_found};
+
+    ghost then = { λ st m found after. place_found st.slots m found after };
+}
+
+/// A push that found the message of the lap before looks whether that is the oldest.
+pub(crate) struct ReadsFull;
+
+impl<T, W> Play<Option<T>, View<T, W>> for ReadsFull {
+    ghost use Rattle.channel_wakeups.specs.RingStages.{number_of};
+    ghost use Rattle.channel_wakeups.specs.RingSteps.{full_read};
+
+    ghost then = { λ st m found after. full_read st.slots (number_of m.0.turn) m.0 found after };
+}
+
+/// A push moves the tail on, or finds it moved.
+pub(crate) struct MovesTail;
+
+impl<T, W> Play<Option<T>, View<T, W>> for MovesTail {
+    ghost use Rattle.channel_wakeups.specs.RingStages.{number_of};
+    ghost use Rattle.channel_wakeups.specs.RingSteps.{tail_moved};
+
+    ghost then = { λ st m found after. tail_moved st.slots (number_of m.0.turn) m.0 found after };
+}
+
+/// A displacing push takes the oldest message, or finds the head moved.
+pub(crate) struct TakesOldest;
+
+impl<T, W> Play<Option<T>, View<T, W>> for TakesOldest {
+    ghost use Rattle.channel_wakeups.specs.RingStages.{number_of};
+    ghost use Rattle.channel_wakeups.specs.RingSteps.{oldest_won};
+
+    ghost then = { λ st m found after. oldest_won st.slots (number_of m.0.turn) m.0 found after };
+}
+
+/// It moves the tail past the place of the message that it took.
+pub(crate) struct PassesTail;
+
+impl<T, W> Play<Option<T>, View<T, W>> for PassesTail {
+    ghost use Rattle.channel_wakeups.specs.RingStages.{passed};
+
+    ghost then = { λ st m found after. passed st.slots m after };
+}
+
+/// Who has a slot of a ring gives it back, with what is in it.
+pub(crate) struct GivesSlot;
+
+impl<T, W> Play<Option<T>, View<T, W>> for GivesSlot {
+    ghost use Rattle.channel_wakeups.specs.RingStages.{gave_back};
+
+    ghost then = { λ st m found after. gave_back st.slots m after };
+}
+
+/// A pop reads the head of a ring.
+pub(crate) struct ReadsHead;
+
+impl<T, W> Play<Option<T>, View<T, W>> for ReadsHead {
+    ghost use Rattle.channel_wakeups.specs.RingSteps.{head_read};
+
+    ghost then = { λ st m found after. head_read st.slots m.0 found after };
+}
+
+/// A pop reads the stamp of the place at the head.
+pub(crate) struct ReadsMessage;
+
+impl<T, W> Play<Option<T>, View<T, W>> for ReadsMessage {
+    ghost use Rattle.channel_wakeups.specs.RingStages.{message_found};
+
+    ghost then = { λ st m found after. message_found st.slots m found after };
+}
+
+/// A pop that found no message looks whether the tail is there too.
+pub(crate) struct ReadsEnd;
+
+impl<T, W> Play<Option<T>, View<T, W>> for ReadsEnd {
+    ghost use Rattle.channel_wakeups.specs.RingStages.{number_of};
+    ghost use Rattle.channel_wakeups.specs.RingSteps.{end_read};
+
+    ghost then = { λ st m found after. end_read st.slots (number_of m.0.turn) m.0 found after };
+}
+
+/// A pop moves the head on, or finds it moved.
+pub(crate) struct MovesHead;
+
+impl<T, W> Play<Option<T>, View<T, W>> for MovesHead {
+    ghost use Rattle.channel_wakeups.specs.RingStages.{number_of};
+    ghost use Rattle.channel_wakeups.specs.RingSteps.{head_moved};
+
+    ghost then = { λ st m found after. head_moved st.slots (number_of m.0.turn) m.0 found after };
+}
+
+/// A call closes a ring, or finds it closed.
+pub(crate) struct SetsMark;
+
+impl<T, W> Play<Option<T>, View<T, W>> for SetsMark {
+    ghost use Rattle.channel_wakeups.specs.RingSteps.{mark_set};
+
+    ghost then = { λ st m found after. mark_set st.slots m.0 found after };
+}
+
+/// A push that found the tail where positions end closes the ring, or finds it closed.
+pub(crate) struct SetsMarkAtEnd;
+
+impl<T, W> Play<Option<T>, View<T, W>> for SetsMarkAtEnd {
+    ghost use Rattle.channel_wakeups.specs.RingSteps.{end_marked};
+
+    ghost then = { λ st m found after. end_marked st.slots m.0 found after };
+}
+
+/// A call looks whether a ring is closed.
+pub(crate) struct AsksTail;
+
+impl<T, W> Play<Option<T>, View<T, W>> for AsksTail {
+    ghost use Rattle.channel_wakeups.specs.RingSteps.{tail_asked};
+
+    ghost then = { λ st m found after. tail_asked st.slots m.0 found after };
+}
+
 /// Who has every part and a list learns the rule of its side.
 pub(crate) struct Learns<S> {
     of: PhantomData<S>,

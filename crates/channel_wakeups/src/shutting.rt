@@ -9,11 +9,11 @@ ghost use Rattle.channel_wakeups.specs.Views.{hands, of_closings};
 use crate::cells::{Place, SlotTable};
 use crate::channel::Ticket;
 use crate::desk::Desk;
-use crate::made::{ask, shut};
+use crate::form::Form;
 use crate::place::blank;
 use crate::polled::Watched;
 use crate::rule::{Closings, Room};
-use crate::telling::{Desks, tell_all};
+use crate::telling::{Desks, tell_of_closing};
 use crate::waits::{listen, notice, take_off};
 use crate::wake::Wake;
 use std::mem;
@@ -21,84 +21,84 @@ use std::sync::{Mutex, Wait};
 
 /// Closes the channel, by a call that may owe it. Who is the first tells all sends that wait, then all receives, all streams, and all who
 /// wait for the closing alone.
-pub(crate) fn close_now<T: Drop, W: Wake, B: Room, R: Wait>(
+pub(crate) fn close_now<T: Drop, W: Wake, B: Room, F: Form, R: Wait>(
     rt: &R,
+    form: F,
     table: &SlotTable<T, W>,
     desks: &Desks<T, W, B>,
     call: Place<T, W>,
 ) -> (bool, Place<T, W>)
     requires table { (table.now.shared.table_id ≡ B.table) × (0 < B.table.words) }
-    requires single { B.table.slots ≡ 1 }
+    requires fits { F.fits form B.table }
     requires call { IsHolding (hands 0 0 call.me.0.calls.hands.closes) B.table call call.me.0.parts }
     ensures idle { IsIdle B.table result.1 call.me.0.parts }
     ensures answers { Closes result.0 call.me.0.log result.1.me.0.log }
 {
-    let (first, call) = shut(rt, table, call);
+    let (first, call) = form.shut(rt, table, call);
     if !first {
         return (false, call);
     }
-    let call = tell_all(rt, table, desks.sends, call);
-    let call = tell_all(rt, table, desks.receives, call);
-    let call = tell_all(rt, table, desks.streams, call);
-    let call = tell_all(rt, table, desks.closings, call);
-    (true, call)
+    (true, tell_of_closing(rt, table, desks, call))
 }
 
 /// Closes the channel.
 #[tactic(auto, using(crate::proofs::From::idle_holds))]
-pub(crate) fn close<T: Drop, W: Wake, B: Room, R: Wait>(
+pub(crate) fn close<T: Drop, W: Wake, B: Room, F: Form, R: Wait>(
     rt: &R,
+    form: F,
     table: &SlotTable<T, W>,
     desks: &Desks<T, W, B>,
     pass: &mut Place<T, W>,
 ) -> bool
     requires table { (table.now.shared.table_id ≡ B.table) × (0 < B.table.words) }
-    requires single { B.table.slots ≡ 1 }
+    requires fits { F.fits form B.table }
     requires pass { IsIdle B.table pass.old pass.old.me.0.parts }
     ensures pass { IsIdle B.table pass.new pass.old.me.0.parts }
     ensures answers { Closes result pass.old.me.0.log pass.new.me.0.log }
 {
     let call = mem::replace(pass, blank(table));
-    let (first, call) = close_now(rt, table, desks, call);
+    let (first, call) = close_now(rt, form, table, desks, call);
     *pass = call;
     first
 }
 
 /// Whether the channel is closed.
-pub(crate) fn is_closed<T: Drop, W: Drop, R: Wait>(
+pub(crate) fn is_closed<T: Drop, W: Drop, F: Form, R: Wait>(
     rt: &R,
+    form: F,
     table: &SlotTable<T, W>,
     pass: &mut Place<T, W>,
 ) -> bool
     requires table { 0 < table.now.shared.table_id.words }
-    requires single { table.now.shared.table_id.slots ≡ 1 }
+    requires fits { F.fits form table.now.shared.table_id }
     requires pass { IsIdle table.now.shared.table_id pass.old pass.old.me.0.parts }
     ensures pass { IsIdle table.now.shared.table_id pass.new pass.old.me.0.parts }
     ensures answers { IsClosed result pass.old.me.0.log pass.new.me.0.log }
 {
     let call = mem::replace(pass, blank(table));
-    let (closed, call) = ask(rt, table, call);
+    let (closed, call) = form.ask(rt, table, call);
     *pass = call;
     closed
 }
 
 /// Looks whether the channel is closed, listens where it is open, and looks once more, so that no closing that came meanwhile is missed.
-fn look_or_listen<T: Drop, W: Wake, B: Room, R: Wait>(
+fn look_or_listen<T: Drop, W: Wake, B: Room, F: Form, R: Wait>(
     rt: &R,
+    form: F,
     table: &SlotTable<T, W>,
     desk: &Mutex<Desk<T, W, B, Closings>>,
     call: Place<T, W>,
     task: W,
 ) -> (Watched, Option<Ticket<T, W, B, Closings>>, Place<T, W>)
     requires table { (table.now.shared.table_id ≡ B.table) × (0 < B.table.words) }
-    requires single { B.table.slots ≡ 1 }
+    requires fits { F.fits form B.table }
     requires call { IsCall of_closings B.table call call.me.0.parts call.me.0.calls.closings.answers 0 0 }
     requires parts { 1 < call.me.0.parts }
     ensures call { IsIdle B.table result.2 (call.me.0.parts - held (is_some result.1)) }
     ensures pending { is_some result.1 ≡ is_watching result.0 }
     ensures watched { Watches result.0 call.me.0.log result.2.me.0.log }
 {
-    let (closed, call) = ask(rt, table, call);
+    let (closed, call) = form.ask(rt, table, call);
     if closed {
         drop(task);
         return (Watched::Closed, None, call);
@@ -106,7 +106,7 @@ fn look_or_listen<T: Drop, W: Wake, B: Room, R: Wait>(
     match listen(rt, table, desk, call, task) {
         Err(call) => (Watched::NoMemory, None, call),
         Ok((ticket, call)) => {
-            let (closed, call) = ask(rt, table, call);
+            let (closed, call) = form.ask(rt, table, call);
             if !closed {
                 return (Watched::Pending, Some(ticket), call);
             }
@@ -117,8 +117,9 @@ fn look_or_listen<T: Drop, W: Wake, B: Room, R: Wait>(
 }
 
 /// Polls one who waits for the closing alone.
-pub(crate) fn watch<T: Drop, W: Wake, B: Room, R: Wait>(
+pub(crate) fn watch<T: Drop, W: Wake, B: Room, F: Form, R: Wait>(
     rt: &R,
+    form: F,
     table: &SlotTable<T, W>,
     desk: &Mutex<Desk<T, W, B, Closings>>,
     pass: &mut Place<T, W>,
@@ -126,7 +127,7 @@ pub(crate) fn watch<T: Drop, W: Wake, B: Room, R: Wait>(
     task: W,
 ) -> Watched
     requires table { (table.now.shared.table_id ≡ B.table) × (0 < B.table.words) }
-    requires single { B.table.slots ≡ 1 }
+    requires fits { F.fits form B.table }
     requires pass { IsIdle B.table pass.old pass.old.me.0.parts }
     requires parts { 1 < pass.old.me.0.parts + held (is_some waiting.old) }
     ensures pass { IsIdle B.table pass.new (pass.old.me.0.parts + held (is_some waiting.old) - held (is_some waiting.new)) }
@@ -148,7 +149,7 @@ pub(crate) fn watch<T: Drop, W: Wake, B: Room, R: Wait>(
             }
         }
     }
-    let (watched, ticket, idle) = look_or_listen(rt, table, desk, call, task);
+    let (watched, ticket, idle) = look_or_listen(rt, form, table, desk, call, task);
     *pass = idle;
     *waiting = ticket;
     watched

@@ -1,6 +1,6 @@
 //! Receives and streams, each with a pass that is idle before it and after it.
 
-ghost use Rattle.std.specs.Prelude.{◌≡◌, ◌+◌, ◌-◌, ◌<◌, is_some};
+ghost use Rattle.std.specs.Prelude.{◌≡◌, ◌+◌, ◌-◌, ◌<◌, ◌≤◌, is_some};
 ghost use Rattle.channel_wakeups.specs.Calls.{held, is_pending, Received};
 ghost use Rattle.channel_wakeups.specs.Seats.{IsCall, IsIdle};
 ghost use Rattle.channel_wakeups.specs.Views.{of};
@@ -8,7 +8,7 @@ ghost use Rattle.channel_wakeups.specs.Views.{of};
 use crate::cells::{Place, SlotTable};
 use crate::channel::Ticket;
 use crate::desk::Desk;
-use crate::made::pop;
+use crate::form::Form;
 use crate::place::blank;
 use crate::polled::Polled;
 use crate::rule::{Room, Sends, Taking};
@@ -20,8 +20,9 @@ use std::mem;
 use std::sync::{Mutex, Wait};
 
 /// Tries, listens where there was nothing, and tries once more, so that no message that came meanwhile is missed.
-fn try_or_listen<T: Drop, W: Wake, B: Room, S: Taking, R: Wait>(
+fn try_or_listen<T: Drop, W: Wake, B: Room, F: Form, S: Taking, R: Wait>(
     rt: &R,
+    form: F,
     table: &SlotTable<T, W>,
     desk: &Mutex<Desk<T, W, B, S>>,
     sends: &Mutex<Desk<T, W, B, Sends>>,
@@ -29,14 +30,15 @@ fn try_or_listen<T: Drop, W: Wake, B: Room, S: Taking, R: Wait>(
     task: W,
 ) -> (Polled<T>, Option<Ticket<T, W, B, S>>, Place<T, W>)
     requires table { (table.now.shared.table_id ≡ B.table) × (0 < B.table.words) }
-    requires single { B.table.slots ≡ 1 }
+    requires fits { F.fits form B.table }
     requires call { IsCall S.side B.table call call.me.0.parts (of S.side call.me.0.calls).answers 0 0 }
+    requires one { (of S.side call.me.0.calls).answers ≤ 1 }
     requires parts { 1 < call.me.0.parts }
     ensures call { IsIdle B.table result.2 (call.me.0.parts - held (is_some result.1)) }
     ensures pending { is_some result.1 ≡ is_pending result.0 }
     ensures received { Received result.0 call.me.0.log result.2.me.0.log }
 {
-    let (found, call) = pop::<T, W, S, R>(rt, table, call);
+    let (found, call) = form.pop::<T, W, S, R>(rt, table, call);
     match found {
         Ok(message) => {
             drop(task);
@@ -52,7 +54,7 @@ fn try_or_listen<T: Drop, W: Wake, B: Room, S: Taking, R: Wait>(
     match listen(rt, table, desk, call, task) {
         Err(call) => (Polled::NoMemory, None, call),
         Ok((ticket, call)) => {
-            let (found, call) = pop::<T, W, S, R>(rt, table, call);
+            let (found, call) = form.pop::<T, W, S, R>(rt, table, call);
             match found {
                 Ok(message) => {
                     let call = tell(rt, table, sends, call);
@@ -70,8 +72,9 @@ fn try_or_listen<T: Drop, W: Wake, B: Room, S: Taking, R: Wait>(
 }
 
 /// Polls one who takes messages: a receive, or a stream.
-pub(crate) fn poll<T: Drop, W: Wake, B: Room, S: Taking, R: Wait>(
+pub(crate) fn poll<T: Drop, W: Wake, B: Room, F: Form, S: Taking, R: Wait>(
     rt: &R,
+    form: F,
     table: &SlotTable<T, W>,
     desk: &Mutex<Desk<T, W, B, S>>,
     sends: &Mutex<Desk<T, W, B, Sends>>,
@@ -80,7 +83,7 @@ pub(crate) fn poll<T: Drop, W: Wake, B: Room, S: Taking, R: Wait>(
     task: W,
 ) -> Polled<T>
     requires table { (table.now.shared.table_id ≡ B.table) × (0 < B.table.words) }
-    requires single { B.table.slots ≡ 1 }
+    requires fits { F.fits form B.table }
     requires pass { IsIdle B.table pass.old pass.old.me.0.parts }
     requires parts { 1 < pass.old.me.0.parts + held (is_some waiting.old) }
     ensures pass { IsIdle B.table pass.new (pass.old.me.0.parts + held (is_some waiting.old) - held (is_some waiting.new)) }
@@ -102,7 +105,7 @@ pub(crate) fn poll<T: Drop, W: Wake, B: Room, S: Taking, R: Wait>(
             }
         }
     }
-    let (polled, ticket, idle) = try_or_listen(rt, table, desk, sends, call, task);
+    let (polled, ticket, idle) = try_or_listen(rt, form, table, desk, sends, call, task);
     *pass = idle;
     *waiting = ticket;
     polled

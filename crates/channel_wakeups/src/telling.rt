@@ -1,9 +1,11 @@
 //! Telling those who wait, and waking them.
 
 ghost use Rattle.std.specs.Prelude.{◌≡◌, ◌<◌};
-ghost use Rattle.channel_wakeups.specs.Calls.{to_streams};
-ghost use Rattle.channel_wakeups.specs.Seats.{IsIdle, IsPass};
-ghost use Rattle.channel_wakeups.specs.Views.{besides, calling, telling, of_receives};
+ghost use Rattle.channel_wakeups.specs.Calls.{to_others};
+ghost use Rattle.channel_wakeups.specs.Forms.{ClosedBy};
+ghost use Rattle.channel_wakeups.specs.RingLeaves.{to_streams_holding};
+ghost use Rattle.channel_wakeups.specs.Seats.{IsCall, IsIdle, IsPass};
+ghost use Rattle.channel_wakeups.specs.Views.{besides, calling, telling, idle_lines, line_of, of_receives, of_sends};
 
 use crate::cells::{Place, SlotTable};
 use crate::desk::Desk;
@@ -90,7 +92,7 @@ pub(crate) fn tell_all<T: Drop, W: Wake, B: Room, S: Waiting, R: Wait>(
     unreachable!()
 }
 
-/// Tells a receive that waits of a message that was put in, and all streams.
+/// Tells a receive that waits of a message that was put in, and all streams. The call may have a listener of a send in hand still.
 pub(crate) fn tell_of_message<T: Drop, W: Wake, B: Room, R: Wait>(
     rt: &R,
     table: &SlotTable<T, W>,
@@ -98,10 +100,49 @@ pub(crate) fn tell_of_message<T: Drop, W: Wake, B: Room, R: Wait>(
     call: Place<T, W>,
 ) -> Place<T, W>
     requires table { (table.now.shared.table_id ≡ B.table) × (0 < B.table.words) }
-    requires call { IsPass of_receives B.table call call.me.0.parts (calling 1 0 0) to_streams }
-    ensures idle { IsIdle B.table result call.me.0.parts }
+    requires call { IsPass of_receives B.table call call.me.0.parts (calling 1 0 0) (to_streams_holding call.me.0.calls.sends.holds) }
+    ensures told { IsPass of_sends B.table result call.me.0.parts (line_of 0 call.me.0.calls.sends.holds 0 0 0) idle_lines }
     ensures log { result.me.0.log ≡ call.me.0.log }
 {
     let call = tell(rt, table, desks.receives, call);
     tell_all(rt, table, desks.streams, call)
+}
+
+/// Tells everybody that the channel is closed: all sends that wait, then all receives, all streams, and all who wait for the closing
+/// alone.
+pub(crate) fn tell_of_closing<T: Drop, W: Wake, B: Room, R: Wait>(
+    rt: &R,
+    table: &SlotTable<T, W>,
+    desks: &Desks<T, W, B>,
+    call: Place<T, W>,
+) -> Place<T, W>
+    requires table { (table.now.shared.table_id ≡ B.table) × (0 < B.table.words) }
+    requires call { IsPass of_receives B.table call call.me.0.parts (telling 1) to_others }
+    ensures idle { IsIdle B.table result call.me.0.parts }
+    ensures log { result.me.0.log ≡ call.me.0.log }
+{
+    let call = tell_all(rt, table, desks.sends, call);
+    let call = tell_all(rt, table, desks.receives, call);
+    let call = tell_all(rt, table, desks.streams, call);
+    tell_all(rt, table, desks.closings, call)
+}
+
+/// A push found the channel closed: where it closed the channel itself, everybody is told.
+#[inline(always)]
+pub(crate) fn tell_of_end<T: Drop, W: Wake, B: Room, R: Wait>(
+    rt: &R,
+    table: &SlotTable<T, W>,
+    desks: &Desks<T, W, B>,
+    call: Place<T, W>,
+    ended: bool,
+) -> Place<T, W>
+    requires table { (table.now.shared.table_id ≡ B.table) × (0 < B.table.words) }
+    requires call { ClosedBy ended B.table call.me.0.parts call }
+    ensures told { IsCall of_sends B.table result call.me.0.parts 0 call.me.0.calls.sends.holds 0 }
+    ensures log { result.me.0.log ≡ call.me.0.log }
+{
+    if !ended {
+        return call;
+    }
+    tell_of_closing(rt, table, desks, call)
 }

@@ -2,8 +2,8 @@
 
 ghost use Rattle.std.specs.Prelude.{◌≡◌, ◌⊎◌, ◌+◌, ◌-◌, ◌<◌, is_some, IfErr, IfOk};
 ghost use Rattle.channel_wakeups.specs.Calls.{held};
-ghost use Rattle.channel_wakeups.specs.Seats.{IsCall};
-ghost use Rattle.channel_wakeups.specs.Views.{of};
+ghost use Rattle.channel_wakeups.specs.Seats.{IsCall, IsPass};
+ghost use Rattle.channel_wakeups.specs.Views.{of, idle_lines, line_of};
 
 use crate::cells::{Place, SlotTable};
 use crate::channel::Ticket;
@@ -25,8 +25,9 @@ pub(crate) fn take_off<T: Drop, W: Wake, B: Room, S: Waiting, R: Wait>(
     ticket: Ticket<T, W, B, S>,
 ) -> Place<T, W>
     requires table { (table.now.shared.table_id ≡ B.table) × (0 < B.table.words) }
-    requires call { IsCall S.side B.table call call.me.0.parts 0 (of S.side call.me.0.calls).holds 0 }
+    requires call { IsPass S.side B.table call call.me.0.parts (line_of 0 (of S.side call.me.0.calls).holds (of S.side call.me.0.calls).fresh 0 0) idle_lines }
     requires holds { ((of S.side call.me.0.calls).holds ≡ 0) ⊎ ((of S.side call.me.0.calls).holds ≡ ticket.key + 1) }
+    requires fresh { ((of S.side call.me.0.calls).fresh ≡ 0) ⊎ ((of S.side call.me.0.calls).fresh ≡ ticket.key + 1) }
     ensures idle { IsCall S.side B.table result (call.me.0.parts + 1) 0 0 0 }
     ensures log { result.me.0.log ≡ call.me.0.log }
 {

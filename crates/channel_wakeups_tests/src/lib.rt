@@ -5,6 +5,7 @@ ghost use Rattle.std.specs.Prelude.{◌≡◌, ◌<◌, IfSome, true, false};
 
 mod blocked;
 mod counted;
+mod ring;
 mod several;
 
 pub use blocked::{block_among, close_beside_a_blocked_send};
@@ -14,6 +15,7 @@ use channel_wakeups::{
 };
 use concurrent_queue::{ForcePushError, PushError};
 pub use counted::{let_all_go, let_two_go};
+pub use ring::{Turned, turn};
 pub use several::{Taken, take_several};
 use std::alloc::Global;
 use std::marker::Brand;

@@ -1,5 +1,5 @@
 use super::*;
-use channel_wakeups::{Blocked, Untaken};
+use channel_wakeups::{Blocked, Unopened, Untaken};
 use std::test::*;
 
 // Four threads: all that was sent came. Beside a message the last receive was told, and beside a free place the last send.
@@ -179,6 +179,39 @@ fn several_are_taken(rt: HostRuntime) {
         closed: [Ok((1, 8)), Err(Untaken::Closed)],
     };
     assert_eq!(rt; take_several(&rt, rt.alloc()), Some(expected));
+}
+
+// A ring of two places: it is filled, a message is displaced, and what is left comes in order after the close.
+#[test]
+fn a_ring_of_two_turns(rt: HostRuntime) {
+    let expected = Turned {
+        sent: [true, true, false, false],
+        first: Some(1),
+        displaced: Some(2),
+        left: [Some(5), Some(6), None, None],
+        closed: [true, false],
+    };
+    assert_eq!(rt; turn(&rt, rt.alloc(), 2), Ok(expected));
+}
+
+// The same of three places.
+#[test]
+fn a_ring_of_three_turns(rt: HostRuntime) {
+    let expected = Turned {
+        sent: [true, true, true, false],
+        first: Some(1),
+        displaced: Some(2),
+        left: [Some(3), Some(5), Some(6), None],
+        closed: [true, false],
+    };
+    assert_eq!(rt; turn(&rt, rt.alloc(), 3), Ok(expected));
+}
+
+// No ring has fewer places than two, nor more than 2^58.
+#[test]
+fn a_ring_has_two_places_at_least(rt: HostRuntime) {
+    assert_eq!(rt; turn(&rt, rt.alloc(), 1), Err(Unopened::TooFew));
+    assert_eq!(rt; turn(&rt, rt.alloc(), usize::MAX), Err(Unopened::TooMany));
 }
 
 // Whoever lets the last sender go closes the channel, and a receive that waits is told and ends.

@@ -1,5 +1,6 @@
 -- From the lemma of each step.
 use Rattle.channel_wakeups.proofs.RingBegins.{begins_ring}
+use Rattle.channel_wakeups.proofs.RingEnds.{ends_ring, asks_ring}
 use Rattle.channel_wakeups.proofs.RingForces.{shuts_ring, displaces_oldest, adds_tail, stores_brought}
 use Rattle.channel_wakeups.proofs.RingLooks.{sees_head, sees_stamp, sees_place, sees_tail, sees_full}
 use Rattle.channel_wakeups.proofs.RingMoves.{swaps_tail, looks_at_tail, swaps_head, stores_message, stores_place}
@@ -21,5 +22,7 @@ returns g c = record {
   pop_moves_head = λ slots n v one several parts id. swaps_head slots id v.parts n v.calls v.rolls v.log parts several one;
   pop_stores_stamp = λ slots n v several parts id. stores_place slots id v.parts n v.calls v.rolls v.log parts several;
   close_sets_mark = λ slots v several parts id. shuts_ring slots id v.parts v.calls v.rolls v.log parts several;
+  end_sets_mark = λ slots v in_hand several parts id. ends_ring slots id v.parts v.calls v.rolls v.log parts several in_hand;
+  ask_reads_tail = λ slots v several parts id. asks_ring slots id v.parts v.calls v.rolls v.log parts several;
   new_ring_holds = λ cap words slots two limit new. begins_ring cap two limit words slots new.size new.wide new.head new.senders new.receivers new.tail new.stamps new.empty;
 }

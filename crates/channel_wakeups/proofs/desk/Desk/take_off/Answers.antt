@@ -12,4 +12,4 @@ section-call-requires-clause-fair g c =
     let ls = (roll g.S.Waiting.side c.args.self.now.seat.me.0.rolls).listeners in
     let after : List (Listener g.row.W.Denot) → Type 0 = λ ms. Fair l ls idle ms in
     subst after (sym c.as_slice.ensures.value)
-    (off_from l ls c.args.self.now.listeners.items c.remove-task.new.listeners.items l.holds c.args.key c.args.self.now.tied c.requires.call.2.2 c.requires.holds r.gone r.fewer r.told (λ k. (r.listed k).1))
+    (off_from l ls c.args.self.now.listeners.items c.remove-task.new.listeners.items l.holds l.fresh c.args.key c.args.self.now.tied c.requires.call.2.2 c.requires.holds c.requires.fresh r.gone r.fewer r.told (λ k. (r.listed k).1))

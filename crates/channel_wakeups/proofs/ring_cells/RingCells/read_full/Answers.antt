@@ -1,0 +1,7 @@
+use Rattle.std.proofs.Common.{◌∙◌, ap, arith}
+use Rattle.concurrent_queue.specs.machine.RingWords.{ring_mark}
+use Rattle.channel_wakeups.proofs.RingStages.{reads_full}
+use Rattle.channel_wakeups.proofs.ring_cells.RingCells.read_full.Goals as goal
+
+pub load-found-requires : goal.load-found-requires
+load-found-requires g c = let s = c.args.self.now in (s.seated, omega (arith, s.wide), reads_full _ _ s.several s.limit s.displaces _ s.stage c.args.head c.requires s.tied)
