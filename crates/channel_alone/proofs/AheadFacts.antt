@@ -27,11 +27,11 @@ use Rattle.channel_calls.specs.Turns.{nothing_kept, says}
 use Rattle.channel_calls.specs.Walks.{ChannelMakes}
 use Rattle.channel_steps.specs.Count.{counted}
 use Rattle.channel_alone.specs.Run.{IsAtRest, AnswersAlone}
-use Rattle.channel_alone.specs.Scenes.{RunsInScenes}
+use Rattle.channel_alone.specs.Configurations.{RunsInConfigurations}
 use Rattle.channel_alone.specs.declared.run.Done.{Done}
 use Rattle.channel_alone.proofs.LoopFacts.{IsOnItsWay, plain_step, way_starts, way_nearer, way_more, way_ends}
 use Rattle.channel_alone.proofs.Order.{measure}
-use Rattle.channel_alone.proofs.SceneLoop.{IsBetween, scenes_start, scenes_more, scenes_end}
+use Rattle.channel_alone.proofs.ConfigurationLoop.{IsBetween, configurations_start, configurations_more, configurations_end}
 
 module _ {T W S : Type 0} (wakes : S → W → S → Type 0) (a : ChannelAsk T W) (c0 : PlainChannel T W) (sink0 : S) (messages0 : ℕ) where
   -- how far the call has come, with so many messages counted
@@ -44,7 +44,7 @@ module _ {T W S : Type 0} (wakes : S → W → S → Type 0) (a : ChannelAsk T W
   abbrev pub IsOver : Done T → PlainChannel T W → S → ℕ → Type 0
   IsOver done d l messages =
       AnswersAlone wakes a (parts_of c0) sink0 done (parts_of d) l
-      × RunsInScenes wakes a (parts_of c0) sink0 messages0 done (parts_of d) l messages
+      × RunsInConfigurations wakes a (parts_of c0) sink0 messages0 done (parts_of d) l messages
 
   -- one that tries first has asked the queue, and nothing more
   pub comes_in : (x : QueueAsk T) (aim : Aim T W) (call : QueueCall T) → first a ≡ Tries x aim → Starts call x
@@ -52,7 +52,7 @@ module _ {T W S : Type 0} (wakes : S → W → S → Type 0) (a : ChannelAsk T W
   comes_in x aim call tries starts =
       let begins : IsTaken (first a) None (Trying call aim) = rw tries (call, starts, refl, refl) in (
         way_starts wakes a (parts_of c0) sink0 (record { stage = Trying call aim; mark = Nothing }) (None, begins),
-        scenes_start wakes a (parts_of c0) sink0 messages0 (record { stage = Trying call aim; mark = Nothing }) (None, begins),
+        configurations_start wakes a (parts_of c0) sink0 messages0 (record { stage = Trying call aim; mark = Nothing }) (None, begins),
       )
 
   over_as : (done : Done T) (y : Reply T) (d : PlainChannel T W) (l : S) (n : ℕ) → done ≡ record { reply = y; kept = nothing_kept }
@@ -67,7 +67,7 @@ module _ {T W S : Type 0} (wakes : S → W → S → Type 0) (a : ChannelAsk T W
       comes_on =
           let step = plain_step wakes c d k l m next None stage made in (
             way_more wakes a (parts_of c0) sink0 (parts_of c) stage k x.0 (parts_of d) next m l step,
-            scenes_more wakes a (parts_of c0) sink0 messages0 (parts_of c) stage k messages x.1 (parts_of d) next m l n m refl count step,
+            configurations_more wakes a (parts_of c0) sink0 messages0 (parts_of c) stage k messages x.1 (parts_of d) next m l n m refl count step,
           )
 
       comes_nearer : IsAtRest (parts_of c0)
@@ -82,7 +82,7 @@ module _ {T W S : Type 0} (wakes : S → W → S → Type 0) (a : ChannelAsk T W
     comes_to y made =
         let step = plain_step wakes c d k l m next (Some y) stage made in (
           way_ends wakes a (parts_of c0) sink0 (parts_of c) stage k x.0 (parts_of d) next m l y step (kept_by next) refl,
-          scenes_end wakes a (parts_of c0) sink0 messages0 (parts_of c) stage k messages x.1 (parts_of d) next m l n m refl count
+          configurations_end wakes a (parts_of c0) sink0 messages0 (parts_of c) stage k messages x.1 (parts_of d) next m l n m refl count
               y step (kept_by next) refl,
         )
 

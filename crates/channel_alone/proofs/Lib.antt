@@ -8,6 +8,6 @@ pub mod WorkFacts
 pub mod FirstFacts
 pub mod AloneFacts
 pub mod LoopFacts
-pub mod SceneLoop
+pub mod ConfigurationLoop
 pub mod AmpleFacts
 pub mod AheadFacts

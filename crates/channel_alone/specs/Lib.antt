@@ -1,4 +1,4 @@
 pub mod Alone
 pub mod Run
-pub mod Scenes
+pub mod Configurations
 pub mod Ample

@@ -11,7 +11,7 @@ ghost use Rattle.channel_calls.specs.declared.ask.ChannelAsk.TheVariants as ask;
 ghost use Rattle.channel_calls.specs.declared.stage.Turn.TheVariants.{Ends};
 ghost use Rattle.channel_steps.specs.Count.{counted};
 ghost use Rattle.channel_alone.specs.Run.{IsAtRest, AnswersAlone};
-ghost use Rattle.channel_alone.specs.Scenes.{RunsInScenes};
+ghost use Rattle.channel_alone.specs.Configurations.{RunsInConfigurations};
 
 use crate::run::Done;
 use channel_calls::cells::ChannelCells;
@@ -88,7 +88,7 @@ pub(crate) fn send_alone<T: Drop, W: Drop, S: Wakes<W>>(
 ) -> Done<T>
     requires at_rest { IsAtRest (parts_of channel.old) }
     ensures alone { AnswersAlone S.wakes (ask.TrySend message) (parts_of channel.old) sink.old result (parts_of channel.new) sink.new }
-    ensures scenes { RunsInScenes S.wakes (ask.TrySend message) (parts_of channel.old) sink.old messages.old
+    ensures configurations { RunsInConfigurations S.wakes (ask.TrySend message) (parts_of channel.old) sink.old messages.old
         result (parts_of channel.new) sink.new messages.new }
 {
     let mut call = QueueCall::push(message);
@@ -114,7 +114,7 @@ pub(crate) fn receive_alone<T: Drop, W: Drop, S: Wakes<W>>(
 ) -> Done<T>
     requires at_rest { IsAtRest (parts_of channel.old) }
     ensures alone { AnswersAlone S.wakes ask.TryRecv (parts_of channel.old) sink.old result (parts_of channel.new) sink.new }
-    ensures scenes { RunsInScenes S.wakes ask.TryRecv (parts_of channel.old) sink.old messages.old
+    ensures configurations { RunsInConfigurations S.wakes ask.TryRecv (parts_of channel.old) sink.old messages.old
         result (parts_of channel.new) sink.new messages.new }
 {
     let mut call = QueueCall::pop();

@@ -4,7 +4,7 @@ ghost use Rattle.std.specs.Prelude.{◌≡◌, false};
 ghost use Rattle.channel_calls.specs.Plain.{parts_of};
 ghost use Rattle.channel_alone.specs.Ample.{lacks_memory, HasNode};
 ghost use Rattle.channel_alone.specs.Run.{IsAtRest, AnswersAlone};
-ghost use Rattle.channel_alone.specs.Scenes.{RunsInScenes};
+ghost use Rattle.channel_alone.specs.Configurations.{RunsInConfigurations};
 
 use crate::ahead::{receive_alone, send_alone};
 use channel_calls::ask::ChannelAsk;
@@ -33,7 +33,7 @@ fn step_alone<T: Drop, W: Drop, S: Wakes<W>>(
 ) -> Done<T>
     requires at_rest { IsAtRest (parts_of channel.old) }
     ensures alone { AnswersAlone S.wakes ask (parts_of channel.old) sink.old result (parts_of channel.new) sink.new }
-    ensures scenes { RunsInScenes S.wakes ask (parts_of channel.old) sink.old messages.old
+    ensures configurations { RunsInConfigurations S.wakes ask (parts_of channel.old) sink.old messages.old
         result (parts_of channel.new) sink.new messages.new }
     ensures ample { HasNode ask (parts_of channel.old) → lacks_memory result.reply ≡ false }
 {
@@ -58,7 +58,7 @@ fn step_alone<T: Drop, W: Drop, S: Wakes<W>>(
 /// A poll that holds a listener wants no memory: where that one was told and there is still cause to wait, the node that it leaves
 /// serves the next listener. What can still be refused to it is a serial number, once all 2^64 - 1 of its list were given.
 ///
-/// Its steps lead from scene to scene, as those of one party where no other is at work. Own to this project.
+/// Its steps lead from configuration to configuration, as those of one party where no other is at work. Own to this project.
 pub fn run_alone<T: Drop, W: Drop, S: Wakes<W>>(
     ask: ChannelAsk<T, W>,
     channel: &mut PlainChannel<T, W>,
@@ -67,7 +67,7 @@ pub fn run_alone<T: Drop, W: Drop, S: Wakes<W>>(
 ) -> Done<T>
     requires at_rest { IsAtRest (parts_of channel.old) }
     ensures alone { AnswersAlone S.wakes ask (parts_of channel.old) sink.old result (parts_of channel.new) sink.new }
-    ensures scenes { RunsInScenes S.wakes ask (parts_of channel.old) sink.old messages.old
+    ensures configurations { RunsInConfigurations S.wakes ask (parts_of channel.old) sink.old messages.old
         result (parts_of channel.new) sink.new messages.new }
     ensures ample { HasNode ask (parts_of channel.old) → lacks_memory result.reply ≡ false }
 {

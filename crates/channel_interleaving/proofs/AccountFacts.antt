@@ -2,15 +2,15 @@
 use Rattle.std.proofs.Common.{◌≡◌, List, [], ◌++◌, sym, ap, ◌∙◌, append-nil, append_assoc}
 use Rattle.channel_calls.specs.Moves.{Channel}
 use Rattle.channel_model.specs.declared.name.Waiter.{Waiter}
-use Rattle.channel_steps.specs.Run.{Accounts, IsRun, Next, NextScene}
-use Rattle.channel_steps.specs.Scene.{Scene, gone_by, came_by}
+use Rattle.channel_steps.specs.Run.{Accounts, IsRun, Next, NextConfiguration}
+use Rattle.channel_steps.specs.Configuration.{Configuration, gone_by, came_by}
 use Rattle.channel_steps.specs.declared.party.Entry.{Entry as ChannelEntry}
 use Rattle.channel_steps.specs.declared.run.Step.{Step as ChannelStep}
 use Rattle.channel_steps.specs.declared.run.Step.TheVariants as step
 use Rattle.channel_steps.proofs.Interface.{run_keeps}
 
 module _ {T : Type 0} where
-  pub no_accounts : (s : Scene T Waiter) → Accounts s s
+  pub no_accounts : (s : Configuration T Waiter) → Accounts s s
   no_accounts s = record {
     out = [];
     into = [];
@@ -20,7 +20,7 @@ module _ {T : Type 0} where
   }
 
   -- two accounts, one after the other
-  both : (s m t : Scene T Waiter) (out into : List T) → Accounts s m → t.gone ≡ m.gone ++ out → t.came ≡ m.came ++ into
+  both : (s m t : Configuration T Waiter) (out into : List T) → Accounts s m → t.gone ≡ m.gone ++ out → t.came ≡ m.came ++ into
       → out ++ t.now.queue.items ≡ m.now.queue.items ++ into → Accounts s t
   both s m t out into h e f k =
       record {
@@ -34,11 +34,11 @@ module _ {T : Type 0} where
             ∙ (ap (λ (vs : List T). vs ++ into) h.held ∙ append_assoc s.now.queue.items h.into into)));
       }
 
-  pub accounts_both : (s m t : Scene T Waiter) → Accounts s m → Accounts m t → Accounts s t
+  pub accounts_both : (s m t : Configuration T Waiter) → Accounts s m → Accounts m t → Accounts s t
   accounts_both s m t h k = both s m t k.out k.into h k.gone k.came k.held
 
   -- a step
-  pub next_accounts : (s m t : Scene T Waiter) (x : ChannelStep T Waiter) (e : ChannelEntry T) (names : List Waiter) → Accounts s m
+  pub next_accounts : (s m t : Configuration T Waiter) (x : ChannelStep T Waiter) (e : ChannelEntry T) (names : List Waiter) → Accounts s m
       → Next m x e names t → Accounts s t
   next_accounts s m t (step.Begin p a) e names h n =
       both s m t [] [] h (n.0.gone ∙ sym (append-nil m.gone)) (n.0.came ∙ sym (append-nil m.came))
@@ -47,7 +47,7 @@ module _ {T : Type 0} where
       both s m t (gone_by e.mark m.now.queue.items) (came_by e.mark n.mine.ask) h n.gone n.came n.held
 
   -- a run
-  pub run_accounts : (s t : Scene T Waiter) (xs : List (ChannelStep T Waiter)) (es : List (ChannelEntry T)) → IsRun NextScene s xs es t
+  pub run_accounts : (s t : Configuration T Waiter) (xs : List (ChannelStep T Waiter)) (es : List (ChannelEntry T)) → IsRun NextConfiguration s xs es t
       → Accounts s t
   run_accounts s t xs es run =
-      run_keeps NextScene (λ u. Accounts s u) (λ a x e b n h. next_accounts s a b x e n.0 h n.1) s xs es t run (no_accounts s)
+      run_keeps NextConfiguration (λ u. Accounts s u) (λ a x e b n h. next_accounts s a b x e n.0 h n.1) s xs es t run (no_accounts s)

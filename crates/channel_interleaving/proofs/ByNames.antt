@@ -1,4 +1,4 @@
--- Steps of a merge, as steps by names: which may be taken, and what the book is after them.
+-- Steps of a merge, as steps by names: which may be taken, and what the name state is after them.
 use Rattle.std.proofs.Common.{◌≡◌, ℕ, nat_eq, Bool, true, false, if◌then◌else◌, ◌||◌, arith, List, [], ◌∷◌, ◌++◌, length, slice_get, Option, None, Some, refl, sym, ap, ◌∙◌, subst}
 use Rattle.std.proofs.lemmas.Bool.Decides.{nat_tests}
 use Rattle.channel_laws.specs.Ends.{Each, IsIdle}
@@ -6,13 +6,13 @@ use Rattle.channel_model.specs.declared.call.Call.{Call}
 use Rattle.channel_model.specs.declared.name.Waiter.{Waiter}
 use Rattle.channel_model.specs.declared.refusal.WorldRefusal.{WorldRefusal}
 use Rattle.channel_model.specs.declared.refusal.WorldRefusal.TheVariants.{Busy, Idle}
-use Rattle.channel_steps.specs.Scene.{Under, Scene, Steps}
+use Rattle.channel_steps.specs.Configuration.{ActiveCall, Configuration, Steps}
 use Rattle.channel_steps.specs.declared.party.Entry.{Entry as ChannelEntry}
 use Rattle.channel_interleaving.specs.Kept.{NamesKept}
-use Rattle.channel_interleaving.specs.Owners.{Post, post, Together}
+use Rattle.channel_interleaving.specs.Owners.{NameStatus, status, Together}
 use Rattle.channel_interleaving.specs.Refusal.{begin_refusal, step_refusal}
-use Rattle.channel_interleaving.specs.Roll.{is_at_work}
-use Rattle.channel_interleaving.specs.Run.{Book, IsBookOf, book_ended, with_woken}
+use Rattle.channel_interleaving.specs.NameTable.{is_at_work}
+use Rattle.channel_interleaving.specs.Run.{NameState, IsNameStateOf, name_state_ended, with_woken}
 use Rattle.channel_interleaving.specs.declared.names.Agent.{Agent}
 use Rattle.channel_interleaving.specs.declared.step.PartyId.{PartyId}
 use Rattle.channel_interleaving.specs.declared.step.Step.TheVariants as step
@@ -35,20 +35,20 @@ module _ {T : Type 0} where
   -- ---- a begin
 
   -- a party that has no call under way is not at work
-  not_at_work : (posts : Waiter → Post) (p : ℕ) (agents : List (Agent T)) (us : List (Under T Waiter)) → Together posts agents us
-      → Each (λ (u : Under T Waiter). u.party ≡ p → ⊥) us → is_at_work p agents ≡ false
-  not_at_work posts p [] [] t idle = refl
-  not_at_work posts p (a ∷ more) (u ∷ us) t idle =
+  not_at_work : (statuses : Waiter → NameStatus) (p : ℕ) (agents : List (Agent T)) (us : List (ActiveCall T Waiter)) → Together statuses agents us
+      → Each (λ (u : ActiveCall T Waiter). u.party ≡ p → ⊥) us → is_at_work p agents ≡ false
+  not_at_work statuses p [] [] t idle = refl
+  not_at_work statuses p (a ∷ more) (u ∷ us) t idle =
       ap (λ (b : Bool). b || is_at_work p more) (other a.party p (λ e. idle.0 (sym t.0.party ∙ e)))
-      ∙ not_at_work posts p more us t.1 idle.1
-  not_at_work posts p [] (u ∷ us) t idle = absurd t
-  not_at_work posts p (a ∷ more) [] t idle = absurd t
+      ∙ not_at_work statuses p more us t.1 idle.1
+  not_at_work statuses p [] (u ∷ us) t idle = absurd t
+  not_at_work statuses p (a ∷ more) [] t idle = absurd t
 
   -- it may begin a call that nothing refuses
-  pub may_begin : (b : Book T) (s : Scene T Waiter) (q : PartyId) (c : Call T) → NamesKept b s → IsIdle q.0 s → begin_refusal b.roll c ≡ None
-      → step_refusal b.roll b.agents (step.Begin q c) ≡ None
+  pub may_begin : (b : NameState T) (s : Configuration T Waiter) (q : PartyId) (c : Call T) → NamesKept b s → IsIdle q.0 s → begin_refusal b.name_table c ≡ None
+      → step_refusal b.name_table b.agents (step.Begin q c) ≡ None
   may_begin b s q c k idle free =
-      ap (λ (x : Bool). if x then Some Busy else begin_refusal b.roll c) (not_at_work (post b.roll) q.0 b.agents s.under_way k.owned.together idle)
+      ap (λ (x : Bool). if x then Some Busy else begin_refusal b.name_table c) (not_at_work (status b.name_table) q.0 b.agents s.under_way k.owned.together idle)
       ∙ free
 
   -- ---- a step
@@ -61,17 +61,17 @@ module _ {T : Type 0} where
   found [] a back = refl
   found (b ∷ front) a back = found front a back
 
-  -- a step of a call under way is one of a party at work, and has a book after it
-  pub record MayStep (b : Book T) (q : PartyId) (e : ChannelEntry T) (names : List Waiter) : Type 0 where
-    pub accepted : step_refusal b.roll b.agents (step.Step q) ≡ None
-    pub after : Book T
-    pub book : IsBookOf (step.Step q) e.reply e.kept names b after
+  -- a step of a call under way is one of a party at work, and has a name state after it
+  pub record MayStep (b : NameState T) (q : PartyId) (e : ChannelEntry T) (names : List Waiter) : Type 0 where
+    pub accepted : step_refusal b.name_table b.agents (step.Step q) ≡ None
+    pub after : NameState T
+    pub name_state : IsNameStateOf (step.Step q) e.reply e.kept names b after
 
-  pub may_step : (b : Book T) (s t : Scene T Waiter) (q : PartyId) (e : ChannelEntry T) (names : List Waiter) → NamesKept b s
+  pub may_step : (b : NameState T) (s t : Configuration T Waiter) (q : PartyId) (e : ChannelEntry T) (names : List Waiter) → NamesKept b s
       → Steps s q.0 e names t → MayStep b q e names
   may_step b s t q e names k st =
-      let together = subst (λ (us : List (Under T Waiter)). Together (post b.roll) b.agents us) st.there k.owned.together in
-      let pt : Parted (post b.roll) b.agents st.before st.mine st.behind = parted (post b.roll) b.agents st.before st.mine st.behind together in
+      let together = subst (λ (us : List (ActiveCall T Waiter)). Together (status b.name_table) b.agents us) st.there k.owned.together in
+      let pt : Parted (status b.name_table) b.agents st.before st.mine st.behind = parted (status b.name_table) b.agents st.before st.mine st.behind together in
       let his : pt.agent.party ≡ q.0 = pt.own.party ∙ st.whose in
       let works : is_at_work q.0 b.agents ≡ true =
       ap (λ (l : List (Agent T)). is_at_work q.0 l) pt.are ∙ at_work pt.front pt.agent pt.back q.0 his in
@@ -79,6 +79,6 @@ module _ {T : Type 0} where
       ap (λ (l : List (Agent T)). slice_get l (length pt.front)) pt.are ∙ found pt.front pt.agent pt.back in
       record {
         accepted = ap (λ (x : Bool). let r : Option WorldRefusal = (if x then None else Some Idle) in r) works;
-        after = book_ended (length pt.front) pt.agent e.reply e.kept (with_woken names b);
-        book = (length pt.front, pt.agent, there, his, refl);
+        after = name_state_ended (length pt.front) pt.agent e.reply e.kept (with_woken names b);
+        name_state = (length pt.front, pt.agent, there, his, refl);
       }

@@ -30,15 +30,15 @@ use Rattle.channel_model.specs.declared.name.HandleKind.TheVariants as handle_ki
 use Rattle.channel_model.specs.declared.name.OpId.{OpId}
 use Rattle.channel_model.specs.declared.name.Waiter.{Waiter}
 use Rattle.channel_interleaving.specs.AskedBy.{listening_first, IsOrListens}
-use Rattle.channel_interleaving.specs.Bookkeeping.{asks, errand_of, names_begun, lent_by, leave_handle_of, new_from, operation_named, handle_named}
+use Rattle.channel_interleaving.specs.Bookkeeping.{asks, on_return_of, names_begun, lent_by, leave_handle_of, new_from, operation_named, handle_named}
 use Rattle.channel_interleaving.specs.Counted.{is_strong, strong_lives, live_on, same_side, is_lowering, is_raising, makes_strong}
-use Rattle.channel_interleaving.specs.Roll.{operation_at, held_of, with_lent, with_borrowed, with_standing}
-use Rattle.channel_interleaving.specs.declared.names.Errand.{Errand}
-use Rattle.channel_interleaving.specs.declared.names.Hold.{Hold}
+use Rattle.channel_interleaving.specs.NameTable.{operation_at, held_of, with_lent, with_borrowed, with_poll_state}
+use Rattle.channel_interleaving.specs.declared.names.OnReturn.{OnReturn}
+use Rattle.channel_interleaving.specs.declared.names.HandleEntry.{HandleEntry}
 use Rattle.channel_interleaving.specs.declared.names.Operation.{Operation}
-use Rattle.channel_interleaving.specs.declared.names.Standing.TheVariants.{IsPolled}
-use Rattle.channel_interleaving.specs.declared.roll.Roll.{Roll}
-use Rattle.channel_interleaving.proofs.CountNames.{bit, without_live, spent_live, lent_live, borrowed_live, handed_over_live, standing_live}
+use Rattle.channel_interleaving.specs.declared.names.PollState.TheVariants.{IsPolled}
+use Rattle.channel_interleaving.specs.declared.name_table.NameTable.{NameTable}
+use Rattle.channel_interleaving.proofs.CountNames.{bit, without_live, spent_live, lent_live, borrowed_live, handed_over_live, poll_state_live}
 
 -- ---- what is asked
 
@@ -171,8 +171,8 @@ module _ (T : Type 0) where
   drop_kind Receivers held handle handle_kind.WeakSender n = (refl, refl)
   drop_kind Receivers held handle handle_kind.WeakReceiver n = (refl, refl)
 
-  drop_lowers : (side : Side) (held : KeysHeld) (handle : HandleId) (o : Option Hold)
-      → (let a : ChannelAsk T Waiter = drop_asked held handle (option_map (λ (h : Hold). h.handle) o) in
+  drop_lowers : (side : Side) (held : KeysHeld) (handle : HandleId) (o : Option HandleEntry)
+      → (let a : ChannelAsk T Waiter = drop_asked held handle (option_map (λ (h : HandleEntry). h.handle) o) in
       (asks_lowering side a ≡ strong_lives side o) × (asks_raising side a ≡ false))
   drop_lowers side held handle None = (refl, refl)
   drop_lowers side held handle (Some h) = drop_kind side held handle h.handle.kind h.handle.borrowers
@@ -204,12 +204,12 @@ module _ (T : Type 0) where
   upgrade_kind Receivers handle_kind.WeakReceiver n = (refl, refl)
 
   -- what a call that begins does, and what it is to do
-  abbrev pub BeginsSo : Side → Roll T → Call T → Type 0
+  abbrev pub BeginsSo : Side → NameTable T → Call T → Type 0
   BeginsSo side r c =
       (live_on side (names_begun r c).handles + bit (asks_lowering side (asks r c)) ≡ live_on side r.handles)
-      × (makes_strong side (errand_of r c) ≡ asks_raising side (asks r c))
+      × (makes_strong side (on_return_of r c) ≡ asks_raising side (asks r c))
 
-  module _ (side : Side) (r : Roll T) where
+  module _ (side : Side) (r : NameTable T) where
     -- a handle is used by one more
     lent : (handle : HandleId) → live_on side (with_lent handle r).handles + 0 ≡ live_on side r.handles
     lent handle = let same = lent_live side handle r in omega (arith, same)
@@ -231,24 +231,24 @@ module _ (T : Type 0) where
     lent_by_live None = refl
     lent_by_live (Some o) = lent_live side o.handle r
 
-    leaves_aside : (o : Option (Operation T)) → (let e : Errand T = leave_handle_of o in makes_strong side e ≡ false)
+    leaves_aside : (o : Option (Operation T)) → (let e : OnReturn T = leave_handle_of o in makes_strong side e ≡ false)
     leaves_aside None = refl
     leaves_aside (Some o) = refl
 
-    cloned : (handle new : HandleId) (o : Option Hold)
-        → (let x : Option Handle = option_map (λ (h : Hold). h.handle) o in let e : Errand T = new_from handle new (λ k. k) x in
+    cloned : (handle new : HandleId) (o : Option HandleEntry)
+        → (let x : Option Handle = option_map (λ (h : HandleEntry). h.handle) o in let e : OnReturn T = new_from handle new (λ k. k) x in
         let a : ChannelAsk T Waiter = clone_asked x in (asks_lowering side a ≡ false) × (makes_strong side e ≡ asks_raising side a))
     cloned handle new None = (refl, refl)
     cloned handle new (Some h) = clone_kind side h.handle.kind h.handle.borrowers
 
-    upgraded : (handle new : HandleId) (o : Option Hold)
-        → (let x : Option Handle = option_map (λ (h : Hold). h.handle) o in let e : Errand T = new_from handle new strong_of x in
+    upgraded : (handle new : HandleId) (o : Option HandleEntry)
+        → (let x : Option Handle = option_map (λ (h : HandleEntry). h.handle) o in let e : OnReturn T = new_from handle new strong_of x in
         let a : ChannelAsk T Waiter = upgrade_asked x in (asks_lowering side a ≡ false) × (makes_strong side e ≡ asks_raising side a))
     upgraded handle new None = (refl, refl)
     upgraded handle new (Some h) = upgrade_kind side h.handle.kind h.handle.borrowers
 
-    downgraded : (handle new : HandleId) (o : Option Hold)
-        → (let x : Option Handle = option_map (λ (h : Hold). h.handle) o in let e : Errand T = new_from handle new weak_of x in
+    downgraded : (handle new : HandleId) (o : Option HandleEntry)
+        → (let x : Option Handle = option_map (λ (h : HandleEntry). h.handle) o in let e : OnReturn T = new_from handle new weak_of x in
         makes_strong side e ≡ false)
     downgraded handle new None = refl
     downgraded handle new (Some h) = weak_strong side h.handle.kind
@@ -271,8 +271,8 @@ module _ (T : Type 0) where
         let same = lent_by_live (at op.0 r.operations) in
         (omega (arith, same), leaves_aside (at op.0 r.operations))
     begins_so (call.PollNext receiver) =
-        let stands = standing_live side (IsPolled false) receiver r in
-        let used = lent_live side receiver (with_standing (IsPolled false) receiver r) in
+        let stands = poll_state_live side (IsPolled false) receiver r in
+        let used = lent_live side receiver (with_poll_state (IsPolled false) receiver r) in
         (omega (arith, stands, used), refl)
     begins_so (call.StreamIsTerminated receiver) = (lent receiver, refl)
     begins_so (call.TrySend sender msg) = (lent sender, refl)

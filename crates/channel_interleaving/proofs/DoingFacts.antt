@@ -12,7 +12,7 @@ use Rattle.channel_steps.proofs.Interface.{messages_moved}
 use Rattle.channel_steps.specs.Count.{taken_out}
 use Rattle.channel_steps.specs.Moments.{MarkedMoment, with_marked}
 use Rattle.channel_steps.specs.Run.{Begins, call_begun}
-use Rattle.channel_steps.specs.Scene.{Under, Scene, Steps, IsBalanced, sees, does, unless_ended}
+use Rattle.channel_steps.specs.Configuration.{ActiveCall, Configuration, Steps, IsBalanced, sees, does, unless_ended}
 use Rattle.channel_steps.specs.Tellings.{takings, with_taking}
 use Rattle.channel_steps.specs.declared.party.Entry.{Entry}
 use Rattle.concurrent_queue.specs.Queue.{Phase}
@@ -124,7 +124,7 @@ module _ {T W : Type 0} where
   close_by ds mark.ReceiverUp c seen = close_more ds (record { mark = mark.ReceiverUp; before = c; seen = seen })
   close_by ds mark.ReceiverDown c seen = close_more ds (record { mark = mark.ReceiverDown; before = c; seen = seen })
 
-  does_noted : (u : Under T W) (at : Stage (Phase T) T W) (m : Mark) (c d : Channel T W)
+  does_noted : (u : ActiveCall T W) (at : Stage (Phase T) T W) (m : Mark) (c d : Channel T W)
       → doing_after m (doing_of u) ≡ doing_of (does u at m c d)
   does_noted u at m c d =
       noted_so (role_of u.ask) (any_close u.marks) (takings u.marks) m
@@ -132,38 +132,38 @@ module _ {T W : Type 0} where
       (ap (λ (n : ℕ). at_most n) (sym (takings_by u.marks m c u.seen)))
 
   -- others only see a step
-  seen_same : (c : Channel T W) (us : List (Under T W)) → map doing_of (map (sees c) us) ≡ map doing_of us
+  seen_same : (c : Channel T W) (us : List (ActiveCall T W)) → map doing_of (map (sees c) us) ≡ map doing_of us
   seen_same c [] = refl
   seen_same c (u ∷ us) = ap (λ (ds : List Doing). doing_of u ∷ ds) (seen_same c us)
 
 module _ {T : Type 0} where
   -- none has taken more than were removed
-  abbrev pub TookFew : ℕ → Under T Waiter → Type 0
+  abbrev pub TookFew : ℕ → ActiveCall T Waiter → Type 0
   TookFew n u = takings u.marks ≤ n
 
-  few_seen : (c : Channel T Waiter) (n k : ℕ) (us : List (Under T Waiter)) → n ≤ k → All (TookFew n) us → All (TookFew k) (map (sees c) us)
+  few_seen : (c : Channel T Waiter) (n k : ℕ) (us : List (ActiveCall T Waiter)) → n ≤ k → All (TookFew n) us → All (TookFew k) (map (sees c) us)
   few_seen c n k [] more h = tt
   few_seen c n k (u ∷ us) more h = let own = h.0 in (omega (arith, own, more), few_seen c n k us more h.1)
 
   -- ---- a call begins
 
-  pub begun_noted : (s : Scene T Waiter) (p : ℕ) (a : ChannelAsk T Waiter) (e : Entry T) (t : Scene T Waiter) (doings : List Doing)
+  pub begun_noted : (s : Configuration T Waiter) (p : ℕ) (a : ChannelAsk T Waiter) (e : Entry T) (t : Configuration T Waiter) (doings : List Doing)
       → Begins s p a e t → doings ≡ map doing_of s.under_way → doings ++ (doing_begun a ∷ []) ≡ map doing_of t.under_way
   begun_noted s p a e t doings b same =
       ap (λ (ds : List Doing). ds ++ (doing_begun a ∷ [])) same
-      ∙ (sym (map_both doing_of s.under_way (call_begun p a b.at s.now ∷ [])) ∙ ap (λ (us : List (Under T Waiter)). map doing_of us) (sym b.under_way))
+      ∙ (sym (map_both doing_of s.under_way (call_begun p a b.at s.now ∷ [])) ∙ ap (λ (us : List (ActiveCall T Waiter)). map doing_of us) (sym b.under_way))
 
-  pub begun_few : (s : Scene T Waiter) (p : ℕ) (a : ChannelAsk T Waiter) (e : Entry T) (t : Scene T Waiter) → Begins s p a e t
+  pub begun_few : (s : Configuration T Waiter) (p : ℕ) (a : ChannelAsk T Waiter) (e : Entry T) (t : Configuration T Waiter) → Begins s p a e t
       → All (TookFew s.now.queue.removed) s.under_way → All (TookFew t.now.queue.removed) t.under_way
   begun_few s p a e t b h =
       let all = all_join (TookFew s.now.queue.removed) s.under_way (call_begun p a b.at s.now ∷ []) h (omega arith, tt) in
-      subst (λ (us : List (Under T Waiter)). All (TookFew t.now.queue.removed) us) (sym b.under_way)
+      subst (λ (us : List (ActiveCall T Waiter)). All (TookFew t.now.queue.removed) us) (sym b.under_way)
       (subst (λ (c : Channel T Waiter). All (TookFew c.queue.removed) (s.under_way ++ (call_begun p a b.at s.now ∷ []))) (sym b.now) all)
 
   -- ---- a call makes a step
 
   -- so many are removed by it
-  removed_by : (s : Scene T Waiter) (p : ℕ) (e : Entry T) (names : List Waiter) (t : Scene T Waiter) → Steps s p e names t
+  removed_by : (s : Configuration T Waiter) (p : ℕ) (e : Entry T) (names : List Waiter) (t : Configuration T Waiter) → Steps s p e names t
       → IsBalanced s.now.queue → IsBalanced t.now.queue → t.now.queue.removed ≡ s.now.queue.removed + taken_out e.mark
   removed_by s p e names t n a b =
       let moved = messages_moved s p e names t n a b in
@@ -172,51 +172,51 @@ module _ {T : Type 0} where
       omega (arith, moved, came, a, b)
 
   -- it may have taken one more
-  took_one : (u : Under T Waiter) (at : Stage (Phase T) T Waiter) (m : Mark) (c d : Channel T Waiter) (n k : ℕ) → TookFew n u
+  took_one : (u : ActiveCall T Waiter) (at : Stage (Phase T) T Waiter) (m : Mark) (c d : Channel T Waiter) (n k : ℕ) → TookFew n u
       → k ≡ n + taken_out m → TookFew k (does u at m c d)
   took_one u at m c d n k few more =
       let now = takings_by u.marks m c u.seen in
       let one = taking_out m in
       omega (arith, now, one, few, more)
 
-  took_unless : (u : Under T Waiter) (r : Option (Reply T)) (n : ℕ) → TookFew n u → All (TookFew n) (unless_ended u r)
+  took_unless : (u : ActiveCall T Waiter) (r : Option (Reply T)) (n : ℕ) → TookFew n u → All (TookFew n) (unless_ended u r)
   took_unless u None n h = (h, tt)
   took_unless u (Some r) n h = tt
 
-  pub stepped_few : (s : Scene T Waiter) (p : ℕ) (e : Entry T) (names : List Waiter) (t : Scene T Waiter) → Steps s p e names t
+  pub stepped_few : (s : Configuration T Waiter) (p : ℕ) (e : Entry T) (names : List Waiter) (t : Configuration T Waiter) → Steps s p e names t
       → IsBalanced s.now.queue → IsBalanced t.now.queue → All (TookFew s.now.queue.removed) s.under_way
       → All (TookFew t.now.queue.removed) t.under_way
   stepped_few s p e names t n a b h =
       let k : ℕ = t.now.queue.removed in
       let more = removed_by s p e names t n a b in
       let grown : s.now.queue.removed ≤ k = omega (arith, more) in
-      let all = subst (λ (us : List (Under T Waiter)). All (TookFew s.now.queue.removed) us) n.there h in
+      let all = subst (λ (us : List (ActiveCall T Waiter)). All (TookFew s.now.queue.removed) us) n.there h in
       let right = all_right (TookFew s.now.queue.removed) n.before (n.mine ∷ n.behind) all in
       let own = took_unless (does n.mine n.at_now e.mark s.now t.now) e.reply k
       (took_one n.mine n.at_now e.mark s.now t.now s.now.queue.removed k right.0 more) in
       let before = few_seen t.now s.now.queue.removed k n.before grown (all_left (TookFew s.now.queue.removed) n.before (n.mine ∷ n.behind) all) in
       let behind = few_seen t.now s.now.queue.removed k n.behind grown right.1 in
-      subst (λ (us : List (Under T Waiter)). All (TookFew k) us) (sym n.left)
+      subst (λ (us : List (ActiveCall T Waiter)). All (TookFew k) us) (sym n.left)
       (all_join (TookFew k) (map (sees t.now) n.before) _ before
       (all_join (TookFew k) (unless_ended (does n.mine n.at_now e.mark s.now t.now) e.reply) (map (sees t.now) n.behind) own behind))
 
-  now_is : (s : Scene T Waiter) (p : ℕ) (e : Entry T) (names : List Waiter) (t : Scene T Waiter) (n : Steps s p e names t)
+  now_is : (s : Configuration T Waiter) (p : ℕ) (e : Entry T) (names : List Waiter) (t : Configuration T Waiter) (n : Steps s p e names t)
       → map doing_of t.under_way
       ≡ map doing_of n.before ++ (map doing_of (unless_ended (does n.mine n.at_now e.mark s.now t.now) e.reply) ++ map doing_of n.behind)
   now_is s p e names t n =
       let own = unless_ended (does n.mine n.at_now e.mark s.now t.now) e.reply in
-      ap (λ (us : List (Under T Waiter)). map doing_of us) n.left
+      ap (λ (us : List (ActiveCall T Waiter)). map doing_of us) n.left
       ∙ (map_both doing_of (map (sees t.now) n.before) (own ++ map (sees t.now) n.behind)
       ∙ (ap (λ (ds : List Doing). ds ++ map doing_of (own ++ map (sees t.now) n.behind)) (seen_same t.now n.before)
       ∙ ap (λ (ds : List Doing). map doing_of n.before ++ ds)
       (map_both doing_of own (map (sees t.now) n.behind) ∙ ap (λ (ds : List Doing). map doing_of own ++ ds) (seen_same t.now n.behind))))
 
-  was : (s : Scene T Waiter) (p : ℕ) (e : Entry T) (names : List Waiter) (t : Scene T Waiter) (n : Steps s p e names t)
+  was : (s : Configuration T Waiter) (p : ℕ) (e : Entry T) (names : List Waiter) (t : Configuration T Waiter) (n : Steps s p e names t)
       → map doing_of s.under_way ≡ map doing_of n.before ++ (doing_of n.mine ∷ map doing_of n.behind)
   was s p e names t n =
-      ap (λ (us : List (Under T Waiter)). map doing_of us) n.there ∙ map_both doing_of n.before (n.mine ∷ n.behind)
+      ap (λ (us : List (ActiveCall T Waiter)). map doing_of us) n.there ∙ map_both doing_of n.before (n.mine ∷ n.behind)
 
-  pub stepped_at : (s : Scene T Waiter) (p : ℕ) (e : Entry T) (names : List Waiter) (t : Scene T Waiter) (n : Steps s p e names t) (k : ℕ)
+  pub stepped_at : (s : Configuration T Waiter) (p : ℕ) (e : Entry T) (names : List Waiter) (t : Configuration T Waiter) (n : Steps s p e names t) (k : ℕ)
       → length n.before ≡ k → slice_get (map doing_of s.under_way) k ≡ Some (doing_of n.mine)
   stepped_at s p e names t n k place =
       let long = map_long doing_of n.before in
@@ -224,14 +224,14 @@ module _ {T : Type 0} where
       ∙ (ap (λ (i : ℕ). slice_get (map doing_of n.before ++ (doing_of n.mine ∷ map doing_of n.behind)) i) (sym (long ∙ place))
       ∙ there (map doing_of n.before) (doing_of n.mine) (map doing_of n.behind))
 
-  noted_parts : (before : List Doing) (d d' : Doing) (behind : List Doing) (m : Mark) (r : Option (Reply T)) (u : Under T Waiter)
+  noted_parts : (before : List Doing) (d d' : Doing) (behind : List Doing) (m : Mark) (r : Option (Reply T)) (u : ActiveCall T Waiter)
       → doing_after m d ≡ d' → doing_of u ≡ d'
       → noted (length before) d m r (before ++ (d ∷ behind)) ≡ before ++ (map doing_of (unless_ended u r) ++ behind)
   noted_parts before d d' behind m None u e f =
       set_there before d behind (doing_after m d) ∙ ap (λ (x : Doing). before ++ (x ∷ behind)) (e ∙ sym f)
   noted_parts before d d' behind m (Some r) u e f = remove_there before d behind
 
-  pub stepped_noted : (s : Scene T Waiter) (p : ℕ) (e : Entry T) (names : List Waiter) (t : Scene T Waiter) (n : Steps s p e names t) (k : ℕ)
+  pub stepped_noted : (s : Configuration T Waiter) (p : ℕ) (e : Entry T) (names : List Waiter) (t : Configuration T Waiter) (n : Steps s p e names t) (k : ℕ)
       → length n.before ≡ k → noted k (doing_of n.mine) e.mark e.reply (map doing_of s.under_way) ≡ map doing_of t.under_way
   stepped_noted s p e names t n k place =
       let after = does n.mine n.at_now e.mark s.now t.now in

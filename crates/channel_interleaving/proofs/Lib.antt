@@ -1,7 +1,7 @@
 pub mod LruLemmas
 pub mod RefusalLemmas
 pub mod WokenFacts
-mod WayFacts
+mod ReachesFacts
 pub mod OwnerLists
 pub mod OwnerKeys
 pub mod OwnerTurns
@@ -22,16 +22,16 @@ pub mod OwnerWoken
 pub mod OwnerWokenRuns
 pub mod OwnerPolled
 pub mod AccountFacts
-pub mod AllKept
+pub mod WorldInvariant
 pub mod ByNames
 pub mod LoneFacts
 pub mod Interface
-pub mod OwedScenes
+pub mod OwedConfigurations
 pub mod OwedCounts
 pub mod OwedFacts
 mod OwedRows
 pub mod ShownFacts
-pub mod SightFacts
+pub mod ObservationFacts
 pub mod DoingFacts
 pub mod UserFacts
 pub mod CountNames
@@ -49,7 +49,7 @@ pub mod OwnerOrderWakes
 pub mod OwnerOrder
 pub mod OwnerOrderRuns
 pub mod LeftFacts
-pub mod FloorFacts
+pub mod WorldStateFacts
 pub mod PendingFacts
 pub mod PollFacts
 pub mod NodeFacts

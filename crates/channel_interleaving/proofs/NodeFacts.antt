@@ -26,23 +26,23 @@ use Rattle.channel_model.specs.declared.name.HandleKind.TheVariants as handle_ki
 use Rattle.channel_model.specs.declared.name.OpId.{OpId}
 use Rattle.channel_model.specs.declared.name.Waiter.{Waiter}
 use Rattle.channel_model.specs.declared.name.Waiter.TheVariants.{Op, Stream}
-use Rattle.channel_steps.specs.Scene.{Scene, all_seats}
+use Rattle.channel_steps.specs.Configuration.{Configuration, all_seats}
 use Rattle.channel_interleaving.specs.Bookkeeping.{asks}
-use Rattle.channel_interleaving.specs.Floor.{parts_in, book_of, Shown, AreOwned}
-use Rattle.channel_interleaving.specs.Kept.{AllKept}
+use Rattle.channel_interleaving.specs.WorldState.{parts_in, name_state_of, Shown, AreOwned}
+use Rattle.channel_interleaving.specs.Kept.{WorldInvariant}
 use Rattle.channel_interleaving.specs.OwnerOrder.{was_woken}
 use Rattle.channel_interleaving.specs.OwnerWoken.{IsTold}
-use Rattle.channel_interleaving.specs.Owners.{IsAmong, free, vacant, amiss, rests, waits, polled, no_stream_post, stream_post, operation_post, posted, post}
-use Rattle.channel_interleaving.specs.Roll.{key_of, operation_of, held_of}
+use Rattle.channel_interleaving.specs.Owners.{IsAmong, free, retired, invalid, rests, waits, polled, no_stream_status, stream_status, operation_status, status_by, status}
+use Rattle.channel_interleaving.specs.NameTable.{key_of, operation_of, held_of}
 use Rattle.channel_interleaving.specs.Settle.{IsWoken}
-use Rattle.channel_interleaving.specs.declared.floor.Floor.{Floor}
-use Rattle.channel_interleaving.specs.declared.names.Hold.{Hold}
+use Rattle.channel_interleaving.specs.declared.world_state.WorldState.{WorldState}
+use Rattle.channel_interleaving.specs.declared.names.HandleEntry.{HandleEntry}
 use Rattle.channel_interleaving.specs.declared.names.Operation.{Operation}
 use Rattle.channel_interleaving.specs.declared.names.OperationKind.{OperationKind}
 use Rattle.channel_interleaving.specs.declared.names.OperationKind.TheVariants as kind
-use Rattle.channel_interleaving.specs.declared.names.Standing.{Standing}
-use Rattle.channel_interleaving.specs.declared.names.Standing.TheVariants.{Rests, Waits, IsPolled}
-use Rattle.channel_interleaving.specs.declared.roll.Roll.{Roll}
+use Rattle.channel_interleaving.specs.declared.names.PollState.{PollState}
+use Rattle.channel_interleaving.specs.declared.names.PollState.TheVariants.{Rests, Waits, IsPolled}
+use Rattle.channel_interleaving.specs.declared.name_table.NameTable.{NameTable}
 use Rattle.channel_interleaving.proofs.OwnerLists.{same_self}
 use Rattle.channel_interleaving.proofs.WokenPolls.{among_filter, woken_waits}
 
@@ -68,10 +68,10 @@ told_listed h a i =
     by false waiting e = cc e
 
 -- what is no receiver is pending as no stream
-no_stream : (s : Standing) (h : Held) → no_stream_post s ≡ waits h true → ⊥
+no_stream : (s : PollState) (h : Held) → no_stream_status s ≡ waits h true → ⊥
 no_stream Rests h e = let no : rests Streams ≡ waits h true = e in cc
-no_stream (Waits key z) h e = let no : amiss ≡ waits h true = e in cc
-no_stream (IsPolled z) h e = let no : amiss ≡ waits h true = e in cc
+no_stream (Waits key z) h e = let no : invalid ≡ waits h true = e in cc
+no_stream (IsPolled z) h e = let no : invalid ≡ waits h true = e in cc
 
 -- who waits with this listener holds it, on its own line
 same_held : (line : Line) (key : Key) (z : Bool) (h : Held) → waits (record { line = line; key = key }) z ≡ waits h true
@@ -84,11 +84,11 @@ module _ {T : Type 0} where
   MayWait h p = h.line ≡ Sends → is_some (capacity_of p.cells.form) ≡ true
 
   module _ (p : Parts T Waiter) (h : Held) (there : IsThere h p.roster) (bound : MayWait h p) where
-    by_kind : (held : model.KeysHeld) (op : OpId) (handle : HandleId) (k : OperationKind) (m : Option T) (s : Standing)
-        → held (Op op) ≡ key_of s → operation_post k m s ≡ waits h true
-        → HasNode (poll_asked held op (Some (operation_of (record { kind = k; handle = handle; message = m; standing = s })))) p
+    by_kind : (held : model.KeysHeld) (op : OpId) (handle : HandleId) (k : OperationKind) (m : Option T) (s : PollState)
+        → held (Op op) ≡ key_of s → operation_status k m s ≡ waits h true
+        → HasNode (poll_asked held op (Some (operation_of (record { kind = k; handle = handle; message = m; poll_state = s })))) p
     by_kind held op handle kind.Send None Rests e f = absurd (let no : rests Sends ≡ waits h true = f in cc)
-    by_kind held op handle kind.Send None (Waits key z) e f = absurd (let no : amiss ≡ waits h true = f in cc)
+    by_kind held op handle kind.Send None (Waits key z) e f = absurd (let no : invalid ≡ waits h true = f in cc)
     by_kind held op handle kind.Send None (IsPolled z) e f = absurd (let no : polled Sends ≡ waits h true = f in cc)
     by_kind held op handle kind.Send (Some m) Rests e f = absurd (let no : rests Sends ≡ waits h true = f in cc)
     by_kind held op handle kind.Send (Some m) (IsPolled z) e f = absurd (let no : polled Sends ≡ waits h true = f in cc)
@@ -104,18 +104,18 @@ module _ {T : Type 0} where
     by_kind held op handle kind.Closing m (Waits key z) e f =
         rw e (subst (λ (x : Held). IsThere x p.roster) (sym (same_held Closings key z h f)) there)
 
-    operation_node : (r : Roll T) (op : OpId) (o : Option (Option (Operation T))) → lookup (nat_eq op.0) r.operations ≡ o
-        → posted (λ (x : Operation T). operation_post x.kind x.message x.standing) o ≡ waits h true → HasNode (asks r (call.Poll op)) p
+    operation_node : (r : NameTable T) (op : OpId) (o : Option (Option (Operation T))) → lookup (nat_eq op.0) r.operations ≡ o
+        → status_by (λ (x : Operation T). operation_status x.kind x.message x.poll_state) o ≡ waits h true → HasNode (asks r (call.Poll op)) p
     operation_node r op None e f = absurd (let no : free ≡ waits h true = f in cc)
-    operation_node r op (Some None) e f = absurd (let no : vacant ≡ waits h true = f in cc)
+    operation_node r op (Some None) e f = absurd (let no : retired ≡ waits h true = f in cc)
     operation_node r op (Some (Some x)) e f =
         let there : at op.0 r.operations ≡ Some x = ap (λ (o : Option (Option (Operation T))). option_map_or (λ (y : Option (Operation T)). y) o None) e in
         subst (λ (o : Option (Operation T)). HasNode (poll_asked (held_of r) op (option_map operation_of o)) p) (sym there)
-        (by_kind (held_of r) op x.handle x.kind x.message x.standing
-        (ap (λ (o : Option (Operation T)). option_map_or (λ (y : Operation T). key_of y.standing) o None) there) f)
+        (by_kind (held_of r) op x.handle x.kind x.message x.poll_state
+        (ap (λ (o : Option (Operation T)). option_map_or (λ (y : Operation T). key_of y.poll_state) o None) there) f)
 
     -- a receiver that is pending as a stream
-    by_stream : (k : HandleKind) (s : Standing) (key : Option Key) → key ≡ key_of s → stream_post k s ≡ waits h true
+    by_stream : (k : HandleKind) (s : PollState) (key : Option Key) → key ≡ key_of s → stream_status k s ≡ waits h true
         → IsOnList Streams key p.roster
     by_stream handle_kind.Receiver Rests key e f = absurd (let no : rests Streams ≡ waits h true = f in cc)
     by_stream handle_kind.Receiver (IsPolled z) key e f = absurd (let no : polled Streams ≡ waits h true = f in cc)
@@ -125,26 +125,26 @@ module _ {T : Type 0} where
     by_stream handle_kind.WeakSender s key e f = absurd (no_stream s h f)
     by_stream handle_kind.WeakReceiver s key e f = absurd (no_stream s h f)
 
-    stream_node : (r : Roll T) (receiver : HandleId) (o : Option (Option Hold)) → lookup (nat_eq receiver.0) r.handles ≡ o
-        → posted (λ (x : Hold). stream_post x.handle.kind x.standing) o ≡ waits h true → HasNode (asks r (call.PollNext receiver)) p
+    stream_node : (r : NameTable T) (receiver : HandleId) (o : Option (Option HandleEntry)) → lookup (nat_eq receiver.0) r.handles ≡ o
+        → status_by (λ (x : HandleEntry). stream_status x.handle.kind x.poll_state) o ≡ waits h true → HasNode (asks r (call.PollNext receiver)) p
     stream_node r receiver None e f = absurd (let no : free ≡ waits h true = f in cc)
-    stream_node r receiver (Some None) e f = absurd (let no : vacant ≡ waits h true = f in cc)
+    stream_node r receiver (Some None) e f = absurd (let no : retired ≡ waits h true = f in cc)
     stream_node r receiver (Some (Some x)) e f =
-        by_stream x.handle.kind x.standing (held_of r (Stream receiver))
-        (ap (λ (o : Option (Option Hold)). option_map_or (λ (y : Hold). key_of y.standing)
-        (option_map_or (λ (y : Option Hold). y) o None) None) e) f
+        by_stream x.handle.kind x.poll_state (held_of r (Stream receiver))
+        (ap (λ (o : Option (Option HandleEntry)). option_map_or (λ (y : HandleEntry). key_of y.poll_state)
+        (option_map_or (λ (y : Option HandleEntry). y) o None) None) e) f
 
-    woken_node : (r : Roll T) (w : Waiter) → post r w ≡ waits h true → HasNode (asks r (poll_of w)) p
+    woken_node : (r : NameTable T) (w : Waiter) → status r w ≡ waits h true → HasNode (asks r (poll_of w)) p
     woken_node r (Op op) f = operation_node r op (lookup (nat_eq op.0) r.operations) refl f
     woken_node r (Stream receiver) f = stream_node r receiver (lookup (nat_eq receiver.0) r.handles) refl f
 
   -- where a send was told the channel has a bound
-  may_wait : (f : Floor T) (s : Scene T Waiter) → Shown f s → NoSendListens s.now → (h : Held) → IsTold h s.now → MayWait h (parts_in f)
+  may_wait : (f : WorldState T) (s : Configuration T Waiter) → Shown f s → NoSendListens s.now → (h : Held) → IsTold h s.now → MayWait h (parts_in f)
   may_wait f s sh unlisted h told line = by s.now.queue.capacity refl
     where
       same : s.now.queue.capacity ≡ capacity_of (parts_in f).cells.form
       same = ap (λ (c : Channel T Waiter). c.queue.capacity) sh.shows.now
-          ∙ (shows (parts_in f).cells sh.shows.queue (all_seats sh.shows.sittings) (_, sh.shows.fits)).limit
+          ∙ (shows (parts_in f).cells sh.shows.queue (all_seats sh.shows.witnesses) (_, sh.shows.fits)).limit
 
       by : (cap : Option ℕ) → s.now.queue.capacity ≡ cap → is_some (capacity_of (parts_in f).cells.form) ≡ true
       by (Some n) e = ap (λ (o : Option ℕ). is_some o) (sym same ∙ e)
@@ -154,19 +154,19 @@ module _ {T : Type 0} where
           absurd (subst (λ (l : Listeners Waiter). IsAmong h.key (keys_of l.told)) (unlisted e) sent)
 
   -- what is pending and was woken
-  pub has_node : (f : Floor T) (s : Scene T Waiter) (w : Waiter) → Shown f s → AllKept (book_of f) s → IsWoken w f
-      → HasNode (asks f.roll (poll_of w)) (parts_in f)
+  pub has_node : (f : WorldState T) (s : Configuration T Waiter) (w : Waiter) → Shown f s → WorldInvariant (name_state_of f) s → IsWoken w f
+      → HasNode (asks f.name_table (poll_of w)) (parts_in f)
   has_node f s w sh kept woken =
-      let h = woken_waits (post f.roll w) (among_filter (λ v. was_woken (post f.roll v)) w f.order woken).0 in
+      let h = woken_waits (status f.name_table w) (among_filter (λ v. was_woken (status f.name_table v)) w f.order woken).0 in
       let told : IsTold h.0 s.now = kept.woken.told w h.0 h.1 in
       let lists : s.now.roster ≡ (parts_in f).roster = ap (λ (c : Channel T Waiter). c.roster) sh.shows.now in
       woken_node (parts_in f) h.0
       (told_listed h.0 (parts_in f).roster
       (subst (λ (a : Roster Waiter). IsAmong h.0.key (keys_of (listeners h.0.line a).told)) lists told))
-      (may_wait f s sh kept.sound.unlisted.unlisted h.0 told) f.roll w h.1
+      (may_wait f s sh kept.sound.unlisted.unlisted h.0 told) f.name_table w h.1
 
   -- so its poll, made alone, is refused no memory
-  pub is_ample : (f : Floor T) (w : Waiter) (a : ChannelAsk T Waiter) (x : Reply T) → AreOwned f → IsWoken w f → a ≡ asks f.roll (poll_of w)
+  pub is_ample : (f : WorldState T) (w : Waiter) (a : ChannelAsk T Waiter) (x : Reply T) → AreOwned f → IsWoken w f → a ≡ asks f.name_table (poll_of w)
       → (HasNode a (parts_in f) → lacks_memory x ≡ false) → lacks_memory x ≡ false
   is_ample f w a x o woken asked ample =
-      ample (subst (λ (b : ChannelAsk T Waiter). HasNode b (parts_in f)) (sym asked) (has_node f o.scene w o.shown o.kept woken))
+      ample (subst (λ (b : ChannelAsk T Waiter). HasNode b (parts_in f)) (sym asked) (has_node f o.configuration w o.shown o.kept woken))

@@ -28,19 +28,19 @@ use Rattle.channel_model.specs.declared.name.Waiter.{Waiter}
 use Rattle.channel_model.specs.declared.name.Waiter.TheVariants.{Op, Stream}
 use Rattle.channel_steps.specs.Known.{TryAt, HasTaken, StageAt, ToldAt}
 use Rattle.channel_steps.specs.Moments.{MarkedMoment, TookAll}
-use Rattle.channel_steps.specs.Scene.{Under, Scene, AllKnown}
+use Rattle.channel_steps.specs.Configuration.{ActiveCall, Configuration, AllKnown}
 use Rattle.channel_steps.specs.Tellings.{Telling, one_of, more_of, all_of, owed_for, owed_takings, with_taking, takings, owed_besides}
 use Rattle.channel_laws.specs.Amounts.{is_trying, is_trying_anew, total}
 use Rattle.channel_laws.specs.Receives.{has_appended, is_to_tell_receive, counts_for_receives}
 use Rattle.channel_laws.specs.Sends.{has_taken, has_displaced, is_to_tell_send, is_on_its_way, counts_for_sends}
 use Rattle.channel_interleaving.specs.Owed.{is_woken_on, all_names, woken_on}
-use Rattle.channel_interleaving.specs.Owners.{IsAmong, NoneTwice, AnyOf, Post, free, vacant, amiss, rests, waits, polled, posted, post, holding, line_asked, Together, HoldsIn, Holder, named, calling, Owned}
+use Rattle.channel_interleaving.specs.Owners.{IsAmong, NoneTwice, AnyOf, NameStatus, free, retired, invalid, rests, waits, polled, status_by, status, holding, line_asked, Together, HoldsIn, Holder, named, calling, Owned}
 use Rattle.channel_interleaving.specs.OwnerOrder.{woken_key, woken_keys}
-use Rattle.channel_interleaving.specs.Run.{Book}
+use Rattle.channel_interleaving.specs.Run.{NameState}
 use Rattle.channel_interleaving.specs.declared.names.Agent.{Agent}
-use Rattle.channel_interleaving.specs.declared.roll.Roll.{Roll}
-use Rattle.channel_interleaving.specs.SightAt.{unless_told, all_freed}
-use Rattle.channel_interleaving.proofs.OwedScenes.{is_sending, is_receiving, at_it, to_send}
+use Rattle.channel_interleaving.specs.declared.name_table.NameTable.{NameTable}
+use Rattle.channel_interleaving.specs.ObservationAt.{unless_told, all_freed}
+use Rattle.channel_interleaving.proofs.OwedConfigurations.{is_sending, is_receiving, at_it, to_send}
 use Rattle.channel_interleaving.proofs.OwnerLists.{among_left, among_right, among_of, none_parts}
 use Rattle.channel_interleaving.proofs.OwnerTogether.{HasIt}
 
@@ -98,12 +98,12 @@ one_key : (b : Bool) (k : Key) → length (if b then k ∷ [] else []) ≡ one_i
 one_key true k = refl
 one_key false k = refl
 
-woken_key_length : (line : Line) (x : Post) → length (woken_key line x) ≡ one_if (is_woken_on line x)
+woken_key_length : (line : Line) (x : NameStatus) → length (woken_key line x) ≡ one_if (is_woken_on line x)
 woken_key_length line (waits h true) = one_key (same_line line h.line) h.key
 woken_key_length line (waits h false) = refl
 woken_key_length line free = refl
-woken_key_length line vacant = refl
-woken_key_length line amiss = refl
+woken_key_length line retired = refl
+woken_key_length line invalid = refl
 woken_key_length line (rests l) = refl
 woken_key_length line (polled l) = refl
 
@@ -117,12 +117,12 @@ there_if false k e = absurd (let no : false ≡ true = e in cc)
 
 -- ---- names
 
-is_named : {X : Type 0} (p : X → Post) (n : ℕ) (d : Directory X) (h : Held) (b : Bool) → posted p (lookup (nat_eq n) d) ≡ waits h b → IsAmong n (keys_of d)
+is_named : {X : Type 0} (p : X → NameStatus) (n : ℕ) (d : Directory X) (h : Held) (b : Bool) → status_by p (lookup (nat_eq n) d) ≡ waits h b → IsAmong n (keys_of d)
 is_named p n [] h b e = absurd (let no : free ≡ waits h b = e in cc)
 is_named p n (f ∷ d) h b e = at p n (nat_eq n f.0) f d h b refl (is_named p n d h b) e
   where
-    at : {X : Type 0} (p : X → Post) (n : ℕ) (t : Bool) (f : ℕ × Option X) (d : Directory X) (h : Held) (b : Bool) → nat_eq n f.0 ≡ t → (posted p (lookup (nat_eq n) d) ≡ waits h b → IsAmong n (keys_of d))
-        → posted p (cond t (Some f.1) (lookup (nat_eq n) d)) ≡ waits h b → IsAmong n (keys_of (f ∷ d))
+    at : {X : Type 0} (p : X → NameStatus) (n : ℕ) (t : Bool) (f : ℕ × Option X) (d : Directory X) (h : Held) (b : Bool) → nat_eq n f.0 ≡ t → (status_by p (lookup (nat_eq n) d) ≡ waits h b → IsAmong n (keys_of d))
+        → status_by p (cond t (Some f.1) (lookup (nat_eq n) d)) ≡ waits h b → IsAmong n (keys_of (f ∷ d))
     at p n true f d h b same on e = inl (sym (same_number n f.0 same))
       where
         same_number : (a c : ℕ) → nat_eq a c ≡ true → a ≡ c
@@ -176,16 +176,16 @@ untold n k told e h = subst (λ (ts : List Telling). n ≤ unless_told ts k) (sy
 module _ {T : Type 0} where
   -- ---- calls under way
 
-  abbrev hand_keys : Line → List (Under T Waiter) → List Key
+  abbrev hand_keys : Line → List (ActiveCall T Waiter) → List Key
   hand_keys line [] = []
   hand_keys line (u ∷ us) = hand_key line (holding u.at) ++ hand_keys line us
 
   -- the listeners of this list that calls have in hand
-  abbrev pub hands : Line → List (Under T Waiter) → ℕ
+  abbrev pub hands : Line → List (ActiveCall T Waiter) → ℕ
   hands line [] = 0
   hands line (u ∷ us) = in_hand line (holding u.at) + hands line us
 
-  hands_length : (line : Line) (us : List (Under T Waiter)) → length (hand_keys line us) ≡ hands line us
+  hands_length : (line : Line) (us : List (ActiveCall T Waiter)) → length (hand_keys line us) ≡ hands line us
   hands_length line [] = refl
   hands_length line (u ∷ us) =
       let both = length-append (hand_key line (holding u.at)) (hand_keys line us) in
@@ -193,49 +193,49 @@ module _ {T : Type 0} where
       let rest = hands_length line us in
       omega (arith, both, one, rest)
 
-  in_hands : (line : Line) (k : Key) (q : ℕ) (us : List (Under T Waiter)) → AnyOf (HasIt q (record { line = line; key = k })) us → IsAmong k (hand_keys line us)
+  in_hands : (line : Line) (k : Key) (q : ℕ) (us : List (ActiveCall T Waiter)) → AnyOf (HasIt q (record { line = line; key = k })) us → IsAmong k (hand_keys line us)
   in_hands line k q [] i = i
   in_hands line k q (u ∷ us) (inl i) = among_left k (hand_key line (holding u.at)) (hand_keys line us) (subst (λ (o : Option Held). IsAmong k (hand_key line o)) (sym i.1) (there_if (same_line line line) k (line_refl line)))
   in_hands line k q (u ∷ us) (inr i) = among_right k (hand_key line (holding u.at)) (hand_keys line us) (in_hands line k q us i)
 
   -- ---- names that are woken
 
-  named_there : (r : Roll T) (w : Waiter) (h : Held) (b : Bool) → post r w ≡ waits h b → IsAmong w (all_names r)
+  named_there : (r : NameTable T) (w : Waiter) (h : Held) (b : Bool) → status r w ≡ waits h b → IsAmong w (all_names r)
   named_there r (Op op) h b e =
       among_left (Op op) (map (λ n. Op (record { 0 = n })) (keys_of r.operations)) (map (λ n. Stream (record { 0 = n })) (keys_of r.handles)) (among_map (λ n. Op (record { 0 = n })) op.0 (keys_of r.operations) (is_named _ op.0 r.operations h b e))
   named_there r (Stream handle) h b e =
       among_right (Stream handle) (map (λ n. Op (record { 0 = n })) (keys_of r.operations)) (map (λ n. Stream (record { 0 = n })) (keys_of r.handles)) (among_map (λ n. Stream (record { 0 = n })) handle.0 (keys_of r.handles) (is_named _ handle.0 r.handles h b e))
 
   -- they are as many as those of these names who are pending on this line and were woken
-  woken_length : (line : Line) (r : Roll T) (ws : List Waiter)
-      → length (woken_keys line r ws) ≡ count_by (λ w. is_woken_on line (post r w)) ws
+  woken_length : (line : Line) (r : NameTable T) (ws : List Waiter)
+      → length (woken_keys line r ws) ≡ count_by (λ w. is_woken_on line (status r w)) ws
   woken_length line r [] = refl
   woken_length line r (w ∷ ws) =
-      let both = length-append (woken_key line (post r w)) (woken_keys line r ws) in
-      let one = woken_key_length line (post r w) in
+      let both = length-append (woken_key line (status r w)) (woken_keys line r ws) in
+      let one = woken_key_length line (status r w) in
       let rest = woken_length line r ws in
-      let first = count_first (λ v. is_woken_on line (post r v)) w ws in
+      let first = count_first (λ v. is_woken_on line (status r v)) w ws in
       omega (arith, both, one, rest, first)
 
   -- the listener of one who is pending and was woken is among those of its line
-  pub in_woken : (line : Line) (k : Key) (r : Roll T) (w : Waiter) (ws : List Waiter) → IsAmong w ws
-      → post r w ≡ waits (record { line = line; key = k }) true → IsAmong k (woken_keys line r ws)
+  pub in_woken : (line : Line) (k : Key) (r : NameTable T) (w : Waiter) (ws : List Waiter) → IsAmong w ws
+      → status r w ≡ waits (record { line = line; key = k }) true → IsAmong k (woken_keys line r ws)
   in_woken line k r w [] i e = absurd i
   in_woken line k r w (v ∷ ws) (inl same) e =
-      among_left k (woken_key line (post r v)) (woken_keys line r ws)
-      (subst (λ (x : Post). IsAmong k (woken_key line x)) (sym (ap (post r) same ∙ e))
+      among_left k (woken_key line (status r v)) (woken_keys line r ws)
+      (subst (λ (x : NameStatus). IsAmong k (woken_key line x)) (sym (ap (status r) same ∙ e))
       (there_if (same_line line line) k (line_refl line)))
   in_woken line k r w (v ∷ ws) (inr i) e =
-      among_right k (woken_key line (post r v)) (woken_keys line r ws) (in_woken line k r w ws i e)
+      among_right k (woken_key line (status r v)) (woken_keys line r ws) (in_woken line k r w ws i e)
 
   -- the told listeners of a list are no more than its woken pending names and the calls that have one of it in hand
-  pub told_few : (b : Book T) (s : Scene T Waiter) (line : Line) → Owned b s → length (listeners line s.now.roster).told ≤ woken_on line b.roll + hands line s.under_way
+  pub told_few : (b : NameState T) (s : Configuration T Waiter) (line : Line) → Owned b s → length (listeners line s.now.roster).told ≤ woken_on line b.name_table + hands line s.under_way
   told_few b s line o =
       let l = listeners line s.now.roster in
       let parts = none_parts (keys_of l.told) (keys_of l.waiting) (o.once line) in
-      let most = no_more (keys_of l.told) (woken_keys line b.roll (all_names b.roll) ++ hand_keys line s.under_way) parts.left (λ k i. held_so k i) in
-      let both = length-append (woken_keys line b.roll (all_names b.roll)) (hand_keys line s.under_way) in
-      let woken = woken_length line b.roll (all_names b.roll) in
+      let most = no_more (keys_of l.told) (woken_keys line b.name_table (all_names b.name_table) ++ hand_keys line s.under_way) parts.left (λ k i. held_so k i) in
+      let both = length-append (woken_keys line b.name_table (all_names b.name_table)) (hand_keys line s.under_way) in
+      let woken = woken_length line b.name_table (all_names b.name_table) in
       let hand = hands_length line s.under_way in
       let same = map_length l.told in
       omega (arith, most, both, woken, hand, same)
@@ -249,21 +249,21 @@ module _ {T : Type 0} where
       entry_key k x (e ∷ es) (inl f) = inl (ap (λ (y : Key × _). y.0) f)
       entry_key k x (e ∷ es) (inr i) = inr (entry_key k x es i)
 
-      held_so : (k : Key) → IsAmong k (keys_of (listeners line s.now.roster).told) → IsAmong k (woken_keys line b.roll (all_names b.roll) ++ hand_keys line s.under_way)
+      held_so : (k : Key) → IsAmong k (keys_of (listeners line s.now.roster).told) → IsAmong k (woken_keys line b.name_table (all_names b.name_table) ++ hand_keys line s.under_way)
       held_so k i = by (o.held h (among_left k (keys_of (listeners line s.now.roster).told) (keys_of (listeners line s.now.roster).waiting) i))
         where
           h : Held
           h = record { line = line; key = k }
 
-          at_name : (w : Waiter) (x : Bool) → post b.roll w ≡ waits (record { line = line; key = k }) x → IsAmong k (woken_keys line b.roll (all_names b.roll) ++ hand_keys line s.under_way)
-          at_name w true e = among_left k (woken_keys line b.roll (all_names b.roll)) (hand_keys line s.under_way) (in_woken line k b.roll w (all_names b.roll) (named_there b.roll w (record { line = line; key = k }) true e) e)
+          at_name : (w : Waiter) (x : Bool) → status b.name_table w ≡ waits (record { line = line; key = k }) x → IsAmong k (woken_keys line b.name_table (all_names b.name_table) ++ hand_keys line s.under_way)
+          at_name w true e = among_left k (woken_keys line b.name_table (all_names b.name_table)) (hand_keys line s.under_way) (in_woken line k b.name_table w (all_names b.name_table) (named_there b.name_table w (record { line = line; key = k }) true e) e)
           at_name w false e =
               let parts = none_parts (keys_of (listeners line s.now.roster).told) (keys_of (listeners line s.now.roster).waiting) (o.once line) in
               absurd (parts.apart k i (entry_key k (Some w) (listeners line s.now.roster).waiting (o.unwoken w (record { line = line; key = k }) e)))
 
-          by : (x : Holder) × HoldsIn (post b.roll) s.under_way x (record { line = line; key = k }) → IsAmong k (woken_keys line b.roll (all_names b.roll) ++ hand_keys line s.under_way)
+          by : (x : Holder) × HoldsIn (status b.name_table) s.under_way x (record { line = line; key = k }) → IsAmong k (woken_keys line b.name_table (all_names b.name_table) ++ hand_keys line s.under_way)
           by (named w, e) = at_name w e.0 e.1
-          by (calling q, e) = among_right k (woken_keys line b.roll (all_names b.roll)) (hand_keys line s.under_way) (in_hands line k q s.under_way e)
+          by (calling q, e) = among_right k (woken_keys line b.name_table (all_names b.name_table)) (hand_keys line s.under_way) (in_hands line k q s.under_way e)
 
   -- ---- what a call counts for
 
@@ -396,35 +396,35 @@ module _ {T : Type 0} where
   abbrev Weighs : Line → (ChannelAsk T Waiter → stage.Stage (Phase T) T Waiter → ℕ) → Type 0
   Weighs line weigh = (a : ChannelAsk T Waiter) (at : stage.Stage (Phase T) T Waiter) → Lined (line_asked a) (holding at) → weigh a at + in_hand line (holding at) ≤ May a
 
-  all_weigh : (line : Line) (weigh : ChannelAsk T Waiter → stage.Stage (Phase T) T Waiter → ℕ) → Weighs line weigh → (p : Waiter → Post) (agents : List (Agent T)) (us : List (Under T Waiter)) → Together p agents us
+  all_weigh : (line : Line) (weigh : ChannelAsk T Waiter → stage.Stage (Phase T) T Waiter → ℕ) → Weighs line weigh → (p : Waiter → NameStatus) (agents : List (Agent T)) (us : List (ActiveCall T Waiter)) → Together p agents us
       → total weigh us + hands line us
-      ≤ count_by (λ (u : Under T Waiter). is_sending u.ask) us + count_by (λ (u : Under T Waiter). is_receiving u.ask) us
+      ≤ count_by (λ (u : ActiveCall T Waiter). is_sending u.ask) us + count_by (λ (u : ActiveCall T Waiter). is_receiving u.ask) us
   all_weigh line weigh f p [] [] t = omega arith
   all_weigh line weigh f p (a ∷ more) (u ∷ us) t =
       let own = let k = t.0 in k.lines in
       let one = f u.ask u.at own in
       let rest = all_weigh line weigh f p more us t.1 in
-      let sending = count_first (λ (v : Under T Waiter). is_sending v.ask) u us in
-      let receiving = count_first (λ (v : Under T Waiter). is_receiving v.ask) u us in
+      let sending = count_first (λ (v : ActiveCall T Waiter). is_sending v.ask) u us in
+      let receiving = count_first (λ (v : ActiveCall T Waiter). is_receiving v.ask) u us in
       omega (arith, one, rest, sending, receiving)
   all_weigh line weigh f p [] (u ∷ us) t = absurd t
   all_weigh line weigh f p (a ∷ more) [] t = absurd t
 
-  pub receives_weigh : (b : Book T) (s : Scene T Waiter) → Owned b s → total counts_for_receives s.under_way + hands Receives s.under_way ≤ at_it s
-  receives_weigh b s o = all_weigh Receives counts_for_receives receive_weight (post b.roll) b.agents s.under_way o.together
+  pub receives_weigh : (b : NameState T) (s : Configuration T Waiter) → Owned b s → total counts_for_receives s.under_way + hands Receives s.under_way ≤ at_it s
+  receives_weigh b s o = all_weigh Receives counts_for_receives receive_weight (status b.name_table) b.agents s.under_way o.together
 
-  all_send : (now : Channel T Waiter) (p : Waiter → Post) (agents : List (Agent T)) (us : List (Under T Waiter)) → Together p agents us → AllKnown now us
-      → total counts_for_sends us + hands Sends us ≤ count_by (λ (u : Under T Waiter). is_sending u.ask) us + all_freed us
+  all_send : (now : Channel T Waiter) (p : Waiter → NameStatus) (agents : List (Agent T)) (us : List (ActiveCall T Waiter)) → Together p agents us → AllKnown now us
+      → total counts_for_sends us + hands Sends us ≤ count_by (λ (u : ActiveCall T Waiter). is_sending u.ask) us + all_freed us
   all_send now p [] [] t k = omega arith
   all_send now p (a ∷ more) (u ∷ us) t k =
       let own = let l = t.0 in l.lines in
       let known = k.0 in
       let one = send_weight now u.at u.told u.marks u.seen u.ask known.stands known.tells own in
       let rest = all_send now p more us t.1 k.1 in
-      let sending = count_first (λ (v : Under T Waiter). is_sending v.ask) u us in
+      let sending = count_first (λ (v : ActiveCall T Waiter). is_sending v.ask) u us in
       omega (arith, one, rest, sending)
   all_send now p [] (u ∷ us) t k = absurd t
   all_send now p (a ∷ more) [] t k = absurd t
 
-  pub sends_weigh : (b : Book T) (s : Scene T Waiter) → Owned b s → AllKnown s.now s.under_way → total counts_for_sends s.under_way + hands Sends s.under_way ≤ to_send s
-  sends_weigh b s o k = all_send s.now (post b.roll) b.agents s.under_way o.together k
+  pub sends_weigh : (b : NameState T) (s : Configuration T Waiter) → Owned b s → AllKnown s.now s.under_way → total counts_for_sends s.under_way + hands Sends s.under_way ≤ to_send s
+  sends_weigh b s o k = all_send s.now (status b.name_table) b.agents s.under_way o.together k

@@ -1,4 +1,4 @@
--- What is owed in a scene to those who are pending, by what is owed to those who wait and by who owns whose listener.
+-- What is owed in a configuration to those who are pending, by what is owed to those who wait and by who owns whose listener.
 use Rattle.std.proofs.Common.{arith, ◌≡◌, ℕ, ◌+◌, ◌≤◌, true, false, List, [], ◌∷◌, length, Option, None, Some, ◌⊎◌, inl, inr, refl, sym, ap, ◌∙◌}
 use Rattle.concurrent_queue.specs.Queue.{Phase}
 use Rattle.event_listener.specs.declared.key.Key.{Key}
@@ -14,18 +14,18 @@ use Rattle.channel_calls.specs.declared.stage.Stage.TheVariants.{Trying, Working
 use Rattle.channel_calls.specs.declared.stage.Work.TheVariants.{TellReceive, TellStreams, TellSend, Leave}
 use Rattle.channel_model.specs.declared.name.Waiter.{Waiter}
 use Rattle.channel_steps.specs.Moments.{Open, Shut}
-use Rattle.channel_steps.specs.Scene.{Under, Scene}
+use Rattle.channel_steps.specs.Configuration.{ActiveCall, Configuration}
 use Rattle.channel_laws.specs.Amounts.{HoldsListener, total}
 use Rattle.channel_laws.specs.Closings.{HasClosed, LooksAgain, AnswersClosed}
 use Rattle.channel_laws.specs.Receives.{counts_for_receives, MessagesAreFew}
 use Rattle.channel_laws.specs.Sends.{HasPlaces, counts_for_sends, PlacesAreFew}
-use Rattle.channel_laws.specs.Sound.{AllSound}
+use Rattle.channel_laws.specs.Sound.{WakeInvariant}
 use Rattle.channel_laws.specs.Streams.{IsSending, HasInHand, AnswersFor}
 use Rattle.channel_laws.specs.Waits.{IsIn, Waits, Any}
 use Rattle.channel_interleaving.specs.Owed.{woken_on}
-use Rattle.channel_interleaving.specs.Owners.{IsAmong, AnyOf, waits, post, holding, named, calling, Owned}
-use Rattle.channel_interleaving.specs.Run.{Book}
-use Rattle.channel_interleaving.proofs.OwedScenes.{is_sending, at_it, to_send, OwedIn}
+use Rattle.channel_interleaving.specs.Owners.{IsAmong, AnyOf, waits, status, holding, named, calling, Owned}
+use Rattle.channel_interleaving.specs.Run.{NameState}
+use Rattle.channel_interleaving.proofs.OwedConfigurations.{is_sending, at_it, to_send, OwedIn}
 use Rattle.channel_interleaving.proofs.OwedCounts.{told_few, receives_weigh, sends_weigh}
 use Rattle.channel_interleaving.proofs.OwnerSteps.{apart}
 use Rattle.channel_interleaving.proofs.OwnerTogether.{HasIt}
@@ -68,13 +68,13 @@ module _ {T : Type 0} where
   stream_held key (Working (Leave x)) h = h
   stream_held key at h = absurd h
 
-  one_holds : (P : Under T Waiter → Type 0) (h : Held) → ((u : Under T Waiter) → P u → holding u.at ≡ Some h) → (us : List (Under T Waiter)) → Any P us → (q : ℕ) × AnyOf (HasIt q h) us
+  one_holds : (P : ActiveCall T Waiter → Type 0) (h : Held) → ((u : ActiveCall T Waiter) → P u → holding u.at ≡ Some h) → (us : List (ActiveCall T Waiter)) → Any P us → (q : ℕ) × AnyOf (HasIt q h) us
   one_holds P h f [] i = absurd i
   one_holds P h f (u ∷ us) (inl i) = (u.party, inl (refl, f u i))
   one_holds P h f (u ∷ us) (inr i) = let r = one_holds P h f us i in (r.0, inr r.1)
 
   -- one or another
-  either : (P Q R : Under T Waiter → Type 0) → ((u : Under T Waiter) → P u → Q u ⊎ R u) → (us : List (Under T Waiter)) → Any P us → AnyOf Q us ⊎ Any R us
+  either : (P Q R : ActiveCall T Waiter → Type 0) → ((u : ActiveCall T Waiter) → P u → Q u ⊎ R u) → (us : List (ActiveCall T Waiter)) → Any P us → AnyOf Q us ⊎ Any R us
   either P Q R f [] i = absurd i
   either P Q R f (u ∷ us) (inl i) = by (f u i)
     where
@@ -93,41 +93,41 @@ module _ {T : Type 0} where
   sending_is (ask.PollSend m key task) h = refl
   sending_is a h = absurd h
 
-  module _ (b : Book T) (s : Scene T Waiter) (o : Owned b s) (sound : AllSound s) where
+  module _ (b : NameState T) (s : Configuration T Waiter) (o : Owned b s) (sound : WakeInvariant s) where
     -- the listener of one that is pending waits, and no call has it in hand
-    waiting : (line : Line) (w : Waiter) (key : Key) → post b.roll w ≡ waits (this line key) false → Waits line key s.now
+    waiting : (line : Line) (w : Waiter) (key : Key) → status b.name_table w ≡ waits (this line key) false → Waits line key s.now
     waiting line w key e = is_in key w (listeners line s.now.roster).waiting (o.unwoken w (this line key) e)
 
-    in_no_hand : (P : Under T Waiter → Type 0) (line : Line) (w : Waiter) (key : Key) → post b.roll w ≡ waits (this line key) false → ((u : Under T Waiter) → P u → holding u.at ≡ Some (this line key)) → Any P s.under_way → ⊥
+    in_no_hand : (P : ActiveCall T Waiter → Type 0) (line : Line) (w : Waiter) (key : Key) → status b.name_table w ≡ waits (this line key) false → ((u : ActiveCall T Waiter) → P u → holding u.at ≡ Some (this line key)) → Any P s.under_way → ⊥
     in_no_hand P line w key e f i =
         let one = one_holds P (this line key) f s.under_way i in
         apart w one.0 (o.alone (named w) (calling one.0) (this line key) (false, e) one.1)
 
-    receives : (w : Waiter) (key : Key) → post b.roll w ≡ waits (this Receives key) false → length s.now.queue.items ≤ woken_on Receives b.roll + at_it s
+    receives : (w : Waiter) (key : Key) → status b.name_table w ≡ waits (this Receives key) false → length s.now.queue.items ≤ woken_on Receives b.name_table + at_it s
     receives w key e = by (let r = sound.receives in r.owed key (waiting Receives w key e))
       where
-        by : MessagesAreFew s.now (total counts_for_receives s.under_way) ⊎ Any (λ u. HoldsListener Receives key u.at) s.under_way → length s.now.queue.items ≤ woken_on Receives b.roll + at_it s
+        by : MessagesAreFew s.now (total counts_for_receives s.under_way) ⊎ Any (λ u. HoldsListener Receives key u.at) s.under_way → length s.now.queue.items ≤ woken_on Receives b.name_table + at_it s
         by (inl few) =
             let told = told_few b s Receives o in
             let weigh = receives_weigh b s o in
             omega (arith, few, told, weigh)
         by (inr i) = absurd (in_no_hand (λ u. HoldsListener Receives key u.at) Receives w key e (λ u h. listener_held Receives key u.at h) i)
 
-    sends : (w : Waiter) (key : Key) → post b.roll w ≡ waits (this Sends key) false → Open s.now → HasPlaces s.now.queue.capacity (length s.now.queue.items + (woken_on Sends b.roll + to_send s))
+    sends : (w : Waiter) (key : Key) → status b.name_table w ≡ waits (this Sends key) false → Open s.now → HasPlaces s.now.queue.capacity (length s.now.queue.items + (woken_on Sends b.name_table + to_send s))
     sends w key e open_now = by (let r = sound.sends in r.owed key (waiting Sends w key e))
       where
-        by : PlacesAreFew s.now (total counts_for_sends s.under_way) ⊎ Any (λ u. HoldsListener Sends key u.at) s.under_way → HasPlaces s.now.queue.capacity (length s.now.queue.items + (woken_on Sends b.roll + to_send s))
+        by : PlacesAreFew s.now (total counts_for_sends s.under_way) ⊎ Any (λ u. HoldsListener Sends key u.at) s.under_way → HasPlaces s.now.queue.capacity (length s.now.queue.items + (woken_on Sends b.name_table + to_send s))
         by (inl (inl shut)) = absurd (let never : true ≡ false = sym shut ∙ open_now in cc)
         by (inl (inr few)) =
             let told = told_few b s Sends o in
             let weigh = sends_weigh b s o (let r = sound.sends in let t = r.tellings in t.known) in
-            places s.now.queue.capacity _ (length s.now.queue.items + (woken_on Sends b.roll + to_send s)) (omega (arith, told, weigh)) few
+            places s.now.queue.capacity _ (length s.now.queue.items + (woken_on Sends b.name_table + to_send s)) (omega (arith, told, weigh)) few
         by (inr i) = absurd (in_no_hand (λ u. HoldsListener Sends key u.at) Sends w key e (λ u h. listener_held Sends key u.at h) i)
 
-    streams : (w : Waiter) (key : Key) → post b.roll w ≡ waits (this Streams key) false → (s.now.queue.items ≡ []) ⊎ AnyOf (λ u. is_sending u.ask ≡ true) s.under_way
+    streams : (w : Waiter) (key : Key) → status b.name_table w ≡ waits (this Streams key) false → (s.now.queue.items ≡ []) ⊎ AnyOf (λ u. is_sending u.ask ≡ true) s.under_way
     streams w key e = by (let r = sound.streams in r.owed key (waiting Streams w key e))
       where
-        pick : (u : Under T Waiter) → AnswersFor key u → (is_sending u.ask ≡ true) ⊎ HasInHand key u.at
+        pick : (u : ActiveCall T Waiter) → AnswersFor key u → (is_sending u.ask ≡ true) ⊎ HasInHand key u.at
         pick u (inl h) = inl (sending_is u.ask h.0)
         pick u (inr h) = inr h
 
@@ -139,10 +139,10 @@ module _ {T : Type 0} where
         by (inl none) = inl none
         by (inr i) = last (either (AnswersFor key) (λ u. is_sending u.ask ≡ true) (λ u. HasInHand key u.at) pick s.under_way i)
 
-    closing : (w : Waiter) (h : Held) → post b.roll w ≡ waits h false → Shut s.now → AnyOf (λ u. HasClosed u.marks) s.under_way
+    closing : (w : Waiter) (h : Held) → status b.name_table w ≡ waits h false → Shut s.now → AnyOf (λ u. HasClosed u.marks) s.under_way
     closing w h e shut = last (either (AnswersClosed h.line h.key) (λ u. HasClosed u.marks) (λ u. LooksAgain h.line h.key u.at) pick s.under_way (let r = sound.closing in r.owed h.line h.key shut (waiting h.line w h.key e)))
       where
-        pick : (u : Under T Waiter) → AnswersClosed h.line h.key u → HasClosed u.marks ⊎ LooksAgain h.line h.key u.at
+        pick : (u : ActiveCall T Waiter) → AnswersClosed h.line h.key u → HasClosed u.marks ⊎ LooksAgain h.line h.key u.at
         pick u (inl k) = inl k.0
         pick u (inr k) = inr k
 

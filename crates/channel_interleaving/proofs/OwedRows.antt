@@ -20,13 +20,13 @@ use Rattle.channel_model.specs.declared.name.Waiter.TheVariants.{Op, Stream}
 use Rattle.channel_steps.specs.Count.{counted}
 use Rattle.channel_interleaving.specs.Bookkeeping.{asks}
 use Rattle.channel_interleaving.specs.Doing.{is_close, doing_begun, doing_after}
-use Rattle.channel_interleaving.specs.Owed.{Sight, Owed, is_sending, is_receiving}
-use Rattle.channel_interleaving.specs.Roll.{first_roll}
-use Rattle.channel_interleaving.specs.Run.{Book, book_begun, book_ended, with_woken}
+use Rattle.channel_interleaving.specs.Owed.{Observation, Owed, is_sending, is_receiving}
+use Rattle.channel_interleaving.specs.NameTable.{first_name_table}
+use Rattle.channel_interleaving.specs.Run.{NameState, name_state_begun, name_state_ended, with_woken}
 use Rattle.channel_interleaving.specs.declared.doing.Doing.{Doing}
 use Rattle.channel_interleaving.specs.declared.doing.Role.TheVariants.{Other}
 use Rattle.channel_interleaving.specs.declared.names.Agent.{Agent}
-use Rattle.channel_interleaving.specs.declared.names.Errand.TheVariants as errand
+use Rattle.channel_interleaving.specs.declared.names.OnReturn.TheVariants as on_return
 
 -- ---- steps
 
@@ -40,16 +40,16 @@ data Act : Type 0 where
 
 -- the names and the parties at work, what is noted of their calls, how many messages there are, and whether the channel is closed
 record Played : Type 0 where
-  book : Book ℕ
+  name_state : NameState ℕ
   doings : List Doing
   messages : ℕ
   closed : Bool
 
 abbrev opened : Played
-opened = record { book = record { roll = first_roll; order = []; agents = [] }; doings = []; messages = 0; closed = false }
+opened = record { name_state = record { name_table = first_name_table; order = []; agents = [] }; doings = []; messages = 0; closed = false }
 
 abbrev nobody : Agent ℕ
-nobody = record { party = 0; errand = errand.Nothing }
+nobody = record { party = 0; on_return = on_return.Nothing }
 
 abbrev idle : Doing
 idle = record { role = Other; has_closed = false; taken = 0 }
@@ -57,7 +57,7 @@ idle = record { role = Other; has_closed = false; taken = 0 }
 -- the k-th call under way answers, and leaves this to its operation
 abbrev answered : ℕ → Reply ℕ → Kept ℕ → Played → Played
 answered k x kept w = record {
-  book = book_ended k (slice_index_or w.book.agents k nobody) (Some x) (Some kept) w.book;
+  name_state = name_state_ended k (slice_index_or w.name_state.agents k nobody) (Some x) (Some kept) w.name_state;
   doings = remove w.doings k;
   messages = w.messages;
   closed = w.closed;
@@ -65,13 +65,13 @@ answered k x kept w = record {
 
 abbrev after : Act → Played → Played
 after (begins p c) w = record {
-  book = book_begun (record { 0 = p }) c w.book;
-  doings = w.doings ++ (doing_begun (asks w.book.roll c) ∷ []);
+  name_state = name_state_begun (record { 0 = p }) c w.name_state;
+  doings = w.doings ++ (doing_begun (asks w.name_state.name_table c) ∷ []);
   messages = w.messages;
   closed = w.closed;
 }
 after (steps k m names) w = record {
-  book = with_woken names w.book;
+  name_state = with_woken names w.name_state;
   doings = slice_set w.doings k (doing_after m (slice_index_or w.doings k idle));
   messages = counted w.messages m;
   closed = w.closed || is_close m;
@@ -84,9 +84,9 @@ play [] w = w
 play (x ∷ xs) w = play xs (after x w)
 
 -- what the world shows after these
-abbrev shown : Played → Sight ℕ
+abbrev shown : Played → Observation ℕ
 shown w = record {
-  roll = w.book.roll;
+  name_table = w.name_state.name_table;
   messages = w.messages;
   capacity = Some 5;
   closed = w.closed;

@@ -32,44 +32,44 @@ use Rattle.channel_model.specs.declared.name.Waiter.{Waiter}
 use Rattle.channel_model.specs.declared.name.Waiter.TheVariants.{Op}
 use Rattle.channel_interleaving.specs.AskedBy.{listening_first, IsOrListens}
 use Rattle.channel_interleaving.specs.Bookkeeping.{asks, names_begun, lent_to_poll, polled_ask, with_operation}
-use Rattle.channel_interleaving.specs.Owners.{Post, free, vacant, amiss, rests, waits, polled, post_on, posted, operation_post, post, holding, task_at, wait_of, line_asked, Bears, subject, Suits}
+use Rattle.channel_interleaving.specs.Owners.{NameStatus, free, retired, invalid, rests, waits, polled, status_on, status_by, operation_status, status, holding, task_at, wait_of, line_asked, Bears, subject, Suits}
 use Rattle.channel_interleaving.specs.Refusal.{begin_refusal, meets_poll, takes_used, takes_again}
-use Rattle.channel_interleaving.specs.Roll.{key_of, is_polled, line_of_kind, operation_of, names_of, held_of}
-use Rattle.channel_interleaving.specs.declared.names.Errand.{Errand}
-use Rattle.channel_interleaving.specs.declared.names.Errand.TheVariants as errand
-use Rattle.channel_interleaving.specs.declared.names.Hold.{Hold}
+use Rattle.channel_interleaving.specs.NameTable.{key_of, is_polled, line_of_kind, operation_of, names_of, held_of}
+use Rattle.channel_interleaving.specs.declared.names.OnReturn.{OnReturn}
+use Rattle.channel_interleaving.specs.declared.names.OnReturn.TheVariants as on_return
+use Rattle.channel_interleaving.specs.declared.names.HandleEntry.{HandleEntry}
 use Rattle.channel_interleaving.specs.declared.names.Operation.{Operation}
 use Rattle.channel_interleaving.specs.declared.names.OperationKind.{OperationKind}
 use Rattle.channel_interleaving.specs.declared.names.OperationKind.TheVariants as kind
-use Rattle.channel_interleaving.specs.declared.names.Standing.{Standing}
-use Rattle.channel_interleaving.specs.declared.names.Standing.TheVariants.{Rests, Waits, IsPolled}
-use Rattle.channel_interleaving.specs.declared.roll.Roll.{Roll}
-use Rattle.channel_interleaving.proofs.OwnerNames.{Sets, Same, op_post, found, op_changed}
+use Rattle.channel_interleaving.specs.declared.names.PollState.{PollState}
+use Rattle.channel_interleaving.specs.declared.names.PollState.TheVariants.{Rests, Waits, IsPolled}
+use Rattle.channel_interleaving.specs.declared.name_table.NameTable.{NameTable}
+use Rattle.channel_interleaving.proofs.OwnerNames.{Sets, Same, op_status, found, op_changed}
 use Rattle.channel_interleaving.proofs.RefusalLemmas as seen
 
 -- a name at which some call works
-abbrev pub IsBusy : Post → Type 0
-IsBusy vacant = Unit {0}
+abbrev pub IsBusy : NameStatus → Type 0
+IsBusy retired = Unit {0}
 IsBusy (polled line) = Unit {0}
 IsBusy free = ⊥
-IsBusy amiss = ⊥
+IsBusy invalid = ⊥
 IsBusy (rests line) = ⊥
 IsBusy (waits h is_woken) = ⊥
 
 -- one at which none works
-abbrev pub IsLoose : Post → Type 0
+abbrev pub IsLoose : NameStatus → Type 0
 IsLoose free = Unit {0}
 IsLoose (rests line) = Unit {0}
 IsLoose (waits h is_woken) = Unit {0}
-IsLoose vacant = ⊥
-IsLoose amiss = ⊥
+IsLoose retired = ⊥
+IsLoose invalid = ⊥
 IsLoose (polled line) = ⊥
 
-abbrev pub held_in : Post → Option Held
+abbrev pub held_in : NameStatus → Option Held
 held_in (waits h is_woken) = Some h
 held_in free = None
-held_in vacant = None
-held_in amiss = None
+held_in retired = None
+held_in invalid = None
 held_in (rests line) = None
 held_in (polled line) = None
 
@@ -177,7 +177,7 @@ module _ {T W : Type 0} where
   pub starts : (a : ChannelAsk T W) (r : Option (Reply T)) (s : Stage (Phase T) T W) → Turned (first a) r s → Starts a s
   starts a r s h = taken a (first a) r s h (first_turn a)
 
-pub handle_there : (o : Option Hold) → is_some (option_map (λ (h : Hold). h.handle) o) ≡ true → (x : Hold) × (o ≡ Some x)
+pub handle_there : (o : Option HandleEntry) → is_some (option_map (λ (h : HandleEntry). h.handle) o) ≡ true → (x : HandleEntry) × (o ≡ Some x)
 handle_there None h = absurd (let no : false ≡ true = h in cc)
 handle_there (Some x) h = (x, refl)
 
@@ -189,20 +189,20 @@ not_false : (b : Bool) → not b ≡ false → b ≡ true
 not_false true e = refl
 not_false false e = absurd (let no : true ≡ false = e in cc)
 
-pub untaken : {X : Type 0} (p : X → Post) (n : ℕ) (d : Directory X) → is_taken n d ≡ false → posted p (lookup (nat_eq n) d) ≡ free
+pub untaken : {X : Type 0} (p : X → NameStatus) (n : ℕ) (d : Directory X) → is_taken n d ≡ false → status_by p (lookup (nat_eq n) d) ≡ free
 untaken {X} p n d h = by (lookup (nat_eq n) d) h
   where
-    by : (o : Option (Option X)) → is_some o ≡ false → posted p o ≡ free
+    by : (o : Option (Option X)) → is_some o ≡ false → status_by p o ≡ free
     by None e = refl
     by (Some x) e = absurd (let no : true ≡ false = e in cc)
 
-pub on_line : (line : Line) (s : Standing) → is_polled s ≡ false
-    → (held_on line (key_of s) ≡ held_in (post_on line s)) × IsLoose (post_on line s)
+pub on_line : (line : Line) (s : PollState) → is_polled s ≡ false
+    → (held_on line (key_of s) ≡ held_in (status_on line s)) × IsLoose (status_on line s)
 on_line line Rests e = (refl, tt)
 on_line line (Waits key is_woken) e = (refl, tt)
 on_line line (IsPolled b) e = absurd (let no : true ≡ false = e in cc)
 
-lent_polled : (T : Type 0) (k : OperationKind) (b : Bool) → operation_post {T = T} k None (IsPolled b) ≡ polled (line_of_kind k)
+lent_polled : (T : Type 0) (k : OperationKind) (b : Bool) → operation_status {T = T} k None (IsPolled b) ≡ polled (line_of_kind k)
 lent_polled T kind.Send b = refl
 lent_polled T kind.Receive b = refl
 lent_polled T kind.Closing b = refl
@@ -211,16 +211,16 @@ module _ {T : Type 0} where
   -- ---- what a call touches
 
   -- the names stand as before, and the call has no listener and waits for nobody
-  pub record Quiet (p p' : Waiter → Post) (e : Errand T) (a : ChannelAsk T Waiter) : Type 0 where
+  pub record Quiet (p p' : Waiter → NameStatus) (e : OnReturn T) (a : ChannelAsk T Waiter) : Type 0 where
     pub same : Same p p'
     pub nobody : subject e ≡ None
     pub patient : wait_of a ≡ None
     pub empty : ask_holds a ≡ None
 
   -- one name, at which no call works, is vacant or polled from now on, and the call has the listener that was held under it
-  pub record Touches (p p' : Waiter → Post) (e : Errand T) (a : ChannelAsk T Waiter) : Type 0 where
+  pub record Touches (p p' : Waiter → NameStatus) (e : OnReturn T) (a : ChannelAsk T Waiter) : Type 0 where
     pub name : Waiter
-    pub now : Post
+    pub now : NameStatus
     pub sets : Sets p p' name now
     pub busy : IsBusy now
     pub loose : IsLoose (p name)
@@ -236,13 +236,13 @@ module _ {T : Type 0} where
   there (Some x) h = (x, refl)
 
   -- a call that is not refused
-  pub record Admitted (r : Roll T) (c : Call T) : Type 0 where
+  pub record Admitted (r : NameTable T) (c : Call T) : Type 0 where
     pub live : list_all (is_live (names_of r)) (uses c) ≡ true
     pub fit : are_fit (names_of r) c ≡ true
     pub free_of_polls : meets_poll r c ≡ false
     pub new : takes_again r c ≡ false
 
-  pub admitted : (r : Roll T) (c : Call T) → begin_refusal r c ≡ None → Admitted r c
+  pub admitted : (r : NameTable T) (c : Call T) → begin_refusal r c ≡ None → Admitted r c
   admitted r c h =
       let a = if_none (not (list_all (is_live (names_of r)) (uses c))) _ _ h in
       let b = if_none (not (are_fit (names_of r) c)) _ _ a.1 in
@@ -251,15 +251,15 @@ module _ {T : Type 0} where
       let f = if_none (takes_again r c) _ None e.1 in
       record { live = not_false _ a.0; fit = not_false _ b.0; free_of_polls = d.0; new = f.0 }
 
-  pub lives_as : (r : Roll T) (op : OpId) → (is_some (at op.0 (names_of r).operations) && true) ≡ true
+  pub lives_as : (r : NameTable T) (op : OpId) → (is_some (at op.0 (names_of r).operations) && true) ≡ true
       → (o : Operation T) × (at op.0 r.operations ≡ Some o)
   lives_as r op h =
       there (at op.0 r.operations)
       (ap (λ o. is_some o) (sym (seen.operation_at r op.0))
       ∙ (sym (seen.and_true (is_some (at op.0 (names_of r).operations))) ∙ h))
 
-  pub handle_as : (r : Roll T) (handle : HandleId) → (is_some (at handle.0 (names_of r).handles) && true) ≡ true
-      → (h : Hold) × (at handle.0 r.handles ≡ Some h)
+  pub handle_as : (r : NameTable T) (handle : HandleId) → (is_some (at handle.0 (names_of r).handles) && true) ≡ true
+      → (h : HandleEntry) × (at handle.0 r.handles ≡ Some h)
   handle_as r handle h =
       handle_there (at handle.0 r.handles)
       (ap (λ o. is_some o) (sym (seen.handle_at r handle.0))
@@ -277,11 +277,11 @@ module _ {T : Type 0} where
   poll_is held op kind.Receive h m key e = ap (λ x. ask.PollRecv (lent x) (Op op)) e
   poll_is held op kind.Closing h m key e = ap (λ x. ask.PollClosed x (Op op)) e
 
-  abbrev pub Free : OperationKind → Option T → Standing → Type 0
-  Free k m s = (is_polled s ≡ false) × (operation_post k m s ≡ amiss → ⊥)
+  abbrev pub Free : OperationKind → Option T → PollState → Type 0
+  Free k m s = (is_polled s ≡ false) × (operation_status k m s ≡ invalid → ⊥)
 
-  pub op_held : (k : OperationKind) (m : Option T) (s : Standing) → Free k m s
-      → (held_on (line_of_kind k) (key_of s) ≡ held_in (operation_post k m s)) × IsLoose (operation_post k m s)
+  pub op_held : (k : OperationKind) (m : Option T) (s : PollState) → Free k m s
+      → (held_on (line_of_kind k) (key_of s) ≡ held_in (operation_status k m s)) × IsLoose (operation_status k m s)
   op_held kind.Send None Rests f = (refl, tt)
   op_held kind.Send None (Waits key is_woken) f = absurd (f.1 refl)
   op_held kind.Send None (IsPolled b) f = absurd (let no : true ≡ false = f.0 in cc)
@@ -289,7 +289,7 @@ module _ {T : Type 0} where
   op_held kind.Receive m s f = on_line Receives s f.0
   op_held kind.Closing m s f = on_line Closings s f.0
 
-  poll_holds : (op : OpId) (k : OperationKind) (m : Option T) (s : Standing) → Free k m s
+  poll_holds : (op : OpId) (k : OperationKind) (m : Option T) (s : PollState) → Free k m s
       → ask_holds (polled_ask k m (key_of s) op) ≡ held_on (line_of_kind k) (key_of s)
   poll_holds op kind.Send None Rests f = refl
   poll_holds op kind.Send None (Waits key is_woken) f = absurd (f.1 refl)
@@ -306,54 +306,54 @@ module _ {T : Type 0} where
   poll_waits op kind.Closing m key = inr refl
 
   -- what is known of an operation that a call begins to poll, or gives up
-  pub record Found (r : Roll T) (op : OpId) : Type 0 where
+  pub record Found (r : NameTable T) (op : OpId) : Type 0 where
     pub operation : Operation T
     pub is : at op.0 r.operations ≡ Some operation
-    pub loose : Free operation.kind operation.message operation.standing
+    pub loose : Free operation.kind operation.message operation.poll_state
 
-  abbrev pub Sane : Roll T → Type 0
-  Sane r = (w : Waiter) → post r w ≡ amiss → ⊥
+  abbrev pub Sane : NameTable T → Type 0
+  Sane r = (w : Waiter) → status r w ≡ invalid → ⊥
 
-  pub op_is : (r : Roll T) (op : OpId) (o : Operation T) → at op.0 r.operations ≡ Some o → post r (Op op) ≡ op_post o
-  op_is r op o e = ap (λ x. posted op_post x) (found op.0 r.operations o e)
+  pub op_is : (r : NameTable T) (op : OpId) (o : Operation T) → at op.0 r.operations ≡ Some o → status r (Op op) ≡ op_status o
+  op_is r op o e = ap (λ x. status_by op_status x) (found op.0 r.operations o e)
 
-  pub find : (r : Roll T) (op : OpId) → Sane r → (is_some (at op.0 (names_of r).operations) && true) ≡ true
-      → option_map_or (λ (o : Operation T). is_polled o.standing) (at op.0 r.operations) false ≡ false → Found r op
+  pub find : (r : NameTable T) (op : OpId) → Sane r → (is_some (at op.0 (names_of r).operations) && true) ≡ true
+      → option_map_or (λ (o : Operation T). is_polled o.poll_state) (at op.0 r.operations) false ≡ false → Found r op
   find r op sane live idle =
       let o = lives_as r op live in
       record {
         operation = o.0;
         is = o.1;
         loose = (
-          sym (ap (λ x. option_map_or (λ (o : Operation T). is_polled o.standing) x false) o.1) ∙ idle,
+          sym (ap (λ x. option_map_or (λ (o : Operation T). is_polled o.poll_state) x false) o.1) ∙ idle,
           λ bad. sane (Op op) (op_is r op o.0 o.1 ∙ bad),
         );
       }
 
-  pub key_is : (r : Roll T) (op : OpId) (o : Operation T) → at op.0 r.operations ≡ Some o → held_of r (Op op) ≡ key_of o.standing
-  key_is r op o e = ap (λ x. option_map_or (λ (o : Operation T). key_of o.standing) x None) e
+  pub key_is : (r : NameTable T) (op : OpId) (o : Operation T) → at op.0 r.operations ≡ Some o → held_of r (Op op) ≡ key_of o.poll_state
+  key_is r op o e = ap (λ x. option_map_or (λ (o : Operation T). key_of o.poll_state) x None) e
 
-  pub held_is : (r : Roll T) (op : OpId) (f : Found r op)
-      → held_on (line_of_kind f.operation.kind) (key_of f.operation.standing) ≡ held_in (post r (Op op))
-  held_is r op f = (op_held f.operation.kind f.operation.message f.operation.standing f.loose).0
+  pub held_is : (r : NameTable T) (op : OpId) (f : Found r op)
+      → held_on (line_of_kind f.operation.kind) (key_of f.operation.poll_state) ≡ held_in (status r (Op op))
+  held_is r op f = (op_held f.operation.kind f.operation.message f.operation.poll_state f.loose).0
       ∙ ap held_in (sym (op_is r op f.operation f.is))
 
-  pub loose_is : (r : Roll T) (op : OpId) (f : Found r op) → IsLoose (post r (Op op))
+  pub loose_is : (r : NameTable T) (op : OpId) (f : Found r op) → IsLoose (status r (Op op))
   loose_is r op f = subst IsLoose (sym (op_is r op f.operation f.is))
-      (op_held f.operation.kind f.operation.message f.operation.standing f.loose).1
+      (op_held f.operation.kind f.operation.message f.operation.poll_state f.loose).1
 
-  pub now_polled : (r : Roll T) (op : OpId) (f : Found r op)
-      → Sets (post r) (post (with_operation lent_to_poll op r)) (Op op) (polled (line_of_kind f.operation.kind))
+  pub now_polled : (r : NameTable T) (op : OpId) (f : Found r op)
+      → Sets (status r) (status (with_operation lent_to_poll op r)) (Op op) (polled (line_of_kind f.operation.kind))
   now_polled r op f =
       let s = op_changed r op lent_to_poll f.operation f.is in
       record { there = s.there ∙ lent_polled T f.operation.kind (is_some f.operation.message); others = s.others }
 
-  pub polls : (r : Roll T) (op : OpId) → Found r op
-      → Touches (post r) (post (names_begun r (call.Poll op))) (errand.Poll op) (asks r (call.Poll op))
+  pub polls : (r : NameTable T) (op : OpId) → Found r op
+      → Touches (status r) (status (names_begun r (call.Poll op))) (on_return.Poll op) (asks r (call.Poll op))
   polls r op f =
       let o = f.operation in
-      let same : asks r (call.Poll op) ≡ polled_ask o.kind o.message (key_of o.standing) op = ap (λ x. poll_asked (held_of r) op
-      (option_map operation_of x)) f.is ∙ poll_is (held_of r) op o.kind o.handle o.message (key_of o.standing)
+      let same : asks r (call.Poll op) ≡ polled_ask o.kind o.message (key_of o.poll_state) op = ap (λ x. poll_asked (held_of r) op
+      (option_map operation_of x)) f.is ∙ poll_is (held_of r) op o.kind o.handle o.message (key_of o.poll_state)
       (key_is r op o f.is) in
       let s = now_polled r op f in
       record {
@@ -362,12 +362,12 @@ module _ {T : Type 0} where
         sets = s;
         busy = tt;
         loose = loose_is r op f;
-        takes = ap ask_holds same ∙ (poll_holds op o.kind o.message o.standing f.loose ∙ held_is r op f);
+        takes = ap ask_holds same ∙ (poll_holds op o.kind o.message o.poll_state f.loose ∙ held_is r op f);
         suits = (
           line_of_kind o.kind,
           s.there,
           subst (λ (a : ChannelAsk T Waiter). (wait_of a ≡ None) ⊎ (wait_of a ≡ Some (line_of_kind o.kind, Op op))) (sym same)
-              (poll_waits op o.kind o.message (key_of o.standing)),
+              (poll_waits op o.kind o.message (key_of o.poll_state)),
         );
         whose = inr refl;
         works = λ line i. refl;

@@ -23,27 +23,27 @@ use Rattle.channel_model.specs.declared.name.HandleKind.TheVariants as handle_ki
 use Rattle.channel_model.specs.declared.name.OpId.{OpId}
 use Rattle.channel_model.specs.declared.name.Waiter.{Waiter}
 use Rattle.channel_model.specs.declared.name.Waiter.TheVariants.{Op, Stream}
-use Rattle.channel_interleaving.specs.Bookkeeping.{asks, errand_of, names_begun, lent_by, handed_over_by, leave_handle_of, new_from, operation_named, handle_named}
-use Rattle.channel_interleaving.specs.Owners.{Post, free, vacant, amiss, polled, post_on, no_stream_post, stream_post, posted, post, wait_of, subject, Suits}
+use Rattle.channel_interleaving.specs.Bookkeeping.{asks, on_return_of, names_begun, lent_by, handed_over_by, leave_handle_of, new_from, operation_named, handle_named}
+use Rattle.channel_interleaving.specs.Owners.{NameStatus, free, retired, invalid, polled, status_on, no_stream_status, stream_status, status_by, status, wait_of, subject, Suits}
 use Rattle.channel_interleaving.specs.Refusal.{is_stream_polled}
-use Rattle.channel_interleaving.specs.Roll.{key_of, is_polled, line_of_kind, operation_of, names_of, handle_at, held_of, with_lent, with_borrowed, with_standing}
-use Rattle.channel_interleaving.specs.declared.names.Errand.TheVariants as errand
-use Rattle.channel_interleaving.specs.declared.names.Hold.{Hold}
+use Rattle.channel_interleaving.specs.NameTable.{key_of, is_polled, line_of_kind, operation_of, names_of, handle_at, held_of, with_lent, with_borrowed, with_poll_state}
+use Rattle.channel_interleaving.specs.declared.names.OnReturn.TheVariants as on_return
+use Rattle.channel_interleaving.specs.declared.names.HandleEntry.{HandleEntry}
 use Rattle.channel_interleaving.specs.declared.names.Operation.{Operation}
 use Rattle.channel_interleaving.specs.declared.names.OperationKind.{OperationKind}
 use Rattle.channel_interleaving.specs.declared.names.OperationKind.TheVariants as kind
-use Rattle.channel_interleaving.specs.declared.names.Standing.{Standing}
-use Rattle.channel_interleaving.specs.declared.names.Standing.TheVariants.{Rests, Waits, IsPolled}
-use Rattle.channel_interleaving.specs.declared.roll.Roll.{Roll}
+use Rattle.channel_interleaving.specs.declared.names.PollState.{PollState}
+use Rattle.channel_interleaving.specs.declared.names.PollState.TheVariants.{Rests, Waits, IsPolled}
+use Rattle.channel_interleaving.specs.declared.name_table.NameTable.{NameTable}
 use Rattle.channel_interleaving.proofs.OwnerBegins.{IsLoose, held_in, ask_holds, Quiet, Touches, Admitted, handle_as, untaken, on_line, as_model, Sane, Found, find, key_is, held_is, loose_is, now_polled, polls}
-use Rattle.channel_interleaving.proofs.OwnerNames.{Sets, Same, same_both, sets_same, op_post, hold_post, found, op_set, op_spent, handle_set, handle_spent, handle_changed, lent_same, borrowed_same, handed_over_same}
+use Rattle.channel_interleaving.proofs.OwnerNames.{Sets, Same, same_both, sets_same, op_status, handle_entry_status, found, op_set, op_spent, handle_set, handle_spent, handle_changed, lent_same, borrowed_same, handed_over_same}
 use Rattle.channel_interleaving.proofs.RefusalLemmas as seen
 
-abbrev Idle : HandleKind → Standing → Type 0
-Idle k s = (is_polled s ≡ false) × (stream_post k s ≡ amiss → ⊥)
+abbrev Idle : HandleKind → PollState → Type 0
+Idle k s = (is_polled s ≡ false) × (stream_status k s ≡ invalid → ⊥)
 
-no_stream_held : (s : Standing) → (no_stream_post s ≡ amiss → ⊥)
-    → (let none : Option Held = None in none ≡ held_in (no_stream_post s)) × IsLoose (no_stream_post s)
+no_stream_held : (s : PollState) → (no_stream_status s ≡ invalid → ⊥)
+    → (let none : Option Held = None in none ≡ held_in (no_stream_status s)) × IsLoose (no_stream_status s)
 no_stream_held Rests f = (refl, tt)
 no_stream_held (Waits key is_woken) f = absurd (f refl)
 no_stream_held (IsPolled b) f = absurd (f refl)
@@ -63,8 +63,8 @@ module _ (T : Type 0) where
     | handle_kind.WeakReceiver ↦ ask.DropWeak
   ]
 
-  drop_held : (k : HandleKind) (s : Standing) → Idle k s → (ask_holds (drop_is k (key_of s)) ≡ held_in (stream_post k s))
-      × IsLoose (stream_post k s)
+  drop_held : (k : HandleKind) (s : PollState) → Idle k s → (ask_holds (drop_is k (key_of s)) ≡ held_in (stream_status k s))
+      × IsLoose (stream_status k s)
   drop_held handle_kind.Receiver s f = on_line Streams s f.0
   drop_held handle_kind.Sender s f = no_stream_held s f.1
   drop_held handle_kind.WeakSender s f = no_stream_held s f.1
@@ -81,8 +81,8 @@ module _ (T : Type 0) where
   new_whose from new k None = inl refl
   new_whose from new k (Some h) = inr refl
 
-  new_suits : (p : Waiter → Post) (from new : HandleId) (k : HandleKind → HandleKind) (o : Option Handle)
-      (wait : Option (Line × Waiter)) → p (Stream new) ≡ vacant → wait ≡ None → Suits {T = T} p (new_from from new k o) wait
+  new_suits : (p : Waiter → NameStatus) (from new : HandleId) (k : HandleKind → HandleKind) (o : Option Handle)
+      (wait : Option (Line × Waiter)) → p (Stream new) ≡ retired → wait ≡ None → Suits {T = T} p (new_from from new k o) wait
   new_suits p from new k None wait v e = e
   new_suits p from new k (Some h) wait v e = (v, e)
 
@@ -138,19 +138,19 @@ module _ {T : Type 0} where
   leaves_nobody None = refl
   leaves_nobody (Some o) = refl
 
-  leaves_suit : (p : Waiter → Post) (o : Option (Operation T)) (wait : Option (Line × Waiter)) → wait ≡ None
+  leaves_suit : (p : Waiter → NameStatus) (o : Option (Operation T)) (wait : Option (Line × Waiter)) → wait ≡ None
       → Suits p (leave_handle_of o) wait
   leaves_suit p None wait e = e
   leaves_suit p (Some o) wait e = e
 
   -- ---- operations
 
-  refuses : (r : Roll T) (op : OpId) → Found r op
-      → Touches (post r) (post (names_begun r (call.PollRefused op))) (errand.Poll op) (asks r (call.PollRefused op))
+  refuses : (r : NameTable T) (op : OpId) → Found r op
+      → Touches (status r) (status (names_begun r (call.PollRefused op))) (on_return.Poll op) (asks r (call.PollRefused op))
   refuses r op f =
       let o = f.operation in
-      let is = refusal_is (held_of r) op o.kind o.handle o.message (key_of o.standing) (key_is r op o f.is) in
-      let same : asks r (call.PollRefused op) ≡ ask.RefusePoll (line_of_kind o.kind) is.0 (key_of o.standing) =
+      let is = refusal_is (held_of r) op o.kind o.handle o.message (key_of o.poll_state) (key_is r op o f.is) in
+      let same : asks r (call.PollRefused op) ≡ ask.RefusePoll (line_of_kind o.kind) is.0 (key_of o.poll_state) =
       ap (λ x. refusal_asked (held_of r) op (option_map operation_of x)) f.is ∙ is.1 in
       let s = now_polled r op f in
       record {
@@ -165,40 +165,40 @@ module _ {T : Type 0} where
         works = λ line i. refl;
       }
 
-  gives_up : (r : Roll T) (op : OpId) → Found r op
-      → Touches (post r) (post (names_begun r (call.GiveUp op))) (errand_of r (call.GiveUp op)) (asks r (call.GiveUp op))
+  gives_up : (r : NameTable T) (op : OpId) → Found r op
+      → Touches (status r) (status (names_begun r (call.GiveUp op))) (on_return_of r (call.GiveUp op)) (asks r (call.GiveUp op))
   gives_up r op f =
       let o = f.operation in
-      let is = giving_up_is (held_of r) op o.kind o.handle o.message (key_of o.standing) (key_is r op o f.is) in
-      let same : asks r (call.GiveUp op) ≡ ask.GiveUp (line_of_kind o.kind) is.0 (key_of o.standing) =
+      let is = giving_up_is (held_of r) op o.kind o.handle o.message (key_of o.poll_state) (key_is r op o f.is) in
+      let same : asks r (call.GiveUp op) ≡ ask.GiveUp (line_of_kind o.kind) is.0 (key_of o.poll_state) =
       ap (λ x. giving_up_asked (held_of r) op (option_map operation_of x)) f.is ∙ is.1 in
       let looked : is_some (lookup (nat_eq op.0) r.operations) ≡ true = ap (λ x. is_some x) (found op.0 r.operations o f.is) in
-      let gone : Roll T = record r { operations = without_name op.0 r.operations } in
+      let gone : NameTable T = record r { operations = without_name op.0 r.operations } in
       record {
         name = Op op;
-        now = vacant;
-        sets = sets_same (post r) (post gone) (post (handed_over_by (at op.0 r.operations) gone)) (Op op) vacant (op_set r op None looked)
+        now = retired;
+        sets = sets_same (status r) (status gone) (status (handed_over_by (at op.0 r.operations) gone)) (Op op) retired (op_set r op None looked)
             (handed_over_same gone (at op.0 r.operations));
         busy = tt;
         loose = loose_is r op f;
         takes = ap ask_holds same ∙ held_is r op f;
-        suits = leaves_suit (post (names_begun r (call.GiveUp op))) (at op.0 r.operations) (wait_of (asks r (call.GiveUp op)))
+        suits = leaves_suit (status (names_begun r (call.GiveUp op))) (at op.0 r.operations) (wait_of (asks r (call.GiveUp op)))
             (ap wait_of same);
         whose = inl (leaves_nobody (at op.0 r.operations));
-        works = λ line i. absurd (let no : vacant ≡ polled line = i in cc);
+        works = λ line i. absurd (let no : retired ≡ polled line = i in cc);
       }
 
   -- a new operation has a new name
-  names_operation : (r : Roll T) (op : OpId) (handle : HandleId) (o : Operation T) → o.standing ≡ Rests
+  names_operation : (r : NameTable T) (op : OpId) (handle : HandleId) (o : Operation T) → o.poll_state ≡ Rests
       → is_taken op.0 r.operations ≡ false
-      → Touches (post r) (post (with_borrowed handle (operation_named op r))) (errand.Make op o) ask.Make
+      → Touches (status r) (status (with_borrowed handle (operation_named op r))) (on_return.Make op o) ask.Make
   names_operation r op handle o new untook =
-      let s = sets_same (post r) (post (operation_named op r)) (post (with_borrowed handle (operation_named op r))) (Op op) vacant
+      let s = sets_same (status r) (status (operation_named op r)) (status (with_borrowed handle (operation_named op r))) (Op op) retired
       (op_spent r op) (borrowed_same (operation_named op r) handle) in
-      let is_free : post r (Op op) ≡ free = untaken op_post op.0 r.operations untook in
+      let is_free : status r (Op op) ≡ free = untaken op_status op.0 r.operations untook in
       record {
         name = Op op;
-        now = vacant;
+        now = retired;
         sets = s;
         busy = tt;
         loose = subst IsLoose (sym is_free) tt;
@@ -208,90 +208,90 @@ module _ {T : Type 0} where
         works = λ line i. refl;
       }
 
-  lent_by_same : (r : Roll T) (o : Option (Operation T)) → Same (post r) (post (lent_by o r))
+  lent_by_same : (r : NameTable T) (o : Option (Operation T)) → Same (status r) (status (lent_by o r))
   lent_by_same r None v = refl
   lent_by_same r (Some o) v = lent_same r o.handle v
 
   -- ---- handles
 
   -- what is known of a handle that a call takes whole
-  record Seen (r : Roll T) (handle : HandleId) : Type 0 where
-    pub hold : Hold
-    pub is : at handle.0 r.handles ≡ Some hold
-    pub idle : Idle hold.handle.kind hold.standing
+  record Seen (r : NameTable T) (handle : HandleId) : Type 0 where
+    pub handle_entry : HandleEntry
+    pub is : at handle.0 r.handles ≡ Some handle_entry
+    pub idle : Idle handle_entry.handle.kind handle_entry.poll_state
 
-  pub hold_is : (r : Roll T) (handle : HandleId) (h : Hold) → at handle.0 r.handles ≡ Some h
-      → post r (Stream handle) ≡ hold_post h
-  hold_is r handle h e = ap (λ x. posted hold_post x) (found handle.0 r.handles h e)
+  pub hold_is : (r : NameTable T) (handle : HandleId) (h : HandleEntry) → at handle.0 r.handles ≡ Some h
+      → status r (Stream handle) ≡ handle_entry_status h
+  hold_is r handle h e = ap (λ x. status_by handle_entry_status x) (found handle.0 r.handles h e)
 
-  see : (r : Roll T) (handle : HandleId) → Sane r → (is_some (at handle.0 (names_of r).handles) && true) ≡ true
+  see : (r : NameTable T) (handle : HandleId) → Sane r → (is_some (at handle.0 (names_of r).handles) && true) ≡ true
       → (is_stream_polled handle.0 r || false) ≡ false → Seen r handle
   see r handle sane live idle =
       let h = handle_as r handle live in
       record {
-        hold = h.0;
+        handle_entry = h.0;
         is = h.1;
         idle = (
-          sym (ap (λ x. option_map_or (λ (h : Hold). is_polled h.standing) x false) h.1)
+          sym (ap (λ x. option_map_or (λ (h : HandleEntry). is_polled h.poll_state) x false) h.1)
               ∙ (sym (seen.or_false (is_stream_polled handle.0 r)) ∙ idle),
           λ bad. sane (Stream handle) (hold_is r handle h.0 h.1 ∙ bad),
         );
       }
 
-  stream_key : (r : Roll T) (handle : HandleId) (h : Hold) → at handle.0 r.handles ≡ Some h
-      → held_of r (Stream handle) ≡ key_of h.standing
-  stream_key r handle h e = ap (λ x. option_map_or (λ (h : Hold). key_of h.standing) x None) e
+  stream_key : (r : NameTable T) (handle : HandleId) (h : HandleEntry) → at handle.0 r.handles ≡ Some h
+      → held_of r (Stream handle) ≡ key_of h.poll_state
+  stream_key r handle h e = ap (λ x. option_map_or (λ (h : HandleEntry). key_of h.poll_state) x None) e
 
   drop_asks : (held : HeldBy) (handle : HandleId) (h : Handle) (key : Option Key) → held (Stream handle) ≡ key
       → drop_asked {T = T} held handle (Some h) ≡ drop_is T h.kind key
   drop_asks held handle h key e = ap (λ x. drop_is T h.kind x) e
 
-  drops : (r : Roll T) (handle : HandleId) → Seen r handle
-      → Touches (post r) (post (names_begun r (call.Drop handle))) (errand.Nothing) (asks r (call.Drop handle))
+  drops : (r : NameTable T) (handle : HandleId) → Seen r handle
+      → Touches (status r) (status (names_begun r (call.Drop handle))) (on_return.Nothing) (asks r (call.Drop handle))
   drops r handle f =
-      let h = f.hold in
-      let same : asks r (call.Drop handle) ≡ drop_is T h.handle.kind (key_of h.standing) =
-      ap (λ x. drop_asked (held_of r) handle (option_map (λ (h : Hold). h.handle) x)) f.is
-      ∙ drop_asks (held_of r) handle h.handle (key_of h.standing) (stream_key r handle h f.is) in
-      let held = drop_held T h.handle.kind h.standing f.idle in
+      let h = f.handle_entry in
+      let same : asks r (call.Drop handle) ≡ drop_is T h.handle.kind (key_of h.poll_state) =
+      ap (λ x. drop_asked (held_of r) handle (option_map (λ (h : HandleEntry). h.handle) x)) f.is
+      ∙ drop_asks (held_of r) handle h.handle (key_of h.poll_state) (stream_key r handle h f.is) in
+      let held = drop_held T h.handle.kind h.poll_state f.idle in
       let looked : is_some (lookup (nat_eq handle.0) r.handles) ≡ true = ap (λ x. is_some x) (found handle.0 r.handles h f.is) in
       record {
         name = Stream handle;
-        now = vacant;
+        now = retired;
         sets = handle_set r handle None looked;
         busy = tt;
         loose = subst IsLoose (sym (hold_is r handle h f.is)) held.1;
         takes = ap ask_holds same ∙ (held.0 ∙ ap held_in (sym (hold_is r handle h f.is)));
-        suits = ap wait_of same ∙ drop_waits T h.handle.kind (key_of h.standing);
+        suits = ap wait_of same ∙ drop_waits T h.handle.kind (key_of h.poll_state);
         whose = inl refl;
-        works = λ line i. absurd (let no : vacant ≡ polled line = i in cc);
+        works = λ line i. absurd (let no : retired ≡ polled line = i in cc);
       }
 
-  receives : (r : Roll T) (handle : HandleId) (h : Hold) → at handle.0 r.handles ≡ Some h
+  receives : (r : NameTable T) (handle : HandleId) (h : HandleEntry) → at handle.0 r.handles ≡ Some h
       → (option_map_or (λ (h : Handle). handle_fits a_receiver h.kind) (at handle.0 (names_of r).handles) false && true) ≡ true
       → h.handle.kind ≡ handle_kind.Receiver
   receives r handle h e fit =
       is_receiver h.handle.kind (
-      ap (λ x. option_map_or (λ (h : Handle). handle_fits a_receiver h.kind) (option_map (λ (h : Hold). h.handle) x) false)
+      ap (λ x. option_map_or (λ (h : Handle). handle_fits a_receiver h.kind) (option_map (λ (h : HandleEntry). h.handle) x) false)
       (sym e)
       ∙ (ap (λ x. option_map_or (λ (h : Handle). handle_fits a_receiver h.kind) x false) (sym (seen.handle_at r handle.0))
       ∙ (sym (seen.and_true _) ∙ fit))
       )
 
-  streams : (r : Roll T) (handle : HandleId) (f : Seen r handle) → f.hold.handle.kind ≡ handle_kind.Receiver
-      → Touches (post r) (post (names_begun r (call.PollNext handle))) (errand.PollNext handle) (asks r (call.PollNext handle))
+  streams : (r : NameTable T) (handle : HandleId) (f : Seen r handle) → f.handle_entry.handle.kind ≡ handle_kind.Receiver
+      → Touches (status r) (status (names_begun r (call.PollNext handle))) (on_return.PollNext handle) (asks r (call.PollNext handle))
   streams r handle f receiver =
-      let h = f.hold in
-      let lent = with_standing (IsPolled false) handle r in
-      let s = handle_changed r handle (λ (x : Hold). record x { standing = IsPolled false }) h f.is in
-      let now_is : stream_post h.handle.kind (IsPolled false) ≡ polled Streams =
-      ap (λ k. stream_post k (IsPolled false)) receiver in
-      let sets : Sets (post r) (post lent) (Stream handle) (polled Streams) =
+      let h = f.handle_entry in
+      let lent = with_poll_state (IsPolled false) handle r in
+      let s = handle_changed r handle (λ (x : HandleEntry). record x { poll_state = IsPolled false }) h f.is in
+      let now_is : stream_status h.handle.kind (IsPolled false) ≡ polled Streams =
+      ap (λ k. stream_status k (IsPolled false)) receiver in
+      let sets : Sets (status r) (status lent) (Stream handle) (polled Streams) =
       record { there = s.there ∙ now_is; others = s.others } in
-      let all = sets_same (post r) (post lent) (post (with_lent handle lent)) (Stream handle) (polled Streams) sets
+      let all = sets_same (status r) (status lent) (status (with_lent handle lent)) (Stream handle) (polled Streams) sets
       (lent_same lent handle) in
-      let as_stream : hold_post h ≡ post_on Streams h.standing = ap (λ k. stream_post k h.standing) receiver in
-      let held = on_line Streams h.standing f.idle.0 in
+      let as_stream : handle_entry_status h ≡ status_on Streams h.poll_state = ap (λ k. stream_status k h.poll_state) receiver in
+      let held = on_line Streams h.poll_state f.idle.0 in
       let is = hold_is r handle h f.is ∙ as_stream in
       record {
         name = Stream handle;
@@ -306,36 +306,36 @@ module _ {T : Type 0} where
       }
 
   -- a new handle has a new name
-  names_handle : (r : Roll T) (from new : HandleId) (k : HandleKind → HandleKind) (o : Option Handle) (a : ChannelAsk T Waiter)
+  names_handle : (r : NameTable T) (from new : HandleId) (k : HandleKind → HandleKind) (o : Option Handle) (a : ChannelAsk T Waiter)
       → is_taken new.0 r.handles ≡ false → wait_of a ≡ None → ask_holds a ≡ None
-      → Touches (post r) (post (with_lent from (handle_named new r))) (new_from from new k o) a
+      → Touches (status r) (status (with_lent from (handle_named new r))) (new_from from new k o) a
   names_handle r from new k o a untook patient empty =
-      let s = sets_same (post r) (post (handle_named new r)) (post (with_lent from (handle_named new r))) (Stream new) vacant
+      let s = sets_same (status r) (status (handle_named new r)) (status (with_lent from (handle_named new r))) (Stream new) retired
       (handle_spent r new) (lent_same (handle_named new r) from) in
-      let is_free : post r (Stream new) ≡ free = untaken hold_post new.0 r.handles untook in
+      let is_free : status r (Stream new) ≡ free = untaken handle_entry_status new.0 r.handles untook in
       record {
         name = Stream new;
-        now = vacant;
+        now = retired;
         sets = s;
         busy = tt;
         loose = subst IsLoose (sym is_free) tt;
         takes = empty ∙ ap held_in (sym is_free);
-        suits = new_suits T (post (with_lent from (handle_named new r))) from new k o (wait_of a) s.there patient;
+        suits = new_suits T (status (with_lent from (handle_named new r))) from new k o (wait_of a) s.there patient;
         whose = new_whose T from new k o;
-        works = λ line i. absurd (let no : vacant ≡ polled line = i in cc);
+        works = λ line i. absurd (let no : retired ≡ polled line = i in cc);
       }
 
   -- ---- any call
 
-  abbrev pub BeginsSo : Roll T → Call T → Type 0
-  BeginsSo r c = Quiet (post r) (post (names_begun r c)) (errand_of r c) (asks r c)
-      ⊎ Touches (post r) (post (names_begun r c)) (errand_of r c) (asks r c)
+  abbrev pub BeginsSo : NameTable T → Call T → Type 0
+  BeginsSo r c = Quiet (status r) (status (names_begun r c)) (on_return_of r c) (asks r c)
+      ⊎ Touches (status r) (status (names_begun r c)) (on_return_of r c) (asks r c)
 
-  through : (r : Roll T) (handle : HandleId) (a : ChannelAsk T Waiter) → wait_of a ≡ None → ask_holds a ≡ None
-      → Quiet (post r) (post (with_lent handle r)) (errand.Leave handle) a
+  through : (r : NameTable T) (handle : HandleId) (a : ChannelAsk T Waiter) → wait_of a ≡ None → ask_holds a ≡ None
+      → Quiet (status r) (status (with_lent handle r)) (on_return.Leave handle) a
   through r handle a patient empty = record { same = lent_same r handle; nobody = refl; patient = patient; empty = empty }
 
-  pub begins_so : (r : Roll T) (c : Call T) → Sane r → Admitted r c → BeginsSo r c
+  pub begins_so : (r : NameTable T) (c : Call T) → Sane r → Admitted r c → BeginsSo r c
   begins_so r (call.NewSend op sender msg) sane a = inr (names_operation r op sender _ refl a.new)
   begins_so r (call.NewRecv op receiver) sane a = inr (names_operation r op receiver _ refl a.new)
   begins_so r (call.NewClosed op sender) sane a = inr (names_operation r op sender _ refl a.new)
@@ -351,7 +351,7 @@ module _ {T : Type 0} where
       })
   begins_so r (call.PollNext receiver) sane a =
       let f = see r receiver sane a.live a.free_of_polls in
-      inr (streams r receiver f (receives r receiver f.hold f.is a.fit))
+      inr (streams r receiver f (receives r receiver f.handle_entry f.is a.fit))
   begins_so r (call.Drop handle) sane a = inr (drops r handle (see r handle sane a.live a.free_of_polls))
   begins_so r (call.TryClone handle new) sane a = let p = clone_plain T (handle_at handle r) in
       inr (names_handle r handle new (λ k. k) (handle_at handle r) _ a.new p.0 p.1)
@@ -361,7 +361,7 @@ module _ {T : Type 0} where
       inr (names_handle r weak new strong_of (handle_at weak r) _ a.new p.0 p.1)
   begins_so r (call.SameChannel x y) sane a = inl
       (record {
-        same = same_both (post r) (post (with_lent x r)) (post (with_lent y (with_lent x r))) (lent_same r x)
+        same = same_both (status r) (status (with_lent x r)) (status (with_lent y (with_lent x r))) (lent_same r x)
             (lent_same (with_lent x r) y);
         nobody = refl;
         patient = refl;

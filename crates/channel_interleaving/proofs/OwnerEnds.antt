@@ -22,24 +22,24 @@ use Rattle.channel_model.specs.declared.name.OpId.{OpId}
 use Rattle.channel_model.specs.declared.name.Waiter.{Waiter}
 use Rattle.channel_model.specs.declared.name.Waiter.TheVariants.{Op, Stream}
 use Rattle.channel_interleaving.specs.Bookkeeping.{restored, installed, written_back}
-use Rattle.channel_interleaving.specs.Owners.{Post, free, vacant, amiss, rests, waits, polled, post_on, no_stream_post, stream_post, posted, operation_post, post, wait_of, subject, Suits}
-use Rattle.channel_interleaving.specs.Roll.{standing_with, line_of_kind, unused, with_given_back, with_standing}
-use Rattle.channel_interleaving.specs.declared.names.Errand.{Errand}
-use Rattle.channel_interleaving.specs.declared.names.Errand.TheVariants as errand
-use Rattle.channel_interleaving.specs.declared.names.Hold.{Hold}
+use Rattle.channel_interleaving.specs.Owners.{NameStatus, free, retired, invalid, rests, waits, polled, status_on, no_stream_status, stream_status, status_by, operation_status, status, wait_of, subject, Suits}
+use Rattle.channel_interleaving.specs.NameTable.{poll_state_with, line_of_kind, unused, with_given_back, with_poll_state}
+use Rattle.channel_interleaving.specs.declared.names.OnReturn.{OnReturn}
+use Rattle.channel_interleaving.specs.declared.names.OnReturn.TheVariants as on_return
+use Rattle.channel_interleaving.specs.declared.names.HandleEntry.{HandleEntry}
 use Rattle.channel_interleaving.specs.declared.names.Operation.{Operation}
 use Rattle.channel_interleaving.specs.declared.names.OperationKind.{OperationKind}
 use Rattle.channel_interleaving.specs.declared.names.OperationKind.TheVariants as kind
-use Rattle.channel_interleaving.specs.declared.names.Standing.{Standing}
-use Rattle.channel_interleaving.specs.declared.names.Standing.TheVariants.{Rests, Waits, IsPolled}
-use Rattle.channel_interleaving.specs.declared.roll.Roll.{Roll}
-use Rattle.channel_interleaving.proofs.OwnerNames.{Sets, Same, same_both, sets_same, same_sets, op_post, hold_post, op_set, op_changed, handle_set, handle_changed, given_back_same}
+use Rattle.channel_interleaving.specs.declared.names.PollState.{PollState}
+use Rattle.channel_interleaving.specs.declared.names.PollState.TheVariants.{Rests, Waits, IsPolled}
+use Rattle.channel_interleaving.specs.declared.name_table.NameTable.{NameTable}
+use Rattle.channel_interleaving.proofs.OwnerNames.{Sets, Same, same_both, sets_same, same_sets, op_status, handle_entry_status, op_set, op_changed, handle_set, handle_changed, given_back_same}
 
 -- neither pending nor amiss
-abbrev pub IsCalm : Post → Type 0
+abbrev pub IsCalm : NameStatus → Type 0
 IsCalm free = Unit {0}
-IsCalm vacant = Unit {0}
-IsCalm amiss = ⊥
+IsCalm retired = Unit {0}
+IsCalm invalid = ⊥
 IsCalm (rests line) = Unit {0}
 IsCalm (waits h is_woken) = ⊥
 IsCalm (polled line) = ⊥
@@ -48,51 +48,51 @@ some_is : {X : Type 0} (x y : X) → Some x ≡ Some y → x ≡ y
 some_is x y e = ap (λ (o : Option _). elim o [ None ↦ x | Some z ↦ z ]) e
 
 polled_is : (a b : Line) → polled a ≡ polled b → a ≡ b
-polled_is a b e = ap (λ (x : Post). elim x [ polled l ↦ l | free ↦ a | vacant ↦ a | amiss ↦ a | rests l ↦ a | waits h w ↦ a ]) e
+polled_is a b e = ap (λ (x : NameStatus). elim x [ polled l ↦ l | free ↦ a | retired ↦ a | invalid ↦ a | rests l ↦ a | waits h w ↦ a ]) e
 
-abbrev IsPolledNow : Post → Type 0
+abbrev IsPolledNow : NameStatus → Type 0
 IsPolledNow (polled line) = Unit {0}
 IsPolledNow free = ⊥
-IsPolledNow vacant = ⊥
-IsPolledNow amiss = ⊥
+IsPolledNow retired = ⊥
+IsPolledNow invalid = ⊥
 IsPolledNow (rests line) = ⊥
 IsPolledNow (waits h is_woken) = ⊥
 
-no_busy : (x : Post) (line : Line) → x ≡ polled line → IsPolledNow x
+no_busy : (x : NameStatus) (line : Line) → x ≡ polled line → IsPolledNow x
 no_busy x line e = subst IsPolledNow (sym e) tt
 
 -- what is vacant was taken
-vacant_taken : {X : Type 0} (p : X → Post) (o : Option (Option X)) → posted p o ≡ vacant → is_some o ≡ true
-vacant_taken p None e = absurd (let no : free ≡ vacant = e in cc)
+vacant_taken : {X : Type 0} (p : X → NameStatus) (o : Option (Option X)) → status_by p o ≡ retired → is_some o ≡ true
+vacant_taken p None e = absurd (let no : free ≡ retired = e in cc)
 vacant_taken p (Some x) e = refl
 
-polled_there : {X : Type 0} (p : X → Post) (n : ℕ) (d : Directory X) (line : Line) → posted p (lookup (nat_eq n) d) ≡ polled line
+polled_there : {X : Type 0} (p : X → NameStatus) (n : ℕ) (d : Directory X) (line : Line) → status_by p (lookup (nat_eq n) d) ≡ polled line
     → (x : X) × (at n d ≡ Some x) × (p x ≡ polled line)
 polled_there {X} p n d line e = by (lookup (nat_eq n) d) refl e
   where
-    by : (o : Option (Option X)) → lookup (nat_eq n) d ≡ o → posted p o ≡ polled line
+    by : (o : Option (Option X)) → lookup (nat_eq n) d ≡ o → status_by p o ≡ polled line
         → (x : X) × (at n d ≡ Some x) × (p x ≡ polled line)
     by None f h = absurd (let no : free ≡ polled line = h in cc)
-    by (Some None) f h = absurd (let no : vacant ≡ polled line = h in cc)
+    by (Some None) f h = absurd (let no : retired ≡ polled line = h in cc)
     by (Some (Some x)) f h = (x, ap (λ (o : Option (Option X)). option_map_or (λ (y : Option X). y) o None) f, h)
 
-on_line : (line l : Line) (s : Standing) → post_on line s ≡ polled l → line ≡ l
+on_line : (line l : Line) (s : PollState) → status_on line s ≡ polled l → line ≡ l
 on_line line l Rests e = absurd (no_busy (rests line) l e)
 on_line line l (Waits key w) e = absurd (no_busy (waits (record { line = line; key = key }) w) l e)
 on_line line l (IsPolled b) e = polled_is line l e
 
-no_stream : (l : Line) (s : Standing) → no_stream_post s ≡ polled l → ⊥
+no_stream : (l : Line) (s : PollState) → no_stream_status s ≡ polled l → ⊥
 no_stream l Rests e = no_busy (rests Streams) l e
-no_stream l (Waits key w) e = no_busy amiss l e
-no_stream l (IsPolled b) e = no_busy amiss l e
+no_stream l (Waits key w) e = no_busy invalid l e
+no_stream l (IsPolled b) e = no_busy invalid l e
 
-stream_is : (k : HandleKind) (l : Line) (s : Standing) → stream_post k s ≡ polled l → (k ≡ handle_kind.Receiver) × (Streams ≡ l)
+stream_is : (k : HandleKind) (l : Line) (s : PollState) → stream_status k s ≡ polled l → (k ≡ handle_kind.Receiver) × (Streams ≡ l)
 stream_is handle_kind.Receiver l s e = (refl, on_line Streams l s e)
 stream_is handle_kind.Sender l s e = absurd (no_stream l s e)
 stream_is handle_kind.WeakSender l s e = absurd (no_stream l s e)
 stream_is handle_kind.WeakReceiver l s e = absurd (no_stream l s e)
 
-calm_stream : (k : HandleKind) → IsCalm (stream_post k Rests)
+calm_stream : (k : HandleKind) → IsCalm (stream_status k Rests)
 calm_stream handle_kind.Receiver = tt
 calm_stream handle_kind.Sender = tt
 calm_stream handle_kind.WeakSender = tt
@@ -110,15 +110,15 @@ own_wait wait line l w task (inr some) e =
     (ap (λ (x : Line × Waiter). x.0) same, ap (λ (x : Line × Waiter). x.1) same)
 
 module _ {T : Type 0} where
-  op_line : (k : OperationKind) (m : Option T) (l : Line) (s : Standing) → operation_post k m s ≡ polled l → line_of_kind k ≡ l
+  op_line : (k : OperationKind) (m : Option T) (l : Line) (s : PollState) → operation_status k m s ≡ polled l → line_of_kind k ≡ l
   op_line kind.Send None l Rests e = absurd (no_busy (rests Sends) l e)
-  op_line kind.Send None l (Waits key w) e = absurd (no_busy amiss l e)
+  op_line kind.Send None l (Waits key w) e = absurd (no_busy invalid l e)
   op_line kind.Send None l (IsPolled b) e = polled_is Sends l e
   op_line kind.Send (Some m) l s e = on_line Sends l s e
   op_line kind.Receive m l s e = on_line Receives l s e
   op_line kind.Closing m l s e = on_line Closings l s e
 
-  calm_op : (k : OperationKind) (m : Option T) → IsCalm (operation_post k m Rests)
+  calm_op : (k : OperationKind) (m : Option T) → IsCalm (operation_status k m Rests)
   calm_op kind.Send None = tt
   calm_op kind.Send (Some m) = tt
   calm_op kind.Receive m = tt
@@ -129,7 +129,7 @@ module _ {T : Type 0} where
   Carries line m = line ≡ Sends → (v : T) × (m ≡ Some v)
 
   waiting_op : (k : OperationKind) (m : Option T) (key : Key) → Carries (line_of_kind k) m
-      → operation_post k m (Waits key false) ≡ waits (record { line = line_of_kind k; key = key }) false
+      → operation_status k m (Waits key false) ≡ waits (record { line = line_of_kind k; key = key }) false
   waiting_op kind.Send None key c = absurd (let f = c refl in let no : None ≡ Some f.0 = f.1 in cc)
   waiting_op kind.Send (Some m) key c = refl
   waiting_op kind.Receive m key c = refl
@@ -144,23 +144,23 @@ module _ {T : Type 0} where
       × Carries line kept.message)
 
   -- the name at which it worked is pending with the listener that is left, or neither pending nor amiss
-  abbrev pub Comes : (Waiter → Post) → Errand T → Kept T → Option (Line × Waiter) → Type 0
+  abbrev pub Comes : (Waiter → NameStatus) → OnReturn T → Kept T → Option (Line × Waiter) → Type 0
   Comes p e kept wait =
       ((kept.key ≡ None) × ((v : Waiter) → subject e ≡ Some v → IsCalm (p v)))
       ⊎ ((line : Line) × (key : Key) × (task : Waiter) × (kept.key ≡ Some key) × (wait ≡ Some (line, task))
       × (subject e ≡ Some task) × (p task ≡ waits (record { line = line; key = key }) false))
 
-  pub record Settles (p p' : Waiter → Post) (e : Errand T) (kept : Kept T) (wait : Option (Line × Waiter)) : Type 0 where
+  pub record Settles (p p' : Waiter → NameStatus) (e : OnReturn T) (kept : Kept T) (wait : Option (Line × Waiter)) : Type 0 where
     pub others : (v : Waiter) → (subject e ≡ Some v → ⊥) → p' v ≡ p v
     pub own : Comes p' e kept wait
 
-  no_wait : (p : Waiter → Post) (e : Errand T) (kept : Kept T) (wait : Option (Line × Waiter)) → IsLeft kept wait → wait ≡ None
+  no_wait : (p : Waiter → NameStatus) (e : OnReturn T) (kept : Kept T) (wait : Option (Line × Waiter)) → IsLeft kept wait → wait ≡ None
       → ((v : Waiter) → subject e ≡ Some v → IsCalm (p v)) → Comes p e kept wait
   no_wait p e kept wait (inl none) f h = inl (none, h)
   no_wait p e kept wait (inr (line, key, task, k, w, m)) f h = absurd (let no : Some (line, task) ≡ None = sym w ∙ f in cc)
 
   -- nothing is settled
-  plain : (p p' : Waiter → Post) (e : Errand T) (kept : Kept T) (wait : Option (Line × Waiter)) → IsLeft kept wait → wait ≡ None
+  plain : (p p' : Waiter → NameStatus) (e : OnReturn T) (kept : Kept T) (wait : Option (Line × Waiter)) → IsLeft kept wait → wait ≡ None
       → subject e ≡ None → Same p p' → Settles p p' e kept wait
   plain p p' e kept wait l f none same =
       record {
@@ -169,47 +169,47 @@ module _ {T : Type 0} where
       }
 
   -- one name is set
-  set : (p p' : Waiter → Post) (e : Errand T) (kept : Kept T) (wait : Option (Line × Waiter)) (w : Waiter) (x : Post)
+  set : (p p' : Waiter → NameStatus) (e : OnReturn T) (kept : Kept T) (wait : Option (Line × Waiter)) (w : Waiter) (x : NameStatus)
       → subject e ≡ Some w → Sets p p' w x → Comes p' e kept wait → Settles p p' e kept wait
   set p p' e kept wait w x whose s own =
       record { others = λ v other. s.others v (λ same. other (whose ∙ ap (λ (y : Waiter). Some y) (sym same))); own = own }
 
-  calm_at : (p : Waiter → Post) (e : Errand T) (w : Waiter) (x : Post) → subject e ≡ Some w → p w ≡ x → IsCalm x → (v : Waiter)
+  calm_at : (p : Waiter → NameStatus) (e : OnReturn T) (w : Waiter) (x : NameStatus) → subject e ≡ Some w → p w ≡ x → IsCalm x → (v : Waiter)
       → subject e ≡ Some v → IsCalm (p v)
   calm_at p e w x whose is calm v s =
       subst (λ (y : Waiter). IsCalm (p y)) (some_is w v (sym whose ∙ s)) (subst IsCalm (sym is) calm)
 
-  makes : (r : Roll T) (op : OpId) (o : Operation T) (y : Reply T) (kept : Kept T) (wait : Option (Line × Waiter))
-      → IsLeft kept wait → Suits {T = T} (post r) (errand.Make op o) wait
-      → Settles (post r) (post (written_back (errand.Make op o) y kept r)) (errand.Make op o) kept wait
+  makes : (r : NameTable T) (op : OpId) (o : Operation T) (y : Reply T) (kept : Kept T) (wait : Option (Line × Waiter))
+      → IsLeft kept wait → Suits {T = T} (status r) (on_return.Make op o) wait
+      → Settles (status r) (status (written_back (on_return.Make op o) y kept r)) (on_return.Make op o) kept wait
   makes r op o y kept wait l f =
-      let s = op_set r op (Some o) (vacant_taken op_post (lookup (nat_eq op.0) r.operations) f.0) in
-      let calm : IsCalm (op_post o) =
-      subst (λ (z : Standing). IsCalm (operation_post o.kind o.message z)) (sym f.1) (calm_op o.kind o.message) in
-      set (post r) (post (written_back (errand.Make op o) y kept r)) (errand.Make op o) kept wait (Op op) (op_post o) refl s
-      (no_wait (post (written_back (errand.Make op o) y kept r)) (errand.Make op o) kept wait l f.2
-      (calm_at (post (written_back (errand.Make op o) y kept r)) (errand.Make op o) (Op op) (op_post o) refl s.there calm))
+      let s = op_set r op (Some o) (vacant_taken op_status (lookup (nat_eq op.0) r.operations) f.0) in
+      let calm : IsCalm (op_status o) =
+      subst (λ (z : PollState). IsCalm (operation_status o.kind o.message z)) (sym f.1) (calm_op o.kind o.message) in
+      set (status r) (status (written_back (on_return.Make op o) y kept r)) (on_return.Make op o) kept wait (Op op) (op_status o) refl s
+      (no_wait (status (written_back (on_return.Make op o) y kept r)) (on_return.Make op o) kept wait l f.2
+      (calm_at (status (written_back (on_return.Make op o) y kept r)) (on_return.Make op o) (Op op) (op_status o) refl s.there calm))
 
-  polls : (r : Roll T) (op : OpId) (y : Reply T) (kept : Kept T) (wait : Option (Line × Waiter)) → IsLeft kept wait
-      → Suits {T = T} (post r) (errand.Poll op) wait
-      → Settles (post r) (post (written_back (errand.Poll op) y kept r)) (errand.Poll op) kept wait
+  polls : (r : NameTable T) (op : OpId) (y : Reply T) (kept : Kept T) (wait : Option (Line × Waiter)) → IsLeft kept wait
+      → Suits {T = T} (status r) (on_return.Poll op) wait
+      → Settles (status r) (status (written_back (on_return.Poll op) y kept r)) (on_return.Poll op) kept wait
   polls r op y kept wait l f =
-      let there = polled_there op_post op.0 r.operations f.0 f.1 in
+      let there = polled_there op_status op.0 r.operations f.0 f.1 in
       let o = there.0 in
       let s = op_changed r op (restored kept) o there.1 in
-      let line = op_line o.kind o.message f.0 o.standing there.2 in
-      set (post r) (post (written_back (errand.Poll op) y kept r)) (errand.Poll op) kept wait (Op op) _ refl s (by o s.there line l)
+      let line = op_line o.kind o.message f.0 o.poll_state there.2 in
+      set (status r) (status (written_back (on_return.Poll op) y kept r)) (on_return.Poll op) kept wait (Op op) _ refl s (by o s.there line l)
     where
-      after : Waiter → Post
-      after = post (written_back (errand.Poll op) y kept r)
+      after : Waiter → NameStatus
+      after = status (written_back (on_return.Poll op) y kept r)
 
-      by : (o : Operation T) → after (Op op) ≡ operation_post o.kind kept.message (standing_with kept.key) → line_of_kind o.kind ≡ f.0
-          → IsLeft kept wait → Comes after (errand.Poll op) kept wait
+      by : (o : Operation T) → after (Op op) ≡ operation_status o.kind kept.message (poll_state_with kept.key) → line_of_kind o.kind ≡ f.0
+          → IsLeft kept wait → Comes after (on_return.Poll op) kept wait
       by o e line (inl none) =
           inl (
             none,
-            calm_at after (errand.Poll op) (Op op) _ refl
-                (e ∙ ap (λ k. operation_post o.kind kept.message (standing_with k)) none) (calm_op o.kind kept.message),
+            calm_at after (on_return.Poll op) (Op op) _ refl
+                (e ∙ ap (λ k. operation_status o.kind kept.message (poll_state_with k)) none) (calm_op o.kind kept.message),
           )
       by o e line (inr (l, key, task, k, w, m)) =
           let own = own_wait wait f.0 l (Op op) task f.2 w in
@@ -223,34 +223,34 @@ module _ {T : Type 0} where
             w,
             ap (λ (v : Waiter). Some v) (sym own.1),
             ap after own.1
-                ∙ (e ∙ (ap (λ x. operation_post o.kind kept.message (standing_with x)) k
+                ∙ (e ∙ (ap (λ x. operation_status o.kind kept.message (poll_state_with x)) k
                 ∙ (waiting ∙ ap (λ (x : Line). waits (record { line = x; key = key }) false) same))),
           )
 
-  nexts : (r : Roll T) (receiver : HandleId) (y : Reply T) (kept : Kept T) (wait : Option (Line × Waiter)) → IsLeft kept wait
-      → Suits {T = T} (post r) (errand.PollNext receiver) wait
-      → Settles (post r) (post (written_back (errand.PollNext receiver) y kept r)) (errand.PollNext receiver) kept wait
+  nexts : (r : NameTable T) (receiver : HandleId) (y : Reply T) (kept : Kept T) (wait : Option (Line × Waiter)) → IsLeft kept wait
+      → Suits {T = T} (status r) (on_return.PollNext receiver) wait
+      → Settles (status r) (status (written_back (on_return.PollNext receiver) y kept r)) (on_return.PollNext receiver) kept wait
   nexts r receiver y kept wait l f =
-      let there = polled_there hold_post receiver.0 r.handles f.0 f.1 in
+      let there = polled_there handle_entry_status receiver.0 r.handles f.0 f.1 in
       let h = there.0 in
-      let is = stream_is h.handle.kind f.0 h.standing there.2 in
-      let put = with_standing (standing_with kept.key) receiver r in
-      let s = handle_changed r receiver (λ (x : Hold). record x { standing = standing_with kept.key }) h there.1 in
-      let all = sets_same (post r) (post put) (post (with_given_back receiver put)) (Stream receiver) _ s
+      let is = stream_is h.handle.kind f.0 h.poll_state there.2 in
+      let put = with_poll_state (poll_state_with kept.key) receiver r in
+      let s = handle_changed r receiver (λ (x : HandleEntry). record x { poll_state = poll_state_with kept.key }) h there.1 in
+      let all = sets_same (status r) (status put) (status (with_given_back receiver put)) (Stream receiver) _ s
       (given_back_same put receiver) in
-      set (post r) (post (written_back (errand.PollNext receiver) y kept r)) (errand.PollNext receiver) kept wait (Stream receiver) _
-      refl all (by (all.there ∙ ap (λ k. stream_post k (standing_with kept.key)) is.0) is.1 l)
+      set (status r) (status (written_back (on_return.PollNext receiver) y kept r)) (on_return.PollNext receiver) kept wait (Stream receiver) _
+      refl all (by (all.there ∙ ap (λ k. stream_status k (poll_state_with kept.key)) is.0) is.1 l)
     where
-      after : Waiter → Post
-      after = post (written_back (errand.PollNext receiver) y kept r)
+      after : Waiter → NameStatus
+      after = status (written_back (on_return.PollNext receiver) y kept r)
 
-      by : after (Stream receiver) ≡ post_on Streams (standing_with kept.key) → Streams ≡ f.0 → IsLeft kept wait
-          → Comes after (errand.PollNext receiver) kept wait
+      by : after (Stream receiver) ≡ status_on Streams (poll_state_with kept.key) → Streams ≡ f.0 → IsLeft kept wait
+          → Comes after (on_return.PollNext receiver) kept wait
       by e line (inl none) =
           inl (
             none,
-            calm_at after (errand.PollNext receiver) (Stream receiver) (rests Streams) refl
-                (e ∙ ap (λ k. post_on Streams (standing_with k)) none) tt,
+            calm_at after (on_return.PollNext receiver) (Stream receiver) (rests Streams) refl
+                (e ∙ ap (λ k. status_on Streams (poll_state_with k)) none) tt,
           )
       by e line (inr (l, key, task, k, w, m)) =
           let own = own_wait wait f.0 l (Stream receiver) task f.2 w in
@@ -263,46 +263,46 @@ module _ {T : Type 0} where
             w,
             ap (λ (v : Waiter). Some v) (sym own.1),
             ap after own.1
-                ∙ (e ∙ (ap (λ x. post_on Streams (standing_with x)) k
+                ∙ (e ∙ (ap (λ x. status_on Streams (poll_state_with x)) k
                 ∙ ap (λ (x : Line). waits (record { line = x; key = key }) false) same)),
           )
 
   -- a new handle lives, or doesn't
-  installs : (r : Roll T) (new : HandleId) (k : HandleKind) (y : Reply T) → post r (Stream new) ≡ vacant
-      → (x : Post) × IsCalm x × Sets (post r) (post (installed new k y r)) (Stream new) x
+  installs : (r : NameTable T) (new : HandleId) (k : HandleKind) (y : Reply T) → status r (Stream new) ≡ retired
+      → (x : NameStatus) × IsCalm x × Sets (status r) (status (installed new k y r)) (Stream new) x
   installs r new k reply.Made v = (
-    stream_post k Rests,
+    stream_status k Rests,
     calm_stream k,
     handle_set r new (Some (unused k))
-        (vacant_taken hold_post (lookup (nat_eq new.0) r.handles) v),
+        (vacant_taken handle_entry_status (lookup (nat_eq new.0) r.handles) v),
   )
-  installs r new k y v = (vacant, tt, record { there = v; others = λ w other. refl })
+  installs r new k y v = (retired, tt, record { there = v; others = λ w other. refl })
 
-  news : (r : Roll T) (from new : HandleId) (k : HandleKind) (y : Reply T) (kept : Kept T) (wait : Option (Line × Waiter))
-      → IsLeft kept wait → Suits {T = T} (post r) (errand.New from new k) wait
-      → Settles (post r) (post (written_back (errand.New from new k) y kept r)) (errand.New from new k) kept wait
+  news : (r : NameTable T) (from new : HandleId) (k : HandleKind) (y : Reply T) (kept : Kept T) (wait : Option (Line × Waiter))
+      → IsLeft kept wait → Suits {T = T} (status r) (on_return.New from new k) wait
+      → Settles (status r) (status (written_back (on_return.New from new k) y kept r)) (on_return.New from new k) kept wait
   news r from new k y kept wait l f =
       let back = with_given_back from r in
       let back_same = given_back_same r from in
       let i = installs back new k y (back_same (Stream new) ∙ f.0) in
-      let all = same_sets (post r) (post back) (post (installed new k y back)) (Stream new) i.0 back_same i.2 in
-      set (post r) (post (written_back (errand.New from new k) y kept r)) (errand.New from new k) kept wait (Stream new) i.0 refl all
-      (no_wait (post (written_back (errand.New from new k) y kept r)) (errand.New from new k) kept wait l f.1
-      (calm_at (post (written_back (errand.New from new k) y kept r)) (errand.New from new k) (Stream new) i.0 refl all.there i.1))
+      let all = same_sets (status r) (status back) (status (installed new k y back)) (Stream new) i.0 back_same i.2 in
+      set (status r) (status (written_back (on_return.New from new k) y kept r)) (on_return.New from new k) kept wait (Stream new) i.0 refl all
+      (no_wait (status (written_back (on_return.New from new k) y kept r)) (on_return.New from new k) kept wait l f.1
+      (calm_at (status (written_back (on_return.New from new k) y kept r)) (on_return.New from new k) (Stream new) i.0 refl all.there i.1))
 
-  pub settles : (r : Roll T) (e : Errand T) (y : Reply T) (kept : Kept T) (wait : Option (Line × Waiter)) → IsLeft kept wait
-      → Suits {T = T} (post r) e wait → Settles (post r) (post (written_back e y kept r)) e kept wait
-  settles r errand.Nothing y kept wait l f = plain (post r) (post r) errand.Nothing kept wait l f refl (λ v. refl)
-  settles r (errand.Leave handle) y kept wait l f =
-      plain (post r) (post (with_given_back handle r)) (errand.Leave handle) kept wait l f refl (given_back_same r handle)
-  settles r (errand.LeaveBoth a b) y kept wait l f =
-      plain (post r) (post (with_given_back b (with_given_back a r))) (errand.LeaveBoth a b) kept wait l f refl
-      (same_both (post r) (post (with_given_back a r)) (post (with_given_back b (with_given_back a r))) (given_back_same r a)
+  pub settles : (r : NameTable T) (e : OnReturn T) (y : Reply T) (kept : Kept T) (wait : Option (Line × Waiter)) → IsLeft kept wait
+      → Suits {T = T} (status r) e wait → Settles (status r) (status (written_back e y kept r)) e kept wait
+  settles r on_return.Nothing y kept wait l f = plain (status r) (status r) on_return.Nothing kept wait l f refl (λ v. refl)
+  settles r (on_return.Leave handle) y kept wait l f =
+      plain (status r) (status (with_given_back handle r)) (on_return.Leave handle) kept wait l f refl (given_back_same r handle)
+  settles r (on_return.LeaveBoth a b) y kept wait l f =
+      plain (status r) (status (with_given_back b (with_given_back a r))) (on_return.LeaveBoth a b) kept wait l f refl
+      (same_both (status r) (status (with_given_back a r)) (status (with_given_back b (with_given_back a r))) (given_back_same r a)
       (given_back_same (with_given_back a r) b))
-  settles r (errand.Make op o) y kept wait l f = makes r op o y kept wait l f
-  settles r (errand.Poll op) y kept wait l f = polls r op y kept wait l f
-  settles r (errand.PollNext receiver) y kept wait l f = nexts r receiver y kept wait l f
-  settles r (errand.New from new k) y kept wait l f = news r from new k y kept wait l f
+  settles r (on_return.Make op o) y kept wait l f = makes r op o y kept wait l f
+  settles r (on_return.Poll op) y kept wait l f = polls r op y kept wait l f
+  settles r (on_return.PollNext receiver) y kept wait l f = nexts r receiver y kept wait l f
+  settles r (on_return.New from new k) y kept wait l f = news r from new k y kept wait l f
 
   -- ---- what a send keeps
 

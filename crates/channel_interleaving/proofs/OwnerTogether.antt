@@ -6,11 +6,11 @@ use Rattle.channel_calls.specs.declared.stage.Held.{Held}
 use Rattle.channel_calls.specs.declared.stage.Line.{Line}
 use Rattle.channel_model.specs.declared.name.Waiter.{Waiter}
 use Rattle.channel_model.specs.declared.name.Waiter.TheVariants.{Op, Stream}
-use Rattle.channel_steps.specs.Scene.{Under, sees}
-use Rattle.channel_interleaving.specs.Owners.{All, AnyOf, Post, holding, subject, Suits, AgentFits, Together, Differ, AllDiffer}
+use Rattle.channel_steps.specs.Configuration.{ActiveCall, sees}
+use Rattle.channel_interleaving.specs.Owners.{All, AnyOf, NameStatus, holding, subject, Suits, AgentFits, Together, Differ, AllDiffer}
 use Rattle.channel_interleaving.specs.declared.names.Agent.{Agent}
-use Rattle.channel_interleaving.specs.declared.names.Errand.{Errand}
-use Rattle.channel_interleaving.specs.declared.names.Errand.TheVariants as errand
+use Rattle.channel_interleaving.specs.declared.names.OnReturn.{OnReturn}
+use Rattle.channel_interleaving.specs.declared.names.OnReturn.TheVariants as on_return
 use Rattle.channel_interleaving.proofs.OwnerBegins.{IsBusy}
 
 module _ {A : Type 0} (P : A → Type 0) where
@@ -28,19 +28,19 @@ module _ {A : Type 0} (P : A → Type 0) where
 
 module _ {T : Type 0} where
   -- this party's call has this listener in hand
-  abbrev pub HasIt : ℕ → Held → Under T Waiter → Type 0
+  abbrev pub HasIt : ℕ → Held → ActiveCall T Waiter → Type 0
   HasIt q h u = (u.party ≡ q) × (holding u.at ≡ Some h)
 
-  pub any_left : (P : Under T Waiter → Type 0) (us vs : List (Under T Waiter)) → AnyOf P us → AnyOf P (us ++ vs)
+  pub any_left : (P : ActiveCall T Waiter → Type 0) (us vs : List (ActiveCall T Waiter)) → AnyOf P us → AnyOf P (us ++ vs)
   any_left P [] vs h = absurd h
   any_left P (u ∷ us) vs (inl h) = inl h
   any_left P (u ∷ us) vs (inr h) = inr (any_left P us vs h)
 
-  pub any_right : (P : Under T Waiter → Type 0) (us vs : List (Under T Waiter)) → AnyOf P vs → AnyOf P (us ++ vs)
+  pub any_right : (P : ActiveCall T Waiter → Type 0) (us vs : List (ActiveCall T Waiter)) → AnyOf P vs → AnyOf P (us ++ vs)
   any_right P [] vs h = h
   any_right P (u ∷ us) vs h = inr (any_right P us vs h)
 
-  pub any_of : (P : Under T Waiter → Type 0) (us vs : List (Under T Waiter)) → AnyOf P (us ++ vs) → AnyOf P us ⊎ AnyOf P vs
+  pub any_of : (P : ActiveCall T Waiter → Type 0) (us vs : List (ActiveCall T Waiter)) → AnyOf P (us ++ vs) → AnyOf P us ⊎ AnyOf P vs
   any_of P [] vs h = inr h
   any_of P (u ∷ us) vs (inl h) = inl (inl h)
   any_of P (u ∷ us) vs (inr h) = deeper (any_of P us vs h)
@@ -50,76 +50,76 @@ module _ {T : Type 0} where
       deeper (inr h) = inr h
 
   -- the others only see a step
-  pub has_seen : (c : Channel T Waiter) (q : ℕ) (h : Held) (us : List (Under T Waiter)) → AnyOf (HasIt q h) us → AnyOf (HasIt q h) (map (sees c) us)
+  pub has_seen : (c : Channel T Waiter) (q : ℕ) (h : Held) (us : List (ActiveCall T Waiter)) → AnyOf (HasIt q h) us → AnyOf (HasIt q h) (map (sees c) us)
   has_seen c q h [] i = i
   has_seen c q h (u ∷ us) (inl i) = inl i
   has_seen c q h (u ∷ us) (inr i) = inr (has_seen c q h us i)
 
-  pub had_seen : (c : Channel T Waiter) (q : ℕ) (h : Held) (us : List (Under T Waiter)) → AnyOf (HasIt q h) (map (sees c) us) → AnyOf (HasIt q h) us
+  pub had_seen : (c : Channel T Waiter) (q : ℕ) (h : Held) (us : List (ActiveCall T Waiter)) → AnyOf (HasIt q h) (map (sees c) us) → AnyOf (HasIt q h) us
   had_seen c q h [] i = i
   had_seen c q h (u ∷ us) (inl i) = inl i
   had_seen c q h (u ∷ us) (inr i) = inr (had_seen c q h us i)
 
   -- ---- one by one
 
-  pub suits_on : (p p' : Waiter → Post) (e : Errand T) (wait : Option (Line × Waiter)) → ((v : Waiter) → subject e ≡ Some v → p' v ≡ p v) → Suits p e wait → Suits p' e wait
-  suits_on p p' (errand.Poll op) wait f h = (h.0, f (Op op) refl ∙ h.1, h.2)
-  suits_on p p' (errand.PollNext receiver) wait f h = (h.0, f (Stream receiver) refl ∙ h.1, h.2)
-  suits_on p p' (errand.Make op operation) wait f h = (f (Op op) refl ∙ h.0, h.1, h.2)
-  suits_on p p' (errand.New from new kind) wait f h = (f (Stream new) refl ∙ h.0, h.1)
-  suits_on p p' errand.Nothing wait f h = h
-  suits_on p p' (errand.Leave handle) wait f h = h
-  suits_on p p' (errand.LeaveBoth a b) wait f h = h
+  pub suits_on : (p p' : Waiter → NameStatus) (e : OnReturn T) (wait : Option (Line × Waiter)) → ((v : Waiter) → subject e ≡ Some v → p' v ≡ p v) → Suits p e wait → Suits p' e wait
+  suits_on p p' (on_return.Poll op) wait f h = (h.0, f (Op op) refl ∙ h.1, h.2)
+  suits_on p p' (on_return.PollNext receiver) wait f h = (h.0, f (Stream receiver) refl ∙ h.1, h.2)
+  suits_on p p' (on_return.Make op operation) wait f h = (f (Op op) refl ∙ h.0, h.1, h.2)
+  suits_on p p' (on_return.New from new kind) wait f h = (f (Stream new) refl ∙ h.0, h.1)
+  suits_on p p' on_return.Nothing wait f h = h
+  suits_on p p' (on_return.Leave handle) wait f h = h
+  suits_on p p' (on_return.LeaveBoth a b) wait f h = h
 
   -- where an agent works, the name is busy
-  pub busy : (p : Waiter → Post) (e : Errand T) (wait : Option (Line × Waiter)) (v : Waiter) → Suits p e wait → subject e ≡ Some v → IsBusy (p v)
-  busy p (errand.Poll op) wait v h e = by (ap (λ (o : Option Waiter). elim o [ None ↦ v | Some w ↦ w ]) e)
+  pub busy : (p : Waiter → NameStatus) (e : OnReturn T) (wait : Option (Line × Waiter)) (v : Waiter) → Suits p e wait → subject e ≡ Some v → IsBusy (p v)
+  busy p (on_return.Poll op) wait v h e = by (ap (λ (o : Option Waiter). elim o [ None ↦ v | Some w ↦ w ]) e)
     where
       by : Op op ≡ v → IsBusy (p v)
       by same = subst (λ (w : Waiter). IsBusy (p w)) same (subst IsBusy (sym h.1) tt)
-  busy p (errand.PollNext receiver) wait v h e = by (ap (λ (o : Option Waiter). elim o [ None ↦ v | Some w ↦ w ]) e)
+  busy p (on_return.PollNext receiver) wait v h e = by (ap (λ (o : Option Waiter). elim o [ None ↦ v | Some w ↦ w ]) e)
     where
       by : Stream receiver ≡ v → IsBusy (p v)
       by same = subst (λ (w : Waiter). IsBusy (p w)) same (subst IsBusy (sym h.1) tt)
-  busy p (errand.Make op operation) wait v h e = by (ap (λ (o : Option Waiter). elim o [ None ↦ v | Some w ↦ w ]) e)
+  busy p (on_return.Make op operation) wait v h e = by (ap (λ (o : Option Waiter). elim o [ None ↦ v | Some w ↦ w ]) e)
     where
       by : Op op ≡ v → IsBusy (p v)
       by same = subst (λ (w : Waiter). IsBusy (p w)) same (subst IsBusy (sym h.0) tt)
-  busy p (errand.New from new kind) wait v h e = by (ap (λ (o : Option Waiter). elim o [ None ↦ v | Some w ↦ w ]) e)
+  busy p (on_return.New from new kind) wait v h e = by (ap (λ (o : Option Waiter). elim o [ None ↦ v | Some w ↦ w ]) e)
     where
       by : Stream new ≡ v → IsBusy (p v)
       by same = subst (λ (w : Waiter). IsBusy (p w)) same (subst IsBusy (sym h.0) tt)
-  busy p errand.Nothing wait v h e = absurd (let no : None ≡ Some v = e in cc)
-  busy p (errand.Leave handle) wait v h e = absurd (let no : None ≡ Some v = e in cc)
-  busy p (errand.LeaveBoth a b) wait v h e = absurd (let no : None ≡ Some v = e in cc)
+  busy p on_return.Nothing wait v h e = absurd (let no : None ≡ Some v = e in cc)
+  busy p (on_return.Leave handle) wait v h e = absurd (let no : None ≡ Some v = e in cc)
+  busy p (on_return.LeaveBoth a b) wait v h e = absurd (let no : None ≡ Some v = e in cc)
 
   -- these names stand as before
-  abbrev pub Keeps : (Waiter → Post) → (Waiter → Post) → Agent T → Type 0
-  Keeps p p' a = (v : Waiter) → subject a.errand ≡ Some v → p' v ≡ p v
+  abbrev pub Keeps : (Waiter → NameStatus) → (Waiter → NameStatus) → Agent T → Type 0
+  Keeps p p' a = (v : Waiter) → subject a.on_return ≡ Some v → p' v ≡ p v
 
-  pub together_on : (p p' : Waiter → Post) (agents : List (Agent T)) (us : List (Under T Waiter)) → All (Keeps p p') agents → Together p agents us → Together p' agents us
+  pub together_on : (p p' : Waiter → NameStatus) (agents : List (Agent T)) (us : List (ActiveCall T Waiter)) → All (Keeps p p') agents → Together p agents us → Together p' agents us
   together_on p p' [] [] f h = tt
   together_on p p' (a ∷ more) (u ∷ us) f h = (
-    record { party = h.0.party; suits = suits_on p p' a.errand _ f.0 h.0.suits; bears = h.0.bears; lines = h.0.lines },
+    record { party = h.0.party; suits = suits_on p p' a.on_return _ f.0 h.0.suits; bears = h.0.bears; lines = h.0.lines },
     together_on p p' more us f.1 h.1,
   )
   together_on p p' [] (u ∷ us) f h = absurd h
   together_on p p' (a ∷ more) [] f h = absurd h
 
-  pub together_sees : (c : Channel T Waiter) (p : Waiter → Post) (agents : List (Agent T)) (us : List (Under T Waiter)) → Together p agents us → Together p agents (map (sees c) us)
+  pub together_sees : (c : Channel T Waiter) (p : Waiter → NameStatus) (agents : List (Agent T)) (us : List (ActiveCall T Waiter)) → Together p agents us → Together p agents (map (sees c) us)
   together_sees c p [] [] h = tt
   together_sees c p (a ∷ more) (u ∷ us) h = (record { party = h.0.party; suits = h.0.suits; bears = h.0.bears; lines = h.0.lines }, together_sees c p more us h.1)
   together_sees c p [] (u ∷ us) h = absurd h
   together_sees c p (a ∷ more) [] h = absurd h
 
-  pub together_join : (p : Waiter → Post) (front back : List (Agent T)) (us vs : List (Under T Waiter)) → Together p front us → Together p back vs → Together p (front ++ back) (us ++ vs)
+  pub together_join : (p : Waiter → NameStatus) (front back : List (Agent T)) (us vs : List (ActiveCall T Waiter)) → Together p front us → Together p back vs → Together p (front ++ back) (us ++ vs)
   together_join p [] back [] vs h k = k
   together_join p (a ∷ front) back (u ∷ us) vs h k = (h.0, together_join p front back us vs h.1 k)
   together_join p [] back (u ∷ us) vs h k = absurd h
   together_join p (a ∷ front) back [] vs h k = absurd h
 
   -- the agent of a call, with those before and behind
-  pub record Parted (p : Waiter → Post) (agents : List (Agent T)) (before : List (Under T Waiter)) (mine : Under T Waiter) (behind : List (Under T Waiter)) : Type 0 where
+  pub record Parted (p : Waiter → NameStatus) (agents : List (Agent T)) (before : List (ActiveCall T Waiter)) (mine : ActiveCall T Waiter) (behind : List (ActiveCall T Waiter)) : Type 0 where
     pub front : List (Agent T)
     pub agent : Agent T
     pub back : List (Agent T)
@@ -128,7 +128,7 @@ module _ {T : Type 0} where
     pub own : AgentFits p agent mine
     pub last : Together p back behind
 
-  pub parted : (p : Waiter → Post) (agents : List (Agent T)) (before : List (Under T Waiter)) (mine : Under T Waiter) (behind : List (Under T Waiter)) → Together p agents (before ++ mine ∷ behind) → Parted p agents before mine behind
+  pub parted : (p : Waiter → NameStatus) (agents : List (Agent T)) (before : List (ActiveCall T Waiter)) (mine : ActiveCall T Waiter) (behind : List (ActiveCall T Waiter)) → Together p agents (before ++ mine ∷ behind) → Parted p agents before mine behind
   parted p [] [] mine behind h = absurd h
   parted p (a ∷ more) [] mine behind h = record { front = []; agent = a; back = more; are = refl; first = tt; own = h.0; last = h.1 }
   parted p [] (u ∷ before) mine behind h = absurd h
@@ -187,7 +187,7 @@ module _ {T : Type 0} where
       record { same = r.same; without = ap (λ (l : List (Agent T)). b ∷ l) r.without }
 
   -- the calls of others are of other parties
-  pub other_party : (p : Waiter → Post) (a : Agent T) (agents : List (Agent T)) (us : List (Under T Waiter)) (q : ℕ) (h : Held) → Together p agents us → All (Differ a) agents → AnyOf (HasIt q h) us → q ≡ a.party → ⊥
+  pub other_party : (p : Waiter → NameStatus) (a : Agent T) (agents : List (Agent T)) (us : List (ActiveCall T Waiter)) (q : ℕ) (h : Held) → Together p agents us → All (Differ a) agents → AnyOf (HasIt q h) us → q ≡ a.party → ⊥
   other_party p a [] [] q h t d i e = i
   other_party p a (b ∷ more) (u ∷ us) q h t d (inl i) e = d.0.party (sym e ∙ (sym i.0 ∙ sym t.0.party))
   other_party p a (b ∷ more) (u ∷ us) q h t d (inr i) e = other_party p a more us q h t.1 d.1 i e

@@ -12,16 +12,16 @@ use Rattle.channel_calls.specs.declared.stage.Kept.{Kept}
 use Rattle.channel_calls.specs.declared.stage.Line.{Line}
 use Rattle.channel_model.specs.declared.name.Waiter.{Waiter}
 use Rattle.channel_model.specs.declared.name.Waiter.TheVariants.{Op, Stream}
-use Rattle.channel_steps.specs.Scene.{Under, Scene, Steps, AllKnown, sees, does}
+use Rattle.channel_steps.specs.Configuration.{ActiveCall, Configuration, Steps, AllKnown, sees, does}
 use Rattle.channel_interleaving.specs.Bookkeeping.{written_back, with_one_woken, all_woken}
 use Rattle.channel_interleaving.specs.Order.{all_moved_last, order_settled}
-use Rattle.channel_interleaving.specs.Owners.{IsAmong, All, AnyOf, Post, free, vacant, amiss, rests, waits, polled, post, holding, task_at, wait_of, Bears, subject, Suits, Together, Differ, AllDiffer, IsListed, WaitsToWake, named, calling, HoldsIn, Owned}
+use Rattle.channel_interleaving.specs.Owners.{IsAmong, All, AnyOf, NameStatus, free, retired, invalid, rests, waits, polled, status, holding, task_at, wait_of, Bears, subject, Suits, Together, Differ, AllDiffer, IsListed, WaitsToWake, named, calling, HoldsIn, Owned}
 use Rattle.channel_interleaving.specs.OwnerWoken.{IsAway, IsTold, NoneWorks, IsOwn, WokenSound}
-use Rattle.channel_interleaving.specs.Run.{Book, book_ended, with_woken}
+use Rattle.channel_interleaving.specs.Run.{NameState, name_state_ended, with_woken}
 use Rattle.channel_interleaving.specs.declared.names.Agent.{Agent}
-use Rattle.channel_interleaving.specs.declared.names.Errand.{Errand}
-use Rattle.channel_interleaving.specs.declared.names.Errand.TheVariants as errand
-use Rattle.channel_interleaving.specs.declared.roll.Roll.{Roll}
+use Rattle.channel_interleaving.specs.declared.names.OnReturn.{OnReturn}
+use Rattle.channel_interleaving.specs.declared.names.OnReturn.TheVariants as on_return
+use Rattle.channel_interleaving.specs.declared.name_table.NameTable.{NameTable}
 use Rattle.channel_interleaving.specs.declared.step.PartyId.{PartyId}
 use Rattle.channel_interleaving.proofs.OwnerBegins.{IsBusy}
 use Rattle.channel_interleaving.proofs.OwnerEnds.{Comes}
@@ -40,7 +40,7 @@ use Rattle.channel_interleaving.proofs.OwnerWokenMoves.{Follows, follows}
 abbrev on : Line → Key → Held
 on line key = record { line = line; key = key }
 
-pub away_busy : (p : Post) → IsAway p → IsBusy p
+pub away_busy : (p : NameStatus) → IsAway p → IsBusy p
 away_busy p (inl e) = subst IsBusy (sym e) tt
 away_busy p (inr e) = subst IsBusy (sym e.1) tt
 
@@ -59,63 +59,63 @@ among_or v (w ∷ ws) = by (waiter_or w v) (among_or v ws)
 
 woken_or : (h k : Held) → waits h true ≡ waits k false → ⊥
 woken_or h k e = absurd (let never : true ≡ false = ap
-    (λ (p : Post). elim p [
+    (λ (p : NameStatus). elim p [
       | waits z d ↦ d
       | free ↦ false
-      | vacant ↦ false
-      | amiss ↦ false
+      | retired ↦ false
+      | invalid ↦ false
       | rests l ↦ false
       | polled l ↦ false
     ]) e in cc)
 
 module _ {T : Type 0} where
-  unnamed : (ws : List Waiter) (r : Roll T) (v : Waiter) → (IsAmong v ws → ⊥) → post (all_woken ws r) v ≡ post r v
+  unnamed : (ws : List Waiter) (r : NameTable T) (v : Waiter) → (IsAmong v ws → ⊥) → status (all_woken ws r) v ≡ status r v
   unnamed [] r v f = refl
   unnamed (w ∷ ws) r v f = unnamed ws (with_one_woken w r) v (λ i. f (inr i)) ∙ (one_woken w r).others v (λ e. f (inl (sym e)))
 
   -- one that is woken then was woken before, or is named
-  told_or_named : (ws : List Waiter) (r : Roll T) (v : Waiter) (h : Held) → post (all_woken ws r) v ≡ waits h true
-      → (post r v ≡ waits h true) ⊎ ((c : Bool) × (post r v ≡ waits h c) × IsAmong v ws)
+  told_or_named : (ws : List Waiter) (r : NameTable T) (v : Waiter) (h : Held) → status (all_woken ws r) v ≡ waits h true
+      → (status r v ≡ waits h true) ⊎ ((c : Bool) × (status r v ≡ waits h c) × IsAmong v ws)
   told_or_named ws r v h e = by (among_or v ws)
     where
       by : IsAmong v ws ⊎ (IsAmong v ws → ⊥)
-          → (post r v ≡ waits h true) ⊎ ((c : Bool) × (post r v ≡ waits h c) × IsAmong v ws)
-      by (inl i) = let was = told_was (post r v) h true (sym (named_told ws r v i) ∙ e) in inr (was.0, was.1, i)
+          → (status r v ≡ waits h true) ⊎ ((c : Bool) × (status r v ≡ waits h c) × IsAmong v ws)
+      by (inl i) = let was = told_was (status r v) h true (sym (named_told ws r v i) ∙ e) in inr (was.0, was.1, i)
       by (inr out) = inl (sym (unnamed ws r v out) ∙ e)
 
-  works_busy : (p : Waiter → Post) (agents : List (Agent T)) (us : List (Under T Waiter)) (a : Agent T) (v : Waiter)
-      → Together p agents us → IsAmong a agents → subject a.errand ≡ Some v → IsBusy (p v)
+  works_busy : (p : Waiter → NameStatus) (agents : List (Agent T)) (us : List (ActiveCall T Waiter)) (a : Agent T) (v : Waiter)
+      → Together p agents us → IsAmong a agents → subject a.on_return ≡ Some v → IsBusy (p v)
   works_busy p [] us a v t i e = absurd i
   works_busy p (x ∷ more) [] a v t i e = absurd t
   works_busy p (x ∷ more) (u ∷ us) a v t (inl same) e =
-      busy p x.errand _ v t.0.suits (ap (λ (y : Agent T). subject y.errand) same ∙ e)
+      busy p x.on_return _ v t.0.suits (ap (λ (y : Agent T). subject y.on_return) same ∙ e)
   works_busy p (x ∷ more) (u ∷ us) a v t (inr i) e = works_busy p more us a v t.1 i e
 
   -- whoever is pending, and for whose name a listener waits, is pending with that one
-  pub own_held : (b : Book T) (s : Scene T Waiter) → Owned b s → (v : Waiter) (h k : Held) (c : Bool)
-      → IsOwn b s.under_way v h → post b.roll v ≡ waits k c → h ≡ k
+  pub own_held : (b : NameState T) (s : Configuration T Waiter) → Owned b s → (v : Waiter) (h k : Held) (c : Bool)
+      → IsOwn b s.under_way v h → status b.name_table v ≡ waits k c → h ≡ k
   own_held b s o v h k c (inl x) e = waits_is h k x.0 c (sym x.1 ∙ e)
   own_held b s o v h k c (inr (inl x)) e =
-      absurd (busy_waits (post b.roll v) k c (works_busy (post b.roll) b.agents s.under_way x.0 v o.together x.1 x.2) e)
-  own_held b s o v h k c (inr (inr x)) e = absurd (busy_waits (post b.roll v) k c (away_busy (post b.roll v) x.0) e)
+      absurd (busy_waits (status b.name_table v) k c (works_busy (status b.name_table) b.agents s.under_way x.0 v o.together x.1 x.2) e)
+  own_held b s o v h k c (inr (inr x)) e = absurd (busy_waits (status b.name_table v) k c (away_busy (status b.name_table v) x.0) e)
 
-  suits_name : (p : Waiter → Post) (e : Errand T) (line : Line) (v : Waiter) (wait : Option (Line × Waiter)) → Suits p e wait
+  suits_name : (p : Waiter → NameStatus) (e : OnReturn T) (line : Line) (v : Waiter) (wait : Option (Line × Waiter)) → Suits p e wait
       → wait ≡ Some (line, v) → subject e ≡ Some v
-  suits_name p (errand.Poll op) line v wait s w = by s.2
+  suits_name p (on_return.Poll op) line v wait s w = by s.2
     where
       by : (wait ≡ None) ⊎ (wait ≡ Some (s.0, Op op)) → Some (Op op) ≡ Some v
       by (inl none) = absurd (let no : None ≡ Some (line, v) = sym none ∙ w in cc)
       by (inr some) = ap (λ (o : Option (Line × Waiter)). elim o [ None ↦ Some v | Some x ↦ Some x.1 ]) (sym some ∙ w)
-  suits_name p (errand.PollNext receiver) line v wait s w = by s.2
+  suits_name p (on_return.PollNext receiver) line v wait s w = by s.2
     where
       by : (wait ≡ None) ⊎ (wait ≡ Some (s.0, Stream receiver)) → Some (Stream receiver) ≡ Some v
       by (inl none) = absurd (let no : None ≡ Some (line, v) = sym none ∙ w in cc)
       by (inr some) = ap (λ (o : Option (Line × Waiter)). elim o [ None ↦ Some v | Some x ↦ Some x.1 ]) (sym some ∙ w)
-  suits_name p (errand.Make op operation) line v wait s w = absurd (let no : None ≡ Some (line, v) = sym s.2 ∙ w in cc)
-  suits_name p (errand.New from new kind) line v wait s w = absurd (let no : None ≡ Some (line, v) = sym s.1 ∙ w in cc)
-  suits_name p errand.Nothing line v wait s w = absurd (let no : None ≡ Some (line, v) = sym s ∙ w in cc)
-  suits_name p (errand.Leave handle) line v wait s w = absurd (let no : None ≡ Some (line, v) = sym s ∙ w in cc)
-  suits_name p (errand.LeaveBoth x y) line v wait s w = absurd (let no : None ≡ Some (line, v) = sym s ∙ w in cc)
+  suits_name p (on_return.Make op operation) line v wait s w = absurd (let no : None ≡ Some (line, v) = sym s.2 ∙ w in cc)
+  suits_name p (on_return.New from new kind) line v wait s w = absurd (let no : None ≡ Some (line, v) = sym s.1 ∙ w in cc)
+  suits_name p on_return.Nothing line v wait s w = absurd (let no : None ≡ Some (line, v) = sym s ∙ w in cc)
+  suits_name p (on_return.Leave handle) line v wait s w = absurd (let no : None ≡ Some (line, v) = sym s ∙ w in cc)
+  suits_name p (on_return.LeaveBoth x y) line v wait s w = absurd (let no : None ≡ Some (line, v) = sym s ∙ w in cc)
 
   listed_of : (h : Held) (w : Waiter) (c : Channel T Waiter) → WaitsToWake h w c → IsListed h c
   listed_of h w c i = among_right h.key (keys_of (listeners h.line c.roster).told)
@@ -123,13 +123,13 @@ module _ {T : Type 0} where
 
   -- ---- a call makes a step
 
-  module _ (b : Book T) (s t : Scene T Waiter) (p : ℕ) (m : Mark) (r : Option (Reply T)) (kp : Option (Kept T))
+  module _ (b : NameState T) (s t : Configuration T Waiter) (p : ℕ) (m : Mark) (r : Option (Reply T)) (kp : Option (Kept T))
       (names : List Waiter) (o : Owned b s) (known : AllKnown s.now s.under_way)
       (st : Steps s p (record { mark = m; reply = r; kept = kp }) names t) (w : WokenSound b s) where
     follow : Follows s.now t.now names (holding st.mine.at) (task_at st.mine.at)
     follow = follows s.now st.mine.at (record { channel = t.now; mark = m; woken = names }) r st.at_now st.moves
 
-    abbrev mine_parts : Parted (post b.roll) b.agents st.before st.mine st.behind
+    abbrev mine_parts : Parted (status b.name_table) b.agents st.before st.mine st.behind
     mine_parts = parts b s t p m r kp names o known st
 
     abbrev turn : Turnout T Waiter st.mine.ask s.now st.mine.at (record { channel = t.now; mark = m; woken = names }) r
@@ -137,10 +137,10 @@ module _ {T : Type 0} where
     turn = out b s t p m r kp names o known st
 
     -- whoever is woken then is told
-    mid_told : (v : Waiter) (h : Held) → post (all_woken names b.roll) v ≡ waits h true → IsTold h t.now
-    mid_told v h e = by (told_or_named names b.roll v h e)
+    mid_told : (v : Waiter) (h : Held) → status (all_woken names b.name_table) v ≡ waits h true → IsTold h t.now
+    mid_told v h e = by (told_or_named names b.name_table v h e)
       where
-        by : (post b.roll v ≡ waits h true) ⊎ ((c : Bool) × (post b.roll v ≡ waits h c) × IsAmong v names) → IsTold h t.now
+        by : (status b.name_table v ≡ waits h true) ⊎ ((c : Bool) × (status b.name_table v ≡ waits h c) × IsAmong v names) → IsTold h t.now
         by (inl was) = follow.told h (λ had. apart v p
             (o.alone (named v) (calling p) h (true, was) (was_mine b s t p m r kp names o known st h had))) (w.told v h was)
         by (inr was) =
@@ -160,11 +160,11 @@ module _ {T : Type 0} where
         by (inl j) (inr (inr none)) = absurd (j.1 (had, none))
 
     -- the task of a listener that it has is the name at which it works
-    his_name : (v : Waiter) → task_at st.mine.at ≡ Some v → subject mine_parts.agent.errand ≡ Some v
+    his_name : (v : Waiter) → task_at st.mine.at ≡ Some v → subject mine_parts.agent.on_return ≡ Some v
     his_name v e =
         let bears : Bears (Some v) (wait_of st.mine.ask) =
         subst (λ (x : Option Waiter). Bears x (wait_of st.mine.ask)) e mine_parts.own.bears in
-        suits_name (post b.roll) mine_parts.agent.errand bears.0 v (wait_of st.mine.ask) mine_parts.own.suits bears.1
+        suits_name (status b.name_table) mine_parts.agent.on_return bears.0 v (wait_of st.mine.ask) mine_parts.own.suits bears.1
 
     agent_in : IsAmong mine_parts.agent b.agents
     agent_in = subst (λ (l : List (Agent T)). IsAmong mine_parts.agent l) (sym mine_parts.are)
@@ -174,13 +174,13 @@ module _ {T : Type 0} where
     his_party = mine_parts.own.party ∙ st.whose
 
   -- it goes on
-  module _ (b : Book T) (s t : Scene T Waiter) (p : ℕ) (m : Mark) (kp : Option (Kept T)) (names : List Waiter) (o : Owned b s)
+  module _ (b : NameState T) (s t : Configuration T Waiter) (p : ℕ) (m : Mark) (kp : Option (Kept T)) (names : List Waiter) (o : Owned b s)
       (known : AllKnown s.now s.under_way)
       (st : Steps s p (record { mark = m; reply = None; kept = kp }) names t) (w : WokenSound b s) where
-    abbrev mine_now : Under T Waiter
+    abbrev mine_now : ActiveCall T Waiter
     mine_now = does st.mine st.at_now m s.now t.now
 
-    abbrev After : List (Under T Waiter)
+    abbrev After : List (ActiveCall T Waiter)
     After = map (sees t.now) st.before ++ ((mine_now ∷ []) ++ map (sees t.now) st.behind)
 
     abbrev going : Turnout T Waiter st.mine.ask s.now st.mine.at (record { channel = t.now; mark = m; woken = names }) None
@@ -202,11 +202,11 @@ module _ {T : Type 0} where
         moved a (inr k) = has_it a.party h (calling_is a.party p k.0) k.1 (listed_of h v t.now i)
 
         before : IsOwn b s.under_way v h → IsOwn (with_woken names b) After v h
-        before (inl x) = inl (mid_forth names b.roll v h x.0 x.1)
+        before (inl x) = inl (mid_forth names b.name_table v h x.0 x.1)
         before (inr (inl (a, j, e, has))) =
             inr (inl (a, j, e, moved a (forth_calling b s t p m None kp names o known st a.party h has)))
         before (inr (inr x)) =
-            inr (inr (subst IsAway (sym (mid_busy names b.roll v (away_busy (post b.roll v) x.0))) x.0, x.1))
+            inr (inr (subst IsAway (sym (mid_busy names b.name_table v (away_busy (status b.name_table v) x.0))) x.0, x.1))
 
         by : WaitsToWake h v s.now ⊎ ((holding st.mine.at ≡ Some h) × (task_at st.mine.at ≡ Some v))
             → IsOwn (with_woken names b) After v h
@@ -225,18 +225,18 @@ module _ {T : Type 0} where
     goes_woken =
         record {
           told = λ v h e. mid_told b s t p m None kp names o known st w v h e;
-          tasks = λ v h i. subst (λ (us : List (Under T Waiter)). IsOwn (with_woken names b) us v h) (sym st.left)
+          tasks = λ v h i. subst (λ (us : List (ActiveCall T Waiter)). IsOwn (with_woken names b) us v h) (sym st.left)
               (goes_tasks v h i);
         }
 
   -- it ends
-  module _ (b : Book T) (s t : Scene T Waiter) (p : ℕ) (m : Mark) (y : Reply T) (kp : Option (Kept T)) (names : List Waiter)
+  module _ (b : NameState T) (s t : Configuration T Waiter) (p : ℕ) (m : Mark) (y : Reply T) (kp : Option (Kept T)) (names : List Waiter)
       (o : Owned b s) (known : AllKnown s.now s.under_way)
       (st : Steps s p (record { mark = m; reply = Some y; kept = kp }) names t) (w : WokenSound b s) where
-    abbrev E1 : Waiter → Post
-    E1 = post (all_woken names b.roll)
+    abbrev E1 : Waiter → NameStatus
+    E1 = status (all_woken names b.name_table)
 
-    abbrev pt : Parted (post b.roll) b.agents st.before st.mine st.behind
+    abbrev pt : Parted (status b.name_table) b.agents st.before st.mine st.behind
     pt = parts b s t p m (Some y) kp names o known st
 
     abbrev ending : Turnout T Waiter st.mine.ask s.now st.mine.at (record { channel = t.now; mark = m; woken = names })
@@ -246,27 +246,27 @@ module _ {T : Type 0} where
     abbrev kept : Kept T
     kept = let f = st.finishes in f.kept
 
-    abbrev E2 : Waiter → Post
-    E2 = post (written_back pt.agent.errand y kept (all_woken names b.roll))
+    abbrev E2 : Waiter → NameStatus
+    E2 = status (written_back pt.agent.on_return y kept (all_woken names b.name_table))
 
-    abbrev Left : List (Under T Waiter)
+    abbrev Left : List (ActiveCall T Waiter)
     Left = map (sees t.now) st.before ++ map (sees t.now) st.behind
 
-    abbrev end_book : Book T
-    end_book = record {
-      roll = written_back pt.agent.errand y kept (all_woken names b.roll);
-      order = order_settled pt.agent.errand kept.key (all_moved_last names b.order);
+    abbrev end_name_state : NameState T
+    end_name_state = record {
+      name_table = written_back pt.agent.on_return y kept (all_woken names b.name_table);
+      order = order_settled pt.agent.on_return kept.key (all_moved_last names b.order);
       agents = pt.front ++ pt.back;
     }
 
-    others_stand : (v : Waiter) → (subject pt.agent.errand ≡ Some v → ⊥) → E2 v ≡ E1 v
+    others_stand : (v : Waiter) → (subject pt.agent.on_return ≡ Some v → ⊥) → E2 v ≡ E1 v
     others_stand v other = (set b s t p m y kp names o known st).others v other
 
     -- it leaves this listener to its name
-    own_now : (v : Waiter) (h : Held) → ending.has ≡ Some h → subject pt.agent.errand ≡ Some v → E2 v ≡ waits h false
+    own_now : (v : Waiter) (h : Held) → ending.has ≡ Some h → subject pt.agent.on_return ≡ Some v → E2 v ≡ waits h false
     own_now v h has whose = by (leaves b s t p m y kp names o known st) (set b s t p m y kp names o known st).own
       where
-        by : LeavesIt T Waiter st.mine.ask kept ending.has t.now → Comes E2 pt.agent.errand kept (wait_of st.mine.ask)
+        by : LeavesIt T Waiter st.mine.ask kept ending.has t.now → Comes E2 pt.agent.on_return kept (wait_of st.mine.ask)
             → E2 v ≡ waits h false
         by (inl l) c = absurd (let no : None ≡ Some h = sym l.0 ∙ has in cc)
         by (inr (line, key, task, hs, k, wt, there)) (inl c) = absurd (let no : None ≡ Some key = sym c.0 ∙ k in cc)
@@ -280,31 +280,31 @@ module _ {T : Type 0} where
             ap E2 names_same ∙ (is ∙ ap (λ (x : Held). waits x false) held_same)
 
     ended_told : (v : Waiter) (h : Held) → E2 v ≡ waits h true → IsTold h t.now
-    ended_told v h e = by (subject_or (subject pt.agent.errand) v)
+    ended_told v h e = by (subject_or (subject pt.agent.on_return) v)
       where
-        own : subject pt.agent.errand ≡ Some v → Comes E2 pt.agent.errand kept (wait_of st.mine.ask) → IsTold h t.now
+        own : subject pt.agent.on_return ≡ Some v → Comes E2 pt.agent.on_return kept (wait_of st.mine.ask) → IsTold h t.now
         own whose (inl c) = absurd (calm_waits (E2 v) h true (c.1 v whose) e)
         own whose (inr (line, key, task, k, wt, whose', is)) =
             absurd (woken_or h (on line key) (sym e ∙ (ap E2 (inner v task (sym whose ∙ whose')) ∙ is)))
 
-        by : (subject pt.agent.errand ≡ Some v) ⊎ (subject pt.agent.errand ≡ Some v → ⊥) → IsTold h t.now
+        by : (subject pt.agent.on_return ≡ Some v) ⊎ (subject pt.agent.on_return ≡ Some v → ⊥) → IsTold h t.now
         by (inl whose) = own whose (set b s t p m y kp names o known st).own
         by (inr other) = mid_told b s t p m (Some y) kp names o known st w v h (sym (others_stand v other) ∙ e)
 
-    ended_tasks : (v : Waiter) (h : Held) → WaitsToWake h v t.now → IsOwn end_book Left v h
+    ended_tasks : (v : Waiter) (h : Held) → WaitsToWake h v t.now → IsOwn end_name_state Left v h
     ended_tasks v h i = by ((follow b s t p m (Some y) kp names o known st w).tasks h v i)
       where
-        mine : holding st.mine.at ≡ Some h → subject pt.agent.errand ≡ Some v → IsOwn end_book Left v h
+        mine : holding st.mine.at ≡ Some h → subject pt.agent.on_return ≡ Some v → IsOwn end_name_state Left v h
         mine had whose =
             inl (false, own_now v h (still_has b s t p m (Some y) kp names o known st w h had (listed_of h v t.now i)) whose)
 
         -- its own agent is under way no more
         his : AnyOf (HasIt p h) Left ⊎ ((calling p ≡ calling p) × (holding st.mine.at ≡ Some h))
-            → subject pt.agent.errand ≡ Some v → IsOwn end_book Left v h
+            → subject pt.agent.on_return ≡ Some v → IsOwn end_name_state Left v h
         his (inl k) whose = back_or (back_calling b s t p m y kp names o known st (calling p) p h k)
           where
-            back_or : (HoldsIn (post b.roll) s.under_way (calling p) h × (calling p ≡ calling p → ⊥)) ⊎
-                ((calling p ≡ calling p) × (ending.has ≡ Some h)) → IsOwn end_book Left v h
+            back_or : (HoldsIn (status b.name_table) s.under_way (calling p) h × (calling p ≡ calling p → ⊥)) ⊎
+                ((calling p ≡ calling p) × (ending.has ≡ Some h)) → IsOwn end_name_state Left v h
             back_or (inl j) = absurd (j.1 refl)
             back_or (inr j) = inl (false, own_now v h j.1 whose)
         his (inr k) whose = mine k.1 whose
@@ -317,77 +317,77 @@ module _ {T : Type 0} where
             parts_party = pt.own.party ∙ st.whose
         differs a (x ∷ l) d (inr j) e = differs a l d.1 j e
 
-        theirs : (a : Agent T) → (a.party ≡ p → ⊥) → IsAmong a (pt.front ++ pt.back) → subject a.errand ≡ Some v
+        theirs : (a : Agent T) → (a.party ≡ p → ⊥) → IsAmong a (pt.front ++ pt.back) → subject a.on_return ≡ Some v
             → AnyOf (HasIt a.party h) Left ⊎ ((calling a.party ≡ calling p) × (holding st.mine.at ≡ Some h))
-            → IsOwn end_book Left v h
+            → IsOwn end_name_state Left v h
         theirs a other j e (inl k) = inr (inl (a, j, e, k))
         theirs a other j e (inr k) = absurd (other (calling_is a.party p k.0))
 
-        forth : (a : Agent T) → HoldsIn (post b.roll) s.under_way (calling a.party) h
+        forth : (a : Agent T) → HoldsIn (status b.name_table) s.under_way (calling a.party) h
             → AnyOf (HasIt a.party h) Left ⊎ ((calling a.party ≡ calling p) × (holding st.mine.at ≡ Some h))
         forth a has = forth_calling b s t p m (Some y) kp names o known st a.party h has
 
-        whose_it_is : (a : Agent T) → IsAmong a pt.front ⊎ IsAmong a (pt.agent ∷ pt.back) → subject a.errand ≡ Some v
-            → HoldsIn (post b.roll) s.under_way (calling a.party) h → IsOwn end_book Left v h
+        whose_it_is : (a : Agent T) → IsAmong a pt.front ⊎ IsAmong a (pt.agent ∷ pt.back) → subject a.on_return ≡ Some v
+            → HoldsIn (status b.name_table) s.under_way (calling a.party) h → IsOwn end_name_state Left v h
         whose_it_is a (inl j) e has =
             let sd = sides b s t p m (Some y) kp names o known st in
             theirs a (differs a pt.front sd.first j) (among_left a pt.front pt.back j) e (forth a has)
         whose_it_is a (inr (inl same)) e has =
             let party : a.party ≡ p = ap (λ (z : Agent T). z.party) (sym same) ∙ (pt.own.party ∙ st.whose) in
             his (subst (λ (q : ℕ). AnyOf (HasIt q h) Left ⊎ ((calling q ≡ calling p) × (holding st.mine.at ≡ Some h))) party
-            (forth a has)) (ap (λ (z : Agent T). subject z.errand) same ∙ e)
+            (forth a has)) (ap (λ (z : Agent T). subject z.on_return) same ∙ e)
         whose_it_is a (inr (inr j)) e has =
             let sd = sides b s t p m (Some y) kp names o known st in
             theirs a (differs a pt.back sd.last j) (among_right a pt.front pt.back j) e (forth a has)
 
-        idle : NoneWorks v b.agents → (NoneWorks v (pt.front ++ pt.back)) × (subject pt.agent.errand ≡ Some v → ⊥)
+        idle : NoneWorks v b.agents → (NoneWorks v (pt.front ++ pt.back)) × (subject pt.agent.on_return ≡ Some v → ⊥)
         idle none =
             let all = subst (λ (l : List (Agent T)). NoneWorks v l) pt.are none in
-            let right = all_right (λ (a : Agent T). subject a.errand ≡ Some v → ⊥) pt.front (pt.agent ∷ pt.back) all in (
-              all_join (λ (a : Agent T). subject a.errand ≡ Some v → ⊥) pt.front pt.back
-                  (all_left (λ (a : Agent T). subject a.errand ≡ Some v → ⊥) pt.front (pt.agent ∷ pt.back) all) right.1,
+            let right = all_right (λ (a : Agent T). subject a.on_return ≡ Some v → ⊥) pt.front (pt.agent ∷ pt.back) all in (
+              all_join (λ (a : Agent T). subject a.on_return ≡ Some v → ⊥) pt.front pt.back
+                  (all_left (λ (a : Agent T). subject a.on_return ≡ Some v → ⊥) pt.front (pt.agent ∷ pt.back) all) right.1,
               right.0,
             )
 
-        before : IsOwn b s.under_way v h → IsOwn end_book Left v h
+        before : IsOwn b s.under_way v h → IsOwn end_name_state Left v h
         before (inl x) =
-            let mid = mid_forth names b.roll v h x.0 x.1 in
+            let mid = mid_forth names b.name_table v h x.0 x.1 in
             inl (
               mid.0,
-              others_stand v (λ whose. busy_waits (post b.roll v) h x.0
+              others_stand v (λ whose. busy_waits (status b.name_table v) h x.0
                   (busy_own b s t p m y kp names o known st v whose) x.1) ∙ mid.1,
             )
         before (inr (inl (a, j, e, has))) = whose_it_is a
             (among_of a pt.front (pt.agent ∷ pt.back) (subst (λ (l : List (Agent T)). IsAmong a l) pt.are j)) e has
         before (inr (inr x)) =
             let rest = idle x.1 in
-            let same : E2 v ≡ post b.roll v =
-            others_stand v rest.1 ∙ mid_busy names b.roll v (away_busy (post b.roll v) x.0) in
+            let same : E2 v ≡ status b.name_table v =
+            others_stand v rest.1 ∙ mid_busy names b.name_table v (away_busy (status b.name_table v) x.0) in
             inr (inr (subst IsAway (sym same) x.0, rest.0))
 
-        by : WaitsToWake h v s.now ⊎ ((holding st.mine.at ≡ Some h) × (task_at st.mine.at ≡ Some v)) → IsOwn end_book Left v h
+        by : WaitsToWake h v s.now ⊎ ((holding st.mine.at ≡ Some h) × (task_at st.mine.at ≡ Some v)) → IsOwn end_name_state Left v h
         by (inl j) = before (w.tasks v h j)
         by (inr j) = mine j.0 (his_name b s t p m (Some y) kp names o known st w v j.1)
 
-    ends_woken : WokenSound end_book t
+    ends_woken : WokenSound end_name_state t
     ends_woken = record {
       told = ended_told;
-      tasks = λ v h i. subst (λ (us : List (Under T Waiter)). IsOwn end_book us v h)
+      tasks = λ v h i. subst (λ (us : List (ActiveCall T Waiter)). IsOwn end_name_state us v h)
           (sym st.left) (ended_tasks v h i);
     }
 
   -- ---- any step
 
-  abbrev IsAfter : Book T → PartyId → Option (Reply T) → Option (Kept T) → List Waiter → Book T → Type 0
+  abbrev IsAfter : NameState T → PartyId → Option (Reply T) → Option (Kept T) → List Waiter → NameState T → Type 0
   IsAfter b q r kp names c =
-      (k : ℕ) × (a : Agent T) × (slice_get b.agents k ≡ Some a) × (a.party ≡ q.0) × (c ≡ book_ended k a r kp (with_woken names b))
+      (k : ℕ) × (a : Agent T) × (slice_get b.agents k ≡ Some a) × (a.party ≡ q.0) × (c ≡ name_state_ended k a r kp (with_woken names b))
 
-  pub stepped_woken : (b c : Book T) (s t : Scene T Waiter) (q : PartyId) (m : Mark) (r : Option (Reply T))
+  pub stepped_woken : (b c : NameState T) (s t : Configuration T Waiter) (q : PartyId) (m : Mark) (r : Option (Reply T))
       (kp : Option (Kept T)) (names : List Waiter) → Owned b s → AllKnown s.now s.under_way
       → Steps s q.0 (record { mark = m; reply = r; kept = kp }) names t → IsAfter b q r kp names c → WokenSound b s →
       WokenSound c t
   stepped_woken b c s t q m None kp names o known st after w =
-      subst (λ (d : Book T). WokenSound d t) (sym after.4) (goes_woken b s t q.0 m kp names o known st w)
+      subst (λ (d : NameState T). WokenSound d t) (sym after.4) (goes_woken b s t q.0 m kp names o known st w)
   stepped_woken b c s t q m (Some y) kp names o known st after w =
       let pt = parts b s t q.0 m (Some y) kp names o known st in
       let f = st.finishes in
@@ -399,4 +399,4 @@ module _ {T : Type 0} where
       ap (λ (l : List (Agent T)). remove l after.0) pt.are ∙ is.without in
       let same = after.4 ∙ ended_is after.0 after.1 pt.agent y kp f.kept (with_woken names b) (pt.front ++ pt.back) is.same
       f.given rest in
-      subst (λ (d : Book T). WokenSound d t) (sym same) (ends_woken b s t q.0 m y kp names o known st w)
+      subst (λ (d : NameState T). WokenSound d t) (sym same) (ends_woken b s t q.0 m y kp names o known st w)

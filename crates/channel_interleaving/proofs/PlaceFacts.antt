@@ -5,7 +5,7 @@ use Rattle.futures.specs.declared.task.Poll.TheVariants as poll
 use Rattle.concurrent_queue.specs.Queue.{Queue, is_filled}
 use Rattle.event_listener.specs.declared.key.Key.{Key}
 use Rattle.channel_alone.specs.Alone.{Outcome, Alone, AsksListener, PollsSend, Where, over_queue, with_appended, replaced, answers, ends, of_message, WaitsOrGoesOn, ListensOrIsRefused}
-use Rattle.channel_alone.specs.Scenes.{LoneRun, steps_by}
+use Rattle.channel_alone.specs.Configurations.{LoneRun, steps_by}
 use Rattle.channel_calls.specs.Answered.{over}
 use Rattle.channel_calls.specs.Moves.{Channel, tells_one, tells_all, registers}
 use Rattle.channel_calls.specs.Parts.{listeners, waits}
@@ -36,16 +36,16 @@ use Rattle.channel_model.specs.declared.name.HandleKind.TheVariants as handle_ki
 use Rattle.channel_model.specs.declared.name.OpId.{OpId}
 use Rattle.channel_model.specs.declared.name.Waiter.{Waiter}
 use Rattle.channel_model.specs.declared.name.Waiter.TheVariants.{Op, Stream}
-use Rattle.channel_steps.specs.Run.{EachStep, NextScene, end_of}
-use Rattle.channel_steps.specs.Scene.{Scene, brought}
+use Rattle.channel_steps.specs.Run.{EachStep, NextConfiguration, end_of}
+use Rattle.channel_steps.specs.Configuration.{Configuration, brought}
 use Rattle.channel_steps.specs.declared.party.Entry.{Entry}
 use Rattle.channel_interleaving.specs.Bookkeeping.{asks}
 use Rattle.channel_interleaving.specs.Positions.{has_message, brings, came_in, accepted_by, yet_in}
-use Rattle.channel_interleaving.specs.Roll.{held_of, handle_at, names_of, operation_at, operation_of}
+use Rattle.channel_interleaving.specs.NameTable.{held_of, handle_at, names_of, operation_at, operation_of}
 use Rattle.channel_interleaving.specs.declared.names.Operation.{Operation}
 use Rattle.channel_interleaving.specs.declared.names.OperationKind.{OperationKind}
 use Rattle.channel_interleaving.specs.declared.names.OperationKind.TheVariants as kind
-use Rattle.channel_interleaving.specs.declared.roll.Roll.{Roll}
+use Rattle.channel_interleaving.specs.declared.name_table.NameTable.{NameTable}
 use Rattle.channel_interleaving.proofs.PositionFacts.{left_queue, step_brings, begin_brings}
 use Rattle.channel_interleaving.proofs.RefusalLemmas as refusals
 
@@ -83,7 +83,7 @@ module _ (T : Type 0) where
 module _ {T : Type 0} where
   -- ---- a call that may bring none asks for none to be brought
 
-  none_polled : (r : Roll T) (op : OpId) (o : Option (Operation T))
+  none_polled : (r : NameTable T) (op : OpId) (o : Option (Operation T))
       → option_map_or (λ (x : Operation T). has_message x.kind x.message) o false ≡ false
       → length (brought (poll_asked (held_of r) op (option_map operation_of o))) ≡ 0
   none_polled r op None e = refl
@@ -95,19 +95,19 @@ module _ {T : Type 0} where
     by kind.Receive m e = refl
     by kind.Closing m e = refl
 
-  none_refused : (r : Roll T) (op : OpId) (o : Option (model.ModelOperation T)) → length (brought (refusal_asked (held_of r) op o)) ≡ 0
+  none_refused : (r : NameTable T) (op : OpId) (o : Option (model.ModelOperation T)) → length (brought (refusal_asked (held_of r) op o)) ≡ 0
   none_refused r op None = refl
   none_refused r op (Some (model.send handle m)) = refl
   none_refused r op (Some (model.recv handle)) = refl
   none_refused r op (Some (model.closing handle)) = refl
 
-  none_given_up : (r : Roll T) (op : OpId) (o : Option (model.ModelOperation T)) → length (brought (giving_up_asked (held_of r) op o)) ≡ 0
+  none_given_up : (r : NameTable T) (op : OpId) (o : Option (model.ModelOperation T)) → length (brought (giving_up_asked (held_of r) op o)) ≡ 0
   none_given_up r op None = refl
   none_given_up r op (Some (model.send handle m)) = refl
   none_given_up r op (Some (model.recv handle)) = refl
   none_given_up r op (Some (model.closing handle)) = refl
 
-  none_dropped : (r : Roll T) (handle : HandleId) (o : Option Handle)
+  none_dropped : (r : NameTable T) (handle : HandleId) (o : Option Handle)
       → length (brought (let a : ChannelAsk T Waiter = drop_asked (held_of r) handle o in a)) ≡ 0
   none_dropped r handle None = refl
   none_dropped r handle (Some h) = by h.kind
@@ -130,7 +130,7 @@ module _ {T : Type 0} where
   brought_most (channel.PollSend m key task) = omega arith
   brought_most a = omega arith
 
-  pub no_message : (r : Roll T) (c : Call T) → brings r c ≡ false → length (brought (asks r c)) ≡ 0
+  pub no_message : (r : NameTable T) (c : Call T) → brings r c ≡ false → length (brought (asks r c)) ≡ 0
   no_message r (call.TrySend sender m) e = absurd (let no : true ≡ false = e in cc)
   no_message r (call.ForceSend sender m) e = absurd (let no : true ≡ false = e in cc)
   no_message r (call.Poll op) e = none_polled r op (at op.0 r.operations) e
@@ -142,7 +142,7 @@ module _ {T : Type 0} where
   no_message r c e = refl
 
   -- a poll that may bring one is that of a send
-  pub only_sends_bring : (r : Roll T) (w : Waiter) → brings r (poll_of w) ≡ true → is_line Sends (laws.line_at (names_of r) w) ≡ true
+  pub only_sends_bring : (r : NameTable T) (w : Waiter) → brings r (poll_of w) ≡ true → is_line Sends (laws.line_at (names_of r) w) ≡ true
   only_sends_bring r (Stream receiver) e = absurd (let no : false ≡ true = e in cc)
   only_sends_bring r (Op op) e =
       ap (λ (o : Option (model.ModelOperation T)). is_line Sends (line_of_operation o)) (refusals.operation_at r op.0)
@@ -251,10 +251,10 @@ module _ {T : Type 0} where
 
   -- ---- its steps bring in no more than it has
 
-  abbrev all_in : Scene T Waiter → ℕ
+  abbrev all_in : Configuration T Waiter → ℕ
   all_in s = s.now.queue.accepted + yet_in s.under_way
 
-  steps_bring : (s : Scene T Waiter) (p : ℕ) (es : List (Entry T)) (ns : List (Scene T Waiter)) → EachStep NextScene s (steps_by p es) es ns
+  steps_bring : (s : Configuration T Waiter) (p : ℕ) (es : List (Entry T)) (ns : List (Configuration T Waiter)) → EachStep NextConfiguration s (steps_by p es) es ns
       → all_in (end_of s ns) ≤ all_in s
   steps_bring s p [] [] h = omega arith
   steps_bring s p (e ∷ es) (n ∷ ns) h =
@@ -266,7 +266,7 @@ module _ {T : Type 0} where
   steps_bring s p [] (n ∷ ns) h = absurd h
   steps_bring s p (e ∷ es) [] h = absurd h
 
-  lone_brings : (s : Scene T Waiter) (p : ℕ) (a : ChannelAsk T Waiter) (o : Outcome T Waiter) (t : Scene T Waiter) → LoneRun s p a o t
+  lone_brings : (s : Configuration T Waiter) (p : ℕ) (a : ChannelAsk T Waiter) (o : Outcome T Waiter) (t : Configuration T Waiter) → LoneRun s p a o t
       → all_in t ≤ all_in s + length (brought a)
   lone_brings s p a o t run =
       let same = ap (λ (c : Channel T Waiter). c.queue.accepted) run.begins.now in
@@ -285,12 +285,12 @@ module _ {T : Type 0} where
 
   -- what was counted before and what the reply says is no less than what was accepted, and no more than before where the call
   -- brings none
-  pub record Counted (n : ℕ) (b : Bool) (x : Reply T) (t : Scene T Waiter) : Type 0 where
+  pub record Counted (n : ℕ) (b : Bool) (x : Reply T) (t : Configuration T Waiter) : Type 0 where
     pub accepted : t.now.queue.accepted ≤ n + accepted_by b x
     pub most : accepted_by b x ≤ 1
     pub none : b ≡ false → accepted_by b x ≡ 0
 
-  pub counted_alone : (r : Roll T) (c : Call T) (n : ℕ) (s t : Scene T Waiter) (o : Outcome T Waiter) (p : ℕ)
+  pub counted_alone : (r : NameTable T) (c : Call T) (n : ℕ) (s t : Configuration T Waiter) (o : Outcome T Waiter) (p : ℕ)
       → LoneRun s p (asks r c) o t → Alone (asks r c) s.now o → t.now ≡ o.channel → s.under_way ≡ [] → s.now.queue.accepted ≤ n
       → Counted n (brings r c) o.reply t
   counted_alone r c n s t o p run alone now quiet low = by (brings r c) refl (alone_accepts (asks r c) s.now o alone) where

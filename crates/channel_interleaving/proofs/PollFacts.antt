@@ -3,16 +3,16 @@ use Rattle.std.proofs.Common.{arith, ◌≡◌, ◌+◌, ◌≤◌, ℕ, List, �
 use Rattle.channel_calls.specs.Parts.{Parts}
 use Rattle.channel_calls.specs.declared.ask.ChannelAsk.{ChannelAsk}
 use Rattle.channel_alone.specs.Alone.{Alone}
-use Rattle.channel_alone.specs.Scenes.{RunsInScenes}
+use Rattle.channel_alone.specs.Configurations.{RunsInConfigurations}
 use Rattle.channel_alone.specs.declared.run.Done.{Done}
 use Rattle.channel_model.specs.declared.call.Call.{Call}
 use Rattle.channel_model.specs.declared.name.Waiter.{Waiter}
-use Rattle.channel_steps.specs.Scene.{Represents}
+use Rattle.channel_steps.specs.Configuration.{Represents}
 use Rattle.channel_interleaving.specs.Bookkeeping.{asks}
-use Rattle.channel_interleaving.specs.Floor.{parts_in, AreOwned, IsQuiet}
+use Rattle.channel_interleaving.specs.WorldState.{parts_in, AreOwned, IsQuiet}
 use Rattle.channel_interleaving.specs.Lone.{WakesAtMost}
 use Rattle.channel_interleaving.specs.Woken.{Hears}
-use Rattle.channel_interleaving.specs.declared.floor.Floor.{Floor}
+use Rattle.channel_interleaving.specs.declared.world_state.WorldState.{WorldState}
 use Rattle.channel_interleaving.specs.declared.woken.Woken.{Woken as Sink}
 use Rattle.channel_interleaving.proofs.ShownFacts.{has_position}
 use Rattle.channel_interleaving.proofs.WokenFacts.{all_heard, room_stays, drop_front}
@@ -24,16 +24,16 @@ pub record Heard (empty full : Sink) : Type 0 where
   pub capacity : vec_capacity empty.names ≤ vec_capacity full.names
 
 module _ {T : Type 0} where
-  pub names_heard : (c : Call T) (old : Floor T) (a : ChannelAsk T Waiter) (d : Done T) (empty full : Sink) (after : Parts T Waiter)
+  pub names_heard : (c : Call T) (old : WorldState T) (a : ChannelAsk T Waiter) (d : Done T) (empty full : Sink) (after : Parts T Waiter)
       (messages room : ℕ)
-      → RunsInScenes Hears a (parts_in old) empty old.messages d after full messages → a ≡ asks old.roll c
+      → RunsInConfigurations Hears a (parts_in old) empty old.messages d after full messages → a ≡ asks old.name_table c
       → AreOwned old → IsQuiet old → length empty.names.items + room ≤ vec_capacity empty.names
       → WakesAtMost room c old → Heard empty full
   names_heard c old a d empty full after messages room ran asked o quiet enough few =
-      let r = ran o.scene 0 (has_position old o.scene o.shown) (subst (λ ps. Represents (parts_in old) ps o.scene) quiet o.shown.shows) in
-      let alone : Alone (asks old.roll c) o.scene.now r.outcome =
-      subst (λ (x : ChannelAsk T Waiter). Alone x o.scene.now r.outcome) asked r.does in
-      let most = few o.scene r.outcome o.shown o.kept alone in
+      let r = ran o.configuration 0 (has_position old o.configuration o.shown) (subst (λ ps. Represents (parts_in old) ps o.configuration) quiet o.shown.shows) in
+      let alone : Alone (asks old.name_table c) o.configuration.now r.outcome =
+      subst (λ (x : ChannelAsk T Waiter). Alone x o.configuration.now r.outcome) asked r.does in
+      let most = few o.configuration r.outcome o.shown o.kept alone in
       let start : vec_len empty.names ≡ length empty.names.items = empty.names.ok.0 in
       let end : vec_len full.names ≡ length full.names.items = full.names.ok.0 in
       let fits : vec_len empty.names + length r.outcome.woken ≤ vec_capacity empty.names = omega (arith, most, enough, start) in

@@ -46,7 +46,7 @@ use Rattle.channel_calls.specs.declared.stage.Work.{Work}
 use Rattle.channel_calls.specs.declared.stage.Work.TheVariants.{TellReceive, TellStreams, TellSend, TellSends, TakeRoom, TellAll, Insert, Register, Leave, Lower, Count, Load, Raise}
 use Rattle.channel_steps.specs.Count.{brought_in}
 use Rattle.channel_steps.specs.Run.{Begins, call_begun}
-use Rattle.channel_steps.specs.Scene.{Under, Scene, Steps, sees, does, unless_ended, brought}
+use Rattle.channel_steps.specs.Configuration.{ActiveCall, Configuration, Steps, sees, does, unless_ended, brought}
 use Rattle.channel_steps.specs.declared.party.Entry.{Entry}
 use Rattle.channel_interleaving.specs.Positions.{yet_tried, yet_worked, yet, yet_in}
 
@@ -417,13 +417,13 @@ module _ {T W : Type 0} where
       let next : yet s ≡ 0 = ap (λ (z : Stage (Phase T) T W). yet z) h.2 in
       record { accepted = omega (arith, plain, now); fewer = omega (arith, plain, next) }
 
-  -- ---- one step of a scene
+  -- ---- one step of a configuration
 
-  yet_parts : (us vs : List (Under T W)) → yet_in (us ++ vs) ≡ yet_in us + yet_in vs
+  yet_parts : (us vs : List (ActiveCall T W)) → yet_in (us ++ vs) ≡ yet_in us + yet_in vs
   yet_parts [] vs = omega arith
   yet_parts (u ∷ us) vs = let rest = yet_parts us vs in omega (arith, rest)
 
-  yet_seen : (d : Channel T W) (us : List (Under T W)) → yet_in (map (sees d) us) ≡ yet_in us
+  yet_seen : (d : Channel T W) (us : List (ActiveCall T W)) → yet_in (map (sees d) us) ≡ yet_in us
   yet_seen d [] = omega arith
   yet_seen d (u ∷ us) = let rest = yet_seen d us in omega (arith, rest)
 
@@ -438,19 +438,19 @@ module _ {T W : Type 0} where
   most_yet (Finished kept) = omega arith
 
   -- no more than there are calls
-  pub yet_most : (us : List (Under T W)) → yet_in us ≤ length us
+  pub yet_most : (us : List (ActiveCall T W)) → yet_in us ≤ length us
   yet_most [] = omega arith
   yet_most (u ∷ us) = let rest = yet_most us in let one = most_yet u.at in omega (arith, one, rest)
 
-  yet_unless : (u : Under T W) (r : Option (Reply T)) → yet_in (unless_ended u r) ≤ yet u.at
+  yet_unless : (u : ActiveCall T W) (r : Option (Reply T)) → yet_in (unless_ended u r) ≤ yet u.at
   yet_unless u None = omega arith
   yet_unless u (Some r) = omega arith
 
-  pub record StepBrings (s : Scene T W) (e : Entry T) (t : Scene T W) : Type 0 where
+  pub record StepBrings (s : Configuration T W) (e : Entry T) (t : Configuration T W) : Type 0 where
     pub accepted : t.now.queue.accepted ≡ s.now.queue.accepted + brought_in e.mark
     pub fewer : brought_in e.mark + yet_in t.under_way ≤ yet_in s.under_way
 
-  pub step_brings : (s : Scene T W) (p : ℕ) (e : Entry T) (names : List W) (t : Scene T W) → Steps s p e names t → StepBrings s e t
+  pub step_brings : (s : Configuration T W) (p : ℕ) (e : Entry T) (names : List W) (t : Configuration T W) → Steps s p e names t → StepBrings s e t
   step_brings s p e names t n =
       let m = moves s.now n.mine.at _ e.reply n.at_now n.moves in
       let after = does n.mine n.at_now e.mark s.now t.now in
@@ -486,7 +486,7 @@ module _ {T W : Type 0} where
   first_yet (channel.PollNext (Some key) task) = omega arith
   first_yet a = omega arith
 
-  pub begin_brings : (s : Scene T W) (p : ℕ) (a : ChannelAsk T W) (e : Entry T) (t : Scene T W) → Begins s p a e t
+  pub begin_brings : (s : Configuration T W) (p : ℕ) (a : ChannelAsk T W) (e : Entry T) (t : Configuration T W) → Begins s p a e t
       → yet_in t.under_way ≤ yet_in s.under_way + length (brought a)
   begin_brings s p a e t b =
       let more = ap yet_in b.under_way in

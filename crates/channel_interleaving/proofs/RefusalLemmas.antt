@@ -11,10 +11,10 @@ use Rattle.channel_model.specs.declared.name.Handle.{Handle}
 use Rattle.channel_model.specs.declared.name.HandleId.{HandleId}
 use Rattle.channel_model.specs.declared.refusal.WorldRefusal.TheVariants.{UnknownName, WrongKind, OpUnderWay}
 use Rattle.channel_interleaving.specs.Refusal.{unfit_handle, begin_refusal}
-use Rattle.channel_interleaving.specs.Roll.{is_polled, operation_of, names_of}
-use Rattle.channel_interleaving.specs.declared.names.Hold.{Hold}
+use Rattle.channel_interleaving.specs.NameTable.{is_polled, operation_of, names_of}
+use Rattle.channel_interleaving.specs.declared.names.HandleEntry.{HandleEntry}
 use Rattle.channel_interleaving.specs.declared.names.Operation.{Operation}
-use Rattle.channel_interleaving.specs.declared.roll.Roll.{Roll}
+use Rattle.channel_interleaving.specs.declared.name_table.NameTable.{NameTable}
 
 pub and_true : (b : Bool) → (b && true) ≡ b
 and_true true = refl
@@ -24,9 +24,9 @@ pub or_false : (b : Bool) → (b || false) ≡ b
 or_false true = refl
 or_false false = refl
 
-module _ {T : Type 0} (r : Roll T) (name : ℕ) where
-  pub handle_at : at name (names_of r).handles ≡ option_map (λ (h : Hold). h.handle) (at name r.handles)
-  handle_at = at_seen (λ (h : Hold). h.handle) name r.handles
+module _ {T : Type 0} (r : NameTable T) (name : ℕ) where
+  pub handle_at : at name (names_of r).handles ≡ option_map (λ (h : HandleEntry). h.handle) (at name r.handles)
+  handle_at = at_seen (λ (h : HandleEntry). h.handle) name r.handles
 
   pub operation_at : at name (names_of r).operations ≡ option_map operation_of (at name r.operations)
   operation_at = at_seen operation_of name r.operations
@@ -38,7 +38,7 @@ module _ {T : Type 0} (r : Roll T) (name : ℕ) where
     same None = refl
     same (Some o) = refl
 
-  pub handle_there : option_map (λ (h : Hold). h.handle) (at name r.handles) ≡ at name (names_of r).handles
+  pub handle_there : option_map (λ (h : HandleEntry). h.handle) (at name r.handles) ≡ at name (names_of r).handles
   handle_there = sym handle_at
 
   pub send_there : option_map_or (λ (o : Operation T). operation_fits a_send (operation_of o)) (at name r.operations) false ≡ is_fit (names_of r) (name, a_send)
@@ -49,18 +49,18 @@ module _ {T : Type 0} (r : Roll T) (name : ℕ) where
 
 -- ---- calls through one handle that bring no new name and take nothing whole
 
-abbrev seen_fits : Want → Option Hold → Bool
-seen_fits want o = option_map_or (λ (h : Handle). handle_fits want h.kind) (option_map (λ (h : Hold). h.handle) o) false
+abbrev seen_fits : Want → Option HandleEntry → Bool
+seen_fits want o = option_map_or (λ (h : Handle). handle_fits want h.kind) (option_map (λ (h : HandleEntry). h.handle) o) false
 
-by_one : (want : Want) (o : Option Hold)
-    → (if not (is_some (option_map (λ (h : Hold). h.handle) o) && true) then Some UnknownName
+by_one : (want : Want) (o : Option HandleEntry)
+    → (if not (is_some (option_map (λ (h : HandleEntry). h.handle) o) && true) then Some UnknownName
     else (if not (seen_fits want o && true) then Some WrongKind
-    else (if (option_map_or (λ (h : Hold). is_polled h.standing) o false || false) then Some OpUnderWay else None)))
+    else (if (option_map_or (λ (h : HandleEntry). is_polled h.poll_state) o false || false) then Some OpUnderWay else None)))
     ≡ unfit_handle want o
 by_one want None = refl
-by_one want (Some h) = rw (and_true (handle_fits want h.handle.kind), or_false (is_polled h.standing)) refl
+by_one want (Some h) = rw (and_true (handle_fits want h.handle.kind), or_false (is_polled h.poll_state)) refl
 
-module _ {T : Type 0} (r : Roll T) (c : Call T) where
+module _ {T : Type 0} (r : NameTable T) (c : Call T) where
   pub sends_alike : (sender : HandleId) (m : T) → c ≡ call.TrySend sender m → begin_refusal r c ≡ unfit_handle a_sender (at sender.0 r.handles)
   sends_alike sender m e = rw e (rw (handle_at r sender.0) (by_one a_sender (at sender.0 r.handles)))
 

@@ -16,8 +16,8 @@ use Rattle.channel_model.specs.declared.name.Waiter.{Waiter}
 use Rattle.channel_model.specs.declared.name.Waiter.TheVariants.{Stream}
 use Rattle.channel_steps.specs.Answers.{asks_first}
 use Rattle.channel_interleaving.specs.Bookkeeping.{asks}
-use Rattle.channel_interleaving.specs.Roll.{held_of, handle_at, operation_at}
-use Rattle.channel_interleaving.specs.declared.roll.Roll.{Roll}
+use Rattle.channel_interleaving.specs.NameTable.{held_of, handle_at, operation_at}
+use Rattle.channel_interleaving.specs.declared.name_table.NameTable.{NameTable}
 
 module _ (T : Type 0) where
   abbrev Tries : ChannelAsk T Waiter → Type 0
@@ -88,7 +88,7 @@ module _ {T : Type 0} where
   given_up held op (Some (model.recv handle)) = refl
   given_up held op (Some (model.closing handle)) = refl
 
-  pub tries_first : (r : Roll T) (c : Call T) → asks_first (asks r c) ≡ false
+  pub tries_first : (r : NameTable T) (c : Call T) → asks_first (asks r c) ≡ false
   tries_first r (call.Poll op) = polled (held_of r) op (operation_at op r)
   tries_first r (call.PollRefused op) = refused (held_of r) op (operation_at op r)
   tries_first r (call.GiveUp op) = given_up (held_of r) op (operation_at op r)

@@ -19,30 +19,30 @@ use Rattle.channel_model.specs.declared.name.HandleKind.TheVariants as handle_ki
 use Rattle.channel_model.specs.declared.name.OpId.{OpId}
 use Rattle.channel_model.specs.declared.name.Waiter.{Waiter}
 use Rattle.channel_model.specs.declared.name.Waiter.TheVariants.{Op, Stream}
-use Rattle.channel_interleaving.specs.Bookkeeping.{names_begun, written_back, installed, with_one_woken, all_woken, lent_by, handed_over_by, lent_to_poll, with_operation, operation_named, handle_named, errand_of, leave_handle_of, new_from}
-use Rattle.channel_interleaving.specs.Roll.{standing_with, used_more, used_less, borrowed_more, handed_over, with_handle, with_lent, with_given_back, with_borrowed, with_handed_over, with_standing, unused, first_roll, handle_at}
-use Rattle.channel_interleaving.specs.Run.{Book, book_begun, book_ended, with_woken}
+use Rattle.channel_interleaving.specs.Bookkeeping.{names_begun, written_back, installed, with_one_woken, all_woken, lent_by, handed_over_by, lent_to_poll, with_operation, operation_named, handle_named, on_return_of, leave_handle_of, new_from}
+use Rattle.channel_interleaving.specs.NameTable.{poll_state_with, used_more, used_less, borrowed_more, handed_over, with_handle, with_lent, with_given_back, with_borrowed, with_handed_over, with_poll_state, unused, first_name_table, handle_at}
+use Rattle.channel_interleaving.specs.Run.{NameState, name_state_begun, name_state_ended, with_woken}
 use Rattle.channel_interleaving.specs.Users.{one, times_used, all_uses, FewUsers}
 use Rattle.channel_interleaving.specs.declared.names.Agent.{Agent}
-use Rattle.channel_interleaving.specs.declared.names.Errand.{Errand}
-use Rattle.channel_interleaving.specs.declared.names.Errand.TheVariants as errand
-use Rattle.channel_interleaving.specs.declared.names.Hold.{Hold}
+use Rattle.channel_interleaving.specs.declared.names.OnReturn.{OnReturn}
+use Rattle.channel_interleaving.specs.declared.names.OnReturn.TheVariants as on_return
+use Rattle.channel_interleaving.specs.declared.names.HandleEntry.{HandleEntry}
 use Rattle.channel_interleaving.specs.declared.names.Operation.{Operation}
-use Rattle.channel_interleaving.specs.declared.names.Standing.{Standing}
-use Rattle.channel_interleaving.specs.declared.names.Standing.TheVariants.{IsPolled}
-use Rattle.channel_interleaving.specs.declared.roll.Roll.{Roll}
+use Rattle.channel_interleaving.specs.declared.names.PollState.{PollState}
+use Rattle.channel_interleaving.specs.declared.names.PollState.TheVariants.{IsPolled}
+use Rattle.channel_interleaving.specs.declared.name_table.NameTable.{NameTable}
 use Rattle.channel_interleaving.specs.declared.step.PartyId.{PartyId}
 use Rattle.channel_interleaving.proofs.OwnerNames.{same_number, own_number, number_or, set_there, set_other, found, is_there, handle_none}
 
 -- a handle is used by no more calls, and borrowed by no more operations, than these
-abbrev Few : ℕ → ℕ → Hold → Type 0
+abbrev Few : ℕ → ℕ → HandleEntry → Type 0
 Few n m h = (h.users ≤ n) × (h.handle.borrowers ≤ m)
 
 -- and so is each
-abbrev AreFew : (ℕ → ℕ) → ℕ → Directory Hold → Type 0
-AreFew n m d = (name : ℕ) (h : Hold) → at name d ≡ Some h → Few (n name) m h
+abbrev AreFew : (ℕ → ℕ) → ℕ → Directory HandleEntry → Type 0
+AreFew n m d = (name : ℕ) (h : HandleEntry) → at name d ≡ Some h → Few (n name) m h
 
-allows : (n o m p : ℕ) (h : Hold) → n ≤ o → m ≤ p → Few n m h → Few o p h
+allows : (n o m p : ℕ) (h : HandleEntry) → n ≤ o → m ≤ p → Few n m h → Few o p h
 allows n o m p h more higher f =
     let users : h.users ≤ n = f.0 in
     let borrowers : h.handle.borrowers ≤ m = f.1 in
@@ -74,18 +74,18 @@ changed {X} n m d v g there = by (number_or m n) where
       inl (e, subst (λ (k : ℕ). at k (set_value (nat_eq n) d v) ≡ v) (sym e) (ap (λ (o : Option (Option X)). living o) set))
   by (inr f) = inr (f, ap (λ (o : Option (Option X)). living o) (set_other n m d v f))
 
-more_few : (n o : ℕ → ℕ) (m p : ℕ) (d : Directory Hold) → NoMore n o → m ≤ p → AreFew n m d → AreFew o p d
+more_few : (n o : ℕ → ℕ) (m p : ℕ) (d : Directory HandleEntry) → NoMore n o → m ≤ p → AreFew n m d → AreFew o p d
 more_few n o m p d more higher few name h i = allows (n name) (o name) m p h (more name) higher (few name h i)
 
 -- under a name that was just taken nothing lives
-spent_few : (n : ℕ → ℕ) (m name : ℕ) (d : Directory Hold) → AreFew n m d → AreFew n m (with_spent name d)
+spent_few : (n : ℕ → ℕ) (m name : ℕ) (d : Directory HandleEntry) → AreFew n m d → AreFew n m (with_spent name d)
 spent_few n m name d few k h i = by (nat_eq k name) i where
   by : (t : Bool) → living (cond t (Some None) (lookup (nat_eq k) d)) ≡ Some h → Few (n k) m h
   by true e = absurd (never h e)
   by false e = few k h e
 
 -- and one that didn't live doesn't
-spent_none : (n m : ℕ) (d : Directory Hold) → at m d ≡ None → at m (with_spent n d) ≡ None
+spent_none : (n m : ℕ) (d : Directory HandleEntry) → at m d ≡ None → at m (with_spent n d) ≡ None
 spent_none n m d e = by (nat_eq m n) where
   by : (t : Bool) → living (cond t (Some None) (lookup (nat_eq m) d)) ≡ None
   by true = refl
@@ -107,8 +107,8 @@ set_at n m (f ∷ d) v = elim (decided (nat_eq n f.0)) [
 ]
 
 -- so many may use it that is set
-set_few : (n : ℕ → ℕ) (m name : ℕ) (d : Directory Hold) (v : Option Hold) → AreFew n m d
-    → ((h : Hold) → v ≡ Some h → (k : ℕ) → Few (n k) m h) → AreFew n m (set_value (nat_eq name) d v)
+set_few : (n : ℕ → ℕ) (m name : ℕ) (d : Directory HandleEntry) (v : Option HandleEntry) → AreFew n m d
+    → ((h : HandleEntry) → v ≡ Some h → (k : ℕ) → Few (n k) m h) → AreFew n m (set_value (nat_eq name) d v)
 set_few n m name d v few new k h i = by (set_at name k d v) where
   by : (at k (set_value (nat_eq name) d v) ≡ at k d) ⊎ (at k (set_value (nat_eq name) d v) ≡ v) → Few (n k) m h
   by (inl e) = few k h (sym e ∙ i)
@@ -142,13 +142,13 @@ one_other name handle f = by (nat_eq name handle.0) refl where
   by false e = refl
 
 module _ {T : Type 0} where
-  handle_few : (n o : ℕ → ℕ) (m p : ℕ) (change : Hold → Hold) (handle : HandleId) (r : Roll T)
+  handle_few : (n o : ℕ → ℕ) (m p : ℕ) (change : HandleEntry → HandleEntry) (handle : HandleId) (r : NameTable T)
       → ((name : ℕ) → (name ≡ handle.0 → ⊥) → n name ≤ o name) → m ≤ p
-      → ((h : Hold) → Few (n handle.0) m h → Few (o handle.0) p (change h))
+      → ((h : HandleEntry) → Few (n handle.0) m h → Few (o handle.0) p (change h))
       → AreFew n m r.handles → AreFew o p (with_handle change handle r).handles
   handle_few n o m p change handle r more higher bound few = by (at handle.0 r.handles) refl where
-    by : (x : Option Hold) → at handle.0 r.handles ≡ x
-        → AreFew o p (option_map_or (λ (h : Hold). with_changed handle.0 (change h) r.handles) x r.handles)
+    by : (x : Option HandleEntry) → at handle.0 r.handles ≡ x
+        → AreFew o p (option_map_or (λ (h : HandleEntry). with_changed handle.0 (change h) r.handles) x r.handles)
     by None e name h i = one_of (number_or name handle.0) where
       one_of : (name ≡ handle.0) ⊎ (name ≡ handle.0 → ⊥) → Few (o name) p h
       one_of (inl same) = absurd (never h (sym e ∙ subst (λ (k : ℕ). at k r.handles ≡ Some h) same i))
@@ -159,11 +159,11 @@ module _ {T : Type 0} where
           → Few (o name) p h
       one_of (inl (same, is)) =
           subst (λ (k : ℕ). Few (o k) p h) (sym same)
-          (subst (λ (x : Hold). Few (o handle.0) p x) (inner (change g) h (sym is ∙ i)) (bound g (few handle.0 g e)))
+          (subst (λ (x : HandleEntry). Few (o handle.0) p x) (inner (change g) h (sym is ∙ i)) (bound g (few handle.0 g e)))
       one_of (inr (other, is)) = allows (n name) (o name) m p h (more name other) higher (few name h (sym is ∙ i))
 
   -- one more call may use it
-  lent_few : (n : ℕ → ℕ) (m : ℕ) (handle : HandleId) (r : Roll T) → AreFew n m r.handles
+  lent_few : (n : ℕ → ℕ) (m : ℕ) (handle : HandleId) (r : NameTable T) → AreFew n m r.handles
       → AreFew (λ name. n name + one name handle) m (with_lent handle r).handles
   lent_few n m handle r few =
       let there = one_there handle in
@@ -171,7 +171,7 @@ module _ {T : Type 0} where
       (λ h f. (let users : h.users ≤ n handle.0 = f.0 in omega (arith, users, there), f.1)) few
 
   -- and one fewer
-  given_back_few : (n : ℕ → ℕ) (m : ℕ) (handle : HandleId) (r : Roll T) → AreFew (λ name. n name + one name handle) m r.handles
+  given_back_few : (n : ℕ → ℕ) (m : ℕ) (handle : HandleId) (r : NameTable T) → AreFew (λ name. n name + one name handle) m r.handles
       → AreFew n m (with_given_back handle r).handles
   given_back_few n m handle r few =
       let there = one_there handle in
@@ -180,14 +180,14 @@ module _ {T : Type 0} where
       (λ h f. (let users : h.users ≤ n handle.0 + one handle.0 handle = f.0 in omega (arith, users, there), f.1)) few
 
   -- one more operation may borrow it
-  borrowed_few : (n : ℕ → ℕ) (m : ℕ) (handle : HandleId) (r : Roll T) → AreFew n m r.handles
+  borrowed_few : (n : ℕ → ℕ) (m : ℕ) (handle : HandleId) (r : NameTable T) → AreFew n m r.handles
       → AreFew n (suc m) (with_borrowed handle r).handles
   borrowed_few n m handle r few =
       handle_few n n m (suc m) borrowed_more handle r (λ name other. omega arith) (omega arith)
       (λ h f. (f.0, let borrowers : h.handle.borrowers ≤ m = f.1 in omega (arith, borrowers))) few
 
   -- one more call may use it, and no more operations borrow it
-  handed_over_few : (n : ℕ → ℕ) (m : ℕ) (handle : HandleId) (r : Roll T) → AreFew n m r.handles
+  handed_over_few : (n : ℕ → ℕ) (m : ℕ) (handle : HandleId) (r : NameTable T) → AreFew n m r.handles
       → AreFew (λ name. n name + one name handle) m (with_handed_over handle r).handles
   handed_over_few n m handle r few =
       let there = one_there handle in
@@ -197,14 +197,14 @@ module _ {T : Type 0} where
         let borrowers : h.handle.borrowers ≤ m = f.1 in omega (arith, borrowers),
       )) few
 
-  standing_few : (n : ℕ → ℕ) (m : ℕ) (s : Standing) (handle : HandleId) (r : Roll T) → AreFew n m r.handles
-      → AreFew n m (with_standing s handle r).handles
-  standing_few n m s handle r few =
-      handle_few n n m m (λ (h : Hold). record h { standing = s }) handle r (λ name other. omega arith) (omega arith) (λ h f. f) few
+  poll_state_few : (n : ℕ → ℕ) (m : ℕ) (s : PollState) (handle : HandleId) (r : NameTable T) → AreFew n m r.handles
+      → AreFew n m (with_poll_state s handle r).handles
+  poll_state_few n m s handle r few =
+      handle_few n n m m (λ (h : HandleEntry). record h { poll_state = s }) handle r (λ name other. omega arith) (omega arith) (λ h f. f) few
 
   -- ---- the beginning of a call
 
-  operation_length : (change : Operation T → Operation T) (op : OpId) (r : Roll T)
+  operation_length : (change : Operation T → Operation T) (op : OpId) (r : NameTable T)
       → length (with_operation change op r).operations ≡ length r.operations
   operation_length change op r = by (at op.0 r.operations) where
     by : (o : Option (Operation T))
@@ -212,7 +212,7 @@ module _ {T : Type 0} where
     by None = refl
     by (Some x) = set_length op.0 r.operations (Some (change x))
 
-  module _ (n : ℕ → ℕ) (r : Roll T) (few : AreFew n (length r.operations) r.handles) where
+  module _ (n : ℕ → ℕ) (r : NameTable T) (few : AreFew n (length r.operations) r.handles) where
     -- an operation is made
     made : (op : OpId) (handle : HandleId)
         → AreFew (λ name. n name + 0) (length (operation_named op r).operations) (with_borrowed handle (operation_named op r)).handles
@@ -227,17 +227,17 @@ module _ {T : Type 0} where
 
     -- a handle is made from one that lives, or that doesn't
     named : (handle new : HandleId) (kind : HandleKind → HandleKind)
-        → AreFew (λ name. n name + times_used name (let e : Errand T = new_from handle new kind (handle_at handle r) in e)) (length r.operations)
+        → AreFew (λ name. n name + times_used name (let e : OnReturn T = new_from handle new kind (handle_at handle r) in e)) (length r.operations)
         (with_lent handle (handle_named new r)).handles
     named handle new kind = by (at handle.0 r.handles) refl where
       spent : AreFew n (length r.operations) (handle_named new r).handles
       spent = spent_few n (length r.operations) new.0 r.handles few
 
-      by : (o : Option Hold) → at handle.0 r.handles ≡ o
-          → AreFew (λ name. n name + times_used name (let e : Errand T = new_from handle new kind (let f : Option Handle = option_map (λ (h : Hold). h.handle) o in f) in e)) (length r.operations)
+      by : (o : Option HandleEntry) → at handle.0 r.handles ≡ o
+          → AreFew (λ name. n name + times_used name (let e : OnReturn T = new_from handle new kind (let f : Option Handle = option_map (λ (h : HandleEntry). h.handle) o in f) in e)) (length r.operations)
           (with_lent handle (handle_named new r)).handles
       by None e =
-          subst (λ (x : Roll T). AreFew (λ name. n name + 0) (length r.operations) x.handles)
+          subst (λ (x : NameTable T). AreFew (λ name. n name + 0) (length r.operations) x.handles)
           (sym (handle_none (handle_named new r) handle used_more (spent_none new.0 handle.0 r.handles e)))
           (more_few n (λ name. n name + 0) (length r.operations) (length r.operations) (handle_named new r).handles (λ name. omega arith) (omega arith) spent)
       by (Some h) e = lent_few n (length r.operations) handle (handle_named new r) spent
@@ -246,23 +246,23 @@ module _ {T : Type 0} where
     same l e = more_few n (λ name. n name + 0) (length r.operations) l r.handles (λ name. omega arith) (omega (arith, e)) few
 
     lent_by_few : (o : Option (Operation T))
-        → AreFew (λ name. n name + times_used name (let e : Errand T = leave_handle_of o in e)) (length (lent_by o r).operations) (lent_by o r).handles
+        → AreFew (λ name. n name + times_used name (let e : OnReturn T = leave_handle_of o in e)) (length (lent_by o r).operations) (lent_by o r).handles
     lent_by_few None = same (length r.operations) refl
     lent_by_few (Some o) = once o.handle
 
     -- an operation is given up
     handed_over_by_few : (op : OpId) (o : Option (Operation T))
-        → (let gone : Roll T = record r { operations = without_name op.0 r.operations } in
-        AreFew (λ name. n name + times_used name (let e : Errand T = leave_handle_of o in e)) (length (handed_over_by o gone).operations) (handed_over_by o gone).handles)
+        → (let gone : NameTable T = record r { operations = without_name op.0 r.operations } in
+        AreFew (λ name. n name + times_used name (let e : OnReturn T = leave_handle_of o in e)) (length (handed_over_by o gone).operations) (handed_over_by o gone).handles)
     handed_over_by_few op None = same (length (without_name op.0 r.operations)) (set_length op.0 r.operations None)
     handed_over_by_few op (Some o) =
-        let gone : Roll T = record r { operations = without_name op.0 r.operations } in
+        let gone : NameTable T = record r { operations = without_name op.0 r.operations } in
         let as_many = set_length op.0 r.operations None in
         more_few (λ name. n name + one name o.handle) (λ name. n name + one name o.handle) (length r.operations)
         (length (without_name op.0 r.operations)) (with_handed_over o.handle gone).handles (λ name. omega arith) (omega (arith, as_many))
         (handed_over_few n (length r.operations) o.handle gone few)
 
-    pub begun_few : (c : Call T) → AreFew (λ name. n name + times_used name (errand_of r c)) (length (names_begun r c).operations) (names_begun r c).handles
+    pub begun_few : (c : Call T) → AreFew (λ name. n name + times_used name (on_return_of r c)) (length (names_begun r c).operations) (names_begun r c).handles
     begun_few (call.NewSend op sender msg) = made op sender
     begun_few (call.NewRecv op receiver) = made op receiver
     begun_few (call.NewClosed op sender) = made op sender
@@ -271,8 +271,8 @@ module _ {T : Type 0} where
     begun_few (call.GiveUp op) = handed_over_by_few op (at op.0 r.operations)
     begun_few (call.SendIsTerminated op) = lent_by_few (at op.0 r.operations)
     begun_few (call.PollNext receiver) =
-        let stands : Roll T = with_standing (IsPolled false) receiver r in
-        lent_few n (length r.operations) receiver stands (standing_few n (length r.operations) (IsPolled false) receiver r few)
+        let stands : NameTable T = with_poll_state (IsPolled false) receiver r in
+        lent_few n (length r.operations) receiver stands (poll_state_few n (length r.operations) (IsPolled false) receiver r few)
     begun_few (call.StreamIsTerminated receiver) = once receiver
     begun_few (call.TrySend sender msg) = once sender
     begun_few (call.ForceSend sender msg) = once sender
@@ -299,55 +299,55 @@ module _ {T : Type 0} where
 
   -- ---- its end
 
-  installed_few : (n : ℕ → ℕ) (m : ℕ) (new : HandleId) (kind : HandleKind) (y : Reply T) (r : Roll T) → AreFew n m r.handles
+  installed_few : (n : ℕ → ℕ) (m : ℕ) (new : HandleId) (kind : HandleKind) (y : Reply T) (r : NameTable T) → AreFew n m r.handles
       → AreFew n m (installed new kind y r).handles
   installed_few n m new kind reply.Made r few =
-      set_few n m new.0 r.handles _ few (λ h e k. subst (λ (x : Hold). Few (n k) m x) (inner (unused kind) h e) (omega arith, omega arith))
+      set_few n m new.0 r.handles _ few (λ h e k. subst (λ (x : HandleEntry). Few (n k) m x) (inner (unused kind) h e) (omega arith, omega arith))
   installed_few n m new kind y r few = few
 
   -- a handle that it gives back is used by one fewer
-  settled_few : (n : ℕ → ℕ) (m : ℕ) (e : Errand T) (y : Reply T) (left : Kept T) (r : Roll T)
+  settled_few : (n : ℕ → ℕ) (m : ℕ) (e : OnReturn T) (y : Reply T) (left : Kept T) (r : NameTable T)
       → AreFew (λ name. n name + times_used name e) m r.handles → AreFew n m (written_back e y left r).handles
-  settled_few n m errand.Nothing y left r few = more_few (λ name. n name + 0) n m m r.handles (λ name. omega arith) (omega arith) few
-  settled_few n m (errand.Leave handle) y left r few = given_back_few n m handle r few
-  settled_few n m (errand.LeaveBoth a b) y left r few =
+  settled_few n m on_return.Nothing y left r few = more_few (λ name. n name + 0) n m m r.handles (λ name. omega arith) (omega arith) few
+  settled_few n m (on_return.Leave handle) y left r few = given_back_few n m handle r few
+  settled_few n m (on_return.LeaveBoth a b) y left r few =
       given_back_few n m b (with_given_back a r)
       (given_back_few (λ name. n name + one name b) m a r
       (more_few (λ name. n name + (one name a + one name b)) (λ name. n name + one name b + one name a) m m r.handles (λ name. omega arith) (omega arith) few))
-  settled_few n m (errand.Make op operation) y left r few = more_few (λ name. n name + 0) n m m r.handles (λ name. omega arith) (omega arith) few
-  settled_few n m (errand.Poll op) y left r few = more_few (λ name. n name + 0) n m m r.handles (λ name. omega arith) (omega arith) few
-  settled_few n m (errand.PollNext receiver) y left r few =
-      let stands = standing_with left.key in
-      given_back_few n m receiver (with_standing stands receiver r)
-      (standing_few (λ name. n name + one name receiver) m stands receiver r few)
-  settled_few n m (errand.New from new kind) y left r few =
+  settled_few n m (on_return.Make op operation) y left r few = more_few (λ name. n name + 0) n m m r.handles (λ name. omega arith) (omega arith) few
+  settled_few n m (on_return.Poll op) y left r few = more_few (λ name. n name + 0) n m m r.handles (λ name. omega arith) (omega arith) few
+  settled_few n m (on_return.PollNext receiver) y left r few =
+      let stands = poll_state_with left.key in
+      given_back_few n m receiver (with_poll_state stands receiver r)
+      (poll_state_few (λ name. n name + one name receiver) m stands receiver r few)
+  settled_few n m (on_return.New from new kind) y left r few =
       installed_few n m new kind y (with_given_back from r) (given_back_few n m from r few)
 
-  installed_length : (new : HandleId) (kind : HandleKind) (y : Reply T) (r : Roll T)
+  installed_length : (new : HandleId) (kind : HandleKind) (y : Reply T) (r : NameTable T)
       → length (installed new kind y r).operations ≡ length r.operations
   installed_length new kind reply.Made r = refl
   installed_length new kind y r = refl
 
-  settled_length : (e : Errand T) (y : Reply T) (left : Kept T) (r : Roll T)
+  settled_length : (e : OnReturn T) (y : Reply T) (left : Kept T) (r : NameTable T)
       → length (written_back e y left r).operations ≡ length r.operations
-  settled_length errand.Nothing y left r = refl
-  settled_length (errand.Leave handle) y left r = refl
-  settled_length (errand.LeaveBoth a b) y left r = refl
-  settled_length (errand.Make op operation) y left r = set_length op.0 r.operations (Some operation)
-  settled_length (errand.Poll op) y left r = operation_length _ op r
-  settled_length (errand.PollNext receiver) y left r = refl
-  settled_length (errand.New from new kind) y left r = installed_length new kind y (with_given_back from r)
+  settled_length on_return.Nothing y left r = refl
+  settled_length (on_return.Leave handle) y left r = refl
+  settled_length (on_return.LeaveBoth a b) y left r = refl
+  settled_length (on_return.Make op operation) y left r = set_length op.0 r.operations (Some operation)
+  settled_length (on_return.Poll op) y left r = operation_length _ op r
+  settled_length (on_return.PollNext receiver) y left r = refl
+  settled_length (on_return.New from new kind) y left r = installed_length new kind y (with_given_back from r)
 
   -- ---- wakes
 
-  all_woken_few : (n : ℕ → ℕ) (m : ℕ) (names : List Waiter) (r : Roll T) → AreFew n m r.handles → AreFew n m (all_woken names r).handles
+  all_woken_few : (n : ℕ → ℕ) (m : ℕ) (names : List Waiter) (r : NameTable T) → AreFew n m r.handles → AreFew n m (all_woken names r).handles
   all_woken_few n m [] r few = few
   all_woken_few n m (Op op ∷ names) r few = all_woken_few n m names (with_one_woken (Op op) r) few
   all_woken_few n m (Stream handle ∷ names) r few =
       all_woken_few n m names (with_one_woken (Stream handle) r)
       (handle_few n n m m _ handle r (λ name other. omega arith) (omega arith) (λ h f. f) few)
 
-  all_woken_length : (names : List Waiter) (r : Roll T) → length (all_woken names r).operations ≡ length r.operations
+  all_woken_length : (names : List Waiter) (r : NameTable T) → length (all_woken names r).operations ≡ length r.operations
   all_woken_length [] r = refl
   all_woken_length (Op op ∷ names) r = all_woken_length names (with_one_woken (Op op) r) ∙ operation_length _ op r
   all_woken_length (Stream handle ∷ names) r = all_woken_length names (with_one_woken (Stream handle) r)
@@ -355,15 +355,15 @@ module _ {T : Type 0} where
   -- ---- the calls under way
 
   uses_more : (name : ℕ) (agents : List (Agent T)) (a : Agent T)
-      → all_uses name (agents ++ a ∷ []) ≡ all_uses name agents + times_used name a.errand
+      → all_uses name (agents ++ a ∷ []) ≡ all_uses name agents + times_used name a.on_return
   uses_more name [] a = omega arith
   uses_more name (b ∷ agents) a = let rest = uses_more name agents a in omega (arith, rest)
 
   uses_fewer : (name k : ℕ) (agents : List (Agent T)) (a : Agent T) → slice_get agents k ≡ Some a
-      → all_uses name agents ≡ all_uses name (remove agents k) + times_used name a.errand
+      → all_uses name agents ≡ all_uses name (remove agents k) + times_used name a.on_return
   uses_fewer name k [] a e = absurd cc
   uses_fewer name zero (b ∷ agents) a e =
-      let same : times_used name b.errand ≡ times_used name a.errand = ap (λ (x : Agent T). times_used name x.errand) (agent_is b a e) in
+      let same : times_used name b.on_return ≡ times_used name a.on_return = ap (λ (x : Agent T). times_used name x.on_return) (agent_is b a e) in
       omega (arith, same)
     where
       agent_is : (x y : Agent T) → Some x ≡ Some y → x ≡ y
@@ -372,39 +372,39 @@ module _ {T : Type 0} where
 
   -- ---- steps
 
-  pub users_begun : (q : PartyId) (c : Call T) (b : Book T) → FewUsers b → FewUsers (book_begun q c b)
+  pub users_begun : (q : PartyId) (c : Call T) (b : NameState T) → FewUsers b → FewUsers (name_state_begun q c b)
   users_begun q c b few name h i =
-      let most = begun_few (λ (n : ℕ). all_uses n b.agents) b.roll few c name h i in
-      let more = uses_more name b.agents (record { party = q.0; errand = errand_of b.roll c }) in
-      let users : h.users ≤ all_uses name b.agents + times_used name (errand_of b.roll c) = most.0 in
+      let most = begun_few (λ (n : ℕ). all_uses n b.agents) b.name_table few c name h i in
+      let more = uses_more name b.agents (record { party = q.0; on_return = on_return_of b.name_table c }) in
+      let users : h.users ≤ all_uses name b.agents + times_used name (on_return_of b.name_table c) = most.0 in
       (omega (arith, users, more), most.1)
 
-  pub users_ended : (k : ℕ) (a : Agent T) (y : Option (Reply T)) (left : Option (Kept T)) (names : List Waiter) (b : Book T)
-      → slice_get b.agents k ≡ Some a → FewUsers b → FewUsers (book_ended k a y left (with_woken names b))
+  pub users_ended : (k : ℕ) (a : Agent T) (y : Option (Reply T)) (left : Option (Kept T)) (names : List Waiter) (b : NameState T)
+      → slice_get b.agents k ≡ Some a → FewUsers b → FewUsers (name_state_ended k a y left (with_woken names b))
   users_ended k a None left names b there few name h i =
-      let most = all_woken_few (λ (n : ℕ). all_uses n b.agents) (length b.roll.operations) names b.roll few name h i in
-      let borrowers : h.handle.borrowers ≤ length b.roll.operations = most.1 in
-      let same = all_woken_length names b.roll in
+      let most = all_woken_few (λ (n : ℕ). all_uses n b.agents) (length b.name_table.operations) names b.name_table few name h i in
+      let borrowers : h.handle.borrowers ≤ length b.name_table.operations = most.1 in
+      let same = all_woken_length names b.name_table in
       (most.0, omega (arith, borrowers, same))
   users_ended k a (Some y) left names b there few name h i =
-      let woken_now : Roll T = all_woken names b.roll in
+      let woken_now : NameTable T = all_woken names b.name_table in
       let n : ℕ → ℕ = λ x. all_uses x (remove b.agents k) in
-      let m : ℕ = length b.roll.operations in
-      let start : AreFew (λ x. n x + times_used x a.errand) m b.roll.handles =
-      more_few (λ x. all_uses x b.agents) (λ x. n x + times_used x a.errand) m m b.roll.handles
+      let m : ℕ = length b.name_table.operations in
+      let start : AreFew (λ x. n x + times_used x a.on_return) m b.name_table.handles =
+      more_few (λ x. all_uses x b.agents) (λ x. n x + times_used x a.on_return) m m b.name_table.handles
       (λ x. let fewer = uses_fewer x k b.agents a there in omega (arith, fewer)) (omega arith) few in
       let kept : Kept T = unwrap_or left nothing_kept in
-      let most = settled_few n m a.errand y kept woken_now (all_woken_few (λ x. n x + times_used x a.errand) m names b.roll start) name h i in
+      let most = settled_few n m a.on_return y kept woken_now (all_woken_few (λ x. n x + times_used x a.on_return) m names b.name_table start) name h i in
       let borrowers : h.handle.borrowers ≤ m = most.1 in
-      let same = all_woken_length names b.roll in
-      let also = settled_length a.errand y kept woken_now in
+      let same = all_woken_length names b.name_table in
+      let also = settled_length a.on_return y kept woken_now in
       (most.0, omega (arith, borrowers, same, also))
 
 -- at first nobody uses a handle
-pub users_first : (T : Type 0) → FewUsers {T = T} (record { roll = first_roll; order = []; agents = [] })
+pub users_first : (T : Type 0) → FewUsers {T = T} (record { name_table = first_name_table; order = []; agents = [] })
 users_first T name h i = by (nat_eq name 1) (nat_eq name 0) i where
-  none : (kind : HandleKind) (x : Hold) → Some (unused kind) ≡ Some x → Few 0 0 x
-  none kind x e = subst (λ (y : Hold). Few 0 0 y) (inner (unused kind) x e) (omega arith, omega arith)
+  none : (kind : HandleKind) (x : HandleEntry) → Some (unused kind) ≡ Some x → Few 0 0 x
+  none kind x e = subst (λ (y : HandleEntry). Few 0 0 y) (inner (unused kind) x e) (omega arith, omega arith)
 
   by : (t u : Bool) → living (cond t (Some (Some (unused handle_kind.Receiver))) (cond u (Some (Some (unused handle_kind.Sender))) None)) ≡ Some h
       → Few 0 0 h

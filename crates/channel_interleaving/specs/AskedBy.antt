@@ -6,7 +6,7 @@ use Rattle.channel_model.specs.declared.name.Waiter.{Waiter}
 use Rattle.channel_steps.specs.declared.run.Step.{Step as ChannelStep}
 use Rattle.channel_steps.specs.declared.run.Step.TheVariants as channel
 use Rattle.channel_interleaving.specs.Bookkeeping.{asks}
-use Rattle.channel_interleaving.specs.declared.roll.Roll.{Roll}
+use Rattle.channel_interleaving.specs.declared.name_table.NameTable.{NameTable}
 use Rattle.channel_interleaving.specs.declared.step.Step.{Step}
 use Rattle.channel_interleaving.specs.declared.step.Step.TheVariants as step
 
@@ -25,6 +25,6 @@ module _ {T W : Type 0} where
 module _ {T : Type 0} where
   -- what a step by names is to the channel of a merge: a call asks what it asks given the names and the listeners held at this
   -- moment, or this with its listener asked first
-  abbrev pub IsStepOf : Roll T → Step T → ChannelStep T Waiter → Type 0
+  abbrev pub IsStepOf : NameTable T → Step T → ChannelStep T Waiter → Type 0
   IsStepOf r (step.Begin p c) y = (a : ChannelAsk T Waiter) × IsOrListens (asks r c) a × (y ≡ channel.Begin p.0 a)
   IsStepOf r (step.Step p) y = y ≡ channel.Step p.0

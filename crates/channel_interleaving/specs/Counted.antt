@@ -14,12 +14,12 @@ use Rattle.channel_model.specs.declared.name.HandleKind.{HandleKind}
 use Rattle.channel_model.specs.declared.name.HandleKind.TheVariants.{Sender, Receiver}
 use Rattle.channel_model.specs.declared.name.Waiter.{Waiter}
 use Rattle.channel_steps.specs.Moments.{Open}
-use Rattle.channel_steps.specs.Scene.{Under, Scene}
-use Rattle.channel_interleaving.specs.Run.{Book}
+use Rattle.channel_steps.specs.Configuration.{ActiveCall, Configuration}
+use Rattle.channel_interleaving.specs.Run.{NameState}
 use Rattle.channel_interleaving.specs.declared.names.Agent.{Agent}
-use Rattle.channel_interleaving.specs.declared.names.Errand.{Errand}
-use Rattle.channel_interleaving.specs.declared.names.Errand.TheVariants as errand
-use Rattle.channel_interleaving.specs.declared.names.Hold.{Hold}
+use Rattle.channel_interleaving.specs.declared.names.OnReturn.{OnReturn}
+use Rattle.channel_interleaving.specs.declared.names.OnReturn.TheVariants as on_return
+use Rattle.channel_interleaving.specs.declared.names.HandleEntry.{HandleEntry}
 
 -- how many of these pass
 abbrev pub tally : {X : Type 0} → (X → Bool) → List X → ℕ
@@ -35,13 +35,13 @@ is_strong Receivers Receiver = true
 is_strong side kind = false
 
 -- whether a strong handle of this side lives there
-abbrev pub strong_lives : Side → Option Hold → Bool
+abbrev pub strong_lives : Side → Option HandleEntry → Bool
 strong_lives side None = false
 strong_lives side (Some h) = is_strong side h.handle.kind
 
 -- how many strong handles of this side live
-abbrev pub live_on : Side → Directory Hold → ℕ
-live_on side handles = tally (λ (e : ℕ × Option Hold). strong_lives side e.1) handles
+abbrev pub live_on : Side → Directory HandleEntry → ℕ
+live_on side handles = tally (λ (e : ℕ × Option HandleEntry). strong_lives side e.1) handles
 
 -- ---- calls under way
 
@@ -78,17 +78,17 @@ module _ {Q T W : Type 0} where
 
 module _ {T : Type 0} where
   -- a call whose handle, if it is made, is a strong one of this side
-  abbrev pub makes_strong : Side → Errand T → Bool
-  makes_strong side (errand.New from new kind) = is_strong side kind
+  abbrev pub makes_strong : Side → OnReturn T → Bool
+  makes_strong side (on_return.New from new kind) = is_strong side kind
   makes_strong side e = false
 
   -- A count is the number of strong handles of its side that live, with that of the drops under way that are to lower it. While
   -- the channel is open it is one at least, or the drop of the last one is to close it. Those that may raise it are those that
   -- make such a handle.
-  pub record CountsSide (side : Side) (b : Book T) (s : Scene T Waiter) : Type 0 where
-    pub counts : count side s.now.roster ≡ live_on side b.roll.handles + tally (λ (u : Under T Waiter). is_lowering side u.at) s.under_way
-    pub opened : Open s.now → (1 ≤ count side s.now.roster) ⊎ (1 ≤ tally (λ (u : Under T Waiter). is_closing side u.at) s.under_way)
-    pub makers : map (λ (a : Agent T). makes_strong side a.errand) b.agents ≡ map (λ (u : Under T Waiter). is_raising side u.at) s.under_way
+  pub record CountsSide (side : Side) (b : NameState T) (s : Configuration T Waiter) : Type 0 where
+    pub counts : count side s.now.roster ≡ live_on side b.name_table.handles + tally (λ (u : ActiveCall T Waiter). is_lowering side u.at) s.under_way
+    pub opened : Open s.now → (1 ≤ count side s.now.roster) ⊎ (1 ≤ tally (λ (u : ActiveCall T Waiter). is_closing side u.at) s.under_way)
+    pub makers : map (λ (a : Agent T). makes_strong side a.on_return) b.agents ≡ map (λ (u : ActiveCall T Waiter). is_raising side u.at) s.under_way
 
-  abbrev pub Counted : Book T → Scene T Waiter → Type 0
+  abbrev pub Counted : NameState T → Configuration T Waiter → Type 0
   Counted b s = (side : Side) → CountsSide side b s

@@ -8,7 +8,7 @@ use Rattle.channel_calls.specs.declared.mark.Mark.TheVariants.{Take, Close}
 use Rattle.channel_calls.specs.declared.reply.Reply.{Reply}
 use Rattle.channel_calls.specs.declared.stage.Line.TheVariants.{Sends, Receives}
 use Rattle.channel_steps.specs.Moments.{MarkedMoment}
-use Rattle.channel_steps.specs.Scene.{Under}
+use Rattle.channel_steps.specs.Configuration.{ActiveCall}
 use Rattle.channel_steps.specs.Tellings.{takings}
 use Rattle.channel_interleaving.specs.declared.doing.Doing.{Doing}
 use Rattle.channel_interleaving.specs.declared.doing.Role.{Role}
@@ -50,8 +50,8 @@ module _ {T W : Type 0} where
   any_close [] = false
   any_close (d ∷ ds) = is_close d.mark || any_close ds
 
-  -- what a call under way is in a scene; its takings are counted as far as a machine number goes
-  abbrev pub doing_of : Under T W → Doing
+  -- what a call under way is in a configuration; its takings are counted as far as a machine number goes
+  abbrev pub doing_of : ActiveCall T W → Doing
   doing_of u = record { role = role_of u.ask; has_closed = any_close u.marks; taken = min (takings u.marks) (2 ^ 64 - 1) }
 
 module _ {T : Type 0} where

@@ -1,4 +1,4 @@
-pub mod Roll
+pub mod NameTable
 pub mod Pending
 pub mod Apart
 pub mod Refusal
@@ -10,7 +10,7 @@ pub mod AskedBy
 pub mod Owners
 pub mod Doing
 pub mod Owed
-pub mod SightAt
+pub mod ObservationAt
 pub mod OwnerWoken
 pub mod OwnerOrder
 pub mod OwnerPolled
@@ -19,8 +19,8 @@ pub mod Counted
 pub mod Kept
 pub mod Left
 pub mod Positions
-pub mod Way
-pub mod Floor
+pub mod Reaches
+pub mod WorldState
 pub mod Runs
 pub mod Lone
 pub mod Settle

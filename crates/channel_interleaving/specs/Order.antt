@@ -6,8 +6,8 @@ use Rattle.channel_model.specs.declared.call.Call.{Call}
 use Rattle.channel_model.specs.declared.call.Call.TheVariants as call
 use Rattle.channel_model.specs.declared.name.Waiter.{Waiter}
 use Rattle.channel_model.specs.declared.name.Waiter.TheVariants.{Op, Stream}
-use Rattle.channel_interleaving.specs.declared.names.Errand.{Errand}
-use Rattle.channel_interleaving.specs.declared.names.Errand.TheVariants as errand
+use Rattle.channel_interleaving.specs.declared.names.OnReturn.{OnReturn}
+use Rattle.channel_interleaving.specs.declared.names.OnReturn.TheVariants as on_return
 
 -- w has a place from now on
 abbrev pub placed : Waiter → List Waiter → List Waiter
@@ -37,8 +37,8 @@ module _ {T : Type 0} where
   order_begun (call.Drop handle) ws = without_waiter (Stream handle) ws
   order_begun c ws = ws
 
-  -- after a call with this errand that left this listener, or none
-  abbrev pub order_settled : Errand T → Option Key → List Waiter → List Waiter
-  order_settled (errand.Poll op) key ws = kept_place (Op op) key ws
-  order_settled (errand.PollNext receiver) key ws = kept_place (Stream receiver) key ws
+  -- after a call with this to write back that left this listener, or none
+  abbrev pub order_settled : OnReturn T → Option Key → List Waiter → List Waiter
+  order_settled (on_return.Poll op) key ws = kept_place (Op op) key ws
+  order_settled (on_return.PollNext receiver) key ws = kept_place (Stream receiver) key ws
   order_settled e key ws = ws

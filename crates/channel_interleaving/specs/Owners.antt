@@ -24,18 +24,18 @@ use Rattle.channel_model.specs.declared.name.HandleKind.{HandleKind}
 use Rattle.channel_model.specs.declared.name.HandleKind.TheVariants as handle_kind
 use Rattle.channel_model.specs.declared.name.Waiter.{Waiter}
 use Rattle.channel_model.specs.declared.name.Waiter.TheVariants.{Op, Stream}
-use Rattle.channel_steps.specs.Scene.{Under, Scene}
-use Rattle.channel_interleaving.specs.Run.{Book}
+use Rattle.channel_steps.specs.Configuration.{ActiveCall, Configuration}
+use Rattle.channel_interleaving.specs.Run.{NameState}
 use Rattle.channel_interleaving.specs.declared.names.Agent.{Agent}
-use Rattle.channel_interleaving.specs.declared.names.Errand.{Errand}
-use Rattle.channel_interleaving.specs.declared.names.Errand.TheVariants as errand
-use Rattle.channel_interleaving.specs.declared.names.Hold.{Hold}
+use Rattle.channel_interleaving.specs.declared.names.OnReturn.{OnReturn}
+use Rattle.channel_interleaving.specs.declared.names.OnReturn.TheVariants as on_return
+use Rattle.channel_interleaving.specs.declared.names.HandleEntry.{HandleEntry}
 use Rattle.channel_interleaving.specs.declared.names.Operation.{Operation}
 use Rattle.channel_interleaving.specs.declared.names.OperationKind.{OperationKind}
 use Rattle.channel_interleaving.specs.declared.names.OperationKind.TheVariants as kind
-use Rattle.channel_interleaving.specs.declared.names.Standing.{Standing}
-use Rattle.channel_interleaving.specs.declared.names.Standing.TheVariants.{Rests, Waits, IsPolled}
-use Rattle.channel_interleaving.specs.declared.roll.Roll.{Roll}
+use Rattle.channel_interleaving.specs.declared.names.PollState.{PollState}
+use Rattle.channel_interleaving.specs.declared.names.PollState.TheVariants.{Rests, Waits, IsPolled}
+use Rattle.channel_interleaving.specs.declared.name_table.NameTable.{NameTable}
 
 module _ {A : Type 0} where
   abbrev pub IsAmong : A → List A → Type 0
@@ -62,53 +62,53 @@ not_woken = false
 -- How a name stands: it was never taken; nothing lives under it; what lives there isn't pending; it is pending with this
 -- listener, and was woken or not; a poll of it is under way; or, which never is, a finished send or what is no receiver is
 -- pending.
-pub data Post : Type 0 where
-  free : Post
-  vacant : Post
-  amiss : Post
-  rests : Line → Post
-  waits : Held → WasWoken → Post
-  polled : Line → Post
+pub data NameStatus : Type 0 where
+  free : NameStatus
+  retired : NameStatus
+  invalid : NameStatus
+  rests : Line → NameStatus
+  waits : Held → WasWoken → NameStatus
+  polled : Line → NameStatus
 
 -- it waits, and was not woken
-abbrev pub waits_unwoken : Held → Post
+abbrev pub waits_unwoken : Held → NameStatus
 waits_unwoken h = waits h not_woken
 
-abbrev pub post_on : Line → Standing → Post
-post_on line Rests = rests line
-post_on line (Waits key is_woken) = waits (record { line = line; key = key }) is_woken
-post_on line (IsPolled brings) = polled line
+abbrev pub status_on : Line → PollState → NameStatus
+status_on line Rests = rests line
+status_on line (Waits key is_woken) = waits (record { line = line; key = key }) is_woken
+status_on line (IsPolled brings) = polled line
 
-abbrev pub no_stream_post : Standing → Post
-no_stream_post Rests = rests Streams
-no_stream_post s = amiss
+abbrev pub no_stream_status : PollState → NameStatus
+no_stream_status Rests = rests Streams
+no_stream_status s = invalid
 
 -- only a receiver is polled as a stream
-abbrev pub stream_post : HandleKind → Standing → Post
-stream_post handle_kind.Receiver s = post_on Streams s
-stream_post other s = no_stream_post s
+abbrev pub stream_status : HandleKind → PollState → NameStatus
+stream_status handle_kind.Receiver s = status_on Streams s
+stream_status other s = no_stream_status s
 
-abbrev pub posted : {X : Type 0} → (X → Post) → Option (Option X) → Post
-posted p None = free
-posted p (Some None) = vacant
-posted p (Some (Some x)) = p x
+abbrev pub status_by : {X : Type 0} → (X → NameStatus) → Option (Option X) → NameStatus
+status_by p None = free
+status_by p (Some None) = retired
+status_by p (Some (Some x)) = p x
 
 module _ {T : Type 0} where
   -- a finished send isn't pending
-  abbrev pub send_post : Option T → Standing → Post
-  send_post None Rests = rests Sends
-  send_post None (Waits key is_woken) = amiss
-  send_post None (IsPolled brings) = polled Sends
-  send_post (Some m) s = post_on Sends s
+  abbrev pub send_status : Option T → PollState → NameStatus
+  send_status None Rests = rests Sends
+  send_status None (Waits key is_woken) = invalid
+  send_status None (IsPolled brings) = polled Sends
+  send_status (Some m) s = status_on Sends s
 
-  abbrev pub operation_post : OperationKind → Option T → Standing → Post
-  operation_post kind.Send m s = send_post m s
-  operation_post kind.Receive m s = post_on Receives s
-  operation_post kind.Closing m s = post_on Closings s
+  abbrev pub operation_status : OperationKind → Option T → PollState → NameStatus
+  operation_status kind.Send m s = send_status m s
+  operation_status kind.Receive m s = status_on Receives s
+  operation_status kind.Closing m s = status_on Closings s
 
-  abbrev pub post : Roll T → Waiter → Post
-  post r (Op op) = posted (λ (o : Operation T). operation_post o.kind o.message o.standing) (lookup (nat_eq op.0) r.operations)
-  post r (Stream handle) = posted (λ (h : Hold). stream_post h.handle.kind h.standing) (lookup (nat_eq handle.0) r.handles)
+  abbrev pub status : NameTable T → Waiter → NameStatus
+  status r (Op op) = status_by (λ (o : Operation T). operation_status o.kind o.message o.poll_state) (lookup (nat_eq op.0) r.operations)
+  status r (Stream handle) = status_by (λ (h : HandleEntry). stream_status h.handle.kind h.poll_state) (lookup (nat_eq handle.0) r.handles)
 
 -- ---- the calls under way
 
@@ -210,38 +210,38 @@ module _ {T W : Type 0} where
   line_asked (ask.DropReceiver key) = Some Streams
   line_asked a = None
 
--- ---- calls and their errands
+-- ---- calls and what they write back
 
 module _ {T : Type 0} where
-  -- the name at which an errand works: that of what it polls, or of what it makes
-  abbrev pub subject : Errand T → Option Waiter
-  subject (errand.Poll op) = Some (Op op)
-  subject (errand.PollNext receiver) = Some (Stream receiver)
-  subject (errand.Make op operation) = Some (Op op)
-  subject (errand.New from new kind) = Some (Stream new)
-  subject errand.Nothing = None
-  subject (errand.Leave handle) = None
-  subject (errand.LeaveBoth a b) = None
+  -- the name at which what is to be written back works: that of what it polls, or of what it makes
+  abbrev pub subject : OnReturn T → Option Waiter
+  subject (on_return.Poll op) = Some (Op op)
+  subject (on_return.PollNext receiver) = Some (Stream receiver)
+  subject (on_return.Make op operation) = Some (Op op)
+  subject (on_return.New from new kind) = Some (Stream new)
+  subject on_return.Nothing = None
+  subject (on_return.Leave handle) = None
+  subject (on_return.LeaveBoth a b) = None
 
   -- a call waits, if at all, for the name that it polls; under a name that it makes nothing lives yet
-  abbrev pub Suits : (Waiter → Post) → Errand T → Option (Line × Waiter) → Type 0
-  Suits p (errand.Poll op) wait = (line : Line) × (p (Op op) ≡ polled line) × ((wait ≡ None) ⊎ (wait ≡ Some (line, Op op)))
-  Suits p (errand.PollNext receiver) wait = (line : Line) × (p (Stream receiver) ≡ polled line) × ((wait ≡ None) ⊎ (wait ≡ Some (line, Stream receiver)))
-  Suits p (errand.Make op operation) wait = (p (Op op) ≡ vacant) × (operation.standing ≡ Rests) × (wait ≡ None)
-  Suits p (errand.New from new kind) wait = (p (Stream new) ≡ vacant) × (wait ≡ None)
-  Suits p errand.Nothing wait = wait ≡ None
-  Suits p (errand.Leave handle) wait = wait ≡ None
-  Suits p (errand.LeaveBoth a b) wait = wait ≡ None
+  abbrev pub Suits : (Waiter → NameStatus) → OnReturn T → Option (Line × Waiter) → Type 0
+  Suits p (on_return.Poll op) wait = (line : Line) × (p (Op op) ≡ polled line) × ((wait ≡ None) ⊎ (wait ≡ Some (line, Op op)))
+  Suits p (on_return.PollNext receiver) wait = (line : Line) × (p (Stream receiver) ≡ polled line) × ((wait ≡ None) ⊎ (wait ≡ Some (line, Stream receiver)))
+  Suits p (on_return.Make op operation) wait = (p (Op op) ≡ retired) × (operation.poll_state ≡ Rests) × (wait ≡ None)
+  Suits p (on_return.New from new kind) wait = (p (Stream new) ≡ retired) × (wait ≡ None)
+  Suits p on_return.Nothing wait = wait ≡ None
+  Suits p (on_return.Leave handle) wait = wait ≡ None
+  Suits p (on_return.LeaveBoth a b) wait = wait ≡ None
 
   -- an agent and the call of the same party under way
-  pub record AgentFits (p : Waiter → Post) (a : Agent T) (u : Under T Waiter) : Type 0 where
+  pub record AgentFits (p : Waiter → NameStatus) (a : Agent T) (u : ActiveCall T Waiter) : Type 0 where
     pub party : a.party ≡ u.party
-    pub suits : Suits p a.errand (wait_of u.ask)
+    pub suits : Suits p a.on_return (wait_of u.ask)
     pub bears : Bears (task_at u.at) (wait_of u.ask)
     pub lines : (h : Held) → holding u.at ≡ Some h → line_asked u.ask ≡ Some h.line
 
   -- one by one, in the same order
-  abbrev pub Together : (Waiter → Post) → List (Agent T) → List (Under T Waiter) → Type 0
+  abbrev pub Together : (Waiter → NameStatus) → List (Agent T) → List (ActiveCall T Waiter) → Type 0
   Together p [] [] = Unit {0}
   Together p [] (u ∷ us) = ⊥
   Together p (a ∷ more) [] = ⊥
@@ -250,7 +250,7 @@ module _ {T : Type 0} where
   -- two agents are of different parties, and don't work at the same name
   pub record Differ (a b : Agent T) : Type 0 where
     pub party : a.party ≡ b.party → ⊥
-    pub name : (w : Waiter) → subject a.errand ≡ Some w → subject b.errand ≡ Some w → ⊥
+    pub name : (w : Waiter) → subject a.on_return ≡ Some w → subject b.on_return ≡ Some w → ⊥
 
   abbrev pub AllDiffer : List (Agent T) → Type 0
   AllDiffer [] = Unit {0}
@@ -283,24 +283,24 @@ pub data Holder : Type 0 where
   calling : ℕ → Holder
 
 module _ {T : Type 0} where
-  abbrev pub AnyOf : (Under T Waiter → Type 0) → List (Under T Waiter) → Type 0
+  abbrev pub AnyOf : (ActiveCall T Waiter → Type 0) → List (ActiveCall T Waiter) → Type 0
   AnyOf P [] = ⊥
   AnyOf P (u ∷ us) = P u ⊎ AnyOf P us
 
   -- a name holds its listener while it is pending, a call while it has it in hand
-  abbrev pub HoldsIn : (Waiter → Post) → List (Under T Waiter) → Holder → Held → Type 0
+  abbrev pub HoldsIn : (Waiter → NameStatus) → List (ActiveCall T Waiter) → Holder → Held → Type 0
   HoldsIn p us (named w) h = (is_woken : WasWoken) × (p w ≡ waits h is_woken)
   HoldsIn p us (calling party) h = AnyOf (λ u. (u.party ≡ party) × (holding u.at ≡ Some h)) us
 
   -- Each call under way is of one agent, and no two of one party or at one name. What is pending has its listener on its list;
   -- there it waits, to wake that name, unless the name was woken. Each listener on a list is held, and by one alone: by what
   -- is pending, or by a call that has it in hand. None stands on a list twice.
-  pub record Owned (b : Book T) (s : Scene T Waiter) : Type 0 where
-    pub together : Together (post b.roll) b.agents s.under_way
+  pub record Owned (b : NameState T) (s : Configuration T Waiter) : Type 0 where
+    pub together : Together (status b.name_table) b.agents s.under_way
     pub differ : AllDiffer b.agents
-    pub none_amiss : (w : Waiter) → post b.roll w ≡ amiss → ⊥
+    pub none_amiss : (w : Waiter) → status b.name_table w ≡ invalid → ⊥
     pub once : NoneListedTwice s.now
-    pub unwoken : (w : Waiter) (h : Held) → post b.roll w ≡ waits_unwoken h → WaitsToWake h w s.now
-    pub listed : (x : Holder) (h : Held) → HoldsIn (post b.roll) s.under_way x h → IsListed h s.now
-    pub held : (h : Held) → IsListed h s.now → (x : Holder) × HoldsIn (post b.roll) s.under_way x h
-    pub alone : (x y : Holder) (h : Held) → HoldsIn (post b.roll) s.under_way x h → HoldsIn (post b.roll) s.under_way y h → x ≡ y
+    pub unwoken : (w : Waiter) (h : Held) → status b.name_table w ≡ waits_unwoken h → WaitsToWake h w s.now
+    pub listed : (x : Holder) (h : Held) → HoldsIn (status b.name_table) s.under_way x h → IsListed h s.now
+    pub held : (h : Held) → IsListed h s.now → (x : Holder) × HoldsIn (status b.name_table) s.under_way x h
+    pub alone : (x y : Holder) (h : Held) → HoldsIn (status b.name_table) s.under_way x h → HoldsIn (status b.name_table) s.under_way y h → x ≡ y

@@ -16,11 +16,11 @@ use Rattle.channel_calls.specs.declared.stage.Work.TheVariants.{Insert, Register
 use Rattle.channel_model.specs.Names.{at}
 use Rattle.channel_model.specs.declared.call.Call.{Call}
 use Rattle.channel_model.specs.declared.call.Call.TheVariants as call
-use Rattle.channel_steps.specs.Scene.{Under}
+use Rattle.channel_steps.specs.Configuration.{ActiveCall}
 use Rattle.channel_interleaving.specs.declared.names.Operation.{Operation}
 use Rattle.channel_interleaving.specs.declared.names.OperationKind.{OperationKind}
 use Rattle.channel_interleaving.specs.declared.names.OperationKind.TheVariants.{Send, Receive, Closing}
-use Rattle.channel_interleaving.specs.declared.roll.Roll.{Roll}
+use Rattle.channel_interleaving.specs.declared.name_table.NameTable.{NameTable}
 
 -- whether a queue of this capacity has one place alone: it counts no positions
 abbrev pub is_one_place : Option ℕ → Bool
@@ -51,7 +51,7 @@ module _ {T W : Type 0} where
   yet (Finished kept) = 0
 
   -- all these calls
-  abbrev pub yet_in : List (Under T W) → ℕ
+  abbrev pub yet_in : List (ActiveCall T W) → ℕ
   yet_in [] = 0
   yet_in (u ∷ us) = yet u.at + yet_in us
 
@@ -64,7 +64,7 @@ module _ {T : Type 0} where
   has_message Closing m = false
 
   -- whether a call may bring a message
-  abbrev pub brings : Roll T → Call T → Bool
+  abbrev pub brings : NameTable T → Call T → Bool
   brings r (call.TrySend sender m) = true
   brings r (call.ForceSend sender m) = true
   brings r (call.Poll op) = option_map_or (λ (o : Operation T). has_message o.kind o.message) (at op.0 r.operations) false

@@ -8,29 +8,29 @@ use Rattle.channel_model.specs.declared.call.Call.{Call}
 use Rattle.channel_model.specs.declared.call.Call.TheVariants as call
 use Rattle.channel_model.specs.declared.refusal.WorldRefusal.{WorldRefusal}
 use Rattle.channel_model.specs.declared.refusal.WorldRefusal.TheVariants.{Busy, Idle, UnknownName, WrongKind, OpUnderWay, Borrowed, NameTaken}
-use Rattle.channel_interleaving.specs.Roll.{is_polled, polled_refusal, names_of, is_at_work}
+use Rattle.channel_interleaving.specs.NameTable.{is_polled, polled_refusal, names_of, is_at_work}
 use Rattle.channel_interleaving.specs.declared.names.Agent.{Agent}
-use Rattle.channel_interleaving.specs.declared.names.Hold.{Hold}
+use Rattle.channel_interleaving.specs.declared.names.HandleEntry.{HandleEntry}
 use Rattle.channel_interleaving.specs.declared.names.Operation.{Operation}
-use Rattle.channel_interleaving.specs.declared.roll.Roll.{Roll}
+use Rattle.channel_interleaving.specs.declared.name_table.NameTable.{NameTable}
 use Rattle.channel_interleaving.specs.declared.step.Step.{Step}
 use Rattle.channel_interleaving.specs.declared.step.Step.TheVariants as step
 
 -- why nothing is begun that wants this of what lives under its one name, room and new names aside
-abbrev pub unfit_handle : Want → Option Hold → Option WorldRefusal
+abbrev pub unfit_handle : Want → Option HandleEntry → Option WorldRefusal
 unfit_handle want None = Some UnknownName
-unfit_handle want (Some h) = if not (handle_fits want h.handle.kind) then Some WrongKind else polled_refusal h.standing
+unfit_handle want (Some h) = if not (handle_fits want h.handle.kind) then Some WrongKind else polled_refusal h.poll_state
 
 module _ {T : Type 0} where
   -- whether a poll of it is under way
-  abbrev pub is_operation_polled : ℕ → Roll T → Bool
-  is_operation_polled op r = option_map_or (λ (o : Operation T). is_polled o.standing) (at op r.operations) false
+  abbrev pub is_operation_polled : ℕ → NameTable T → Bool
+  is_operation_polled op r = option_map_or (λ (o : Operation T). is_polled o.poll_state) (at op r.operations) false
 
-  abbrev pub is_stream_polled : ℕ → Roll T → Bool
-  is_stream_polled handle r = option_map_or (λ (h : Hold). is_polled h.standing) (at handle r.handles) false
+  abbrev pub is_stream_polled : ℕ → NameTable T → Bool
+  is_stream_polled handle r = option_map_or (λ (h : HandleEntry). is_polled h.poll_state) (at handle r.handles) false
 
   -- a poll or the giving up of an operation whose poll is under way; a call through a receiver whose stream is being polled
-  abbrev pub meets_poll : Roll T → Call T → Bool
+  abbrev pub meets_poll : NameTable T → Call T → Bool
   meets_poll r (call.Poll op) = is_operation_polled op.0 r
   meets_poll r (call.PollRefused op) = is_operation_polled op.0 r
   meets_poll r (call.GiveUp op) = is_operation_polled op.0 r
@@ -38,17 +38,17 @@ module _ {T : Type 0} where
   meets_poll r c = list_any (λ u. is_stream_polled u.0 r) (uses c)
 
   -- whether a call under way uses the handle
-  abbrev pub is_used : ℕ → Roll T → Bool
-  is_used handle r = option_map_or (λ (h : Hold). nat_lt 0 h.users) (at handle r.handles) false
+  abbrev pub is_used : ℕ → NameTable T → Bool
+  is_used handle r = option_map_or (λ (h : HandleEntry). nat_lt 0 h.users) (at handle r.handles) false
 
   -- dropping, or polling as a stream, a handle that a call under way uses
-  abbrev pub takes_used : Roll T → Call T → Bool
+  abbrev pub takes_used : NameTable T → Call T → Bool
   takes_used r (call.Drop handle) = is_used handle.0 r
   takes_used r (call.PollNext receiver) = is_used receiver.0 r
   takes_used r c = false
 
   -- a new name that was taken before
-  abbrev pub takes_again : Roll T → Call T → Bool
+  abbrev pub takes_again : NameTable T → Call T → Bool
   takes_again r (call.NewSend op sender msg) = is_taken op.0 r.operations
   takes_again r (call.NewRecv op receiver) = is_taken op.0 r.operations
   takes_again r (call.NewClosed op sender) = is_taken op.0 r.operations
@@ -58,7 +58,7 @@ module _ {T : Type 0} where
   takes_again r c = false
 
   -- the first of these reasons that there is; a handle is borrowed as long as an operation borrows it or a call under way uses it
-  abbrev pub begin_refusal : Roll T → Call T → Option WorldRefusal
+  abbrev pub begin_refusal : NameTable T → Call T → Option WorldRefusal
   begin_refusal r c =
       if not (list_all (is_live (names_of r)) (uses c)) then Some UnknownName
       else (if not (are_fit (names_of r) c) then Some WrongKind
@@ -67,6 +67,6 @@ module _ {T : Type 0} where
       else (if takes_again r c then Some NameTaken else None))))
 
   -- why a step is refused
-  abbrev pub step_refusal : Roll T → List (Agent T) → Step T → Option WorldRefusal
+  abbrev pub step_refusal : NameTable T → List (Agent T) → Step T → Option WorldRefusal
   step_refusal r agents (step.Begin p c) = if is_at_work p.0 agents then Some Busy else begin_refusal r c
   step_refusal r agents (step.Step p) = if is_at_work p.0 agents then None else Some Idle

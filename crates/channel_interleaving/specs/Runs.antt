@@ -5,58 +5,58 @@ use Rattle.channel_model.specs.declared.name.Waiter.{Waiter}
 use Rattle.channel_steps.specs.Count.{brought_in, taken_out}
 use Rattle.channel_steps.specs.Left.{most_left}
 use Rattle.channel_steps.specs.Run.{IsRun, Accounts, Touches}
-use Rattle.channel_steps.specs.Scene.{Scene, OthersQuiet, blocks_after}
-use Rattle.channel_interleaving.specs.Floor.{parts_in, book_of, StandsIn}
-use Rattle.channel_interleaving.specs.Kept.{AllKept}
+use Rattle.channel_steps.specs.Configuration.{Configuration, OthersQuiet, blocks_after}
+use Rattle.channel_interleaving.specs.WorldState.{parts_in, name_state_of, StandsIn}
+use Rattle.channel_interleaving.specs.Kept.{WorldInvariant}
 use Rattle.channel_interleaving.specs.Left.{left_of, calls_of_others, wanted_of}
-use Rattle.channel_interleaving.specs.Run.{Book, StepIsMade, channel_step}
-use Rattle.channel_interleaving.specs.declared.floor.Floor.{Floor}
+use Rattle.channel_interleaving.specs.Run.{NameState, StepIsMade, channel_step}
+use Rattle.channel_interleaving.specs.declared.world_state.WorldState.{WorldState}
 use Rattle.channel_interleaving.specs.declared.step.Entry.{Entry}
 use Rattle.channel_interleaving.specs.declared.step.Step.{Step}
 use Rattle.channel_interleaving.specs.declared.step.Step.TheVariants as step
 
--- a moment: what the cells hold, the channel with its calls under way, the book, and how many more steps of its own the call of
+-- a moment: what the cells hold, the channel with its calls under way, the name state, and how many more steps of its own the call of
 -- each party makes at most, where the others are quiet
 pub record Moment (T : Type 0) : Type 0 where
   pub parts : Parts T Waiter
-  pub scene : Scene T Waiter
-  pub book : Book T
+  pub configuration : Configuration T Waiter
+  pub name_state : NameState T
   pub left : ℕ → ℕ
 
 module _ {T : Type 0} where
-  -- that of a channel by names, in a scene
-  abbrev pub moment_of : Floor T → Scene T Waiter → Moment T
+  -- that of a channel by names, in a configuration
+  abbrev pub moment_of : WorldState T → Configuration T Waiter → Moment T
   moment_of f s =
-      record { parts = parts_in f; scene = s; book = book_of f; left = λ party. left_of party (parts_in f) f.parties.items }
+      record { parts = parts_in f; configuration = s; name_state = name_state_of f; left = λ party. left_of party (parts_in f) f.parties.items }
 
-  -- it is the moment of this channel, which stands in its scene
-  pub record IsOf (f : Floor T) (m : Moment T) : Type 0 where
-    pub moment : m ≡ moment_of f m.scene
-    pub stands : StandsIn f m.scene
+  -- it is the moment of this channel, which stands in its configuration
+  pub record IsOf (f : WorldState T) (m : Moment T) : Type 0 where
+    pub moment : m ≡ moment_of f m.configuration
+    pub stands : StandsIn f m.configuration
 
   -- no call has more steps of its own left than these, where the others are quiet
   abbrev pub FewLeft : Moment T → Type 0
-  FewLeft m = (party : ℕ) → m.left party ≤ most_left (wanted_of party m.scene.under_way)
+  FewLeft m = (party : ℕ) → m.left party ≤ most_left (wanted_of party m.configuration.under_way)
 
-  -- what holds at every moment: it is one of a channel that stands in its scene, all is kept, and few steps are left
+  -- what holds at every moment: it is one of a channel that stands in its configuration, all is kept, and few steps are left
   pub record Holds (m : Moment T) : Type 0 where
-    pub floor : Floor T
-    pub is : IsOf floor m
-    pub kept : AllKept m.book m.scene
+    pub world_state : WorldState T
+    pub is : IsOf world_state m
+    pub kept : WorldInvariant m.name_state m.configuration
     pub few : FewLeft m
 
   -- where the others are quiet a step of a call that does not end it leaves it fewer
   abbrev pub ComesNearer : Moment T → Step T → Entry T → Moment T → Type 0
   ComesNearer m (step.Begin p c) e n = Unit {0}
   ComesNearer m (step.Step p) e n =
-      e.reply ≡ None → OthersQuiet m.scene.now (calls_of_others p.0 m.scene.under_way) → n.left p.0 < m.left p.0
+      e.reply ≡ None → OthersQuiet m.configuration.now (calls_of_others p.0 m.configuration.under_way) → n.left p.0 < m.left p.0
 
   -- a step leads from one moment to the next: nothing refused it, at most one cell, list or count differs after it, the blocks are
   -- those that it leaves, and its call comes nearer to its end where the others let it
   pub record LeadsBy (m : Moment T) (x : Step T) (e : Entry T) (n : Moment T) : Type 0 where
-    pub touches : Touches (channel_step m.book.roll x) m.parts n.parts
-    pub blocks : n.scene.blocks ≡ blocks_after n.parts.cells.form m.scene.blocks m.parts.cells n.parts.cells
-    pub made : StepIsMade m.book m.scene x e n.book n.scene
+    pub touches : Touches (channel_step m.name_state.name_table x) m.parts n.parts
+    pub blocks : n.configuration.blocks ≡ blocks_after n.parts.cells.form m.configuration.blocks m.parts.cells n.parts.cells
+    pub made : StepIsMade m.name_state m.configuration x e n.name_state n.configuration
     pub nearer : ComesNearer m x e n
     pub holds : Holds n
 
@@ -73,17 +73,17 @@ module _ {T : Type 0} where
 
   -- ---- a list of steps
 
-  -- a run of the first steps of a list, from a scene in which it stood, to one in which it stands
-  pub record Ran (steps left : List (Step T)) (old : Floor T) (trace : List (Entry T)) (new : Floor T)
-      (s : Scene T Waiter) : Type 0 where
+  -- a run of the first steps of a list, from a configuration in which it stood, to one in which it stands
+  pub record Ran (steps left : List (Step T)) (old : WorldState T) (trace : List (Entry T)) (new : WorldState T)
+      (s : Configuration T Waiter) : Type 0 where
     pub made : List (Step T)
-    pub last : Scene T Waiter
+    pub last : Configuration T Waiter
     pub first : steps ≡ made ++ left
     pub run : IsRun LeadsBy (moment_of old s) made trace (moment_of new last)
     pub stands : StandsIn new last
     pub accounts : Accounts s last
     pub numbers : length last.now.queue.items + left_in trace ≡ length s.now.queue.items + accepted_in trace
 
-  -- so it is from each scene in which it stood
-  abbrev pub RanTo : List (Step T) → List (Step T) → Floor T → List (Entry T) → Floor T → Type 0
-  RanTo steps left old trace new = (s : Scene T Waiter) → StandsIn old s → Ran steps left old trace new s
+  -- so it is from each configuration in which it stood
+  abbrev pub RanTo : List (Step T) → List (Step T) → WorldState T → List (Entry T) → WorldState T → Type 0
+  RanTo steps left old trace new = (s : Configuration T Waiter) → StandsIn old s → Ran steps left old trace new s

@@ -6,15 +6,15 @@ use Rattle.channel_model.specs.Settling.{poll_of}
 use Rattle.channel_model.specs.declared.name.Waiter.{Waiter}
 use Rattle.channel_interleaving.specs.Lone.{CallsAlone}
 use Rattle.channel_interleaving.specs.OwnerOrder.{woken_in}
-use Rattle.channel_interleaving.specs.declared.floor.Floor.{Floor}
+use Rattle.channel_interleaving.specs.declared.world_state.WorldState.{WorldState}
 
 module _ {T : Type 0} where
   -- w is pending and was woken
-  abbrev pub IsWoken : Waiter → Floor T → Type 0
-  IsWoken w f = is_among w (woken_in f.roll f.order) ≡ true
+  abbrev pub IsWoken : Waiter → WorldState T → Type 0
+  IsWoken w f = is_among w (woken_in f.name_table f.order) ≡ true
 
   -- w was polled alone, and those whom the poll woke stand after the names before
-  pub record PollsAlone (w : Waiter) (old : Floor T) (before : List Waiter) (x : Reply T) (after : List Waiter) (new : Floor T) : Type 0 where
+  pub record PollsAlone (w : Waiter) (old : WorldState T) (before : List Waiter) (x : Reply T) (after : List Waiter) (new : WorldState T) : Type 0 where
     pub woken : List Waiter
     pub names : after ≡ before ++ woken
     pub called : CallsAlone (poll_of w) old x woken new

@@ -5,8 +5,8 @@ ghost use Rattle.channel_model.specs.Answer.{weak_of, strong_of};
 ghost use Rattle.channel_model.specs.Asked.{clone_asked, upgrade_asked};
 ghost use Rattle.channel_interleaving.specs.Bookkeeping.{polled_ask, own_message, drop_ask_of};
 
-use crate::names::{Errand, Operation, OperationKind, Standing};
-use crate::roll::Roll;
+use crate::names::{OnReturn, Operation, OperationKind, PollState};
+use crate::name_table::NameTable;
 use channel_calls::ask::{ChannelAsk, lent};
 use channel_calls::several::Limit;
 use channel_calls::stage::{Line, Side};
@@ -19,7 +19,7 @@ use std::alloc::Global;
 #[derive(Drop)]
 pub(crate) struct Begun<T> {
     pub(crate) ask: ChannelAsk<T, Waiter>,
-    pub(crate) errand: Errand<T>,
+    pub(crate) on_return: OnReturn<T>,
 }
 
 /// The weak kind beside a strong one.
@@ -103,7 +103,7 @@ fn own_message<T: Drop>(kind: OperationKind, message: Option<T>) -> Option<T>
     }
 }
 
-impl<T: Drop> Roll<T> {
+impl<T: Drop> NameTable<T> {
     ghost use Rattle.std.specs.Prelude.{◌≡◌, None, Some, List, false, is_some, IfOk, OnErr, IfErr, IfSome, IfNone};
     ghost use Rattle.std.specs.Bool.{OnTrue, OnFalse};
     ghost use Rattle.std.specs.Option.{option_map};
@@ -111,17 +111,17 @@ impl<T: Drop> Roll<T> {
     ghost use Rattle.channel_model.specs.declared.name.Waiter.{Waiter};
     ghost use Rattle.channel_interleaving.specs.Order.{order_begun};
     ghost use Rattle.channel_interleaving.specs.Refusal.{takes_again};
-    ghost use Rattle.channel_interleaving.specs.Roll.{key_of, with_lent, with_borrowed};
+    ghost use Rattle.channel_interleaving.specs.NameTable.{key_of, with_lent, with_borrowed};
     ghost use Rattle.channel_interleaving.specs.Bookkeeping.{BeginsByName, Starts, IsLent, unpolled, operation_named, handle_named};
 
     /// A call through a handle asks this.
     fn through(&mut self, handle: HandleId, ask: ChannelAsk<T, Waiter>) -> Begun<T>
-        ensures { Starts ask (Errand.Leave handle) (with_lent handle self.old) result self.new }
+        ensures { Starts ask (OnReturn.Leave handle) (with_lent handle self.old) result self.new }
     {
         self.lend(handle);
         Begun {
             ask,
-            errand: Errand::Leave { handle },
+            on_return: OnReturn::Leave { handle },
         }
     }
 
@@ -131,10 +131,10 @@ impl<T: Drop> Roll<T> {
         ensures ok { OnTrue result (self.new ≡ with_borrowed handle (operation_named op self.old)) }
         ensures err { OnFalse result (self.new ≡ self.old) }
     {
-        let Some(hold) = self.handles.get(handle.0) else {
+        let Some(handle_entry) = self.handles.get(handle.0) else {
             return self.operations.spend(op.0);
         };
-        let Some(borrowed) = (*hold).borrowed_more() else {
+        let Some(borrowed) = (*handle_entry).borrowed_more() else {
             return false;
         };
         if !self.operations.spend(op.0) {
@@ -154,7 +154,7 @@ impl<T: Drop> Roll<T> {
     ) -> Result<Begun<T>, Option<T>>
         requires { is_taken op.0 self.old.operations ≡ false }
         ensures ok { IfOk result
-            (λ b. Starts ChannelAsk.Make (Errand.Make op (unpolled kind handle message))
+            (λ b. Starts ChannelAsk.Make (OnReturn.Make op (unpolled kind handle message))
             (with_borrowed handle (operation_named op self.old)) b self.new) }
         ensures err { OnErr result (self.new ≡ self.old) }
         ensures back { IfErr result (λ m. m ≡ message) }
@@ -166,11 +166,11 @@ impl<T: Drop> Roll<T> {
             kind,
             handle,
             message,
-            standing: Standing::Rests,
+            poll_state: PollState::Rests,
         };
         Ok(Begun {
             ask: ChannelAsk::Make,
-            errand: Errand::Make { op, operation },
+            on_return: OnReturn::Make { op, operation },
         })
     }
 
@@ -185,18 +185,18 @@ impl<T: Drop> Roll<T> {
             kind,
             handle,
             message,
-            standing,
+            poll_state,
         } = operation;
         let lent = Operation {
             kind,
             handle,
             message: None,
-            standing: Standing::IsPolled {
+            poll_state: PollState::IsPolled {
                 brings: message.is_some(),
             },
         };
         self.operations.set(op.0, lent);
-        Some((kind, message, standing.key()))
+        Some((kind, message, poll_state.key()))
     }
 
     pub(crate) fn poll(&mut self, op: OpId) -> Begun<T>
@@ -208,7 +208,7 @@ impl<T: Drop> Roll<T> {
         };
         Begun {
             ask,
-            errand: Errand::Poll { op },
+            on_return: OnReturn::Poll { op },
         }
     }
 
@@ -223,7 +223,7 @@ impl<T: Drop> Roll<T> {
         };
         Begun {
             ask,
-            errand: Errand::Poll { op },
+            on_return: OnReturn::Poll { op },
         }
     }
 
@@ -233,19 +233,19 @@ impl<T: Drop> Roll<T> {
         let Some(operation) = self.operations.take(op.0) else {
             return Begun {
                 ask: ChannelAsk::Make,
-                errand: Errand::Nothing,
+                on_return: OnReturn::Nothing,
             };
         };
         let Operation {
             kind,
             handle,
             message,
-            standing,
+            poll_state,
         } = operation;
         self.hand_over(handle);
         Begun {
-            ask: ChannelAsk::GiveUp(kind.line(), own_message(kind, message), standing.key()),
-            errand: Errand::Leave { handle },
+            ask: ChannelAsk::GiveUp(kind.line(), own_message(kind, message), poll_state.key()),
+            on_return: OnReturn::Leave { handle },
         }
     }
 
@@ -256,7 +256,7 @@ impl<T: Drop> Roll<T> {
         let Some(operation) = self.operations.get(op.0) else {
             return Begun {
                 ask: ChannelAsk::SendIsTerminated(false),
-                errand: Errand::Nothing,
+                on_return: OnReturn::Nothing,
             };
         };
         let handle = operation.handle;
@@ -271,7 +271,7 @@ impl<T: Drop> Roll<T> {
         self.lend(receiver);
         Begun {
             ask: ChannelAsk::PollNext(key, Waiter::Stream(receiver)),
-            errand: Errand::PollNext { receiver },
+            on_return: OnReturn::PollNext { receiver },
         }
     }
 
@@ -279,12 +279,12 @@ impl<T: Drop> Roll<T> {
         ensures { BeginsByName self.old (Call.Drop handle) result self.new }
     {
         let ask = match self.handles.take(handle.0) {
-            Some(hold) => drop_ask(hold.handle.kind, hold.standing.key()),
+            Some(handle_entry) => drop_ask(handle_entry.handle.kind, handle_entry.poll_state.key()),
             None => ChannelAsk::Make,
         };
         Begun {
             ask,
-            errand: Errand::Nothing,
+            on_return: OnReturn::Nothing,
         }
     }
 
@@ -298,7 +298,7 @@ impl<T: Drop> Roll<T> {
     ) -> Option<Begun<T>>
         requires { is_taken new.0 self.old.handles ≡ false }
         ensures some { IfSome result
-            (λ b. Starts ask (Errand.New from new kind) (with_lent from (handle_named new self.old)) b self.new) }
+            (λ b. Starts ask (OnReturn.New from new kind) (with_lent from (handle_named new self.old)) b self.new) }
         ensures none { IfNone result (self.new ≡ self.old) }
     {
         if !self.handles.spend(new.0) {
@@ -307,7 +307,7 @@ impl<T: Drop> Roll<T> {
         self.lend(from);
         Some(Begun {
             ask,
-            errand: Errand::New { from, new, kind },
+            on_return: OnReturn::New { from, new, kind },
         })
     }
 
@@ -345,7 +345,7 @@ impl<T: Drop> Roll<T> {
         self.lend(b);
         Begun {
             ask: ChannelAsk::SameChannel(true),
-            errand: Errand::LeaveBoth { a, b },
+            on_return: OnReturn::LeaveBoth { a, b },
         }
     }
 

@@ -1,13 +1,13 @@
 //! What calls write back as they end, and whom they wake.
 
-use crate::names::{Agent, Errand, Hold, Operation, Standing};
+use crate::names::{Agent, OnReturn, HandleEntry, Operation, PollState};
 use crate::order::Order;
-use crate::roll::Roll;
+use crate::name_table::NameTable;
 use channel_calls::reply::Reply;
 use channel_calls::stage::Kept;
 use channel_model::name::{HandleId, HandleKind, OpId, Waiter};
 
-impl<T: Drop> Roll<T> {
+impl<T: Drop> NameTable<T> {
     ghost use Rattle.std.specs.Prelude.{◌≡◌, Option};
     ghost use Rattle.channel_interleaving.specs.Bookkeeping.{with_operation, restored, installed, written_back, with_one_woken, all_woken};
     ghost use Rattle.channel_interleaving.specs.declared.names.Operation.{Operation};
@@ -21,13 +21,13 @@ impl<T: Drop> Roll<T> {
                 kind,
                 handle,
                 message: _,
-                standing: _,
+                poll_state: _,
             } = operation;
             let restored = Operation {
                 kind,
                 handle,
                 message: kept.message,
-                standing: Standing::with(kept.key),
+                poll_state: PollState::with(kept.key),
             };
             self.operations.set(op.0, restored);
         }
@@ -38,28 +38,28 @@ impl<T: Drop> Roll<T> {
         ensures { self.new ≡ installed new kind reply.now self.old }
     {
         if let Reply::Made = reply {
-            self.handles.set(new.0, Hold::unused(kind));
+            self.handles.set(new.0, HandleEntry::unused(kind));
         }
     }
 
     /// A call that has given this reply, and has left this, writes back what it has to.
-    pub(crate) fn settle(&mut self, errand: Errand<T>, reply: &Reply<T>, kept: Kept<T>)
-        ensures { self.new ≡ written_back errand reply.now kept self.old }
+    pub(crate) fn settle(&mut self, on_return: OnReturn<T>, reply: &Reply<T>, kept: Kept<T>)
+        ensures { self.new ≡ written_back on_return reply.now kept self.old }
     {
-        match errand {
-            Errand::Nothing => {}
-            Errand::Leave { handle } => self.give_back(handle),
-            Errand::LeaveBoth { a, b } => {
+        match on_return {
+            OnReturn::Nothing => {}
+            OnReturn::Leave { handle } => self.give_back(handle),
+            OnReturn::LeaveBoth { a, b } => {
                 self.give_back(a);
                 self.give_back(b);
             }
-            Errand::Make { op, operation } => self.operations.set(op.0, operation),
-            Errand::Poll { op } => self.restore(op, kept),
-            Errand::PollNext { receiver } => {
-                self.restand(receiver, Standing::with(kept.key));
+            OnReturn::Make { op, operation } => self.operations.set(op.0, operation),
+            OnReturn::Poll { op } => self.restore(op, kept),
+            OnReturn::PollNext { receiver } => {
+                self.restand(receiver, PollState::with(kept.key));
                 self.give_back(receiver);
             }
-            Errand::New { from, new, kind } => {
+            OnReturn::New { from, new, kind } => {
                 self.give_back(from);
                 self.install(new, kind, reply);
             }
@@ -77,20 +77,20 @@ impl<T: Drop> Roll<T> {
                         kind,
                         handle,
                         message,
-                        standing,
+                        poll_state,
                     } = operation;
                     let told = Operation {
                         kind,
                         handle,
                         message,
-                        standing: standing.told(),
+                        poll_state: poll_state.told(),
                     };
                     self.operations.set(op.0, told);
                 }
             }
             Waiter::Stream(receiver) => {
-                if let Some(standing) = self.standing(receiver) {
-                    self.restand(receiver, standing.told());
+                if let Some(poll_state) = self.poll_state(receiver) {
+                    self.restand(receiver, poll_state.told());
                 }
             }
         }
@@ -107,12 +107,12 @@ impl<T: Drop> Roll<T> {
 }
 
 ghost use Rattle.std.specs.Prelude.{◌≡◌, ◌<◌, vec_len, slice_get, Some};
-ghost use Rattle.channel_interleaving.specs.Run.{book_ended};
+ghost use Rattle.channel_interleaving.specs.Run.{name_state_ended};
 ghost use Rattle.channel_interleaving.specs.declared.names.Agent.{Agent};
 
 /// The k-th call writes back what it has to, if it has answered, and its party is at work no more then.
 pub(crate) fn write_back<T: Drop>(
-    roll: &mut Roll<T>,
+    name_table: &mut NameTable<T>,
     order: &mut Order,
     agents: &mut Vec<Agent<T>>,
     k: usize,
@@ -121,16 +121,16 @@ pub(crate) fn write_back<T: Drop>(
 )
     requires { k < vec_len agents.old }
     ensures { (a : Agent T) → slice_get agents.old.items k ≡ Some a
-        → record { roll = roll.new; order = order.new; agents = agents.new.items }
-        ≡ book_ended k a reply.now kept (record { roll = roll.old; order = order.old; agents = agents.old.items }) }
+        → record { name_table = name_table.new; order = order.new; agents = agents.new.items }
+        ≡ name_state_ended k a reply.now kept (record { name_table = name_table.old; order = order.old; agents = agents.old.items }) }
 {
     if let Some(reply) = reply {
-        let Agent { party: _, errand } = agents.remove(k);
+        let Agent { party: _, on_return } = agents.remove(k);
         let kept = kept.unwrap_or(Kept {
             key: None,
             message: None,
         });
-        order.settle(&errand, kept.key);
-        roll.settle(errand, reply, kept);
+        order.settle(&on_return, kept.key);
+        name_table.settle(on_return, reply, kept);
     }
 }

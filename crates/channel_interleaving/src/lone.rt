@@ -1,17 +1,17 @@
 //! Calls made alone, from their beginning to their end.
 
 use crate::beginning::Begun;
-use crate::floor::Floor;
+use crate::world_state::WorldState;
 use crate::position::accepted_by;
 use crate::woken::Woken;
 use channel_alone::run::{Done as Ended, run_alone};
 use channel_model::call::Call;
 use channel_model::run::Done;
 
-impl<T: Drop> Floor<T> {
+impl<T: Drop> WorldState<T> {
     ghost use Rattle.std.specs.Prelude.{◌≡◌, None, IfOk, IfErr, OnErr};
     ghost use Rattle.channel_interleaving.specs.Refusal.{begin_refusal};
-    ghost use Rattle.channel_interleaving.specs.Floor.{AreAtWork, AreOwned, IsQuiet, IsSame};
+    ghost use Rattle.channel_interleaving.specs.WorldState.{AreAtWork, AreOwned, IsQuiet, IsSame};
     ghost use Rattle.channel_interleaving.specs.Lone.{CallsAlone, WakesAtMost};
 
     /// Makes a call that is not refused, where no call is under way, from its beginning to its end; or hands it back where
@@ -24,7 +24,7 @@ impl<T: Drop> Floor<T> {
         requires owned { AreOwned self.old }
         requires at_work { AreAtWork self.old }
         requires quiet { IsQuiet self.old }
-        requires accepted { begin_refusal self.old.roll call ≡ None }
+        requires accepted { begin_refusal self.old.name_table call ≡ None }
         requires room { WakesAtMost room call self.old }
         ensures ok { IfOk result (λ d. CallsAlone call self.old d.reply d.woken.items self.new) }
         ensures at_work { AreAtWork self.new }
@@ -32,7 +32,7 @@ impl<T: Drop> Floor<T> {
         ensures err { OnErr result (IsSame self.old self.new) }
         ensures back { IfErr result (λ c. c ≡ call) }
     {
-        let brings = self.roll.brings(&call);
+        let brings = self.name_table.brings(&call);
         if !self.has_position(&call) {
             return Err(call);
         }
@@ -42,7 +42,7 @@ impl<T: Drop> Floor<T> {
         let Ok(()) = self.order.begin(&call) else {
             return Err(call);
         };
-        let Begun { ask, errand } = self.roll.begin(call, self.alloc)?;
+        let Begun { ask, on_return } = self.name_table.begin(call, self.alloc)?;
         let Ended { reply, kept } = run_alone(
             ask,
             &mut self.channel,
@@ -51,10 +51,10 @@ impl<T: Drop> Floor<T> {
         );
         self.accepted = self.accepted.saturating_add(accepted_by(brings, &reply));
         let Woken { names } = sink;
-        self.roll.wake_all(&names);
+        self.name_table.wake_all(&names);
         self.order.wake_all(&names);
-        self.order.settle(&errand, kept.key);
-        self.roll.settle(errand, &reply, kept);
+        self.order.settle(&on_return, kept.key);
+        self.name_table.settle(on_return, &reply, kept);
         Ok(Done {
             reply,
             woken: names,

@@ -7,7 +7,7 @@ use event_listener::key::Key;
 
 /// How an operation, or a receiver as a stream, stands.
 #[derive(Clone, Copy, Debug, PartialEq, Eq)]
-pub enum Standing {
+pub enum PollState {
     /// It isn't pending.
     Rests,
     /// Its last poll ended pending: it holds this listener, and may have been woken since.
@@ -24,30 +24,30 @@ pub enum Standing {
     },
 }
 
-impl Standing {
+impl PollState {
     ghost use Rattle.std.specs.Prelude.{◌≡◌};
-    ghost use Rattle.channel_interleaving.specs.Roll.{key_of, standing_with, is_polled, polled_refusal, is_woken, told};
+    ghost use Rattle.channel_interleaving.specs.NameTable.{key_of, poll_state_with, is_polled, polled_refusal, is_woken, told};
 
     /// The listener of one that is pending.
     pub(crate) fn key(self) -> Option<Key>
         ensures { result ≡ key_of self }
     {
         match self {
-            Standing::Waits { key, is_woken: _ } => Some(key),
-            Standing::Rests | Standing::IsPolled { brings: _ } => None,
+            PollState::Waits { key, is_woken: _ } => Some(key),
+            PollState::Rests | PollState::IsPolled { brings: _ } => None,
         }
     }
 
     /// The standing after a poll that left this listener, or none.
-    pub(crate) fn with(key: Option<Key>) -> Standing
-        ensures { result ≡ standing_with key }
+    pub(crate) fn with(key: Option<Key>) -> PollState
+        ensures { result ≡ poll_state_with key }
     {
         match key {
-            Some(key) => Standing::Waits {
+            Some(key) => PollState::Waits {
                 key,
                 is_woken: false,
             },
-            None => Standing::Rests,
+            None => PollState::Rests,
         }
     }
 
@@ -56,8 +56,8 @@ impl Standing {
         ensures { result ≡ is_polled self }
     {
         match self {
-            Standing::IsPolled { brings: _ } => true,
-            Standing::Rests | Standing::Waits { .. } => false,
+            PollState::IsPolled { brings: _ } => true,
+            PollState::Rests | PollState::Waits { .. } => false,
         }
     }
 
@@ -77,17 +77,17 @@ impl Standing {
         ensures { result ≡ is_woken self }
     {
         match self {
-            Standing::Waits { key: _, is_woken } => is_woken,
-            Standing::Rests | Standing::IsPolled { brings: _ } => false,
+            PollState::Waits { key: _, is_woken } => is_woken,
+            PollState::Rests | PollState::IsPolled { brings: _ } => false,
         }
     }
 
     /// The same, woken where it is pending.
-    pub(crate) fn told(self) -> Standing
+    pub(crate) fn told(self) -> PollState
         ensures { result ≡ told self }
     {
         match self {
-            Standing::Waits { key, is_woken: _ } => Standing::Waits {
+            PollState::Waits { key, is_woken: _ } => PollState::Waits {
                 key,
                 is_woken: true,
             },
@@ -109,7 +109,7 @@ pub enum OperationKind {
 
 impl OperationKind {
     ghost use Rattle.std.specs.Prelude.{◌≡◌};
-    ghost use Rattle.channel_interleaving.specs.Roll.{line_of_kind};
+    ghost use Rattle.channel_interleaving.specs.NameTable.{line_of_kind};
 
     /// The line in which it waits.
     pub(crate) fn line(self) -> Line
@@ -133,19 +133,19 @@ pub struct Operation<T> {
     /// The message of an unfinished send that no poll has.
     pub message: Option<T>,
     /// How it stands.
-    pub standing: Standing,
+    pub poll_state: PollState,
 }
 
 impl<T> Operation<T> {
     ghost use Rattle.std.specs.Prelude.{◌≡◌};
-    ghost use Rattle.channel_interleaving.specs.Roll.{is_done};
+    ghost use Rattle.channel_interleaving.specs.NameTable.{is_done};
 
     /// Whether a poll has finished a send: its message is gone, and no poll under way has it.
     pub(crate) fn is_finished(&self) -> bool
         ensures { result ≡ is_done self.now }
     {
-        match (self.kind, &self.message, self.standing) {
-            (OperationKind::Send, None, Standing::IsPolled { brings }) => !brings,
+        match (self.kind, &self.message, self.poll_state) {
+            (OperationKind::Send, None, PollState::IsPolled { brings }) => !brings,
             (OperationKind::Send, None, _) => true,
             _ => false,
         }
@@ -154,52 +154,52 @@ impl<T> Operation<T> {
 
 /// A live handle.
 #[derive(Clone, Copy, Debug, PartialEq, Eq)]
-pub struct Hold {
+pub struct HandleEntry {
     /// What it is, and how many operations borrow it.
     pub handle: Handle,
     /// How many calls under way use it.
     pub users: usize,
     /// How it stands as a stream.
-    pub standing: Standing,
+    pub poll_state: PollState,
 }
 
-impl Hold {
+impl HandleEntry {
     ghost use Rattle.std.specs.Prelude.{◌≡◌, IfSome};
-    ghost use Rattle.channel_interleaving.specs.Roll.{unused, used_more, used_less, borrowed_more, handed_over};
+    ghost use Rattle.channel_interleaving.specs.NameTable.{unused, used_more, used_less, borrowed_more, handed_over};
 
     /// A handle that nobody uses.
-    pub(crate) fn unused(kind: HandleKind) -> Hold
+    pub(crate) fn unused(kind: HandleKind) -> HandleEntry
         ensures { result ≡ unused kind }
     {
-        Hold {
+        HandleEntry {
             handle: Handle { kind, borrowers: 0 },
             users: 0,
-            standing: Standing::Rests,
+            poll_state: PollState::Rests,
         }
     }
 
     /// The same, used by one more call.
-    pub(crate) fn used_more(self) -> Hold
+    pub(crate) fn used_more(self) -> HandleEntry
         ensures { result ≡ used_more self }
     {
-        Hold {
+        HandleEntry {
             users: self.users.saturating_add(1),
             ..self
         }
     }
 
     /// The same, used by one fewer.
-    pub(crate) fn used_less(self) -> Hold
+    pub(crate) fn used_less(self) -> HandleEntry
         ensures { result ≡ used_less self }
     {
-        Hold {
+        HandleEntry {
             users: self.users.saturating_sub(1),
             ..self
         }
     }
 
     /// The same, borrowed by one more operation. None where as many borrow it as can be counted.
-    pub(crate) fn borrowed_more(self) -> Option<Hold>
+    pub(crate) fn borrowed_more(self) -> Option<HandleEntry>
         ensures { IfSome result (λ h. h ≡ borrowed_more self) }
     {
         let Handle { kind, borrowers } = self.handle;
@@ -207,19 +207,19 @@ impl Hold {
             return None;
         }
         let borrowers = borrowers + 1;
-        Some(Hold {
+        Some(HandleEntry {
             handle: Handle { kind, borrowers },
             ..self
         })
     }
 
     /// The same, once the call that gives up an operation uses it, and the operation borrows it no more.
-    pub(crate) fn handed_over(self) -> Hold
+    pub(crate) fn handed_over(self) -> HandleEntry
         ensures { result ≡ handed_over self }
     {
         let Handle { kind, borrowers } = self.handle;
         let borrowers = borrowers.saturating_sub(1);
-        Hold {
+        HandleEntry {
             handle: Handle { kind, borrowers },
             ..self.used_more()
         }
@@ -228,7 +228,7 @@ impl Hold {
 
 /// What a call under way has to write back at its end.
 #[derive(Drop)]
-pub enum Errand<T> {
+pub enum OnReturn<T> {
     /// Nothing.
     Nothing,
     /// A handle is used no more.
@@ -277,11 +277,11 @@ pub struct Agent<T> {
     /// The party.
     pub party: u32,
     /// What its call has to write back.
-    pub errand: Errand<T>,
+    pub on_return: OnReturn<T>,
 }
 
 ghost use Rattle.std.specs.Prelude.{◌≡◌, IfSome};
-ghost use Rattle.channel_interleaving.specs.Roll.{is_at_work, IsAgent};
+ghost use Rattle.channel_interleaving.specs.NameTable.{is_at_work, IsAgent};
 
 /// Whether a party has a call under way.
 pub(crate) fn is_at_work<T>(agents: &Vec<Agent<T>>, party: u32) -> bool

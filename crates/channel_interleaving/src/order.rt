@@ -1,7 +1,7 @@
 //! The order in which names were woken.
 
-use crate::names::Errand;
-use crate::roll::Roll;
+use crate::names::OnReturn;
+use crate::name_table::NameTable;
 use channel_model::call::Call;
 use channel_model::name::Waiter;
 use event_listener::key::Key;
@@ -86,13 +86,13 @@ impl Order {
 
     /// Those who are pending and were woken, in the order of their waking. A walk over all names that are polled or pending. Own
     /// to this project.
-    pub fn woken<T: Drop>(&self, roll: &Roll<T>, alloc: Global) -> Result<Vec<Waiter>, AllocError>
-        ensures { IfOk result (λ names. names.items ≡ woken_in roll.now self.now) }
+    pub fn woken<T: Drop>(&self, name_table: &NameTable<T>, alloc: Global) -> Result<Vec<Waiter>, AllocError>
+        ensures { IfOk result (λ names. names.items ≡ woken_in name_table.now self.now) }
     {
         let mut names = Vec::new(alloc);
         let mut places = self.places.iter();
         while let Some((name, _)) = places.next() {
-            if roll.was_woken(*name) && names.push(*name).is_err() {
+            if name_table.was_woken(*name) && names.push(*name).is_err() {
                 return Err(AllocError);
             }
         }
@@ -134,13 +134,13 @@ impl Order {
         }
     }
 
-    /// A call with this errand has left this listener, or none.
-    pub(crate) fn settle<T>(&mut self, errand: &Errand<T>, key: Option<Key>)
-        ensures { self.new ≡ order_settled errand.now key self.old }
+    /// A call with this to write back has left this listener, or none.
+    pub(crate) fn settle<T>(&mut self, on_return: &OnReturn<T>, key: Option<Key>)
+        ensures { self.new ≡ order_settled on_return.now key self.old }
     {
-        match errand {
-            Errand::Poll { op } => self.keep(Waiter::Op(*op), key),
-            Errand::PollNext { receiver } => self.keep(Waiter::Stream(*receiver), key),
+        match on_return {
+            OnReturn::Poll { op } => self.keep(Waiter::Op(*op), key),
+            OnReturn::PollNext { receiver } => self.keep(Waiter::Stream(*receiver), key),
             _ => {}
         }
     }

@@ -1,8 +1,8 @@
 //! Messages that are accepted, and the positions of the queue that are left for them.
 
-use crate::floor::Floor;
+use crate::world_state::WorldState;
 use crate::names::OperationKind;
-use crate::roll::Roll;
+use crate::name_table::NameTable;
 use channel_calls::mark::Mark;
 use channel_calls::reply::Reply;
 use channel_model::call::Call;
@@ -56,7 +56,7 @@ pub(crate) fn accepted_by<T>(brings: bool, reply: &Reply<T>) -> u64
     if brings { came_in(reply) } else { 0 }
 }
 
-impl<T> Roll<T> {
+impl<T> NameTable<T> {
     ghost use Rattle.std.specs.Prelude.{◌≡◌};
     ghost use Rattle.channel_model.specs.Settling.{poll_of};
     ghost use Rattle.channel_interleaving.specs.Positions.{brings};
@@ -96,9 +96,9 @@ impl<T> Roll<T> {
     }
 }
 
-impl<T> Floor<T> {
+impl<T> WorldState<T> {
     ghost use Rattle.std.specs.Prelude.{IsTrue};
-    ghost use Rattle.channel_interleaving.specs.Floor.{HasPosition, HasPositions};
+    ghost use Rattle.channel_interleaving.specs.WorldState.{HasPosition, HasPositions};
 
     /// Whether there are positions of the queue for so many more messages. One place alone needs none. Own to this project.
     pub fn has_positions(&self, count: usize) -> bool
@@ -114,6 +114,6 @@ impl<T> Floor<T> {
         ensures enough { IsTrue result → HasPosition call.now self.now }
         ensures all { HasPosition call.now self.now → IsTrue result }
     {
-        !self.roll.brings(call) || self.has_positions(self.parties.len().saturating_add(1))
+        !self.name_table.brings(call) || self.has_positions(self.parties.len().saturating_add(1))
     }
 }

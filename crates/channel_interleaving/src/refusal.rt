@@ -1,18 +1,18 @@
 //! Which calls are not begun, and why.
 use crate::names::OperationKind;
-use crate::roll::Roll;
+use crate::name_table::NameTable;
 use channel_model::call::Call;
 use channel_model::name::{Handle, HandleId, HandleKind, OpId};
 use channel_model::refusal::WorldRefusal;
 
-impl<T> Roll<T> {
+impl<T> NameTable<T> {
     ghost use Rattle.std.specs.Prelude.{◌≡◌, ◌||◌, is_some, false};
     ghost use Rattle.std.specs.Option.{option_map_or};
     ghost use Rattle.std.specs.List.{list_all};
     ghost use Rattle.channel_model.specs.Names.{at};
     ghost use Rattle.channel_model.specs.Refusal.{uses, is_live, is_fit, are_fit, handles_are_alike, takes_borrowed, is_borrowed, operation_fits};
     ghost use Rattle.channel_model.specs.Refusal as want;
-    ghost use Rattle.channel_interleaving.specs.Roll.{names_of, operation_of};
+    ghost use Rattle.channel_interleaving.specs.NameTable.{names_of, operation_of};
     ghost use Rattle.channel_interleaving.specs.declared.names.Operation.{Operation};
     ghost use Rattle.channel_interleaving.specs.Refusal.{is_operation_polled, is_stream_polled, meets_poll, is_used, takes_used, takes_again, unfit_handle, begin_refusal};
 
@@ -128,7 +128,7 @@ impl<T> Roll<T> {
         ensures { result ≡ is_used handle.0 self.now }
     {
         match self.handles.get(handle.0) {
-            Some(hold) => 0 < hold.users,
+            Some(handle_entry) => 0 < handle_entry.users,
             None => false,
         }
     }
@@ -213,7 +213,7 @@ impl<T> Roll<T> {
         ensures { result ≡ is_operation_polled op.0 self.now }
     {
         match self.operations.get(op.0) {
-            Some(operation) => operation.standing.is_polled(),
+            Some(operation) => operation.poll_state.is_polled(),
             None => false,
         }
     }
@@ -223,7 +223,7 @@ impl<T> Roll<T> {
         ensures { result ≡ is_stream_polled handle.0 self.now }
     {
         match self.handles.get(handle.0) {
-            Some(hold) => hold.standing.is_polled(),
+            Some(handle_entry) => handle_entry.poll_state.is_polled(),
             None => false,
         }
     }
@@ -298,11 +298,11 @@ impl<T> Roll<T> {
     fn sender_refusal(&self, sender: HandleId) -> Option<WorldRefusal>
         ensures { result ≡ unfit_handle want.a_sender (at sender.0 self.now.handles) }
     {
-        let Some(hold) = self.handles.get(sender.0) else {
+        let Some(handle_entry) = self.handles.get(sender.0) else {
             return Some(WorldRefusal::UnknownName);
         };
-        match hold.handle.kind {
-            HandleKind::Sender => hold.standing.refusal(),
+        match handle_entry.handle.kind {
+            HandleKind::Sender => handle_entry.poll_state.refusal(),
             _ => Some(WorldRefusal::WrongKind),
         }
     }
@@ -311,11 +311,11 @@ impl<T> Roll<T> {
     fn receiver_refusal(&self, receiver: HandleId) -> Option<WorldRefusal>
         ensures { result ≡ unfit_handle want.a_receiver (at receiver.0 self.now.handles) }
     {
-        let Some(hold) = self.handles.get(receiver.0) else {
+        let Some(handle_entry) = self.handles.get(receiver.0) else {
             return Some(WorldRefusal::UnknownName);
         };
-        match hold.handle.kind {
-            HandleKind::Receiver => hold.standing.refusal(),
+        match handle_entry.handle.kind {
+            HandleKind::Receiver => handle_entry.poll_state.refusal(),
             _ => Some(WorldRefusal::WrongKind),
         }
     }

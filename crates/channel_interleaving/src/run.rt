@@ -2,7 +2,7 @@
 
 ghost use Rattle.std.specs.Prelude.{◌≡◌, Some, vec_len};
 
-use crate::floor::Floor;
+use crate::world_state::WorldState;
 use crate::step::{Entry, Run, Step};
 use channel_model::refusal::WorldRefusal;
 use channel_model::run::Stopped;
@@ -20,15 +20,15 @@ fn stopped<T: Drop>(trace: Vec<Entry<T>>, why: WorldRefusal) -> Run<T>
     }
 }
 
-impl<T: Drop> Floor<T> {
+impl<T: Drop> WorldState<T> {
     ghost use Rattle.std.specs.Prelude.{◌≡◌, ◌<◌, IfNone, vec_len, vec_capacity};
     ghost use Rattle.channel_interleaving.specs.Run.{MayStopAt, StopsAt};
-    ghost use Rattle.channel_interleaving.specs.Floor.{book_of, AreAtWork};
+    ghost use Rattle.channel_interleaving.specs.WorldState.{name_state_of, AreAtWork};
     ghost use Rattle.channel_interleaving.specs.Runs.{RanTo};
 
     /// Why a run stops at this step, if it does; where it doesn't, there is room for an entry.
     fn stop(&self, step: &Step<T>, trace: &mut Vec<Entry<T>>) -> Option<WorldRefusal>
-        ensures why { MayStopAt (book_of self.now) step.now result }
+        ensures why { MayStopAt (name_state_of self.now) step.now result }
         ensures items { trace.new.items ≡ trace.old.items }
         ensures room { IfNone result (vec_len trace.new < vec_capacity trace.new) }
     {
@@ -56,7 +56,7 @@ impl<T: Drop> Floor<T> {
         requires at_work { AreAtWork self.old }
         ensures ran { RanTo steps.old.items steps.new.items self.old result.trace.items self.new }
         ensures at_work { AreAtWork self.new }
-        ensures stopped { StopsAt (book_of self.new) steps.new.items (vec_len result.trace) result.stopped }
+        ensures stopped { StopsAt (name_state_of self.new) steps.new.items (vec_len result.trace) result.stopped }
     {
         let mut trace = Vec::new(self.alloc);
         while let Some(step) = steps.front() {

@@ -1,10 +1,10 @@
 //! Polls of those who are pending and were woken, made alone, one after another, as settling makes them.
 
 use crate::beginning::Begun;
-use crate::floor::Floor;
+use crate::world_state::WorldState;
 use crate::order::Order;
 use crate::position::accepted_by;
-use crate::roll::Roll;
+use crate::name_table::NameTable;
 use crate::woken::Woken;
 use channel_alone::run::{Done as Ended, run_alone};
 use channel_calls::reply::Reply;
@@ -19,25 +19,25 @@ pub struct Polled<T> {
     pub names: Vec<Waiter>,
 }
 
-impl<T: Drop> Roll<T> {
+impl<T: Drop> NameTable<T> {
     ghost use Rattle.std.specs.Prelude.{◌≡◌, ◌≤◌, drop, vec_len};
     ghost use Rattle.channel_model.specs.Settling.{poll_of};
     ghost use Rattle.channel_interleaving.specs.Bookkeeping.{BeginsByName, all_woken};
     ghost use Rattle.channel_interleaving.specs.OwnerOrder.{was_woken};
-    ghost use Rattle.channel_interleaving.specs.Owners.{post};
+    ghost use Rattle.channel_interleaving.specs.Owners.{status};
 
     /// Whether something pending has this name, and was woken.
     pub(crate) fn was_woken(&self, name: Waiter) -> bool
-        ensures { result ≡ was_woken (post self.now name) }
+        ensures { result ≡ was_woken (status self.now name) }
     {
         match name {
             Waiter::Op(op) => match self.operations.get(op.0) {
-                Some(operation) => operation.standing.is_woken() && !operation.is_finished(),
+                Some(operation) => operation.poll_state.is_woken() && !operation.is_finished(),
                 None => false,
             },
             Waiter::Stream(receiver) => match self.handles.get(receiver.0) {
-                Some(hold) => match hold.handle.kind {
-                    HandleKind::Receiver => hold.standing.is_woken(),
+                Some(handle_entry) => match handle_entry.handle.kind {
+                    HandleKind::Receiver => handle_entry.poll_state.is_woken(),
                     HandleKind::Sender | HandleKind::WeakSender | HandleKind::WeakReceiver => {
                         false
                     }
@@ -83,11 +83,11 @@ impl Order {
     }
 }
 
-impl<T: Drop> Floor<T> {
+impl<T: Drop> WorldState<T> {
     ghost use Rattle.std.specs.Prelude.{◌≡◌, ◌≤◌, ◌+◌, ◌-◌, false, vec_len, vec_capacity};
     ghost use Rattle.channel_alone.specs.Ample.{lacks_memory};
     ghost use Rattle.channel_model.specs.Settling.{poll_of};
-    ghost use Rattle.channel_interleaving.specs.Floor.{AreAtWork, AreOwned, IsQuiet};
+    ghost use Rattle.channel_interleaving.specs.WorldState.{AreAtWork, AreOwned, IsQuiet};
     ghost use Rattle.channel_interleaving.specs.Lone.{BringsWithin, WakesAtMost};
     ghost use Rattle.channel_interleaving.specs.Positions.{accepted_by, brings};
     ghost use Rattle.channel_interleaving.specs.Settle.{IsWoken, PollsAlone};
@@ -110,14 +110,14 @@ impl<T: Drop> Floor<T> {
         ensures at_work { AreAtWork self.new }
         ensures quiet { IsQuiet self.new }
         ensures place { self.new.has_one_place ≡ self.old.has_one_place }
-        ensures accepted { self.new.accepted ≤ self.old.accepted + accepted_by (brings self.old.roll (poll_of name)) result.reply }
+        ensures accepted { self.new.accepted ≤ self.old.accepted + accepted_by (brings self.old.name_table (poll_of name)) result.reply }
         ensures capacity { vec_capacity names ≤ vec_capacity result.names }
         ensures ample { lacks_memory result.reply ≡ false }
     {
         let from = names.len();
-        let brings = self.roll.brings_polled(name);
+        let brings = self.name_table.brings_polled(name);
         let mut sink = Woken { names };
-        let Begun { ask, errand } = self.roll.begin_poll(name);
+        let Begun { ask, on_return } = self.name_table.begin_poll(name);
         let Ended { reply, kept } = run_alone(
             ask,
             &mut self.channel,
@@ -126,10 +126,10 @@ impl<T: Drop> Floor<T> {
         );
         self.accepted = self.accepted.saturating_add(accepted_by(brings, &reply));
         let Woken { names } = sink;
-        self.roll.wake_from(&names, from);
+        self.name_table.wake_from(&names, from);
         self.order.wake_from(&names, from);
-        self.order.settle(&errand, kept.key);
-        self.roll.settle(errand, &reply, kept);
+        self.order.settle(&on_return, kept.key);
+        self.name_table.settle(on_return, &reply, kept);
         Polled { reply, names }
     }
 }

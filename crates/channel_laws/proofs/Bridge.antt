@@ -2,7 +2,7 @@
 use Rattle.std.proofs.Common.{◌≡◌, ℕ, ◌==◌, Bool, true, false, List, [], ◌∷◌, ◌++◌, map, Option, None, Some, Ok, Err, MatchOption, slice_set, if◌then◌else◌, refl, sym, ap, ◌∙◌, subst}
 use Rattle.std.specs.List.{remove}
 use Rattle.concurrent_queue.specs.Bridge as queue
-use Rattle.channel_laws.proofs.Words.{Contents, asked, QueueReply, QueueForm, QueueCall, first, kept_by, Deed, stepped, Done, Does, Parts, Takes, Leaves, WorkMakes, ChannelMakes, ChannelAsk, Mark, Reply, Held, Stage, Trying, Working, Finished, Work, TellReceive, TellStreams, TellSend, TellSends, TakeRoom, TellAll, Insert, Register, Leave, Lower, Count, Load, Raise, HasBegun, Under, Scene, Sitting, Represents, StepsAt, HasParty, under_of, Entry, Party, IsChannelStep, IsNewCall, parties_after, left_by, Act, on_queue, on_roster, on_nothing, Event, begins, Happening, Given, Notes, Acts, own, step_of, steps_of, given_by, given_to, Changes, InOneOrder, IsIdle}
+use Rattle.channel_laws.proofs.Words.{Contents, asked, QueueReply, QueueForm, QueueCall, first, kept_by, Deed, stepped, Done, Does, Parts, Takes, Leaves, WorkMakes, ChannelMakes, ChannelAsk, Mark, Reply, Held, Stage, Trying, Working, Finished, Work, TellReceive, TellStreams, TellSend, TellSends, TakeRoom, TellAll, Insert, Register, Leave, Lower, Count, Load, Raise, HasBegun, ActiveCall, Configuration, ActiveCallWitness, Represents, StepsAt, HasParty, active_call_of, Entry, Party, IsChannelStep, IsNewCall, parties_after, left_by, Act, on_queue, on_roster, on_nothing, Event, begins, Happening, Given, Notes, Acts, own, step_of, steps_of, given_by, given_to, Changes, InOneOrder, IsIdle}
 use Rattle.concurrent_queue.specs.Deeds as cell
 use Rattle.concurrent_queue.specs.declared.call.QueueAsk.TheVariants as queue_ask
 use Rattle.concurrent_queue.proofs.Bridge.{call_noted, change_keeps_form}
@@ -12,7 +12,7 @@ use Rattle.channel_calls.proofs.Walking.{taken_of}
 use Rattle.channel_calls.specs.declared.mark.Mark.TheVariants.{Nothing}
 use Rattle.channel_steps.specs.declared.run.Step.TheVariants as step
 use Rattle.channel_steps.proofs.RunFacts as runs
-use Rattle.channel_steps.proofs.SceneFacts.{stepped_at, made_at}
+use Rattle.channel_steps.proofs.ConfigurationFacts.{stepped_at, made_at}
 use Rattle.channel_laws.specs.Bridge.{does}
 use Rattle.channel_laws.specs.Ends.{Each}
 use Rattle.channel_laws.proofs.BridgeLeads.{id_of, of, StepLeadsOn, GoThrough, leads_begun, leads_stepped, through_none, through_more}
@@ -152,18 +152,18 @@ module _ {T W S : Type 0} (wakes : S → W → S → Type 0) (form : QueueForm) 
       }
 
   -- whose call isn't among those of the parties has none under way
-  none_of : (p : ℕ) (xs : List (Sitting T W)) → call_of id_of of p (map (λ (x : Sitting T W). x.party) xs) ≡ None → Each (λ u. u.party ≡ p → ⊥) (map under_of xs)
+  none_of : (p : ℕ) (xs : List (ActiveCallWitness T W)) → call_of id_of of p (map (λ (x : ActiveCallWitness T W). x.party) xs) ≡ None → Each (λ u. u.party ≡ p → ⊥) (map active_call_of xs)
   none_of p [] none = tt
   none_of p (x ∷ xs) none = by (none_of p xs) (x.party.id == p) refl none where
-    by : (call_of id_of of p (map (λ (y : Sitting T W). y.party) xs) ≡ None → Each (λ u. u.party ≡ p → ⊥) (map under_of xs)) → (b : Bool) → (x.party.id == p) ≡ b → (if b then Some x.party.call.stage else call_of id_of of p (map (λ (y : Sitting T W). y.party) xs)) ≡ None
-        → Each (λ u. u.party ≡ p → ⊥) (map under_of (x ∷ xs))
+    by : (call_of id_of of p (map (λ (y : ActiveCallWitness T W). y.party) xs) ≡ None → Each (λ u. u.party ≡ p → ⊥) (map active_call_of xs)) → (b : Bool) → (x.party.id == p) ≡ b → (if b then Some x.party.call.stage else call_of id_of of p (map (λ (y : ActiveCallWitness T W). y.party) xs)) ≡ None
+        → Each (λ u. u.party ≡ p → ⊥) (map active_call_of (x ∷ xs))
     by more true e h = absurd cc
     by more false e h = (is_other x.party.id p e, more h)
 
-  none_under_way : (p : ℕ) (parts : Parts T W) (parties : List (Party T W)) (s : Scene T W) → call_of id_of of p parties ≡ None → Represents parts parties s → IsIdle p s
+  none_under_way : (p : ℕ) (parts : Parts T W) (parties : List (Party T W)) (s : Configuration T W) → call_of id_of of p parties ≡ None → Represents parts parties s → IsIdle p s
   none_under_way p parts parties s none sh =
-      subst (λ (us : List (Under T W)). Each (λ u. u.party ≡ p → ⊥) us) (sym sh.under_way)
-      (none_of p sh.sittings (ap (λ (ps : List (Party T W)). call_of id_of of p ps) (sym sh.parties_are) ∙ none))
+      subst (λ (us : List (ActiveCall T W)). Each (λ u. u.party ≡ p → ⊥) us) (sym sh.under_way)
+      (none_of p sh.witnesses (ap (λ (ps : List (Party T W)). call_of id_of of p ps) (sym sh.parties_are) ∙ none))
 
   -- a call begins
   idle : (at : Option (Stage (QueueCall T) T W)) (ask : ChannelAsk T W) (ys : List (Event T W)) (rs : List (Given T)) → Acts form at (begins ask ∷ ys) rs

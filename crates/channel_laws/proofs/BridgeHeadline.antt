@@ -4,13 +4,13 @@ use Rattle.std.specs.List.{remove}
 use Rattle.std.proofs.lemmas.List.{length-map}
 use Rattle.concurrent_queue.proofs.Callers.{is_same}
 use Rattle.concurrent_queue.proofs.Bridge.{new_is}
-use Rattle.channel_laws.proofs.Words.{QueueForm, Woken, Channel, ChannelAsk, Reply, Spent, HasRange, Next, new_scene, Under, Scene, Represents, brought, does, gone_by, came_by, OthersQuiet, sees, unless_ended, Entry, Step, Sends, Receives, capacity_of, IsNew, new_cells, all_left, most_left, EachStep, end_of, wanted_at, HoldsListener, BoundSound, MergeMoment, NextMoment, Happening, steps_of, opened_parts, just_opened, LastsFor, MergesAreRuns, NewCallsGiveNothing, NoMessageAfter, MergeMomentSays, MergeBeginSays, MergeWorkSays, MergeCallSays, MergeStepSays, MergesKeepTheHeadline, MergeEndsInARow, OthersQuietAt, steps_in_a_row, left_to, FewStepsLeft, SaysTheEnd, Replies, AddUp, brought_by, MessagesAreFew, counts_for_receives, PlacesAreFew, counts_for_sends, AllSound}
+use Rattle.channel_laws.proofs.Words.{QueueForm, Woken, Channel, ChannelAsk, Reply, Spent, HasRange, Next, new_configuration, ActiveCall, Configuration, Represents, brought, does, gone_by, came_by, OthersQuiet, sees, unless_ended, Entry, Step, Sends, Receives, capacity_of, IsNew, new_cells, all_left, most_left, EachStep, end_of, wanted_at, HoldsListener, BoundSound, MergeMoment, NextMoment, Happening, steps_of, opened_parts, just_opened, LastsFor, MergesAreRuns, NewCallsGiveNothing, NoMessageAfter, MergeMomentSays, MergeBeginSays, MergeWorkSays, MergeCallSays, MergeStepSays, MergesKeepTheHeadline, MergeEndsInARow, OthersQuietAt, steps_in_a_row, left_to, FewStepsLeft, SaysTheEnd, Replies, AddUp, brought_by, MessagesAreFew, counts_for_receives, PlacesAreFew, counts_for_sends, WakeInvariant}
 use Rattle.channel_steps.specs.declared.run.Step.TheVariants as step
 use Rattle.channel_steps.proofs.Interface.{each_says, few_left, hold_still}
 use Rattle.channel_steps.proofs.StartFacts.{new_shown}
 use Rattle.channel_laws.proofs.Bounds.{bound_new, bound_next}
 use Rattle.channel_laws.proofs.Bridge.{merge}
-use Rattle.channel_laws.proofs.BridgeLeads.{Leads, next_moment, scenes_of}
+use Rattle.channel_laws.proofs.BridgeLeads.{Leads, next_moment, configurations_of}
 use Rattle.channel_laws.proofs.Closings as closings
 use Rattle.channel_laws.proofs.EndFacts.{may_end}
 use Rattle.channel_laws.proofs.Ends.{silent_from, silent_long}
@@ -28,10 +28,10 @@ module _ {T : Type 0} where
 module _ {T W : Type 0} where
   -- ---- what every step keeps
 
-  abbrev InOrder : Scene T W → Type 0
+  abbrev InOrder : Configuration T W → Type 0
   InOrder s = s.gone ++ s.now.queue.items ≡ s.came
 
-  order_next : (s : Scene T W) (x : Step T W) (e : Entry T) (names : List W) (t : Scene T W) → Next s x e names t → InOrder s → InOrder t
+  order_next : (s : Configuration T W) (x : Step T W) (e : Entry T) (names : List W) (t : Configuration T W) → Next s x e names t → InOrder s → InOrder t
   order_next s (step.Begin p ask) e names t n h =
       let b = n.0 in
       ap (λ (c : Channel T W). t.gone ++ c.queue.items) b.now ∙ ap (λ (ms : List T). ms ++ s.now.queue.items) b.gone ∙ h ∙ sym b.came
@@ -45,21 +45,21 @@ module _ {T W : Type 0} where
       ∙ ap (λ (ms : List T). ms ++ into) h
       ∙ sym n.came
 
-  record StaysSo (s : Scene T W) : Type 0 where
-    pub sound : AllSound s
+  record StaysSo (s : Configuration T W) : Type 0 where
+    pub sound : WakeInvariant s
     pub bound : BoundSound s
     pub order : InOrder s
 
-  kept_new : (cap : Option ℕ) → StaysSo (new_scene {T = T} {W = W} cap)
+  kept_new : (cap : Option ℕ) → StaysSo (new_configuration {T = T} {W = W} cap)
   kept_new cap = record { sound = all_sound_new cap; bound = bound_new cap; order = refl }
 
-  kept_next : (s : Scene T W) (x : Step T W) (e : Entry T) (names : List W) (t : Scene T W) → Next s x e names t → StaysSo s → StaysSo t
+  kept_next : (s : Configuration T W) (x : Step T W) (e : Entry T) (names : List W) (t : Configuration T W) → Next s x e names t → StaysSo s → StaysSo t
   kept_next s x e names t n k =
       record { sound = all_sound_next s x e names t k.sound n; bound = bound_next s x e names t n k.bound; order = order_next s x e names t n k.order }
 
   -- ---- a moment
 
-  few_at : (ns : List ℕ) (us : List (Under T W)) → ((k n : ℕ) → slice_get ns k ≡ Some n → n ≤ most_left (wanted_at k us))
+  few_at : (ns : List ℕ) (us : List (ActiveCall T W)) → ((k n : ℕ) → slice_get ns k ≡ Some n → n ≤ most_left (wanted_at k us))
       → (k : ℕ) → unwrap_or (slice_get ns k) 0 ≤ most_left (wanted_at k us)
   few_at ns us few k = by (slice_get ns k) refl where
     by : (o : Option ℕ) → slice_get ns k ≡ o → unwrap_or o 0 ≤ most_left (wanted_at k us)
@@ -67,19 +67,19 @@ module _ {T W : Type 0} where
     by (Some n) e = few k n e
 
 module _ {T W S : Type 0} where
-  says_moment : (m : MergeMoment T W S) → Represents m.parts m.parties m.scene → StaysSo m.scene → MergeMomentSays m
+  says_moment : (m : MergeMoment T W S) → Represents m.parts m.parties m.configuration → StaysSo m.configuration → MergeMomentSays m
   says_moment m sh k =
       record {
         shows = sh;
         in_order = k.order;
         fits = k.bound.fits;
-        begun = all_begin m.scene.now m.scene.under_way sh.known;
-        receives = pending_owed Receives MessagesAreFew counts_for_receives (HoldsListener Receives) (λ c. ⊥) m.scene k.sound.receives.owed;
-        sends = pending_owed Sends PlacesAreFew counts_for_sends (HoldsListener Sends) (λ c. ⊥) m.scene k.sound.sends.owed;
-        streams = streams.pending_owed m.scene k.sound.streams.owed;
-        closing = closings.pending_owed m.scene k.sound.closing.owed;
-        words = words_say m.parts m.parties m.scene sh;
-        few = few_at (all_left m.parts m.parties) m.scene.under_way (few_left m.parts m.parties m.scene sh);
+        begun = all_begin m.configuration.now m.configuration.under_way sh.known;
+        receives = pending_owed Receives MessagesAreFew counts_for_receives (HoldsListener Receives) (λ c. ⊥) m.configuration k.sound.receives.owed;
+        sends = pending_owed Sends PlacesAreFew counts_for_sends (HoldsListener Sends) (λ c. ⊥) m.configuration k.sound.sends.owed;
+        streams = streams.pending_owed m.configuration k.sound.streams.owed;
+        closing = closings.pending_owed m.configuration k.sound.closing.owed;
+        words = words_say m.parts m.parties m.configuration sh;
+        few = few_at (all_left m.parts m.parties) m.configuration.under_way (few_left m.parts m.parties m.configuration sh);
       }
 
 module _ {T W S : Type 0} (wakes : S → W → S → Type 0) where
@@ -99,10 +99,10 @@ module _ {T W S : Type 0} (wakes : S → W → S → Type 0) where
         under_way = b.under_way;
       }
 
-  says_work : (m : MergeMoment T W S) (p : ℕ) (e : Entry T) (n : MergeMoment T W S) → (l : Leads wakes m (step.Step p) e n) → StaysSo m.scene → MergeWorkSays wakes m p e n l.names
+  says_work : (m : MergeMoment T W S) (p : ℕ) (e : Entry T) (n : MergeMoment T W S) → (l : Leads wakes m (step.Step p) e n) → StaysSo m.configuration → MergeWorkSays wakes m p e n l.names
   says_work m p e n l k =
       let s = l.next in
-      let after : Under T W = does s.mine s.at_now e.mark m.scene.now n.scene.now in
+      let after : ActiveCall T W = does s.mine s.at_now e.mark m.configuration.now n.configuration.now in
       let came : came_by e.mark s.mine.ask ≡ brought_by e.mark (brought s.mine.ask) = came_is e.mark s.mine.ask in
       record {
         before = s.before;
@@ -115,27 +115,27 @@ module _ {T W S : Type 0} (wakes : S → W → S → Type 0) where
         is = refl;
         goes_on = s.left;
         work = record {
-          effect = step_marked m.scene p e l.names n.scene s;
+          effect = step_marked m.configuration p e l.names n.configuration s;
           touches = l.touches;
-          accounts = subst (λ (ms : List T). AddUp m.scene (gone_by e.mark m.scene.now.queue.items) ms n.scene) came
+          accounts = subst (λ (ms : List T). AddUp m.configuration (gone_by e.mark m.configuration.now.queue.items) ms n.configuration) came
               (record { held = s.held; gone = s.gone; came = s.came });
           told = s.named;
           ends = may_end after e.reply e.kept s.finishes;
           in_time = s.quick;
-          late = late_gives m.scene p e l.names n.scene s k.sound;
+          late = late_gives m.configuration p e l.names n.configuration s k.sound;
         };
         nearer = l.nearer;
       }
 
-  says_call : (m : MergeMoment T W S) (x : Step T W) (e : Entry T) (n : MergeMoment T W S) → (l : Leads wakes m x e n) → StaysSo m.scene → MergeCallSays wakes m x e n l.names
+  says_call : (m : MergeMoment T W S) (x : Step T W) (e : Entry T) (n : MergeMoment T W S) → (l : Leads wakes m x e n) → StaysSo m.configuration → MergeCallSays wakes m x e n l.names
   says_call m (step.Begin p ask) e n l k = says_begin m p ask e n l
   says_call m (step.Step p) e n l k = says_work m p e n l k
 
-  says_end : (m : MergeMoment T W S) (x : Step T W) (e : Entry T) (n : MergeMoment T W S) → Leads wakes m x e n → StaysSo m.scene → Replies SaysTheEnd e.reply → Spent n.scene.now
+  says_end : (m : MergeMoment T W S) (x : Step T W) (e : Entry T) (n : MergeMoment T W S) → Leads wakes m x e n → StaysSo m.configuration → Replies SaysTheEnd e.reply → Spent n.configuration.now
   says_end m (step.Begin p ask) e n l k end = absurd (no_reply e (let b = l.next.0 in ap (λ (x : Entry T). x.reply) b.entry) end)
-  says_end m (step.Step p) e n l k end = says_over m.scene p e l.names n.scene l.next k.sound end
+  says_end m (step.Step p) e n l k end = says_over m.configuration p e l.names n.configuration l.next k.sound end
 
-  says : (m : MergeMoment T W S) (x : Step T W) (e : Entry T) (n : MergeMoment T W S) → Leads wakes m x e n → StaysSo m.scene → MergeStepSays wakes m x e n
+  says : (m : MergeMoment T W S) (x : Step T W) (e : Entry T) (n : MergeMoment T W S) → Leads wakes m x e n → StaysSo m.configuration → MergeStepSays wakes m x e n
   says m x e n l k =
       record {
         names = l.names;
@@ -143,70 +143,70 @@ module _ {T W S : Type 0} (wakes : S → W → S → Type 0) where
         woken = l.woken;
         call = says_call m x e n l k;
         blocks = l.blocks;
-        closed = stays_closed m.scene x e l.names n.scene l.next;
-        over = stays_over m.scene x e l.names n.scene l.next;
+        closed = stays_closed m.configuration x e l.names n.configuration l.next;
+        over = stays_over m.configuration x e l.names n.configuration l.next;
         the_end = says_end m x e n l k;
-        after = says_moment n l.shows (kept_next m.scene x e l.names n.scene l.next k);
+        after = says_moment n l.shows (kept_next m.configuration x e l.names n.configuration l.next k);
       }
 
   -- ---- the end
 
   give_nothing : (m : MergeMoment T W S) (xs : List (Step T W)) (es : List (Entry T)) (ns : List (MergeMoment T W S)) → EachStep (Leads wakes) m xs es ns
-      → Spent m.scene.now → NewCallsGiveNothing xs es
+      → Spent m.configuration.now → NewCallsGiveNothing xs es
   give_nothing m [] [] [] h over = tt
   give_nothing m (step.Begin p ask ∷ xs) (e ∷ es) (n ∷ ns) h over =
       let l = h.0 in
       let last = end_of n ns in
-      let run = scenes_of wakes m (step.Begin p ask ∷ xs) (e ∷ es) last (record { moments = n ∷ ns; each = h; ends = refl }) in
-      let first = stays_over m.scene (step.Begin p ask) e l.names n.scene l.next over in (
-        silent_long p m.scene last.scene (step.Begin p ask ∷ xs) (e ∷ es) over (silent_from p m.scene.under_way l.begins) run,
+      let run = configurations_of wakes m (step.Begin p ask ∷ xs) (e ∷ es) last (record { moments = n ∷ ns; each = h; ends = refl }) in
+      let first = stays_over m.configuration (step.Begin p ask) e l.names n.configuration l.next over in (
+        silent_long p m.configuration last.configuration (step.Begin p ask ∷ xs) (e ∷ es) over (silent_from p m.configuration.under_way l.begins) run,
         give_nothing n xs es ns h.1 first.0,
       )
   give_nothing m (step.Step p ∷ xs) (e ∷ es) (n ∷ ns) h over =
       let l = h.0 in
-      let first = stays_over m.scene (step.Step p) e l.names n.scene l.next over in
+      let first = stays_over m.configuration (step.Step p) e l.names n.configuration l.next over in
       give_nothing n xs es ns h.1 first.0
   give_nothing m x y ns h over = absurd h
 
-  nothing_comes : (m : MergeMoment T W S) (xs : List (Step T W)) (es : List (Entry T)) (ns : List (MergeMoment T W S)) → StaysSo m.scene
+  nothing_comes : (m : MergeMoment T W S) (xs : List (Step T W)) (es : List (Entry T)) (ns : List (MergeMoment T W S)) → StaysSo m.configuration
       → EachStep (Leads wakes) m xs es ns → NoMessageAfter xs es
   nothing_comes m [] [] [] k h = tt
   nothing_comes m (x ∷ xs) (e ∷ es) (n ∷ ns) k h =
       let l = h.0 in (
         λ ended. give_nothing n xs es ns h.1 (says_end m x e n h.0 k ended),
-        nothing_comes n xs es ns (kept_next m.scene x e l.names n.scene l.next k) h.1,
+        nothing_comes n xs es ns (kept_next m.configuration x e l.names n.configuration l.next k) h.1,
       )
   nothing_comes m x y ns k h = absurd h
 
 -- ---- steps in a row
 
 module _ {T W : Type 0} where
-  removed : (us : List (Under T W)) (u : Under T W) (vs : List (Under T W)) → remove (us ++ (u ∷ vs)) (length us) ≡ us ++ vs
+  removed : (us : List (ActiveCall T W)) (u : ActiveCall T W) (vs : List (ActiveCall T W)) → remove (us ++ (u ∷ vs)) (length us) ≡ us ++ vs
   removed [] u vs = refl
-  removed (v ∷ us) u vs = ap (λ (ws : List (Under T W)). v ∷ ws) (removed us u vs)
+  removed (v ∷ us) u vs = ap (λ (ws : List (ActiveCall T W)). v ∷ ws) (removed us u vs)
 
-  found : (us : List (Under T W)) (u : Under T W) (vs : List (Under T W)) → slice_get (us ++ (u ∷ vs)) (length us) ≡ Some u
+  found : (us : List (ActiveCall T W)) (u : ActiveCall T W) (vs : List (ActiveCall T W)) → slice_get (us ++ (u ∷ vs)) (length us) ≡ Some u
   found [] u vs = refl
   found (v ∷ us) u vs = found us u vs
 
   -- at which place a call stands, and which are the others
-  pub record Stands (k : ℕ) (mine : Under T W) (others : List (Under T W)) (us : List (Under T W)) : Type 0 where
+  pub record Stands (k : ℕ) (mine : ActiveCall T W) (others : List (ActiveCall T W)) (us : List (ActiveCall T W)) : Type 0 where
     pub there : slice_get us k ≡ Some mine
     pub others_are : remove us k ≡ others
 
-  stands : (us : List (Under T W)) (u : Under T W) (vs ws : List (Under T W)) → ws ≡ us ++ (u ∷ vs) → Stands (length us) u (us ++ vs) ws
+  stands : (us : List (ActiveCall T W)) (u : ActiveCall T W) (vs ws : List (ActiveCall T W)) → ws ≡ us ++ (u ∷ vs) → Stands (length us) u (us ++ vs) ws
   stands us u vs ws e =
-      subst (λ (xs : List (Under T W)). Stands (length us) u (us ++ vs) xs) (sym e) (record { there = found us u vs; others_are = removed us u vs })
+      subst (λ (xs : List (ActiveCall T W)). Stands (length us) u (us ++ vs) xs) (sym e) (record { there = found us u vs; others_are = removed us u vs })
 
 module _ {T W S : Type 0} (wakes : S → W → S → Type 0) where
-  row_left : (k p : ℕ) (u : Under T W) (m : MergeMoment T W S) (xs : List (Step T W)) (es : List (Entry T)) (ns : List (MergeMoment T W S))
-      → EachStep (Leads wakes) m xs es ns → slice_get m.scene.under_way k ≡ Some u → u.party ≡ p → OthersQuietAt k m → steps_in_a_row p xs es ≤ left_to k m
+  row_left : (k p : ℕ) (u : ActiveCall T W) (m : MergeMoment T W S) (xs : List (Step T W)) (es : List (Entry T)) (ns : List (MergeMoment T W S))
+      → EachStep (Leads wakes) m xs es ns → slice_get m.configuration.under_way k ≡ Some u → u.party ≡ p → OthersQuietAt k m → steps_in_a_row p xs es ≤ left_to k m
   row_left k p u m [] [] [] h there his free = omega arith
   row_left k p u m (step.Begin q ask ∷ xs) (e ∷ es) (n ∷ ns) h there his free = omega arith
   row_left k p u m (step.Step q ∷ xs) (e ∷ es) (n ∷ ns) h there his free =
       by (λ v here mine still. row_left k p v n xs es ns h.1 here mine still) (q == p) refl e.reply refl
     where
-      by : ((v : Under T W) → slice_get n.scene.under_way k ≡ Some v → v.party ≡ p → OthersQuietAt k n → steps_in_a_row p xs es ≤ left_to k n)
+      by : ((v : ActiveCall T W) → slice_get n.configuration.under_way k ≡ Some v → v.party ≡ p → OthersQuietAt k n → steps_in_a_row p xs es ≤ left_to k n)
           → (b : Bool) → (q == p) ≡ b → (r : Option (Reply T)) → e.reply ≡ r → (if b && is_none r then suc (steps_in_a_row p xs es) else 0) ≤ left_to k m
       by more false same r goes_on = omega arith
       by more true same (Some x) goes_on = omega arith
@@ -214,31 +214,31 @@ module _ {T W S : Type 0} (wakes : S → W → S → Type 0) where
           let l = h.0 in
           let s = l.next in
           let one : k ≡ length s.before = l.only k u there (his ∙ sym (is_same q p same)) in
-          let was = stands s.before s.mine s.behind m.scene.under_way s.there in
-          let free_there : OthersQuiet m.scene.now (remove m.scene.under_way (length s.before)) =
-          subst (λ (j : ℕ). OthersQuiet m.scene.now (remove m.scene.under_way j)) one free in
-          let hold : OthersQuiet m.scene.now (s.before ++ s.behind) =
-          subst (λ (us : List (Under T W)). OthersQuiet m.scene.now us) was.others_are free_there in
+          let was = stands s.before s.mine s.behind m.configuration.under_way s.there in
+          let free_there : OthersQuiet m.configuration.now (remove m.configuration.under_way (length s.before)) =
+          subst (λ (j : ℕ). OthersQuiet m.configuration.now (remove m.configuration.under_way j)) one free in
+          let hold : OthersQuiet m.configuration.now (s.before ++ s.behind) =
+          subst (λ (us : List (ActiveCall T W)). OthersQuiet m.configuration.now us) was.others_are free_there in
           let less : left_to k n < left_to k m = subst (λ (j : ℕ). left_to j n < left_to j m) (sym one) (l.nearer goes_on hold) in
-          let before : List (Under T W) = map (sees n.scene.now) s.before in
-          let behind : List (Under T W) = map (sees n.scene.now) s.behind in
-          let after : Under T W = does s.mine s.at_now e.mark m.scene.now n.scene.now in
-          let goes : n.scene.under_way ≡ before ++ (after ∷ behind) =
-          subst (λ (r : Option (Reply T)). n.scene.under_way ≡ before ++ (unless_ended after r ++ behind)) goes_on s.left in
-          let is = stands before after behind n.scene.under_way goes in
-          let place : length before ≡ k = length-map s.before (sees n.scene.now) ∙ sym one in
-          let still : OthersQuiet n.scene.now (remove n.scene.under_way (length before)) =
-          subst (λ (us : List (Under T W)). OthersQuiet n.scene.now us) (sym is.others_are) (hold_still m.scene q e l.names n.scene s hold) in
+          let before : List (ActiveCall T W) = map (sees n.configuration.now) s.before in
+          let behind : List (ActiveCall T W) = map (sees n.configuration.now) s.behind in
+          let after : ActiveCall T W = does s.mine s.at_now e.mark m.configuration.now n.configuration.now in
+          let goes : n.configuration.under_way ≡ before ++ (after ∷ behind) =
+          subst (λ (r : Option (Reply T)). n.configuration.under_way ≡ before ++ (unless_ended after r ++ behind)) goes_on s.left in
+          let is = stands before after behind n.configuration.under_way goes in
+          let place : length before ≡ k = length-map s.before (sees n.configuration.now) ∙ sym one in
+          let still : OthersQuiet n.configuration.now (remove n.configuration.under_way (length before)) =
+          subst (λ (us : List (ActiveCall T W)). OthersQuiet n.configuration.now us) (sym is.others_are) (hold_still m.configuration q e l.names n.configuration s hold) in
           let rest = more after
-          (subst (λ (j : ℕ). slice_get n.scene.under_way j ≡ Some after) place is.there) (s.whose ∙ is_same q p same)
-          (subst (λ (j : ℕ). OthersQuiet n.scene.now (remove n.scene.under_way j)) place still) in
+          (subst (λ (j : ℕ). slice_get n.configuration.under_way j ≡ Some after) place is.there) (s.whose ∙ is_same q p same)
+          (subst (λ (j : ℕ). OthersQuiet n.configuration.now (remove n.configuration.under_way j)) place still) in
           omega (arith, less, rest)
   row_left k p u m x y ns h there his free = absurd h
 
-  few_now : (m : MergeMoment T W S) → Represents m.parts m.parties m.scene → FewStepsLeft m
-  few_now m sh = few_at (all_left m.parts m.parties) m.scene.under_way (few_left m.parts m.parties m.scene sh)
+  few_now : (m : MergeMoment T W S) → Represents m.parts m.parties m.configuration → FewStepsLeft m
+  few_now m sh = few_at (all_left m.parts m.parties) m.configuration.under_way (few_left m.parts m.parties m.configuration sh)
 
-  end_in_a_row : (m : MergeMoment T W S) (xs : List (Step T W)) (es : List (Entry T)) (ns : List (MergeMoment T W S)) → Represents m.parts m.parties m.scene
+  end_in_a_row : (m : MergeMoment T W S) (xs : List (Step T W)) (es : List (Entry T)) (ns : List (MergeMoment T W S)) → Represents m.parts m.parties m.configuration
       → EachStep (Leads wakes) m xs es ns → MergeEndsInARow m xs es ns
   end_in_a_row m [] [] [] sh h = tt
   end_in_a_row m (x ∷ xs) (e ∷ es) (n ∷ ns) sh h =
@@ -260,7 +260,7 @@ module _ {T W : Type 0} where
 
 -- the positions of a new queue last for the steps of so many events
 lasts : {T W : Type 0} (form : QueueForm) (events : List (Happening T W)) → LastsFor (length events) form
-    → let s : Scene T W = new_scene (capacity_of form) in HasRange (length (steps_of events)) s.now.queue
+    → let s : Configuration T W = new_configuration (capacity_of form) in HasRange (length (steps_of events)) s.now.queue
 lasts form events (inl one) = inl one
 lasts form events (inr few) = let e = steps_many events in inr (omega (arith, few, e))
 
@@ -268,29 +268,29 @@ pub merges_keep_the_headline : (T W S : Type 0) (wakes : S → W → S → Type 
 merges_keep_the_headline T W S wakes form events given sink last woken has long acts order =
     let new : IsNew {T = T} form (new_cells form) = new_is form has in
     let first : MergeMoment T W S = just_opened form sink in
-    let shown : Represents first.parts first.parties first.scene = new_shown form (opened_parts form) [] new refl refl in
+    let shown : Represents first.parts first.parties first.configuration = new_shown form (opened_parts form) [] new refl refl in
     let m = merge wakes form events (last, woken) (opened_parts form, sink) [] given new.0 tt acts order in
-    let g = m.through first.scene (lasts form events long) shown in
+    let g = m.through first.configuration (lasts form events long) shown in
     let r = g.run in
     let kept = kept_new (capacity_of form) in
     record {
       is = record {
         trace = m.more;
         parties = m.parties;
-        scene = g.end;
+        configuration = g.end;
         opened = shown;
         run = record {
           moments = r.moments;
           each = each_says (Leads wakes) (λ n. Unit {0}) (NextMoment wakes) (λ a x e b l k. (next_moment wakes a x e b l, tt)) first (steps_of events) m.more r.moments tt r.each;
           ends = r.ends;
         };
-        scenes = scenes_of wakes first (steps_of events) m.more _ r;
+        configurations = configurations_of wakes first (steps_of events) m.more _ r;
         shown = g.shown;
         answers = m.answers;
       };
       at_first = says_moment first shown kept;
-      each = each_says (Leads wakes) (λ (n : MergeMoment T W S). StaysSo n.scene) (MergeStepSays wakes)
-          (λ a x e b l k. (says wakes a x e b l k, kept_next a.scene x e l.names b.scene l.next k)) first (steps_of events) m.more r.moments kept r.each;
+      each = each_says (Leads wakes) (λ (n : MergeMoment T W S). StaysSo n.configuration) (MergeStepSays wakes)
+          (λ a x e b l k. (says wakes a x e b l k, kept_next a.configuration x e l.names b.configuration l.next k)) first (steps_of events) m.more r.moments kept r.each;
       after_the_end = nothing_comes wakes first (steps_of events) m.more r.moments kept r.each;
       ends_soon = end_in_a_row wakes first (steps_of events) m.more r.moments shown r.each;
     }

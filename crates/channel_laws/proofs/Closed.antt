@@ -1,6 +1,6 @@
 -- A closed channel over runs.
 use Rattle.std.proofs.Common.{◌≡◌, ℕ, ◌+◌, ◌≤◌, Bool, false, if◌then◌else◌, List, ◌∷◌, length, drop, Option, refl, sym, ap, subst, arith, length-append}
-use Rattle.channel_laws.proofs.Words.{Queue, Phase, IsShut, IsOldest, message, is_displaced, QueueAsk, QueueMark, Channel, Effect, queued, Moves, Mark, Append, Take, TakeDisplaced, Replace, Close, Reply, Aim, Stage, Trying, Working, Finished, Shut, Scene, Steps, Next, IsRun, NextScene, Entry, Step, after, IsStill, within, MayStillDo, ClosingIsForGood}
+use Rattle.channel_laws.proofs.Words.{Queue, Phase, IsShut, IsOldest, message, is_displaced, QueueAsk, QueueMark, Channel, Effect, queued, Moves, Mark, Append, Take, TakeDisplaced, Replace, Close, Reply, Aim, Stage, Trying, Working, Finished, Shut, Configuration, Steps, Next, IsRun, NextConfiguration, Entry, Step, after, IsStill, within, MayStillDo, ClosingIsForGood}
 use Rattle.concurrent_queue.specs.declared.call.QueueAsk.TheVariants as ask
 use Rattle.concurrent_queue.specs.declared.call.QueueMark.TheVariants as queue
 use Rattle.channel_steps.specs.declared.run.Step.TheVariants as step
@@ -71,19 +71,19 @@ module _ {T W : Type 0} where
   shut_does c (Finished kept) e r s shut h =
       subst (λ (x : Effect T W). Does c (Finished kept) x) (sym h.0) (keeps_same c.queue c.queue refl shut, tt)
 
-  steps_does : (s : Scene T W) (p : ℕ) (e : Entry T) (names : List W) (t : Scene T W) (st : Steps s p e names t) → Shut s.now → Keeps s.now.queue t.now.queue × MayStillDo e.mark s.now st.mine.at
+  steps_does : (s : Configuration T W) (p : ℕ) (e : Entry T) (names : List W) (t : Configuration T W) (st : Steps s p e names t) → Shut s.now → Keeps s.now.queue t.now.queue × MayStillDo e.mark s.now st.mine.at
   steps_does s p e names t st shut =
       let h = shut_does s.now st.mine.at (record { channel = t.now; mark = e.mark; woken = names }) e.reply st.at_now shut st.moves in
       (h.0, h.1)
 
-  pub next_keeps : (s : Scene T W) (x : Step T W) (e : Entry T) (names : List W) (t : Scene T W) → Next s x e names t → Shut s.now → Keeps s.now.queue t.now.queue
+  pub next_keeps : (s : Configuration T W) (x : Step T W) (e : Entry T) (names : List W) (t : Configuration T W) → Next s x e names t → Shut s.now → Keeps s.now.queue t.now.queue
   next_keeps s (step.Begin p ask) e names t n shut = keeps_same s.now.queue t.now.queue (ap (λ (c : Channel T W). c.queue) n.0.now) shut
   next_keeps s (step.Step p) e names t n shut = let h = steps_does s p e names t n shut in h.0
 
-  keeps_long : (s t : Scene T W) (xs : List (Step T W)) (es : List (Entry T)) → Shut s.now → IsRun NextScene s xs es t
+  keeps_long : (s t : Configuration T W) (xs : List (Step T W)) (es : List (Entry T)) → Shut s.now → IsRun NextConfiguration s xs es t
       → Keeps s.now.queue t.now.queue
   keeps_long s t xs es shut run =
-      run_so NextScene (λ a xs es b. Shut a.now → Keeps a.now.queue b.now.queue) (λ a h. keeps_same a.now.queue a.now.queue refl h)
+      run_so NextConfiguration (λ a xs es b. Shut a.now → Keeps a.now.queue b.now.queue) (λ a h. keeps_same a.now.queue a.now.queue refl h)
       (λ a x e b xs es c n rest h.
       let now = next_keeps a x e n.0 b n.1 h in
       let k = rest now.0 in

@@ -1,6 +1,6 @@
 -- Of all closes of a run one at most closes the channel: each that says so has its own mark.
 use Rattle.std.proofs.Common.{arith, ◌≡◌, ℕ, ◌+◌, ◌≤◌, Bool, true, false, List, [], ◌∷◌, ◌++◌, map, Option, None, Some, refl, ap}
-use Rattle.channel_laws.proofs.Words.{Channel, ChannelAsk, Mark, Close, Reply, Kept, Sends, Receives, Streams, Closings, Row, MarkedMoment, with_marked, ClosedIt, Next, IsRun, NextScene, new_scene, call_begun, Under, Scene, Steps, MayFinish, sees, does, unless_ended, Entry, Step, one_if_closed, closings_in, EachRunClosesOnce}
+use Rattle.channel_laws.proofs.Words.{Channel, ChannelAsk, Mark, Close, Reply, Kept, Sends, Receives, Streams, Closings, Row, MarkedMoment, with_marked, ClosedIt, Next, IsRun, NextConfiguration, new_configuration, call_begun, ActiveCall, Configuration, Steps, MayFinish, sees, does, unless_ended, Entry, Step, one_if_closed, closings_in, EachRunClosesOnce}
 use Rattle.channel_calls.specs.declared.ask.ChannelAsk.TheVariants as ask
 use Rattle.channel_calls.specs.declared.mark.Mark.TheVariants.{Nothing}
 use Rattle.channel_calls.specs.declared.reply.Reply.TheVariants as reply
@@ -24,7 +24,7 @@ module _ {T W : Type 0} where
   marks_in [] = 0
   marks_in (d ∷ ds) = one_if_close d.mark + marks_in ds
 
-  abbrev closers : List (Under T W) → ℕ
+  abbrev closers : List (ActiveCall T W) → ℕ
   closers [] = 0
   closers (u ∷ us) = marks_in u.marks + closers us
 
@@ -39,11 +39,11 @@ module _ {T W : Type 0} where
   marks_with ds Nothing c seen = omega arith
   marks_with ds m c seen = one_more ds (record { mark = m; before = c; seen = seen })
 
-  closers_join : (us vs : List (Under T W)) → closers (us ++ vs) ≡ closers us + closers vs
+  closers_join : (us vs : List (ActiveCall T W)) → closers (us ++ vs) ≡ closers us + closers vs
   closers_join [] vs = omega arith
   closers_join (u ∷ us) vs = let h = closers_join us vs in omega (arith, h)
 
-  closers_see : (c : Channel T W) (us : List (Under T W)) → closers (map (sees c) us) ≡ closers us
+  closers_see : (c : Channel T W) (us : List (ActiveCall T W)) → closers (map (sees c) us) ≡ closers us
   closers_see c [] = refl
   closers_see c (u ∷ us) = ap (λ (n : ℕ). marks_in u.marks + n) (closers_see c us)
 
@@ -69,7 +69,7 @@ module _ {T W : Type 0} where
   row_closed ask.DropWeak ds seen h = absurd (cc h.1)
   row_closed a ds seen h = absurd h
 
-  ended : (u : Under T W) (r : Option (Reply T)) (left : Option (Kept T)) → MayFinish u r left → one_if_closed r + closers (unless_ended u r) ≤ marks_in u.marks
+  ended : (u : ActiveCall T W) (r : Option (Reply T)) (left : Option (Kept T)) → MayFinish u r left → one_if_closed r + closers (unless_ended u r) ≤ marks_in u.marks
   ended u None left h = omega arith
   ended u (Some (reply.Closed true)) left h =
       let met = h.met in let one = closed_marks u.marks (row_closed u.ask u.marks met.1 met.3) in omega (arith, one)
@@ -84,12 +84,12 @@ module _ {T W : Type 0} where
       omega (arith, before, now)
   flag_count m c d says flag = let same : closable d.queue.closed ≡ closable c.queue.closed = ap closable flag in omega (arith, same)
 
-  abbrev left_to_close : Scene T W → ℕ
+  abbrev left_to_close : Configuration T W → ℕ
   left_to_close s = closers s.under_way + closable s.now.queue.closed
 
-  step_closes : (s t : Scene T W) (p : ℕ) (e : Entry T) (names : List W) → Steps s p e names t → one_if_closed e.reply + left_to_close t ≤ left_to_close s
+  step_closes : (s t : Configuration T W) (p : ℕ) (e : Entry T) (names : List W) → Steps s p e names t → one_if_closed e.reply + left_to_close t ≤ left_to_close s
   step_closes s t p e names st =
-      let now : Under T W = does st.mine st.at_now e.mark s.now t.now in
+      let now : ActiveCall T W = does st.mine st.at_now e.mark s.now t.now in
       let b = step_bounded s t p e names st in
       let flag = flag_count e.mark s.now t.now b.says b.flag in
       let mine : marks_in now.marks ≡ marks_in st.mine.marks + one_if_close e.mark = marks_with st.mine.marks e.mark s.now st.mine.seen in
@@ -103,7 +103,7 @@ module _ {T W : Type 0} where
       let behind = closers_see t.now st.behind in
       omega (arith, flag, mine, end, all, joined, after, first, second, before, behind)
 
-  next_closes : (s : Scene T W) (x : Step T W) (e : Entry T) (names : List W) (t : Scene T W) → Next s x e names t → one_if_closed e.reply + left_to_close t ≤ left_to_close s
+  next_closes : (s : Configuration T W) (x : Step T W) (e : Entry T) (names : List W) (t : Configuration T W) → Next s x e names t → one_if_closed e.reply + left_to_close t ≤ left_to_close s
   next_closes s (step.Begin p a) e names t n =
       let none : one_if_closed e.reply ≡ 0 = ap (λ (f : Entry T). one_if_closed f.reply) n.0.entry in
       let flag : closable t.now.queue.closed ≡ closable s.now.queue.closed = ap (λ (c : Channel T W). closable c.queue.closed) n.0.now in
@@ -112,12 +112,12 @@ module _ {T W : Type 0} where
       omega (arith, none, flag, after, joined)
   next_closes s (step.Step p) e names t n = step_closes s t p e names n
 
-  run_closes : (s t : Scene T W) (xs : List (Step T W)) (es : List (Entry T)) → IsRun NextScene s xs es t → closings_in es ≤ left_to_close s
+  run_closes : (s t : Configuration T W) (xs : List (Step T W)) (es : List (Entry T)) → IsRun NextConfiguration s xs es t → closings_in es ≤ left_to_close s
   run_closes s t xs es run =
-      run_so NextScene (λ a xs es b. closings_in es ≤ left_to_close a) (λ a. omega arith)
+      run_so NextConfiguration (λ a xs es b. closings_in es ≤ left_to_close a) (λ a. omega arith)
       (λ a x e b xs es c n rest. let now = next_closes a x e n.0 b n.1 in omega (arith, now, rest)) s xs es t run
 
 module _ (T W : Type 0) where
   pub closes_once : EachRunClosesOnce T W
   closes_once capacity t steps trace run =
-      let most = run_closes (new_scene capacity) t steps trace run in omega (arith, most)
+      let most = run_closes (new_configuration capacity) t steps trace run in omega (arith, most)

@@ -1,6 +1,6 @@
 -- Each step pays for what it closes, as those count it who wait on a closed channel: it is open, or a call is to tell their list.
 use Rattle.std.proofs.Common.{◌≡◌, ℕ, ◌+◌, ◌-◌, ◌≤◌, Bool, true, false, if◌then◌else◌, List, Option, None, Some, Ok, Err, ◌⊎◌, inl, inr, refl, sym, ap, ◌∙◌, subst, arith}
-use Rattle.channel_laws.proofs.Words.{Queue, Phase, trying, appended, taken, marked, is_displaced, IsOpen, IsShut, ContinuesPush, ContinuesPop, ContinuesBy, AnswersPush, AnswersPop, AnswersTo, QueueAsk, QueueMark, Nothing, QueueReply, Key, answered_next, polled_next, Channel, Effect, queued, tells_all, Turned, Moves, told_all_next, ChannelAsk, Reply, Aim, Closer, Line, Sends, Receives, Streams, Closings, Stage, Trying, Working, Finished, Turn, Works, Work, TellSend, TellAll, Leave, TriesFor, StageAt, MarkedMoment, Open, Shut, Under, may_refuse_at, seen_after, AnswersShut, place, HasClosed, HasNoCauseToWait, HasToTell, LooksAgain, Waits, WaitApart}
+use Rattle.channel_laws.proofs.Words.{Queue, Phase, trying, appended, taken, marked, is_displaced, IsOpen, IsShut, ContinuesPush, ContinuesPop, ContinuesBy, AnswersPush, AnswersPop, AnswersTo, QueueAsk, QueueMark, Nothing, QueueReply, Key, answered_next, polled_next, Channel, Effect, queued, tells_all, Turned, Moves, told_all_next, ChannelAsk, Reply, Aim, Closer, Line, Sends, Receives, Streams, Closings, Stage, Trying, Working, Finished, Turn, Works, Work, TellSend, TellAll, Leave, TriesFor, StageAt, MarkedMoment, Open, Shut, ActiveCall, may_refuse_at, seen_after, AnswersShut, place, HasClosed, HasNoCauseToWait, HasToTell, LooksAgain, Waits, WaitApart}
 use Rattle.concurrent_queue.specs.Queue as queue
 use Rattle.concurrent_queue.specs.declared.call.QueueAsk.TheVariants as ask
 use Rattle.concurrent_queue.specs.declared.call.QueueMark.TheVariants.{Append, Take, Close}
@@ -160,7 +160,7 @@ module _ {T W : Type 0} (line : Line) where
   tell_counts x (Working (TellAll next closer)) h = omega (arith, h)
   tell_counts x at h = absurd h
 
-  abbrev pub TellsIt : Under T W → Type 0
+  abbrev pub TellsIt : ActiveCall T W → Type 0
   TellsIt u = HasClosed u.marks × HasToTell line u.at
 
   -- the channel is open, or so many closings have the list to tell

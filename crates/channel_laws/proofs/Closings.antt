@@ -1,6 +1,6 @@
 -- Those who wait on a closed channel, over runs.
 use Rattle.std.proofs.Common.{◌≡◌, ℕ, ◌≤◌, Bool, true, false, List, Option, ◌⊎◌, inl, inr, refl, sym, ◌∙◌}
-use Rattle.channel_laws.proofs.Words.{Key, Line, Sends, Receives, Streams, Closings, Open, Shut, Next, new_scene, Under, Scene, Known, Entry, Step, HasClosed, HasToTell, LooksAgain, ClosingIsOwed, PendingIsOwedTheClosing, AnswersClosed, ClosingSound, ClosingStaysOwed, EachRunOwesTheClosing, WaitApart, Any}
+use Rattle.channel_laws.proofs.Words.{Key, Line, Sends, Receives, Streams, Closings, Open, Shut, Next, new_configuration, ActiveCall, Configuration, Known, Entry, Step, HasClosed, HasToTell, LooksAgain, ClosingIsOwed, PendingIsOwedTheClosing, AnswersClosed, ClosingSound, ClosingStaysOwed, EachRunOwesTheClosing, WaitApart, Any}
 use Rattle.channel_steps.proofs.Interface.{known_next}
 use Rattle.channel_laws.proofs.AllOwed.{as_counts, as_calls}
 use Rattle.channel_laws.proofs.AnyFacts.{any_but}
@@ -11,7 +11,7 @@ use Rattle.channel_laws.proofs.Owed.{owed_next}
 use Rattle.channel_laws.proofs.RunFacts.{kept_long}
 
 module _ {T W : Type 0} where
-  module _ (line : Line) (s : Scene T W) (key : Key) where
+  module _ (line : Line) (s : Configuration T W) (key : Key) where
     abbrev IsAnswered : Type 0
     IsAnswered = Any (AnswersClosed line key) s.under_way
 
@@ -28,10 +28,10 @@ module _ {T W : Type 0} where
     but_shut shut (inr h) = h
 
   -- who is to tell all of a list has closed
-  tells_it : (line : Line) (s : Scene T W) (u : Under T W) → Known s.now u → 1 ≤ counts_for_closing line u.ask u.at → TellsIt line u
+  tells_it : (line : Line) (s : Configuration T W) (u : ActiveCall T W) → Known s.now u → 1 ≤ counts_for_closing line u.ask u.at → TellsIt line u
   tells_it line s u known h = let tells = counts_tell line u.ask u.at h in (told_has_closed line u.told u.at u.marks known.tells tells, tells)
 
-  pub sound_next : (s : Scene T W) (x : Step T W) (e : Entry T) (names : List W) (t : Scene T W) → Next s x e names t → ClosingSound s → ClosingSound t
+  pub sound_next : (s : Configuration T W) (x : Step T W) (e : Entry T) (names : List W) (t : Configuration T W) → Next s x e names t → ClosingSound s → ClosingSound t
   sound_next s x e names t n sound =
       let k = known_next s x e names t n sound.known sound.balanced in
       record {
@@ -45,17 +45,17 @@ module _ {T W : Type 0} where
       }
 
 module _ (T W : Type 0) where
-  pub new_apart : (cap : Option ℕ) (line : Line) → WaitApart line (let s : Scene T W = new_scene cap in s.now)
+  pub new_apart : (cap : Option ℕ) (line : Line) → WaitApart line (let s : Configuration T W = new_configuration cap in s.now)
   new_apart cap Sends = tt
   new_apart cap Receives = tt
   new_apart cap Streams = tt
   new_apart cap Closings = tt
 
 module _ {T W : Type 0} where
-  pub new_sound : (cap : Option ℕ) → ClosingSound (new_scene {T = T} {W = W} cap)
+  pub new_sound : (cap : Option ℕ) → ClosingSound (new_configuration {T = T} {W = W} cap)
   new_sound cap = record { known = tt; balanced = refl; apart = new_apart T W cap; owed = λ line key shut w. absurd cc }
 
-  pub pending_owed : (s : Scene T W) → ClosingIsOwed s → PendingIsOwedTheClosing s
+  pub pending_owed : (s : Configuration T W) → ClosingIsOwed s → PendingIsOwedTheClosing s
   pending_owed s owed line key shut w none =
       any_but (λ u. HasClosed u.marks × HasToTell line u.at) (λ u. LooksAgain line key u.at) s.under_way (owed line key shut w) none
 
@@ -64,4 +64,4 @@ module _ (T W : Type 0) where
   closing_stays_owed s t steps trace h run = kept_long ClosingSound sound_next s t steps trace h run
 
   pub nobody_misses_the_closing : EachRunOwesTheClosing T W
-  nobody_misses_the_closing cap t steps trace run = let h = closing_stays_owed (new_scene cap) t steps trace (new_sound cap) run in (h.owed, pending_owed t h.owed)
+  nobody_misses_the_closing cap t steps trace run = let h = closing_stays_owed (new_configuration cap) t steps trace (new_sound cap) run in (h.owed, pending_owed t h.owed)

@@ -1,6 +1,6 @@
 -- What is over stays over, over runs.
 use Rattle.std.proofs.Common.{◌≡◌, ℕ, List, [], ◌∷◌, ◌++◌, ◌⊎◌, inl, inr, refl, sym, ap, ◌∙◌, subst, append-nil}
-use Rattle.channel_laws.proofs.Words.{Queue, IsShut, IsDrained, Channel, ChannelAsk, Mark, Append, Take, TakeDisplaced, Replace, Close, Spent, Once, Under, Scene, Steps, does, gone_by, came_by, Next, IsRun, NextScene, Entry, Step, IsStill, GivesMessage, Replies, KnowsTheEnd, GetsNothing, StaysOver, EndIsForGood, EndIsKnown, NothingComesAfterTheEnd, StillDeeds}
+use Rattle.channel_laws.proofs.Words.{Queue, IsShut, IsDrained, Channel, ChannelAsk, Mark, Append, Take, TakeDisplaced, Replace, Close, Spent, Once, ActiveCall, Configuration, Steps, does, gone_by, came_by, Next, IsRun, NextConfiguration, Entry, Step, IsStill, GivesMessage, Replies, KnowsTheEnd, GetsNothing, StaysOver, EndIsForGood, EndIsKnown, NothingComesAfterTheEnd, StillDeeds}
 use Rattle.channel_steps.specs.declared.run.Step.TheVariants as step
 use Rattle.channel_laws.specs.Ends.{Each}
 use Rattle.channel_steps.proofs.Interface.{run_so}
@@ -32,13 +32,13 @@ module _ {T W : Type 0} where
 
   -- ---- one entry
 
-  pub record Rests (s : Scene T W) (e : Entry T) (t : Scene T W) : Type 0 where
+  pub record Rests (s : Configuration T W) (e : Entry T) (t : Configuration T W) : Type 0 where
     pub over : Spent t.now
     pub still : IsStill e.mark
     pub gone : t.gone ≡ s.gone
     pub came : t.came ≡ s.came
 
-  pub rests : (s : Scene T W) (x : Step T W) (e : Entry T) (names : List W) (t : Scene T W) → Spent s.now → Next s x e names t → Rests s e t
+  pub rests : (s : Configuration T W) (x : Step T W) (e : Entry T) (names : List W) (t : Configuration T W) → Spent s.now → Next s x e names t → Rests s e t
   rests s (step.Begin p ask) e names t over n =
       record {
         over = subst (λ (c : Channel T W). Spent c) (sym n.0.now) over;
@@ -57,17 +57,17 @@ module _ {T W : Type 0} where
 
   -- ---- what calls know of the end
 
-  abbrev pub Knows : Channel T W → Under T W → Type 0
+  abbrev pub Knows : Channel T W → ActiveCall T W → Type 0
   Knows now u = Once Spent u.seen → Spent now
 
   pub now_or_before : (now : Channel T W) (seen : List (Channel T W)) → (Once Spent seen → Spent now) → Spent now ⊎ Once Spent seen → Spent now
   now_or_before now seen f (inl h) = h
   now_or_before now seen f (inr h) = f h
 
-  pub over_after : (s : Scene T W) (x : Step T W) (e : Entry T) (names : List W) (t : Scene T W) → Next s x e names t → Spent s.now → Spent t.now
+  pub over_after : (s : Configuration T W) (x : Step T W) (e : Entry T) (names : List W) (t : Configuration T W) → Next s x e names t → Spent s.now → Spent t.now
   over_after s x e names t n over = let h = rests s x e names t over n in h.over
 
-  pub true_next : (s : Scene T W) (x : Step T W) (e : Entry T) (names : List W) (t : Scene T W) → Next s x e names t → KnowsTheEnd s → KnowsTheEnd t
+  pub true_next : (s : Configuration T W) (x : Step T W) (e : Entry T) (names : List W) (t : Configuration T W) → Next s x e names t → KnowsTheEnd s → KnowsTheEnd t
   true_next s (step.Begin p ask) e names t n h =
       let b = n.0 in
       each_begins (Knows s.now) (Knows t.now) s t p ask e b
@@ -82,42 +82,42 @@ module _ {T W : Type 0} where
 
   -- ---- a party that was idle when it was over
 
-  abbrev Silent : ℕ → Under T W → Type 0
+  abbrev Silent : ℕ → ActiveCall T W → Type 0
   Silent q u = u.party ≡ q → StillDeeds u.marks
 
-  silent_next : (q : ℕ) (s : Scene T W) (x : Step T W) (e : Entry T) (names : List W) (t : Scene T W) → Next s x e names t → IsStill e.mark → Each (Silent q) s.under_way → Each (Silent q) t.under_way
+  silent_next : (q : ℕ) (s : Configuration T W) (x : Step T W) (e : Entry T) (names : List W) (t : Configuration T W) → Next s x e names t → IsStill e.mark → Each (Silent q) s.under_way → Each (Silent q) t.under_way
   silent_next q s (step.Begin p ask) e names t n still h =
       each_begins (Silent q) (Silent q) s t p ask e n.0 (λ u k. k) (λ same. tt) h
   silent_next q s (step.Step p) e names t n still h =
       each_steps (Silent q) (Silent q) s t p e names n (λ u k. k) (λ k same. with_still n.mine.marks e.mark s.now n.mine.seen (k same) still) h
 
-  gives_none : (q : ℕ) (s : Scene T W) (p : ℕ) (e : Entry T) (names : List W) (t : Scene T W) → Steps s p e names t → IsStill e.mark → Each (Silent q) s.under_way → p ≡ q → Replies GivesMessage e.reply → ⊥
+  gives_none : (q : ℕ) (s : Configuration T W) (p : ℕ) (e : Entry T) (names : List W) (t : Configuration T W) → Steps s p e names t → IsStill e.mark → Each (Silent q) s.under_way → p ≡ q → Replies GivesMessage e.reply → ⊥
   gives_none q s p e names t st still h same g =
       let k = of_mine (Silent q) s t p e names st h in
       finish_gives (does st.mine st.at_now e.mark s.now t.now) e.reply e.kept st.finishes (with_still st.mine.marks e.mark s.now st.mine.seen (k (st.whose ∙ same)) still) g
 
-  pub silent_from : (q : ℕ) (us : List (Under T W)) → Each (λ u. u.party ≡ q → ⊥) us → Each (Silent q) us
+  pub silent_from : (q : ℕ) (us : List (ActiveCall T W)) → Each (λ u. u.party ≡ q → ⊥) us → Each (Silent q) us
   silent_from q [] h = tt
   silent_from q (u ∷ us) h = (λ same. absurd (h.0 same), silent_from q us h.1)
 
   -- ---- runs
 
-  rests_long : (s t : Scene T W) (xs : List (Step T W)) (es : List (Entry T)) → Spent s.now → IsRun NextScene s xs es t → StaysOver s es t
+  rests_long : (s t : Configuration T W) (xs : List (Step T W)) (es : List (Entry T)) → Spent s.now → IsRun NextConfiguration s xs es t → StaysOver s es t
   rests_long s t xs es over run =
-      run_so NextScene (λ a xs es b. Spent a.now → StaysOver a es b) (λ a h. record { over = h; still = tt; gone = refl; came = refl })
+      run_so NextConfiguration (λ a xs es b. Spent a.now → StaysOver a es b) (λ a h. record { over = h; still = tt; gone = refl; came = refl })
       (λ a x e b xs es c n rest h.
       let first = rests a x e n.0 b h n.1 in
       let k = rest first.over in
       record { over = k.over; still = (first.still, k.still); gone = k.gone ∙ first.gone; came = k.came ∙ first.came })
       s xs es t run over
 
-  pub silent_long : (q : ℕ) (s t : Scene T W) (xs : List (Step T W)) (es : List (Entry T)) → Spent s.now → Each (Silent q) s.under_way
-      → IsRun NextScene s xs es t → GetsNothing q xs es
+  pub silent_long : (q : ℕ) (s t : Configuration T W) (xs : List (Step T W)) (es : List (Entry T)) → Spent s.now → Each (Silent q) s.under_way
+      → IsRun NextConfiguration s xs es t → GetsNothing q xs es
   silent_long q s t xs es over h run =
-      run_so NextScene (λ a xs es b. Spent a.now → Each (Silent q) a.under_way → GetsNothing q xs es) (λ a o k. tt) one s xs es t run over h
+      run_so NextConfiguration (λ a xs es b. Spent a.now → Each (Silent q) a.under_way → GetsNothing q xs es) (λ a o k. tt) one s xs es t run over h
     where
-      one : (a : Scene T W) (x : Step T W) (e : Entry T) (b : Scene T W) (xs : List (Step T W)) (es : List (Entry T)) (c : Scene T W)
-          → NextScene a x e b → (Spent b.now → Each (Silent q) b.under_way → GetsNothing q xs es)
+      one : (a : Configuration T W) (x : Step T W) (e : Entry T) (b : Configuration T W) (xs : List (Step T W)) (es : List (Entry T)) (c : Configuration T W)
+          → NextConfiguration a x e b → (Spent b.now → Each (Silent q) b.under_way → GetsNothing q xs es)
           → Spent a.now → Each (Silent q) a.under_way → GetsNothing q (x ∷ xs) (e ∷ es)
       one a (step.Begin p ask) e b xs es c n rest o k =
           let r = rests a (step.Begin p ask) e n.0 b o n.1 in rest r.over (silent_next q a (step.Begin p ask) e n.0 b n.1 r.still k)

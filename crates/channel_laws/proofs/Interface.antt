@@ -1,7 +1,7 @@
 -- What a layer above may use: whoever waits in a channel that was just opened is answered for, and stays so over every entry
 -- of a run; and what is over stays over.
 use Rattle.std.proofs.Common.{ℕ, List, Option}
-use Rattle.channel_laws.proofs.Words.{Next, new_scene, Shut, Spent, Scene, Steps, Entry, Step, IsStill, GivesMessage, SaysTheEnd, Replies, AllSpent, AllSound}
+use Rattle.channel_laws.proofs.Words.{Next, new_configuration, Shut, Spent, Configuration, Steps, Entry, Step, IsStill, GivesMessage, SaysTheEnd, Replies, AllSpent, WakeInvariant}
 use Rattle.channel_laws.proofs.Closed.{next_keeps}
 use Rattle.channel_laws.proofs.Closings as closings
 use Rattle.channel_laws.proofs.Notices.{tellings_new}
@@ -12,7 +12,7 @@ use Rattle.channel_laws.proofs.Streams as streams
 use Rattle.channel_laws.proofs.Unlisted.{unlisted_new, unlisted_next}
 
 module _ {T W : Type 0} where
-  pub all_sound_new : (cap : Option ℕ) → AllSound (new_scene {T = T} {W = W} cap)
+  pub all_sound_new : (cap : Option ℕ) → WakeInvariant (new_configuration {T = T} {W = W} cap)
   all_sound_new cap =
       record {
         streams = streams.new_sound cap;
@@ -24,8 +24,8 @@ module _ {T W : Type 0} where
         unlisted = unlisted_new cap;
       }
 
-  pub all_sound_next : (s : Scene T W) (x : Step T W) (e : Entry T) (names : List W) (t : Scene T W) → AllSound s
-      → Next s x e names t → AllSound t
+  pub all_sound_next : (s : Configuration T W) (x : Step T W) (e : Entry T) (names : List W) (t : Configuration T W) → WakeInvariant s
+      → Next s x e names t → WakeInvariant t
   all_sound_next s x e names t sound n =
       let receives = receives_next s x e names t n sound.receives in
       record {
@@ -39,21 +39,21 @@ module _ {T W : Type 0} where
       }
 
   -- what is over stays so, and nothing comes or leaves
-  pub stays_over : (s : Scene T W) (x : Step T W) (e : Entry T) (names : List W) (t : Scene T W) → Next s x e names t → Spent s.now
+  pub stays_over : (s : Configuration T W) (x : Step T W) (e : Entry T) (names : List W) (t : Configuration T W) → Next s x e names t → Spent s.now
       → Spent t.now × IsStill e.mark
   stays_over s x e names t n h = over.stays_over s x e names t n h
 
   -- what is closed stays closed
-  pub stays_closed : (s : Scene T W) (x : Step T W) (e : Entry T) (names : List W) (t : Scene T W) → Next s x e names t → Shut s.now
+  pub stays_closed : (s : Configuration T W) (x : Step T W) (e : Entry T) (names : List W) (t : Configuration T W) → Next s x e names t → Shut s.now
       → Shut t.now
   stays_closed s x e names t n shut = let h = next_keeps s x e names t n shut in h.0
 
   -- a reply that says the end found the channel over
-  pub says_over : (s : Scene T W) (p : ℕ) (e : Entry T) (names : List W) (t : Scene T W) (st : Steps s p e names t) → AllSound s
+  pub says_over : (s : Configuration T W) (p : ℕ) (e : Entry T) (names : List W) (t : Configuration T W) (st : Steps s p e names t) → WakeInvariant s
       → Replies SaysTheEnd e.reply → Spent t.now
   says_over s p e names t st sound end = over.says_over s p e names t st sound.ends end
 
   -- a call that saw nothing else gives no message
-  pub late_gives : (s : Scene T W) (p : ℕ) (e : Entry T) (names : List W) (t : Scene T W) (st : Steps s p e names t) → AllSound s
+  pub late_gives : (s : Configuration T W) (p : ℕ) (e : Entry T) (names : List W) (t : Configuration T W) (st : Steps s p e names t) → WakeInvariant s
       → AllSpent st.mine.seen → Replies GivesMessage e.reply → ⊥
   late_gives s p e names t st sound all g = over.late_gives s p e names t st sound.streams.known sound.ends all g

@@ -1,6 +1,6 @@
 -- What a step does to those who wait on a list.
 use Rattle.std.proofs.Common.{◌≡◌, List, Option, None, Some, ◌⊎◌, inl, inr, sym, subst}
-use Rattle.channel_laws.proofs.Words.{Phase, listened, Key, Channel, Effect, queued, Turned, Moves, Listeners, listeners, line_of, again, Reply, Line, Stage, Trying, Working, Finished, Waiting, Work, TellReceive, TellStreams, TellSend, TellSends, TellAll, Insert, Register, Leave, Next, Scene, Entry, Step, IsIn, Apart, Waits, WaitApart}
+use Rattle.channel_laws.proofs.Words.{Phase, listened, Key, Channel, Effect, queued, Turned, Moves, Listeners, listeners, line_of, again, Reply, Line, Stage, Trying, Working, Finished, Waiting, Work, TellReceive, TellStreams, TellSend, TellSends, TellAll, Insert, Register, Leave, Next, Configuration, Entry, Step, IsIn, Apart, Waits, WaitApart}
 use Rattle.channel_steps.specs.declared.run.Step.TheVariants as step
 use Rattle.channel_laws.proofs.Sections.{Touched, Section, section}
 use Rattle.channel_laws.proofs.ListFacts.{Thinner, thin_same, thin_told_one, thin_told_more, thin_told_all, thin_registration, thin_removed, newcomer, in_more, apart_more}
@@ -72,7 +72,7 @@ module _ {T W : Type 0} where
         subst (λ (l : Listeners W). Apart l.waiting) (sym there) (apart_more (key', None) (listeners line c.roster).waiting new apart)
 
   -- nobody stands twice on a list after one entry of a run
-  pub apart_next : (line : Line) (s : Scene T W) (x : Step T W) (e : Entry T) (names : List W) (t : Scene T W) → Next s x e names t → WaitApart line s.now → WaitApart line t.now
+  pub apart_next : (line : Line) (s : Configuration T W) (x : Step T W) (e : Entry T) (names : List W) (t : Configuration T W) → Next s x e names t → WaitApart line s.now → WaitApart line t.now
   apart_next line s (step.Begin p ask) e names t n apart = let b = n.0 in subst (λ (c : Channel T W). WaitApart line c) (sym b.now) apart
   apart_next line s (step.Step p) e names t st apart =
       let now : Effect T W = record { channel = t.now; mark = e.mark; woken = names } in

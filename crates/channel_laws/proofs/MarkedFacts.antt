@@ -1,7 +1,7 @@
 -- What a step does to the plain channel.
 use Rattle.std.proofs.Common.{arith, ◌≡◌, ℕ, ◌+◌, ◌-◌, ◌^◌, ◌==◌, ◌&&◌, nat_lt, Bool, true, false, if◌then◌else◌, take, drop, List, [], ◌∷◌, ◌++◌, None, Some, Option, inl, inr, refl, sym, ap, ◌∙◌, subst, append-nil, append_assoc}
 use Rattle.std.proofs.lemmas.Bool.Decides.{nat_tests}
-use Rattle.channel_laws.proofs.Words.{Phase, message, QueueMark, listened, registration, removed, removed_wakes, Key, up, Effect, queued, untouched, on_line, tells_one, tells_more, tells_all, listens, registers, leaves, lowers, Worked, Moves, Listeners, listeners, count, is_raised, told_one, told_one_wakes, told_more, told_more_wakes, told_all, told_all_wakes, line_of, ChannelAsk, Mark, Append, Take, TakeDisplaced, Replace, Close, SenderUp, SenderDown, ReceiverUp, ReceiverDown, Reply, Held, Line, Sends, Receives, Streams, Closings, Side, Senders, Receivers, Stage, Trying, Working, Finished, Waiting, Work, TellReceive, TellStreams, TellSend, TellSends, TellAll, Insert, Register, Leave, Lower, Raise, Scene, Steps, brought, gone_by, came_by, Entry, Inserts, ModelChannel, plain, brought_by, AddUp}
+use Rattle.channel_laws.proofs.Words.{Phase, message, QueueMark, listened, registration, removed, removed_wakes, Key, up, Effect, queued, untouched, on_line, tells_one, tells_more, tells_all, listens, registers, leaves, lowers, Worked, Moves, Listeners, listeners, count, is_raised, told_one, told_one_wakes, told_more, told_more_wakes, told_all, told_all_wakes, line_of, ChannelAsk, Mark, Append, Take, TakeDisplaced, Replace, Close, SenderUp, SenderDown, ReceiverUp, ReceiverDown, Reply, Held, Line, Sends, Receives, Streams, Closings, Side, Senders, Receivers, Stage, Trying, Working, Finished, Waiting, Work, TellReceive, TellStreams, TellSend, TellSends, TellAll, Insert, Register, Leave, Lower, Raise, Configuration, Steps, brought, gone_by, came_by, Entry, Inserts, ModelChannel, plain, brought_by, AddUp}
 use Rattle.concurrent_queue.specs.declared.call.QueueMark.TheVariants as queue
 use Rattle.channel_calls.specs.Moves as moves
 use Rattle.channel_calls.specs.declared.mark.Mark.TheVariants.{Nothing}
@@ -127,7 +127,7 @@ module _ {T W : Type 0} where
   messages_are w a c ys e = e ∙ append-nil c.messages
 
   -- a step does to the plain channel what its mark says
-  pub step_marked : (s : Scene T W) (p : ℕ) (e : Entry T) (names : List W) (t : Scene T W) (st : Steps s p e names t)
+  pub step_marked : (s : Configuration T W) (p : ℕ) (e : Entry T) (names : List W) (t : Configuration T W) (st : Steps s p e names t)
       → plain t.now ≡ marked e.mark (brought st.mine.ask) (plain s.now)
   step_marked s p e names t st =
       let x : Effect T W = record { channel = t.now; mark = e.mark; woken = names } in
@@ -152,10 +152,10 @@ module _ {T W : Type 0} where
 
   -- ---- accounts
 
-  pub none_adds : (s : Scene T W) → AddUp s [] [] s
+  pub none_adds : (s : Configuration T W) → AddUp s [] [] s
   none_adds s = record { held = sym (append-nil s.now.queue.items); gone = sym (append-nil s.gone); came = sym (append-nil s.came) }
 
-  pub both_add : (s m t : Scene T W) (out into more_out more_into : List T) → AddUp s out into m → AddUp m more_out more_into t
+  pub both_add : (s m t : Configuration T W) (out into more_out more_into : List T) → AddUp s out into m → AddUp m more_out more_into t
       → AddUp s (out ++ more_out) (into ++ more_into) t
   both_add s m t out into more_out more_into h k = record {
     held = append_assoc out more_out t.now.queue.items

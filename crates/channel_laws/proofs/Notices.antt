@@ -1,6 +1,6 @@
 -- How those who were told were told, over runs.
 use Rattle.std.proofs.Common.{◌≡◌, ℕ, Bool, true, false, List, Option, ◌⊎◌, inl, inr, refl, sym, ◌∙◌, subst}
-use Rattle.channel_laws.proofs.Words.{Phase, Key, Channel, Effect, tells_all, Moves, ChannelAsk, Reply, Line, Sends, Receives, Streams, Closings, Stage, Working, TellReceive, TellStreams, TellSend, TellSends, TellAll, ToldAt, MarkedMoment, Open, Shut, Scene, Steps, Known, Telling, Next, Begins, new_scene, Entry, Step, HasClosed, LooksAgain, MayBeTold, IsOneByOne, EachTold, AnyTold, told_of, TellingsSound, TellingsStayFit, TellingsAlwaysFit, Waits, Any}
+use Rattle.channel_laws.proofs.Words.{Phase, Key, Channel, Effect, tells_all, Moves, ChannelAsk, Reply, Line, Sends, Receives, Streams, Closings, Stage, Working, TellReceive, TellStreams, TellSend, TellSends, TellAll, ToldAt, MarkedMoment, Open, Shut, Configuration, Steps, Known, Telling, Next, Begins, new_configuration, Entry, Step, HasClosed, LooksAgain, MayBeTold, IsOneByOne, EachTold, AnyTold, told_of, TellingsSound, TellingsStayFit, TellingsAlwaysFit, Waits, Any}
 use Rattle.channel_calls.specs.declared.mark.Mark.TheVariants as mark
 use Rattle.channel_steps.specs.declared.run.Step.TheVariants as step
 use Rattle.channel_steps.proofs.Interface.{known_next}
@@ -52,7 +52,7 @@ module _ {T W : Type 0} where
 
   -- ---- one step
 
-  module _ (s t : Scene T W) (p : ℕ) (e : Entry T) (names : List W) (st : Steps s p e names t) (sound : TellingsSound s) where
+  module _ (s t : Configuration T W) (p : ℕ) (e : Entry T) (names : List W) (st : Steps s p e names t) (sound : TellingsSound s) where
     abbrev effect : Effect T W
     effect = record { channel = t.now; mark = e.mark; woken = names }
 
@@ -117,7 +117,7 @@ module _ {T W : Type 0} where
             looks_or_new before (waited line s.now effect e.reply st.at_now key
             (moved_lists line s.now st.mine.at effect e.reply st.at_now st.moves) w)
 
-      abbrev ClosedThen : Scene T W → Type 0
+      abbrev ClosedThen : Configuration T W → Type 0
       ClosedThen z = Shut z.now × ((key : Key) → Waits line key z.now → Any (λ u. LooksAgain line key u.at) z.under_way)
 
       default_then : IsOneByOne line → ClosedThen s ⊎ Tells line false st.mine.at → ClosedThen t
@@ -139,7 +139,7 @@ module _ {T W : Type 0} where
 
   -- ---- a call that begins
 
-  module _ (s t : Scene T W) (p : ℕ) (ask : ChannelAsk T W) (e : Entry T) (b : Begins s p ask e t) (sound : TellingsSound s) where
+  module _ (s t : Configuration T W) (p : ℕ) (ask : ChannelAsk T W) (e : Entry T) (b : Begins s p ask e t) (sound : TellingsSound s) where
     begun_default : (line : Line) → IsOneByOne line → AnyTold false (told_of line t.now)
         → Shut t.now × ((key : Key) → Waits line key t.now → Any (λ u. LooksAgain line key u.at) t.under_way)
     begun_default line one h =
@@ -159,7 +159,7 @@ module _ {T W : Type 0} where
         each_begins (λ u. HasClosed u.marks → Shut s.now) (λ u. HasClosed u.marks → Shut t.now) s t p ask e b
         (λ u f h. subst (λ (c : Channel T W). Shut c) (sym b.now) (f h)) (λ h. absurd h) sound.closers
 
-  pub tellings_next : (s : Scene T W) (x : Step T W) (e : Entry T) (names : List W) (t : Scene T W) → Next s x e names t
+  pub tellings_next : (s : Configuration T W) (x : Step T W) (e : Entry T) (names : List W) (t : Configuration T W) → Next s x e names t
       → TellingsSound s → TellingsSound t
   tellings_next s (step.Begin p ask) e names t n sound =
       let k = known_next s (step.Begin p ask) e names t n sound.known sound.balanced in
@@ -185,20 +185,20 @@ module _ {T W : Type 0} where
 
 module _ (T W : Type 0) where
   new_open : (cap : Option ℕ) (line : Line)
-      → EachTold (MayBeTold line) (told_of line (let s : Scene T W = new_scene cap in s.now))
+      → EachTold (MayBeTold line) (told_of line (let s : Configuration T W = new_configuration cap in s.now))
   new_open cap Sends = tt
   new_open cap Receives = tt
   new_open cap Streams = tt
   new_open cap Closings = tt
 
-  new_default : (cap : Option ℕ) (line : Line) → AnyTold false (told_of line (let s : Scene T W = new_scene cap in s.now)) → ⊥
+  new_default : (cap : Option ℕ) (line : Line) → AnyTold false (told_of line (let s : Configuration T W = new_configuration cap in s.now)) → ⊥
   new_default cap Sends h = h
   new_default cap Receives h = h
   new_default cap Streams h = h
   new_default cap Closings h = h
 
 module _ {T W : Type 0} where
-  pub tellings_new : (cap : Option ℕ) → TellingsSound (new_scene {T = T} {W = W} cap)
+  pub tellings_new : (cap : Option ℕ) → TellingsSound (new_configuration {T = T} {W = W} cap)
   tellings_new cap =
       record {
         known = tt;
@@ -218,4 +218,4 @@ module _ (T W : Type 0) where
   tellings_stay_fit s t steps trace h run = kept_long TellingsSound tellings_next s t steps trace h run
 
   pub tellings_always_fit : TellingsAlwaysFit T W
-  tellings_always_fit cap t steps trace run = let h = tellings_stay_fit (new_scene cap) t steps trace (tellings_new cap) run in h.fit
+  tellings_always_fit cap t steps trace run = let h = tellings_stay_fit (new_configuration cap) t steps trace (tellings_new cap) run in h.fit

@@ -1,16 +1,16 @@
 -- What calls know of the end, over a step.
 use Rattle.std.proofs.Common.{ℕ, List, Option, subst}
-use Rattle.channel_laws.proofs.Words.{Channel, Spent, Next, new_scene, Scene, Steps, Known, AllKnown, does, Entry, Step, IsStill, GivesMessage, SaysTheEnd, Replies, AllSpent, IsLate, EndSound}
+use Rattle.channel_laws.proofs.Words.{Channel, Spent, Next, new_configuration, Configuration, Steps, Known, AllKnown, does, Entry, Step, IsStill, GivesMessage, SaysTheEnd, Replies, AllSpent, IsLate, EndSound}
 use Rattle.channel_steps.specs.declared.run.Step.TheVariants as step
 use Rattle.channel_laws.proofs.EachFacts.{of_mine, each_steps, each_begins, each_known}
 use Rattle.channel_laws.proofs.Ends.{Knows, rests, true_next, over_after, now_or_before}
 use Rattle.channel_laws.proofs.ReplyFacts.{with_still, finish_gives, finish_ends}
 
 module _ {T W : Type 0} where
-  pub end_new : (cap : Option ℕ) → EndSound (new_scene {T = T} {W = W} cap)
+  pub end_new : (cap : Option ℕ) → EndSound (new_configuration {T = T} {W = W} cap)
   end_new cap = record { knows = tt; late = tt }
 
-  module _ (s : Scene T W) (p : ℕ) (e : Entry T) (names : List W) (t : Scene T W) (st : Steps s p e names t) where
+  module _ (s : Configuration T W) (p : ℕ) (e : Entry T) (names : List W) (t : Configuration T W) (st : Steps s p e names t) where
     -- where its call saw nothing but the end, the step is still
     still : AllKnown s.now s.under_way → AllSpent st.mine.seen → IsStill e.mark
     still known all =
@@ -34,11 +34,11 @@ module _ {T W : Type 0} where
         now_or_before t.now st.mine.seen (λ o. over_after s (step.Step p) e names t st (mine o)) once
 
   -- what is over stays so, and nothing comes or leaves
-  pub stays_over : (s : Scene T W) (x : Step T W) (e : Entry T) (names : List W) (t : Scene T W) → Next s x e names t → Spent s.now
+  pub stays_over : (s : Configuration T W) (x : Step T W) (e : Entry T) (names : List W) (t : Configuration T W) → Next s x e names t → Spent s.now
       → Spent t.now × IsStill e.mark
   stays_over s x e names t n over = let r = rests s x e names t over n in (r.over, r.still)
 
-  pub end_next : (s : Scene T W) (x : Step T W) (e : Entry T) (names : List W) (t : Scene T W) → Next s x e names t
+  pub end_next : (s : Configuration T W) (x : Step T W) (e : Entry T) (names : List W) (t : Configuration T W) → Next s x e names t
       → AllKnown s.now s.under_way → EndSound s → EndSound t
   end_next s (step.Begin p ask) e names t n known h = record {
     knows = true_next s (step.Begin p ask) e names t n h.knows;

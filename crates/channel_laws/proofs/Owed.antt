@@ -1,7 +1,7 @@
 -- Who waits on a list, over one step of a run: one law, for whatever list, whatever is enough for those who wait on it, and whatever
 -- the calls under way count for.
 use Rattle.std.proofs.Common.{◌≡◌, ℕ, ◌+◌, ◌≤◌, List, Option, None, ◌⊎◌, inl, inr, sym, subst}
-use Rattle.channel_laws.proofs.Words.{Phase, Key, Channel, Effect, Moves, ChannelAsk, Reply, Line, Stage, StageAt, MarkedMoment, Next, Begins, Scene, Steps, Known, AllKnown, Entry, Step, total, AreOwed, PendingAreOwed, Waits, WaitApart, Any}
+use Rattle.channel_laws.proofs.Words.{Phase, Key, Channel, Effect, Moves, ChannelAsk, Reply, Line, Stage, StageAt, MarkedMoment, Next, Begins, Configuration, Steps, Known, AllKnown, Entry, Step, total, AreOwed, PendingAreOwed, Waits, WaitApart, Any}
 use Rattle.channel_steps.specs.declared.run.Step.TheVariants as step
 use Rattle.channel_laws.proofs.AnyFacts.{any_none, any_mine, any_steps, any_begins}
 use Rattle.channel_laws.proofs.EachFacts.{of_mine, each_known}
@@ -39,11 +39,11 @@ module _ {T W : Type 0} (line : Line) (Enough : Channel T W → ℕ → Type 0) 
     pub pays : OfStep (λ c x at e r s key. Pays c x at e r s ⊎ Defaulted c)
 
   -- where one was told by the default whoever waits is in hand
-  abbrev pub AreHeldIf : Scene T W → Type 0
+  abbrev pub AreHeldIf : Configuration T W → Type 0
   AreHeldIf s = Defaulted s.now → (key : Key) → Waits line key s.now → Any (λ u. Holds key u.at) s.under_way
 
   module _ (ledger : Ledger) where
-    module _ (s t : Scene T W) (p : ℕ) (e : Entry T) (names : List W) (st : Steps s p e names t) (known : AllKnown s.now s.under_way) (apart : WaitApart line s.now) (held_if : AreHeldIf s) where
+    module _ (s t : Configuration T W) (p : ℕ) (e : Entry T) (names : List W) (st : Steps s p e names t) (known : AllKnown s.now s.under_way) (apart : WaitApart line s.now) (held_if : AreHeldIf s) where
       abbrev effect : Effect T W
       effect = record { channel = t.now; mark = e.mark; woken = names }
 
@@ -94,7 +94,7 @@ module _ {T W : Type 0} (line : Line) (Enough : Channel T W → ℕ → Type 0) 
             waited_or_new owed (waited line s.now effect e.reply st.at_now key
             (moved_lists line s.now st.mine.at effect e.reply st.at_now st.moves) w)
 
-    begun_owed : (s t : Scene T W) (p : ℕ) (ask : ChannelAsk T W) (e : Entry T) (b : Begins s p ask e t) (key : Key)
+    begun_owed : (s t : Configuration T W) (p : ℕ) (ask : ChannelAsk T W) (e : Entry T) (b : Begins s p ask e t) (key : Key)
         → Enough s.now (total weigh s.under_way) ⊎ Any (λ u. Holds key u.at) s.under_way
         → Enough t.now (total weigh t.under_way) ⊎ Any (λ u. Holds key u.at) t.under_way
     begun_owed s t p ask e b key (inl h) =
@@ -103,13 +103,13 @@ module _ {T W : Type 0} (line : Line) (Enough : Channel T W → ℕ → Type 0) 
     begun_owed s t p ask e b key (inr h) = inr (any_begins (λ u. Holds key u.at) s t p ask e b h)
 
     -- one entry of a run
-    pub owed_next : (s : Scene T W) (x : Step T W) (e : Entry T) (names : List W) (t : Scene T W) → Next s x e names t
+    pub owed_next : (s : Configuration T W) (x : Step T W) (e : Entry T) (names : List W) (t : Configuration T W) → Next s x e names t
         → AllKnown s.now s.under_way → WaitApart line s.now → AreHeldIf s → AreOwed line Enough weigh Holds s → AreOwed line Enough weigh Holds t
     owed_next s (step.Begin p ask) e names t n known apart held_if owed key w =
         let b = n.0 in begun_owed s t p ask e b key (owed key (subst (λ (c : Channel T W). Waits line key c) b.now w))
     owed_next s (step.Step p) e names t n known apart held_if owed key w = owed_after s t p e names n known apart held_if key w owed
 
-  pub pending_owed : (s : Scene T W) → AreOwed line Enough weigh Holds s → PendingAreOwed line Enough weigh Holds s
+  pub pending_owed : (s : Configuration T W) → AreOwed line Enough weigh Holds s → PendingAreOwed line Enough weigh Holds s
   pending_owed s owed key w none = or_none (owed key w)
     where
       or_none : Enough s.now (total weigh s.under_way) ⊎ Any (λ u. Holds key u.at) s.under_way → Enough s.now (total weigh s.under_way)

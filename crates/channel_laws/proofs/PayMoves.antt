@@ -1,6 +1,6 @@
 -- On a list that is told one at a time, a step on lists pays: as many more are told as the call counts for less.
 use Rattle.std.proofs.Common.{◌≡◌, ℕ, ◌+◌, ◌≤◌, false, Option, None, ◌⊎◌, inl, inr, refl, arith, List, length}
-use Rattle.channel_laws.proofs.Words.{Phase, Key, Channel, Effect, Worked, line_of, again, ChannelAsk, Reply, Line, Stage, Working, Waiting, Work, Register, IsFor, WorkAt, MarkedMoment, Next, Scene, Entry, Step, HoldsListener, AreOwed, LooksAgain, IsOneByOne, AnyTold, told_of, TellingsSound, Waits, Any}
+use Rattle.channel_laws.proofs.Words.{Phase, Key, Channel, Effect, Worked, line_of, again, ChannelAsk, Reply, Line, Stage, Working, Waiting, Work, Register, IsFor, WorkAt, MarkedMoment, Next, Configuration, Entry, Step, HoldsListener, AreOwed, LooksAgain, IsOneByOne, AnyTold, told_of, TellingsSound, Waits, Any}
 use Rattle.channel_laws.proofs.AnyFacts.{any_weaker}
 use Rattle.channel_laws.proofs.HandMoves.{HasCause, HoldsOrWaits, looks_holds, holds_on, newcomer_holds}
 use Rattle.channel_laws.proofs.NumberMoves.{weigh_turn, turned_weighs}
@@ -69,7 +69,7 @@ module _ {T W : Type 0} (line : Line) (one : IsOneByOne line) (Enough : Channel 
         }
 
   -- one entry of a run: where one was told by the default, whoever waits is in hand
-  pub one_next : Ledger line Enough weigh (HoldsListener line) OneByDefault → (s : Scene T W) (x : Step T W) (e : Entry T) (names : List W) (t : Scene T W) → Next s x e names t → TellingsSound s
+  pub one_next : Ledger line Enough weigh (HoldsListener line) OneByDefault → (s : Configuration T W) (x : Step T W) (e : Entry T) (names : List W) (t : Configuration T W) → Next s x e names t → TellingsSound s
       → AreOwed line Enough weigh (HoldsListener line) s → AreOwed line Enough weigh (HoldsListener line) t
   one_next ledger s x e names t n sound owed =
       owed_next line Enough weigh (HoldsListener line) OneByDefault ledger s x e names t n sound.known (sound.apart line) held_if owed

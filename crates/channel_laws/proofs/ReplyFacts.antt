@@ -1,6 +1,6 @@
 -- What a reply that says the end, and one that gives a message, say of their call.
 use Rattle.std.proofs.Common.{◌≡◌, List, [], ◌∷◌, ◌++◌, length, Option, None, Some, Ok, Err, ◌⊎◌, inl, inr, sym, subst}
-use Rattle.channel_laws.proofs.Words.{is_filled, Ready, Channel, count, ChannelAsk, Mark, Append, Take, Replace, SenderUp, SenderDown, ReceiverUp, ReceiverDown, Reply, Kept, Line, Sends, Receives, Streams, Closings, MarkedMoment, with_marked, Spent, Once, Took, TookAll, Replaced, Displaced, Row, Under, MayFinish, refused_reply, TrySend, ForceSend, TryRecv, RecvMany, PollSend, PollRecv, PollClosed, PollNext, RefusePoll, CloneHandle, Upgrade, HandleCount, IsClosed, IsEmpty, IsFull, Len, Capacity, IsTerminated, RecvError, TrySendRow, ForceSendRow, TryRecvRow, SeveralRow, SendPollRow, RecvPollRow, ClosedPollRow, NextRow, CloseRow, CloneRow, UpgradeRow, FlagRow, CountRow, CapacityRow, TerminatedRow, is_empty, StillDeeds, IsStill, SaysTheEnd, GivesMessage, Replies}
+use Rattle.channel_laws.proofs.Words.{is_filled, Ready, Channel, count, ChannelAsk, Mark, Append, Take, Replace, SenderUp, SenderDown, ReceiverUp, ReceiverDown, Reply, Kept, Line, Sends, Receives, Streams, Closings, MarkedMoment, with_marked, Spent, Once, Took, TookAll, Replaced, Displaced, Row, ActiveCall, MayFinish, refused_reply, TrySend, ForceSend, TryRecv, RecvMany, PollSend, PollRecv, PollClosed, PollNext, RefusePoll, CloneHandle, Upgrade, HandleCount, IsClosed, IsEmpty, IsFull, Len, Capacity, IsTerminated, RecvError, TrySendRow, ForceSendRow, TryRecvRow, SeveralRow, SendPollRow, RecvPollRow, ClosedPollRow, NextRow, CloseRow, CloneRow, UpgradeRow, FlagRow, CountRow, CapacityRow, TerminatedRow, is_empty, StillDeeds, IsStill, SaysTheEnd, GivesMessage, Replies}
 use Rattle.event_listener.specs.declared.error.ListenError.TheVariants as listen_error
 use Rattle.channel_calls.specs.declared.ask.ChannelAsk.TheVariants.{Close}
 use Rattle.channel_calls.specs.declared.error.Refused.TheVariants as refused
@@ -150,11 +150,11 @@ module _ {T W : Type 0} where
 
   -- ---- a call that ends
 
-  pub finish_gives : (u : Under T W) (r : Option (Reply T)) (left : Option (Kept T)) → MayFinish u r left → StillDeeds u.marks → Replies GivesMessage r → ⊥
+  pub finish_gives : (u : ActiveCall T W) (r : Option (Reply T)) (left : Option (Kept T)) → MayFinish u r left → StillDeeds u.marks → Replies GivesMessage r → ⊥
   finish_gives u None left h k g = g
   finish_gives u (Some r) left h k g = row_gives u.marks h.met.1 u.ask r g h.met.3 k
 
-  pub finish_ends : (u : Under T W) (r : Option (Reply T)) (left : Option (Kept T)) → MayFinish u r left → Replies SaysTheEnd r → Once Spent u.seen
+  pub finish_ends : (u : ActiveCall T W) (r : Option (Reply T)) (left : Option (Kept T)) → MayFinish u r left → Replies SaysTheEnd r → Once Spent u.seen
   finish_ends u None left h g = absurd g
   finish_ends u (Some r) left h g =
       subst (λ (cs : List (Channel T W)). Once Spent cs) (sym h.met.2) (once_behind Spent h.met.0 h.met.1 (row_ends u.marks h.met.1 u.ask r g h.met.3))

@@ -1,6 +1,6 @@
 -- Waiting sends over runs.
 use Rattle.std.proofs.Common.{ℕ, List, Option}
-use Rattle.channel_laws.proofs.Words.{Sends, Next, new_scene, Scene, Entry, Step, HoldsListener, counts_for_sends, PlacesAreFew, SendsSound, SendsStayOwed, NoSendIsForgotten}
+use Rattle.channel_laws.proofs.Words.{Sends, Next, new_configuration, Configuration, Entry, Step, HoldsListener, counts_for_sends, PlacesAreFew, SendsSound, SendsStayOwed, NoSendIsForgotten}
 use Rattle.channel_laws.proofs.Notices.{tellings_next, tellings_new}
 use Rattle.channel_laws.proofs.RunFacts.{kept_long}
 use Rattle.channel_laws.proofs.Owed.{pending_owed}
@@ -8,7 +8,7 @@ use Rattle.channel_laws.proofs.PayMoves.{OneByDefault, one_next}
 use Rattle.channel_laws.proofs.SendMoves.{send_ledger}
 
 module _ {T W : Type 0} where
-  pub sends_next : (s : Scene T W) (x : Step T W) (e : Entry T) (names : List W) (t : Scene T W) → Next s x e names t
+  pub sends_next : (s : Configuration T W) (x : Step T W) (e : Entry T) (names : List W) (t : Configuration T W) → Next s x e names t
       → SendsSound s → SendsSound t
   sends_next s x e names t n sound =
       record {
@@ -16,7 +16,7 @@ module _ {T W : Type 0} where
         owed = one_next Sends tt PlacesAreFew counts_for_sends send_ledger s x e names t n sound.tellings sound.owed;
       }
 
-  pub sends_new : (cap : Option ℕ) → SendsSound (new_scene {T = T} {W = W} cap)
+  pub sends_new : (cap : Option ℕ) → SendsSound (new_configuration {T = T} {W = W} cap)
   sends_new cap = record { tellings = tellings_new cap; owed = λ key w. absurd w }
 
 module _ (T W : Type 0) where
@@ -25,5 +25,5 @@ module _ (T W : Type 0) where
 
   pub no_send_is_forgotten : NoSendIsForgotten T W
   no_send_is_forgotten cap t steps trace run =
-      let h = sends_stay_owed (new_scene cap) t steps trace (sends_new cap) run in
+      let h = sends_stay_owed (new_configuration cap) t steps trace (sends_new cap) run in
       (h.owed, pending_owed Sends PlacesAreFew counts_for_sends (HoldsListener Sends) (OneByDefault Sends tt PlacesAreFew counts_for_sends) t h.owed)

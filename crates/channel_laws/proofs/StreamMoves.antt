@@ -1,6 +1,6 @@
 -- Each step pays for what it brings, as streams count it: there is no message, or a call is to tell them all.
 use Rattle.std.proofs.Common.{◌≡◌, ℕ, ◌+◌, ◌≤◌, List, [], ◌∷◌, length, Option, Some, Ok, Err, ◌⊎◌, inl, inr, refl, sym, ap, ◌∙◌, subst, arith}
-use Rattle.channel_laws.proofs.Words.{Queue, Phase, trying, appended, taken, marked, is_displaced, ContinuesBy, AnswersPop, AnswersTo, QueueAsk, QueueMark, Nothing, QueueReply, Key, answered_next, stream_next, Channel, Effect, queued, Turned, Moves, ChannelAsk, Reply, Aim, Sends, Receives, Streams, Closings, Stage, Trying, Working, Finished, Turn, Tries, Works, Ends, Work, TellReceive, TellStreams, TellSend, Leave, TriesFor, StageAt, MarkedMoment, Under, has_appended, is_to_tell_receive, counts_for_receives, HasAppended, IsSending, IsBringing, HasInHand, Waits, WaitApart}
+use Rattle.channel_laws.proofs.Words.{Queue, Phase, trying, appended, taken, marked, is_displaced, ContinuesBy, AnswersPop, AnswersTo, QueueAsk, QueueMark, Nothing, QueueReply, Key, answered_next, stream_next, Channel, Effect, queued, Turned, Moves, ChannelAsk, Reply, Aim, Sends, Receives, Streams, Closings, Stage, Trying, Working, Finished, Turn, Tries, Works, Ends, Work, TellReceive, TellStreams, TellSend, Leave, TriesFor, StageAt, MarkedMoment, ActiveCall, has_appended, is_to_tell_receive, counts_for_receives, HasAppended, IsSending, IsBringing, HasInHand, Waits, WaitApart}
 use Rattle.concurrent_queue.specs.Queue as queue
 use Rattle.concurrent_queue.specs.declared.call.QueueAsk.TheVariants as ask
 use Rattle.concurrent_queue.specs.declared.call.QueueReply.TheVariants as answer
@@ -86,7 +86,7 @@ module _ {T W : Type 0} where
   abbrev pub NoMessages : Channel T W → Type 0
   NoMessages c = c.queue.items ≡ []
 
-  abbrev pub Tells : Under T W → Type 0
+  abbrev pub Tells : ActiveCall T W → Type 0
   Tells u = IsSending u.ask × IsBringing u.at
 
   -- there is no message, or so many calls are to tell the streams

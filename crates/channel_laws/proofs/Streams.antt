@@ -1,6 +1,6 @@
 -- Waiting streams over runs.
 use Rattle.std.proofs.Common.{ℕ, List, Option, ◌⊎◌, inl, inr, refl}
-use Rattle.channel_laws.proofs.Words.{Streams, Next, new_scene, Scene, Entry, Step, IsSending, IsBringing, HasInHand, PendingStreamsAreOwed, AnswersFor, StreamsAreOwed, StreamsSound, StreamsStayOwed, NoStreamIsForgotten, Any}
+use Rattle.channel_laws.proofs.Words.{Streams, Next, new_configuration, Configuration, Entry, Step, IsSending, IsBringing, HasInHand, PendingStreamsAreOwed, AnswersFor, StreamsAreOwed, StreamsSound, StreamsStayOwed, NoStreamIsForgotten, Any}
 use Rattle.channel_steps.proofs.Interface.{known_next}
 use Rattle.channel_laws.proofs.AllOwed.{as_counts, as_calls}
 use Rattle.channel_laws.proofs.AnyFacts.{any_but}
@@ -10,7 +10,7 @@ use Rattle.channel_laws.proofs.RunFacts.{kept_long}
 use Rattle.channel_laws.proofs.StreamMoves.{counts_for_streams, tells_counts, counts_tells, NoMessages, Tells, NoneOrTold, stream_ledger}
 
 module _ {T W : Type 0} where
-  pub sound_next : (s : Scene T W) (x : Step T W) (e : Entry T) (names : List W) (t : Scene T W) → Next s x e names t → StreamsSound s → StreamsSound t
+  pub sound_next : (s : Configuration T W) (x : Step T W) (e : Entry T) (names : List W) (t : Configuration T W) → Next s x e names t → StreamsSound s → StreamsSound t
   sound_next s x e names t n sound =
       let k = known_next s x e names t n sound.known sound.balanced in
       record {
@@ -22,10 +22,10 @@ module _ {T W : Type 0} where
             (λ key w. as_counts NoMessages Tells HasInHand counts_for_streams s key (λ u. tells_counts u.ask u.at) (sound.owed key w)) key w);
       }
 
-  pub new_sound : (cap : Option ℕ) → StreamsSound (new_scene {T = T} {W = W} cap)
+  pub new_sound : (cap : Option ℕ) → StreamsSound (new_configuration {T = T} {W = W} cap)
   new_sound cap = record { known = tt; balanced = refl; apart = tt; owed = λ key w. inl refl }
 
-  pub pending_owed : (s : Scene T W) → StreamsAreOwed s → PendingStreamsAreOwed s
+  pub pending_owed : (s : Configuration T W) → StreamsAreOwed s → PendingStreamsAreOwed s
   pending_owed s owed key w none = but_it (owed key w)
     where
       but_it : NoMessages s.now ⊎ Any (AnswersFor key) s.under_way → NoMessages s.now ⊎ Any (λ u. IsSending u.ask × IsBringing u.at) s.under_way
@@ -37,4 +37,4 @@ module _ (T W : Type 0) where
   streams_stay_owed s t steps trace h run = kept_long StreamsSound sound_next s t steps trace h run
 
   pub no_stream_is_forgotten : NoStreamIsForgotten T W
-  no_stream_is_forgotten cap t steps trace run = let h = streams_stay_owed (new_scene cap) t steps trace (new_sound cap) run in (h.owed, pending_owed t h.owed)
+  no_stream_is_forgotten cap t steps trace run = let h = streams_stay_owed (new_configuration cap) t steps trace (new_sound cap) run in (h.owed, pending_owed t h.owed)

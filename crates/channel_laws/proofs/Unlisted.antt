@@ -1,6 +1,6 @@
 -- Over steps: on a channel without a bound no send listens.
 use Rattle.std.proofs.Common.{◌≡◌, ℕ, zero, suc, ◌+◌, ◌-◌, Bool, true, false, if◌then◌else◌, List, Option, None, Some, inl, inr, refl, sym, ap, ◌∙◌, subst}
-use Rattle.channel_laws.proofs.Words.{Phase, registration, removed, up, Channel, Effect, queued, untouched, on_count, tells_one, tells_more, tells_all, listens, registers, leaves, lowers, Moves, Listeners, Roster, listeners, with_listeners, count, with_count, is_raised, told_one, told_more, told_all, ChannelAsk, line_of, Mark, Reply, Held, Line, Sends, Receives, Streams, Closings, Side, Senders, Receivers, Stage, Trying, Working, TellReceive, TellStreams, TellSend, TellSends, TellAll, Insert, Register, Leave, Lower, Raise, StageAt, MarkedMoment, Next, new_scene, Scene, Known, AllKnown, Entry, Step, raises, nobody_listens, AllOf, NoSendListens, SendsUnlisted}
+use Rattle.channel_laws.proofs.Words.{Phase, registration, removed, up, Channel, Effect, queued, untouched, on_count, tells_one, tells_more, tells_all, listens, registers, leaves, lowers, Moves, Listeners, Roster, listeners, with_listeners, count, with_count, is_raised, told_one, told_more, told_all, ChannelAsk, line_of, Mark, Reply, Held, Line, Sends, Receives, Streams, Closings, Side, Senders, Receivers, Stage, Trying, Working, TellReceive, TellStreams, TellSend, TellSends, TellAll, Insert, Register, Leave, Lower, Raise, StageAt, MarkedMoment, Next, new_configuration, Configuration, Known, AllKnown, Entry, Step, raises, nobody_listens, AllOf, NoSendListens, SendsUnlisted}
 use Rattle.channel_calls.specs.declared.stage.Waiting.TheVariants as waiting
 use Rattle.channel_steps.specs.declared.run.Step.TheVariants as step
 use Rattle.channel_laws.proofs.Bounds.{bound_new, bound_next, capacity_next, never_crowded}
@@ -73,10 +73,10 @@ module _ {T W : Type 0} where
       subst (λ (s : Stage (Phase T) T W). StageAt now a s ds seen) e k in
       never_crowded seen all h.2
 
-  pub unlisted_new : (cap : Option ℕ) → SendsUnlisted (new_scene {T = T} {W = W} cap)
+  pub unlisted_new : (cap : Option ℕ) → SendsUnlisted (new_configuration {T = T} {W = W} cap)
   unlisted_new cap = record { bound = bound_new cap; unlisted = λ none. refl }
 
-  pub unlisted_next : (s : Scene T W) (x : Step T W) (e : Entry T) (names : List W) (t : Scene T W) → Next s x e names t
+  pub unlisted_next : (s : Configuration T W) (x : Step T W) (e : Entry T) (names : List W) (t : Configuration T W) → Next s x e names t
       → AllKnown s.now s.under_way → SendsUnlisted s → SendsUnlisted t
   unlisted_next s (step.Begin p a) e names t n known h = record {
     bound = bound_next s (step.Begin p a) e names t n h.bound;

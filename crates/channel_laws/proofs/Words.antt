@@ -61,7 +61,7 @@ pub use Rattle.channel_laws.specs.Over.{AllSpent, EndSound, IsLate, StillDeeds}
 pub use Rattle.channel_laws.specs.Put.{puts_blocks, puts_by, puts_ring, puts_single}
 pub use Rattle.channel_laws.specs.Receives.{MessagesAreFew, NoReceiveIsForgotten, ReceivesSound, ReceivesStayOwed, counts_for_receives, has_appended, is_to_tell_receive}
 pub use Rattle.channel_laws.specs.Sends.{HasPlaces, NoSendIsForgotten, PlacesAreFew, SendsSound, SendsStayOwed, counts_for_sends, has_displaced, has_taken, is_to_tell_send}
-pub use Rattle.channel_laws.specs.Sound.{AllSound}
+pub use Rattle.channel_laws.specs.Sound.{WakeInvariant}
 pub use Rattle.channel_laws.specs.Streams.{AnswersFor, HasAppended, HasInHand, IsBringing, IsSending, NoStreamIsForgotten, PendingStreamsAreOwed, StreamsAreOwed, StreamsSound, StreamsStayOwed}
 pub use Rattle.channel_laws.specs.Tasks.{act_by, aim_by, all_by, ask_by, deed_by, event_by, listener_by, listeners_by, parts_by, roster_by, stage_by, turn_by, work_by}
 pub use Rattle.channel_laws.specs.Unlisted.{NoSendListens, SendsUnlisted}
@@ -72,8 +72,8 @@ pub use Rattle.channel_steps.specs.Answers.{CapacityRow, CloneRow, CloseRow, Clo
 pub use Rattle.channel_steps.specs.Known.{Answered, HasTaken, IsFor, StageAt, ToldAt, TriesAt, TriesFor, TryAt, WorkAt, all_from}
 pub use Rattle.channel_steps.specs.Left.{all_left, most_left}
 pub use Rattle.channel_steps.specs.Moments.{Appended, ClosedIt, CountRaised, Crowded, Displaced, Dropped, LeftLast, MadeRoom, MarkedMoment, Once, Open, Replaced, Shut, Spent, Took, TookAll, Upgraded, is_empty, with_marked}
-pub use Rattle.channel_steps.specs.Run.{Begins, EachStep, HasBegun, HasRange, IsRun, Next, NextScene, Touches, call_begun, end_of, new_scene}
-pub use Rattle.channel_steps.specs.Scene.{AllKnown, Finishes, HasParty, Known, MayFinish, MayHave, OthersQuiet, Represents, Scene, Sitting, Steps, StepsAt, Under, all_seats, blocks_after, brought, came_by, does, gone_by, left_by, parties_after, sees, under_of, unless_ended, wanted_at}
+pub use Rattle.channel_steps.specs.Run.{Begins, EachStep, HasBegun, HasRange, IsRun, Next, NextConfiguration, Touches, call_begun, end_of, new_configuration}
+pub use Rattle.channel_steps.specs.Configuration.{AllKnown, Finishes, HasParty, Known, MayFinish, MayHave, OthersQuiet, Represents, Configuration, ActiveCallWitness, Steps, StepsAt, ActiveCall, all_seats, blocks_after, brought, came_by, does, gone_by, left_by, parties_after, sees, active_call_of, unless_ended, wanted_at}
 pub use Rattle.channel_steps.specs.Tellings.{Telling, all_of, more_of, one_of, owed_besides, owed_for, owed_takings, takings}
 pub use Rattle.channel_steps.specs.declared.party.Entry.{Entry}
 pub use Rattle.channel_steps.specs.declared.party.Party.{Party}

@@ -1,6 +1,6 @@
 -- What a channel's words say, of what its cells and its calls under way show.
 use Rattle.std.proofs.Common.{◌≡◌, ℕ, ◌<◌, List, [], ◌∷◌, ◌++◌, map, length, None, Some, slice_get, ◌⊎◌, ⊎_elim, inl, inr, refl, sym, ap, ◌∙◌, subst}
-use Rattle.channel_laws.proofs.Words.{Contents, slot_at, Queue, Phase, appended, message, Seat, HasBrought, QueueAsk, QueueForm, Slot, CallState, QueueCall, Channel, Parts, ChannelAsk, Aim, Sends, Receives, Streams, Closings, Stage, Trying, Working, Finished, TriesFor, TryAt, TriesAt, StageAt, ToldAt, MarkedMoment, Appended, Replaced, Displaced, Under, Scene, Sitting, MayHave, Known, AllKnown, Represents, under_of, brought, Telling, Party, phases, closed_in, length_in, items_in, seats, phase, all_seats, IsInState, SomeCall, ChainBy, IsAtQueue, HasLetIn, IsWith, IsWithOne, WordsSay}
+use Rattle.channel_laws.proofs.Words.{Contents, slot_at, Queue, Phase, appended, message, Seat, HasBrought, QueueAsk, QueueForm, Slot, CallState, QueueCall, Channel, Parts, ChannelAsk, Aim, Sends, Receives, Streams, Closings, Stage, Trying, Working, Finished, TriesFor, TryAt, TriesAt, StageAt, ToldAt, MarkedMoment, Appended, Replaced, Displaced, ActiveCall, Configuration, ActiveCallWitness, MayHave, Known, AllKnown, Represents, active_call_of, brought, Telling, Party, phases, closed_in, length_in, items_in, seats, phase, all_seats, IsInState, SomeCall, ChainBy, IsAtQueue, HasLetIn, IsWith, IsWithOne, WordsSay}
 use Rattle.concurrent_queue.specs.Step.{slot_in}
 use Rattle.concurrent_queue.specs.Step.{FitsAt}
 use Rattle.concurrent_queue.specs.Queue as queue
@@ -103,15 +103,15 @@ module _ {T W : Type 0} where
   of_seats form at v f (Working w) rest h = inr h
   of_seats form at v f (Finished kept) rest h = inr h
 
-  is_with : (form : QueueForm) (at : Slot) (v : T) (now : Channel T W) (x : Sitting T W) → Known now (under_of x)
-      → (yet_to_put form x.party.call.stage ≡ Some (at, v)) × Brought v (under_of x).at → IsWith form at v x.party (under_of x)
+  is_with : (form : QueueForm) (at : Slot) (v : T) (now : Channel T W) (x : ActiveCallWitness T W) → Known now (active_call_of x)
+      → (yet_to_put form x.party.call.stage ≡ Some (at, v)) × Brought v (active_call_of x).at → IsWith form at v x.party (active_call_of x)
   is_with form at v now x k b =
-      let u : Under T W = under_of x in
+      let u : ActiveCall T W = active_call_of x in
       let h = stands_with v now u.ask u.at u.marks u.seen k.stands b.1 in
       record { party = refl; brings = h.0.0; let_in = h.0.1; untold = nothing_told u.told u.at u.marks k.tells h.1; puts = b.0 }
 
-  with_one : (form : QueueForm) (at : Slot) (v : T) (now : Channel T W) (xs : List (Sitting T W)) → AllKnown now (map under_of xs)
-      → IsHeldFor form at v (all_seats xs) → IsWithOne form at v (map (λ (x : Sitting T W). x.party) xs) (map under_of xs)
+  with_one : (form : QueueForm) (at : Slot) (v : T) (now : Channel T W) (xs : List (ActiveCallWitness T W)) → AllKnown now (map active_call_of xs)
+      → IsHeldFor form at v (all_seats xs) → IsWithOne form at v (map (λ (x : ActiveCallWitness T W). x.party) xs) (map active_call_of xs)
   with_one form at v now [] k h = absurd h
   with_one form at v now (x ∷ xs) k h =
       ⊎_elim (λ b. inl (is_with form at v now x k.0 b)) (λ later. inr (with_one form at v now xs k.1 later))
@@ -124,7 +124,7 @@ module _ {T W : Type 0} where
   no_seats f (Working w) rest none = refl
   no_seats f (Finished kept) rest none = refl
 
-  none_at_queue : (xs : List (Sitting T W)) → Each (λ (u : Under T W). IsAtQueue u.at → ⊥) (map under_of xs) → phases (all_seats xs) ≡ []
+  none_at_queue : (xs : List (ActiveCallWitness T W)) → Each (λ (u : ActiveCall T W). IsAtQueue u.at → ⊥) (map active_call_of xs) → phases (all_seats xs) ≡ []
   none_at_queue [] h = refl
   none_at_queue (x ∷ xs) h = no_seats x.inner x.party.call.stage (all_seats xs) h.0 ∙ none_at_queue xs h.1
 
@@ -137,25 +137,25 @@ module _ {T W : Type 0} where
   some_seat P f (Working w) rest h = inr h
   some_seat P f (Finished kept) rest h = inr h
 
-  some_call : (xs : List (Sitting T W)) (P : CallState T → Type 0) → SomeSeat (all_seats xs) P
-      → SomeCall (map (λ (x : Sitting T W). x.party) xs) P
+  some_call : (xs : List (ActiveCallWitness T W)) (P : CallState T → Type 0) → SomeSeat (all_seats xs) P
+      → SomeCall (map (λ (x : ActiveCallWitness T W). x.party) xs) P
   some_call [] P h = absurd h
   some_call (x ∷ xs) P h =
       ⊎_elim (λ g. inl g) (λ g. inr (some_call xs P g)) (some_seat P x.inner x.party.call.stage (all_seats xs) h)
 
-  are_chained_by : (chain : List ℕ) (c : Contents T) (q : Queue T) (xs : List (Sitting T W)) (codes : List (Party T W))
-      → codes ≡ map (λ (x : Sitting T W). x.party) xs → FitsAt chain c q (all_seats xs) → MayHave c.form chain → AreChained c codes chain
+  are_chained_by : (chain : List ℕ) (c : Contents T) (q : Queue T) (xs : List (ActiveCallWitness T W)) (codes : List (Party T W))
+      → codes ≡ map (λ (x : ActiveCallWitness T W). x.party) xs → FitsAt chain c q (all_seats xs) → MayHave c.form chain → AreChained c codes chain
   unfolding AreChained
   are_chained_by chain c q xs codes same_codes fits bare =
       subst (λ (ps : List (Party T W)). ChainBy (SomeCall ps) c.form c chain) (sym same_codes)
       (by_others (SomeSeat (all_seats xs)) (SomeCall (map
-      (λ (x : Sitting T W). x.party) xs)) c.form c chain (some_call xs)
+      (λ (x : ActiveCallWitness T W). x.party) xs)) c.form c chain (some_call xs)
       (are_chained chain c q (all_seats xs) fits bare))
 
   -- ---- the words
 
-  of_queue : (parts : Parts T W) (codes : List (Party T W)) (s : Scene T W) (xs : List (Sitting T W)) (p : Queue T) → p ≡ s.now.queue
-      → codes ≡ map (λ (x : Sitting T W). x.party) xs → s.under_way ≡ map under_of xs
+  of_queue : (parts : Parts T W) (codes : List (Party T W)) (s : Configuration T W) (xs : List (ActiveCallWitness T W)) (p : Queue T) → p ≡ s.now.queue
+      → codes ≡ map (λ (x : ActiveCallWitness T W). x.party) xs → s.under_way ≡ map active_call_of xs
       → FitsAt s.blocks parts.cells p (all_seats xs) → MayHave parts.cells.form s.blocks → AllKnown s.now s.under_way
       → WordsSay parts.cells codes s
   of_queue parts codes s xs p same_queue same_codes calls fit bare known =
@@ -163,10 +163,10 @@ module _ {T W : Type 0} where
       let chain : List ℕ = s.blocks in
       let say = shows c p (all_seats xs) (chain, fit) in
       let lie = fits_facts.lies chain c p (all_seats xs) fit in
-      let here : AllKnown s.now (map under_of xs) = subst (λ (us : List (Under T W)). AllKnown s.now us) calls known in
+      let here : AllKnown s.now (map active_call_of xs) = subst (λ (us : List (ActiveCall T W)). AllKnown s.now us) calls known in
       let held_by : (at : Slot) (v : T) → IsHeldFor c.form at v (all_seats xs) → IsWithOne c.form at v codes s.under_way =
       λ at v h. subst (λ (ps : List (Party T W)). IsWithOne c.form at v ps s.under_way) (sym same_codes)
-      (subst (λ (us : List (Under T W)). IsWithOne c.form at v (map (λ (x : Sitting T W). x.party) xs) us) (sym calls)
+      (subst (λ (us : List (ActiveCall T W)). IsWithOne c.form at v (map (λ (x : ActiveCallWitness T W). x.party) xs) us) (sym calls)
       (with_one c.form at v s.now xs here h)) in
       record {
         flag = subst (λ (x : Queue T). closed_in c ≡ x.closed) same_queue say.flag;
@@ -178,11 +178,11 @@ module _ {T W : Type 0} where
             → (slot_at c (slot_in chain c i) ≡ Some v) ⊎ IsWithOne c.form (slot_in chain c i) v codes s.under_way) same_queue
             (λ i v e. ⊎_elim (λ there. inl there) (λ h. inr (held_by (slot_in chain c i) v h)) (held chain c p (all_seats xs) fit i v e));
         at_rest = λ none.
-            let none_here = subst (λ (us : List (Under T W)). Each (λ (u : Under T W). IsAtQueue u.at → ⊥) us) calls none in
+            let none_here = subst (λ (us : List (ActiveCall T W)). Each (λ (u : ActiveCall T W). IsAtQueue u.at → ⊥) us) calls none in
             let rest = say.at_rest (none_at_queue xs none_here) in
             subst (λ (x : Queue T). x.items ≡ items_in c) same_queue rest.0;
       }
 
-  pub words_say : (parts : Parts T W) (parties : List (Party T W)) (s : Scene T W) → Represents parts parties s → WordsSay parts.cells parties s
+  pub words_say : (parts : Parts T W) (parties : List (Party T W)) (s : Configuration T W) → Represents parts parties s → WordsSay parts.cells parties s
   words_say parts parties s h =
-      of_queue parts parties s h.sittings h.queue (sym (ap (λ (c : Channel T W). c.queue) h.now)) h.parties_are h.under_way h.fits h.bare h.known
+      of_queue parts parties s h.witnesses h.queue (sym (ap (λ (c : Channel T W). c.queue) h.now)) h.parties_are h.under_way h.fits h.bare h.known

@@ -9,7 +9,7 @@ use Rattle.channel_calls.specs.declared.stage.Line.{Line}
 use Rattle.channel_calls.specs.declared.stage.Stage as stage
 use Rattle.channel_calls.specs.declared.stage.Stage.TheVariants.{Trying, Working}
 use Rattle.channel_calls.specs.declared.stage.Work.TheVariants.{TellReceive, TellStreams, TellSend, Leave}
-use Rattle.channel_steps.specs.Scene.{Under, Scene}
+use Rattle.channel_steps.specs.Configuration.{ActiveCall, Configuration}
 use Rattle.channel_laws.specs.Ends.{Each}
 use Rattle.channel_laws.specs.Waits.{Waits, Any}
 
@@ -26,7 +26,7 @@ module _ {T W : Type 0} where
   is_trying_anew at = 0
 
   -- what these calls count for together, where each counts for so much by what it asks and how far it has come
-  abbrev pub total : (ChannelAsk T W → stage.Stage (Phase T) T W → ℕ) → List (Under T W) → ℕ
+  abbrev pub total : (ChannelAsk T W → stage.Stage (Phase T) T W → ℕ) → List (ActiveCall T W) → ℕ
   total weigh [] = 0
   total weigh (u ∷ us) = weigh u.ask u.at + total weigh us
 
@@ -41,11 +41,11 @@ module _ {T W : Type 0} where
 
   module _ (line : Line) (Enough : Channel T W → ℕ → Type 0) (weigh : ChannelAsk T W → stage.Stage (Phase T) T W → ℕ) (Holds : Key → stage.Stage (Phase T) T W → Type 0) where
     -- where one waits on this list, what the calls under way count for is enough, or a call has its listener in hand
-    abbrev pub AreOwed : Scene T W → Type 0
+    abbrev pub AreOwed : Configuration T W → Type 0
     AreOwed s =
         (key : Key) → Waits line key s.now → Enough s.now (total weigh s.under_way) ⊎ Any (λ u. Holds key u.at) s.under_way
 
     -- one whose listener no call under way has in hand, as where its poll ended pending: it is enough
-    abbrev pub PendingAreOwed : Scene T W → Type 0
+    abbrev pub PendingAreOwed : Configuration T W → Type 0
     PendingAreOwed s =
         (key : Key) → Waits line key s.now → Each (λ u. Holds key u.at → ⊥) s.under_way → Enough s.now (total weigh s.under_way)

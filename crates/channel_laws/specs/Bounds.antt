@@ -7,8 +7,8 @@ use Rattle.channel_calls.specs.declared.mark.Mark.{Mark}
 use Rattle.channel_calls.specs.declared.mark.Mark.TheVariants.{TakeDisplaced, Replace}
 use Rattle.channel_calls.specs.declared.reply.Reply.{Reply}
 use Rattle.channel_calls.specs.declared.reply.Reply.TheVariants as reply
-use Rattle.channel_steps.specs.Run.{IsRun, NextScene, new_scene}
-use Rattle.channel_steps.specs.Scene.{Scene}
+use Rattle.channel_steps.specs.Run.{IsRun, NextConfiguration, new_configuration}
+use Rattle.channel_steps.specs.Configuration.{Configuration}
 use Rattle.channel_steps.specs.declared.party.Entry.{Entry}
 use Rattle.channel_steps.specs.declared.run.Step.{Step}
 use Rattle.channel_laws.specs.Ends.{Each, Replies}
@@ -50,28 +50,28 @@ module _ {T W : Type 0} where
   AllOf capacity (c ∷ cs) = (c.queue.capacity ≡ capacity) × AllOf capacity cs
 
   -- what every run keeps: no more messages than fit, and the calls under way have seen no other capacity
-  pub record BoundSound (s : Scene T W) : Type 0 where
+  pub record BoundSound (s : Configuration T W) : Type 0 where
     pub fits : IsWithinBound s.now
     pub alike : Each (λ u. AllOf s.now.queue.capacity u.seen) s.under_way
 
 module _ (T W : Type 0) where
   abbrev pub BoundsStay : Type 0
-  BoundsStay = (s t : Scene T W) (steps : List (Step T W)) (trace : List (Entry T)) → BoundSound s → IsRun NextScene s steps trace t → BoundSound t
+  BoundsStay = (s t : Configuration T W) (steps : List (Step T W)) (trace : List (Entry T)) → BoundSound s → IsRun NextConfiguration s steps trace t → BoundSound t
 
   -- in every run from a channel that was just opened
   abbrev pub NeverOverfull : Type 0
   NeverOverfull =
-      (capacity : Option ℕ) (t : Scene T W) (steps : List (Step T W)) (trace : List (Entry T)) → IsRun NextScene (new_scene capacity) steps trace t
+      (capacity : Option ℕ) (t : Configuration T W) (steps : List (Step T W)) (trace : List (Entry T)) → IsRun NextConfiguration (new_configuration capacity) steps trace t
       → (t.now.queue.capacity ≡ capacity) × IsWithinBound t.now
 
   -- in every run from a channel without a bound
   abbrev pub EachUnboundedRunIsNeverFull : Type 0
   EachUnboundedRunIsNeverFull =
-      (s t : Scene T W) (steps : List (Step T W)) (trace : List (Entry T)) → BoundSound s → s.now.queue.capacity ≡ None → IsRun NextScene s steps trace t
+      (s t : Configuration T W) (steps : List (Step T W)) (trace : List (Entry T)) → BoundSound s → s.now.queue.capacity ≡ None → IsRun NextConfiguration s steps trace t
       → NoneFull trace
 
   -- in every run from a channel that was just opened
   abbrev pub EachRunClosesOnce : Type 0
   EachRunClosesOnce =
-      (capacity : Option ℕ) (t : Scene T W) (steps : List (Step T W)) (trace : List (Entry T)) → IsRun NextScene (new_scene capacity) steps trace t
+      (capacity : Option ℕ) (t : Configuration T W) (steps : List (Step T W)) (trace : List (Entry T)) → IsRun NextConfiguration (new_configuration capacity) steps trace t
       → closings_in trace ≤ 1

@@ -28,8 +28,8 @@ use Rattle.channel_calls.specs.declared.mark.Mark.{Mark}
 use Rattle.channel_calls.specs.declared.reply.Reply.{Reply}
 use Rattle.channel_calls.specs.declared.stage.Kept.{Kept}
 use Rattle.channel_calls.specs.declared.stage.Stage.{Stage}
-use Rattle.channel_steps.specs.Run.{IsRun, Next, NextScene, Touches, new_scene}
-use Rattle.channel_steps.specs.Scene.{Scene, Represents}
+use Rattle.channel_steps.specs.Run.{IsRun, Next, NextConfiguration, Touches, new_configuration}
+use Rattle.channel_steps.specs.Configuration.{Configuration, Represents}
 use Rattle.channel_steps.specs.declared.party.Entry.{Entry}
 use Rattle.channel_steps.specs.declared.party.Party.{Party}
 use Rattle.channel_steps.specs.declared.run.Step.{Step}
@@ -61,7 +61,7 @@ pub record Given (T : Type 0) : Type 0 where
 pub record MergeMoment (T W S : Type 0) : Type 0 where
   pub parts : Parts T W
   pub parties : List (Party T W)
-  pub scene : Scene T W
+  pub configuration : Configuration T W
   pub sink : S
 
 module _ {T : Type 0} where
@@ -115,7 +115,7 @@ module _ {T W : Type 0} where
 
   -- with nobody at work
   abbrev pub just_opened : {S : Type 0} → QueueForm → S → MergeMoment T W S
-  just_opened form sink = record { parts = opened_parts form; parties = []; scene = new_scene (capacity_of form); sink = sink }
+  just_opened form sink = record { parts = opened_parts form; parties = []; configuration = new_configuration (capacity_of form); sink = sink }
 
   module _ {S : Type 0} (wakes : S → W → S → Type 0) where
     -- ---- what is asked of the cells, and of the sink that is given whom a step wakes
@@ -134,7 +134,7 @@ module _ {T W : Type 0} where
     -- after it
     pub record NextMoment (m : MergeMoment T W S) (x : Step T W) (e : Entry T) (n : MergeMoment T W S) : Type 0 where
       pub names : List W
-      pub next : Next m.scene x e names n.scene
+      pub next : Next m.configuration x e names n.configuration
       pub woken : Woken wakes m.sink names n.sink
       pub touches : Touches x m.parts n.parts
 
@@ -143,12 +143,12 @@ module _ {T W : Type 0} where
     pub record IsRunOf (form : QueueForm) (events : List (Happening T W)) (given : ℕ → List (Given T)) (sink : S) (last : Parts T W) (woken : S) : Type 0 where
       pub trace : List (Entry T)
       pub parties : List (Party T W)
-      pub scene : Scene T W
-      pub opened : let nobody : List (Party T W) = [] in Represents (opened_parts form) nobody (new_scene (capacity_of form))
-      pub run : IsRun NextMoment (just_opened form sink) (steps_of events) trace (record { parts = last; parties = parties; scene = scene; sink = woken })
-      -- and so from scene to scene, of which the laws of all runs speak
-      pub scenes : IsRun NextScene (new_scene (capacity_of form)) (steps_of events) trace scene
-      pub shown : Represents last parties scene
+      pub configuration : Configuration T W
+      pub opened : let nobody : List (Party T W) = [] in Represents (opened_parts form) nobody (new_configuration (capacity_of form))
+      pub run : IsRun NextMoment (just_opened form sink) (steps_of events) trace (record { parts = last; parties = parties; configuration = configuration; sink = woken })
+      -- and so from configuration to configuration, of which the laws of all runs speak
+      pub configurations : IsRun NextConfiguration (new_configuration (capacity_of form)) (steps_of events) trace configuration
+      pub shown : Represents last parties configuration
       pub answers : (p : ℕ) → given_to p events trace ≡ given p
 
 -- the positions of a queue of this form last for so many steps; one slot counts none

@@ -13,7 +13,7 @@ use Rattle.channel_calls.specs.declared.stage.Stage.{Stage}
 use Rattle.channel_steps.specs.Known.{IsQuick}
 use Rattle.channel_steps.specs.Moments.{Shut, Spent}
 use Rattle.channel_steps.specs.Run.{EachStep, Next, call_begun}
-use Rattle.channel_steps.specs.Scene.{Under, Represents, EndsInTime, OthersQuiet, brought, does, gone_by, sees, unless_ended, blocks_after}
+use Rattle.channel_steps.specs.Configuration.{ActiveCall, Represents, EndsInTime, OthersQuiet, brought, does, gone_by, sees, unless_ended, blocks_after}
 use Rattle.channel_steps.specs.Tellings.{telling, dropping, WokenBy}
 use Rattle.channel_steps.specs.declared.party.Entry.{Entry}
 use Rattle.channel_steps.specs.declared.run.Step.{Step}
@@ -37,22 +37,22 @@ module _ {T W S : Type 0} where
   -- ---- a moment
 
   pub record MergeMomentSays (m : MergeMoment T W S) : Type 0 where
-    -- the cells and the parties show its scene
-    pub shows : Represents m.parts m.parties m.scene
+    -- the cells and the parties show its configuration
+    pub shows : Represents m.parts m.parties m.configuration
     -- what left the channel, followed by what it holds, is what came into it, in order, and no more than fit
-    pub in_order : m.scene.gone ++ m.scene.now.queue.items ≡ m.scene.came
-    pub fits : IsWithinBound m.scene.now
+    pub in_order : m.configuration.gone ++ m.configuration.now.queue.items ≡ m.configuration.came
+    pub fits : IsWithinBound m.configuration.now
     -- of each call under way, the marks are the first of those that a call which asks this makes
-    pub begun : Each (λ u. BeginsItsMarks u) m.scene.under_way
+    pub begun : Each (λ u. BeginsItsMarks u) m.configuration.under_way
     -- beside one who is pending and was not told, whose listener no call has in hand, there is no message, no free place and no
     -- closing but such as a told one or a call under way answers for
-    pub receives : PendingReceivesAreOwed m.scene
-    pub sends : PendingSendsAreOwed m.scene
-    pub streams : PendingStreamsAreOwed m.scene
-    pub closing : PendingIsOwedTheClosing m.scene
+    pub receives : PendingReceivesAreOwed m.configuration
+    pub sends : PendingSendsAreOwed m.configuration
+    pub streams : PendingStreamsAreOwed m.configuration
+    pub closing : PendingIsOwedTheClosing m.configuration
     -- the channel is closed or not and holds so many messages as its queue's words say; and each message lies in the slot that
     -- they name for it alone, without a bound by the blocks that the queue has used, or is with the call that is yet to put it there
-    pub words : WordsSay m.parts.cells m.parties m.scene
+    pub words : WordsSay m.parts.cells m.parties m.configuration
     -- no call has more steps left than these, by how many messages a receive of several may take, where the others are quiet
     pub few : FewStepsLeft m
 
@@ -60,30 +60,30 @@ module _ {T W S : Type 0} where
 
   pub record MergeBeginSays (m : MergeMoment T W S) (p : ℕ) (ask : ChannelAsk T W) (e : Entry T) (n : MergeMoment T W S) : Type 0 where
     -- its party has no call under way
-    pub idle : IsIdle p m.scene
+    pub idle : IsIdle p m.configuration
     -- it has no mark and wakes nobody, and touches nothing
     pub mark : e.mark ≡ Nothing
     pub reply : e.reply ≡ None
     pub woken : n.sink ≡ m.sink
     pub parts : n.parts ≡ m.parts
-    pub now : n.scene.now ≡ m.scene.now
+    pub now : n.configuration.now ≡ m.configuration.now
     -- a call of this party is under way from now on, whose only moment is the present one, with no mark and nothing told
     pub at_first : Stage (Phase T) T W
-    pub under_way : n.scene.under_way ≡ m.scene.under_way ++ call_begun p ask at_first m.scene.now ∷ []
+    pub under_way : n.configuration.under_way ≡ m.configuration.under_way ++ call_begun p ask at_first m.configuration.now ∷ []
 
 module _ {T W S : Type 0} (wakes : S → W → S → Type 0) where
   -- ---- a step of a call
 
   -- what the step does, which wakes these, of a call that is `call` before it and `after` after it
-  pub record StepDoes (m : MergeMoment T W S) (e : Entry T) (n : MergeMoment T W S) (names : List W) (call after : Under T W) : Type 0 where
+  pub record StepDoes (m : MergeMoment T W S) (e : Entry T) (n : MergeMoment T W S) (names : List W) (call after : ActiveCall T W) : Type 0 where
     -- to the plain channel what its mark says, by touching one cell, one list or one count at most
-    pub effect : plain n.scene.now ≡ marked e.mark (brought call.ask) (plain m.scene.now)
+    pub effect : plain n.configuration.now ≡ marked e.mark (brought call.ask) (plain m.configuration.now)
     pub touches : OnePlace m.parts n.parts
     -- it takes out the oldest message and brings in the call's own where its mark says so
-    pub accounts : AddUp m.scene (gone_by e.mark m.scene.now.queue.items) (brought_by e.mark (brought call.ask)) n.scene
+    pub accounts : AddUp m.configuration (gone_by e.mark m.configuration.now.queue.items) (brought_by e.mark (brought call.ask)) n.configuration
     -- it wakes those whom its one telling finds waiting, in order, or him to whom a listener of its own that it drops passes its
     -- notice on, and nobody else
-    pub told : WokenBy (telling call.at) (dropping call.at) m.scene.now names
+    pub told : WokenBy (telling call.at) (dropping call.at) m.configuration.now names
     -- where it ends its call
     pub ends : IfSome e.reply (λ r. EndSays after r e.kept)
     -- closing, dropping, giving up, refused polls and the questions but the length end within eight steps of their own, whatever
@@ -94,20 +94,20 @@ module _ {T W S : Type 0} (wakes : S → W → S → Type 0) where
 
   pub record MergeWorkSays (m : MergeMoment T W S) (p : ℕ) (e : Entry T) (n : MergeMoment T W S) (names : List W) : Type 0 where
     -- the party's call, among those under way
-    pub before : List (Under T W)
-    pub call : Under T W
-    pub behind : List (Under T W)
-    pub under_way : m.scene.under_way ≡ before ++ (call ∷ behind)
+    pub before : List (ActiveCall T W)
+    pub call : ActiveCall T W
+    pub behind : List (ActiveCall T W)
+    pub under_way : m.configuration.under_way ≡ before ++ (call ∷ behind)
     pub party : call.party ≡ p
     -- the same call after the step: one moment more, the step's mark, and what the step told. It is under way no more if it has
     -- answered; to all others the step is one more moment
     pub at_now : Stage (Phase T) T W
-    pub after : Under T W
-    pub is : after ≡ does call at_now e.mark m.scene.now n.scene.now
-    pub goes_on : n.scene.under_way ≡ map (sees n.scene.now) before ++ (unless_ended after e.reply ++ map (sees n.scene.now) behind)
+    pub after : ActiveCall T W
+    pub is : after ≡ does call at_now e.mark m.configuration.now n.configuration.now
+    pub goes_on : n.configuration.under_way ≡ map (sees n.configuration.now) before ++ (unless_ended after e.reply ++ map (sees n.configuration.now) behind)
     pub work : StepDoes m e n names call after
     -- where the others are quiet, a step that does not end its call leaves it fewer steps
-    pub nearer : e.reply ≡ None → OthersQuiet m.scene.now (before ++ behind) → left_to (length before) n < left_to (length before) m
+    pub nearer : e.reply ≡ None → OthersQuiet m.configuration.now (before ++ behind) → left_to (length before) n < left_to (length before) m
 
   -- ---- a step of a run
 
@@ -119,16 +119,16 @@ module _ {T W S : Type 0} (wakes : S → W → S → Type 0) where
   pub record MergeStepSays (m : MergeMoment T W S) (x : Step T W) (e : Entry T) (n : MergeMoment T W S) : Type 0 where
     -- it is what the machine of the party's call does next, and these are woken by it, in order
     pub names : List W
-    pub next : Next m.scene x e names n.scene
+    pub next : Next m.configuration x e names n.configuration
     pub woken : Woken wakes m.sink names n.sink
     pub call : MergeCallSays m x e n names
     -- the queue has used the blocks that it had used before, and one more, at the end, where its tail's word then names another
-    pub blocks : n.scene.blocks ≡ blocks_after n.parts.cells.form m.scene.blocks m.parts.cells n.parts.cells
+    pub blocks : n.configuration.blocks ≡ blocks_after n.parts.cells.form m.configuration.blocks m.parts.cells n.parts.cells
     -- what is closed stays closed; what is over, closed with nothing there and nothing on its way, stays over, and no message comes
     -- or leaves; and a reply that says the end found it over
-    pub closed : Shut m.scene.now → Shut n.scene.now
-    pub over : Spent m.scene.now → Spent n.scene.now × IsStill e.mark
-    pub the_end : Replies SaysTheEnd e.reply → Spent n.scene.now
+    pub closed : Shut m.configuration.now → Shut n.configuration.now
+    pub over : Spent m.configuration.now → Spent n.configuration.now × IsStill e.mark
+    pub the_end : Replies SaysTheEnd e.reply → Spent n.configuration.now
     pub after : MergeMomentSays n
 
   -- ---- a run

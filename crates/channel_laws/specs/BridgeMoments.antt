@@ -2,7 +2,7 @@
 use Rattle.std.specs.Prelude.{◌≡◌, ℕ, suc, ◌≤◌, ◌==◌, ◌&&◌, if◌then◌else◌, is_none, List, [], ◌∷◌, slice_get, Some}
 use Rattle.std.specs.List.{remove}
 use Rattle.channel_steps.specs.Left.{all_left, left_at, most_left}
-use Rattle.channel_steps.specs.Scene.{Under, OthersQuiet, wanted_at}
+use Rattle.channel_steps.specs.Configuration.{ActiveCall, OthersQuiet, wanted_at}
 use Rattle.channel_steps.specs.declared.party.Entry.{Entry}
 use Rattle.channel_steps.specs.declared.run.Step.{Step}
 use Rattle.channel_steps.specs.declared.run.Step.TheVariants as step
@@ -21,18 +21,18 @@ module _ {T W S : Type 0} where
 
   -- which are few, by how many messages a receive of several may take
   abbrev pub FewStepsLeft : MergeMoment T W S → Type 0
-  FewStepsLeft m = (k : ℕ) → left_to k m ≤ most_left (wanted_at k m.scene.under_way)
+  FewStepsLeft m = (k : ℕ) → left_to k m ≤ most_left (wanted_at k m.configuration.under_way)
 
   -- the calls under way other than the k-th one are quiet
   abbrev pub OthersQuietAt : ℕ → MergeMoment T W S → Type 0
-  OthersQuietAt k m = OthersQuiet m.scene.now (remove m.scene.under_way k)
+  OthersQuietAt k m = OthersQuiet m.configuration.now (remove m.configuration.under_way k)
 
   -- ---- steps in a row
 
   -- where the others of a call are quiet, it makes no more steps than it has left before it ends, if its are the next
   abbrev pub RowIsShort : MergeMoment T W S → List (Step T W) → List (Entry T) → Type 0
   RowIsShort m xs es =
-      (k : ℕ) (u : Under T W) → slice_get m.scene.under_way k ≡ Some u → OthersQuietAt k m → steps_in_a_row u.party xs es ≤ most_left (wanted_at k m.scene.under_way)
+      (k : ℕ) (u : ActiveCall T W) → slice_get m.configuration.under_way k ≡ Some u → OthersQuietAt k m → steps_in_a_row u.party xs es ≤ most_left (wanted_at k m.configuration.under_way)
 
   -- so it is from each moment on
   abbrev pub MergeEndsInARow : MergeMoment T W S → List (Step T W) → List (Entry T) → List (MergeMoment T W S) → Type 0

@@ -7,8 +7,8 @@ use Rattle.channel_calls.specs.declared.mark.Mark.TheVariants.{Append, Replace, 
 use Rattle.channel_calls.specs.declared.stage.Stage.{Stage}
 use Rattle.channel_calls.specs.declared.stage.Stage.TheVariants.{Trying}
 use Rattle.channel_steps.specs.Moments.{Shut}
-use Rattle.channel_steps.specs.Run.{IsRun, NextScene}
-use Rattle.channel_steps.specs.Scene.{Scene, Steps}
+use Rattle.channel_steps.specs.Run.{IsRun, NextConfiguration}
+use Rattle.channel_steps.specs.Configuration.{Configuration, Steps}
 use Rattle.channel_steps.specs.declared.party.Entry.{Entry}
 use Rattle.channel_steps.specs.declared.run.Step.{Step}
 
@@ -36,12 +36,12 @@ module _ {T W : Type 0} where
 
   -- after a run the channel is closed still; there are no more messages than there were, with the one on its way; and so
   -- much any call may do then
-  pub record StaysClosed (s t : Scene T W) : Type 0 where
+  pub record StaysClosed (s t : Configuration T W) : Type 0 where
     pub closed : Shut t.now
     pub no_more : within t.now.queue ≤ within s.now.queue
-    pub next : (p : ℕ) (e : Entry T) (names : List W) (u : Scene T W) (st : Steps t p e names u) → MayStillDo e.mark t.now st.mine.at
+    pub next : (p : ℕ) (e : Entry T) (names : List W) (u : Configuration T W) (st : Steps t p e names u) → MayStillDo e.mark t.now st.mine.at
 
 module _ (T W : Type 0) where
   -- in every run from a closed channel
   abbrev pub ClosingIsForGood : Type 0
-  ClosingIsForGood = (s t : Scene T W) (steps : List (Step T W)) (trace : List (Entry T)) → Shut s.now → IsRun NextScene s steps trace t → StaysClosed s t
+  ClosingIsForGood = (s t : Configuration T W) (steps : List (Step T W)) (trace : List (Entry T)) → Shut s.now → IsRun NextConfiguration s steps trace t → StaysClosed s t

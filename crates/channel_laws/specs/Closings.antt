@@ -10,8 +10,8 @@ use Rattle.channel_calls.specs.declared.stage.Stage as stage
 use Rattle.channel_calls.specs.declared.stage.Stage.TheVariants.{Trying, Working}
 use Rattle.channel_calls.specs.declared.stage.Work.TheVariants.{TellSend, TellAll, Leave}
 use Rattle.channel_steps.specs.Moments.{MarkedMoment, Shut}
-use Rattle.channel_steps.specs.Scene.{Under, Scene, AllKnown, IsBalanced}
-use Rattle.channel_steps.specs.Run.{IsRun, NextScene, new_scene}
+use Rattle.channel_steps.specs.Configuration.{ActiveCall, Configuration, AllKnown, IsBalanced}
+use Rattle.channel_steps.specs.Run.{IsRun, NextConfiguration, new_configuration}
 use Rattle.channel_steps.specs.declared.party.Entry.{Entry}
 use Rattle.channel_steps.specs.declared.run.Step.{Step}
 use Rattle.channel_laws.specs.Ends.{Each}
@@ -55,22 +55,22 @@ module _ {T W : Type 0} where
   LooksAgain line key at = ⊥
 
   -- who answers for one that waits on a closed channel: the call that closed it, or such a poll
-  abbrev pub AnswersClosed : Line → Key → Under T W → Type 0
+  abbrev pub AnswersClosed : Line → Key → ActiveCall T W → Type 0
   AnswersClosed line key u = (HasClosed u.marks × HasToTell line u.at) ⊎ LooksAgain line key u.at
 
   -- on a closed channel a call under way answers for each that waits
-  abbrev pub ClosingIsOwed : Scene T W → Type 0
+  abbrev pub ClosingIsOwed : Configuration T W → Type 0
   ClosingIsOwed s = (line : Line) (key : Key) → Shut s.now → Waits line key s.now → Any (AnswersClosed line key) s.under_way
 
   -- for one whose listener no call under way has in hand, as where its poll ended pending, the call that closed the channel is
   -- under way and has its list to tell
-  abbrev pub PendingIsOwedTheClosing : Scene T W → Type 0
+  abbrev pub PendingIsOwedTheClosing : Configuration T W → Type 0
   PendingIsOwedTheClosing s =
       (line : Line) (key : Key) → Shut s.now → Waits line key s.now → Each (λ u. LooksAgain line key u.at → ⊥) s.under_way
       → Any (λ u. HasClosed u.marks × HasToTell line u.at) s.under_way
 
   -- with what every run needs to keep it: what is known of its calls, and no listener twice on a list
-  pub record ClosingSound (s : Scene T W) : Type 0 where
+  pub record ClosingSound (s : Configuration T W) : Type 0 where
     pub known : AllKnown s.now s.under_way
     pub balanced : IsBalanced s.now.queue
     pub apart : (line : Line) → WaitApart line s.now
@@ -78,8 +78,8 @@ module _ {T W : Type 0} where
 
 module _ (T W : Type 0) where
   abbrev pub ClosingStaysOwed : Type 0
-  ClosingStaysOwed = (s t : Scene T W) (steps : List (Step T W)) (trace : List (Entry T)) → ClosingSound s → IsRun NextScene s steps trace t → ClosingSound t
+  ClosingStaysOwed = (s t : Configuration T W) (steps : List (Step T W)) (trace : List (Entry T)) → ClosingSound s → IsRun NextConfiguration s steps trace t → ClosingSound t
 
   -- in every run from a channel that was just opened
   abbrev pub EachRunOwesTheClosing : Type 0
-  EachRunOwesTheClosing = (cap : Option ℕ) (t : Scene T W) (steps : List (Step T W)) (trace : List (Entry T)) → IsRun NextScene (new_scene cap) steps trace t → ClosingIsOwed t × PendingIsOwedTheClosing t
+  EachRunOwesTheClosing = (cap : Option ℕ) (t : Configuration T W) (steps : List (Step T W)) (trace : List (Entry T)) → IsRun NextConfiguration (new_configuration cap) steps trace t → ClosingIsOwed t × PendingIsOwedTheClosing t

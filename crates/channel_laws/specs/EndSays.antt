@@ -3,12 +3,12 @@ use Rattle.std.specs.Prelude.{◌≡◌, Option, Some}
 use Rattle.channel_calls.specs.declared.reply.Reply.{Reply}
 use Rattle.channel_calls.specs.declared.stage.Kept.{Kept}
 use Rattle.channel_steps.specs.Answers.{Keeps, Met}
-use Rattle.channel_steps.specs.Scene.{Under}
+use Rattle.channel_steps.specs.Configuration.{ActiveCall}
 use Rattle.channel_steps.specs.Tellings.{owed}
 
 module _ {T W : Type 0} where
   -- a call that ends with this reply, and leaves this to its operation
-  pub record EndSays (u : Under T W) (r : Reply T) (left : Option (Kept T)) : Type 0 where
+  pub record EndSays (u : ActiveCall T W) (r : Reply T) (left : Option (Kept T)) : Type 0 where
     -- it has the marks that its reply's row names, and found what the row says at moments of its own
     pub row : Met u.ask u.marks u.seen r
     -- all that its marks owe was told, in order, once each

@@ -8,8 +8,8 @@ use Rattle.channel_calls.specs.declared.reply.Reply.{Reply}
 use Rattle.channel_calls.specs.declared.reply.Reply.TheVariants as reply
 use Rattle.futures.specs.declared.task.Poll.TheVariants.{Ready}
 use Rattle.channel_steps.specs.Moments.{Spent, Once}
-use Rattle.channel_steps.specs.Scene.{Under, Scene, Steps}
-use Rattle.channel_steps.specs.Run.{IsRun, NextScene}
+use Rattle.channel_steps.specs.Configuration.{ActiveCall, Configuration, Steps}
+use Rattle.channel_steps.specs.Run.{IsRun, NextConfiguration}
 use Rattle.channel_steps.specs.declared.party.Entry.{Entry}
 use Rattle.channel_steps.specs.declared.run.Step.{Step}
 use Rattle.channel_steps.specs.declared.run.Step.TheVariants as step
@@ -51,17 +51,17 @@ module _ {T : Type 0} where
   Replies P (Some r) = P r
 
 module _ {T W : Type 0} where
-  abbrev pub Each : (Under T W → Type 0) → List (Under T W) → Type 0
+  abbrev pub Each : (ActiveCall T W → Type 0) → List (ActiveCall T W) → Type 0
   Each P [] = Unit {0}
   Each P (u ∷ us) = P u × Each P us
 
   -- this party has no call under way
-  abbrev pub IsIdle : ℕ → Scene T W → Type 0
+  abbrev pub IsIdle : ℕ → Configuration T W → Type 0
   IsIdle p s = Each (λ u. u.party ≡ p → ⊥) s.under_way
 
   -- where the channel was over at a moment of a call under way, it is over now. So it is in a channel that was just opened,
   -- where none is under way
-  abbrev pub KnowsTheEnd : Scene T W → Type 0
+  abbrev pub KnowsTheEnd : Configuration T W → Type 0
   KnowsTheEnd s = Each (λ u. Once Spent u.seen → Spent s.now) s.under_way
 
   -- no step of this party gives a message
@@ -71,7 +71,7 @@ module _ {T W : Type 0} where
   GetsNothing p xs es = Unit {0}
 
   -- after a run the channel is over still, nothing was brought or taken, and nothing left or came
-  pub record StaysOver (s : Scene T W) (trace : List (Entry T)) (t : Scene T W) : Type 0 where
+  pub record StaysOver (s : Configuration T W) (trace : List (Entry T)) (t : Configuration T W) : Type 0 where
     pub over : Spent t.now
     pub still : AllStill trace
     pub gone : t.gone ≡ s.gone
@@ -81,23 +81,23 @@ module _ (T W : Type 0) where
   -- in every run from a channel that is over
   abbrev pub EndIsForGood : Type 0
   EndIsForGood =
-      (s t : Scene T W) (steps : List (Step T W)) (trace : List (Entry T)) → Spent s.now → IsRun NextScene s steps trace t → StaysOver s trace t
+      (s t : Configuration T W) (steps : List (Step T W)) (trace : List (Entry T)) → Spent s.now → IsRun NextConfiguration s steps trace t → StaysOver s trace t
 
   -- what calls under way know of the end is true after every run, where it was before
   abbrev pub EndIsKnown : Type 0
   EndIsKnown =
-      (s t : Scene T W) (steps : List (Step T W)) (trace : List (Entry T)) → KnowsTheEnd s → IsRun NextScene s steps trace t → KnowsTheEnd t
+      (s t : Configuration T W) (steps : List (Step T W)) (trace : List (Entry T)) → KnowsTheEnd s → IsRun NextConfiguration s steps trace t → KnowsTheEnd t
 
   -- a call says the end; at any later moment a party has no call under way; no call of it that begins from then on gives a
   -- message
   abbrev pub NothingComesAfterTheEnd : Type 0
   NothingComesAfterTheEnd =
-      (start said after later last : Scene T W) (before between behind : List (Step T W)) (first second third : List (Entry T))
+      (start said after later last : Configuration T W) (before between behind : List (Step T W)) (first second third : List (Entry T))
       (p q : ℕ) (e : Entry T) (names : List W)
       → KnowsTheEnd start
-      → IsRun NextScene start before first said
+      → IsRun NextConfiguration start before first said
       → Steps said p e names after → Replies SaysTheEnd e.reply
-      → IsRun NextScene after between second later
+      → IsRun NextConfiguration after between second later
       → IsIdle q later
-      → IsRun NextScene later behind third last
+      → IsRun NextConfiguration later behind third last
       → GetsNothing q behind third

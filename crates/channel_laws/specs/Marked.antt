@@ -4,7 +4,7 @@ use Rattle.channel_calls.specs.Moves as moves
 use Rattle.channel_calls.specs.declared.mark.Mark.{Mark}
 use Rattle.channel_calls.specs.declared.mark.Mark.TheVariants.{Nothing, Append, Take, TakeDisplaced, Replace, Close, SenderUp, SenderDown, ReceiverUp, ReceiverDown}
 use Rattle.channel_model.specs.Channel.{ModelChannel}
-use Rattle.channel_steps.specs.Scene.{Scene}
+use Rattle.channel_steps.specs.Configuration.{Configuration}
 
 module _ {T W : Type 0} where
   -- the plain channel that a channel is at a moment: its messages, oldest first, its capacity, its flag and its two counts
@@ -39,8 +39,8 @@ module _ {T : Type 0} where
 
 module _ {T W : Type 0} where
   -- what left the channel on the way from s to t, followed by what it holds, is what it held followed by what it accepted, in
-  -- order; and so it is noted in the scenes
-  pub record AddUp (s : Scene T W) (taken accepted : List T) (t : Scene T W) : Type 0 where
+  -- order; and so it is noted in the configurations
+  pub record AddUp (s : Configuration T W) (taken accepted : List T) (t : Configuration T W) : Type 0 where
     pub held : taken ++ t.now.queue.items ≡ s.now.queue.items ++ accepted
     pub gone : t.gone ≡ s.gone ++ taken
     pub came : t.came ≡ s.came ++ accepted

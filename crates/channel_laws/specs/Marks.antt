@@ -6,7 +6,7 @@ use Rattle.channel_calls.specs.declared.ask.ChannelAsk.TheVariants as ask
 use Rattle.channel_calls.specs.declared.mark.Mark.{Mark}
 use Rattle.channel_calls.specs.declared.mark.Mark.TheVariants.{Append, Take, TakeDisplaced, Replace, Close, SenderDown, ReceiverDown}
 use Rattle.channel_steps.specs.Moments.{MarkedMoment}
-use Rattle.channel_steps.specs.Scene.{Under}
+use Rattle.channel_steps.specs.Configuration.{ActiveCall}
 
 -- each of them takes a message
 abbrev pub AreTakings : List Mark → Type 0
@@ -34,6 +34,6 @@ module _ {T W : Type 0} where
   marks_of ds = map (λ (d : MarkedMoment T W). d.mark) ds
 
   -- the marks that a call under way has made are the first of all that it makes
-  pub record BeginsItsMarks (u : Under T W) : Type 0 where
+  pub record BeginsItsMarks (u : ActiveCall T W) : Type 0 where
     pub later : List Mark
     pub all : AreMarksOf u.ask (marks_of u.marks ++ later)

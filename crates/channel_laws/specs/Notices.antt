@@ -7,8 +7,8 @@ use Rattle.channel_calls.specs.Parts.{listeners}
 use Rattle.channel_calls.specs.declared.stage.Line.{Line}
 use Rattle.channel_calls.specs.declared.stage.Line.TheVariants.{Sends, Receives, Streams, Closings}
 use Rattle.channel_steps.specs.Moments.{Open, Shut}
-use Rattle.channel_steps.specs.Run.{IsRun, NextScene, new_scene}
-use Rattle.channel_steps.specs.Scene.{Scene, AllKnown, IsBalanced}
+use Rattle.channel_steps.specs.Run.{IsRun, NextConfiguration, new_configuration}
+use Rattle.channel_steps.specs.Configuration.{Configuration, AllKnown, IsBalanced}
 use Rattle.channel_steps.specs.declared.party.Entry.{Entry}
 use Rattle.channel_steps.specs.declared.run.Step.{Step}
 use Rattle.channel_laws.specs.Closings.{HasClosed, LooksAgain}
@@ -45,7 +45,7 @@ module _ {T W : Type 0} where
   told_of line c = (listeners line c.roster).told
 
   -- how those who are told now were told
-  pub record TellingsFit (s : Scene T W) : Type 0 where
+  pub record TellingsFit (s : Configuration T W) : Type 0 where
     -- while the channel is open
     pub while_open : (line : Line) → Open s.now → EachTold (MayBeTold line) (told_of line s.now)
     -- where one send or receive was told by the default the channel is closed, and whoever still waits on that list is in
@@ -56,7 +56,7 @@ module _ {T W : Type 0} where
 
   -- with what every run needs to keep it: what is known of its calls, that no listener is twice on a list, and that a channel
   -- that a call under way has closed is closed
-  pub record TellingsSound (s : Scene T W) : Type 0 where
+  pub record TellingsSound (s : Configuration T W) : Type 0 where
     pub known : AllKnown s.now s.under_way
     pub balanced : IsBalanced s.now.queue
     pub apart : (line : Line) → WaitApart line s.now
@@ -66,12 +66,12 @@ module _ {T W : Type 0} where
 module _ (T W : Type 0) where
   abbrev pub TellingsStayFit : Type 0
   TellingsStayFit =
-      (s t : Scene T W) (steps : List (Step T W)) (trace : List (Entry T)) → TellingsSound s → IsRun NextScene s steps trace t
+      (s t : Configuration T W) (steps : List (Step T W)) (trace : List (Entry T)) → TellingsSound s → IsRun NextConfiguration s steps trace t
       → TellingsSound t
 
   -- in every run from a channel that was just opened
   abbrev pub TellingsAlwaysFit : Type 0
   TellingsAlwaysFit =
-      (cap : Option ℕ) (t : Scene T W) (steps : List (Step T W)) (trace : List (Entry T))
-      → IsRun NextScene (new_scene cap) steps trace t
+      (cap : Option ℕ) (t : Configuration T W) (steps : List (Step T W)) (trace : List (Entry T))
+      → IsRun NextConfiguration (new_configuration cap) steps trace t
       → TellingsFit t

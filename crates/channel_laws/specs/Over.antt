@@ -2,7 +2,7 @@
 use Rattle.std.specs.Prelude.{List, [], ◌∷◌}
 use Rattle.channel_calls.specs.Moves.{Channel}
 use Rattle.channel_steps.specs.Moments.{MarkedMoment, Spent}
-use Rattle.channel_steps.specs.Scene.{Under, Scene}
+use Rattle.channel_steps.specs.Configuration.{ActiveCall, Configuration}
 use Rattle.channel_laws.specs.Ends.{IsStill, Each, KnowsTheEnd}
 
 module _ {T W : Type 0} where
@@ -17,9 +17,9 @@ module _ {T W : Type 0} where
   StillDeeds (d ∷ ds) = IsStill d.mark × StillDeeds ds
 
   -- a call that began when it was over, and so saw nothing else, brought and took nothing
-  abbrev pub IsLate : Under T W → Type 0
+  abbrev pub IsLate : ActiveCall T W → Type 0
   IsLate u = AllSpent u.seen → StillDeeds u.marks
 
-  pub record EndSound (s : Scene T W) : Type 0 where
+  pub record EndSound (s : Configuration T W) : Type 0 where
     pub knows : KnowsTheEnd s
     pub late : Each IsLate s.under_way

@@ -8,8 +8,8 @@ use Rattle.channel_calls.specs.declared.stage.Line.TheVariants.{Receives}
 use Rattle.channel_calls.specs.declared.stage.Stage as stage
 use Rattle.channel_calls.specs.declared.stage.Stage.TheVariants.{Trying, Working}
 use Rattle.channel_calls.specs.declared.stage.Work.TheVariants.{TellReceive}
-use Rattle.channel_steps.specs.Scene.{Scene}
-use Rattle.channel_steps.specs.Run.{IsRun, NextScene, new_scene}
+use Rattle.channel_steps.specs.Configuration.{Configuration}
+use Rattle.channel_steps.specs.Run.{IsRun, NextConfiguration, new_configuration}
 use Rattle.channel_steps.specs.declared.party.Entry.{Entry}
 use Rattle.channel_steps.specs.declared.run.Step.{Step}
 use Rattle.channel_laws.specs.Amounts.{HoldsListener, is_trying_anew, AreOwed, PendingAreOwed}
@@ -42,27 +42,27 @@ module _ {T W : Type 0} where
 
   -- where a receive waits there are no more messages than told receives and calls under way that are to tell one or try as
   -- one; or a call has its listener in hand
-  abbrev pub ReceivesAreOwed : Scene T W → Type 0
+  abbrev pub ReceivesAreOwed : Configuration T W → Type 0
   ReceivesAreOwed s = AreOwed Receives MessagesAreFew counts_for_receives (HoldsListener Receives) s
 
   -- one whose listener no call under way has in hand: the first of it
-  abbrev pub PendingReceivesAreOwed : Scene T W → Type 0
+  abbrev pub PendingReceivesAreOwed : Configuration T W → Type 0
   PendingReceivesAreOwed s = PendingAreOwed Receives MessagesAreFew counts_for_receives (HoldsListener Receives) s
 
   -- with what every run needs to keep it
-  pub record ReceivesSound (s : Scene T W) : Type 0 where
+  pub record ReceivesSound (s : Configuration T W) : Type 0 where
     pub tellings : TellingsSound s
     pub owed : ReceivesAreOwed s
 
 module _ (T W : Type 0) where
   abbrev pub ReceivesStayOwed : Type 0
   ReceivesStayOwed =
-      (s t : Scene T W) (steps : List (Step T W)) (trace : List (Entry T)) → ReceivesSound s → IsRun NextScene s steps trace t
+      (s t : Configuration T W) (steps : List (Step T W)) (trace : List (Entry T)) → ReceivesSound s → IsRun NextConfiguration s steps trace t
       → ReceivesSound t
 
   -- in every run from a channel that was just opened
   abbrev pub NoReceiveIsForgotten : Type 0
   NoReceiveIsForgotten =
-      (cap : Option ℕ) (t : Scene T W) (steps : List (Step T W)) (trace : List (Entry T))
-      → IsRun NextScene (new_scene cap) steps trace t
+      (cap : Option ℕ) (t : Configuration T W) (steps : List (Step T W)) (trace : List (Entry T))
+      → IsRun NextConfiguration (new_configuration cap) steps trace t
       → ReceivesAreOwed t × PendingReceivesAreOwed t

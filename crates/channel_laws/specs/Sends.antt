@@ -10,8 +10,8 @@ use Rattle.channel_calls.specs.declared.stage.Stage as stage
 use Rattle.channel_calls.specs.declared.stage.Stage.TheVariants.{Trying, Working}
 use Rattle.channel_calls.specs.declared.stage.Work.TheVariants.{TellSend, TellSends}
 use Rattle.channel_steps.specs.Moments.{Shut}
-use Rattle.channel_steps.specs.Scene.{Scene}
-use Rattle.channel_steps.specs.Run.{IsRun, NextScene, new_scene}
+use Rattle.channel_steps.specs.Configuration.{Configuration}
+use Rattle.channel_steps.specs.Run.{IsRun, NextConfiguration, new_configuration}
 use Rattle.channel_steps.specs.declared.party.Entry.{Entry}
 use Rattle.channel_steps.specs.declared.run.Step.{Step}
 use Rattle.channel_laws.specs.Amounts.{HoldsListener, is_trying_anew, AreOwed, PendingAreOwed}
@@ -62,27 +62,27 @@ module _ {T W : Type 0} where
 
   -- where a send waits the channel is closed, or has a bound, and no more places than messages, told sends, and calls under
   -- way that are to tell one, bring a message for which they made room, or try as a send; or a call has its listener in hand
-  abbrev pub SendsAreOwed : Scene T W → Type 0
+  abbrev pub SendsAreOwed : Configuration T W → Type 0
   SendsAreOwed s = AreOwed Sends PlacesAreFew counts_for_sends (HoldsListener Sends) s
 
   -- one whose listener no call under way has in hand: the first of it
-  abbrev pub PendingSendsAreOwed : Scene T W → Type 0
+  abbrev pub PendingSendsAreOwed : Configuration T W → Type 0
   PendingSendsAreOwed s = PendingAreOwed Sends PlacesAreFew counts_for_sends (HoldsListener Sends) s
 
   -- with what every run needs to keep it
-  pub record SendsSound (s : Scene T W) : Type 0 where
+  pub record SendsSound (s : Configuration T W) : Type 0 where
     pub tellings : TellingsSound s
     pub owed : SendsAreOwed s
 
 module _ (T W : Type 0) where
   abbrev pub SendsStayOwed : Type 0
   SendsStayOwed =
-      (s t : Scene T W) (steps : List (Step T W)) (trace : List (Entry T)) → SendsSound s → IsRun NextScene s steps trace t
+      (s t : Configuration T W) (steps : List (Step T W)) (trace : List (Entry T)) → SendsSound s → IsRun NextConfiguration s steps trace t
       → SendsSound t
 
   -- in every run from a channel that was just opened
   abbrev pub NoSendIsForgotten : Type 0
   NoSendIsForgotten =
-      (cap : Option ℕ) (t : Scene T W) (steps : List (Step T W)) (trace : List (Entry T))
-      → IsRun NextScene (new_scene cap) steps trace t
+      (cap : Option ℕ) (t : Configuration T W) (steps : List (Step T W)) (trace : List (Entry T))
+      → IsRun NextConfiguration (new_configuration cap) steps trace t
       → SendsAreOwed t × PendingSendsAreOwed t

@@ -1,5 +1,5 @@
 -- All that every run keeps of those who wait.
-use Rattle.channel_steps.specs.Scene.{Scene}
+use Rattle.channel_steps.specs.Configuration.{Configuration}
 use Rattle.channel_laws.specs.Closings.{ClosingSound}
 use Rattle.channel_laws.specs.Notices.{TellingsFit}
 use Rattle.channel_laws.specs.Over.{EndSound}
@@ -11,7 +11,7 @@ use Rattle.channel_laws.specs.Unlisted.{SendsUnlisted}
 module _ {T W : Type 0} where
   -- nobody who waits is forgotten, for whatever he waits, those who are told were told as they may be, what is over stays so, and without
   -- a bound no send listens
-  pub record AllSound (s : Scene T W) : Type 0 where
+  pub record WakeInvariant (s : Configuration T W) : Type 0 where
     pub streams : StreamsSound s
     pub closing : ClosingSound s
     pub receives : ReceivesSound s

@@ -9,8 +9,8 @@ use Rattle.channel_calls.specs.declared.stage.Line.TheVariants.{Streams}
 use Rattle.channel_calls.specs.declared.stage.Stage as stage
 use Rattle.channel_calls.specs.declared.stage.Stage.TheVariants.{Trying, Working}
 use Rattle.channel_calls.specs.declared.stage.Work.TheVariants.{TellReceive, TellStreams, TellSend, Leave}
-use Rattle.channel_steps.specs.Scene.{Under, Scene, AllKnown, IsBalanced}
-use Rattle.channel_steps.specs.Run.{IsRun, NextScene, new_scene}
+use Rattle.channel_steps.specs.Configuration.{ActiveCall, Configuration, AllKnown, IsBalanced}
+use Rattle.channel_steps.specs.Run.{IsRun, NextConfiguration, new_configuration}
 use Rattle.channel_steps.specs.declared.party.Entry.{Entry}
 use Rattle.channel_steps.specs.declared.run.Step.{Step}
 use Rattle.channel_laws.specs.Ends.{Each}
@@ -44,22 +44,22 @@ module _ {T W : Type 0} where
   HasInHand key at = ⊥
 
   -- who answers for a waiting stream
-  abbrev pub AnswersFor : Key → Under T W → Type 0
+  abbrev pub AnswersFor : Key → ActiveCall T W → Type 0
   AnswersFor key u = (IsSending u.ask × IsBringing u.at) ⊎ HasInHand key u.at
 
   -- where a stream waits there is no message, or a call under way answers for it
-  abbrev pub StreamsAreOwed : Scene T W → Type 0
+  abbrev pub StreamsAreOwed : Configuration T W → Type 0
   StreamsAreOwed s = (key : Key) → Waits Streams key s.now → (s.now.queue.items ≡ []) ⊎ Any (AnswersFor key) s.under_way
 
   -- one whose listener no call under way has in hand, as where its poll ended pending: there is no message, or a sending call
   -- under way has brought one and is to tell all streams
-  abbrev pub PendingStreamsAreOwed : Scene T W → Type 0
+  abbrev pub PendingStreamsAreOwed : Configuration T W → Type 0
   PendingStreamsAreOwed s =
       (key : Key) → Waits Streams key s.now → Each (λ u. HasInHand key u.at → ⊥) s.under_way
       → (s.now.queue.items ≡ []) ⊎ Any (λ u. IsSending u.ask × IsBringing u.at) s.under_way
 
   -- with what every run needs to keep it: what is known of its calls, and no listener twice on the list
-  pub record StreamsSound (s : Scene T W) : Type 0 where
+  pub record StreamsSound (s : Configuration T W) : Type 0 where
     pub known : AllKnown s.now s.under_way
     pub balanced : IsBalanced s.now.queue
     pub apart : WaitApart Streams s.now
@@ -67,8 +67,8 @@ module _ {T W : Type 0} where
 
 module _ (T W : Type 0) where
   abbrev pub StreamsStayOwed : Type 0
-  StreamsStayOwed = (s t : Scene T W) (steps : List (Step T W)) (trace : List (Entry T)) → StreamsSound s → IsRun NextScene s steps trace t → StreamsSound t
+  StreamsStayOwed = (s t : Configuration T W) (steps : List (Step T W)) (trace : List (Entry T)) → StreamsSound s → IsRun NextConfiguration s steps trace t → StreamsSound t
 
   -- in every run from a channel that was just opened
   abbrev pub NoStreamIsForgotten : Type 0
-  NoStreamIsForgotten = (cap : Option ℕ) (t : Scene T W) (steps : List (Step T W)) (trace : List (Entry T)) → IsRun NextScene (new_scene cap) steps trace t → StreamsAreOwed t × PendingStreamsAreOwed t
+  NoStreamIsForgotten = (cap : Option ℕ) (t : Configuration T W) (steps : List (Step T W)) (trace : List (Entry T)) → IsRun NextConfiguration (new_configuration cap) steps trace t → StreamsAreOwed t × PendingStreamsAreOwed t

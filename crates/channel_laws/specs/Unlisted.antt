@@ -2,7 +2,7 @@
 use Rattle.std.specs.Prelude.{◌≡◌, None}
 use Rattle.channel_calls.specs.Moves.{Channel}
 use Rattle.channel_calls.specs.Parts.{nobody_listens}
-use Rattle.channel_steps.specs.Scene.{Scene}
+use Rattle.channel_steps.specs.Configuration.{Configuration}
 use Rattle.channel_laws.specs.Bounds.{BoundSound}
 
 module _ {T W : Type 0} where
@@ -11,6 +11,6 @@ module _ {T W : Type 0} where
   NoSendListens c = c.queue.capacity ≡ None → c.roster.sends ≡ nobody_listens
 
   -- with what every run needs to keep it
-  pub record SendsUnlisted (s : Scene T W) : Type 0 where
+  pub record SendsUnlisted (s : Configuration T W) : Type 0 where
     pub bound : BoundSound s
     pub unlisted : NoSendListens s.now

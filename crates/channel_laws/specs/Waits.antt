@@ -4,7 +4,7 @@ use Rattle.event_listener.specs.declared.key.Key.{Key}
 use Rattle.channel_calls.specs.Moves.{Channel}
 use Rattle.channel_calls.specs.Parts.{listeners}
 use Rattle.channel_calls.specs.declared.stage.Line.{Line}
-use Rattle.channel_steps.specs.Scene.{Under}
+use Rattle.channel_steps.specs.Configuration.{ActiveCall}
 
 module _ {W : Type 0} where
   -- this listener stands on this list
@@ -26,6 +26,6 @@ module _ {T W : Type 0} where
   WaitApart line c = Apart (listeners line c.roster).waiting
 
   -- at least one of the calls under way
-  abbrev pub Any : (Under T W → Type 0) → List (Under T W) → Type 0
+  abbrev pub Any : (ActiveCall T W → Type 0) → List (ActiveCall T W) → Type 0
   Any P [] = ⊥
   Any P (u ∷ us) = P u ⊎ Any P us

@@ -58,7 +58,7 @@ pub fn nothing_comes_after_the_end<T, W>()
 /// stream's listener in hand, and tries again or leaves the list. So where no call has it in hand, as after a poll that ended
 /// pending, a message beside it means such a sending call.
 ///
-/// What makes it so is kept by every run, from whatever scene it holds of.
+/// What makes it so is kept by every run, from whatever configuration it holds of.
 ///
 /// Own to this project.
 pub fn no_stream_is_forgotten<T, W>()
@@ -71,7 +71,7 @@ pub fn no_stream_is_forgotten<T, W>()
 /// to tell, or a poll under way has the listener in hand, and tries again and has found no cause to wait, or leaves the
 /// list. So where no call has it in hand, as after a poll that ended pending, the call that closed is about to tell it.
 ///
-/// What makes it so is kept by every run, from whatever scene it holds of.
+/// What makes it so is kept by every run, from whatever configuration it holds of.
 ///
 /// Own to this project.
 pub fn nobody_misses_the_closing<T, W>()
@@ -85,7 +85,7 @@ pub fn nobody_misses_the_closing<T, W>()
 /// default the channel is closed, and for whoever still waits on that list a poll under way has the listener in hand, and tries
 /// again and has found no cause to wait, or leaves the list.
 ///
-/// What makes it so is kept by every run, from whatever scene it holds of.
+/// What makes it so is kept by every run, from whatever configuration it holds of.
 ///
 /// Own to this project.
 pub fn each_list_is_told_its_way<T, W>()
@@ -99,7 +99,7 @@ pub fn each_list_is_told_its_way<T, W>()
 /// in hand. Or a poll under way has the listener of the waiting one in hand, and tries again or leaves the list. So where no call
 /// has it in hand, as after a poll that ended pending, each message beside it has another receive that comes for it.
 ///
-/// What makes it so is kept by every run, from whatever scene it holds of.
+/// What makes it so is kept by every run, from whatever configuration it holds of.
 ///
 /// Own to this project.
 pub fn no_receive_is_forgotten<T, W>()
@@ -115,7 +115,7 @@ pub fn no_receive_is_forgotten<T, W>()
 /// hand, as after a poll that ended pending, each free place beside it on an open channel has another send that comes for it,
 /// and where there is no bound no such send waits.
 ///
-/// What makes it so is kept by every run, from whatever scene it holds of.
+/// What makes it so is kept by every run, from whatever configuration it holds of.
 ///
 /// Own to this project.
 pub fn no_send_is_forgotten<T, W>()
@@ -127,7 +127,7 @@ pub fn no_send_is_forgotten<T, W>()
 /// capacity: also while a message that displaced another is on its way, since no other send takes the place that was made for it.
 /// And in a run over a channel without a bound no send answers that it is full, and none displaces a message.
 ///
-/// What makes it so is kept by every run, from whatever scene it holds of.
+/// What makes it so is kept by every run, from whatever configuration it holds of.
 ///
 /// Own to this project.
 pub fn no_more_than_fit<T, W>()

@@ -7,7 +7,7 @@ pub mod LoneDirectory
 pub mod LoneSeen
 pub mod LoneNames
 pub mod LoneWakes
-pub mod LonePosts
+pub mod LoneStatuses
 pub mod LoneEnds
 pub mod LoneWoken
 pub mod LoneAsks

@@ -1,5 +1,5 @@
 -- Where no poll is under way a call asks what it asks in the model, and is refused where and why it is refused there.
-use Rattle.channel_rest.proofs.Words.{◌≡◌, ℕ, Bool, true, false, not, if◌then◌else◌, List, [], ◌∷◌, ◌||◌, Option, None, Some, ◌⊎◌, inl, inr, refl, sym, ap, ◌∙◌, list_all, list_any, option_map, option_map_or, Line, Sends, Receives, Streams, Closings, taken_seen, asked, poll_asked, refusal_asked, giving_up_asked, drop_asked, clone_asked, upgrade_asked, at, uses, is_live, are_fit, takes_borrowed, State, Call, Handle, HandleId, HandleKind, OpId, Waiter, Op, Stream, asks, amiss, polled, stream_post, operation_post, post, is_operation_polled, is_stream_polled, meets_poll, is_used, takes_used, takes_again, begin_refusal, is_polled, has_finished, is_done, operation_of, names_of, held_of, Hold, Operation, OperationKind, Standing, Rests, Waits, IsPolled, Roll, op_is, NonePolled}
+use Rattle.channel_rest.proofs.Words.{◌≡◌, ℕ, Bool, true, false, not, if◌then◌else◌, List, [], ◌∷◌, ◌||◌, Option, None, Some, ◌⊎◌, inl, inr, refl, sym, ap, ◌∙◌, list_all, list_any, option_map, option_map_or, Line, Sends, Receives, Streams, Closings, taken_seen, asked, poll_asked, refusal_asked, giving_up_asked, drop_asked, clone_asked, upgrade_asked, at, uses, is_live, are_fit, takes_borrowed, State, Call, Handle, HandleId, HandleKind, OpId, Waiter, Op, Stream, asks, invalid, polled, stream_status, operation_status, status, is_operation_polled, is_stream_polled, meets_poll, is_used, takes_used, takes_again, begin_refusal, is_polled, has_finished, is_done, operation_of, names_of, held_of, HandleEntry, Operation, OperationKind, PollState, Rests, Waits, IsPolled, NameTable, op_is, NonePolled}
 use Rattle.channel_calls.specs.declared.ask.ChannelAsk.{ChannelAsk}
 use Rattle.channel_model.specs.declared.refusal.WorldRefusal.{WorldRefusal}
 use Rattle.channel_model.specs.declared.refusal.WorldRefusal.TheVariants.{UnknownName, WrongKind, OpUnderWay, Borrowed, NameTaken}
@@ -18,16 +18,16 @@ none_any test [] h = refl
 none_any test (x ∷ xs) h = ap (λ (b : Bool). b || list_any test xs) (h x) ∙ none_any test xs h
 
 -- a stream that is being polled is one of a receiver, or amiss
-polled_stream : (k : HandleKind) (s : Standing) → is_polled s ≡ true
-    → ((line : Line) × (stream_post k s ≡ polled line)) ⊎ (stream_post k s ≡ amiss)
+polled_stream : (k : HandleKind) (s : PollState) → is_polled s ≡ true
+    → ((line : Line) × (stream_status k s ≡ polled line)) ⊎ (stream_status k s ≡ invalid)
 polled_stream k Rests e = absurd (let no : false ≡ true = e in cc)
 polled_stream k (Waits key w) e = absurd (let no : false ≡ true = e in cc)
 polled_stream handle_kind.Receiver (IsPolled b) e = inl (Streams, refl)
 polled_stream k s e = inr refl
 
 module _ {T : Type 0} where
-  polled_operation : (k : OperationKind) (m : Option T) (s : Standing) → is_polled s ≡ true
-      → (line : Line) × (operation_post k m s ≡ polled line)
+  polled_operation : (k : OperationKind) (m : Option T) (s : PollState) → is_polled s ≡ true
+      → (line : Line) × (operation_status k m s ≡ polled line)
   polled_operation Send None (IsPolled b) e = (Sends, refl)
   polled_operation Send (Some m) (IsPolled b) e = (Sends, refl)
   polled_operation Receive m (IsPolled b) e = (Receives, refl)
@@ -38,7 +38,7 @@ module _ {T : Type 0} where
   abbrev seen_as : OperationKind → HandleId → Option T → names.ModelOperation T
   seen_as k handle m = elim k [ Send ↦ names.send handle m | Receive ↦ names.recv handle | Closing ↦ names.closing handle ]
 
-  finished_as : (k : OperationKind) (handle : HandleId) (m : Option T) (s : Standing) → is_polled s ≡ false
+  finished_as : (k : OperationKind) (handle : HandleId) (m : Option T) (s : PollState) → is_polled s ≡ false
       → has_finished k m s ≡ model.is_finished (Some (seen_as k handle m))
   finished_as Send handle None Rests e = refl
   finished_as Send handle None (Waits key w) e = refl
@@ -46,14 +46,14 @@ module _ {T : Type 0} where
   finished_as Send handle (Some m) s e = refl
   finished_as k handle m s e = refl
 
-  module _ (r : Roll T) (none : NonePolled r) where
-    unpolled : (op : OpId) (o : Operation T) → at op.0 r.operations ≡ Some o → is_polled o.standing ≡ false
-    unpolled op o e = by (is_polled o.standing) refl
+  module _ (r : NameTable T) (none : NonePolled r) where
+    unpolled : (op : OpId) (o : Operation T) → at op.0 r.operations ≡ Some o → is_polled o.poll_state ≡ false
+    unpolled op o e = by (is_polled o.poll_state) refl
       where
-        by : (b : Bool) → is_polled o.standing ≡ b → is_polled o.standing ≡ false
+        by : (b : Bool) → is_polled o.poll_state ≡ b → is_polled o.poll_state ≡ false
         by false f = f
         by true f =
-            let p = polled_operation o.kind o.message o.standing f in
+            let p = polled_operation o.kind o.message o.poll_state f in
             absurd (none (Op op) p.0 (op_is r op o e ∙ p.1))
 
     -- ---- what is asked
@@ -66,7 +66,7 @@ module _ {T : Type 0} where
             → option_map_or is_done (at op.0 r.operations) false ≡ model.is_finished
             (option_map operation_of (at op.0 r.operations))
         by None e = rw e refl
-        by (Some o) e = rw e (finished_as o.kind o.handle o.message o.standing (unpolled op o e))
+        by (Some o) e = rw e (finished_as o.kind o.handle o.message o.poll_state (unpolled op o e))
 
     pub asks_same : (c : Call T) → asks r c ≡ asked (held_of r) (names_of r) c
     asks_same (call.Poll op) = ap (λ (o : Option (names.ModelOperation T)). poll_asked (held_of r) op o) (sym (operation_at r op.0))
@@ -83,7 +83,7 @@ module _ {T : Type 0} where
 
     -- ---- what is refused
 
-    module _ (sane : (w : Waiter) → post r w ≡ amiss → ⊥) where
+    module _ (sane : (w : Waiter) → status r w ≡ invalid → ⊥) where
       no_operation : (op : OpId) → is_operation_polled op.0 r ≡ false
       no_operation op = by (at op.0 r.operations) refl
         where
@@ -97,17 +97,17 @@ module _ {T : Type 0} where
           id : HandleId
           id = record { 0 = handle }
 
-          not_polled : (h : Hold) → at handle r.handles ≡ Some h → (b : Bool) → is_polled h.standing ≡ b
-              → is_polled h.standing ≡ false
+          not_polled : (h : HandleEntry) → at handle r.handles ≡ Some h → (b : Bool) → is_polled h.poll_state ≡ b
+              → is_polled h.poll_state ≡ false
           not_polled h e false f = f
-          not_polled h e true f = elim (polled_stream h.handle.kind h.standing f) [
+          not_polled h e true f = elim (polled_stream h.handle.kind h.poll_state f) [
             | inl p ↦ absurd (none (Stream id) p.0 (hold_is r id h e ∙ p.1))
             | inr p ↦ absurd (sane (Stream id) (hold_is r id h e ∙ p))
           ]
 
-          by : (x : Option Hold) → at handle r.handles ≡ x → is_stream_polled handle r ≡ false
+          by : (x : Option HandleEntry) → at handle r.handles ≡ x → is_stream_polled handle r ≡ false
           by None e = rw e refl
-          by (Some h) e = rw e (not_polled h e (is_polled h.standing) refl)
+          by (Some h) e = rw e (not_polled h e (is_polled h.poll_state) refl)
 
       streams_idle : (c : Call T) → list_any (λ u. is_stream_polled u.0 r) (uses c) ≡ false
       streams_idle c = none_any (λ u. is_stream_polled u.0 r) (uses c) (λ u. no_stream u.0)
@@ -123,7 +123,7 @@ module _ {T : Type 0} where
       operation_taken op = sym (taken_seen operation_of op.0 r.operations)
 
       handle_taken : (new : HandleId) → names.is_taken new.0 r.handles ≡ names.is_taken new.0 (names_of r).handles
-      handle_taken new = sym (taken_seen (λ (h : Hold). h.handle) new.0 r.handles)
+      handle_taken new = sym (taken_seen (λ (h : HandleEntry). h.handle) new.0 r.handles)
 
       taken_same : (c : Call T) → takes_again r c ≡ wants.names_taken (names_of r) c
       taken_same (call.NewSend op sender msg) = operation_taken op

@@ -1,12 +1,12 @@
 -- A call that was made alone leaves the names that the model leaves.
-use Rattle.channel_rest.proofs.Words.{◌≡◌, ℕ, nat_eq, true, false, List, Option, None, Some, refl, sym, ap, ◌∙◌, nat_eq_equiv, option_map, Channel, Reply, Kept, Outcome, Alone, at_seen, nothing_to_end, weak_of, strong_of, poll_asked, Directory, Names, at, with_spent, with_new, with_changed, State, Call, Handle, HandleId, HandleKind, OpId, Waiter, polled_names, refused_names, given_up_names, made_names, kind_at, names_after, asks, unpolled, leave_handle_of, new_from, lent_by, handed_over_by, operation_named, handle_named, lent_to_poll, installed, written_back, with_operation, all_woken, names_of, operation_of, operation_at, handle_at, held_of, unused, with_lent, with_borrowed, with_handed_over, with_standing, with_given_back, standing_with, Errand, Operation, IsPolled, Roll, names_alone}
+use Rattle.channel_rest.proofs.Words.{◌≡◌, ℕ, nat_eq, true, false, List, Option, None, Some, refl, sym, ap, ◌∙◌, nat_eq_equiv, option_map, Channel, Reply, Kept, Outcome, Alone, at_seen, nothing_to_end, weak_of, strong_of, poll_asked, Directory, Names, at, with_spent, with_new, with_changed, State, Call, Handle, HandleId, HandleKind, OpId, Waiter, polled_names, refused_names, given_up_names, made_names, kind_at, names_after, asks, unpolled, leave_handle_of, new_from, lent_by, handed_over_by, operation_named, handle_named, lent_to_poll, installed, written_back, with_operation, all_woken, names_of, operation_of, operation_at, handle_at, held_of, unused, with_lent, with_borrowed, with_handed_over, with_poll_state, with_given_back, poll_state_with, OnReturn, Operation, IsPolled, NameTable, names_alone}
 use Rattle.channel_calls.specs.declared.reply.Reply.TheVariants as reply
 use Rattle.channel_model.specs.Names as model
 use Rattle.channel_model.specs.declared.call.Call.TheVariants as call
-use Rattle.channel_interleaving.specs.declared.names.Errand.TheVariants as errand
+use Rattle.channel_interleaving.specs.declared.names.OnReturn.TheVariants as on_return
 use Rattle.channel_interleaving.specs.declared.names.OperationKind.TheVariants as kind
 use Rattle.channel_rest.proofs.LoneDirectory.{views_set, changed_some, changed_none, changed_twice, same_put_back}
-use Rattle.channel_rest.proofs.LoneSeen.{used_by, handle_of, with_message, put_twice, borrowed_is, left_names, with_operations, seen_lent, seen_back, seen_standing, seen_borrowed, seen_handed_over, seen_to_poll, seen_restored, all_seen}
+use Rattle.channel_rest.proofs.LoneSeen.{used_by, handle_of, with_message, put_twice, borrowed_is, left_names, with_operations, seen_lent, seen_back, seen_poll_state, seen_borrowed, seen_handed_over, seen_to_poll, seen_restored, all_seen}
 
 own : (n : ℕ) → nat_eq n n ≡ true
 own n = nat_eq_equiv.refl n
@@ -27,44 +27,44 @@ module _ {T : Type 0} where
       model.with_handles (with_changed new.0 (record { kind = k; borrowers = 0 }) n.handles) n
   installed_names new k x n = n
 
-  abbrev settled_names : Errand T → Reply T → Kept T → Names T → Names T
-  settled_names errand.Nothing x kept n = n
-  settled_names (errand.Leave handle) x kept n = n
-  settled_names (errand.LeaveBoth a b) x kept n = n
-  settled_names (errand.Make op operation) x kept n =
+  abbrev settled_names : OnReturn T → Reply T → Kept T → Names T → Names T
+  settled_names on_return.Nothing x kept n = n
+  settled_names (on_return.Leave handle) x kept n = n
+  settled_names (on_return.LeaveBoth a b) x kept n = n
+  settled_names (on_return.Make op operation) x kept n =
       with_operations (with_changed op.0 (operation_of operation) n.operations) n
-  settled_names (errand.Poll op) x kept n = left_names kept.message op n
-  settled_names (errand.PollNext receiver) x kept n = n
-  settled_names (errand.New from new k) x kept n = installed_names new k x n
+  settled_names (on_return.Poll op) x kept n = left_names kept.message op n
+  settled_names (on_return.PollNext receiver) x kept n = n
+  settled_names (on_return.New from new k) x kept n = installed_names new k x n
 
-  seen_installed : (new : HandleId) (k : HandleKind) (x : Reply T) (r : Roll T)
+  seen_installed : (new : HandleId) (k : HandleKind) (x : Reply T) (r : NameTable T)
       → names_of (installed new k x r) ≡ installed_names new k x (names_of r)
   seen_installed new k reply.Made r =
       ap (λ (d : Directory Handle). model.with_handles d (names_of r))
       (views_set handle_of new.0 r.handles (Some (unused k)))
   seen_installed new k x r = refl
 
-  seen_settled : (e : Errand T) (x : Reply T) (kept : Kept T) (r : Roll T)
+  seen_settled : (e : OnReturn T) (x : Reply T) (kept : Kept T) (r : NameTable T)
       → names_of (written_back e x kept r) ≡ settled_names e x kept (names_of r)
-  seen_settled errand.Nothing x kept r = refl
-  seen_settled (errand.Leave handle) x kept r = seen_back r handle
-  seen_settled (errand.LeaveBoth a b) x kept r = seen_back (with_given_back a r) b ∙ seen_back r a
-  seen_settled (errand.Make op operation) x kept r =
+  seen_settled on_return.Nothing x kept r = refl
+  seen_settled (on_return.Leave handle) x kept r = seen_back r handle
+  seen_settled (on_return.LeaveBoth a b) x kept r = seen_back (with_given_back a r) b ∙ seen_back r a
+  seen_settled (on_return.Make op operation) x kept r =
       ap (λ (d : Directory (model.ModelOperation T)). with_operations d (names_of r))
       (views_set operation_of op.0 r.operations (Some operation))
-  seen_settled (errand.Poll op) x kept r = seen_restored r kept op
-  seen_settled (errand.PollNext receiver) x kept r =
-      seen_back (with_standing (standing_with kept.key) receiver r) receiver ∙ seen_standing r (standing_with kept.key) receiver
-  seen_settled (errand.New from new k) x kept r =
+  seen_settled (on_return.Poll op) x kept r = seen_restored r kept op
+  seen_settled (on_return.PollNext receiver) x kept r =
+      seen_back (with_poll_state (poll_state_with kept.key) receiver r) receiver ∙ seen_poll_state r (poll_state_with kept.key) receiver
+  seen_settled (on_return.New from new k) x kept r =
       seen_installed new k x (with_given_back from r) ∙ ap (installed_names new k x) (seen_back r from)
 
   -- and it is so whoever was woken
-  ends_so : (e : Errand T) (x : Reply T) (kept : Kept T) (ws : List Waiter) (r : Roll T) (n : Names T) → names_of r ≡ n
+  ends_so : (e : OnReturn T) (x : Reply T) (kept : Kept T) (ws : List Waiter) (r : NameTable T) (n : Names T) → names_of r ≡ n
       → names_of (written_back e x kept (all_woken ws r)) ≡ settled_names e x kept n
   ends_so e x kept ws r n same =
       seen_settled e x kept (all_woken ws r) ∙ ap (settled_names e x kept) (all_seen ws r ∙ same)
 
-  module _ (r : Roll T) where
+  module _ (r : NameTable T) where
     abbrev handles : Directory Handle
     handles = (names_of r).handles
 
@@ -90,10 +90,10 @@ module _ {T : Type 0} where
 
     -- an operation has what its poll left to it
     polls : (op : OpId) (x : Reply T) (kept : Kept T) (ws : List Waiter)
-        → names_of (written_back (errand.Poll op) x kept (all_woken ws (with_operation lent_to_poll op r)))
+        → names_of (written_back (on_return.Poll op) x kept (all_woken ws (with_operation lent_to_poll op r)))
         ≡ left_names kept.message op (names_of r)
     polls op x kept ws =
-        ends_so (errand.Poll op) x kept ws (with_operation lent_to_poll op r) (left_names None op (names_of r))
+        ends_so (on_return.Poll op) x kept ws (with_operation lent_to_poll op r) (left_names None op (names_of r))
         (seen_to_poll r op)
         ∙ ap (λ (d : Directory (model.ModelOperation T)). with_operations d (names_of r))
         (changed_twice (with_message None) (with_message kept.message) (with_message kept.message)
@@ -135,7 +135,7 @@ module _ {T : Type 0} where
 
     -- ---- what lives no more
 
-    abbrev without : OpId → Roll T
+    abbrev without : OpId → NameTable T
     without op = record r { operations = model.without_name op.0 r.operations }
 
     gone : (op : OpId) → names_of (without op) ≡ with_operations (model.without_name op.0 operations) (names_of r)
@@ -146,11 +146,11 @@ module _ {T : Type 0} where
         → names_of (written_back (leave_handle_of y) x kept (all_woken ws (handed_over_by y (without op))))
         ≡ given_up_names op (option_map operation_of y) (names_of r)
     gives_up op None x kept ws e =
-        ends_so errand.Nothing x kept ws (without op) (names_of r)
+        ends_so on_return.Nothing x kept ws (without op) (names_of r)
         (gone op ∙ ap (λ (d : Directory (model.ModelOperation T)). with_operations d (names_of r))
         (nothing_to_end op.0 operations (at_seen operation_of op.0 r.operations ∙ ap (option_map operation_of) e)))
     gives_up op (Some y) x kept ws e =
-        ends_so (errand.Leave y.handle) x kept ws (with_handed_over y.handle (without op)) _
+        ends_so (on_return.Leave y.handle) x kept ws (with_handed_over y.handle (without op)) _
         (seen_handed_over (without op) y.handle
         ∙ ap (λ (n : Names T). model.with_handles (model.used_once_less y.handle n.handles) n) (gone op))
         ∙ ap (λ (h : HandleId). let n : Names T =
@@ -158,46 +158,46 @@ module _ {T : Type 0} where
         (sym (borrowed_is y))
 
     drops : (handle : HandleId) (x : Reply T) (kept : Kept T) (ws : List Waiter)
-        → names_of (written_back errand.Nothing x kept (all_woken ws (record r { handles = model.without_name handle.0 r.handles })))
+        → names_of (written_back on_return.Nothing x kept (all_woken ws (record r { handles = model.without_name handle.0 r.handles })))
         ≡ model.with_handles (model.without_name handle.0 handles) (names_of r)
     drops handle x kept ws =
-        ends_so errand.Nothing x kept ws (record r { handles = model.without_name handle.0 r.handles }) _
+        ends_so on_return.Nothing x kept ws (record r { handles = model.without_name handle.0 r.handles }) _
         (ap (λ (d : Directory Handle). model.with_handles d (names_of r)) (views_set handle_of handle.0 r.handles None))
 
   -- ---- calls through handles
 
-  module _ (r : Roll T) where
+  module _ (r : NameTable T) where
     through : (handle : HandleId) (x : Reply T) (kept : Kept T) (ws : List Waiter)
-        → names_of (written_back (errand.Leave handle) x kept (all_woken ws (with_lent handle r))) ≡ names_of r
-    through handle x kept ws = ends_so (errand.Leave handle) x kept ws (with_lent handle r) (names_of r) (seen_lent r handle)
+        → names_of (written_back (on_return.Leave handle) x kept (all_woken ws (with_lent handle r))) ≡ names_of r
+    through handle x kept ws = ends_so (on_return.Leave handle) x kept ws (with_lent handle r) (names_of r) (seen_lent r handle)
 
     through_both : (a b : HandleId) (x : Reply T) (kept : Kept T) (ws : List Waiter)
-        → names_of (written_back (errand.LeaveBoth a b) x kept (all_woken ws (with_lent b (with_lent a r)))) ≡ names_of r
+        → names_of (written_back (on_return.LeaveBoth a b) x kept (all_woken ws (with_lent b (with_lent a r)))) ≡ names_of r
     through_both a b x kept ws =
-        ends_so (errand.LeaveBoth a b) x kept ws (with_lent b (with_lent a r)) (names_of r)
+        ends_so (on_return.LeaveBoth a b) x kept ws (with_lent b (with_lent a r)) (names_of r)
         (seen_lent (with_lent a r) b ∙ seen_lent r a)
 
     streamed : (receiver : HandleId) (x : Reply T) (kept : Kept T) (ws : List Waiter)
-        → names_of (written_back (errand.PollNext receiver) x kept
-        (all_woken ws (with_lent receiver (with_standing (IsPolled false) receiver r)))) ≡ names_of r
+        → names_of (written_back (on_return.PollNext receiver) x kept
+        (all_woken ws (with_lent receiver (with_poll_state (IsPolled false) receiver r)))) ≡ names_of r
     streamed receiver x kept ws =
-        ends_so (errand.PollNext receiver) x kept ws (with_lent receiver (with_standing (IsPolled false) receiver r)) (names_of r)
-        (seen_lent (with_standing (IsPolled false) receiver r) receiver ∙ seen_standing r (IsPolled false) receiver)
+        ends_so (on_return.PollNext receiver) x kept ws (with_lent receiver (with_poll_state (IsPolled false) receiver r)) (names_of r)
+        (seen_lent (with_poll_state (IsPolled false) receiver r) receiver ∙ seen_poll_state r (IsPolled false) receiver)
 
     -- a call through the handle of an operation
     through_of : (o : Option (Operation T)) (x : Reply T) (kept : Kept T) (ws : List Waiter)
         → names_of (written_back (leave_handle_of o) x kept (all_woken ws (lent_by o r))) ≡ names_of r
-    through_of None x kept ws = ends_so errand.Nothing x kept ws r (names_of r) refl
+    through_of None x kept ws = ends_so on_return.Nothing x kept ws r (names_of r) refl
     through_of (Some o) x kept ws = through o.handle x kept ws
 
     -- ---- new operations
 
     made : (op : OpId) (handle : HandleId) (operation : Operation T) (x : Reply T) (kept : Kept T) (ws : List Waiter)
         → operation.handle ≡ handle
-        → names_of (written_back (errand.Make op operation) x kept (all_woken ws (with_borrowed handle (operation_named op r))))
+        → names_of (written_back (on_return.Make op operation) x kept (all_woken ws (with_borrowed handle (operation_named op r))))
         ≡ model.with_new_operation op (operation_of operation) (names_of r)
     made op handle operation x kept ws same =
-        ends_so (errand.Make op operation) x kept ws (with_borrowed handle (operation_named op r)) _
+        ends_so (on_return.Make op operation) x kept ws (with_borrowed handle (operation_named op r)) _
         (seen_borrowed (operation_named op r) handle)
         ∙ (ap (λ (d : Directory (model.ModelOperation T)). let n : Names T =
         record { handles = model.lent_once_more handle (handles r); operations = d } in n)
@@ -213,19 +213,19 @@ module _ {T : Type 0} where
         → names_of (written_back (new_from from new to o) x kept (all_woken ws (with_lent from (handle_named new r))))
         ≡ made_names new (option_map (λ (h : Handle). to h.kind) o) x (names_of r)
     newly from new to None x kept ws e =
-        ends_so errand.Nothing x kept ws (with_lent from (handle_named new r)) _ (seen_lent (handle_named new r) from)
+        ends_so on_return.Nothing x kept ws (with_lent from (handle_named new r)) _ (seen_lent (handle_named new r) from)
     newly from new to (Some h) x kept ws e =
-        ends_so (errand.New from new (to h.kind)) x kept ws (with_lent from (handle_named new r)) _
+        ends_so (on_return.New from new (to h.kind)) x kept ws (with_lent from (handle_named new r)) _
         (seen_lent (handle_named new r) from)
         ∙ installed_is r new (to h.kind) x
 
-  module _ (r : Roll T) (s : State T) (same : s.names ≡ names_of r) (channel : Channel T Waiter) (o : Outcome T Waiter) where
+  module _ (r : NameTable T) (s : State T) (same : s.names ≡ names_of r) (channel : Channel T Waiter) (o : Outcome T Waiter) where
     -- what holds of these names
     follow : (f : Names T → Names T) (n : Names T) → n ≡ f (names_of r) → n ≡ f s.names
     follow f n h = h ∙ sym (ap f same)
 
     begins : (op : OpId) (handle : HandleId) (operation : Operation T) → operation.handle ≡ handle
-        → names_of (written_back (errand.Make op operation) o.reply o.kept (all_woken o.woken (with_borrowed handle (operation_named op r))))
+        → names_of (written_back (on_return.Make op operation) o.reply o.kept (all_woken o.woken (with_borrowed handle (operation_named op r))))
         ≡ model.with_new_operation op (operation_of operation) s.names
     begins op handle operation is =
         follow (λ n. model.with_new_operation op (operation_of operation) n) _ (made r op handle operation o.reply o.kept o.woken is)

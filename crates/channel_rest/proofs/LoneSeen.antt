@@ -1,5 +1,5 @@
 -- What the parts of a call do to the names, as one call at a time sees them.
-use Rattle.channel_rest.proofs.Words.{◌≡◌, ℕ, ◌+◌, ◌-◌, List, [], ◌∷◌, Option, None, Some, refl, sym, ap, ◌∙◌, Directory, Names, lent_once_more, used_once_less, Want, uses, Call, option_map_or, Handle, HandleId, OpId, Waiter, Op, Stream, Kept, lent_to_poll, restored, with_operation, with_one_woken, all_woken, operation_of, used_more, used_less, borrowed_more, handed_over, names_of, told, with_handle, with_lent, with_given_back, with_borrowed, with_handed_over, with_standing, Hold, Operation, OperationKind, Standing, Roll}
+use Rattle.channel_rest.proofs.Words.{◌≡◌, ℕ, ◌+◌, ◌-◌, List, [], ◌∷◌, Option, None, Some, refl, sym, ap, ◌∙◌, Directory, Names, lent_once_more, used_once_less, Want, uses, Call, option_map_or, Handle, HandleId, OpId, Waiter, Op, Stream, Kept, lent_to_poll, restored, with_operation, with_one_woken, all_woken, operation_of, used_more, used_less, borrowed_more, handed_over, names_of, told, with_handle, with_lent, with_given_back, with_borrowed, with_handed_over, with_poll_state, HandleEntry, Operation, OperationKind, PollState, NameTable}
 use Rattle.std.specs.Prelude.{slice_get}
 use Rattle.channel_model.specs.Names as model
 use Rattle.channel_interleaving.specs.declared.names.OperationKind.TheVariants as kind
@@ -7,7 +7,7 @@ use Rattle.channel_rest.proofs.LoneDirectory.{changed_at, views_changed, views_k
 
 -- ---- handles
 
-abbrev pub handle_of : Hold → Handle
+abbrev pub handle_of : HandleEntry → Handle
 handle_of h = h.handle
 
 -- one more operation borrows it, or one fewer
@@ -63,41 +63,41 @@ module _ {T : Type 0} where
   with_operations d n = record n { operations = d }
 
   -- calls that use a handle, and how it stands as a stream, are not seen
-  pub seen_handle : (r : Roll T) (change : Hold → Hold) → ((h : Hold) → (change h).handle ≡ h.handle) → (handle : HandleId)
+  pub seen_handle : (r : NameTable T) (change : HandleEntry → HandleEntry) → ((h : HandleEntry) → (change h).handle ≡ h.handle) → (handle : HandleId)
       → names_of (with_handle change handle r) ≡ names_of r
   seen_handle r change same handle =
       ap (λ (d : Directory Handle). model.with_handles d (names_of r)) (views_kept handle_of change same handle.0 r.handles)
 
-  pub seen_lent : (r : Roll T) (handle : HandleId) → names_of (with_lent handle r) ≡ names_of r
+  pub seen_lent : (r : NameTable T) (handle : HandleId) → names_of (with_lent handle r) ≡ names_of r
   seen_lent r handle = seen_handle r used_more (λ h. refl) handle
 
-  pub seen_back : (r : Roll T) (handle : HandleId) → names_of (with_given_back handle r) ≡ names_of r
+  pub seen_back : (r : NameTable T) (handle : HandleId) → names_of (with_given_back handle r) ≡ names_of r
   seen_back r handle = seen_handle r used_less (λ h. refl) handle
 
-  pub seen_standing : (r : Roll T) (standing : Standing) (handle : HandleId) → names_of (with_standing standing handle r) ≡ names_of r
-  seen_standing r standing handle = seen_handle r (λ (h : Hold). record h { standing = standing }) (λ h. refl) handle
+  pub seen_poll_state : (r : NameTable T) (poll_state : PollState) (handle : HandleId) → names_of (with_poll_state poll_state handle r) ≡ names_of r
+  seen_poll_state r poll_state handle = seen_handle r (λ (h : HandleEntry). record h { poll_state = poll_state }) (λ h. refl) handle
 
   -- operations that borrow it are
-  pub seen_borrowed : (r : Roll T) (handle : HandleId)
+  pub seen_borrowed : (r : NameTable T) (handle : HandleId)
       → names_of (with_borrowed handle r) ≡ model.with_handles (lent_once_more handle (names_of r).handles) (names_of r)
   seen_borrowed r handle =
       ap (λ (d : Directory Handle). model.with_handles d (names_of r))
       (views_changed handle_of borrowed_more one_more (λ h. refl) handle.0 r.handles)
 
-  pub seen_handed_over : (r : Roll T) (handle : HandleId)
+  pub seen_handed_over : (r : NameTable T) (handle : HandleId)
       → names_of (with_handed_over handle r) ≡ model.with_handles (used_once_less handle (names_of r).handles) (names_of r)
   seen_handed_over r handle =
       ap (λ (d : Directory Handle). model.with_handles d (names_of r))
       (views_changed handle_of handed_over one_less (λ h. refl) handle.0 r.handles)
 
-  pub seen_to_poll : (r : Roll T) (op : OpId)
+  pub seen_to_poll : (r : NameTable T) (op : OpId)
       → names_of (with_operation lent_to_poll op r) ≡ left_names None op (names_of r)
   seen_to_poll r op =
       ap (λ (d : Directory (model.ModelOperation T)). with_operations d (names_of r))
       (views_changed operation_of lent_to_poll (with_message None)
       (λ o. left_seen None o.kind o.handle o.message) op.0 r.operations)
 
-  pub seen_restored : (r : Roll T) (kept : Kept T) (op : OpId)
+  pub seen_restored : (r : NameTable T) (kept : Kept T) (op : OpId)
       → names_of (with_operation (restored kept) op r) ≡ left_names kept.message op (names_of r)
   seen_restored r kept op =
       ap (λ (d : Directory (model.ModelOperation T)). with_operations d (names_of r))
@@ -105,12 +105,12 @@ module _ {T : Type 0} where
       (λ o. left_seen kept.message o.kind o.handle o.message) op.0 r.operations)
 
   -- whoever is woken is the same
-  seen_woken : (w : Waiter) (r : Roll T) → names_of (with_one_woken w r) ≡ names_of r
+  seen_woken : (w : Waiter) (r : NameTable T) → names_of (with_one_woken w r) ≡ names_of r
   seen_woken (Op op) r =
       ap (λ (d : Directory (model.ModelOperation T)). with_operations d (names_of r))
-      (views_kept operation_of (λ (o : Operation T). record o { standing = told o.standing }) (λ o. refl) op.0 r.operations)
-  seen_woken (Stream handle) r = seen_handle r (λ (h : Hold). record h { standing = told h.standing }) (λ h. refl) handle
+      (views_kept operation_of (λ (o : Operation T). record o { poll_state = told o.poll_state }) (λ o. refl) op.0 r.operations)
+  seen_woken (Stream handle) r = seen_handle r (λ (h : HandleEntry). record h { poll_state = told h.poll_state }) (λ h. refl) handle
 
-  pub all_seen : (ws : List Waiter) (r : Roll T) → names_of (all_woken ws r) ≡ names_of r
+  pub all_seen : (ws : List Waiter) (r : NameTable T) → names_of (all_woken ws r) ≡ names_of r
   all_seen [] r = refl
   all_seen (w ∷ ws) r = all_seen ws (with_one_woken w r) ∙ seen_woken w r

@@ -1,5 +1,5 @@
 -- Whoever is woken comes last among those who were woken.
-use Rattle.channel_rest.proofs.Words.{false_from_ne_true, arith, ◌≡◌, ◌≤◌, ◌+◌, List, [], ◌∷◌, ◌++◌, Bool, true, false, not, cond, Option, None, Some, ◌⊎◌, inl, inr, refl, sym, ap, subst, ◌∙◌, append_assoc, append-nil, filter-append, filter, count_append, among_counts, among_self, or_right, same_refl, same_sound, decided, or_true, without_absent, none_left, times, same_waiter, is_among, without_waiter, Waiter, with_one_woken, all_woken, moved_last, all_moved_last, was_woken, woken_in, Post, free, vacant, amiss, rests, waits, polled, post, Roll, Sets, told_post, one_woken, but_for}
+use Rattle.channel_rest.proofs.Words.{false_from_ne_true, arith, ◌≡◌, ◌≤◌, ◌+◌, List, [], ◌∷◌, ◌++◌, Bool, true, false, not, cond, Option, None, Some, ◌⊎◌, inl, inr, refl, sym, ap, subst, ◌∙◌, append_assoc, append-nil, filter-append, filter, count_append, among_counts, among_self, or_right, same_refl, same_sound, decided, or_true, without_absent, none_left, times, same_waiter, is_among, without_waiter, Waiter, with_one_woken, all_woken, moved_last, all_moved_last, was_woken, woken_in, NameStatus, free, retired, invalid, rests, waits, polled, status, NameTable, Sets, told_status, one_woken, but_for}
 
 -- ---- lists without a name
 
@@ -130,24 +130,24 @@ among_moved w v ws there = by (decided (is_among w ws)) (decided (same_waiter w 
 
 -- ---- who is pending
 
-abbrev pub is_pending : Post → Bool
+abbrev pub is_pending : NameStatus → Bool
 is_pending (waits h is_woken) = true
 is_pending free = false
-is_pending vacant = false
-is_pending amiss = false
+is_pending retired = false
+is_pending invalid = false
 is_pending (rests line) = false
 is_pending (polled line) = false
 
 -- whoever is not pending was not woken
-pub not_woken : (p : Post) → is_pending p ≡ false → was_woken p ≡ false
+pub not_woken : (p : NameStatus) → is_pending p ≡ false → was_woken p ≡ false
 not_woken (waits h is_woken) e = absurd (let no : true ≡ false = e in cc)
 not_woken p e = refl
 
-told_pending : (p : Post) → is_pending (told_post p) ≡ is_pending p
+told_pending : (p : NameStatus) → is_pending (told_status p) ≡ is_pending p
 told_pending (waits h is_woken) = refl
 told_pending p = refl
 
-told_woken : (p : Post) → was_woken (told_post p) ≡ is_pending p
+told_woken : (p : NameStatus) → was_woken (told_status p) ≡ is_pending p
 told_woken (waits h is_woken) = refl
 told_woken p = refl
 
@@ -155,44 +155,44 @@ told_woken p = refl
 
 module _ {T : Type 0} where
   -- whoever is pending has a place
-  abbrev pub HavePlaces : Roll T → List Waiter → Type 0
-  HavePlaces r ws = (v : Waiter) → is_pending (post r v) ≡ true → is_among v ws ≡ true
+  abbrev pub HavePlaces : NameTable T → List Waiter → Type 0
+  HavePlaces r ws = (v : Waiter) → is_pending (status r v) ≡ true → is_among v ws ≡ true
 
-  module _ (r : Roll T) (w : Waiter) where
+  module _ (r : NameTable T) (w : Waiter) where
     abbrev was : Waiter → Bool
-    was v = was_woken (post r v)
+    was v = was_woken (status r v)
 
     abbrev is : Waiter → Bool
-    is v = was_woken (post (with_one_woken w r) v)
+    is v = was_woken (status (with_one_woken w r) v)
 
-    one : Sets (post r) (post (with_one_woken w r)) w (told_post (post r w))
+    one : Sets (status r) (status (with_one_woken w r)) w (told_status (status r w))
     one = one_woken w r
 
-    pending_one : (v : Waiter) → is_pending (post (with_one_woken w r) v) ≡ is_pending (post r v)
+    pending_one : (v : Waiter) → is_pending (status (with_one_woken w r) v) ≡ is_pending (status r v)
     pending_one v = by (decided (same_waiter w v))
       where
-        by : (same_waiter w v ≡ true) ⊎ (same_waiter w v ≡ false) → is_pending (post (with_one_woken w r) v) ≡ is_pending (post r v)
+        by : (same_waiter w v ≡ true) ⊎ (same_waiter w v ≡ false) → is_pending (status (with_one_woken w r) v) ≡ is_pending (status r v)
         by (inl t) =
-            subst (λ (x : Waiter). is_pending (post (with_one_woken w r) x) ≡ is_pending (post r x)) (same_sound w v t)
-            (ap is_pending one.there ∙ told_pending (post r w))
+            subst (λ (x : Waiter). is_pending (status (with_one_woken w r) x) ≡ is_pending (status r x)) (same_sound w v t)
+            (ap is_pending one.there ∙ told_pending (status r w))
         by (inr t) = ap is_pending (one.others v (not_same v w t))
 
     others_one : (v : Waiter) → Other (Some w) v → is v ≡ was v
     others_one v t = ap was_woken (one.others v (not_same v w t))
 
-    own_one : is w ≡ is_pending (post r w)
-    own_one = ap was_woken one.there ∙ told_woken (post r w)
+    own_one : is w ≡ is_pending (status r w)
+    own_one = ap was_woken one.there ∙ told_woken (status r w)
 
     -- if it isn't pending, nothing is changed
-    same_one : is_pending (post r w) ≡ false → (v : Waiter) → is v ≡ was v
+    same_one : is_pending (status r w) ≡ false → (v : Waiter) → is v ≡ was v
     same_one off v = by (decided (same_waiter w v))
       where
         by : (same_waiter w v ≡ true) ⊎ (same_waiter w v ≡ false) → is v ≡ was v
         by (inl t) =
-            subst (λ (x : Waiter). is x ≡ was x) (same_sound w v t) (own_one ∙ (off ∙ sym (not_woken (post r w) off)))
+            subst (λ (x : Waiter). is x ≡ was x) (same_sound w v t) (own_one ∙ (off ∙ sym (not_woken (status r w) off)))
         by (inr t) = others_one v t
 
-    last_one : (ws : List Waiter) → is_pending (post r w) ≡ true → is_among w ws ≡ true
+    last_one : (ws : List Waiter) → is_pending (status r w) ≡ true → is_among w ws ≡ true
         → woken_in (with_one_woken w r) (moved_last w ws) ≡ without_waiter w (woken_in r ws) ++ w ∷ []
     last_one ws on there =
         ap (λ (b : Bool). filter is (cond b (without_waiter w ws ++ w ∷ []) ws)) there
@@ -200,7 +200,7 @@ module _ {T : Type 0} where
         ∙ (ap (λ (b : Bool). filter is (without_waiter w ws) ++ cond b (w ∷ []) []) (own_one ∙ on)
         ∙ ap (λ (xs : List Waiter). xs ++ w ∷ []) (swap_without w is ws ∙ filter_others (Some w) is was ws others_one)))
 
-    still_one : (ws : List Waiter) → is_pending (post r w) ≡ false → woken_in (with_one_woken w r) (moved_last w ws) ≡ woken_in r ws
+    still_one : (ws : List Waiter) → is_pending (status r w) ≡ false → woken_in (with_one_woken w r) (moved_last w ws) ≡ woken_in r ws
     still_one ws off = by (is_among w ws) refl ∙ filter_same is was ws (same_one off)
       where
         by : (b : Bool) → is_among w ws ≡ b → filter is (moved_last w ws) ≡ filter is ws
@@ -220,14 +220,14 @@ module _ {T : Type 0} where
         → without_waiter k (woken_in (with_one_woken w r) (moved_last w ws)) ≡ without_waiter k (woken_in r ws ++ w ∷ [])
     own_told ws k t places =
         subst (λ (x : Waiter). without_waiter x (woken_in (with_one_woken w r) (moved_last w ws)) ≡ without_waiter x (woken_in r ws ++ w ∷ []))
-        (sym (same_sound k w t)) (by (decided (is_pending (post r w))))
+        (sym (same_sound k w t)) (by (decided (is_pending (status r w))))
       where
         split : without_waiter w (woken_in r ws ++ w ∷ []) ≡ without_waiter w (woken_in r ws)
         split =
             filter-append (λ v. not (same_waiter w v)) (woken_in r ws) (w ∷ [])
             ∙ (ap (λ (xs : List Waiter). without_waiter w (woken_in r ws) ++ xs) (last_out w) ∙ append-nil (without_waiter w (woken_in r ws)))
 
-        by : (is_pending (post r w) ≡ true) ⊎ (is_pending (post r w) ≡ false)
+        by : (is_pending (status r w) ≡ true) ⊎ (is_pending (status r w) ≡ false)
             → without_waiter w (woken_in (with_one_woken w r) (moved_last w ws)) ≡ without_waiter w (woken_in r ws ++ w ∷ [])
         by (inl p) =
             ap (without_waiter w) (last_one ws p (places w p))
@@ -236,7 +236,7 @@ module _ {T : Type 0} where
             ∙ (append-nil (without_waiter w (without_waiter w (woken_in r ws))) ∙ (out_twice w (woken_in r ws) ∙ sym split))))
         by (inr p) = ap (without_waiter w) (still_one ws p) ∙ sym split
 
-    other_told : (ws : List Waiter) (k : Option Waiter) → HavePlaces r ws → is_pending (post r w) ≡ true
+    other_told : (ws : List Waiter) (k : Option Waiter) → HavePlaces r ws → is_pending (status r w) ≡ true
         → is_among w (but_for k (woken_in r ws)) ≡ false
         → but_for k (woken_in (with_one_woken w r) (moved_last w ws)) ≡ but_for k (woken_in r ws ++ w ∷ [])
     other_told ws k places p out =
@@ -253,20 +253,20 @@ module _ {T : Type 0} where
 
   -- ---- all wakes of a call
 
-  pub all_pending : (ns : List Waiter) (r : Roll T) (v : Waiter) → is_pending (post (all_woken ns r) v) ≡ is_pending (post r v)
+  pub all_pending : (ns : List Waiter) (r : NameTable T) (v : Waiter) → is_pending (status (all_woken ns r) v) ≡ is_pending (status r v)
   all_pending [] r v = refl
   all_pending (w ∷ ns) r v = all_pending ns (with_one_woken w r) v ∙ pending_one r w v
 
   -- those who are woken are woken after all that were before, but for the one of the call itself
-  pub all_last : (k : Option Waiter) (r : Roll T) (ws ns : List Waiter) → HavePlaces r ws
-      → ((v : Waiter) → is_among v (but_for k ns) ≡ true → is_pending (post r v) ≡ true)
+  pub all_last : (k : Option Waiter) (r : NameTable T) (ws ns : List Waiter) → HavePlaces r ws
+      → ((v : Waiter) → is_among v (but_for k ns) ≡ true → is_pending (status r v) ≡ true)
       → ((v : Waiter) → times v (but_for k (woken_in r ws ++ ns)) ≤ 1)
       → but_for k (woken_in (all_woken ns r) (all_moved_last ns ws)) ≡ but_for k (woken_in r ws ++ ns)
   all_last k r ws [] places named once = ap (but_for k) (sym (append-nil (woken_in r ws)))
   all_last k r ws (w ∷ ns) places named once =
       all_last k (with_one_woken w r) (moved_last w ws) ns (places_one r w ws places) later fewer ∙ joined
     where
-      first : (k : Option Waiter) → ((v : Waiter) → is_among v (but_for k (w ∷ ns)) ≡ true → is_pending (post r v) ≡ true)
+      first : (k : Option Waiter) → ((v : Waiter) → is_among v (but_for k (w ∷ ns)) ≡ true → is_pending (status r v) ≡ true)
           → ((v : Waiter) → times v (but_for k (woken_in r ws ++ w ∷ ns)) ≤ 1)
           → but_for k (woken_in (with_one_woken w r) (moved_last w ws)) ≡ but_for k (woken_in r ws ++ w ∷ [])
       first None p o = other_told r w ws None places (p w (among_self w ns)) (not_twice w (woken_in r ws) ns (o w))
@@ -286,7 +286,7 @@ module _ {T : Type 0} where
           ∙ (ap (λ (xs : List Waiter). xs ++ but_for k ns) (first k named once)
           ∙ (sym (but_append k (woken_in r ws ++ w ∷ []) ns) ∙ ap (but_for k) (append_assoc (woken_in r ws) (w ∷ []) ns)))
 
-      later : (v : Waiter) → is_among v (but_for k ns) ≡ true → is_pending (post (with_one_woken w r) v) ≡ true
+      later : (v : Waiter) → is_among v (but_for k ns) ≡ true → is_pending (status (with_one_woken w r) v) ≡ true
       later v e = pending_one r w v ∙ named v (beyond k e)
         where
           beyond : (k : Option Waiter) → is_among v (but_for k ns) ≡ true → is_among v (but_for k (w ∷ ns)) ≡ true

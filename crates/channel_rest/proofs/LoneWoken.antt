@@ -1,18 +1,18 @@
 -- A call that was made alone leaves those who were woken in the order in which the model leaves them.
-use Rattle.channel_rest.proofs.Words.{◌≡◌, ◌≤◌, nat_eq, List, [], ◌∷◌, ◌++◌, Bool, true, false, Option, None, Some, inl, inr, refl, sym, ap, subst, ◌∙◌, lookup, option_map, option_map_or, Reply, Held, Outcome, among_self, or_right, at_seen, left_among, weak_of, strong_of, stream_of, times, same_waiter, is_among, without_waiter, Names, at, is_taken, State, Call, Handle, HandleId, HandleKind, OpId, Waiter, Op, Stream, keeper, woken_after, errand_of, names_begun, unpolled, leave_handle_of, new_from, lent_by, handed_over_by, operation_named, handle_named, lent_to_poll, restored, installed, with_operation, all_woken, placed, order_begun, all_moved_last, was_woken, woken_in, IsAmong, Post, waits, no_stream_post, stream_post, posted, post, names_of, handle_at, unused, with_lent, with_borrowed, with_standing, with_given_back, standing_with, Hold, Operation, OperationKind, Standing, Rests, IsPolled, Roll, Admitted, untaken, found, op_post, hold_post, op_spent, handle_spent, lent_same, borrowed_same, handed_over_same, given_back_same, names_alone, order_alone, but_for}
+use Rattle.channel_rest.proofs.Words.{◌≡◌, ◌≤◌, nat_eq, List, [], ◌∷◌, ◌++◌, Bool, true, false, Option, None, Some, inl, inr, refl, sym, ap, subst, ◌∙◌, lookup, option_map, option_map_or, Reply, Held, Outcome, among_self, or_right, at_seen, left_among, weak_of, strong_of, stream_of, times, same_waiter, is_among, without_waiter, Names, at, is_taken, State, Call, Handle, HandleId, HandleKind, OpId, Waiter, Op, Stream, keeper, woken_after, on_return_of, names_begun, unpolled, leave_handle_of, new_from, lent_by, handed_over_by, operation_named, handle_named, lent_to_poll, restored, installed, with_operation, all_woken, placed, order_begun, all_moved_last, was_woken, woken_in, IsAmong, NameStatus, waits, no_stream_status, stream_status, status_by, status, names_of, handle_at, unused, with_lent, with_borrowed, with_poll_state, with_given_back, poll_state_with, HandleEntry, Operation, OperationKind, PollState, Rests, IsPolled, NameTable, Admitted, untaken, found, op_status, handle_entry_status, op_spent, handle_spent, lent_same, borrowed_same, handed_over_same, given_back_same, names_alone, order_alone, but_for}
 use Rattle.channel_calls.specs.declared.reply.Reply.TheVariants as reply
 use Rattle.channel_model.specs.declared.call.Call.TheVariants as call
 use Rattle.channel_model.specs.declared.name.HandleKind.TheVariants as handle_kind
-use Rattle.channel_interleaving.specs.declared.names.Errand.TheVariants as errand
+use Rattle.channel_interleaving.specs.declared.names.OnReturn.TheVariants as on_return
 use Rattle.channel_interleaving.specs.declared.names.OperationKind.TheVariants as kind
 use Rattle.channel_rest.proofs.LoneWakes.{Other, not_same, but_append, is_pending, HavePlaces, all_pending, all_last}
-use Rattle.channel_rest.proofs.LonePosts.{nothing_there, sees_pending, sees_woken, op_other, op_own, handle_other, handle_own, with_op_value, with_handle_value, op_value_other, op_value_own, handle_value_other, handle_value_own, lent_off, left_off, resting_off, stream_polled_off, stream_left_off, stream_resting_off}
+use Rattle.channel_rest.proofs.LoneStatuses.{nothing_there, sees_pending, sees_woken, op_other, op_own, handle_other, handle_own, with_op_value, with_handle_value, op_value_other, op_value_own, handle_value_other, handle_value_own, lent_off, left_off, resting_off, stream_polled_off, stream_left_off, stream_resting_off}
 use Rattle.channel_rest.proofs.LoneSeen.{used_by}
 use Rattle.channel_rest.proofs.LoneEnds.{Starts, Alike, alike_starts, same_alike, off_alike, polled_starts, gone_starts, unheld_starts, EndsSo, same_woken, left_woken, off_woken, polled_woken}
 
 -- ---- who is pending, in words
 
-pending_is : (p : Post) → is_pending p ≡ true → (h : Held) × (b : Bool) × (p ≡ waits h b)
+pending_is : (p : NameStatus) → is_pending p ≡ true → (h : Held) × (b : Bool) × (p ≡ waits h b)
 pending_is (waits h b) e = (h, b, refl)
 pending_is p e = absurd (let no : false ≡ true = e in cc)
 
@@ -35,15 +35,15 @@ left_of (Some w) told = refl
 
 module _ {T : Type 0} where
   -- how it begins and ends
-  pub record Goes (r : Roll T) (c : Call T) (order : List Waiter) (k : Option Waiter) : Type 0 where
+  pub record Goes (r : NameTable T) (c : Call T) (order : List Waiter) (k : Option Waiter) : Type 0 where
     pub starts : Starts r (names_begun r c) order (order_begun c order) k
-    pub ends : EndsSo (names_begun r c) (errand_of r c) k
+    pub ends : EndsSo (names_begun r c) (on_return_of r c) k
 
-  module _ (r : Roll T) (order : List Waiter) where
+  module _ (r : NameTable T) (order : List Waiter) where
     lends : (handle : HandleId) → Starts r (with_lent handle r) order order None
     lends handle = alike_starts r (with_lent handle r) order (same_alike r (with_lent handle r) (lent_same r handle))
 
-    leaves_through : (handle : HandleId) → EndsSo (with_lent handle r) (errand.Leave handle) None
+    leaves_through : (handle : HandleId) → EndsSo (with_lent handle r) (on_return.Leave handle) None
     leaves_through handle x kept new ws p = left_woken new handle ws
 
     lends_both : (a b : HandleId) → Starts r (with_lent b (with_lent a r)) order order None
@@ -57,7 +57,7 @@ module _ {T : Type 0} where
     lends_by None = alike_starts r r order (same_alike r r (λ v. refl))
     lends_by (Some o) = lends o.handle
 
-    leaves_by : (r' : Roll T) (o : Option (Operation T)) → EndsSo r' (leave_handle_of o) None
+    leaves_by : (r' : NameTable T) (o : Option (Operation T)) → EndsSo r' (leave_handle_of o) None
     leaves_by r' None x kept new ws p = refl
     leaves_by r' (Some o) x kept new ws p = left_woken new o.handle ws
 
@@ -65,23 +65,23 @@ module _ {T : Type 0} where
 
     makes : (op : OpId) (handle : HandleId) (k : OperationKind) (m : Option T) → is_taken op.0 r.operations ≡ false
         → Starts r (with_borrowed handle (operation_named op r)) order order None
-        × EndsSo (with_borrowed handle (operation_named op r)) (errand.Make op (unpolled k handle m)) None
+        × EndsSo (with_borrowed handle (operation_named op r)) (on_return.Make op (unpolled k handle m)) None
     makes op handle k m untook = (alike_starts r new order (off_alike r new (Op op) same was is), ends)
       where
-        new : Roll T
+        new : NameTable T
         new = with_borrowed handle (operation_named op r)
 
         same : (v : Waiter) → same_waiter (Op op) v ≡ false
-            → post (with_borrowed handle (operation_named op r)) v ≡ post r v
+            → status (with_borrowed handle (operation_named op r)) v ≡ status r v
         same v t = borrowed_same (operation_named op r) handle v ∙ (op_spent r op).others v (not_same v (Op op) t)
 
-        was : is_pending (post r (Op op)) ≡ false
-        was = ap is_pending (untaken op_post op.0 r.operations untook)
+        was : is_pending (status r (Op op)) ≡ false
+        was = ap is_pending (untaken op_status op.0 r.operations untook)
 
-        is : is_pending (post (with_borrowed handle (operation_named op r)) (Op op)) ≡ false
+        is : is_pending (status (with_borrowed handle (operation_named op r)) (Op op)) ≡ false
         is = ap is_pending (borrowed_same (operation_named op r) handle (Op op) ∙ (op_spent r op).there)
 
-        ends : EndsSo (with_borrowed handle (operation_named op r)) (errand.Make op (unpolled k handle m)) None
+        ends : EndsSo (with_borrowed handle (operation_named op r)) (on_return.Make op (unpolled k handle m)) None
         ends x kept r' ws p =
             let made = with_op_value op (Some (unpolled k handle m)) r' in
             let a : Alike r' made = off_alike r' made (Op op) (op_value_other r' op (Some (unpolled k handle m)))
@@ -89,12 +89,12 @@ module _ {T : Type 0} where
             (op_value_own r' op (Some (unpolled k handle m)) is_pending sees_pending (resting_off k m)) in
             same_woken r' made ws a.woken
 
-    installs : (from new : HandleId) (k : HandleKind) (x : Reply T) (r' : Roll T) (ws : List Waiter)
-        → is_pending (post r' (Stream new)) ≡ false
+    installs : (from new : HandleId) (k : HandleKind) (x : Reply T) (r' : NameTable T) (ws : List Waiter)
+        → is_pending (status r' (Stream new)) ≡ false
         → woken_in (installed new k x (with_given_back from r')) ws ≡ woken_in r' ws
     installs from new k reply.Made r' ws off =
         let back = with_given_back from r' in
-        let h : Hold = unused k in
+        let h : HandleEntry = unused k in
         let made = with_handle_value new (Some h) back in
         let a : Alike back made = off_alike back made (Stream new) (handle_value_other back new (Some h))
         (ap is_pending (given_back_same r' from (Stream new)) ∙ off)
@@ -108,17 +108,17 @@ module _ {T : Type 0} where
     makes_handle from new to o untook =
         (alike_starts r begun order (off_alike r begun (Stream new) same was is), ends o)
       where
-        begun : Roll T
+        begun : NameTable T
         begun = with_lent from (handle_named new r)
 
         same : (v : Waiter) → same_waiter (Stream new) v ≡ false
-            → post (with_lent from (handle_named new r)) v ≡ post r v
+            → status (with_lent from (handle_named new r)) v ≡ status r v
         same v t = lent_same (handle_named new r) from v ∙ (handle_spent r new).others v (not_same v (Stream new) t)
 
-        was : is_pending (post r (Stream new)) ≡ false
-        was = ap is_pending (untaken hold_post new.0 r.handles untook)
+        was : is_pending (status r (Stream new)) ≡ false
+        was = ap is_pending (untaken handle_entry_status new.0 r.handles untook)
 
-        is : is_pending (post (with_lent from (handle_named new r)) (Stream new)) ≡ false
+        is : is_pending (status (with_lent from (handle_named new r)) (Stream new)) ≡ false
         is = ap is_pending (lent_same (handle_named new r) from (Stream new) ∙ (handle_spent r new).there)
 
         ends : (o : Option Handle) → EndsSo (with_lent from (handle_named new r)) (new_from from new to o) None
@@ -132,13 +132,13 @@ module _ {T : Type 0} where
         polled_starts r (with_operation lent_to_poll op r) (Op op) (op_other r op lent_to_poll)
         (op_own r op lent_to_poll is_pending sees_pending lent_off) order
 
-    polls_end : (r' : Roll T) (op : OpId) → EndsSo r' (errand.Poll op) (Some (Op op))
+    polls_end : (r' : NameTable T) (op : OpId) → EndsSo r' (on_return.Poll op) (Some (Op op))
     polls_end r' op x kept new ws p =
         polled_woken new (with_operation (restored kept) op new) (Op op) kept.key ws (op_other new op (restored kept))
         (op_own new op (restored kept) was_woken sees_woken (λ y. left_off y.kind kept.message kept.key))
 
     nexts : (receiver : HandleId)
-        → Starts r (with_lent receiver (with_standing (IsPolled false) receiver r)) order (placed (Stream receiver) order)
+        → Starts r (with_lent receiver (with_poll_state (IsPolled false) receiver r)) order (placed (Stream receiver) order)
         (Some (Stream receiver))
     nexts receiver =
         polled_starts r (with_lent receiver put) (Stream receiver)
@@ -146,16 +146,16 @@ module _ {T : Type 0} where
         (ap is_pending (lent_same put receiver (Stream receiver))
         ∙ handle_own r receiver change is_pending sees_pending (λ h. stream_polled_off h.handle.kind false)) order
       where
-        put : Roll T
-        put = with_standing (IsPolled false) receiver r
+        put : NameTable T
+        put = with_poll_state (IsPolled false) receiver r
 
-        change : Hold → Hold
-        change h = record h { standing = IsPolled false }
+        change : HandleEntry → HandleEntry
+        change h = record h { poll_state = IsPolled false }
 
-    nexts_end : (r' : Roll T) (receiver : HandleId) → EndsSo r' (errand.PollNext receiver) (Some (Stream receiver))
+    nexts_end : (r' : NameTable T) (receiver : HandleId) → EndsSo r' (on_return.PollNext receiver) (Some (Stream receiver))
     nexts_end r' receiver x kept new ws p =
-        let put = with_standing (standing_with kept.key) receiver new in
-        let change : Hold → Hold = λ h. record h { standing = standing_with kept.key } in
+        let put = with_poll_state (poll_state_with kept.key) receiver new in
+        let change : HandleEntry → HandleEntry = λ h. record h { poll_state = poll_state_with kept.key } in
         polled_woken new (with_given_back receiver put) (Stream receiver) kept.key ws
         (λ v t. given_back_same put receiver v ∙ handle_other new receiver change v t)
         (ap was_woken (given_back_same put receiver (Stream receiver))
@@ -163,13 +163,13 @@ module _ {T : Type 0} where
 
     -- ---- what lives no more
 
-    given_up : (op : OpId) → is_pending (post (with_op_value op None r) (Op op)) ≡ false
+    given_up : (op : OpId) → is_pending (status (with_op_value op None r) (Op op)) ≡ false
     given_up op = op_value_own r op None is_pending sees_pending refl
 
-    abbrev hands_over : OpId → Option (Operation T) → Roll T
+    abbrev hands_over : OpId → Option (Operation T) → NameTable T
     hands_over op o = handed_over_by o (with_op_value op None r)
 
-    handed : (op : OpId) (o : Option (Operation T)) → is_pending (post (hands_over op o) (Op op)) ≡ false
+    handed : (op : OpId) (o : Option (Operation T)) → is_pending (status (hands_over op o) (Op op)) ≡ false
     handed op o = ap is_pending (handed_over_same (with_op_value op None r) o (Op op)) ∙ given_up op
 
     gives_up : (op : OpId) (o : Option (Operation T))
@@ -183,13 +183,13 @@ module _ {T : Type 0} where
     gives_up_end op (Some o) x kept new ws p =
         left_woken new o.handle ws ∙ off_woken new (Op op) ws (p (Op op) ∙ handed op (Some o))
 
-    dropped : (handle : HandleId) → is_pending (post (with_handle_value handle None r) (Stream handle)) ≡ false
+    dropped : (handle : HandleId) → is_pending (status (with_handle_value handle None r) (Stream handle)) ≡ false
     dropped handle = handle_value_own r handle None is_pending sees_pending refl
 
     abbrev Drops : HandleId → Option Waiter → Type 0
     Drops handle k =
         Starts r (with_handle_value handle None r) order (without_waiter (Stream handle) order) k
-        × EndsSo (with_handle_value handle None r) errand.Nothing k
+        × EndsSo (with_handle_value handle None r) on_return.Nothing k
 
     drops_held : (handle : HandleId) → Drops handle (Some (Stream handle))
     drops_held handle = (
@@ -197,26 +197,26 @@ module _ {T : Type 0} where
       λ x kept new ws p. off_woken new (Stream handle) ws (p (Stream handle) ∙ dropped handle),
     )
 
-    drops_unheld : (handle : HandleId) → is_pending (post r (Stream handle)) ≡ false → Drops handle None
+    drops_unheld : (handle : HandleId) → is_pending (status r (Stream handle)) ≡ false → Drops handle None
     drops_unheld handle off = (
       unheld_starts r (with_handle_value handle None r) (Stream handle) (handle_value_other r handle None) (dropped handle)
           order off,
       λ x kept new ws p. refl,
     )
 
-    no_stream : (s : Standing) → is_pending (no_stream_post s) ≡ false
+    no_stream : (s : PollState) → is_pending (no_stream_status s) ≡ false
     no_stream Rests = refl
     no_stream s = refl
 
     drops : (handle : HandleId) → Drops handle (stream_of handle (handle_at handle r))
     drops handle = by (at handle.0 r.handles) refl
       where
-        by : (o : Option Hold) → at handle.0 r.handles ≡ o
-            → Drops handle (stream_of handle (option_map (λ (h : Hold). h.handle) o))
-        by None e = drops_unheld handle (nothing_there hold_post is_pending (lookup (nat_eq handle.0) r.handles) sees_pending e)
-        by (Some h) e = of h.handle.kind h.standing (ap (λ o. posted hold_post o) (found handle.0 r.handles h e))
+        by : (o : Option HandleEntry) → at handle.0 r.handles ≡ o
+            → Drops handle (stream_of handle (option_map (λ (h : HandleEntry). h.handle) o))
+        by None e = drops_unheld handle (nothing_there handle_entry_status is_pending (lookup (nat_eq handle.0) r.handles) sees_pending e)
+        by (Some h) e = of h.handle.kind h.poll_state (ap (λ o. status_by handle_entry_status o) (found handle.0 r.handles h e))
           where
-            of : (k : HandleKind) (s : Standing) → post r (Stream handle) ≡ stream_post k s
+            of : (k : HandleKind) (s : PollState) → status r (Stream handle) ≡ stream_status k s
                 → Drops handle
                 (elim k [
                   | handle_kind.Sender ↦ None
@@ -229,7 +229,7 @@ module _ {T : Type 0} where
 
   -- ---- any call
 
-  module _ (r : Roll T) (s : State T) (order : List Waiter) (same : s.names ≡ names_of r) where
+  module _ (r : NameTable T) (s : State T) (order : List Waiter) (same : s.names ≡ names_of r) where
     goes : (c : Call T) → Admitted r c → Goes r c order (keeper s c)
     goes (call.NewSend op sender msg) a =
         let m = makes r order op sender kind.Send (Some msg) a.new in record { starts = m.0; ends = m.1 }
@@ -253,7 +253,7 @@ module _ {T : Type 0} where
     goes (call.Drop handle) a =
         let k : stream_of handle (handle_at handle r) ≡ keeper s (call.Drop handle) =
         sym (ap (λ (n : Names T). stream_of handle (at handle.0 n.handles)) same
-        ∙ ap (stream_of handle) (at_seen (λ (h : Hold). h.handle) handle.0 r.handles)) in
+        ∙ ap (stream_of handle) (at_seen (λ (h : HandleEntry). h.handle) handle.0 r.handles)) in
         let d = subst (Drops r order handle) k (drops r order handle) in
         record { starts = d.0; ends = d.1 }
     goes (call.TryClone handle new) a =
@@ -270,10 +270,10 @@ module _ {T : Type 0} where
     goes c a = record { starts = lends r order (used_by c); ends = leaves_through r order (used_by c) }
 
   -- whoever was woken when the call began is woken after it, and then those whom it woke, in order, but for its own name
-  pub woken_follows : (r : Roll T) (c : Call T) (s : State T) (o : Outcome T Waiter) (order : List Waiter)
+  pub woken_follows : (r : NameTable T) (c : Call T) (s : State T) (o : Outcome T Waiter) (order : List Waiter)
       → s.names ≡ names_of r → s.waiting.woken ≡ woken_in r order → Admitted r c
-      → ((w : Waiter) (h : Held) (b : Bool) → post r w ≡ waits h b → IsAmong w order)
-      → ((v : Waiter) → is_among v (but_for (keeper s c) o.woken) ≡ true → (h : Held) × (b : Bool) × (post r v ≡ waits h b))
+      → ((w : Waiter) (h : Held) (b : Bool) → status r w ≡ waits h b → IsAmong w order)
+      → ((v : Waiter) → is_among v (but_for (keeper s c) o.woken) ≡ true → (h : Held) × (b : Bool) × (status r v ≡ waits h b))
       → ((v : Waiter) → times v (but_for (keeper s c) (woken_in r order ++ o.woken)) ≤ 1)
       → woken_in (names_alone r c o.reply o.kept o.woken) (order_alone r c o.kept o.woken order) ≡ woken_after s c o
   woken_follows r c s o order same woken fine places named once =
@@ -290,11 +290,11 @@ module _ {T : Type 0} where
       have : HavePlaces (names_begun r c) (order_begun c order)
       have v on =
           let other = g.starts.own v on in
-          let before : is_pending (post r v) ≡ true = sym (g.starts.others v other) ∙ on in
-          let pends = pending_is (post r v) before in
+          let before : is_pending (status r v) ≡ true = sym (g.starts.others v other) ∙ on in
+          let pends = pending_is (status r v) before in
           g.starts.places v before other (is_named v order (places v pends.0 pends.1 pends.2))
 
-      wakes : (v : Waiter) → is_among v (but_for (keeper s c) o.woken) ≡ true → is_pending (post (names_begun r c) v) ≡ true
+      wakes : (v : Waiter) → is_among v (but_for (keeper s c) o.woken) ≡ true → is_pending (status (names_begun r c) v) ≡ true
       wakes v e =
           let pends = named v e in
           g.starts.others v (other_left (keeper s c) v o.woken e) ∙ ap is_pending pends.2

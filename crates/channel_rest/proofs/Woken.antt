@@ -1,5 +1,5 @@
 -- Those who were woken, in the order of their waking: of each line just those who hold its told listeners, in their order.
-use Rattle.channel_rest.proofs.Words.{◌≡◌, ◌+◌, ℕ, Bool, true, false, List, [], ◌∷◌, Option, None, Some, IsSome, inl, inr, refl, sym, ap, ◌∙◌, subst, arith, filter, Key, Held, Line, Sends, Receives, Streams, Closings, line_sound, same_sound, decided, or_true, same_refl, Kind, times, same_line, same_waiter, is_among, Waiter, IsAmong, NoneTwice, Post, waits, post, was_woken, Within, woken_in, woken_keys, Roll, of_line}
+use Rattle.channel_rest.proofs.Words.{◌≡◌, ◌+◌, ℕ, Bool, true, false, List, [], ◌∷◌, Option, None, Some, IsSome, inl, inr, refl, sym, ap, ◌∙◌, subst, arith, filter, Key, Held, Line, Sends, Receives, Streams, Closings, line_sound, same_sound, decided, or_true, same_refl, Kind, times, same_line, same_waiter, is_among, Waiter, IsAmong, NoneTwice, NameStatus, waits, status, was_woken, Within, woken_in, woken_keys, NameTable, of_line}
 use Rattle.channel_model.specs.Laws as laws
 use Rattle.channel_rest.proofs.Lists.{Stand}
 use Rattle.channel_rest.proofs.Names.{on}
@@ -87,24 +87,24 @@ module _ (kind : Kind) where
 
 -- ---- those who were woken
 
-module _ {T : Type 0} (r : Roll T) where
+module _ {T : Type 0} (r : NameTable T) where
   -- whoever was woken is pending
-  pub woken_waits : (w : Waiter) → was_woken (post r w) ≡ true → (h : Held) × (post r w ≡ waits h true)
-  woken_waits w e = by (post r w) refl e
+  pub woken_waits : (w : Waiter) → was_woken (status r w) ≡ true → (h : Held) × (status r w ≡ waits h true)
+  woken_waits w e = by (status r w) refl e
     where
-      by : (p : Post) → post r w ≡ p → was_woken p ≡ true → (h : Held) × (p ≡ waits h true)
+      by : (p : NameStatus) → status r w ≡ p → was_woken p ≡ true → (h : Held) × (p ≡ waits h true)
       by (waits h b) i g = (h, ap (λ (x : Bool). waits h x) g)
       by p i g = absurd (let no : false ≡ true = g in cc)
 
   module _ (kind : Kind) (line : Line) where
     abbrev Has : Key → Waiter → Type 0
-    Has key w = (is_woken : Bool) × (post r w ≡ waits (on line key) is_woken)
+    Has key w = (is_woken : Bool) × (status r w ≡ waits (on line key) is_woken)
 
     -- those of the line stand beside their listeners
-    pub woken_stand : ((w : Waiter) (h : Held) (b : Bool) → post r w ≡ waits h b → kind w ≡ Some h.line) → (order : List Waiter)
+    pub woken_stand : ((w : Waiter) (h : Held) (b : Bool) → status r w ≡ waits h b → kind w ≡ Some h.line) → (order : List Waiter)
         → Stand Has (woken_keys line r order) (of_line kind line (woken_in r order))
     woken_stand its [] = tt
-    woken_stand its (w ∷ ws) = by (post r w) refl (woken_stand its ws)
+    woken_stand its (w ∷ ws) = by (status r w) refl (woken_stand its ws)
       where
         Rest : Type 0
         Rest = Stand Has (woken_keys line r ws) (of_line kind line (woken_in r ws))
@@ -112,7 +112,7 @@ module _ {T : Type 0} (r : Roll T) where
         Goal : Type 0
         Goal = Stand Has (woken_keys line r (w ∷ ws)) (of_line kind line (woken_in r (w ∷ ws)))
 
-        by : (p : Post) → post r w ≡ p → Rest → Goal
+        by : (p : NameStatus) → status r w ≡ p → Rest → Goal
         by (waits h true) e rest =
             let mine : laws.is_line line (kind w) ≡ same_line line h.line =
             ap (λ (o : Option Line). laws.is_line line o) (its w h true e) in

@@ -16,24 +16,24 @@ pub use Rattle.channel_calls.specs.declared.stage.Kept.{Kept}
 pub use Rattle.channel_calls.specs.declared.stage.Line.{Line}
 pub use Rattle.channel_calls.specs.declared.stage.Line.TheVariants.{Sends, Receives, Streams, Closings}
 pub use Rattle.channel_interleaving.proofs.OwnerBegins.{Admitted, admitted, op_is, untaken}
-pub use Rattle.channel_interleaving.proofs.OwnerNames.{found, set_there, set_other, Same, given_back_same, op_post, hold_post, Sets, told_post, one_woken, op_spent, handle_spent, lent_same, borrowed_same, handed_over_same}
+pub use Rattle.channel_interleaving.proofs.OwnerNames.{found, set_there, set_other, Same, given_back_same, op_status, handle_entry_status, Sets, told_status, one_woken, op_spent, handle_spent, lent_same, borrowed_same, handed_over_same}
 pub use Rattle.channel_interleaving.proofs.OwnerWokenLists.{key_of_entry}
-pub use Rattle.channel_interleaving.specs.Bookkeeping.{asks, written_back, unpolled, leave_handle_of, new_from, lent_by, handed_over_by, operation_named, handle_named, lent_to_poll, installed, with_operation, all_woken, restored, with_one_woken, errand_of, names_begun}
-pub use Rattle.channel_interleaving.specs.Kept.{AllKept}
-pub use Rattle.channel_interleaving.specs.Lone.{names_alone, order_alone, book_alone}
+pub use Rattle.channel_interleaving.specs.Bookkeeping.{asks, written_back, unpolled, leave_handle_of, new_from, lent_by, handed_over_by, operation_named, handle_named, lent_to_poll, installed, with_operation, all_woken, restored, with_one_woken, on_return_of, names_begun}
+pub use Rattle.channel_interleaving.specs.Kept.{WorldInvariant}
+pub use Rattle.channel_interleaving.specs.Lone.{names_alone, order_alone, name_state_alone}
 pub use Rattle.channel_interleaving.specs.Order.{placed, kept_place, order_settled, moved_last, all_moved_last, order_begun}
 pub use Rattle.channel_interleaving.specs.OwnerOrder.{woken_in, was_woken, Within, woken_keys, NeedsPlace}
-pub use Rattle.channel_interleaving.specs.Owners.{IsAmong, NoneTwice, amiss, waits, post, polled, stream_post, operation_post, Post, free, vacant, posted, rests, no_stream_post, post_on, send_post, holding, keys, IsListed, Holder, named, calling, AnyOf, HoldsIn, Owned}
+pub use Rattle.channel_interleaving.specs.Owners.{IsAmong, NoneTwice, invalid, waits, status, polled, stream_status, operation_status, NameStatus, free, retired, status_by, rests, no_stream_status, status_on, send_status, holding, keys, IsListed, Holder, named, calling, AnyOf, HoldsIn, Owned}
 pub use Rattle.channel_interleaving.specs.Refusal.{begin_refusal, is_operation_polled, is_stream_polled, meets_poll, is_used, takes_used, takes_again}
-pub use Rattle.channel_interleaving.specs.Roll.{names_of, held_of, is_polled, has_finished, is_done, operation_of, operation_at, unused, with_given_back, handle_at, with_lent, with_borrowed, with_handed_over, with_standing, standing_with, with_handle, used_more, used_less, borrowed_more, handed_over, told, key_of}
-pub use Rattle.channel_interleaving.specs.Run.{Book}
-pub use Rattle.channel_interleaving.specs.declared.names.Errand.{Errand}
-pub use Rattle.channel_interleaving.specs.declared.names.Hold.{Hold}
+pub use Rattle.channel_interleaving.specs.NameTable.{names_of, held_of, is_polled, has_finished, is_done, operation_of, operation_at, unused, with_given_back, handle_at, with_lent, with_borrowed, with_handed_over, with_poll_state, poll_state_with, with_handle, used_more, used_less, borrowed_more, handed_over, told, key_of}
+pub use Rattle.channel_interleaving.specs.Run.{NameState}
+pub use Rattle.channel_interleaving.specs.declared.names.OnReturn.{OnReturn}
+pub use Rattle.channel_interleaving.specs.declared.names.HandleEntry.{HandleEntry}
 pub use Rattle.channel_interleaving.specs.declared.names.Operation.{Operation}
 pub use Rattle.channel_interleaving.specs.declared.names.OperationKind.{OperationKind}
-pub use Rattle.channel_interleaving.specs.declared.names.Standing.{Standing}
-pub use Rattle.channel_interleaving.specs.declared.names.Standing.TheVariants.{Rests, Waits, IsPolled}
-pub use Rattle.channel_interleaving.specs.declared.roll.Roll.{Roll}
+pub use Rattle.channel_interleaving.specs.declared.names.PollState.{PollState}
+pub use Rattle.channel_interleaving.specs.declared.names.PollState.TheVariants.{Rests, Waits, IsPolled}
+pub use Rattle.channel_interleaving.specs.declared.name_table.NameTable.{NameTable}
 pub use Rattle.channel_laws.specs.Notices.{MayBeTold, EachTold, told_of}
 pub use Rattle.channel_laws.specs.Waits.{IsIn, Any}
 pub use Rattle.channel_model.proofs.Awake.{line_refl, line_sound}
@@ -61,4 +61,4 @@ pub use Rattle.channel_refinement.specs.Over.{Matches, held_after, polled_names,
 pub use Rattle.channel_refinement.specs.Refines.{AreUntold, IsToldSo, AreTold, of_line, with_held, ShowsLine, ShowsLines, KeysFit, Refines}
 pub use Rattle.channel_rest.specs.Lone.{but_for, NonePolled, RefusalsAgree, LoneCallsAnswer, PollsAnswer}
 pub use Rattle.channel_rest.specs.Rest.{state_at, IsWorld, RestIsAWorld}
-pub use Rattle.channel_steps.specs.Scene.{Scene, Under}
+pub use Rattle.channel_steps.specs.Configuration.{Configuration, ActiveCall}

@@ -1,12 +1,12 @@
 -- A channel at rest shows a state of the model: on each list, those who hold its listeners, and the woken in their order.
-use Rattle.channel_rest.proofs.Words.{is_line, line_at, count_of, free_places, line_refl, decided, tasks_are, if◌then◌else◌, ◌≡◌, ◌≤◌, ◌+◌, ℕ, Bool, true, false, List, [], ◌++◌, length, Option, None, Some, IsSome, ◌⊎◌, inl, inr, refl, sym, ap, ◌∙◌, subst, arith, keys_of, Notice, Key, Line, Sends, Receives, Streams, Closings, told_of, Any, count_append, Kind, Enough, times, times_in, Placed, AwakeIn, Waiting, same_waiter, is_among, untold, State, Waiter, Under, Scene, IsAmong, waits, post, holding, keys, IsListed, Holder, named, calling, AnyOf, HoldsIn, Owned, AllKept, names_of, held_of, Book, key_of_entry, state_at, IsWorld, RestIsAWorld, NeedsPlace, was_woken, Within, woken_keys, of_line, ShowsLine, ShowsLines, KeysFit, Refines, AreUntold, AreTold}
+use Rattle.channel_rest.proofs.Words.{is_line, line_at, count_of, free_places, line_refl, decided, tasks_are, if◌then◌else◌, ◌≡◌, ◌≤◌, ◌+◌, ℕ, Bool, true, false, List, [], ◌++◌, length, Option, None, Some, IsSome, ◌⊎◌, inl, inr, refl, sym, ap, ◌∙◌, subst, arith, keys_of, Notice, Key, Line, Sends, Receives, Streams, Closings, told_of, Any, count_append, Kind, Enough, times, times_in, Placed, AwakeIn, Waiting, same_waiter, is_among, untold, State, Waiter, ActiveCall, Configuration, IsAmong, waits, status, holding, keys, IsListed, Holder, named, calling, AnyOf, HoldsIn, Owned, WorldInvariant, names_of, held_of, NameState, key_of_entry, state_at, IsWorld, RestIsAWorld, NeedsPlace, was_woken, Within, woken_keys, of_line, ShowsLine, ShowsLines, KeysFit, Refines, AreUntold, AreTold}
 use Rattle.channel_laws.specs.Waits.{Waits}
 use Rattle.channel_calls.specs.Parts.{listeners}
 use Rattle.channel_laws.specs.Amounts.{total, HoldsListener}
 use Rattle.channel_laws.specs.Closings.{AnswersClosed}
 use Rattle.channel_laws.specs.Receives.{counts_for_receives, MessagesAreFew}
 use Rattle.channel_laws.specs.Sends.{counts_for_sends, HasPlaces, PlacesAreFew}
-use Rattle.channel_laws.specs.Sound.{AllSound}
+use Rattle.channel_laws.specs.Sound.{WakeInvariant}
 use Rattle.channel_laws.specs.Streams.{AnswersFor}
 use Rattle.channel_refinement.proofs.Calls.{calls_over}
 use Rattle.channel_steps.specs.Moments.{Shut}
@@ -22,7 +22,7 @@ fits : (capacity : Option ℕ) (m t : ℕ) → HasPlaces capacity (m + t + 0) �
 fits None m t h = absurd h
 fits (Some c) m t h = omega (arith, h)
 
-module _ {T : Type 0} (b : Book T) (s : Scene T Waiter) (kept : AllKept b s) (rest : s.under_way ≡ []) where
+module _ {T : Type 0} (b : NameState T) (s : Configuration T Waiter) (kept : WorldInvariant b s) (rest : s.under_way ≡ []) where
   abbrev owned : Owned b s
   owned = kept.owned
 
@@ -32,17 +32,17 @@ module _ {T : Type 0} (b : Book T) (s : Scene T Waiter) (kept : AllKept b s) (re
   woken : WokenAreTold b s
   woken = let w = kept.woken in w.told
 
-  in_order : (line : Line) → Within (woken_keys line b.roll order) (keys_of (told_of line s.now))
+  in_order : (line : Line) → Within (woken_keys line b.name_table order) (keys_of (told_of line s.now))
   in_order = let o = kept.order in o.lines
 
-  has_place : (w : Waiter) → NeedsPlace (post b.roll w) → IsAmong w order
+  has_place : (w : Waiter) → NeedsPlace (status b.name_table w) → IsAmong w order
   has_place = let o = kept.order in o.placed
 
-  abbrev sound : AllSound s
+  abbrev sound : WakeInvariant s
   sound = kept.sound
 
   abbrev kind : Kind
-  kind = line_at (names_of b.roll)
+  kind = line_at (names_of b.name_table)
 
   abbrev told : Line → List (Key × Notice Unit)
   told line = told_of line s.now
@@ -53,15 +53,15 @@ module _ {T : Type 0} (b : Book T) (s : Scene T Waiter) (kept : AllKept b s) (re
   -- ---- who holds what
 
   abbrev Has : Line → Key → Waiter → Type 0
-  Has line key w = (is_woken : Bool) × (post b.roll w ≡ waits (on line key) is_woken)
+  Has line key w = (is_woken : Bool) × (status b.name_table w ≡ waits (on line key) is_woken)
 
   holder : (line : Line) (key : Key) → IsListed (on line key) s.now → (w : Waiter) × Has line key w
   holder line key i = let held = owned.held (on line key) i in by held.0 held.1
     where
-      by : (x : Holder) → HoldsIn (post b.roll) s.under_way x (on line key) → (w : Waiter) × Has line key w
+      by : (x : Holder) → HoldsIn (status b.name_table) s.under_way x (on line key) → (w : Waiter) × Has line key w
       by (named w) h = (w, h)
       by (calling party) h =
-          absurd (subst (λ (us : List (Under T Waiter)). AnyOf (λ u. (u.party ≡ party) × (holding u.at ≡ Some (on line key)))
+          absurd (subst (λ (us : List (ActiveCall T Waiter)). AnyOf (λ u. (u.party ≡ party) × (holding u.at ≡ Some (on line key)))
           us) rest h)
 
   one_name : (line : Line) (key : Key) (v w : Waiter) → Has line key v → Has line key w → v ≡ w
@@ -71,10 +71,10 @@ module _ {T : Type 0} (b : Book T) (s : Scene T Waiter) (kept : AllKept b s) (re
   one_key line w j k h g = ap (λ x. x.key) (same_held (on line j) (on line k) h.0 g.0 (sym h.1 ∙ g.1))
 
   of_its_line : (line : Line) (key : Key) (w : Waiter) → Has line key w → kind w ≡ Some line
-  of_its_line line key w h = line_is b.roll w (on line key) h.0 h.1
+  of_its_line line key w h = line_is b.name_table w (on line key) h.0 h.1
 
-  its_key : (line : Line) (key : Key) (w : Waiter) → Has line key w → held_of b.roll w ≡ Some key
-  its_key line key w h = holds_it b.roll w (on line key) h.0 h.1
+  its_key : (line : Line) (key : Key) (w : Waiter) → Has line key w → held_of b.name_table w ≡ Some key
+  its_key line key w h = holds_it b.name_table w (on line key) h.0 h.1
 
   told_names : (line : Line) → (ws : List Waiter) × Stand (Has line) (keys_of (told line)) ws
   told_names line = named_all (Has line) (keys_of (told line))
@@ -113,20 +113,20 @@ module _ {T : Type 0} (b : Book T) (s : Scene T Waiter) (kept : AllKept b s) (re
       let parts = none_parts (keys_of (told line)) (keys_of (waiting line)) (owned.once line) in
       absurd (parts.apart e.0 (woken w (on line e.0) p) (key_of_entry e (waiting line) i))
 
-  are_waiting : (line : Line) → AreUntold (held_of b.roll) (waiting line) (U line)
+  are_waiting : (line : Line) → AreUntold (held_of b.name_table) (waiting line) (U line)
   are_waiting line =
-      are_untold (Has line) (held_of b.roll) (its_key line) (waiting line) (U line) (his_task line) (waiting_names line).1
+      are_untold (Has line) (held_of b.name_table) (its_key line) (waiting line) (U line) (his_task line) (waiting_names line).1
 
   untold_are : (line : Line) → untold line who ≡ U line
-  untold_are Sends = tasks_are (held_of b.roll) (waiting Sends) (U Sends) (are_waiting Sends)
-  untold_are line = tasks_are (held_of b.roll) (waiting line) (U line) (are_waiting line)
+  untold_are Sends = tasks_are (held_of b.name_table) (waiting Sends) (U Sends) (are_waiting Sends)
+  untold_are line = tasks_are (held_of b.name_table) (waiting line) (U line) (are_waiting line)
 
   -- the listener of whoever was told is one of those of the woken
-  told_woken : (line : Line) (key : Key) → IsAmong key (keys_of (told line)) → IsAmong key (woken_keys line b.roll order)
+  told_woken : (line : Line) (key : Key) → IsAmong key (keys_of (told line)) → IsAmong key (woken_keys line b.name_table order)
   told_woken line key i = by (holder line key (among_left key (keys_of (told line)) (keys_of (waiting line)) i))
     where
-      by : (w : Waiter) × Has line key w → IsAmong key (woken_keys line b.roll order)
-      by (w, (true, p)) = in_woken line key b.roll w order (has_place w (inl (on line key, true, p))) p
+      by : (w : Waiter) × Has line key w → IsAmong key (woken_keys line b.name_table order)
+      by (w, (true, p)) = in_woken line key b.name_table w order (has_place w (inl (on line key, true, p))) p
       by (w, (false, p)) =
           let parts = none_parts (keys_of (told line)) (keys_of (waiting line)) (owned.once line) in
           absurd (parts.apart key i (key_of_entry (key, Some w) (waiting line) (owned.unwoken w (on line key) p)))
@@ -135,26 +135,26 @@ module _ {T : Type 0} (b : Book T) (s : Scene T Waiter) (kept : AllKept b s) (re
   woken_are : (line : Line) → of_line kind line who.woken ≡ D line
   woken_are line =
       let parts = none_parts (keys_of (told line)) (keys_of (waiting line)) (owned.once line) in
-      let same : woken_keys line b.roll order ≡ keys_of (told line) =
-      within_all (woken_keys line b.roll order) (keys_of (told line)) (in_order line) parts.left (told_woken line) in
-      let stand = woken_stand b.roll kind line (λ w h g p. line_is b.roll w h g p) order in
+      let same : woken_keys line b.name_table order ≡ keys_of (told line) =
+      within_all (woken_keys line b.name_table order) (keys_of (told line)) (in_order line) parts.left (told_woken line) in
+      let stand = woken_stand b.name_table kind line (λ w h g p. line_is b.name_table w h g p) order in
       stand_same (Has line) (keys_of (told line)) (of_line kind line who.woken) (D line) (one_name line)
       (subst (λ (ks : List Key). Stand (Has line) ks (of_line kind line who.woken)) same stand) (told_names line).1
 
   -- ---- the lines
 
-  shows_line : (line : Line) → ShowsLine kind (held_of b.roll) s.now.queue.closed line (listeners line s.now.roster) who
+  shows_line : (line : Line) → ShowsLine kind (held_of b.name_table) s.now.queue.closed line (listeners line s.now.roster) who
   shows_line line =
       record {
-        untold = subst (λ (ws : List Waiter). AreUntold (held_of b.roll) (waiting line) ws) (sym (untold_are line))
+        untold = subst (λ (ws : List Waiter). AreUntold (held_of b.name_table) (waiting line) ws) (sym (untold_are line))
             (are_waiting line);
-        told = subst (λ (ws : List Waiter). AreTold (held_of b.roll) s.now.queue.closed line (told line) ws)
+        told = subst (λ (ws : List Waiter). AreTold (held_of b.name_table) s.now.queue.closed line (told line) ws)
             (sym (woken_are line))
-            (are_told (Has line) (held_of b.roll) (its_key line) s.now.queue.closed line (told line) (D line)
+            (are_told (Has line) (held_of b.name_table) (its_key line) s.now.queue.closed line (told line) (D line)
             (sound.tellings.while_open line) (told_names line).1);
       }
 
-  shows_lines : ShowsLines kind (held_of b.roll) s.now.queue.closed s.now.roster who
+  shows_lines : ShowsLines kind (held_of b.name_table) s.now.queue.closed s.now.roster who
   shows_lines Sends = shows_line Sends
   shows_lines line = shows_line line
 
@@ -192,8 +192,8 @@ module _ {T : Type 0} (b : Book T) (s : Scene T Waiter) (kept : AllKept b s) (re
   -- who was woken belongs to a line
   wakes : (w : Waiter) → is_among w who.woken ≡ true → IsSome (kind w)
   wakes w i =
-      let h = woken_waits b.roll w (among_filter (λ v. was_woken (post b.roll v)) w order i) in
-      subst (λ (o : Option Line). IsSome o) (sym (line_is b.roll w h.0 true h.1)) refl
+      let h = woken_waits b.name_table w (among_filter (λ v. was_woken (status b.name_table v)) w order i) in
+      subst (λ (o : Option Line). IsSome o) (sym (line_is b.name_table w h.0 true h.1)) refl
 
   -- each list has the names of its line as often as they stand there
   times_woken : (w : Waiter) (line : Line) → times w (of_line kind line who.woken) ≡ times w (D line)
@@ -242,31 +242,31 @@ module _ {T : Type 0} (b : Book T) (s : Scene T Waiter) (kept : AllKept b s) (re
 
   -- ---- the keys
 
-  has : (w : Waiter) (key : Key) → held_of b.roll w ≡ Some key → (line : Line) × Has line key w
-  has w key e = by (pends b.roll w key e)
+  has : (w : Waiter) (key : Key) → held_of b.name_table w ≡ Some key → (line : Line) × Has line key w
+  has w key e = by (pends b.name_table w key e)
     where
-      by : Pends (post b.roll w) key → (line : Line) × Has line key w
+      by : Pends (status b.name_table w) key → (line : Line) × Has line key w
       by (inl bad) = absurd (owned.none_amiss w bad)
       by (inr h) = (h.0, (h.1, h.2))
 
-  keys_fit : KeysFit kind (held_of b.roll) who
+  keys_fit : KeysFit kind (held_of b.name_table) who
   keys_fit = record { holds = holds; apart = apart }
     where
-      holds : (w : Waiter) (key : Key) → held_of b.roll w ≡ Some key → 1 ≤ times_in w who
+      holds : (w : Waiter) (key : Key) → held_of b.name_table w ≡ Some key → 1 ≤ times_in w who
       holds w key e = let h = has w key e in stands w h.0 (there w h.0 key h.1)
 
-      on_its_line : (line : Line) (w : Waiter) (key : Key) → kind w ≡ Some line → held_of b.roll w ≡ Some key → Has line key w
+      on_its_line : (line : Line) (w : Waiter) (key : Key) → kind w ≡ Some line → held_of b.name_table w ≡ Some key → Has line key w
       on_its_line line w key k e =
           let h = has w key e in
           let same : Some h.0 ≡ Some line = sym (of_its_line h.0 key w h.1) ∙ k in
           let is : h.0 ≡ line = ap (λ (o : Option Line). elim o [ None ↦ line | Some l ↦ l ]) same in
           subst (λ (l : Line). Has l key w) is h.1
 
-      apart : (line : Line) (v w : Waiter) (key : Key) → kind v ≡ Some line → kind w ≡ Some line → held_of b.roll v ≡ Some key
-          → held_of b.roll w ≡ Some key → v ≡ w
+      apart : (line : Line) (v w : Waiter) (key : Key) → kind v ≡ Some line → kind w ≡ Some line → held_of b.name_table v ≡ Some key
+          → held_of b.name_table w ≡ Some key → v ≡ w
       apart line v w key k l e f = one_name line key v w (on_its_line line v key k e) (on_its_line line w key l f)
 
-  shows : Refines (held_of b.roll) s.now state
+  shows : Refines (held_of b.name_table) s.now state
   shows = record {
     messages = refl;
     closed = refl;
@@ -289,31 +289,31 @@ module _ {T : Type 0} (b : Book T) (s : Scene T Waiter) (kept : AllKept b s) (re
   nobody_or : (line : Line) → (U line ≡ []) ⊎ ((key : Key) × Waits line key s.now)
   nobody_or line = some_waits (Has line) (waiting line) (U line) (waiting_names line).1
 
-  owed : {X : Type 0} (P : Under T Waiter → Type 0) → X ⊎ Any P [] → X
+  owed : {X : Type 0} (P : ActiveCall T Waiter → Type 0) → X ⊎ Any P [] → X
   owed P (inl h) = h
   owed P (inr h) = absurd h
 
   receives_owed : (key : Key) → Waits Receives key s.now → MessagesAreFew s.now 0
   receives_owed key i =
       owed (λ u. HoldsListener Receives key u.at)
-      (subst (λ (us : List (Under T Waiter)). MessagesAreFew s.now (total counts_for_receives us) ⊎ Any
+      (subst (λ (us : List (ActiveCall T Waiter)). MessagesAreFew s.now (total counts_for_receives us) ⊎ Any
       (λ u. HoldsListener Receives key u.at) us) rest (sound.receives.owed key i))
 
   sends_owed : (key : Key) → Waits Sends key s.now → PlacesAreFew s.now 0
   sends_owed key i =
       owed (λ u. HoldsListener Sends key u.at)
-      (subst (λ (us : List (Under T Waiter)). PlacesAreFew s.now (total counts_for_sends us) ⊎ Any
+      (subst (λ (us : List (ActiveCall T Waiter)). PlacesAreFew s.now (total counts_for_sends us) ⊎ Any
       (λ u. HoldsListener Sends key u.at) us) rest (sound.sends.owed key i))
 
   streams_owed : (key : Key) → Waits Streams key s.now → s.now.queue.items ≡ []
   streams_owed key i =
       owed (AnswersFor key)
-      (subst (λ (us : List (Under T Waiter)). (s.now.queue.items ≡ []) ⊎ Any (AnswersFor key) us) rest
+      (subst (λ (us : List (ActiveCall T Waiter)). (s.now.queue.items ≡ []) ⊎ Any (AnswersFor key) us) rest
       (sound.streams.owed key i))
 
   closing_owed : (line : Line) (key : Key) → Shut s.now → Waits line key s.now → ⊥
   closing_owed line key shut i =
-      subst (λ (us : List (Under T Waiter)). Any (AnswersClosed line key) us) rest (sound.closing.owed line key shut i)
+      subst (λ (us : List (ActiveCall T Waiter)). Any (AnswersClosed line key) us) rest (sound.closing.owed line key shut i)
 
   receives_awake : Enough kind Receives many who
   receives_awake = by (nobody_or Receives)
@@ -386,7 +386,7 @@ module _ {T : Type 0} (b : Book T) (s : Scene T Waiter) (kept : AllKept b s) (re
   at_rest = record {
     shows = shows;
     awake = awake;
-    calls = λ c o fine alone. calls_over T c (held_of b.roll) s.now state o fine shows awake alone;
+    calls = λ c o fine alone. calls_over T c (held_of b.name_table) s.now state o fine shows awake alone;
   }
 
 pub rest_is_a_world : (T : Type 0) → RestIsAWorld T

@@ -3,13 +3,13 @@ use Rattle.std.specs.Prelude.{◌≡◌, true, List, [], Option, None, Some}
 use Rattle.channel_calls.specs.declared.stage.Line.{Line}
 use Rattle.channel_alone.specs.Alone.{Outcome, Alone}
 use Rattle.channel_interleaving.specs.Bookkeeping.{asks}
-use Rattle.channel_interleaving.specs.Kept.{AllKept}
-use Rattle.channel_interleaving.specs.Lone.{book_alone}
+use Rattle.channel_interleaving.specs.Kept.{WorldInvariant}
+use Rattle.channel_interleaving.specs.Lone.{name_state_alone}
 use Rattle.channel_interleaving.specs.OwnerOrder.{woken_in}
-use Rattle.channel_interleaving.specs.Owners.{polled, post}
+use Rattle.channel_interleaving.specs.Owners.{polled, status}
 use Rattle.channel_interleaving.specs.Refusal.{begin_refusal}
-use Rattle.channel_interleaving.specs.Run.{Book}
-use Rattle.channel_interleaving.specs.declared.roll.Roll.{Roll}
+use Rattle.channel_interleaving.specs.Run.{NameState}
+use Rattle.channel_interleaving.specs.declared.name_table.NameTable.{NameTable}
 use Rattle.channel_model.specs.Lines.{is_among, without_waiter}
 use Rattle.channel_model.specs.Refusal as model
 use Rattle.channel_model.specs.Refused.{Answers}
@@ -17,7 +17,7 @@ use Rattle.channel_model.specs.Settling.{poll_of}
 use Rattle.channel_model.specs.declared.call.Call.{Call}
 use Rattle.channel_model.specs.declared.name.Waiter.{Waiter}
 use Rattle.channel_rest.specs.Rest.{state_at}
-use Rattle.channel_steps.specs.Scene.{Scene}
+use Rattle.channel_steps.specs.Configuration.{Configuration}
 
 -- the names, without one if there is one
 abbrev pub but_for : Option Waiter → List Waiter → List Waiter
@@ -26,31 +26,31 @@ but_for (Some w) ws = without_waiter w ws
 
 module _ {T : Type 0} where
   -- no poll is under way
-  abbrev pub NonePolled : Roll T → Type 0
-  NonePolled r = (w : Waiter) (line : Line) → post r w ≡ polled line → ⊥
+  abbrev pub NonePolled : NameTable T → Type 0
+  NonePolled r = (w : Waiter) (line : Line) → status r w ≡ polled line → ⊥
 
 -- where nobody is at work, the model refuses what is refused by names, for the same reason
 abbrev pub RefusalsAgree : Type 0 → Type 0
 RefusalsAgree T =
-    (b : Book T) (s : Scene T Waiter) (c : Call T) → AllKept b s → b.agents ≡ []
-    → begin_refusal b.roll c ≡ model.refusal (state_at b s) c
+    (b : NameState T) (s : Configuration T Waiter) (c : Call T) → WorldInvariant b s → b.agents ≡ []
+    → begin_refusal b.name_table c ≡ model.refusal (state_at b s) c
 
 -- Where nobody is at work, a call that is not refused and is made alone answers as the model may; the names, the order of waking
 -- and the channel after it are the model's state after it.
 abbrev pub LoneCallsAnswer : Type 0 → Type 0
 LoneCallsAnswer T =
-    (b : Book T) (s t : Scene T Waiter) (c : Call T) (o : Outcome T Waiter)
-    → AllKept b s → b.agents ≡ [] → s.under_way ≡ [] → begin_refusal b.roll c ≡ None
-    → Alone (asks b.roll c) s.now o → t.now ≡ o.channel
-    → Answers (state_at b s) c (record { after = state_at (book_alone b c o) t; reply = o.reply; woken = o.woken })
+    (b : NameState T) (s t : Configuration T Waiter) (c : Call T) (o : Outcome T Waiter)
+    → WorldInvariant b s → b.agents ≡ [] → s.under_way ≡ [] → begin_refusal b.name_table c ≡ None
+    → Alone (asks b.name_table c) s.now o → t.now ≡ o.channel
+    → Answers (state_at b s) c (record { after = state_at (name_state_alone b c o) t; reply = o.reply; woken = o.woken })
 
 -- Where nobody is at work, whoever is pending and was woken may be polled alone, a stream also while a live operation borrows its
 -- receiver: the poll answers as the model may, and the names, the order of waking and the channel after it are the model's state
 -- after it.
 abbrev pub PollsAnswer : Type 0 → Type 0
 PollsAnswer T =
-    (b : Book T) (s t : Scene T Waiter) (w : Waiter) (o : Outcome T Waiter)
-    → AllKept b s → b.agents ≡ [] → s.under_way ≡ [] → is_among w (woken_in b.roll b.order) ≡ true
-    → Alone (asks b.roll (poll_of w)) s.now o → t.now ≡ o.channel
+    (b : NameState T) (s t : Configuration T Waiter) (w : Waiter) (o : Outcome T Waiter)
+    → WorldInvariant b s → b.agents ≡ [] → s.under_way ≡ [] → is_among w (woken_in b.name_table b.order) ≡ true
+    → Alone (asks b.name_table (poll_of w)) s.now o → t.now ≡ o.channel
     → Answers (state_at b s) (poll_of w)
-    (record { woken = o.woken; after = state_at (book_alone b (poll_of w) o) t; reply = o.reply })
+    (record { woken = o.woken; after = state_at (name_state_alone b (poll_of w) o) t; reply = o.reply })

@@ -2,10 +2,10 @@
 use Rattle.std.specs.Prelude.{◌≡◌, [], None}
 use Rattle.event_listener.specs.Lists.{tasks_of}
 use Rattle.channel_alone.specs.Alone.{Outcome, Alone}
-use Rattle.channel_interleaving.specs.Kept.{AllKept}
+use Rattle.channel_interleaving.specs.Kept.{WorldInvariant}
 use Rattle.channel_interleaving.specs.OwnerOrder.{woken_in}
-use Rattle.channel_interleaving.specs.Roll.{names_of, held_of}
-use Rattle.channel_interleaving.specs.Run.{Book}
+use Rattle.channel_interleaving.specs.NameTable.{names_of, held_of}
+use Rattle.channel_interleaving.specs.Run.{NameState}
 use Rattle.channel_model.specs.Awake.{AwakeIn}
 use Rattle.channel_model.specs.Refusal.{refusal}
 use Rattle.channel_model.specs.State.{State}
@@ -14,12 +14,12 @@ use Rattle.channel_model.specs.declared.name.Waiter.{Waiter}
 use Rattle.channel_refinement.specs.Asked.{asked_in}
 use Rattle.channel_refinement.specs.Over.{Matches}
 use Rattle.channel_refinement.specs.Refines.{Refines}
-use Rattle.channel_steps.specs.Scene.{Scene}
+use Rattle.channel_steps.specs.Configuration.{Configuration}
 
 module _ {T : Type 0} where
   -- the state of the model: the names as they live, those who wait in the order of each list, and the woken in the order of
   -- their waking
-  abbrev pub state_at : Book T → Scene T Waiter → State T
+  abbrev pub state_at : NameState T → Configuration T Waiter → State T
   state_at b s = record {
     channel = record {
       messages = s.now.queue.items;
@@ -28,27 +28,27 @@ module _ {T : Type 0} where
       senders = s.now.roster.senders;
       receivers = s.now.roster.receivers;
     };
-    names = names_of b.roll;
+    names = names_of b.name_table;
     waiting = record {
       sends = tasks_of s.now.roster.sends.waiting;
       receives = tasks_of s.now.roster.receives.waiting;
       streams = tasks_of s.now.roster.streams.waiting;
       closings = tasks_of s.now.roster.closings.waiting;
-      woken = woken_in b.roll b.order;
+      woken = woken_in b.name_table b.order;
     };
   }
 
   -- The channel shows this state with the listeners that its names hold, and nobody is left asleep there. Each call made alone
   -- from there, which the model doesn't refuse, does what the model allows of it.
-  pub record IsWorld (b : Book T) (s : Scene T Waiter) : Type 0 where
-    pub shows : Refines (held_of b.roll) s.now (state_at b s)
+  pub record IsWorld (b : NameState T) (s : Configuration T Waiter) : Type 0 where
+    pub shows : Refines (held_of b.name_table) s.now (state_at b s)
     pub awake : AwakeIn (state_at b s)
     pub calls :
         (c : Call T) (o : Outcome T Waiter)
-        → refusal (state_at b s) c ≡ None → Alone (asked_in (held_of b.roll) (state_at b s) c) s.now o
-        → Matches (held_of b.roll) (state_at b s) c o
+        → refusal (state_at b s) c ≡ None → Alone (asked_in (held_of b.name_table) (state_at b s) c) s.now o
+        → Matches (held_of b.name_table) (state_at b s) c o
 
 -- A channel with no call under way shows such a state, however it came about, wherever what every step keeps of those who wait
 -- is kept.
 abbrev pub RestIsAWorld : Type 0 → Type 0
-RestIsAWorld T = (b : Book T) (s : Scene T Waiter) → AllKept b s → s.under_way ≡ [] → IsWorld b s
+RestIsAWorld T = (b : NameState T) (s : Configuration T Waiter) → WorldInvariant b s → s.under_way ≡ [] → IsWorld b s

@@ -1,6 +1,6 @@
 -- No call under way has more than `most_left` steps left where the others are quiet.
 use Rattle.std.proofs.Common.{arith, ◌≡◌, ◌≤◌, ℕ, zero, suc, List, [], ◌∷◌, ◌++◌, map, slice_get, Some, sym, subst, append_assoc}
-use Rattle.channel_steps.proofs.Words.{Queue, Seat, Fits, Parts, Phase, QueueAsk, QueueCall, Channel, phase, ChannelAsk, Aim, Stage, Trying, Working, Finished, Work, TakeRoom, party_left, all_left, most_left, most_wanted, MarkedMoment, TriesFor, WorkAt, StageAt, Under, Scene, Sitting, under_of, seats_of, all_seats, AllKnown, wanted_at, Represents, Party}
+use Rattle.channel_steps.proofs.Words.{Queue, Seat, Fits, Parts, Phase, QueueAsk, QueueCall, Channel, phase, ChannelAsk, Aim, Stage, Trying, Working, Finished, Work, TakeRoom, party_left, all_left, most_left, most_wanted, MarkedMoment, TriesFor, WorkAt, StageAt, ActiveCall, Configuration, ActiveCallWitness, active_call_of, seats_of, all_seats, AllKnown, wanted_at, Represents, Party}
 use Rattle.channel_steps.proofs.LeftFacts.{wanted_after, wanted_by, wanted}
 use Rattle.concurrent_queue.specs.declared.call.QueueAsk.TheVariants as ask
 use Rattle.channel_calls.specs.declared.ask.ChannelAsk.TheVariants as channel
@@ -24,8 +24,8 @@ module _ {T W : Type 0} where
   wants now x f (Finished kept) ds seen h = absurd h
 
 module _ {T W : Type 0} (parts : Parts T W) (q : Queue T) (now : Channel T W) where
-  few_behind : (l : List (Seat T)) (xs : List (Sitting T W)) → Fits parts.cells q (l ++ all_seats xs)
-      → AllKnown now (map under_of xs) → (k n : ℕ) → slice_get (map (party_left parts) (map (λ (x : Sitting T W). x.party) xs)) k ≡ Some n → n ≤ most_left (wanted_at k (map under_of xs))
+  few_behind : (l : List (Seat T)) (xs : List (ActiveCallWitness T W)) → Fits parts.cells q (l ++ all_seats xs)
+      → AllKnown now (map active_call_of xs) → (k n : ℕ) → slice_get (map (party_left parts) (map (λ (x : ActiveCallWitness T W). x.party) xs)) k ≡ Some n → n ≤ most_left (wanted_at k (map active_call_of xs))
   few_behind l [] fits known k n there = absurd cc
   few_behind l (x ∷ xs) fits known zero n there =
       let first : party_left parts x.party ≡ n = cc there in
@@ -37,9 +37,9 @@ module _ {T W : Type 0} (parts : Parts T W) (q : Queue T) (now : Channel T W) wh
       few_behind (l ++ seats_of x) xs (subst (λ (ss : List (Seat T)). Fits parts.cells q ss) (sym (append_assoc l (seats_of x) (all_seats xs))) fits) known.1 k n there
 
 module _ {T W : Type 0} where
-  pub few_left : (parts : Parts T W) (parties : List (Party T W)) (s : Scene T W) → Represents parts parties s
+  pub few_left : (parts : Parts T W) (parties : List (Party T W)) (s : Configuration T W) → Represents parts parties s
       → (k n : ℕ) → slice_get (all_left parts parties) k ≡ Some n → n ≤ most_left (wanted_at k s.under_way)
   few_left parts parties s sh k n there =
-      subst (λ (us : List (Under T W)). n ≤ most_left (wanted_at k us)) (sym sh.under_way)
-      (few_behind parts sh.queue s.now [] sh.sittings (s.blocks, sh.fits) (subst (λ (us : List (Under T W)). AllKnown s.now us) sh.under_way sh.known) k n
+      subst (λ (us : List (ActiveCall T W)). n ≤ most_left (wanted_at k us)) (sym sh.under_way)
+      (few_behind parts sh.queue s.now [] sh.witnesses (s.blocks, sh.fits) (subst (λ (us : List (ActiveCall T W)). AllKnown s.now us) sh.under_way sh.known) k n
       (subst (λ (ps : List (Party T W)). slice_get (all_left parts ps) k ≡ Some n) sh.parties_are there))

@@ -1,6 +1,6 @@
 -- Calls without a mark are quiet to the calls of the queue.
 use Rattle.std.proofs.Common.{arith, ◌≡◌, ◌<◌, ◌≤◌, ℕ, List, [], ◌∷◌, ◌++◌, map, None, Some, ◌⊎◌, inl, inr, refl, sym, ap, ◌∙◌, subst}
-use Rattle.channel_steps.proofs.Words.{Phase, trying, displaced, appended, taken, read, measured, Seat, PhasesQuiet, phases, QueueAsk, QueueCall, Channel, phase, seats, ChannelAsk, Stage, Trying, Working, Finished, Aim, IsQuiet, AllQuiet, TryAt, TriesAt, StageAt, MarkedMoment, Under, Scene, Steps, Sitting, sees, under_of, seats_of, all_seats, AllKnown, AreIdle, OthersQuiet, Entry}
+use Rattle.channel_steps.proofs.Words.{Phase, trying, displaced, appended, taken, read, measured, Seat, PhasesQuiet, phases, QueueAsk, QueueCall, Channel, phase, seats, ChannelAsk, Stage, Trying, Working, Finished, Aim, IsQuiet, AllQuiet, TryAt, TriesAt, StageAt, MarkedMoment, ActiveCall, Configuration, Steps, ActiveCallWitness, sees, active_call_of, seats_of, all_seats, AllKnown, AreIdle, OthersQuiet, Entry}
 use Rattle.concurrent_queue.specs.Queue as queue
 use Rattle.concurrent_queue.specs.declared.call.QueueAsk.TheVariants as ask
 use Rattle.channel_calls.specs.declared.stage.Aim.TheVariants as aim
@@ -38,7 +38,7 @@ module _ {T W : Type 0} where
   idle_stage now x f (Working w) seen h = tt
   idle_stage now x f (Finished kept) seen h = tt
 
-  pub idle_seats : (now : Channel T W) (xs : List (Sitting T W)) → AllKnown now (map under_of xs) → AreIdle (map under_of xs)
+  pub idle_seats : (now : Channel T W) (xs : List (ActiveCallWitness T W)) → AllKnown now (map active_call_of xs) → AreIdle (map active_call_of xs)
       → AllQuiet (phases (all_seats xs))
   idle_seats now [] known idle = tt
   idle_seats now (x ∷ xs) known idle =
@@ -46,38 +46,38 @@ module _ {T W : Type 0} where
       let stands = subst (λ (ds : List (MarkedMoment T W)). StageAt now x.ask (phase x.inner x.party.call.stage) ds x.seen) idle.0 k.stands in
       quiet_append (seats_of x) (all_seats xs) (idle_stage now x.ask x.inner x.party.call.stage x.seen stands) (idle_seats now xs known.1 idle.1)
 
-  none_seats : (xs : List (Sitting T W)) → map under_of xs ≡ [] → all_seats xs ≡ []
+  none_seats : (xs : List (ActiveCallWitness T W)) → map active_call_of xs ≡ [] → all_seats xs ≡ []
   none_seats [] e = refl
   none_seats (x ∷ xs) e = absurd cc
 
   -- calls without a mark are quiet calls of the queue
-  pub idle_holds : (now : Channel T W) (xs : List (Sitting T W)) → AllKnown now (map under_of xs) → OthersQuiet now (map under_of xs)
+  pub idle_holds : (now : Channel T W) (xs : List (ActiveCallWitness T W)) → AllKnown now (map active_call_of xs) → OthersQuiet now (map active_call_of xs)
       → PhasesQuiet now.queue (phases (all_seats xs))
   idle_holds now xs known (idle, first) = (idle_seats now xs known idle, λ bare. by (first bare))
     where
-      by : (0 < now.queue.removed) ⊎ (map under_of xs ≡ []) → (0 < now.queue.removed) ⊎ (phases (all_seats xs) ≡ [])
+      by : (0 < now.queue.removed) ⊎ (map active_call_of xs ≡ []) → (0 < now.queue.removed) ⊎ (phases (all_seats xs) ≡ [])
       by (inl some) = inl some
       by (inr none) = inr (ap phases (none_seats xs none))
 
   -- ---- they are still quiet after its step
 
-  idle_seen : (c : Channel T W) (us : List (Under T W)) → AreIdle us → AreIdle (map (sees c) us)
+  idle_seen : (c : Channel T W) (us : List (ActiveCall T W)) → AreIdle us → AreIdle (map (sees c) us)
   idle_seen c [] h = tt
   idle_seen c (u ∷ us) h = (h.0, idle_seen c us h.1)
 
-  idle_left : (us vs : List (Under T W)) → AreIdle (us ++ vs) → AreIdle us
+  idle_left : (us vs : List (ActiveCall T W)) → AreIdle (us ++ vs) → AreIdle us
   idle_left [] vs h = tt
   idle_left (u ∷ us) vs h = (h.0, idle_left us vs h.1)
 
-  idle_right : (us vs : List (Under T W)) → AreIdle (us ++ vs) → AreIdle vs
+  idle_right : (us vs : List (ActiveCall T W)) → AreIdle (us ++ vs) → AreIdle vs
   idle_right [] vs h = h
   idle_right (u ∷ us) vs h = idle_right us vs h.1
 
-  idle_both : (us vs : List (Under T W)) → AreIdle us → AreIdle vs → AreIdle (us ++ vs)
+  idle_both : (us vs : List (ActiveCall T W)) → AreIdle us → AreIdle vs → AreIdle (us ++ vs)
   idle_both [] vs h k = k
   idle_both (u ∷ us) vs h k = (h.0, idle_both us vs h.1 k)
 
-  pub hold_still : (s : Scene T W) (p : ℕ) (e : Entry T) (names : List W) (t : Scene T W) (n : Steps s p e names t)
+  pub hold_still : (s : Configuration T W) (p : ℕ) (e : Entry T) (names : List W) (t : Configuration T W) (n : Steps s p e names t)
       → OthersQuiet s.now (n.before ++ n.behind) → OthersQuiet t.now (map (sees t.now) n.before ++ map (sees t.now) n.behind)
   hold_still s p e names t n (idle, first) =
       let g = grows s.now n.mine.at (record { channel = t.now; mark = e.mark; woken = names }) e.reply n.at_now n.moves in (
@@ -86,7 +86,7 @@ module _ {T W : Type 0} where
         λ bare. by g.2 (first (sym g.0 ∙ bare)),
       )
     where
-      none : (us vs : List (Under T W)) → us ++ vs ≡ [] → map (sees t.now) us ++ map (sees t.now) vs ≡ []
+      none : (us vs : List (ActiveCall T W)) → us ++ vs ≡ [] → map (sees t.now) us ++ map (sees t.now) vs ≡ []
       none [] [] h = refl
       none [] (v ∷ vs) h = absurd cc
       none (u ∷ us) vs h = absurd cc

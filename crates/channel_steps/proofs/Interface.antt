@@ -2,18 +2,18 @@
 -- entry of a run; a step of the only call under way; how a step changes the number of messages; how few steps a call has left; and
 -- that a listener which was just added waits.
 use Rattle.std.proofs.Common.{◌≡◌, ℕ, suc, ◌+◌, ◌^◌, ◌≤◌, ◌<◌, true, List, [], ◌∷◌, ◌++◌, map, length, slice_get, Option, None, Some, refl, ap, sym, ◌∙◌, subst}
-use Rattle.channel_steps.proofs.Words.{Phase, Queue, Contents, Seat, chain_after, QueueForm, kind_of, listened, Key, Channel, Effect, Moves, Parts, Roster, Listeners, listeners, with_listeners, waits, Line, Mark, Reply, Kept, Stage, Finished, counted, brought_in, taken_out, all_left, most_left, Under, Scene, sees, does, unless_ended, Known, AllKnown, IsBalanced, OthersQuiet, wanted_at, Steps, Represents, MayHave, blocks_after, EachStep, IsRun, end_of, Next, call_begun, Entry, Party, Step}
+use Rattle.channel_steps.proofs.Words.{Phase, Queue, Contents, Seat, chain_after, QueueForm, kind_of, listened, Key, Channel, Effect, Moves, Parts, Roster, Listeners, listeners, with_listeners, waits, Line, Mark, Reply, Kept, Stage, Finished, counted, brought_in, taken_out, all_left, most_left, ActiveCall, Configuration, sees, does, unless_ended, Known, AllKnown, IsBalanced, OthersQuiet, wanted_at, Steps, Represents, MayHave, blocks_after, EachStep, IsRun, end_of, Next, call_begun, Entry, Party, Step}
 use Rattle.concurrent_queue.specs.Step.{FitsAt}
 use Rattle.channel_steps.specs.declared.run.Step.TheVariants as step
 pub use Rattle.channel_steps.proofs.TryFacts.{answer_marks, answered_by}
 use Rattle.channel_steps.proofs.OwnFacts.{moves_on, all_see, own_known, begins_known}
-use Rattle.channel_steps.proofs.SceneFacts.{known_left, known_right, known_both}
+use Rattle.channel_steps.proofs.ConfigurationFacts.{known_left, known_right, known_both}
 use Rattle.channel_steps.proofs.CountFacts as count_facts
 use Rattle.channel_steps.proofs.FewFacts as few_facts
 use Rattle.channel_steps.proofs.IdleFacts as idle_facts
 use Rattle.channel_steps.proofs.LineFacts as line_facts
 use Rattle.channel_steps.proofs.LoneFacts as lone_facts
-use Rattle.channel_steps.proofs.SceneFacts as scene_facts
+use Rattle.channel_steps.proofs.ConfigurationFacts as configuration_facts
 use Rattle.channel_steps.proofs.LoneFacts.{lone_after}
 
 -- ---- runs
@@ -84,19 +84,19 @@ module _ {M X E : Type 0} (P : M → X → E → M → Type 0) where
   run_entries m xs es n run =
       run_so (λ a xs es b. length es ≡ length xs) (λ a. refl) (λ a x e b xs es c h rest. ap (λ k. suc k) rest) m xs es n run
 
--- ---- scenes
+-- ---- configurations
 
 module _ {T : Type 0} where
   -- the cells that a step leaves, and the calls under way, mean a queue with the blocks after it
   pub fits_after : (blocks : List ℕ) (c d : Contents T) (q : Queue T) (ss : List (Seat T)) → FitsAt (chain_after blocks c d) d q ss
       → FitsAt (blocks_after d.form blocks c d) d q ss
-  fits_after blocks c d q ss fits = scene_facts.fits_after blocks c d q ss fits
+  fits_after blocks c d q ss fits = configuration_facts.fits_after blocks c d q ss fits
 
   pub none_after : (form : QueueForm) (blocks : List ℕ) (c d : Contents T) → MayHave form (blocks_after form blocks c d)
-  none_after form blocks c d = scene_facts.none_after form blocks c d
+  none_after form blocks c d = configuration_facts.none_after form blocks c d
 
 module _ {T W : Type 0} where
-  own : (c : Channel T W) (u : Under T W) (m : Mark) (d : Channel T W) (names : List W) (at : Stage (Phase T) T W)
+  own : (c : Channel T W) (u : ActiveCall T W) (m : Mark) (d : Channel T W) (names : List W) (at : Stage (Phase T) T W)
       → IsBalanced c.queue → Known c u
       → (r : Option (Reply T)) → Moves c u.at (record { channel = d; mark = m; woken = names }) r at
       → AllKnown d (unless_ended (does u at m c d) r)
@@ -104,13 +104,13 @@ module _ {T W : Type 0} where
   own c u m d names at bal k (Some r) g = tt
 
   -- what is known of the calls, and that the messages that are there and those that left are those that came
-  pub known_next : (s : Scene T W) (x : Step T W) (e : Entry T) (names : List W) (t : Scene T W) → Next s x e names t
+  pub known_next : (s : Configuration T W) (x : Step T W) (e : Entry T) (names : List W) (t : Configuration T W) → Next s x e names t
       → AllKnown s.now s.under_way → IsBalanced s.now.queue → AllKnown t.now t.under_way × IsBalanced t.now.queue
   known_next s (step.Begin p ask) e names t n known bal =
       let b = n.0 in
-      let mine : Under T W = call_begun p ask b.at s.now in
+      let mine : ActiveCall T W = call_begun p ask b.at s.now in
       let all = known_both s.now s.under_way (mine ∷ []) known (begins_known s.now p ask b.answer b.at b.turned, tt) in
-      let there = subst (λ (us : List (Under T W)). AllKnown s.now us) (sym b.under_way) all in (
+      let there = subst (λ (us : List (ActiveCall T W)). AllKnown s.now us) (sym b.under_way) all in (
         subst (λ (c : Channel T W). AllKnown c t.under_way) (sym b.now) there,
         subst (λ (c : Channel T W). IsBalanced c.queue)
             (sym b.now) bal,
@@ -118,27 +118,27 @@ module _ {T W : Type 0} where
   known_next s (step.Step p) e names t n known bal =
       let effect : Effect T W = record { channel = t.now; mark = e.mark; woken = names } in
       let on = moves_on s.now n.mine.at effect e.reply n.at_now n.moves in
-      let all = subst (λ (us : List (Under T W)). AllKnown s.now us) n.there known in
+      let all = subst (λ (us : List (ActiveCall T W)). AllKnown s.now us) n.there known in
       let right = known_right s.now n.before (n.mine ∷ n.behind) all in
       let mine = own s.now n.mine e.mark t.now names n.at_now bal right.0 e.reply n.moves in
-      let now : List (Under T W) = unless_ended (does n.mine n.at_now e.mark s.now t.now) e.reply in
+      let now : List (ActiveCall T W) = unless_ended (does n.mine n.at_now e.mark s.now t.now) e.reply in
       let behind = known_both t.now now (map (sees t.now) n.behind) mine (all_see s.now t.now on n.behind right.1) in
       let before = all_see s.now t.now on n.before (known_left s.now n.before (n.mine ∷ n.behind) all) in
       let whole = known_both t.now (map (sees t.now) n.before) (now ++ map (sees t.now) n.behind) before behind in
-      (subst (λ (us : List (Under T W)). AllKnown t.now us) (sym n.left) whole, on.balanced bal)
+      (subst (λ (us : List (ActiveCall T W)). AllKnown t.now us) (sym n.left) whole, on.balanced bal)
 
   -- where a call begins, they are those before
-  pub blocks_begun : (parts : Parts T W) (parties : List (Party T W)) (s t : Scene T W) → Represents parts parties s → t.blocks ≡ s.blocks
+  pub blocks_begun : (parts : Parts T W) (parties : List (Party T W)) (s t : Configuration T W) → Represents parts parties s → t.blocks ≡ s.blocks
       → t.blocks ≡ blocks_after parts.cells.form s.blocks parts.cells parts.cells
-  blocks_begun parts parties s t sh same = scene_facts.blocks_begun parts parties s t sh same
+  blocks_begun parts parties s t sh same = configuration_facts.blocks_begun parts parties s t sh same
 
   -- ---- the only call under way
 
-  -- the scene after a step of its own: the channel d, these blocks, and the call with this step, or gone where it has answered
-  abbrev pub after_lone : Scene T W → Under T W → Stage (Phase T) T W → Mark → Option (Reply T) → List ℕ → Channel T W → Scene T W
+  -- the configuration after a step of its own: the channel d, these blocks, and the call with this step, or gone where it has answered
+  abbrev pub after_lone : Configuration T W → ActiveCall T W → Stage (Phase T) T W → Mark → Option (Reply T) → List ℕ → Channel T W → Configuration T W
   after_lone s u at m r blocks d = lone_after s u at m r blocks d
 
-  module _ (s : Scene T W) (u : Under T W) (only : s.under_way ≡ u ∷ []) (known : Known s.now u) (bal : IsBalanced s.now.queue)
+  module _ (s : Configuration T W) (u : ActiveCall T W) (only : s.under_way ≡ u ∷ []) (known : Known s.now u) (bal : IsBalanced s.now.queue)
       (m : Mark) (names : List W) (blocks : List ℕ) (d : Channel T W) (at : Stage (Phase T) T W) where
     -- a step that does not answer, which wakes these
     pub lone_goes : Moves s.now u.at (record { channel = d; mark = m; woken = names }) None at
@@ -154,7 +154,7 @@ module _ {T W : Type 0} where
   -- ---- the number of messages
 
   -- a step accepts one at most
-  pub accepts_one : (s : Scene T W) (p : ℕ) (e : Entry T) (names : List W) (t : Scene T W) → Steps s p e names t
+  pub accepts_one : (s : Configuration T W) (p : ℕ) (e : Entry T) (names : List W) (t : Configuration T W) → Steps s p e names t
       → t.now.queue.accepted ≤ s.now.queue.accepted + 1
   accepts_one s p e names t n =
       count_facts.accepts_one s.now.queue e.mark t.now.queue
@@ -162,7 +162,7 @@ module _ {T W : Type 0} where
       n.at_now n.moves)
 
   -- those after a step are counted by its mark
-  pub messages_counted : (s : Scene T W) (p : ℕ) (e : Entry T) (names : List W) (t : Scene T W) → Steps s p e names t
+  pub messages_counted : (s : Configuration T W) (p : ℕ) (e : Entry T) (names : List W) (t : Configuration T W) → Steps s p e names t
       → IsBalanced s.now.queue → IsBalanced t.now.queue → s.now.queue.accepted < 2 ^ 62
       → counted (length s.now.queue.items) e.mark ≡ length t.now.queue.items
   messages_counted s p e names t n a b low =
@@ -171,7 +171,7 @@ module _ {T W : Type 0} where
       n.moves) a b low
 
   -- and those that were there and came in are those that are there and went out
-  pub messages_moved : (s : Scene T W) (p : ℕ) (e : Entry T) (names : List W) (t : Scene T W) → Steps s p e names t
+  pub messages_moved : (s : Configuration T W) (p : ℕ) (e : Entry T) (names : List W) (t : Configuration T W) → Steps s p e names t
       → IsBalanced s.now.queue → IsBalanced t.now.queue
       → length t.now.queue.items + taken_out e.mark ≡ length s.now.queue.items + brought_in e.mark
   messages_moved s p e names t n a b =
@@ -182,12 +182,12 @@ module _ {T W : Type 0} where
   -- ---- how many steps are left
 
   -- no call under way has more than these where the others are quiet
-  pub few_left : (parts : Parts T W) (parties : List (Party T W)) (s : Scene T W) → Represents parts parties s
+  pub few_left : (parts : Parts T W) (parties : List (Party T W)) (s : Configuration T W) → Represents parts parties s
       → (k n : ℕ) → slice_get (all_left parts parties) k ≡ Some n → n ≤ most_left (wanted_at k s.under_way)
   few_left parts parties s sh k n there = few_facts.few_left parts parties s sh k n there
 
   -- where the others of a call are quiet, they are still so after a step of its own
-  pub hold_still : (s : Scene T W) (p : ℕ) (e : Entry T) (names : List W) (t : Scene T W) (n : Steps s p e names t)
+  pub hold_still : (s : Configuration T W) (p : ℕ) (e : Entry T) (names : List W) (t : Configuration T W) (n : Steps s p e names t)
       → OthersQuiet s.now (n.before ++ n.behind) → OthersQuiet t.now (map (sees t.now) n.before ++ map (sees t.now) n.behind)
   hold_still s p e names t n hold = idle_facts.hold_still s p e names t n hold
 

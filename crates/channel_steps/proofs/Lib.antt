@@ -10,7 +10,7 @@ pub mod LineFacts
 pub mod LeftFacts
 pub mod IdleFacts
 pub mod FewFacts
-pub mod SceneFacts
+pub mod ConfigurationFacts
 pub mod RunFacts
 pub mod StartFacts
 pub mod LoneFacts

@@ -1,11 +1,11 @@
 -- A step of the only call under way, from how its stage moves.
 use Rattle.std.proofs.Common.{◌≡◌, ℕ, List, [], ◌∷◌, ◌++◌, Option, None, Some, refl, sym, append-nil}
-use Rattle.channel_steps.proofs.Words.{Phase, Channel, Effect, Moves, Mark, Reply, Kept, Stage, Finished, Under, Scene, does, gone_by, came_by, unless_ended, Known, IsBalanced, MayFinish, Steps}
+use Rattle.channel_steps.proofs.Words.{Phase, Channel, Effect, Moves, Mark, Reply, Kept, Stage, Finished, ActiveCall, Configuration, does, gone_by, came_by, unless_ended, Known, IsBalanced, MayFinish, Steps}
 use Rattle.channel_steps.proofs.OwnFacts.{names_of, moves_held, own_finishes, own_in_time}
 
 module _ {T W : Type 0} where
-  -- the scene after a step of the call u, which leaves these blocks, where no other is under way
-  abbrev pub lone_after : Scene T W → Under T W → Stage (Phase T) T W → Mark → Option (Reply T) → List ℕ → Channel T W → Scene T W
+  -- the configuration after a step of the call u, which leaves these blocks, where no other is under way
+  abbrev pub lone_after : Configuration T W → ActiveCall T W → Stage (Phase T) T W → Mark → Option (Reply T) → List ℕ → Channel T W → Configuration T W
   lone_after s u at m r blocks d =
       record {
         now = d;
@@ -15,7 +15,7 @@ module _ {T W : Type 0} where
         came = s.came ++ came_by m u.ask;
       }
 
-  module _ (s : Scene T W) (u : Under T W) (only : s.under_way ≡ u ∷ []) (known : Known s.now u) (bal : IsBalanced s.now.queue)
+  module _ (s : Configuration T W) (u : ActiveCall T W) (only : s.under_way ≡ u ∷ []) (known : Known s.now u) (bal : IsBalanced s.now.queue)
       (m : Mark) (names : List W) (blocks : List ℕ) (d : Channel T W) (at : Stage (Phase T) T W) where
     abbrev effect : Effect T W
     effect = record { channel = d; mark = m; woken = names }

@@ -1,6 +1,6 @@
 -- A step of a call: what is known of it after, whom it wakes, and what it takes and brings.
 use Rattle.std.proofs.Common.{◌≡◌, map, ℕ, ◌+◌, ◌<◌, ◌≤◌, Bool, true, false, if◌then◌else◌, List, [], ◌∷◌, ◌++◌, take, drop, Option, None, Some, ◌⊎◌, inl, inr, refl, sym, ap, ◌∙◌, subst, arith, append-nil, append_assoc}
-use Rattle.channel_steps.proofs.Words.{Queue, Phase, after, message, ContinuesBy, QueueAsk, QueueMark, QueueReply, Key, answered_next, first, mark_of_queue, up, Channel, Effect, untouched, on_count, leaves, Turned, Tried, Worked, Moves, listeners, is_raised, again, ChannelAsk, Loan, Mark, Reply, Aim, Held, Kept, Sends, Receives, Streams, Closings, Side, Stage, Trying, Working, Finished, Turn, Tries, Works, Ends, Work, TellReceive, TellSend, Insert, Leave, Raise, Continues, Answers, asks_listener, told_one_wakes, MarkedMoment, with_marked, TriesFor, TriesAt, StageAt, ToldAt, IsQuick, quick_steps_left, call_begun, Under, sees, does, Finishes, EndsInTime, brought, gone_by, came_by, Known, AllKnown, IsBalanced, Telling, telling, dropping, WokenBy}
+use Rattle.channel_steps.proofs.Words.{Queue, Phase, after, message, ContinuesBy, QueueAsk, QueueMark, QueueReply, Key, answered_next, first, mark_of_queue, up, Channel, Effect, untouched, on_count, leaves, Turned, Tried, Worked, Moves, listeners, is_raised, again, ChannelAsk, Loan, Mark, Reply, Aim, Held, Kept, Sends, Receives, Streams, Closings, Side, Stage, Trying, Working, Finished, Turn, Tries, Works, Ends, Work, TellReceive, TellSend, Insert, Leave, Raise, Continues, Answers, asks_listener, told_one_wakes, MarkedMoment, with_marked, TriesFor, TriesAt, StageAt, ToldAt, IsQuick, quick_steps_left, call_begun, ActiveCall, sees, does, Finishes, EndsInTime, brought, gone_by, came_by, Known, AllKnown, IsBalanced, Telling, telling, dropping, WokenBy}
 use Rattle.concurrent_queue.specs.Queue as queue
 use Rattle.concurrent_queue.specs.declared.call.QueueAsk.TheVariants as ask
 use Rattle.concurrent_queue.specs.declared.call.QueueMark.TheVariants as queue_mark
@@ -160,7 +160,7 @@ module _ {T W : Type 0} where
   -- ---- the calls under way after a step
 
   -- another's step
-  pub sees_known : (c d : Channel T W) → Progress c.queue d.queue → (u : Under T W) → Known c u → Known d (sees d u)
+  pub sees_known : (c d : Channel T W) → Progress c.queue d.queue → (u : ActiveCall T W) → Known c u → Known d (sees d u)
   sees_known c d p u k =
       record { older = u.seen; latest = refl; stands = stays u.at k.stands; tells = k.tells; quick = k.quick }
     where
@@ -169,12 +169,12 @@ module _ {T W : Type 0} where
       stays (Working w) h = work_more u.ask w d u.marks u.seen h
       stays (Finished kept) h = h
 
-  pub all_see : (c d : Channel T W) → Progress c.queue d.queue → (us : List (Under T W)) → AllKnown c us → AllKnown d (map (sees d) us)
+  pub all_see : (c d : Channel T W) → Progress c.queue d.queue → (us : List (ActiveCall T W)) → AllKnown c us → AllKnown d (map (sees d) us)
   all_see c d p [] h = tt
   all_see c d p (u ∷ us) h = (sees_known c d p u h.0, all_see c d p us h.1)
 
   -- its own step
-  module _ (c : Channel T W) (u : Under T W) (bal : IsBalanced c.queue) (k : Known c u) (m : Mark) (d : Channel T W) (names : List W) (s : Stage (Phase T) T W) where
+  module _ (c : Channel T W) (u : ActiveCall T W) (bal : IsBalanced c.queue) (k : Known c u) (m : Mark) (d : Channel T W) (names : List W) (s : Stage (Phase T) T W) where
     abbrev effect : Effect T W
     effect = record { channel = d; mark = m; woken = names }
 

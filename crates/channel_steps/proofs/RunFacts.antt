@@ -1,12 +1,12 @@
 -- Beginning a call, and how far the positions last.
 use Rattle.std.proofs.Common.{◌≡◌, ℕ, suc, List, [], ◌∷◌, ◌++◌, Option, None, refl, sym, ap, ◌∙◌, subst, append-nil, arith}
-use Rattle.channel_steps.proofs.Words.{Queue, Phase, asked, Seat, QueueCall, Parts, first, Channel, seats, phase, Turned, IsTaken, ChannelAsk, ChannelCall, Reply, Stage, Turn, Tries, Works, Ends, IsNewCall, Party, Entry, Step, Under, Scene, Sitting, under_of, all_seats, HasBegun, Next, HasRange}
+use Rattle.channel_steps.proofs.Words.{Queue, Phase, asked, Seat, QueueCall, Parts, first, Channel, seats, phase, Turned, IsTaken, ChannelAsk, ChannelCall, Reply, Stage, Turn, Tries, Works, Ends, IsNewCall, Party, Entry, Step, ActiveCall, Configuration, ActiveCallWitness, active_call_of, all_seats, HasBegun, Next, HasRange}
 use Rattle.concurrent_queue.specs.Step.{FitsAt}
 use Rattle.channel_calls.specs.declared.mark.Mark.TheVariants.{Nothing}
 use Rattle.channel_steps.specs.declared.run.Step.TheVariants as step
 use Rattle.channel_steps.proofs.MoveFacts.{grows, range_grows}
 use Rattle.channel_steps.proofs.OwnFacts.{begins_known}
-use Rattle.channel_steps.proofs.SceneFacts.{map-round, seats_append, party_of, known_both}
+use Rattle.channel_steps.proofs.ConfigurationFacts.{map-round, seats_append, party_of, known_both}
 
 module _ {T W : Type 0} where
   -- a new call has its first turn taken, and its call of the queue comes in beside all others
@@ -44,30 +44,30 @@ module _ {T W : Type 0} where
         → IsNewCall call (first ask) → parties' ≡ parties ++ record { id = p; call = call } ∷ [] → e ≡ record { mark = Nothing; reply = None; kept = None }
         → HasBegun p ask parties e parties'
     begun p ask call parties e parties' new left entry parts s sh =
-        let k = came s.blocks parts sh.queue (all_seats sh.sittings) sh.fits any (first ask) call.stage new.0 new.1 in
-        let mine : Sitting T W = record { party = record { id = p; call = call }; inner = k.inner; ask = ask; seen = s.now ∷ []; marks = []; told = []; made = 0 } in
-        let all : List (Sitting T W) = sh.sittings ++ (mine ∷ []) in
-        let seats_are : all_seats all ≡ all_seats sh.sittings ++ (seats k.inner call.stage ++ []) = seats_append sh.sittings (mine ∷ []) in
+        let k = came s.blocks parts sh.queue (all_seats sh.witnesses) sh.fits any (first ask) call.stage new.0 new.1 in
+        let mine : ActiveCallWitness T W = record { party = record { id = p; call = call }; inner = k.inner; ask = ask; seen = s.now ∷ []; marks = []; told = []; made = 0 } in
+        let all : List (ActiveCallWitness T W) = sh.witnesses ++ (mine ∷ []) in
+        let seats_are : all_seats all ≡ all_seats sh.witnesses ++ (seats k.inner call.stage ++ []) = seats_append sh.witnesses (mine ∷ []) in
         let fits : FitsAt s.blocks parts.cells sh.queue (all_seats all) = subst (λ (ss : List (Seat T)). FitsAt s.blocks parts.cells sh.queue ss) (sym seats_are) k.fits in
-        let t : Scene T W = record { now = s.now; blocks = s.blocks; under_way = s.under_way ++ (under_of mine ∷ []); gone = s.gone; came = s.came } in
+        let t : Configuration T W = record { now = s.now; blocks = s.blocks; under_way = s.under_way ++ (active_call_of mine ∷ []); gone = s.gone; came = s.came } in
         record {
           after = t;
           begins = record { entry = entry; at = phase k.inner call.stage; answer = new.0; turned = k.turned; now = refl; blocks = refl; under_way = refl; gone = refl; came = refl };
           shown = record {
-            sittings = all;
+            witnesses = all;
             queue = sh.queue;
-            parties_are = left ∙ (ap (λ (zs : List (Party T W)). zs ++ (mine.party ∷ [])) sh.parties_are ∙ sym (map-round party_of sh.sittings (mine ∷ [])));
-            under_way = ap (λ (zs : List (Under T W)). zs ++ (under_of mine ∷ [])) sh.under_way ∙ sym (map-round under_of sh.sittings (mine ∷ []));
+            parties_are = left ∙ (ap (λ (zs : List (Party T W)). zs ++ (mine.party ∷ [])) sh.parties_are ∙ sym (map-round party_of sh.witnesses (mine ∷ [])));
+            under_way = ap (λ (zs : List (ActiveCall T W)). zs ++ (active_call_of mine ∷ [])) sh.under_way ∙ sym (map-round active_call_of sh.witnesses (mine ∷ []));
             now = sh.now;
             fits = fits;
             bare = sh.bare;
-            known = known_both s.now s.under_way (under_of mine ∷ []) sh.known (begins_known s.now p ask new.0 (phase k.inner call.stage) k.turned, tt);
+            known = known_both s.now s.under_way (active_call_of mine ∷ []) sh.known (begins_known s.now p ask new.0 (phase k.inner call.stage) k.turned, tt);
             balanced = sh.balanced;
           };
         }
 
   -- so many positions fewer are left after a step
-  pub next_range : (n : ℕ) (s : Scene T W) (x : Step T W) (e : Entry T) (names : List W) (t : Scene T W) → Next s x e names t → HasRange (suc n) s.now.queue → HasRange n t.now.queue
+  pub next_range : (n : ℕ) (s : Configuration T W) (x : Step T W) (e : Entry T) (names : List W) (t : Configuration T W) → Next s x e names t → HasRange (suc n) s.now.queue → HasRange n t.now.queue
   next_range n s (step.Begin p ask) e names t next h =
       let same : t.now.queue ≡ s.now.queue = ap (λ (c : Channel T W). c.queue) next.0.now in
       let a : t.now.queue.accepted ≡ s.now.queue.accepted = ap (λ (q : Queue T). q.accepted) same in

@@ -1,7 +1,7 @@
 -- A channel that was just opened, and the number of calls under way.
 use Rattle.std.proofs.Common.{◌≡◌, ℕ, ◌==◌, Bool, true, false, List, [], ◌∷◌, map, length, refl, sym, ap, ◌∙◌, arith}
 use Rattle.std.proofs.lemmas.Bool.Decides.{nat_tests}
-use Rattle.channel_steps.proofs.Words.{QueueForm, Bounded, Unbounded, channel, Parts, Roster, capacity_of, IsNew, opened, new_roster, Party, new_scene, Scene, Sitting, under_of, Represents, MayHave, IsQuietOrNot, EachSceneTellsQuiet}
+use Rattle.channel_steps.proofs.Words.{QueueForm, Bounded, Unbounded, channel, Parts, Roster, capacity_of, IsNew, opened, new_roster, Party, new_configuration, Configuration, ActiveCallWitness, active_call_of, Represents, MayHave, IsQuietOrNot, EachConfigurationTellsQuiet}
 
 long_as : {A B : Type 0} (g : A → B) (xs : List A) → length (map g xs) ≡ length xs
 long_as g [] = refl
@@ -16,10 +16,10 @@ none_at_first (Bounded capacity) = refl
 none_at_first Unbounded = tt
 
 module _ {T W : Type 0} where
-  pub new_shown : (form : QueueForm) (parts : Parts T W) (parties : List (Party T W)) → IsNew form parts.cells → parts.roster ≡ new_roster → parties ≡ [] → Represents parts parties (new_scene (capacity_of form))
+  pub new_shown : (form : QueueForm) (parts : Parts T W) (parties : List (Party T W)) → IsNew form parts.cells → parts.roster ≡ new_roster → parties ≡ [] → Represents parts parties (new_configuration (capacity_of form))
   new_shown form parts parties new roster none =
       record {
-        sittings = [];
+        witnesses = [];
         queue = opened (capacity_of form);
         parties_are = none;
         under_way = refl;
@@ -31,13 +31,13 @@ module _ {T W : Type 0} where
       }
 
   -- as many calls are under way as there are parties
-  counts : (parties : List (Party T W)) (parts : Parts T W) (s : Scene T W) → Represents parts parties s → length parties ≡ length s.under_way
+  counts : (parties : List (Party T W)) (parts : Parts T W) (s : Configuration T W) → Represents parts parties s → length parties ≡ length s.under_way
   counts parties parts s sh =
-      ap length sh.parties_are ∙ (long_as (λ (x : Sitting T W). x.party) sh.sittings ∙ (sym (long_as under_of sh.sittings) ∙ sym (ap length sh.under_way)))
+      ap length sh.parties_are ∙ (long_as (λ (x : ActiveCallWitness T W). x.party) sh.witnesses ∙ (sym (long_as active_call_of sh.witnesses) ∙ sym (ap length sh.under_way)))
 
-  none_or_some : (n : ℕ) (b : Bool) (s : Scene T W) → n ≡ length s.under_way → (n == 0) ≡ b → IsQuietOrNot s b
+  none_or_some : (n : ℕ) (b : Bool) (s : Configuration T W) → n ≡ length s.under_way → (n == 0) ≡ b → IsQuietOrNot s b
   none_or_some n true s e f = no_items s.under_way (grind (arith, nat_tests))
   none_or_some n false s e f = λ none. (let k : length s.under_way ≡ 0 = ap length none in absurd (grind (arith, nat_tests)))
 
-  pub quiet : (parties : List (Party T W)) (b : Bool) → (length parties == 0) ≡ b → EachSceneTellsQuiet parties b
+  pub quiet : (parties : List (Party T W)) (b : Bool) → (length parties == 0) ≡ b → EachConfigurationTellsQuiet parties b
   quiet parties b f parts s sh = none_or_some (length parties) b s (counts parties parts s sh) f

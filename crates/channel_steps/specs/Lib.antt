@@ -3,7 +3,7 @@ pub mod Tellings
 pub mod Answers
 pub mod Known
 pub mod Left
-pub mod Scene
+pub mod Configuration
 pub mod Run
 pub mod Count
 pub mod Start

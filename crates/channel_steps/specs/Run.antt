@@ -12,7 +12,7 @@ use Rattle.channel_steps.specs.declared.party.Party.{Party}
 use Rattle.channel_steps.specs.declared.party.Entry.{Entry}
 use Rattle.channel_steps.specs.declared.run.Step.{Step}
 use Rattle.channel_steps.specs.declared.run.Step.TheVariants as step
-use Rattle.channel_steps.specs.Scene.{Under, Scene, Steps, Represents}
+use Rattle.channel_steps.specs.Configuration.{ActiveCall, Configuration, Steps, Represents}
 
 -- ---- what a run is, whatever its moments are
 
@@ -45,15 +45,15 @@ module _ {T : Type 0} where
 
 module _ {T W : Type 0} where
   -- a channel that was just opened, with nobody at work
-  abbrev pub new_scene : Option ℕ → Scene T W
-  new_scene cap = record { now = new_channel cap; blocks = []; under_way = []; gone = []; came = [] }
+  abbrev pub new_configuration : Option ℕ → Configuration T W
+  new_configuration cap = record { now = new_channel cap; blocks = []; under_way = []; gone = []; came = [] }
 
   -- a call that has made no step
-  abbrev pub call_begun : ℕ → ChannelAsk T W → Stage (Phase T) T W → Channel T W → Under T W
+  abbrev pub call_begun : ℕ → ChannelAsk T W → Stage (Phase T) T W → Channel T W → ActiveCall T W
   call_begun p ask at now = record { party = p; ask = ask; at = at; seen = now ∷ []; marks = []; told = []; made = 0 }
 
   -- a party begins a call, at its first stage; no cell is touched
-  pub record Begins (s : Scene T W) (p : ℕ) (ask : ChannelAsk T W) (e : Entry T) (t : Scene T W) : Type 0 where
+  pub record Begins (s : Configuration T W) (p : ℕ) (ask : ChannelAsk T W) (e : Entry T) (t : Configuration T W) : Type 0 where
     pub entry : e ≡ record { mark = Nothing; reply = None; kept = None }
     pub at : Stage (Phase T) T W
     pub answer : Option (Reply T)
@@ -64,27 +64,27 @@ module _ {T W : Type 0} where
     pub gone : t.gone ≡ s.gone
     pub came : t.came ≡ s.came
 
-  -- a call that began in the scene s
-  pub record Began (p : ℕ) (ask : ChannelAsk T W) (parts : Parts T W) (e : Entry T) (parties' : List (Party T W)) (s : Scene T W) : Type 0 where
-    pub after : Scene T W
+  -- a call that began in the configuration s
+  pub record Began (p : ℕ) (ask : ChannelAsk T W) (parts : Parts T W) (e : Entry T) (parties' : List (Party T W)) (s : Configuration T W) : Type 0 where
+    pub after : Configuration T W
     pub begins : Begins s p ask e after
     pub shown : Represents parts parties' after
 
-  -- a call has begun, over any cells, in every scene that is shown
+  -- a call has begun, over any cells, in every configuration that is shown
   abbrev pub HasBegun : ℕ → ChannelAsk T W → List (Party T W) → Entry T → List (Party T W) → Type 0
-  HasBegun p ask parties e parties' = (parts : Parts T W) (s : Scene T W) → Represents parts parties s → Began p ask parts e parties' s
+  HasBegun p ask parties e parties' = (parts : Parts T W) (s : Configuration T W) → Represents parts parties s → Began p ask parts e parties' s
 
   -- one entry of a run, which wakes these
-  abbrev pub Next : Scene T W → Step T W → Entry T → List W → Scene T W → Type 0
+  abbrev pub Next : Configuration T W → Step T W → Entry T → List W → Configuration T W → Type 0
   Next s (step.Begin p ask) e names t = Begins s p ask e t × (names ≡ [])
   Next s (step.Step p) e names t = Steps s p e names t
 
-  -- whomever it wakes: so a step of a run leads from scene to scene
-  abbrev pub NextScene : Scene T W → Step T W → Entry T → Scene T W → Type 0
-  NextScene s x e t = (names : List W) × Next s x e names t
+  -- whomever it wakes: so a step of a run leads from configuration to configuration
+  abbrev pub NextConfiguration : Configuration T W → Step T W → Entry T → Configuration T W → Type 0
+  NextConfiguration s x e t = (names : List W) × Next s x e names t
 
   -- what left the channel, followed by what it holds, is what it held followed by what came, in order
-  pub record Accounts (s t : Scene T W) : Type 0 where
+  pub record Accounts (s t : Configuration T W) : Type 0 where
     pub out : List T
     pub into : List T
     pub gone : t.gone ≡ s.gone ++ out

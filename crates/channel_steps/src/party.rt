@@ -3,7 +3,7 @@
 ghost use Rattle.std.specs.Prelude.{◌≡◌, ◌<◌, ◌++◌, ◌∷◌, [], vec_len, vec_capacity};
 ghost use Rattle.std.specs.List.{remove};
 ghost use Rattle.channel_steps.specs.Run.{HasBegun};
-ghost use Rattle.channel_steps.specs.Scene.{parties_in, unless_answered, StepsAt, IsLeftBy};
+ghost use Rattle.channel_steps.specs.Configuration.{parties_in, unless_answered, StepsAt, IsLeftBy};
 
 use channel_calls::ask::ChannelAsk;
 use channel_calls::call::ChannelCall;

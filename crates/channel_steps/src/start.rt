@@ -4,9 +4,9 @@ ghost use Rattle.std.specs.Prelude.{◌≡◌, IfOk};
 ghost use Rattle.concurrent_queue.specs.Capacity.{capacity_of};
 ghost use Rattle.concurrent_queue.specs.Made.{CanBeMade};
 ghost use Rattle.channel_calls.specs.Plain.{parts_of};
-ghost use Rattle.channel_steps.specs.Scene.{Represents};
-ghost use Rattle.channel_steps.specs.Run.{new_scene};
-ghost use Rattle.channel_steps.specs.Start.{EachSceneTellsQuiet};
+ghost use Rattle.channel_steps.specs.Configuration.{Represents};
+ghost use Rattle.channel_steps.specs.Run.{new_configuration};
+ghost use Rattle.channel_steps.specs.Start.{EachConfigurationTellsQuiet};
 
 use crate::party::Party;
 use channel_calls::plain::PlainChannel;
@@ -29,7 +29,7 @@ pub fn open_channel<T: Drop, W: Drop>(
     alloc: Global,
 ) -> Result<Opened<T, W>, AllocError>
     requires form { CanBeMade form }
-    ensures shown { IfOk result (λ o. Represents (parts_of o.cells) o.parties.items (new_scene (capacity_of form))) }
+    ensures shown { IfOk result (λ o. Represents (parts_of o.cells) o.parties.items (new_configuration (capacity_of form))) }
 {
     Ok(Opened {
         cells: PlainChannel::new(form, alloc)?,
@@ -39,7 +39,7 @@ pub fn open_channel<T: Drop, W: Drop>(
 
 /// Whether no call is under way. Own to this project.
 pub fn is_quiet<T, W>(parties: &Vec<Party<T, W>>) -> bool
-    ensures { EachSceneTellsQuiet parties.now.items result }
+    ensures { EachConfigurationTellsQuiet parties.now.items result }
 {
     parties.is_empty()
 }

@@ -8,7 +8,7 @@ use Rattle.channel_world.specs.Carried.{LeadsTo}
 use Rattle.channel_world.specs.View.{WorldView}
 use Rattle.channel_world.specs.declared.account.Deed.{Deed}
 use Rattle.channel_world.specs.declared.account.Past.{Past, Nothing, Then, the_lemmas}
-use Rattle.channel_world.proofs.Inside.{floor_of}
+use Rattle.channel_world.proofs.Inside.{world_state_of}
 
 module _ {T : Type 0} where
   replied_at_first : replied_so_far {T = T} Nothing ≡ []
@@ -22,7 +22,7 @@ module _ {T : Type 0} where
       → LeadsTo since (replied_so_far past) until
   begun world since until past e f none =
       subst (λ (rs : List (Reply T)). LeadsTo since rs until) (sym (ap replied_so_far none ∙ replied_at_first))
-      (subst (λ (w : WorldView T). LeadsTo since [] w) (e ∙ sym f) (record { on = leads_nowhere (floor_of since) }))
+      (subst (λ (w : WorldView T). LeadsTo since [] w) (e ∙ sym f) (record { on = leads_nowhere (world_state_of since) }))
 
   -- this was done after all before it
   pub gone_on : (since until now last : WorldView T) (past : Past T) (before : Snapshot (Past T)) (deed : Deed T) (a : AccountView T)
@@ -33,4 +33,4 @@ module _ {T : Type 0} where
       let more : LeadsTo until (replied_by deed) now = subst (λ (x : AccountView T). LeadsTo x.until (replied_by deed) now) (sym view) leads in
       subst (λ (w : WorldView T). LeadsTo since (replied_so_far past) w) (sym f)
       (subst (λ (rs : List (Reply T)). LeadsTo since rs now) (sym (ap replied_so_far e ∙ replied_then before deed))
-      (record { on = leads_on (floor_of since) (floor_of until) (floor_of now) (replied_so_far before.value) (replied_by deed) led.on more.on }))
+      (record { on = leads_on (world_state_of since) (world_state_of until) (world_state_of now) (replied_so_far before.value) (replied_by deed) led.on more.on }))

@@ -9,8 +9,8 @@ use Rattle.channel_model.specs.declared.name.Waiter.{Waiter}
 use Rattle.channel_model.proofs.Settle.{at_rest as settled_rest}
 use Rattle.channel_steps.specs.declared.party.Party.{Party}
 use Rattle.channel_interleaving.specs.Apart.{AreApart}
-use Rattle.channel_interleaving.specs.Floor.{calls_in, messages_in, book_of, AreAtWork, IsQuiet, Stands}
-use Rattle.channel_interleaving.specs.declared.floor.Floor.{Floor}
+use Rattle.channel_interleaving.specs.WorldState.{calls_in, messages_in, name_state_of, AreAtWork, IsQuiet, Stands}
+use Rattle.channel_interleaving.specs.declared.world_state.WorldState.{WorldState}
 use Rattle.channel_interleaving.specs.declared.names.Agent.{Agent}
 use Rattle.channel_interleaving.proofs.Interface.{none_under_way}
 use Rattle.channel_rest.specs.Rest.{RestIsAWorld}
@@ -25,7 +25,7 @@ none_of : {A : Type 0} (xs : List A) → length xs ≡ 0 → xs ≡ []
 none_of [] e = refl
 none_of (x ∷ xs) e = absurd (omega (arith, e))
 
-module _ {T : Type 0} (w : Floor T) (at_work : AreAtWork w) where
+module _ {T : Type 0} (w : WorldState T) (at_work : AreAtWork w) where
   parties_number : length w.parties.items ≡ calls_in w
   parties_number =
       let a = length-map w.agents.items (λ (x : Agent T). x.party) in
@@ -45,7 +45,7 @@ none_beside : {A : Type 0} (xs : List A) (n : ℕ) → (xs ≡ []) ⊎ (n ≡ 0)
 none_beside xs n (inl e) some = e
 none_beside xs n (inr z) some = absurd (omega (arith, z, some))
 
-module _ {T : Type 0} (w : Floor T) (held : messages_in w ≡ length (at_rest w).channel.messages) (rest : NobodyGoesOn (at_rest w)) where
+module _ {T : Type 0} (w : WorldState T) (held : messages_in w ≡ length (at_rest w).channel.messages) (rest : NobodyGoesOn (at_rest w)) where
   pub no_receive_goes_on : NoReceivePendsBesideAMessage (view_of w)
   no_receive_goes_on some = let r = rest in none_beside _ _ r.receives (omega (arith, held, some))
 
@@ -63,11 +63,11 @@ module _ {T : Type 0} (w : Floor T) (held : messages_in w ≡ length (at_rest w)
           (subst (λ (o : Option ℕ). ((at_rest w).waiting.sends ≡ []) ⊎ (free_places o (length (at_rest w).channel.messages) ≡ 0)) e (r.sends is_open))
           (omega (arith, held, p))
 
-module _ {T : Type 0} (w : Floor T) (k : Stands w) (rests : RestIsAWorld T) where
+module _ {T : Type 0} (w : WorldState T) (k : Stands w) (rests : RestIsAWorld T) where
   awake : IsQuiet w → AwakeIn (at_rest w)
   awake quiet =
-      let world = rests (book_of w) k.scene k.stands.kept (none_under_way w k.scene quiet k.stands.shown) in
-      subst (λ (x : State T). AwakeIn x) (sym (at_rest_is w k.scene k.stands.shown quiet)) world.awake
+      let world = rests (name_state_of w) k.configuration k.stands.kept (none_under_way w k.configuration quiet k.stands.shown) in
+      subst (λ (x : State T). AwakeIn x) (sym (at_rest_is w k.configuration k.stands.shown quiet)) world.awake
 
   pub left_at_rest : NobodyIsLeftAtRest (view_of w)
   left_at_rest quiet =
@@ -83,7 +83,7 @@ module _ {T : Type 0} (w : Floor T) (k : Stands w) (rests : RestIsAWorld T) wher
   pub left_on_a_closed : NobodyIsLeftOnAClosed (view_of w)
   left_on_a_closed quiet shut line = let a = awake quiet in a.opened shut line
 
-  module _ (apart : AreApart w.roll) where
+  module _ (apart : AreApart w.name_table) where
     none_goes_on : IsQuiet w → woken_among (view_of w) ≡ 0 → NobodyGoesOn (at_rest w)
     none_goes_on quiet none =
         let nobody = none_of (at_rest w).waiting.woken (sym (woken_at_rest w k rests apart quiet) ∙ none) in

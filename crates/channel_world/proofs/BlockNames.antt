@@ -18,23 +18,23 @@ use Rattle.channel_model.specs.declared.name.Waiter.{Waiter}
 use Rattle.channel_model.specs.declared.name.Waiter.TheVariants.{Op}
 use Rattle.channel_interleaving.specs.AskedBy.{listening_first}
 use Rattle.channel_interleaving.specs.Bookkeeping.{asks, polled_ask}
-use Rattle.channel_interleaving.specs.Roll.{key_of, held_of, operation_of}
+use Rattle.channel_interleaving.specs.NameTable.{key_of, held_of, operation_of}
 use Rattle.channel_interleaving.specs.declared.names.Operation.{Operation}
-use Rattle.channel_interleaving.specs.declared.names.Standing.{Standing}
-use Rattle.channel_interleaving.specs.declared.names.Standing.TheVariants.{Rests, Waits}
-use Rattle.channel_interleaving.specs.declared.roll.Roll.{Roll}
+use Rattle.channel_interleaving.specs.declared.names.PollState.{PollState}
+use Rattle.channel_interleaving.specs.declared.names.PollState.TheVariants.{Rests, Waits}
+use Rattle.channel_interleaving.specs.declared.name_table.NameTable.{NameTable}
 use Rattle.channel_interleaving.proofs.OwnerBegins.{poll_is, key_is}
 use Rattle.channel_world.specs.BlocksByNames.{kind_of, StandsFor, PollsByName}
 
 module _ {T : Type 0} where
-  abbrev operation : Blocked T → HandleId → Standing → Operation T
-  operation b handle s = record { kind = kind_of b; handle = handle; message = message_of (waiting_of b); standing = s }
+  abbrev operation : Blocked T → HandleId → PollState → Operation T
+  operation b handle s = record { kind = kind_of b; handle = handle; message = message_of (waiting_of b); poll_state = s }
 
   abbrev asked : Blocked T → Option Key → OpId → ChannelAsk T Waiter
   asked b key op = polled_ask (kind_of b) (message_of (waiting_of b)) key op
 
   -- what its poll asks
-  poll_asks : (b : Blocked T) (op : OpId) (r : Roll T) (s : Standing) → StandsFor b s op r → asks r (Poll op) ≡ asked b (key_of s) op
+  poll_asks : (b : Blocked T) (op : OpId) (r : NameTable T) (s : PollState) → StandsFor b s op r → asks r (Poll op) ≡ asked b (key_of s) op
   poll_asks b op r s f =
       ap (λ (o : Option (Operation T)). poll_asked (held_of r) op (option_map operation_of o)) f.lives
       ∙ poll_is (held_of r) op (kind_of b) f.handle (message_of (waiting_of b)) (key_of s) (key_is r op (operation b f.handle s) f.lives)
@@ -48,12 +48,12 @@ module _ {T : Type 0} where
   next_asked Receive op key = refl
 
   -- what its refused poll asks
-  refusal_of : (b : Blocked T) (op : OpId) (r : Roll T) (handle : HandleId) (key : Key) (s : Standing) → held_of r (Op op) ≡ Some key
+  refusal_of : (b : Blocked T) (op : OpId) (r : NameTable T) (handle : HandleId) (key : Key) (s : PollState) → held_of r (Op op) ≡ Some key
       → refusal_asked (held_of r) op (Some (operation_of (operation b handle s))) ≡ poll_refused b key
   refusal_of (Send m) op r handle key s e = ap (λ (k : Option Key). RefusePoll Sends (Some m) k) e
   refusal_of Receive op r handle key s e = ap (λ (k : Option Key). RefusePoll Receives None k) e
 
-  refused_asks : (b : Blocked T) (op : OpId) (r : Roll T) (key : Key) (is_woken : Bool) → StandsFor b (Waits key is_woken) op r
+  refused_asks : (b : Blocked T) (op : OpId) (r : NameTable T) (key : Key) (is_woken : Bool) → StandsFor b (Waits key is_woken) op r
       → asks r (PollRefused op) ≡ poll_refused b key
   refused_asks b op r key is_woken f =
       ap (λ (o : Option (Operation T)). refusal_asked (held_of r) op (option_map operation_of o)) f.lives

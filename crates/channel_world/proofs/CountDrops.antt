@@ -26,7 +26,7 @@ use Rattle.channel_steps.specs.Answers.{Met}
 use Rattle.channel_steps.specs.Known.{TriesFor, WorkAt, StageAt, IsFor, Makes}
 use Rattle.channel_steps.specs.Known as known
 use Rattle.channel_steps.specs.Moments.{MarkedMoment, LeftLast, Dropped}
-use Rattle.channel_steps.specs.Scene.{Under, AllKnown}
+use Rattle.channel_steps.specs.Configuration.{ActiveCall, AllKnown}
 use Rattle.channel_interleaving.specs.Counted.{same_side, is_last_of, is_lowering, is_closing}
 use Rattle.channel_interleaving.specs.Owners.{All}
 use Rattle.channel_world.specs.Counts.{Drops, IsByDrops}
@@ -141,8 +141,8 @@ module _ (T : Type 0) where
   every side c x (Finished kept) ds seen k d none = absurd k
 
   -- of each call of which so much is known
-  pub by_drops : (side : Side) (c : Channel T Waiter) (us : List (Under T Waiter)) → AllKnown c us
-      → All (λ (u : Under T Waiter). IsByDrops side u) us
+  pub by_drops : (side : Side) (c : Channel T Waiter) (us : List (ActiveCall T Waiter)) → AllKnown c us
+      → All (λ (u : ActiveCall T Waiter). IsByDrops side u) us
   by_drops side c [] k = tt
   by_drops side c (u ∷ us) k =
       let own = k.0 in

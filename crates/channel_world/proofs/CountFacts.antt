@@ -21,12 +21,12 @@ use Rattle.channel_model.specs.declared.name.Handle.{Handle}
 use Rattle.channel_model.specs.declared.name.HandleKind.{HandleKind}
 use Rattle.channel_model.specs.declared.name.HandleKind.TheVariants.{Sender, Receiver, WeakSender, WeakReceiver}
 use Rattle.channel_model.specs.declared.name.Waiter.{Waiter}
-use Rattle.channel_steps.specs.Scene.{Under, Scene, Sitting, under_of, all_seats}
+use Rattle.channel_steps.specs.Configuration.{ActiveCall, Configuration, ActiveCallWitness, active_call_of, all_seats}
 use Rattle.channel_steps.specs.declared.party.Party.{Party}
 use Rattle.channel_interleaving.specs.Counted.{tally, is_strong, strong_lives, live_on, is_lowering, is_closing}
-use Rattle.channel_interleaving.specs.Floor.{parts_in, Shown, IsQuiet, Stands}
-use Rattle.channel_interleaving.specs.declared.floor.Floor.{Floor}
-use Rattle.channel_interleaving.specs.declared.names.Hold.{Hold}
+use Rattle.channel_interleaving.specs.WorldState.{parts_in, Shown, IsQuiet, Stands}
+use Rattle.channel_interleaving.specs.declared.world_state.WorldState.{WorldState}
+use Rattle.channel_interleaving.specs.declared.names.HandleEntry.{HandleEntry}
 use Rattle.channel_world.specs.Counts.{strong_kind, live, CountsLive, OpenHasBoth, AreByDrops, CountsAtRest}
 use Rattle.channel_world.proofs.CountDrops.{by_drops}
 use Rattle.channel_world.specs.View.{count_in, to_lower, to_close, view_of}
@@ -43,7 +43,7 @@ same_kind Receivers Receiver = refl
 same_kind Receivers WeakSender = refl
 same_kind Receivers WeakReceiver = refl
 
-same_there : (side : Side) (o : Option Hold) → is_of (strong_kind side) (option_map (λ (h : Hold). h.handle) o) ≡ strong_lives side o
+same_there : (side : Side) (o : Option HandleEntry) → is_of (strong_kind side) (option_map (λ (h : HandleEntry). h.handle) o) ≡ strong_lives side o
 same_there side None = refl
 same_there side (Some h) = same_kind side h.handle.kind
 
@@ -53,14 +53,14 @@ one_more false false x xs e = omega arith
 one_more true false x xs e = cc e
 one_more false true x xs e = cc e
 
-same_live : (side : Side) (d : Directory Hold)
-    → live_of (strong_kind side) (map (λ (e : ℕ × Option Hold). (e.0, option_map (λ (h : Hold). h.handle) e.1)) d) ≡ live_on side d
+same_live : (side : Side) (d : Directory HandleEntry)
+    → live_of (strong_kind side) (map (λ (e : ℕ × Option HandleEntry). (e.0, option_map (λ (h : HandleEntry). h.handle) e.1)) d) ≡ live_on side d
 same_live side [] = refl
 same_live side (e ∷ d) =
     let rest = same_live side d in
-    let kinds : List (ℕ × Option Handle) = map (λ (f : ℕ × Option Hold). (f.0, option_map (λ (h : Hold). h.handle) f.1)) d in
-    let own = one_more (is_of (strong_kind side) (option_map (λ (h : Hold). h.handle) e.1)) (strong_lives side e.1)
-    (let x : ℕ × Option Handle = (e.0, option_map (λ (h : Hold). h.handle) e.1) in x)
+    let kinds : List (ℕ × Option Handle) = map (λ (f : ℕ × Option HandleEntry). (f.0, option_map (λ (h : HandleEntry). h.handle) f.1)) d in
+    let own = one_more (is_of (strong_kind side) (option_map (λ (h : HandleEntry). h.handle) e.1)) (strong_lives side e.1)
+    (let x : ℕ × Option Handle = (e.0, option_map (λ (h : HandleEntry). h.handle) e.1) in x)
     (filter (λ (f : ℕ × Option Handle). is_of (strong_kind side) f.1) kinds) (same_there side e.1) in
     omega (arith, rest, own)
 
@@ -80,9 +80,9 @@ module _ {T : Type 0} where
   close_so side f (Finished kept) = refl
 
   same_tally : (p : Stage (Phase T) T Waiter → Bool) (q : Stage (QueueCall T) T Waiter → Bool)
-      → ((f : Phase T) (s : Stage (QueueCall T) T Waiter) → p (phase f s) ≡ q s) → (xs : List (Sitting T Waiter))
-      → tally (λ (u : Under T Waiter). p u.at) (map under_of xs)
-      ≡ tally (λ (x : Party T Waiter). q x.call.stage) (map (λ (x : Sitting T Waiter). x.party) xs)
+      → ((f : Phase T) (s : Stage (QueueCall T) T Waiter) → p (phase f s) ≡ q s) → (xs : List (ActiveCallWitness T Waiter))
+      → tally (λ (u : ActiveCall T Waiter). p u.at) (map active_call_of xs)
+      ≡ tally (λ (x : Party T Waiter). q x.call.stage) (map (λ (x : ActiveCallWitness T Waiter). x.party) xs)
   same_tally p q same [] = refl
   same_tally p q same (x ∷ xs) =
       let rest = same_tally p q same xs in
@@ -90,13 +90,13 @@ module _ {T : Type 0} where
       ap (λ (b : Bool). let n : ℕ = cond b 1 0 in n) (same x.inner x.party.call.stage) in
       omega (arith, rest, own)
 
-  module _ (w : Floor T) (s : Scene T Waiter) (sh : Shown w s) where
+  module _ (w : WorldState T) (s : Configuration T Waiter) (sh : Shown w s) where
     shown_tally : (p : Stage (Phase T) T Waiter → Bool) (q : Stage (QueueCall T) T Waiter → Bool)
         → ((f : Phase T) (z : Stage (QueueCall T) T Waiter) → p (phase f z) ≡ q z)
-        → tally (λ (u : Under T Waiter). p u.at) s.under_way ≡ tally (λ (x : Party T Waiter). q x.call.stage) w.parties.items
+        → tally (λ (u : ActiveCall T Waiter). p u.at) s.under_way ≡ tally (λ (x : Party T Waiter). q x.call.stage) w.parties.items
     shown_tally p q same =
-        ap (λ (us : List (Under T Waiter)). tally (λ (u : Under T Waiter). p u.at) us) sh.shows.under_way
-        ∙ (same_tally p q same sh.shows.sittings
+        ap (λ (us : List (ActiveCall T Waiter)). tally (λ (u : ActiveCall T Waiter). p u.at) us) sh.shows.under_way
+        ∙ (same_tally p q same sh.shows.witnesses
         ∙ ap (λ (ps : List (Party T Waiter)). tally (λ (x : Party T Waiter). q x.call.stage) ps) (sym sh.shows.parties_are))
 
     count_shown : (side : Side) → count side s.now.roster ≡ count_in side (view_of w)
@@ -104,27 +104,27 @@ module _ {T : Type 0} where
 
     closed_shown : s.now.queue.closed ≡ closed_in (parts_in w).cells
     closed_shown =
-        let shown = shows (parts_in w).cells sh.shows.queue (all_seats sh.shows.sittings) (_, sh.shows.fits) in
+        let shown = shows (parts_in w).cells sh.shows.queue (all_seats sh.shows.witnesses) (_, sh.shows.fits) in
         ap (λ (c : Channel T Waiter). c.queue.closed) sh.shows.now ∙ sym shown.flag
 
   -- ---- a world
 
-  module _ (w : Floor T) (k : Stands w) where
+  module _ (w : WorldState T) (k : Stands w) where
     pub counts_live : CountsLive (view_of w)
     counts_live side =
         let c = (k.stands.kept.counted side).counts in
-        let now = count_shown w k.scene k.stands.shown side in
-        let low = shown_tally w k.scene k.stands.shown (λ at. is_lowering side at) (λ at. is_lowering side at) (low_so side) in
-        let lives = same_live side w.roll.handles in
+        let now = count_shown w k.configuration k.stands.shown side in
+        let low = shown_tally w k.configuration k.stands.shown (λ at. is_lowering side at) (λ at. is_lowering side at) (low_so side) in
+        let lives = same_live side w.name_table.handles in
         omega (arith, c, now, low, lives)
 
     pub open_has_both : OpenHasBoth (view_of w)
-    open_has_both is_open side = by ((k.stands.kept.counted side).opened (closed_shown w k.scene k.stands.shown ∙ is_open)) where
-      by : (1 ≤ count side k.scene.now.roster) ⊎ (1 ≤ tally (λ (u : Under T Waiter). is_closing side u.at) k.scene.under_way)
+    open_has_both is_open side = by ((k.stands.kept.counted side).opened (closed_shown w k.configuration k.stands.shown ∙ is_open)) where
+      by : (1 ≤ count side k.configuration.now.roster) ⊎ (1 ≤ tally (λ (u : ActiveCall T Waiter). is_closing side u.at) k.configuration.under_way)
           → (1 ≤ count_in side (view_of w)) ⊎ (1 ≤ to_close side (view_of w))
-      by (inl h) = let now = count_shown w k.scene k.stands.shown side in inl (omega (arith, h, now))
+      by (inl h) = let now = count_shown w k.configuration k.stands.shown side in inl (omega (arith, h, now))
       by (inr h) =
-          let close = shown_tally w k.scene k.stands.shown (λ at. is_closing side at) (λ at. is_closing side at) (close_so side) in
+          let close = shown_tally w k.configuration k.stands.shown (λ at. is_closing side at) (λ at. is_closing side at) (close_so side) in
           inr (omega (arith, h, close))
 
     none_lowers : IsQuiet w → (side : Side) → to_lower side (view_of w) ≡ 0
@@ -150,5 +150,5 @@ module _ {T : Type 0} where
       receiving = λ is_open. has_one quiet is_open Receivers;
     }
 
-  pub are_by_drops : (w : Floor T) → AreByDrops (view_of w)
+  pub are_by_drops : (w : WorldState T) → AreByDrops (view_of w)
   are_by_drops w s k side = by_drops T side s.now s.under_way (let streams = k.kept.sound.streams in streams.known)

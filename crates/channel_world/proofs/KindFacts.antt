@@ -18,14 +18,14 @@ use Rattle.channel_model.specs.declared.name.Waiter.{Waiter}
 use Rattle.channel_model.specs.declared.name.Waiter.TheVariants.{Op, Stream}
 use Rattle.channel_steps.specs.declared.party.Party.{Party}
 use Rattle.channel_interleaving.specs.Apart.{AreApart}
-use Rattle.channel_interleaving.specs.Floor.{sight_of, Stands}
+use Rattle.channel_interleaving.specs.WorldState.{observation_of, Stands}
 use Rattle.channel_interleaving.specs.Owed.{IsUnwoken, all_names, is_woken_on, woken_on, unannounced, all_unannounced}
-use Rattle.channel_interleaving.specs.Owners.{Post, waits, posted, stream_post, operation_post, post}
+use Rattle.channel_interleaving.specs.Owners.{NameStatus, waits, status_by, stream_status, operation_status, status}
 use Rattle.channel_interleaving.specs.declared.doing.Doing.{Doing}
-use Rattle.channel_interleaving.specs.declared.floor.Floor.{Floor}
-use Rattle.channel_interleaving.specs.declared.names.Hold.{Hold}
+use Rattle.channel_interleaving.specs.declared.world_state.WorldState.{WorldState}
+use Rattle.channel_interleaving.specs.declared.names.HandleEntry.{HandleEntry}
 use Rattle.channel_interleaving.specs.declared.names.Operation.{Operation}
-use Rattle.channel_interleaving.specs.declared.roll.Roll.{Roll}
+use Rattle.channel_interleaving.specs.declared.name_table.NameTable.{NameTable}
 use Rattle.channel_interleaving.proofs.OwedCounts.{one_if, count_first}
 use Rattle.channel_world.specs.Asleep.{ALineIsAwake, NobodySleepsWhereClosed, NoReceiveSleeps, NoSendSleeps, NoStreamSleeps}
 use Rattle.channel_world.specs.Kinds.{is_pending_on, operation_stance, pending_on_line, stream_stance, takings_of}
@@ -46,29 +46,29 @@ module _ {X : Type 0} (p : Waiter → Bool) (test : Option X → Bool) (name : �
       let b = count_first (λ (f : ℕ × Option X). test f.1) e es in
       omega (arith, rest, one, a, b)
 
-module _ {T : Type 0} (test : Post → Bool) (r : Roll T) (apart : AreApart r) where
+module _ {T : Type 0} (test : NameStatus → Bool) (r : NameTable T) (apart : AreApart r) where
   -- by how what lives there stands, no name twice
-  pub by_entries : count_by (λ w. test (post r w)) (all_names r)
+  pub by_entries : count_by (λ w. test (status r w)) (all_names r)
       ≡ count_by (λ (e : ℕ × Option (Operation T)). test (operation_stance e.1)) r.operations
-      + count_by (λ (e : ℕ × Option Hold). test (stream_stance e.1)) r.handles
+      + count_by (λ (e : ℕ × Option HandleEntry). test (stream_stance e.1)) r.handles
   by_entries =
-      let p : Waiter → Bool = λ w. test (post r w) in
+      let p : Waiter → Bool = λ w. test (status r w) in
       let op_name : ℕ → Waiter = λ n. Op (record { 0 = n }) in
       let stream_name : ℕ → Waiter = λ n. Stream (record { 0 = n }) in
       let a = just_named p (λ (o : Option (Operation T)). test (operation_stance o)) op_name r.operations
       (all_from _ r.operations (λ e there.
-      ap (λ (o : Option (Option (Operation T))). test (posted (λ (x : Operation T). operation_post x.kind x.message x.standing) o))
+      ap (λ (o : Option (Option (Operation T))). test (status_by (λ (x : Operation T). operation_status x.kind x.message x.poll_state) o))
       (lookup-from_Contains nat_eq_equiv e.0 e.1 r.operations apart.operations there))) in
-      let b = just_named p (λ (o : Option Hold). test (stream_stance o)) stream_name r.handles
+      let b = just_named p (λ (o : Option HandleEntry). test (stream_stance o)) stream_name r.handles
       (all_from _ r.handles (λ e there.
-      ap (λ (o : Option (Option Hold)). test (posted (λ (x : Hold). stream_post x.handle.kind x.standing) o))
+      ap (λ (o : Option (Option HandleEntry)). test (status_by (λ (x : HandleEntry). stream_status x.handle.kind x.poll_state) o))
       (lookup-from_Contains nat_eq_equiv e.0 e.1 r.handles apart.handles there))) in
       let both = count_both p (map op_name (keys_of r.operations)) (map stream_name (keys_of r.handles)) in
       omega (arith, a, b, both)
 
 -- ---- who is woken is pending; who sleeps is pending and was not woken
 
-woken_pends : (line : Line) (p : Post) → is_woken_on line p ≡ true → is_pending_on line p ≡ true
+woken_pends : (line : Line) (p : NameStatus) → is_woken_on line p ≡ true → is_pending_on line p ≡ true
 woken_pends line (waits h true) e = e
 woken_pends line (waits h false) e = cc e
 woken_pends line p e = cc e
@@ -79,10 +79,10 @@ same_self Receives = refl
 same_self Streams = refl
 same_self Closings = refl
 
-abbrev stream_woken : Line → Option Hold → Bool
+abbrev stream_woken : Line → Option HandleEntry → Bool
 stream_woken line o = is_woken_on line (stream_stance o)
 
-abbrev stream_pends : Line → Option Hold → Bool
+abbrev stream_pends : Line → Option HandleEntry → Bool
 stream_pends line o = is_pending_on line (stream_stance o)
 
 module _ {T : Type 0} where
@@ -93,40 +93,40 @@ module _ {T : Type 0} where
   entry_pends line o = is_pending_on line (operation_stance o)
 
   -- where one of a line sleeps more are pending on it than are woken
-  more_of_line : (line : Line) (name : Waiter) (r : Roll T) → AreApart r → IsUnwoken line name r → suc (woken_on line r) ≤ pending_on_line line r
+  more_of_line : (line : Line) (name : Waiter) (r : NameTable T) → AreApart r → IsUnwoken line name r → suc (woken_on line r) ≤ pending_on_line line r
   more_of_line line name r apart asleep = by name asleep
     where
       woken : woken_on line r ≡ count_by (λ (e : ℕ × Option (Operation T)). entry_woken line e.1) r.operations
-          + count_by (λ (e : ℕ × Option Hold). stream_woken line e.1) r.handles
+          + count_by (λ (e : ℕ × Option HandleEntry). stream_woken line e.1) r.handles
       woken = by_entries (is_woken_on line) r apart
 
       pends : pending_on_line line r ≡ count_by (λ (e : ℕ × Option (Operation T)). entry_pends line e.1) r.operations
-          + count_by (λ (e : ℕ × Option Hold). stream_pends line e.1) r.handles
+          + count_by (λ (e : ℕ × Option HandleEntry). stream_pends line e.1) r.handles
       pends = by_entries (is_pending_on line) r apart
 
-      on : (p : Post) (key : Key) → p ≡ waits (record { line = line; key = key }) false → is_pending_on line p ≡ true
-      on p key e = ap (λ (q : Post). is_pending_on line q) e ∙ same_self line
+      on : (p : NameStatus) (key : Key) → p ≡ waits (record { line = line; key = key }) false → is_pending_on line p ≡ true
+      on p key e = ap (λ (q : NameStatus). is_pending_on line q) e ∙ same_self line
 
-      out : (p : Post) (key : Key) → p ≡ waits (record { line = line; key = key }) false → is_woken_on line p ≡ false
-      out p key e = ap (λ (q : Post). is_woken_on line q) e
+      out : (p : NameStatus) (key : Key) → p ≡ waits (record { line = line; key = key }) false → is_woken_on line p ≡ false
+      out p key e = ap (λ (q : NameStatus). is_woken_on line q) e
 
       by : (w : Waiter) → IsUnwoken line w r → suc (woken_on line r) ≤ pending_on_line line r
       by (Op op) (key, e) = at_op (lookup (nat_eq op.0) r.operations) refl e
         where
           at_op : (o : Option (Option (Operation T))) → lookup (nat_eq op.0) r.operations ≡ o
-              → posted (λ (x : Operation T). operation_post x.kind x.message x.standing) o ≡ waits (record { line = line; key = key }) false
+              → status_by (λ (x : Operation T). operation_status x.kind x.message x.poll_state) o ≡ waits (record { line = line; key = key }) false
               → suc (woken_on line r) ≤ pending_on_line line r
           at_op None there so = cc so
           at_op (Some o) there so =
               let more = one_more (entry_woken line) (entry_pends line) (λ x k. woken_pends line (operation_stance x) k) op.0 o r.operations there
               (out _ key so) (on _ key so) in
-              let others = count_more (λ (f : ℕ × Option Hold). stream_woken line f.1) (λ (f : ℕ × Option Hold). stream_pends line f.1)
+              let others = count_more (λ (f : ℕ × Option HandleEntry). stream_woken line f.1) (λ (f : ℕ × Option HandleEntry). stream_pends line f.1)
               (λ f k. woken_pends line (stream_stance f.1) k) r.handles in
               omega (arith, more, others, woken, pends)
       by (Stream handle) (key, e) = at_handle (lookup (nat_eq handle.0) r.handles) refl e
         where
-          at_handle : (o : Option (Option Hold)) → lookup (nat_eq handle.0) r.handles ≡ o
-              → posted (λ (x : Hold). stream_post x.handle.kind x.standing) o ≡ waits (record { line = line; key = key }) false
+          at_handle : (o : Option (Option HandleEntry)) → lookup (nat_eq handle.0) r.handles ≡ o
+              → status_by (λ (x : HandleEntry). stream_status x.handle.kind x.poll_state) o ≡ waits (record { line = line; key = key }) false
               → suc (woken_on line r) ≤ pending_on_line line r
           at_handle None there so = cc so
           at_handle (Some o) there so =
@@ -153,7 +153,7 @@ module _ {T : Type 0} where
       let rest = all_few ps ds in
       omega (arith, one, rest)
 
-  module _ (w : Floor T) (k : Stands w) (apart : AreApart w.roll) where
+  module _ (w : WorldState T) (k : Stands w) (apart : AreApart w.name_table) where
     pub no_receive_sleeps : NoReceiveSleeps (view_of w)
     no_receive_sleeps more = record {
       none = λ name asleep. let o = k.stands.owed in let most = o.receives name asleep in omega (arith, more, most);
@@ -164,7 +164,7 @@ module _ {T : Type 0} where
       none = λ name asleep.
           let o = k.stands.owed in
           let few = all_few w.parties.items w.doings.items in
-          none_fits (sight_of w).capacity _ _ (omega (arith, few)) fits (o.sends name asleep is_open);
+          none_fits (observation_of w).capacity _ _ (omega (arith, few)) fits (o.sends name asleep is_open);
     }
 
     pub no_stream_sleeps : NoStreamSleeps (view_of w)
@@ -179,5 +179,5 @@ module _ {T : Type 0} where
 
     pub a_line_awake : ALineIsAwake (view_of w)
     a_line_awake line same = record {
-      none = λ name asleep. let more = more_of_line line name w.roll apart asleep in omega (arith, more, same);
+      none = λ name asleep. let more = more_of_line line name w.name_table apart asleep in omega (arith, more, same);
     }

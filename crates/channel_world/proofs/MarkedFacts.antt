@@ -8,10 +8,10 @@ use Rattle.channel_laws.specs.Marked.{brought_by, AddUp}
 use Rattle.channel_laws.proofs.MarkedFacts.{came_is, none_adds, both_add}
 use Rattle.channel_model.specs.declared.name.Waiter.{Waiter}
 use Rattle.channel_steps.specs.Run.{EachStep, end_of}
-use Rattle.channel_steps.specs.Scene.{Under, brought, gone_by, came_by}
+use Rattle.channel_steps.specs.Configuration.{ActiveCall, brought, gone_by, came_by}
 use Rattle.channel_steps.specs.declared.party.Entry.{Entry as ChannelEntry}
 use Rattle.channel_interleaving.proofs.Interface.{none_before}
-use Rattle.channel_interleaving.specs.Kept.{AllKept}
+use Rattle.channel_interleaving.specs.Kept.{WorldInvariant}
 use Rattle.channel_interleaving.specs.Owners.{All}
 use Rattle.channel_interleaving.specs.Runs.{Moment, LeadsBy}
 use Rattle.channel_interleaving.specs.declared.step.Entry.{Entry}
@@ -31,37 +31,37 @@ other_number a b f = by (a == b) refl where
 -- ---- a run
 
 module _ {T : Type 0} where
-  message_is : (p : ℕ) (us : List (Under T Waiter)) (mine : Under T Waiter) (vs : List (Under T Waiter))
-      → All (λ (u : Under T Waiter). u.party ≡ p → ⊥) us → mine.party ≡ p → message_brought p (us ++ (mine ∷ vs)) ≡ brought mine.ask
+  message_is : (p : ℕ) (us : List (ActiveCall T Waiter)) (mine : ActiveCall T Waiter) (vs : List (ActiveCall T Waiter))
+      → All (λ (u : ActiveCall T Waiter). u.party ≡ p → ⊥) us → mine.party ≡ p → message_brought p (us ++ (mine ∷ vs)) ≡ brought mine.ask
   message_is p [] mine vs none his = rw (same_number mine.party p his) refl
   message_is p (u ∷ us) mine vs none his = rw (other_number u.party p none.0) (message_is p us mine vs none.1 his)
 
   -- the accounts of one step
-  one_adds : (m : Moment T) (x : Step T) (e : Entry T) (n : Moment T) → AllKept m.book m.scene → LeadsBy m x e n
-      → AddUp m.scene (gone_by e.mark m.scene.now.queue.items) (brought_at m.scene x e) n.scene
+  one_adds : (m : Moment T) (x : Step T) (e : Entry T) (n : Moment T) → WorldInvariant m.name_state m.configuration → LeadsBy m x e n
+      → AddUp m.configuration (gone_by e.mark m.configuration.now.queue.items) (brought_at m.configuration x e) n.configuration
   one_adds m (step.Begin p c) e n k l =
       let b = l.made.next.0 in
       let mark : e.mark ≡ Nothing = ap (λ (g : ChannelEntry T). g.mark) b.entry in
-      subst (λ (y : Mark). AddUp m.scene (gone_by y m.scene.now.queue.items) [] n.scene) (sym mark)
+      subst (λ (y : Mark). AddUp m.configuration (gone_by y m.configuration.now.queue.items) [] n.configuration) (sym mark)
       (record {
-        held = ap (λ (c : moves.Channel T Waiter). c.queue.items) b.now ∙ sym (append-nil m.scene.now.queue.items);
-        gone = b.gone ∙ sym (append-nil m.scene.gone);
-        came = b.came ∙ sym (append-nil m.scene.came);
+        held = ap (λ (c : moves.Channel T Waiter). c.queue.items) b.now ∙ sym (append-nil m.configuration.now.queue.items);
+        gone = b.gone ∙ sym (append-nil m.configuration.gone);
+        came = b.came ∙ sym (append-nil m.configuration.came);
       })
   one_adds m (step.Step p) e n k l =
       let s = l.made.next in
       let his = message_is p.0 s.before s.mine s.behind (none_before m p e n k l) s.whose in
-      let there = ap (λ (us : List (Under T Waiter)). message_brought p.0 us) s.there in
-      let same : came_by e.mark s.mine.ask ≡ brought_at m.scene (step.Step p) e =
+      let there = ap (λ (us : List (ActiveCall T Waiter)). message_brought p.0 us) s.there in
+      let same : came_by e.mark s.mine.ask ≡ brought_at m.configuration (step.Step p) e =
       came_is e.mark s.mine.ask ∙ ap (λ (ms : List T). brought_by e.mark ms) (sym (there ∙ his)) in
-      subst (λ (ms : List T). AddUp m.scene (gone_by e.mark m.scene.now.queue.items) ms n.scene) same
+      subst (λ (ms : List T). AddUp m.configuration (gone_by e.mark m.configuration.now.queue.items) ms n.configuration) same
       (record { held = s.held; gone = s.gone; came = s.came })
 
-  pub all_add : (m : Moment T) (xs : List (Step T)) (es : List (Entry T)) (ns : List (Moment T)) → AllKept m.book m.scene
-      → EachStep LeadsBy m xs es ns → AddUp m.scene (all_taken m.scene es ns) (all_brought m.scene xs es ns) (end_of m ns).scene
-  all_add m [] [] [] k h = none_adds m.scene
+  pub all_add : (m : Moment T) (xs : List (Step T)) (es : List (Entry T)) (ns : List (Moment T)) → WorldInvariant m.name_state m.configuration
+      → EachStep LeadsBy m xs es ns → AddUp m.configuration (all_taken m.configuration es ns) (all_brought m.configuration xs es ns) (end_of m ns).configuration
+  all_add m [] [] [] k h = none_adds m.configuration
   all_add m (x ∷ xs) (e ∷ es) (n ∷ ns) k h =
-      both_add m.scene n.scene (end_of n ns).scene _ _ _ _ (one_adds m x e n k h.0) (all_add n xs es ns h.0.holds.kept h.1)
+      both_add m.configuration n.configuration (end_of n ns).configuration _ _ _ _ (one_adds m x e n k h.0) (all_add n xs es ns h.0.holds.kept h.1)
   all_add m [] [] (n ∷ ns) k h = absurd h
   all_add m [] (e ∷ es) ns k h = absurd h
   all_add m (x ∷ xs) [] ns k h = absurd h

@@ -7,8 +7,8 @@ use Rattle.channel_model.specs.declared.name.Waiter.{Waiter}
 use Rattle.channel_steps.specs.declared.party.Entry.{Entry}
 use Rattle.channel_steps.specs.declared.run.Step.{Step as ChannelStep}
 use Rattle.channel_steps.specs.declared.run.Step.TheVariants as channel
-use Rattle.channel_interleaving.specs.Run.{Book, book_begun}
-use Rattle.channel_world.specs.MergesByNames.{first_book, BeginByNames}
+use Rattle.channel_interleaving.specs.Run.{NameState, name_state_begun}
+use Rattle.channel_world.specs.MergesByNames.{first_name_state, BeginByNames}
 use Rattle.channel_world.specs.MergesByNamesRow.{TwoClonesByNames}
 
 module _ {T S : Type 0} (wakes : S → Waiter → S → Type 0) where
@@ -19,28 +19,28 @@ module _ {T S : Type 0} (wakes : S → Waiter → S → Type 0) where
   AreSteps (channel.Begin p a ∷ ys) = ⊥
   AreSteps (channel.Step p ∷ ys) = AreSteps ys
 
-  only_steps : (ys : List (ChannelStep T Waiter)) → AreSteps ys → (b : Book T) (m : MergeMoment T Waiter S) (es : List (Entry T)) (ns : List (MergeMoment T Waiter S))
+  only_steps : (ys : List (ChannelStep T Waiter)) → AreSteps ys → (b : NameState T) (m : MergeMoment T Waiter S) (es : List (Entry T)) (ns : List (MergeMoment T Waiter S))
       → BeginByNames wakes b m ys es ns
   only_steps [] h b m es ns = tt
   only_steps (channel.Begin p a ∷ ys) h b m es ns = absurd h
   only_steps (channel.Step p ∷ ys) h b m [] ns = tt
   only_steps (channel.Step p ∷ ys) h b m (e ∷ es) [] = tt
-  only_steps (channel.Step p ∷ ys) h b m (e ∷ es) (n ∷ ns) = λ names after next woken book. only_steps ys h after n es ns
+  only_steps (channel.Step p ∷ ys) h b m (e ∷ es) (n ∷ ns) = λ names after next woken name_state. only_steps ys h after n es ns
 
   -- ---- the two begins
 
-  abbrev book_of_one : Book T
-  book_of_one = book_begun (record { 0 = 1 }) (TryClone (record { 0 = 0 }) (record { 0 = 2 })) first_book
+  abbrev name_state_of_one : NameState T
+  name_state_of_one = name_state_begun (record { 0 = 1 }) (TryClone (record { 0 = 0 }) (record { 0 = 2 })) first_name_state
 
-  abbrev book_of_two : Book T
-  book_of_two = book_begun (record { 0 = 2 }) (TryClone (record { 0 = 0 }) (record { 0 = 3 })) book_of_one
+  abbrev name_state_of_two : NameState T
+  name_state_of_two = name_state_begun (record { 0 = 2 }) (TryClone (record { 0 = 0 }) (record { 0 = 3 })) name_state_of_one
 
-  second : (m : MergeMoment T Waiter S) (es : List (Entry T)) (ns : List (MergeMoment T Waiter S)) → BeginByNames wakes book_of_one m (drop 1 (steps_of two_clones)) es ns
+  second : (m : MergeMoment T Waiter S) (es : List (Entry T)) (ns : List (MergeMoment T Waiter S)) → BeginByNames wakes name_state_of_one m (drop 1 (steps_of two_clones)) es ns
   second m [] ns = tt
   second m (e ∷ es) [] = tt
-  second m (e ∷ es) (n ∷ ns) = (TryClone (record { 0 = 0 }) (record { 0 = 3 }), refl, inl refl, only_steps (drop 2 (steps_of two_clones)) tt book_of_two n es ns)
+  second m (e ∷ es) (n ∷ ns) = (TryClone (record { 0 = 0 }) (record { 0 = 3 }), refl, inl refl, only_steps (drop 2 (steps_of two_clones)) tt name_state_of_two n es ns)
 
-  pub begins_by_names : (m : MergeMoment T Waiter S) (es : List (Entry T)) (ns : List (MergeMoment T Waiter S)) → BeginByNames wakes first_book m (steps_of two_clones) es ns
+  pub begins_by_names : (m : MergeMoment T Waiter S) (es : List (Entry T)) (ns : List (MergeMoment T Waiter S)) → BeginByNames wakes first_name_state m (steps_of two_clones) es ns
   begins_by_names m [] ns = tt
   begins_by_names m (e ∷ es) [] = tt
   begins_by_names m (e ∷ es) (n ∷ ns) = (TryClone (record { 0 = 0 }) (record { 0 = 2 }), refl, inl refl, second n es ns)

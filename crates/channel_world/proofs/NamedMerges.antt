@@ -5,7 +5,7 @@ use Rattle.channel_steps.specs.declared.run.Step.{Step}
 use Rattle.channel_laws.specs.Bridge.{just_opened}
 use Rattle.channel_laws.specs.Named.{WakesNamed, name_of}
 use Rattle.channel_laws.specs.Tasks.{all_by, parts_by}
-use Rattle.channel_world.specs.MergesByNames.{first_book, BeginByNames}
+use Rattle.channel_world.specs.MergesByNames.{first_name_state, BeginByNames}
 use Rattle.channel_world.specs.NamedMerges.{NamedMergesAreRuns, TwoClonesAreNamed}
 use Rattle.channel_world.proofs.MergeNames.{merges_by_names_are_runs}
 use Rattle.channel_world.proofs.MergeRow.{begins_by_names}
@@ -14,7 +14,7 @@ pub named_merges_are_runs : (T W S : Type 0) (wakes : S → W → S → Type 0) 
 named_merges_are_runs T W S wakes form events given sink last woken named k begins =
     let is = k.headline.is in
     merges_by_names_are_runs T S (WakesNamed wakes) form (all_by name_of k.both.behind) given sink (parts_by name_of k.both.parts) woken k.headline
-    (subst (λ (ys : List (Step T Waiter)). BeginByNames (WakesNamed wakes) first_book (just_opened form sink) ys is.trace is.run.moments) (sym k.steps) begins)
+    (subst (λ (ys : List (Step T Waiter)). BeginByNames (WakesNamed wakes) first_name_state (just_opened form sink) ys is.trace is.run.moments) (sym k.steps) begins)
 
 pub two_clones_are_named : (T W S : Type 0) (wakes : S → W → S → Type 0) → TwoClonesAreNamed T W S wakes
 two_clones_are_named T W S wakes form given sink last woken k = begins_by_names (WakesNamed wakes) (just_opened form sink) k.headline.is.trace k.headline.is.run.moments

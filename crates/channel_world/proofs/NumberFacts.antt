@@ -18,26 +18,26 @@ use Rattle.channel_model.specs.declared.name.Waiter.TheVariants.{Op, Stream}
 use Rattle.channel_model.proofs.Counting.{among_append, among_counts, count_append}
 use Rattle.channel_model.proofs.WaiterLemmas.{decided, or_true, same_refl, same_sound}
 use Rattle.channel_interleaving.specs.Apart.{AreApart}
-use Rattle.channel_interleaving.specs.Floor.{book_of, IsQuiet, Stands}
+use Rattle.channel_interleaving.specs.WorldState.{name_state_of, IsQuiet, Stands}
 use Rattle.channel_interleaving.specs.OwnerOrder.{was_woken}
-use Rattle.channel_interleaving.specs.Owners.{IsAmong, Post, amiss, post_on, no_stream_post, stream_post, posted, send_post, operation_post, post}
+use Rattle.channel_interleaving.specs.Owners.{IsAmong, NameStatus, invalid, status_on, no_stream_status, stream_status, status_by, send_status, operation_status, status}
 use Rattle.channel_interleaving.specs.Pending.{stands_pending, how_many, operation_stands, stream_stands}
-use Rattle.channel_interleaving.specs.Roll.{key_of, held_of, is_woken}
-use Rattle.channel_interleaving.specs.Kept.{AllKept}
-use Rattle.channel_interleaving.specs.Run.{Book}
-use Rattle.channel_interleaving.specs.declared.floor.Floor.{Floor}
-use Rattle.channel_interleaving.specs.declared.names.Hold.{Hold}
+use Rattle.channel_interleaving.specs.NameTable.{key_of, held_of, is_woken}
+use Rattle.channel_interleaving.specs.Kept.{WorldInvariant}
+use Rattle.channel_interleaving.specs.Run.{NameState}
+use Rattle.channel_interleaving.specs.declared.world_state.WorldState.{WorldState}
+use Rattle.channel_interleaving.specs.declared.names.HandleEntry.{HandleEntry}
 use Rattle.channel_interleaving.specs.declared.names.Operation.{Operation}
 use Rattle.channel_interleaving.specs.declared.names.OperationKind.{OperationKind}
 use Rattle.channel_interleaving.specs.declared.names.OperationKind.TheVariants as kind
-use Rattle.channel_interleaving.specs.declared.names.Standing.{Standing}
-use Rattle.channel_interleaving.specs.declared.names.Standing.TheVariants.{Rests, Waits, IsPolled}
-use Rattle.channel_interleaving.specs.declared.roll.Roll.{Roll}
+use Rattle.channel_interleaving.specs.declared.names.PollState.{PollState}
+use Rattle.channel_interleaving.specs.declared.names.PollState.TheVariants.{Rests, Waits, IsPolled}
+use Rattle.channel_interleaving.specs.declared.name_table.NameTable.{NameTable}
 use Rattle.channel_interleaving.proofs.Interface.{none_under_way}
 use Rattle.channel_refinement.specs.Refines.{AreUntold}
 use Rattle.channel_rest.specs.Rest.{state_at, IsWorld, RestIsAWorld}
 use Rattle.channel_rest.proofs.Woken.{among_filter, woken_waits}
-use Rattle.channel_steps.specs.Scene.{Scene}
+use Rattle.channel_steps.specs.Configuration.{Configuration}
 use Rattle.channel_world.specs.Numbers.{MessagesAtRest, PendingAtRest, WokenAtRest}
 use Rattle.channel_world.specs.World.{at_rest}
 use Rattle.channel_world.proofs.NumberLists.{no_longer, named, named_many, none_named, named_there, named_once, named_so}
@@ -52,7 +52,7 @@ stream_name n = Stream (record { 0 = n })
 
 -- ---- how those stand who live under the names
 
-module _ {T : Type 0} (test : Standing → Bool) (r : Roll T) where
+module _ {T : Type 0} (test : PollState → Bool) (r : NameTable T) where
   -- whether what lives under the name stands so
   abbrev pub stands_so : Waiter → Bool
   stands_so (Op op) = operation_stands test (at op.0 r.operations)
@@ -134,45 +134,45 @@ some_so : {X : Type 0} (o : Option X) → is_some o ≡ true → (x : X) × (o �
 some_so None e = absurd (let no : false ≡ true = e in cc)
 some_so (Some x) e = (x, refl)
 
-module _ {T : Type 0} (r : Roll T) where
+module _ {T : Type 0} (r : NameTable T) where
   pub pending_holds : (w : Waiter) → stands_so stands_pending r w ≡ is_some (held_of r w)
   pending_holds (Op op) = by (at op.0 r.operations)
     where
-      by : (o : Option (Operation T)) → operation_stands stands_pending o ≡ is_some (option_map_or (λ (x : Operation T). key_of x.standing) o None)
+      by : (o : Option (Operation T)) → operation_stands stands_pending o ≡ is_some (option_map_or (λ (x : Operation T). key_of x.poll_state) o None)
       by None = refl
       by (Some x) = refl
   pending_holds (Stream handle) = by (at handle.0 r.handles)
     where
-      by : (o : Option Hold) → stream_stands stands_pending o ≡ is_some (option_map_or (λ (x : Hold). key_of x.standing) o None)
+      by : (o : Option HandleEntry) → stream_stands stands_pending o ≡ is_some (option_map_or (λ (x : HandleEntry). key_of x.poll_state) o None)
       by None = refl
       by (Some x) = refl
 
   -- ---- who was woken
 
-  woken_on : (line : Line) (s : Standing) → is_woken s ≡ was_woken (post_on line s)
+  woken_on : (line : Line) (s : PollState) → is_woken s ≡ was_woken (status_on line s)
   woken_on line Rests = refl
   woken_on line (Waits key b) = refl
   woken_on line (IsPolled brings) = refl
 
-  woken_off : (s : Standing) → (no_stream_post s ≡ amiss → ⊥) → is_woken s ≡ was_woken (no_stream_post s)
+  woken_off : (s : PollState) → (no_stream_status s ≡ invalid → ⊥) → is_woken s ≡ was_woken (no_stream_status s)
   woken_off Rests fine = refl
   woken_off (Waits key b) fine = absurd (fine refl)
   woken_off (IsPolled brings) fine = refl
 
-  woken_stream : (k : HandleKind) (s : Standing) → (stream_post k s ≡ amiss → ⊥) → is_woken s ≡ was_woken (stream_post k s)
+  woken_stream : (k : HandleKind) (s : PollState) → (stream_status k s ≡ invalid → ⊥) → is_woken s ≡ was_woken (stream_status k s)
   woken_stream handle_kind.Receiver s fine = woken_on Streams s
   woken_stream handle_kind.Sender s fine = woken_off s fine
   woken_stream handle_kind.WeakSender s fine = woken_off s fine
   woken_stream handle_kind.WeakReceiver s fine = woken_off s fine
 
-  woken_send : (m : Option T) (s : Standing) → (send_post m s ≡ amiss → ⊥) → is_woken s ≡ was_woken (send_post m s)
+  woken_send : (m : Option T) (s : PollState) → (send_status m s ≡ invalid → ⊥) → is_woken s ≡ was_woken (send_status m s)
   woken_send None Rests fine = refl
   woken_send None (Waits key b) fine = absurd (fine refl)
   woken_send None (IsPolled brings) fine = refl
   woken_send (Some m) s fine = woken_on Sends s
 
-  woken_operation : (k : OperationKind) (m : Option T) (s : Standing) → (operation_post k m s ≡ amiss → ⊥)
-      → is_woken s ≡ was_woken (operation_post k m s)
+  woken_operation : (k : OperationKind) (m : Option T) (s : PollState) → (operation_status k m s ≡ invalid → ⊥)
+      → is_woken s ≡ was_woken (operation_status k m s)
   woken_operation kind.Send m s fine = woken_send m s fine
   woken_operation kind.Receive m s fine = woken_on Receives s
   woken_operation kind.Closing m s fine = woken_on Closings s
@@ -180,29 +180,29 @@ module _ {T : Type 0} (r : Roll T) where
   abbrev lives : {X : Type 0} → Option (Option X) → Option X
   lives o = option_map_or (λ (x : Option _). x) o None
 
-  abbrev operation_seen : Option (Option (Operation T)) → Post
-  operation_seen o = posted (λ (x : Operation T). operation_post x.kind x.message x.standing) o
+  abbrev operation_seen : Option (Option (Operation T)) → NameStatus
+  operation_seen o = status_by (λ (x : Operation T). operation_status x.kind x.message x.poll_state) o
 
-  abbrev handle_seen : Option (Option Hold) → Post
-  handle_seen o = posted (λ (x : Hold). stream_post x.handle.kind x.standing) o
+  abbrev handle_seen : Option (Option HandleEntry) → NameStatus
+  handle_seen o = status_by (λ (x : HandleEntry). stream_status x.handle.kind x.poll_state) o
 
   -- where nothing is amiss whoever was woken stands so by its name
-  pub woken_so : (w : Waiter) → (post r w ≡ amiss → ⊥) → stands_so is_woken r w ≡ was_woken (post r w)
+  pub woken_so : (w : Waiter) → (status r w ≡ invalid → ⊥) → stands_so is_woken r w ≡ was_woken (status r w)
   woken_so (Op op) fine = by (lookup (nat_eq op.0) r.operations) fine
     where
-      by : (o : Option (Option (Operation T))) → (operation_seen o ≡ amiss → ⊥)
+      by : (o : Option (Option (Operation T))) → (operation_seen o ≡ invalid → ⊥)
           → operation_stands is_woken (lives o) ≡ was_woken (operation_seen o)
       by None f = refl
       by (Some None) f = refl
-      by (Some (Some x)) f = woken_operation x.kind x.message x.standing f
+      by (Some (Some x)) f = woken_operation x.kind x.message x.poll_state f
   woken_so (Stream handle) fine = by (lookup (nat_eq handle.0) r.handles) fine
     where
-      by : (o : Option (Option Hold)) → (handle_seen o ≡ amiss → ⊥) → stream_stands is_woken (lives o) ≡ was_woken (handle_seen o)
+      by : (o : Option (Option HandleEntry)) → (handle_seen o ≡ invalid → ⊥) → stream_stands is_woken (lives o) ≡ was_woken (handle_seen o)
       by None f = refl
       by (Some None) f = refl
-      by (Some (Some x)) f = woken_stream x.handle.kind x.standing f
+      by (Some (Some x)) f = woken_stream x.handle.kind x.poll_state f
 
-  pub woken_pends : (s : Standing) → is_woken s ≡ true → stands_pending s ≡ true
+  pub woken_pends : (s : PollState) → is_woken s ≡ true → stands_pending s ≡ true
   woken_pends Rests e = e
   woken_pends (Waits key b) e = refl
   woken_pends (IsPolled brings) e = e
@@ -213,12 +213,12 @@ module _ {T : Type 0} (r : Roll T) where
     where
       by : (o : Option (Operation T)) → operation_stands is_woken o ≡ true → operation_stands stands_pending o ≡ true
       by None f = f
-      by (Some x) f = woken_pends x.standing f
+      by (Some x) f = woken_pends x.poll_state f
   woken_are_pending (Stream handle) e = by (at handle.0 r.handles) e
     where
-      by : (o : Option Hold) → stream_stands is_woken o ≡ true → stream_stands stands_pending o ≡ true
+      by : (o : Option HandleEntry) → stream_stands is_woken o ≡ true → stream_stands stands_pending o ≡ true
       by None f = f
-      by (Some x) f = woken_pends x.standing f
+      by (Some x) f = woken_pends x.poll_state f
 
 -- ---- those who stand in the lines
 
@@ -270,62 +270,62 @@ everybody_once w l =
     let d = count_append (same_waiter w) l.closings l.woken in
     omega (arith, a, b, c, d)
 
-module _ {T : Type 0} (b : Book T) (s : Scene T Waiter) (kept : AllKept b s) (world : IsWorld b s) (apart : AreApart b.roll) where
+module _ {T : Type 0} (b : NameState T) (s : Configuration T Waiter) (kept : WorldInvariant b s) (world : IsWorld b s) (apart : AreApart b.name_table) where
   abbrev who : Waiting
   who = (state_at b s).waiting
 
   once_in : (w : Waiter) → times_in w who ≤ 1
   once_in w = let placed = world.awake.placed in placed.once w
 
-  fine : (w : Waiter) → post b.roll w ≡ amiss → ⊥
+  fine : (w : Waiter) → status b.name_table w ≡ invalid → ⊥
   fine w e = let owned = kept.owned in owned.none_amiss w e
 
-  told_so : (w : Waiter) → is_among w who.woken ≡ true → stands_so is_woken b.roll w ≡ true
-  told_so w i = woken_so b.roll w (fine w) ∙ among_filter (λ v. was_woken (post b.roll v)) w b.order i
+  told_so : (w : Waiter) → is_among w who.woken ≡ true → stands_so is_woken b.name_table w ≡ true
+  told_so w i = woken_so b.name_table w (fine w) ∙ among_filter (λ v. was_woken (status b.name_table v)) w b.order i
 
-  told_there : (w : Waiter) → stands_so is_woken b.roll w ≡ true → 1 ≤ times w who.woken
+  told_there : (w : Waiter) → stands_so is_woken b.name_table w ≡ true → 1 ≤ times w who.woken
   told_there w e =
-      let was : was_woken (post b.roll w) ≡ true = sym (woken_so b.roll w (fine w)) ∙ e in
-      let h = woken_waits b.roll w was in
+      let was : was_woken (status b.name_table w) ≡ true = sym (woken_so b.name_table w (fine w)) ∙ e in
+      let h = woken_waits b.name_table w was in
       let order = kept.order in
-      kept_in (λ v. was_woken (post b.roll v)) w b.order (order.placed w (inl (h.0, true, h.1))) was
+      kept_in (λ v. was_woken (status b.name_table v)) w b.order (order.placed w (inl (h.0, true, h.1))) was
 
   told_once : (w : Waiter) → times w who.woken ≤ 1
   told_once w = let all = once_in w in omega (arith, all)
 
-  pub woken_number : how_many is_woken b.roll ≡ length who.woken
-  woken_number = counted_so is_woken b.roll apart who.woken told_once told_so told_there
+  pub woken_number : how_many is_woken b.name_table ≡ length who.woken
+  woken_number = counted_so is_woken b.name_table apart who.woken told_once told_so told_there
 
-  line_so : (line : Line) (w : Waiter) → is_among w (untold line who) ≡ true → stands_so stands_pending b.roll w ≡ true
+  line_so : (line : Line) (w : Waiter) → is_among w (untold line who) ≡ true → stands_so stands_pending b.name_table w ≡ true
   line_so line w i =
       let shown = world.shows in
       let own = shown.lines line in
-      pending_holds b.roll w ∙ untold_hold (held_of b.roll) _ (untold line who) w own.untold i
+      pending_holds b.name_table w ∙ untold_hold (held_of b.name_table) _ (untold line who) w own.untold i
 
-  all_pending : (w : Waiter) → is_among w (everybody who) ≡ true → stands_so stands_pending b.roll w ≡ true
+  all_pending : (w : Waiter) → is_among w (everybody who) ≡ true → stands_so stands_pending b.name_table w ≡ true
   all_pending w i = sends (among_append w who.sends (who.receives ++ (who.streams ++ (who.closings ++ who.woken))) i)
     where
-      closings : (is_among w who.closings ≡ true) ⊎ (is_among w who.woken ≡ true) → stands_so stands_pending b.roll w ≡ true
+      closings : (is_among w who.closings ≡ true) ⊎ (is_among w who.woken ≡ true) → stands_so stands_pending b.name_table w ≡ true
       closings (inl k) = line_so Closings w k
-      closings (inr k) = woken_are_pending b.roll w (told_so w k)
+      closings (inr k) = woken_are_pending b.name_table w (told_so w k)
 
-      streams : (is_among w who.streams ≡ true) ⊎ (is_among w (who.closings ++ who.woken) ≡ true) → stands_so stands_pending b.roll w ≡ true
+      streams : (is_among w who.streams ≡ true) ⊎ (is_among w (who.closings ++ who.woken) ≡ true) → stands_so stands_pending b.name_table w ≡ true
       streams (inl k) = line_so Streams w k
       streams (inr k) = closings (among_append w who.closings who.woken k)
 
       receives : (is_among w who.receives ≡ true) ⊎ (is_among w (who.streams ++ (who.closings ++ who.woken)) ≡ true)
-          → stands_so stands_pending b.roll w ≡ true
+          → stands_so stands_pending b.name_table w ≡ true
       receives (inl k) = line_so Receives w k
       receives (inr k) = streams (among_append w who.streams (who.closings ++ who.woken) k)
 
       sends : (is_among w who.sends ≡ true) ⊎ (is_among w (who.receives ++ (who.streams ++ (who.closings ++ who.woken))) ≡ true)
-          → stands_so stands_pending b.roll w ≡ true
+          → stands_so stands_pending b.name_table w ≡ true
       sends (inl k) = line_so Sends w k
       sends (inr k) = receives (among_append w who.receives (who.streams ++ (who.closings ++ who.woken)) k)
 
-  all_there : (w : Waiter) → stands_so stands_pending b.roll w ≡ true → 1 ≤ times w (everybody who)
+  all_there : (w : Waiter) → stands_so stands_pending b.name_table w ≡ true → 1 ≤ times w (everybody who)
   all_there w e =
-      let key = some_so (held_of b.roll w) (sym (pending_holds b.roll w) ∙ e) in
+      let key = some_so (held_of b.name_table w) (sym (pending_holds b.name_table w) ∙ e) in
       let keys = world.shows.keys in
       let there = keys.holds w key.0 key.1 in
       let same = everybody_once w who in
@@ -334,30 +334,30 @@ module _ {T : Type 0} (b : Book T) (s : Scene T Waiter) (kept : AllKept b s) (wo
   all_once : (w : Waiter) → times w (everybody who) ≤ 1
   all_once w = let one = once_in w in let same = everybody_once w who in omega (arith, one, same)
 
-  pub pending_number : how_many stands_pending b.roll ≡ pending_count who
-  pending_number = counted_so stands_pending b.roll apart (everybody who) all_once all_pending all_there ∙ everybody_many who
+  pub pending_number : how_many stands_pending b.name_table ≡ pending_count who
+  pending_number = counted_so stands_pending b.name_table apart (everybody who) all_once all_pending all_there ∙ everybody_many who
 
 -- ---- a world
 
-module _ {T : Type 0} (w : Floor T) (k : Stands w) where
-  at_rest_there : IsQuiet w → at_rest w ≡ state_at (book_of w) k.scene
-  at_rest_there quiet = at_rest_is w k.scene k.stands.shown quiet
+module _ {T : Type 0} (w : WorldState T) (k : Stands w) where
+  at_rest_there : IsQuiet w → at_rest w ≡ state_at (name_state_of w) k.configuration
+  at_rest_there quiet = at_rest_is w k.configuration k.stands.shown quiet
 
   pub messages_at_rest : MessagesAtRest (view_of w)
   messages_at_rest quiet =
       let sh = k.stands.shown in
       sh.messages ∙ ap (λ (x : State T). length x.channel.messages) (sym (at_rest_there quiet))
 
-  module _ (rests : RestIsAWorld T) (apart : AreApart w.roll) where
-    rest : IsQuiet w → IsWorld (book_of w) k.scene
-    rest quiet = rests (book_of w) k.scene k.stands.kept (none_under_way w k.scene quiet k.stands.shown)
+  module _ (rests : RestIsAWorld T) (apart : AreApart w.name_table) where
+    rest : IsQuiet w → IsWorld (name_state_of w) k.configuration
+    rest quiet = rests (name_state_of w) k.configuration k.stands.kept (none_under_way w k.configuration quiet k.stands.shown)
 
     pub pending_at_rest : PendingAtRest (view_of w)
     pending_at_rest quiet =
-        pending_number (book_of w) k.scene k.stands.kept (rest quiet) apart
+        pending_number (name_state_of w) k.configuration k.stands.kept (rest quiet) apart
         ∙ ap (λ (x : State T). pending_count x.waiting) (sym (at_rest_there quiet))
 
     pub woken_at_rest : WokenAtRest (view_of w)
     woken_at_rest quiet =
-        woken_number (book_of w) k.scene k.stands.kept (rest quiet) apart
+        woken_number (name_state_of w) k.configuration k.stands.kept (rest quiet) apart
         ∙ ap (λ (x : State T). length x.waiting.woken) (sym (at_rest_there quiet))

@@ -8,13 +8,13 @@ use Rattle.channel_model.specs.declared.name.Waiter.{Waiter}
 use Rattle.channel_model.specs.declared.refusal.WorldRefusal.{WorldRefusal}
 use Rattle.channel_model.specs.declared.run.Stopped.{Stopped}
 use Rattle.channel_steps.specs.Run.{EachStep, IsRun, end_of}
-use Rattle.channel_steps.specs.Scene.{Scene}
+use Rattle.channel_steps.specs.Configuration.{Configuration}
 use Rattle.channel_steps.proofs.Interface.{run_on}
-use Rattle.channel_interleaving.specs.Floor.{book_of, Stands}
+use Rattle.channel_interleaving.specs.WorldState.{name_state_of, Stands}
 use Rattle.channel_interleaving.specs.Refusal.{step_refusal}
-use Rattle.channel_interleaving.specs.Run.{Book, StepIsMade, MayRefuseStep, StopsAt, book_ended, with_woken}
+use Rattle.channel_interleaving.specs.Run.{NameState, StepIsMade, MayRefuseStep, StopsAt, name_state_ended, with_woken}
 use Rattle.channel_interleaving.specs.Runs.{Moment, LeadsBy, RanTo, accepted_in, left_in, moment_of}
-use Rattle.channel_interleaving.specs.declared.floor.Floor.{Floor}
+use Rattle.channel_interleaving.specs.declared.world_state.WorldState.{WorldState}
 use Rattle.channel_interleaving.specs.declared.names.Agent.{Agent}
 use Rattle.channel_interleaving.specs.declared.step.Entry.{Entry}
 use Rattle.channel_interleaving.specs.declared.step.PartyId.{PartyId}
@@ -56,7 +56,7 @@ module _ {T : Type 0} where
   left_on [] fs = omega arith
   left_on (e ∷ es) fs = let h = left_on es fs in omega (arith, h)
 
-  ran_on : (xs ys left : List (Step T)) (f g h : Floor T) (trace more : List (Entry T)) → RanTo xs [] f trace g → RanTo ys left g more h
+  ran_on : (xs ys left : List (Step T)) (f g h : WorldState T) (trace more : List (Entry T)) → RanTo xs [] f trace g → RanTo ys left g more h
       → RanTo (xs ++ ys) left f (trace ++ more) h
   ran_on xs ys left f g h trace more a b s k =
       let r = a s k in
@@ -102,27 +102,27 @@ module _ {T : Type 0} where
   none m n (e ∷ es) run = absurd run.each
 
   -- a party whose step did not answer is at work still
-  still_at_work : (b : Book T) (s : Scene T Waiter) (p : PartyId) (e : Entry T) (c : Book T) (t : Scene T Waiter)
-      → StepIsMade b s (step.Step p) e c t → e.reply ≡ None → step_refusal c.roll c.agents (step.Step p) ≡ None
+  still_at_work : (b : NameState T) (s : Configuration T Waiter) (p : PartyId) (e : Entry T) (c : NameState T) (t : Configuration T Waiter)
+      → StepIsMade b s (step.Step p) e c t → e.reply ≡ None → step_refusal c.name_table c.agents (step.Step p) ≡ None
   still_at_work b s p e c t made silent =
-      let k = made.book.0 in
-      let a = made.book.1 in
-      let is : c ≡ book_ended k a None made.kept (with_woken e.woken.items b) =
-      subst (λ (r : Option (Reply T)). c ≡ book_ended k a r made.kept (with_woken e.woken.items b)) silent made.book.4 in
-      let same : c.agents ≡ b.agents = ap (λ (d : Book T). d.agents) is in
-      subst (λ (agents : List (Agent T)). step_refusal c.roll agents (step.Step p) ≡ None) (sym same) made.not_refused
+      let k = made.name_state.0 in
+      let a = made.name_state.1 in
+      let is : c ≡ name_state_ended k a None made.kept (with_woken e.woken.items b) =
+      subst (λ (r : Option (Reply T)). c ≡ name_state_ended k a r made.kept (with_woken e.woken.items b)) silent made.name_state.4 in
+      let same : c.agents ≡ b.agents = ap (λ (d : NameState T). d.agents) is in
+      subst (λ (agents : List (Agent T)). step_refusal c.name_table agents (step.Step p) ≡ None) (sym same) made.not_refused
 
   -- a list of one step that was used up: it was made
-  pub record OneMade (p : PartyId) (old : Floor T) (trace : List (Entry T)) (new : Floor T) : Type 0 where
+  pub record OneMade (p : PartyId) (old : WorldState T) (trace : List (Entry T)) (new : WorldState T) : Type 0 where
     pub entry : Entry T
     pub entries : trace ≡ entry ∷ []
     pub ran : RanTo (step.Step p ∷ []) [] old (entry ∷ []) new
-    pub goes_on : entry.reply ≡ None → step_refusal new.roll new.agents.items (step.Step p) ≡ None
+    pub goes_on : entry.reply ≡ None → step_refusal new.name_table new.agents.items (step.Step p) ≡ None
 
-  pub one_made : (p : PartyId) (left : List (Step T)) (old : Floor T) (trace : List (Entry T)) (new : Floor T) → Stands old
+  pub one_made : (p : PartyId) (left : List (Step T)) (old : WorldState T) (trace : List (Entry T)) (new : WorldState T) → Stands old
       → RanTo (step.Step p ∷ []) left old trace new → left ≡ [] → OneMade p old trace new
   one_made p left old trace new before ran used =
-      let s = before.scene in
+      let s = before.configuration in
       let r = ran s before.stands in
       let m : Moment T = moment_of old s in
       let made : r.made ≡ step.Step p ∷ [] = made_all (step.Step p) r.made left r.first used in
@@ -135,22 +135,22 @@ module _ {T : Type 0} where
         entry = o.entry;
         entries = o.entries;
         ran = subst (λ (l : List (Entry T)). RanTo (step.Step p ∷ []) [] old l new) o.entries all;
-        goes_on = λ silent. still_at_work (book_of old) s p o.entry (book_of new) r.last o.by.made silent;
+        goes_on = λ silent. still_at_work (name_state_of old) s p o.entry (name_state_of new) r.last o.by.made silent;
       }
 
   -- one that stopped: nothing was made, and it is refused
-  pub record NoneMade (p : PartyId) (old : Floor T) (trace : List (Entry T)) (why : WorldRefusal) (new : Floor T) : Type 0 where
+  pub record NoneMade (p : PartyId) (old : WorldState T) (trace : List (Entry T)) (why : WorldRefusal) (new : WorldState T) : Type 0 where
     pub ran : RanTo (step.Step p ∷ []) (step.Step p ∷ []) old [] new
-    pub reason : MayRefuseStep (book_of new) (step.Step p) why
+    pub reason : MayRefuseStep (name_state_of new) (step.Step p) why
 
-  pub none_made : (p : PartyId) (left : List (Step T)) (old : Floor T) (trace : List (Entry T)) (stopped : Stopped) (new : Floor T)
-      → Stands old → RanTo (step.Step p ∷ []) left old trace new → StopsAt (book_of new) left (length trace) (Some stopped)
+  pub none_made : (p : PartyId) (left : List (Step T)) (old : WorldState T) (trace : List (Entry T)) (stopped : Stopped) (new : WorldState T)
+      → Stands old → RanTo (step.Step p ∷ []) left old trace new → StopsAt (name_state_of new) left (length trace) (Some stopped)
       → NoneMade p old trace stopped.why new
   none_made p [] old trace stopped new before ran stops = absurd stops
   none_made p (y ∷ ys) old trace stopped new before ran stops =
       let x : Step T = step.Step p in
-      let r = ran before.scene before.stands in
-      let m : Moment T = moment_of old before.scene in
+      let r = ran before.configuration before.stands in
+      let m : Moment T = moment_of old before.configuration in
       let f = first_of x y r.made ys r.first in
       let last : Moment T = moment_of new r.last in
       let no : trace ≡ [] = none m last trace (subst (λ (l : List (Step T)). IsRun LeadsBy m l trace last) f.0 r.run) in
@@ -158,7 +158,7 @@ module _ {T : Type 0} where
       let it : y ≡ x = cc f.1 in
       record {
         ran = subst (λ (l : List (Entry T)). RanTo (x ∷ []) (x ∷ []) old l new) no same;
-        reason = subst (λ (z : Step T). MayRefuseStep (book_of new) z stopped.why) it stops.1;
+        reason = subst (λ (z : Step T). MayRefuseStep (name_state_of new) z stopped.why) it stops.1;
       }
 
   -- ---- the run so far
@@ -184,8 +184,8 @@ module _ {T : Type 0} where
   not_silent (f ∷ es) e t h = not_silent es e t h.1
 
   -- one more step of the party
-  pub party_more : (p : PartyId) (n : ℕ) (f : Floor T) (trace : List (Entry T)) (g : Floor T) (answered : Bool) (after : List (Entry T))
-      (h : Floor T) → RanTo (replicate n (step.Step p)) [] f trace g → StepsOnce p (view_of g) trace answered after (view_of h)
+  pub party_more : (p : PartyId) (n : ℕ) (f : WorldState T) (trace : List (Entry T)) (g : WorldState T) (answered : Bool) (after : List (Entry T))
+      (h : WorldState T) → RanTo (replicate n (step.Step p)) [] f trace g → StepsOnce p (view_of g) trace answered after (view_of h)
       → RanTo (replicate (n + 1) (step.Step p)) [] f after h
   party_more p n f trace g answered after h so_far once =
       let x : Step T = step.Step p in
@@ -194,27 +194,27 @@ module _ {T : Type 0} where
       subst (λ (l : List (Step T)). RanTo l [] f after h) (replicate_more n x)
       (subst (λ (t : List (Entry T)). RanTo (replicate n x ++ x ∷ []) [] f t h) (sym once.written) both)
 
-  pub once_silent : (p : PartyId) (g : Floor T) (trace : List (Entry T)) (after : List (Entry T)) (h : Floor T)
+  pub once_silent : (p : PartyId) (g : WorldState T) (trace : List (Entry T)) (after : List (Entry T)) (h : WorldState T)
       → (once : StepsOnce p (view_of g) trace false after (view_of h)) → once.entry.reply ≡ None
   once_silent p g trace after h once = silent_of once.entry.reply once.told
 
   -- ---- the end of the run
 
-  pub record Ended (p : PartyId) (f : Floor T) (trace : List (Entry T)) (stopped : Option Stopped) (h : Floor T) : Type 0 where
+  pub record Ended (p : PartyId) (f : WorldState T) (trace : List (Entry T)) (stopped : Option Stopped) (h : WorldState T) : Type 0 where
     pub ran : RanTo (replicate (steps_asked trace stopped) (step.Step p)) (refused_of p stopped) f trace h
-    pub stops : StopsAt (book_of h) (refused_of p stopped) (length trace) stopped
+    pub stops : StopsAt (name_state_of h) (refused_of p stopped) (length trace) stopped
 
-  pub ended_well : (p : PartyId) (n : ℕ) (f : Floor T) (trace : List (Entry T)) (h : Floor T) → length trace ≡ n
+  pub ended_well : (p : PartyId) (n : ℕ) (f : WorldState T) (trace : List (Entry T)) (h : WorldState T) → length trace ≡ n
       → RanTo (replicate n (step.Step p)) [] f trace h → Ended p f trace None h
   ended_well p n f trace h count so_far = record {
     ran = subst (λ (k : ℕ). RanTo (replicate k (step.Step p)) [] f trace h) (sym count) so_far;
     stops = refl;
   }
 
-  pub ended_refused : (p : PartyId) (n : ℕ) (f : Floor T) (trace : List (Entry T)) (g h : Floor T) (why : WorldRefusal)
+  pub ended_refused : (p : PartyId) (n : ℕ) (f : WorldState T) (trace : List (Entry T)) (g h : WorldState T) (why : WorldRefusal)
       (made : List (Entry T)) (stopped : Option Stopped) (place : ℕ) → length trace ≡ n
       → RanTo (replicate n (step.Step p)) [] f trace g → RanTo (step.Step p ∷ []) (step.Step p ∷ []) g [] h
-      → MayRefuseStep (book_of h) (step.Step p) why → made ≡ trace → stopped ≡ Some (record { place = place; why = why })
+      → MayRefuseStep (name_state_of h) (step.Step p) why → made ≡ trace → stopped ≡ Some (record { place = place; why = why })
       → place ≡ length trace → Ended p f made stopped h
   ended_refused p n f trace g h why made stopped place count so_far one reason same stop at =
       let x : Step T = step.Step p in

@@ -9,14 +9,14 @@ use Rattle.channel_calls.specs.declared.stage.Line.TheVariants.{Sends, Receives,
 use Rattle.channel_alone.specs.Alone.{Outcome, Alone}
 use Rattle.channel_interleaving.proofs.Interface.{none_under_way, no_agents}
 use Rattle.channel_interleaving.specs.Bookkeeping.{asks}
-use Rattle.channel_interleaving.specs.Floor.{parts_in, book_of, HasPositions, Shown, IsKept, IsQuiet}
-use Rattle.channel_interleaving.specs.Kept.{AllKept}
-use Rattle.channel_interleaving.specs.Lone.{book_alone, BringsWithin, WakesAtMost}
+use Rattle.channel_interleaving.specs.WorldState.{parts_in, name_state_of, HasPositions, Shown, IsKept, IsQuiet}
+use Rattle.channel_interleaving.specs.Kept.{WorldInvariant}
+use Rattle.channel_interleaving.specs.Lone.{name_state_alone, BringsWithin, WakesAtMost}
 use Rattle.channel_interleaving.specs.Positions.{accepted_by, brings}
-use Rattle.channel_interleaving.specs.Roll.{held_of}
-use Rattle.channel_interleaving.specs.Run.{Book}
+use Rattle.channel_interleaving.specs.NameTable.{held_of}
+use Rattle.channel_interleaving.specs.Run.{NameState}
 use Rattle.channel_interleaving.specs.Settle.{PollsAlone}
-use Rattle.channel_interleaving.specs.declared.floor.Floor.{Floor}
+use Rattle.channel_interleaving.specs.declared.world_state.WorldState.{WorldState}
 use Rattle.channel_model.specs.Answer.{Answer}
 use Rattle.channel_model.specs.Asked.{KeysHeld}
 use Rattle.channel_model.specs.Awake.{AwakeIn}
@@ -28,7 +28,7 @@ use Rattle.channel_model.specs.declared.name.Waiter.{Waiter}
 use Rattle.channel_refinement.specs.Refines.{AreUntold}
 use Rattle.channel_rest.specs.Lone.{PollsAnswer}
 use Rattle.channel_rest.specs.Rest.{state_at, IsWorld, RestIsAWorld}
-use Rattle.channel_steps.specs.Scene.{Scene}
+use Rattle.channel_steps.specs.Configuration.{Configuration}
 use Rattle.channel_world.specs.Settled.{Polls}
 use Rattle.channel_world.specs.World.{at_rest}
 use Rattle.channel_world.proofs.Opening.{at_rest_is}
@@ -40,7 +40,7 @@ as_many held [] (w ∷ ws) h = absurd h
 as_many held (e ∷ es) [] h = absurd h
 as_many held (e ∷ es) (w ∷ ws) h = ap suc (as_many held es ws h.1)
 
-module _ {T : Type 0} (f : Floor T) (kept : IsKept f) (quiet : IsQuiet f) where
+module _ {T : Type 0} (f : WorldState T) (kept : IsKept f) (quiet : IsQuiet f) where
   -- as many stand untold in a line as wait on its list, where no call is under way
   pub as_many_wait : RestIsAWorld T → (line : Line)
       → length (listeners line (parts_in f).roster).waiting ≡ length (untold line (at_rest f).waiting)
@@ -48,33 +48,33 @@ module _ {T : Type 0} (f : Floor T) (kept : IsKept f) (quiet : IsQuiet f) where
       let k = kept.listeners in
       subst (λ (r : Roster Waiter). length (listeners line r).waiting ≡ length (untold line (at_rest f).waiting))
       (ap (λ (c : Channel T Waiter). c.roster) k.shown.shows.now)
-      (subst (λ (s : State T). length (listeners line k.scene.now.roster).waiting ≡ length (untold line s.waiting))
-      (sym (at_rest_is f k.scene k.shown quiet)) (shown k.scene (rests (book_of f) k.scene k.kept (none_under_way f k.scene quiet k.shown)) line))
+      (subst (λ (s : State T). length (listeners line k.configuration.now.roster).waiting ≡ length (untold line s.waiting))
+      (sym (at_rest_is f k.configuration k.shown quiet)) (shown k.configuration (rests (name_state_of f) k.configuration k.kept (none_under_way f k.configuration quiet k.shown)) line))
     where
-      shown : (s : Scene T Waiter) → IsWorld (book_of f) s → (l : Line)
-          → length (listeners l s.now.roster).waiting ≡ length (untold l (state_at (book_of f) s).waiting)
-      shown s world Sends = let own = world.shows.lines Sends in as_many (held_of f.roll) _ _ own.untold
-      shown s world Receives = let own = world.shows.lines Receives in as_many (held_of f.roll) _ _ own.untold
-      shown s world Streams = let own = world.shows.lines Streams in as_many (held_of f.roll) _ _ own.untold
-      shown s world Closings = let own = world.shows.lines Closings in as_many (held_of f.roll) _ _ own.untold
+      shown : (s : Configuration T Waiter) → IsWorld (name_state_of f) s → (l : Line)
+          → length (listeners l s.now.roster).waiting ≡ length (untold l (state_at (name_state_of f) s).waiting)
+      shown s world Sends = let own = world.shows.lines Sends in as_many (held_of f.name_table) _ _ own.untold
+      shown s world Receives = let own = world.shows.lines Receives in as_many (held_of f.name_table) _ _ own.untold
+      shown s world Streams = let own = world.shows.lines Streams in as_many (held_of f.name_table) _ _ own.untold
+      shown s world Closings = let own = world.shows.lines Closings in as_many (held_of f.name_table) _ _ own.untold
 
   -- nobody is left asleep where no call is under way
   pub awake_at_rest : RestIsAWorld T → AwakeIn (at_rest f)
   awake_at_rest rests =
       let k = kept.listeners in
-      let world = rests (book_of f) k.scene k.kept (none_under_way f k.scene quiet k.shown) in
-      subst (λ (x : State T). AwakeIn x) (sym (at_rest_is f k.scene k.shown quiet)) world.awake
+      let world = rests (name_state_of f) k.configuration k.kept (none_under_way f k.configuration quiet k.shown) in
+      subst (λ (x : State T). AwakeIn x) (sym (at_rest_is f k.configuration k.shown quiet)) world.awake
 
   module _ (answer : PollsAnswer T) (w : Waiter) (there : is_among w (at_rest f).waiting.woken ≡ true) where
     -- whatever the poll does alone, the model allows
-    allowed : (s t : Scene T Waiter) (o : Outcome T Waiter) → Shown f s → AllKept (book_of f) s
-        → Alone (asks f.roll (poll_of w)) s.now o → t.now ≡ o.channel
-        → Answers (at_rest f) (poll_of w) (record { after = state_at (book_alone (book_of f) (poll_of w) o) t; reply = o.reply; woken = o.woken })
+    allowed : (s t : Configuration T Waiter) (o : Outcome T Waiter) → Shown f s → WorldInvariant (name_state_of f) s
+        → Alone (asks f.name_table (poll_of w)) s.now o → t.now ≡ o.channel
+        → Answers (at_rest f) (poll_of w) (record { after = state_at (name_state_alone (name_state_of f) (poll_of w) o) t; reply = o.reply; woken = o.woken })
     allowed s t o sh k alone now =
         let nobody = no_agents f kept.at_work quiet in
-        let a = answer (book_of f) s t w o k nobody (none_under_way f s quiet sh) there alone now in
+        let a = answer (name_state_of f) s t w o k nobody (none_under_way f s quiet sh) there alone now in
         subst (λ (x : State T). Answers x (poll_of w)
-        (record { after = state_at (book_alone (book_of f) (poll_of w) o) t; reply = o.reply; woken = o.woken }))
+        (record { after = state_at (name_state_alone (name_state_of f) (poll_of w) o) t; reply = o.reply; woken = o.woken }))
         (sym (at_rest_is f s sh quiet)) a
 
     -- it wakes no more than there is room for
@@ -84,16 +84,16 @@ module _ {T : Type 0} (f : Floor T) (kept : IsKept f) (quiet : IsQuiet f) where
         let most = fits _ (allowed s (record s { now = o.channel }) o sh k alone refl) in omega (arith, most)
 
     -- and brings in no message for which there is no position
-    pub poll_brings_within : ((a : Answer T) → Answers (at_rest f) (poll_of w) a → HasPositions (accepted_by (brings f.roll (poll_of w)) a.reply) f)
+    pub poll_brings_within : ((a : Answer T) → Answers (at_rest f) (poll_of w) a → HasPositions (accepted_by (brings f.name_table (poll_of w)) a.reply) f)
         → BringsWithin (poll_of w) f
     poll_brings_within fits s o sh k alone = fits _ (allowed s (record s { now = o.channel }) o sh k alone refl)
 
-    pub poll_answers : (g : Floor T) (before : List Waiter) (x : Reply T) (after : List Waiter) → IsQuiet g
+    pub poll_answers : (g : WorldState T) (before : List Waiter) (x : Reply T) (after : List Waiter) → IsQuiet g
         → PollsAlone w f before x after g → Polls w (at_rest f) before x after (at_rest g)
     poll_answers g before x after still p =
         let k = kept.listeners in
-        let d = p.called k.scene k.shown k.kept in
-        let a = allowed k.scene d.after d.outcome k.shown k.kept d.alone d.now in
-        let same : at_rest g ≡ state_at (book_alone (book_of f) (poll_of w) d.outcome) d.after =
-        at_rest_is g d.after d.shown still ∙ ap (λ (b : Book T). state_at b d.after) d.book in
+        let d = p.called k.configuration k.shown k.kept in
+        let a = allowed k.configuration d.after d.outcome k.shown k.kept d.alone d.now in
+        let same : at_rest g ≡ state_at (name_state_alone (name_state_of f) (poll_of w) d.outcome) d.after =
+        at_rest_is g d.after d.shown still ∙ ap (λ (b : NameState T). state_at b d.after) d.name_state in
         record { woken = p.woken; names = p.names; answers = rw (same, d.reply, d.woken) a }

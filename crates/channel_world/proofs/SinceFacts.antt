@@ -1,4 +1,4 @@
--- What all replies have in common that were given on the way from a scene: of each step, and so of all.
+-- What all replies have in common that were given on the way from a configuration: of each step, and so of all.
 use Rattle.std.proofs.Common.{arith, ◌≡◌, ℕ, ◌+◌, ◌≤◌, Bool, true, false, ◌||◌, cond, List, [], ◌∷◌, ◌++◌, map, Option, None, Some, refl, sym, ap, ◌∙◌, subst}
 use Rattle.std.specs.Option.{option_to_list}
 use Rattle.channel_calls.specs.Moves.{Channel}
@@ -14,8 +14,8 @@ use Rattle.channel_laws.proofs.Bounds.{step_bounded, never_full}
 use Rattle.channel_laws.proofs.Closers.{row_closed}
 use Rattle.channel_model.specs.declared.name.Waiter.{Waiter}
 use Rattle.channel_steps.specs.Moments.{MarkedMoment, with_marked, ClosedIt}
-use Rattle.channel_steps.specs.Run.{Next, NextScene, IsRun, new_scene, call_begun}
-use Rattle.channel_steps.specs.Scene.{Under, Scene, Steps, MayFinish, sees, does, unless_ended}
+use Rattle.channel_steps.specs.Run.{Next, NextConfiguration, IsRun, new_configuration, call_begun}
+use Rattle.channel_steps.specs.Configuration.{ActiveCall, Configuration, Steps, MayFinish, sees, does, unless_ended}
 use Rattle.channel_steps.specs.declared.party.Entry.{Entry as ChannelEntry}
 use Rattle.channel_steps.specs.declared.run.Step.{Step as ChannelStep}
 use Rattle.channel_steps.specs.declared.run.Step.TheVariants as step
@@ -23,15 +23,15 @@ use Rattle.channel_steps.proofs.Interface.{run_so}
 use Rattle.channel_interleaving.proofs.Interface.{led_further, none_under_way}
 use Rattle.channel_interleaving.specs.Counted.{tally}
 use Rattle.channel_interleaving.specs.Doing.{any_close, is_close}
-use Rattle.channel_interleaving.specs.Floor.{IsQuiet, Stands}
-use Rattle.channel_interleaving.specs.Way.{replies_of}
-use Rattle.channel_interleaving.specs.declared.floor.Floor.{Floor}
+use Rattle.channel_interleaving.specs.WorldState.{IsQuiet, Stands}
+use Rattle.channel_interleaving.specs.Reaches.{replies_of}
+use Rattle.channel_interleaving.specs.declared.world_state.WorldState.{WorldState}
 use Rattle.channel_model.specs.State.{State}
 use Rattle.channel_world.specs.Since.{closings_among, closers_in, closings_left, NoneSaysFull, HasNoBound, ClosesOnce, ClosesOnceToHere, ClosesWhatIsLeft, ClosesOnceFromRest, NoneClosesAgain, IsNeverFull, IsNeverFullToHere, IsNeverFullSince, IsNeverFullFromRest}
 use Rattle.channel_world.specs.World.{at_rest}
 use Rattle.channel_world.proofs.Opening.{at_rest_is}
 use Rattle.channel_world.specs.View.{view_of}
-use Rattle.channel_world.proofs.Inside.{floor_of}
+use Rattle.channel_world.proofs.Inside.{world_state_of}
 
 -- ---- how often it is closed
 
@@ -50,14 +50,14 @@ or_nothing true = omega arith
 or_nothing false = omega arith
 
 module _ {T : Type 0} where
-  abbrev has_closed : Under T Waiter → Bool
+  abbrev has_closed : ActiveCall T Waiter → Bool
   has_closed u = any_close u.marks
 
-  closers_join : (us vs : List (Under T Waiter)) → tally has_closed (us ++ vs) ≡ tally has_closed us + tally has_closed vs
+  closers_join : (us vs : List (ActiveCall T Waiter)) → tally has_closed (us ++ vs) ≡ tally has_closed us + tally has_closed vs
   closers_join [] vs = omega arith
   closers_join (u ∷ us) vs = let h = closers_join us vs in omega (arith, h)
 
-  closers_see : (c : Channel T Waiter) (us : List (Under T Waiter)) → tally has_closed (map (sees c) us) ≡ tally has_closed us
+  closers_see : (c : Channel T Waiter) (us : List (ActiveCall T Waiter)) → tally has_closed (map (sees c) us) ≡ tally has_closed us
   closers_see c [] = refl
   closers_see c (u ∷ us) = let h = closers_see c us in omega (arith, h)
 
@@ -78,7 +78,7 @@ module _ {T : Type 0} where
   closed_deeds (d ∷ e ∷ ds) h = absurd h
 
   -- a call that says that it closed the channel has the mark, and is under way no more
-  ended : (u : Under T Waiter) (r : Option (Reply T)) (left : Option (Kept T)) → MayFinish u r left
+  ended : (u : ActiveCall T Waiter) (r : Option (Reply T)) (left : Option (Kept T)) → MayFinish u r left
       → one_if_closed r + tally has_closed (unless_ended u r) ≤ one_if (any_close u.marks)
   ended u None left h = omega arith
   ended u (Some (reply.Closed true)) left h =
@@ -96,10 +96,10 @@ module _ {T : Type 0} where
   flagged m c d says flag =
       let same : while_open d.queue.closed ≡ while_open c.queue.closed = ap while_open flag in omega (arith, same)
 
-  step_closes : (s t : Scene T Waiter) (p : ℕ) (e : ChannelEntry T) (names : List Waiter) → Steps s p e names t
+  step_closes : (s t : Configuration T Waiter) (p : ℕ) (e : ChannelEntry T) (names : List Waiter) → Steps s p e names t
       → one_if_closed e.reply + closings_left t ≤ closings_left s
   step_closes s t p e names st =
-      let now : Under T Waiter = does st.mine st.at_now e.mark s.now t.now in
+      let now : ActiveCall T Waiter = does st.mine st.at_now e.mark s.now t.now in
       let b = step_bounded s t p e names st in
       let flag = flagged e.mark s.now t.now b.says b.flag in
       let mine = with_mark st.mine.marks e.mark s.now st.mine.seen in
@@ -115,7 +115,7 @@ module _ {T : Type 0} where
       let behind = closers_see t.now st.behind in
       omega (arith, flag, mine, end, all, joined, after, first, second, before, behind)
 
-  next_closes : (s : Scene T Waiter) (x : ChannelStep T Waiter) (e : ChannelEntry T) (names : List Waiter) (t : Scene T Waiter)
+  next_closes : (s : Configuration T Waiter) (x : ChannelStep T Waiter) (e : ChannelEntry T) (names : List Waiter) (t : Configuration T Waiter)
       → Next s x e names t → one_if_closed e.reply + closings_left t ≤ closings_left s
   next_closes s (step.Begin p a) e names t n =
       let none : one_if_closed e.reply ≡ 0 = ap (λ (f : ChannelEntry T). one_if_closed f.reply) n.0.entry in
@@ -129,10 +129,10 @@ module _ {T : Type 0} where
   given_first None rs = omega arith
   given_first (Some r) rs = refl
 
-  run_closes : (s t : Scene T Waiter) (xs : List (ChannelStep T Waiter)) (es : List (ChannelEntry T)) → IsRun NextScene s xs es t
+  run_closes : (s t : Configuration T Waiter) (xs : List (ChannelStep T Waiter)) (es : List (ChannelEntry T)) → IsRun NextConfiguration s xs es t
       → closings_among (replies_of es) ≤ closings_left s
   run_closes s t xs es run =
-      run_so NextScene (λ a xs es b. closings_among (replies_of es) ≤ closings_left a) (λ a. omega arith)
+      run_so NextConfiguration (λ a xs es b. closings_among (replies_of es) ≤ closings_left a) (λ a. omega arith)
       (λ a x e b xs es c n rest.
       let now = next_closes a x e n.0 b n.1 in
       let first = given_first e.reply (replies_of es) in
@@ -151,14 +151,14 @@ module _ {T : Type 0} where
       by None f rest = rest
       by (Some r) f rest = (f, rest)
 
-  bound_sound : (s : Scene T Waiter) → HasNoBound s → BoundSound s
+  bound_sound : (s : Configuration T Waiter) → HasNoBound s → BoundSound s
   bound_sound s h = record {
     fits = λ most e. absurd (let no : None ≡ Some most = sym h.now ∙ e in cc);
-    alike = subst (λ (o : Option ℕ). Each (λ (u : Under T Waiter). AllOf o u.seen) s.under_way) (sym h.now) h.seen;
+    alike = subst (λ (o : Option ℕ). Each (λ (u : ActiveCall T Waiter). AllOf o u.seen) s.under_way) (sym h.now) h.seen;
   }
 
-  run_never_full : (s t : Scene T Waiter) (xs : List (ChannelStep T Waiter)) (es : List (ChannelEntry T)) → HasNoBound s
-      → IsRun NextScene s xs es t → NoneSaysFull (replies_of es)
+  run_never_full : (s t : Configuration T Waiter) (xs : List (ChannelStep T Waiter)) (es : List (ChannelEntry T)) → HasNoBound s
+      → IsRun NextConfiguration s xs es t → NoneSaysFull (replies_of es)
   run_never_full s t xs es h run = none_given es (never_full T Waiter s t xs es (bound_sound s h) h.now run)
 
 -- ---- the laws
@@ -168,61 +168,61 @@ one_at_most true = omega arith
 one_at_most false = omega arith
 
 module _ {T : Type 0} where
-  pub closes_what_is_left : (world : Floor T) → ClosesWhatIsLeft (view_of world)
+  pub closes_what_is_left : (world : WorldState T) → ClosesWhatIsLeft (view_of world)
   closes_what_is_left world s replies led =
       subst (λ (rs : List (Reply T)). closings_among rs ≤ closings_left s) led.way.given (run_closes s led.last led.way.steps led.way.trace led.way.run)
 
-  pub closes_once : (world : Floor T) → ClosesOnce (view_of world)
+  pub closes_once : (world : WorldState T) → ClosesOnce (view_of world)
   closes_once world capacity replies led =
-      let most = closes_what_is_left world (new_scene capacity) replies led in omega (arith, most)
+      let most = closes_what_is_left world (new_configuration capacity) replies led in omega (arith, most)
 
-  pub closes_once_to_here : (world : Floor T) → ClosesOnceToHere (view_of world)
+  pub closes_once_to_here : (world : WorldState T) → ClosesOnceToHere (view_of world)
   closes_once_to_here world a replies leads = record {
     since = λ capacity before led.
-        closes_once world capacity (before ++ replies) (led_further (floor_of a) world (new_scene capacity) before replies led leads.on);
+        closes_once world capacity (before ++ replies) (led_further (world_state_of a) world (new_configuration capacity) before replies led leads.on);
   }
 
   -- with no call under way none has closed it
-  left_at_rest : (a : Floor T) (k : Stands a) → IsQuiet a → closings_left k.scene ≡ while_open (at_rest a).channel.closed
+  left_at_rest : (a : WorldState T) (k : Stands a) → IsQuiet a → closings_left k.configuration ≡ while_open (at_rest a).channel.closed
   left_at_rest a k quiet =
-      let none : closers_in k.scene ≡ 0 = ap (tally has_closed) (none_under_way a k.scene quiet k.stands.shown) in
-      let same : while_open (at_rest a).channel.closed ≡ while_open k.scene.now.queue.closed =
-      ap (λ (x : State T). while_open x.channel.closed) (at_rest_is a k.scene k.stands.shown quiet) in
+      let none : closers_in k.configuration ≡ 0 = ap (tally has_closed) (none_under_way a k.configuration quiet k.stands.shown) in
+      let same : while_open (at_rest a).channel.closed ≡ while_open k.configuration.now.queue.closed =
+      ap (λ (x : State T). while_open x.channel.closed) (at_rest_is a k.configuration k.stands.shown quiet) in
       omega (arith, none, same)
 
-  pub closes_once_from_rest : (world : Floor T) → ClosesOnceFromRest (view_of world)
+  pub closes_once_from_rest : (world : WorldState T) → ClosesOnceFromRest (view_of world)
   closes_once_from_rest b a replies k quiet leads =
-      let most = closes_what_is_left b k.scene replies (leads.on k.scene k.stands) in
-      let left = left_at_rest (floor_of a) k quiet in
-      let one = one_at_most (at_rest (floor_of a)).channel.closed in
+      let most = closes_what_is_left b k.configuration replies (leads.on k.configuration k.stands) in
+      let left = left_at_rest (world_state_of a) k quiet in
+      let one = one_at_most (at_rest (world_state_of a)).channel.closed in
       omega (arith, most, left, one)
 
-  pub none_closes_again : (world : Floor T) → NoneClosesAgain (view_of world)
+  pub none_closes_again : (world : WorldState T) → NoneClosesAgain (view_of world)
   none_closes_again b a replies k quiet shut leads =
-      let most = closes_what_is_left b k.scene replies (leads.on k.scene k.stands) in
-      let left = left_at_rest (floor_of a) k quiet in
-      let none : while_open (at_rest (floor_of a)).channel.closed ≡ 0 = ap while_open shut in
+      let most = closes_what_is_left b k.configuration replies (leads.on k.configuration k.stands) in
+      let left = left_at_rest (world_state_of a) k quiet in
+      let none : while_open (at_rest (world_state_of a)).channel.closed ≡ 0 = ap while_open shut in
       omega (arith, most, left, none)
 
-  pub is_never_full_since : (world : Floor T) → IsNeverFullSince (view_of world)
+  pub is_never_full_since : (world : WorldState T) → IsNeverFullSince (view_of world)
   is_never_full_since world s replies h led =
       subst (λ (rs : List (Reply T)). NoneSaysFull rs) led.way.given
       (run_never_full s led.last led.way.steps led.way.trace h led.way.run)
 
-  pub is_never_full : (world : Floor T) → IsNeverFull (view_of world)
-  is_never_full world replies led = is_never_full_since world (new_scene None) replies (record { now = refl; seen = tt }) led
+  pub is_never_full : (world : WorldState T) → IsNeverFull (view_of world)
+  is_never_full world replies led = is_never_full_since world (new_configuration None) replies (record { now = refl; seen = tt }) led
 
-  pub is_never_full_to_here : (world : Floor T) → IsNeverFullToHere (view_of world)
+  pub is_never_full_to_here : (world : WorldState T) → IsNeverFullToHere (view_of world)
   is_never_full_to_here world a replies leads = record {
-    since = λ before led. is_never_full world (before ++ replies) (led_further (floor_of a) world (new_scene None) before replies led leads.on);
+    since = λ before led. is_never_full world (before ++ replies) (led_further (world_state_of a) world (new_configuration None) before replies led leads.on);
   }
 
-  pub is_never_full_from_rest : (world : Floor T) → IsNeverFullFromRest (view_of world)
+  pub is_never_full_from_rest : (world : WorldState T) → IsNeverFullFromRest (view_of world)
   is_never_full_from_rest b a replies k quiet bare leads =
-      let none = none_under_way (floor_of a) k.scene quiet k.stands.shown in
-      let same = ap (λ (x : State T). x.channel.capacity) (sym (at_rest_is (floor_of a) k.scene k.stands.shown quiet)) in
-      is_never_full_since b k.scene replies
+      let none = none_under_way (world_state_of a) k.configuration quiet k.stands.shown in
+      let same = ap (λ (x : State T). x.channel.capacity) (sym (at_rest_is (world_state_of a) k.configuration k.stands.shown quiet)) in
+      is_never_full_since b k.configuration replies
       (record {
         now = same ∙ bare;
-        seen = subst (λ (us : List (Under T Waiter)). Each (λ (u : Under T Waiter). AllOf None u.seen) us) (sym none) tt;
-      }) (leads.on k.scene k.stands)
+        seen = subst (λ (us : List (ActiveCall T Waiter)). Each (λ (u : ActiveCall T Waiter). AllOf None u.seen) us) (sym none) tt;
+      }) (leads.on k.configuration k.stands)

@@ -18,27 +18,27 @@ use Rattle.channel_model.specs.declared.name.HandleKind.TheVariants as handle_ki
 use Rattle.channel_model.specs.declared.name.Waiter.{Waiter}
 use Rattle.channel_model.specs.declared.name.Waiter.TheVariants.{Op, Stream}
 use Rattle.channel_model.proofs.WaiterLemmas.{decided}
-use Rattle.channel_steps.specs.Scene.{Under}
+use Rattle.channel_steps.specs.Configuration.{ActiveCall}
 use Rattle.channel_steps.specs.declared.party.Party.{Party}
 use Rattle.channel_interleaving.specs.Apart.{AreApart}
 use Rattle.channel_interleaving.specs.Doing.{doing_of}
-use Rattle.channel_interleaving.specs.Floor.{calls_in, messages_in, sight_of, Stands}
+use Rattle.channel_interleaving.specs.WorldState.{calls_in, messages_in, observation_of, Stands}
 use Rattle.channel_interleaving.specs.Owed.{Owed, IsUnwoken, is_sending, is_receiving, is_woken_on, woken_on, all_unannounced}
-use Rattle.channel_interleaving.specs.Owners.{Post, waits, posted, post_on, no_stream_post, stream_post, send_post, operation_post, post, Together}
+use Rattle.channel_interleaving.specs.Owners.{NameStatus, waits, status_by, status_on, no_stream_status, stream_status, send_status, operation_status, status, Together}
 use Rattle.channel_interleaving.specs.Pending.{stands_pending, how_many, operation_stands, stream_stands}
-use Rattle.channel_interleaving.specs.Roll.{is_woken}
+use Rattle.channel_interleaving.specs.NameTable.{is_woken}
 use Rattle.channel_interleaving.specs.declared.doing.Doing.{Doing}
 use Rattle.channel_interleaving.specs.declared.doing.Role.{Role}
 use Rattle.channel_interleaving.specs.declared.doing.Role.TheVariants.{Sending, Receiving, Other}
-use Rattle.channel_interleaving.specs.declared.floor.Floor.{Floor}
+use Rattle.channel_interleaving.specs.declared.world_state.WorldState.{WorldState}
 use Rattle.channel_interleaving.specs.declared.names.Agent.{Agent}
-use Rattle.channel_interleaving.specs.declared.names.Hold.{Hold}
+use Rattle.channel_interleaving.specs.declared.names.HandleEntry.{HandleEntry}
 use Rattle.channel_interleaving.specs.declared.names.Operation.{Operation}
 use Rattle.channel_interleaving.specs.declared.names.OperationKind.{OperationKind}
 use Rattle.channel_interleaving.specs.declared.names.OperationKind.TheVariants as kind
-use Rattle.channel_interleaving.specs.declared.names.Standing.{Standing}
-use Rattle.channel_interleaving.specs.declared.names.Standing.TheVariants.{Rests, Waits, IsPolled}
-use Rattle.channel_interleaving.specs.declared.roll.Roll.{Roll}
+use Rattle.channel_interleaving.specs.declared.names.PollState.{PollState}
+use Rattle.channel_interleaving.specs.declared.names.PollState.TheVariants.{Rests, Waits, IsPolled}
+use Rattle.channel_interleaving.specs.declared.name_table.NameTable.{NameTable}
 use Rattle.channel_interleaving.proofs.OwedCounts.{one_if, count_first}
 use Rattle.channel_world.specs.Asleep.{ReceivesAreAnswered, SendsAreAnswered, StreamsAreAnswered, ClosingIsAnswered, NoReceiveSleepsBesideAMessage, NoStreamSleepsBesideAMessage, NoSendSleepsBesideAPlace, NobodySleepsOnAClosed, AllAreAwake, HasAPlace}
 use Rattle.channel_world.specs.View.{view_of}
@@ -109,61 +109,61 @@ woken_first : (a b : Bool) → (a && b) ≡ true → a ≡ true
 woken_first true b e = refl
 woken_first false b e = e
 
-woken_post : (line own : Line) (s : Standing) → is_woken_on line (post_on own s) ≡ true → is_woken s ≡ true
-woken_post line own Rests e = no e
-woken_post line own (Waits key woken) e = woken_first woken (same_line line own) e
-woken_post line own (IsPolled brings) e = no e
+woken_status : (line own : Line) (s : PollState) → is_woken_on line (status_on own s) ≡ true → is_woken s ≡ true
+woken_status line own Rests e = no e
+woken_status line own (Waits key woken) e = woken_first woken (same_line line own) e
+woken_status line own (IsPolled brings) e = no e
 
-woken_off : (line : Line) (s : Standing) → is_woken_on line (no_stream_post s) ≡ true → is_woken s ≡ true
+woken_off : (line : Line) (s : PollState) → is_woken_on line (no_stream_status s) ≡ true → is_woken s ≡ true
 woken_off line Rests e = no e
 woken_off line (Waits key woken) e = no e
 woken_off line (IsPolled brings) e = no e
 
-woken_stream : (line : Line) (k : HandleKind) (s : Standing) → is_woken_on line (stream_post k s) ≡ true → is_woken s ≡ true
-woken_stream line handle_kind.Receiver s e = woken_post line Streams s e
+woken_stream : (line : Line) (k : HandleKind) (s : PollState) → is_woken_on line (stream_status k s) ≡ true → is_woken s ≡ true
+woken_stream line handle_kind.Receiver s e = woken_status line Streams s e
 woken_stream line handle_kind.Sender s e = woken_off line s e
 woken_stream line handle_kind.WeakSender s e = woken_off line s e
 woken_stream line handle_kind.WeakReceiver s e = woken_off line s e
 
-abbrev handle_seen : Option (Option Hold) → Post
-handle_seen o = posted (λ (x : Hold). stream_post x.handle.kind x.standing) o
+abbrev handle_seen : Option (Option HandleEntry) → NameStatus
+handle_seen o = status_by (λ (x : HandleEntry). stream_status x.handle.kind x.poll_state) o
 
-woken_handle : (line : Line) (o : Option Hold) → is_woken_on line (handle_seen (Some o)) ≡ true → stream_stands is_woken o ≡ true
+woken_handle : (line : Line) (o : Option HandleEntry) → is_woken_on line (handle_seen (Some o)) ≡ true → stream_stands is_woken o ≡ true
 woken_handle line None e = no e
-woken_handle line (Some x) e = woken_stream line x.handle.kind x.standing e
+woken_handle line (Some x) e = woken_stream line x.handle.kind x.poll_state e
 
 -- ---- who is pending and was not woken
 
-abbrev Sleeps : Line → Key → Post → Type 0
+abbrev Sleeps : Line → Key → NameStatus → Type 0
 Sleeps line key p = p ≡ waits (record { line = line; key = key }) false
 
-asleep_post : (line own : Line) (key : Key) (s : Standing) → Sleeps line key (post_on own s) → (is_woken s ≡ false) × (stands_pending s ≡ true)
-asleep_post line own key Rests e = cc e
-asleep_post line own key (Waits k true) e = cc e
-asleep_post line own key (Waits k false) e = (refl, refl)
-asleep_post line own key (IsPolled brings) e = cc e
+asleep_status : (line own : Line) (key : Key) (s : PollState) → Sleeps line key (status_on own s) → (is_woken s ≡ false) × (stands_pending s ≡ true)
+asleep_status line own key Rests e = cc e
+asleep_status line own key (Waits k true) e = cc e
+asleep_status line own key (Waits k false) e = (refl, refl)
+asleep_status line own key (IsPolled brings) e = cc e
 
-asleep_off : (line : Line) (key : Key) (s : Standing) → Sleeps line key (no_stream_post s) → (is_woken s ≡ false) × (stands_pending s ≡ true)
+asleep_off : (line : Line) (key : Key) (s : PollState) → Sleeps line key (no_stream_status s) → (is_woken s ≡ false) × (stands_pending s ≡ true)
 asleep_off line key Rests e = cc e
 asleep_off line key (Waits k woken) e = cc e
 asleep_off line key (IsPolled brings) e = cc e
 
-asleep_stream : (line : Line) (key : Key) (k : HandleKind) (s : Standing) → Sleeps line key (stream_post k s)
+asleep_stream : (line : Line) (key : Key) (k : HandleKind) (s : PollState) → Sleeps line key (stream_status k s)
     → (is_woken s ≡ false) × (stands_pending s ≡ true)
-asleep_stream line key handle_kind.Receiver s e = asleep_post line Streams key s e
+asleep_stream line key handle_kind.Receiver s e = asleep_status line Streams key s e
 asleep_stream line key handle_kind.Sender s e = asleep_off line key s e
 asleep_stream line key handle_kind.WeakSender s e = asleep_off line key s e
 asleep_stream line key handle_kind.WeakReceiver s e = asleep_off line key s e
 
 -- who is woken is pending
-pends : (s : Standing) → is_woken s ≡ true → stands_pending s ≡ true
+pends : (s : PollState) → is_woken s ≡ true → stands_pending s ≡ true
 pends Rests e = no e
 pends (Waits key woken) e = refl
 pends (IsPolled brings) e = no e
 
-woken_streams : (o : Option Hold) → stream_stands is_woken o ≡ true → stream_stands stands_pending o ≡ true
+woken_streams : (o : Option HandleEntry) → stream_stands is_woken o ≡ true → stream_stands stands_pending o ≡ true
 woken_streams None e = e
-woken_streams (Some x) e = pends x.standing e
+woken_streams (Some x) e = pends x.poll_state e
 
 -- ---- the calls under way
 
@@ -194,28 +194,28 @@ none_fits (Some c) m n le fits places = omega (arith, le, fits, places)
 -- ---- the names, and all that a world shows
 
 module _ {T : Type 0} where
-  abbrev operation_seen : Option (Option (Operation T)) → Post
-  operation_seen o = posted (λ (x : Operation T). operation_post x.kind x.message x.standing) o
+  abbrev operation_seen : Option (Option (Operation T)) → NameStatus
+  operation_seen o = status_by (λ (x : Operation T). operation_status x.kind x.message x.poll_state) o
 
-  woken_send : (line : Line) (m : Option T) (s : Standing) → is_woken_on line (send_post m s) ≡ true → is_woken s ≡ true
+  woken_send : (line : Line) (m : Option T) (s : PollState) → is_woken_on line (send_status m s) ≡ true → is_woken s ≡ true
   woken_send line None Rests e = no e
   woken_send line None (Waits key woken) e = no e
   woken_send line None (IsPolled brings) e = no e
-  woken_send line (Some m) s e = woken_post line Sends s e
+  woken_send line (Some m) s e = woken_status line Sends s e
 
-  woken_kind : (line : Line) (k : OperationKind) (m : Option T) (s : Standing) → is_woken_on line (operation_post k m s) ≡ true → is_woken s ≡ true
+  woken_kind : (line : Line) (k : OperationKind) (m : Option T) (s : PollState) → is_woken_on line (operation_status k m s) ≡ true → is_woken s ≡ true
   woken_kind line kind.Send m s e = woken_send line m s e
-  woken_kind line kind.Receive m s e = woken_post line Receives s e
-  woken_kind line kind.Closing m s e = woken_post line _ s e
+  woken_kind line kind.Receive m s e = woken_status line Receives s e
+  woken_kind line kind.Closing m s e = woken_status line _ s e
 
   woken_operation : (line : Line) (o : Option (Operation T)) → is_woken_on line (operation_seen (Some o)) ≡ true → operation_stands is_woken o ≡ true
   woken_operation line None e = no e
-  woken_operation line (Some x) e = woken_kind line x.kind x.message x.standing e
+  woken_operation line (Some x) e = woken_kind line x.kind x.message x.poll_state e
 
   -- those of a line who are woken are no more than all who are
-  few_woken : (line : Line) (r : Roll T) → AreApart r → woken_on line r ≤ how_many is_woken r
+  few_woken : (line : Line) (r : NameTable T) → AreApart r → woken_on line r ≤ how_many is_woken r
   few_woken line r apart =
-      let p : Waiter → Bool = λ w. is_woken_on line (post r w) in
+      let p : Waiter → Bool = λ w. is_woken_on line (status r w) in
       let op_name : ℕ → Waiter = λ n. Op (record { 0 = n }) in
       let stream_name : ℕ → Waiter = λ n. Stream (record { 0 = n }) in
       let a = few_named p (operation_stands is_woken) op_name r.operations
@@ -224,26 +224,26 @@ module _ {T : Type 0} where
       (sym (lookup-from_Contains nat_eq_equiv e.0 e.1 r.operations apart.operations there)) ∙ woken))) in
       let b = few_named p (stream_stands is_woken) stream_name r.handles
       (all_from _ r.handles (λ e there woken.
-      woken_handle line e.1 (ap (λ (o : Option (Option Hold)). is_woken_on line (handle_seen o))
+      woken_handle line e.1 (ap (λ (o : Option (Option HandleEntry)). is_woken_on line (handle_seen o))
       (sym (lookup-from_Contains nat_eq_equiv e.0 e.1 r.handles apart.handles there)) ∙ woken))) in
       let both = count_both p (map op_name (keys_of r.operations)) (map stream_name (keys_of r.handles)) in
       omega (arith, a, b, both)
 
-  asleep_kind : (line : Line) (key : Key) (k : OperationKind) (m : Option T) (s : Standing) → Sleeps line key (operation_post k m s)
+  asleep_kind : (line : Line) (key : Key) (k : OperationKind) (m : Option T) (s : PollState) → Sleeps line key (operation_status k m s)
       → (is_woken s ≡ false) × (stands_pending s ≡ true)
   asleep_kind line key kind.Send None Rests e = cc e
   asleep_kind line key kind.Send None (Waits k woken) e = cc e
   asleep_kind line key kind.Send None (IsPolled brings) e = cc e
-  asleep_kind line key kind.Send (Some m) s e = asleep_post line Sends key s e
-  asleep_kind line key kind.Receive m s e = asleep_post line Receives key s e
-  asleep_kind line key kind.Closing m s e = asleep_post line _ key s e
+  asleep_kind line key kind.Send (Some m) s e = asleep_status line Sends key s e
+  asleep_kind line key kind.Receive m s e = asleep_status line Receives key s e
+  asleep_kind line key kind.Closing m s e = asleep_status line _ key s e
 
   woken_stands : (o : Option (Operation T)) → operation_stands is_woken o ≡ true → operation_stands stands_pending o ≡ true
   woken_stands None e = e
-  woken_stands (Some x) e = pends x.standing e
+  woken_stands (Some x) e = pends x.poll_state e
 
   -- so more are pending than were woken
-  more_pending : (line : Line) (name : Waiter) (r : Roll T) → IsUnwoken line name r → suc (how_many is_woken r) ≤ how_many stands_pending r
+  more_pending : (line : Line) (name : Waiter) (r : NameTable T) → IsUnwoken line name r → suc (how_many is_woken r) ≤ how_many stands_pending r
   more_pending line (Op op) r (key, e) = by (lookup (nat_eq op.0) r.operations) refl e
     where
       by : (o : Option (Option (Operation T))) → lookup (nat_eq op.0) r.operations ≡ o → Sleeps line key (operation_seen o)
@@ -251,25 +251,25 @@ module _ {T : Type 0} where
       by None there e = cc e
       by (Some None) there e = cc e
       by (Some (Some x)) there e =
-          let so = asleep_kind line key x.kind x.message x.standing e in
+          let so = asleep_kind line key x.kind x.message x.poll_state e in
           let more = one_more (operation_stands is_woken) (operation_stands stands_pending) woken_stands op.0 (Some x) r.operations there so.0 so.1 in
-          let others = count_more (λ (f : ℕ × Option Hold). stream_stands is_woken f.1) (λ (f : ℕ × Option Hold). stream_stands stands_pending f.1)
+          let others = count_more (λ (f : ℕ × Option HandleEntry). stream_stands is_woken f.1) (λ (f : ℕ × Option HandleEntry). stream_stands stands_pending f.1)
           (λ f k. woken_streams f.1 k) r.handles in
           omega (arith, more, others)
   more_pending line (Stream handle) r (key, e) = by (lookup (nat_eq handle.0) r.handles) refl e
     where
-      by : (o : Option (Option Hold)) → lookup (nat_eq handle.0) r.handles ≡ o → Sleeps line key (handle_seen o)
+      by : (o : Option (Option HandleEntry)) → lookup (nat_eq handle.0) r.handles ≡ o → Sleeps line key (handle_seen o)
           → suc (how_many is_woken r) ≤ how_many stands_pending r
       by None there e = cc e
       by (Some None) there e = cc e
       by (Some (Some x)) there e =
-          let so = asleep_stream line key x.handle.kind x.standing e in
+          let so = asleep_stream line key x.handle.kind x.poll_state e in
           let more = one_more (stream_stands is_woken) (stream_stands stands_pending) woken_streams handle.0 (Some x) r.handles there so.0 so.1 in
           let others = count_more (λ (f : ℕ × Option (Operation T)). operation_stands is_woken f.1) (λ (f : ℕ × Option (Operation T)). operation_stands stands_pending f.1)
           (λ f k. woken_stands f.1 k) r.operations in
           omega (arith, more, others)
 
-  together_many : (p : Waiter → Post) (agents : List (Agent T)) (us : List (Under T Waiter)) → Together p agents us → length us ≡ length agents
+  together_many : (p : Waiter → NameStatus) (agents : List (Agent T)) (us : List (ActiveCall T Waiter)) → Together p agents us → length us ≡ length agents
   together_many p [] [] t = refl
   together_many p [] (u ∷ us) t = absurd t
   together_many p (a ∷ agents) [] t = absurd t
@@ -280,39 +280,39 @@ module _ {T : Type 0} where
   none_unannounced (p ∷ ps) [] e = refl
   none_unannounced (p ∷ ps) (d ∷ ds) e = absurd (omega (arith, e))
 
-  module _ (w : Floor T) (k : Stands w) (apart : AreApart w.roll) where
-    owed : Owed (sight_of w)
+  module _ (w : WorldState T) (k : Stands w) (apart : AreApart w.name_table) where
+    owed : Owed (observation_of w)
     owed = k.stands.owed
 
     doings_many : length w.doings.items ≡ calls_in w
     doings_many =
-        let noted = ap (λ (ds : List Doing). length ds) k.stands.shown.doings ∙ length-map k.scene.under_way (λ (u : Under T Waiter). doing_of u) in
-        let together = together_many _ w.agents.items k.scene.under_way k.stands.kept.owned.together in
+        let noted = ap (λ (ds : List Doing). length ds) k.stands.shown.doings ∙ length-map k.configuration.under_way (λ (u : ActiveCall T Waiter). doing_of u) in
+        let together = together_many _ w.agents.items k.configuration.under_way k.stands.kept.owned.together in
         noted ∙ together
 
-    few_at_work : (sight_of w).sending + (sight_of w).receiving ≤ calls_in w
+    few_at_work : (observation_of w).sending + (observation_of w).receiving ≤ calls_in w
     few_at_work = let few = few_roles w.doings.items in let many = doings_many in omega (arith, few, many)
 
-    few_sending : (sight_of w).sending ≤ calls_in w
+    few_sending : (observation_of w).sending ≤ calls_in w
     few_sending = let few = few_at_work in omega (arith, few)
 
-    few_closers : (sight_of w).closers ≤ calls_in w
+    few_closers : (observation_of w).closers ≤ calls_in w
     few_closers = let few = count_by-le-length (λ (d : Doing). d.has_closed) w.doings.items in let many = doings_many in omega (arith, few, many)
 
     pub receives_answered : ReceivesAreAnswered (view_of w)
     receives_answered name asleep =
         let o = owed in
         let most = o.receives name asleep in
-        let woken = few_woken Receives w.roll apart in
+        let woken = few_woken Receives w.name_table apart in
         let calls = few_at_work in
         omega (arith, most, woken, calls)
 
     pub sends_answered : SendsAreAnswered (view_of w)
     sends_answered name asleep is_open =
         let o = owed in
-        let woken = few_woken Sends w.roll apart in
+        let woken = few_woken Sends w.name_table apart in
         let calls = few_sending in
-        more_places (sight_of w).capacity _ _ (omega (arith, woken, calls)) (o.sends name asleep is_open)
+        more_places (observation_of w).capacity _ _ (omega (arith, woken, calls)) (o.sends name asleep is_open)
 
     pub streams_answered : StreamsAreAnswered (view_of w)
     streams_answered name asleep some =
@@ -343,7 +343,7 @@ module _ {T : Type 0} where
         let freed = none_unannounced w.parties.items w.doings.items (doings_many ∙ quiet) in
         record {
           none = λ name asleep.
-              none_fits (sight_of w).capacity (messages_in w) _ (omega (arith, quiet, none, freed)) fits (sends_answered name asleep is_open);
+              none_fits (observation_of w).capacity (messages_in w) _ (omega (arith, quiet, none, freed)) fits (sends_answered name asleep is_open);
         }
 
     pub nobody_on_a_closed : NobodySleepsOnAClosed (view_of w)
@@ -353,5 +353,5 @@ module _ {T : Type 0} where
 
     pub all_awake : AllAreAwake (view_of w)
     all_awake same line = record {
-      none = λ name asleep. let more = more_pending line name w.roll asleep in omega (arith, more, same);
+      none = λ name asleep. let more = more_pending line name w.name_table asleep in omega (arith, more, same);
     }

@@ -7,31 +7,31 @@ use Rattle.channel_model.specs.declared.refusal.WorldRefusal.{WorldRefusal}
 use Rattle.channel_model.specs.declared.run.Done.{Done}
 use Rattle.channel_model.specs.declared.run.Stopped.{Stopped}
 use Rattle.channel_steps.proofs.Interface.{run_entries}
-use Rattle.channel_interleaving.specs.Floor.{Stands}
-use Rattle.channel_interleaving.specs.Run.{Book, StopsAt}
+use Rattle.channel_interleaving.specs.WorldState.{Stands}
+use Rattle.channel_interleaving.specs.Run.{NameState, StopsAt}
 use Rattle.channel_interleaving.specs.Runs.{LeadsBy, RanTo}
-use Rattle.channel_interleaving.specs.declared.floor.Floor.{Floor}
+use Rattle.channel_interleaving.specs.declared.world_state.WorldState.{WorldState}
 use Rattle.channel_interleaving.specs.declared.step.Entry.{Entry}
 use Rattle.channel_interleaving.specs.declared.step.Step.{Step}
 
 module _ {T : Type 0} where
   -- where it did not stop the list is used up
-  pub all_used_up : (b : Book T) (left : List (Step T)) (made : ℕ) (stopped : Option Stopped) → StopsAt b left made stopped → stopped ≡ None → left ≡ []
+  pub all_used_up : (b : NameState T) (left : List (Step T)) (made : ℕ) (stopped : Option Stopped) → StopsAt b left made stopped → stopped ≡ None → left ≡ []
   all_used_up b left made None stops e = stops
   all_used_up b left made (Some s) stops e = cc e
 
   -- where it did, the place says how many were made
-  pub place_is : (b : Book T) (left : List (Step T)) (made : ℕ) (stopped : Option Stopped) → StopsAt b left made stopped
+  pub place_is : (b : NameState T) (left : List (Step T)) (made : ℕ) (stopped : Option Stopped) → StopsAt b left made stopped
       → IfSome stopped (λ s. s.place ≡ made)
   place_is b left made None stops = tt
   place_is b [] made (Some s) stops = absurd stops
   place_is b (x ∷ left) made (Some s) stops = stops.0
 
   -- the steps that were made and those that are left are all
-  pub all_made : (steps left : List (Step T)) (old : Floor T) (trace : List (Entry T)) (new : Floor T) → RanTo steps left old trace new
+  pub all_made : (steps left : List (Step T)) (old : WorldState T) (trace : List (Entry T)) (new : WorldState T) → RanTo steps left old trace new
       → Stands old → length trace + length left ≡ length steps
   all_made steps left old trace new ran before =
-      let r = ran before.scene before.stands in
+      let r = ran before.configuration before.stands in
       let entries = run_entries LeadsBy _ r.made trace _ r.run in
       let all = ap (λ (xs : List (Step T)). length xs) r.first in
       let both = length-append r.made left in

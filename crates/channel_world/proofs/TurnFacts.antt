@@ -1,4 +1,4 @@
--- What leaves and what comes in a run, step by step; and with no call under way the state that the scene at its end is.
+-- What leaves and what comes in a run, step by step; and with no call under way the state that the configuration at its end is.
 use Rattle.std.proofs.Common.{arith, ◌≡◌, ℕ, zero, suc, ◌+◌, ◌<◌, List, [], ◌∷◌, ◌++◌, map, length, slice_get, Option, None, Some, Err, refl, sym, ap, ◌∙◌, subst, append-nil, append_assoc}
 use Rattle.std.proofs.Math.Nat.{zero-add, suc-add}
 use Rattle.std.proofs.lemmas.List.{map-append}
@@ -15,12 +15,12 @@ use Rattle.channel_model.specs.State.{State}
 use Rattle.channel_model.specs.declared.name.Waiter.{Waiter}
 use Rattle.channel_steps.specs.Answers.{Row, Keeps}
 use Rattle.channel_steps.specs.Moments.{MarkedMoment}
-use Rattle.channel_steps.specs.Run.{EachStep, IsRun, Next, NextScene, end_of}
-use Rattle.channel_steps.specs.Scene.{Under, Scene, MayFinish}
+use Rattle.channel_steps.specs.Run.{EachStep, IsRun, Next, NextConfiguration, end_of}
+use Rattle.channel_steps.specs.Configuration.{ActiveCall, Configuration, MayFinish}
 use Rattle.channel_steps.specs.declared.party.Entry.{Entry as ChannelEntry}
 use Rattle.channel_steps.specs.declared.run.Step.{Step as ChannelStep}
 use Rattle.channel_steps.specs.declared.run.Step.TheVariants as step
-use Rattle.channel_interleaving.specs.declared.floor.Floor.{Floor}
+use Rattle.channel_interleaving.specs.declared.world_state.WorldState.{WorldState}
 use Rattle.channel_interleaving.proofs.Interface.{none_under_way}
 use Rattle.channel_world.specs.InTurn.{KeepsItOut, EndsWithItOut, StandsAsItsState, HasItsAccounts, LeaveInTurn, LaterLeavesLater, OfOnePartyInTurn, RefusedIsKeptOut, let_in, let_out, all_let_in, all_let_out, AllKeptOut, left_on, brought_on, accepted_on}
 use Rattle.channel_world.proofs.Opening.{at_rest_is}
@@ -53,15 +53,15 @@ module _ {T : Type 0} where
 
   -- ---- the accounts of a run
 
-  step_accounts : (s : Scene T Waiter) (x : ChannelStep T Waiter) (e : ChannelEntry T) (names : List Waiter) (t : Scene T Waiter)
+  step_accounts : (s : Configuration T Waiter) (x : ChannelStep T Waiter) (e : ChannelEntry T) (names : List Waiter) (t : Configuration T Waiter)
       (n : Next s x e names t)
       → let_out s x e names t n ++ t.now.queue.items ≡ s.now.queue.items ++ messages_of (let_in s x e names t n)
   step_accounts s (step.Begin p a) e names t n =
       ap (λ (c : Channel T Waiter). c.queue.items) n.0.now ∙ sym (append-nil s.now.queue.items)
   step_accounts s (step.Step p) e names t n = n.held ∙ ap (λ (ms : List T). s.now.queue.items ++ ms) (sym (unnamed p _))
 
-  each_accounts : (s : Scene T Waiter) (xs : List (ChannelStep T Waiter)) (es : List (ChannelEntry T)) (ns : List (Scene T Waiter))
-      (h : EachStep NextScene s xs es ns)
+  each_accounts : (s : Configuration T Waiter) (xs : List (ChannelStep T Waiter)) (es : List (ChannelEntry T)) (ns : List (Configuration T Waiter))
+      (h : EachStep NextConfiguration s xs es ns)
       → all_let_out s xs es ns h ++ (end_of s ns).now.queue.items ≡ s.now.queue.items ++ messages_of (all_let_in s xs es ns h)
   each_accounts s [] [] [] h = sym (append-nil s.now.queue.items)
   each_accounts s (x ∷ xs) (e ∷ es) (n ∷ ns) h =
@@ -80,10 +80,10 @@ module _ {T : Type 0} where
   each_accounts s (x ∷ xs) [] ns h = absurd h
   each_accounts s (x ∷ xs) (e ∷ es) [] h = absurd h
 
-  pub run_accounts : {s t : Scene T Waiter} {xs : List (ChannelStep T Waiter)} {es : List (ChannelEntry T)} (run : IsRun NextScene s xs es t)
+  pub run_accounts : {s t : Configuration T Waiter} {xs : List (ChannelStep T Waiter)} {es : List (ChannelEntry T)} (run : IsRun NextConfiguration s xs es t)
       → left_on run ++ t.now.queue.items ≡ accepted_on run
   run_accounts {s} {t} {xs} {es} run =
-      ap (λ (u : Scene T Waiter). left_on run ++ u.now.queue.items) (sym run.ends) ∙ each_accounts s xs es run.moments run.each
+      ap (λ (u : Configuration T Waiter). left_on run ++ u.now.queue.items) (sym run.ends) ∙ each_accounts s xs es run.moments run.each
 
   -- ---- a call that refuses its message
 
@@ -105,20 +105,20 @@ module _ {T : Type 0} where
   out_of (ask.RefusePoll line message key) ds seen r k h keeps = (h.0, ap (λ (x : Kept T). x.message) keeps)
   out_of a ds seen r k h keeps = tt
 
-  ends_out : (u : Under T Waiter) (o : Option (Reply T)) (left : Option (Kept T)) → MayFinish u o left
+  ends_out : (u : ActiveCall T Waiter) (o : Option (Reply T)) (left : Option (Kept T)) → MayFinish u o left
       → (r : Reply T) → o ≡ Some r → (k : Kept T) × (left ≡ Some k) × KeepsItOut u.ask u.marks r k
   ends_out u None left f r e = absurd (let no : None ≡ Some r = e in cc)
   ends_out u (Some x) left f r e =
       let same : x ≡ r = cc e in
       (f.kept, f.given, subst (λ (y : Reply T). KeepsItOut u.ask u.marks y f.kept) same (out_of u.ask u.marks f.met.1 x f.kept f.met.3 f.keeps))
 
-  step_out : (s : Scene T Waiter) (x : ChannelStep T Waiter) (e : ChannelEntry T) (names : List Waiter) (t : Scene T Waiter)
+  step_out : (s : Configuration T Waiter) (x : ChannelStep T Waiter) (e : ChannelEntry T) (names : List Waiter) (t : Configuration T Waiter)
       (n : Next s x e names t) → EndsWithItOut s x e names t n
   step_out s (step.Begin p a) e names t n = tt
   step_out s (step.Step p) e names t n = ends_out _ e.reply e.kept n.finishes
 
-  each_out : (s : Scene T Waiter) (xs : List (ChannelStep T Waiter)) (es : List (ChannelEntry T)) (ns : List (Scene T Waiter))
-      (h : EachStep NextScene s xs es ns) → AllKeptOut s xs es ns h
+  each_out : (s : Configuration T Waiter) (xs : List (ChannelStep T Waiter)) (es : List (ChannelEntry T)) (ns : List (Configuration T Waiter))
+      (h : EachStep NextConfiguration s xs es ns) → AllKeptOut s xs es ns h
   each_out s [] [] [] h = tt
   each_out s (x ∷ xs) (e ∷ es) (n ∷ ns) h = (step_out s x e h.0.0 n h.0.1, each_out n xs es ns h.1)
   each_out s [] [] (n ∷ ns) h = absurd h
@@ -128,7 +128,7 @@ module _ {T : Type 0} where
 
   -- ---- at rest
 
-  pub stands_as_its_state : (w : Floor T) → StandsAsItsState (view_of w)
+  pub stands_as_its_state : (w : WorldState T) → StandsAsItsState (view_of w)
   stands_as_its_state w quiet s stands =
       let same = sym (at_rest_is w s stands.shown quiet) in
       record {
@@ -140,7 +140,7 @@ module _ {T : Type 0} where
         receivers = ap (λ (x : State T). x.channel.receivers) same;
       }
 
-  pub has_its_accounts : (w : Floor T) → HasItsAccounts (view_of w)
+  pub has_its_accounts : (w : WorldState T) → HasItsAccounts (view_of w)
   has_its_accounts w quiet s replies led =
       let state = stands_as_its_state w quiet led.last led.stands in
       ap (λ (ms : List T). left_on led.way.run ++ ms) (sym state.messages) ∙ run_accounts led.way.run

@@ -4,12 +4,12 @@ use Rattle.channel_calls.specs.declared.reply.Reply.{Reply}
 use Rattle.channel_alone.specs.Alone.{Outcome, Alone}
 use Rattle.channel_interleaving.proofs.Interface.{none_under_way, no_agents}
 use Rattle.channel_interleaving.specs.Bookkeeping.{asks}
-use Rattle.channel_interleaving.specs.Floor.{book_of, Shown, IsKept, IsQuiet}
-use Rattle.channel_interleaving.specs.Kept.{AllKept}
-use Rattle.channel_interleaving.specs.Lone.{book_alone, CallsAlone, WakesAtMost}
+use Rattle.channel_interleaving.specs.WorldState.{name_state_of, Shown, IsKept, IsQuiet}
+use Rattle.channel_interleaving.specs.Kept.{WorldInvariant}
+use Rattle.channel_interleaving.specs.Lone.{name_state_alone, CallsAlone, WakesAtMost}
 use Rattle.channel_interleaving.specs.Refusal as names
-use Rattle.channel_interleaving.specs.Run.{Book}
-use Rattle.channel_interleaving.specs.declared.floor.Floor.{Floor}
+use Rattle.channel_interleaving.specs.Run.{NameState}
+use Rattle.channel_interleaving.specs.declared.world_state.WorldState.{WorldState}
 use Rattle.channel_model.specs.Refusal.{refusal}
 use Rattle.channel_model.specs.Refused.{Answers}
 use Rattle.channel_model.specs.State.{State}
@@ -18,35 +18,35 @@ use Rattle.channel_model.specs.declared.name.Waiter.{Waiter}
 use Rattle.channel_model.specs.declared.run.Done.{Done}
 use Rattle.channel_rest.specs.Lone.{RefusalsAgree, LoneCallsAnswer}
 use Rattle.channel_rest.specs.Rest.{state_at}
-use Rattle.channel_steps.specs.Scene.{Scene}
+use Rattle.channel_steps.specs.Configuration.{Configuration}
 use Rattle.channel_world.specs.World.{at_rest, most_woken}
 use Rattle.channel_world.proofs.Few.{few_woken}
 use Rattle.channel_world.proofs.Opening.{at_rest_is}
 
 module _ {T : Type 0} where
-  module _ (agree : RefusalsAgree T) (f : Floor T) (kept : IsKept f) (quiet : IsQuiet f) (c : Call T) where
+  module _ (agree : RefusalsAgree T) (f : WorldState T) (kept : IsKept f) (quiet : IsQuiet f) (c : Call T) where
     abbrev nobody : f.agents.items ≡ []
     nobody = no_agents f kept.at_work quiet
 
     -- why a call is refused
-    pub refused_alike : names.begin_refusal f.roll c ≡ refusal (at_rest f) c
+    pub refused_alike : names.begin_refusal f.name_table c ≡ refusal (at_rest f) c
     refused_alike =
         let o = kept.listeners in
-        agree (book_of f) o.scene c o.kept nobody
-        ∙ ap (λ (x : State T). refusal x c) (sym (at_rest_is f o.scene o.shown quiet))
+        agree (name_state_of f) o.configuration c o.kept nobody
+        ∙ ap (λ (x : State T). refusal x c) (sym (at_rest_is f o.configuration o.shown quiet))
 
     module _ (answer : LoneCallsAnswer T) (fine : refusal (at_rest f) c ≡ None) where
-      accepted : names.begin_refusal f.roll c ≡ None
+      accepted : names.begin_refusal f.name_table c ≡ None
       accepted = refused_alike ∙ fine
 
       -- whatever it does alone, the model allows
-      allowed : (s t : Scene T Waiter) (o : Outcome T Waiter) → Shown f s → AllKept (book_of f) s
-          → Alone (asks f.roll c) s.now o → t.now ≡ o.channel
-          → Answers (at_rest f) c (record { after = state_at (book_alone (book_of f) c o) t; reply = o.reply; woken = o.woken })
+      allowed : (s t : Configuration T Waiter) (o : Outcome T Waiter) → Shown f s → WorldInvariant (name_state_of f) s
+          → Alone (asks f.name_table c) s.now o → t.now ≡ o.channel
+          → Answers (at_rest f) c (record { after = state_at (name_state_alone (name_state_of f) c o) t; reply = o.reply; woken = o.woken })
       allowed s t o sh k alone now =
           let a =
-          answer (book_of f) s t c o k nobody (none_under_way f s quiet sh) accepted alone now in
-          subst (λ (x : State T). Answers x c (record { after = state_at (book_alone (book_of f) c o) t; reply = o.reply; woken = o.woken }))
+          answer (name_state_of f) s t c o k nobody (none_under_way f s quiet sh) accepted alone now in
+          subst (λ (x : State T). Answers x c (record { after = state_at (name_state_alone (name_state_of f) c o) t; reply = o.reply; woken = o.woken }))
           (sym (at_rest_is f s sh quiet)) a
 
       -- it wakes no more than there is room for
@@ -56,18 +56,18 @@ module _ {T : Type 0} where
           let woken = few_woken (at_rest f) c _ a in
           omega (arith, woken, most)
 
-      pub call_answers : (g : Floor T) (x : Reply T) (woken : List Waiter) → IsQuiet g → CallsAlone c f x woken g
+      pub call_answers : (g : WorldState T) (x : Reply T) (woken : List Waiter) → IsQuiet g → CallsAlone c f x woken g
           → Answers (at_rest f) c (record { after = at_rest g; reply = x; woken = woken })
       call_answers g x woken still called =
           let k = kept.listeners in
-          let d = called k.scene k.shown k.kept in
-          let a = allowed k.scene d.after d.outcome k.shown k.kept d.alone d.now in
-          let after : at_rest g ≡ state_at (book_alone (book_of f) c d.outcome) d.after =
-          at_rest_is g d.after d.shown still ∙ ap (λ (b : Book T). state_at b d.after) d.book in
+          let d = called k.configuration k.shown k.kept in
+          let a = allowed k.configuration d.after d.outcome k.shown k.kept d.alone d.now in
+          let after : at_rest g ≡ state_at (name_state_alone (name_state_of f) c d.outcome) d.after =
+          at_rest_is g d.after d.shown still ∙ ap (λ (b : NameState T). state_at b d.after) d.name_state in
           rw (after, d.reply, d.woken) a
 
       -- where it was made
-      pub answers_whatever : (g : Floor T) (result : Result (Done T) (Call T)) → IsQuiet g
+      pub answers_whatever : (g : WorldState T) (result : Result (Done T) (Call T)) → IsQuiet g
           → IfOk result (λ (d : Done T). CallsAlone c f d.reply d.woken.items g)
           → IfOk result (λ (d : Done T). Answers (at_rest f) c (record { after = at_rest g; reply = d.reply; woken = d.woken.items }))
       answers_whatever g (Ok d) still called = call_answers g d.reply d.woken.items still called

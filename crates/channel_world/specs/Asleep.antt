@@ -8,9 +8,9 @@ use Rattle.channel_model.specs.Lines.{untold}
 use Rattle.channel_model.specs.declared.name.Waiter.{Waiter}
 use Rattle.channel_interleaving.specs.Owed.{IsUnwoken, woken_on}
 use Rattle.channel_interleaving.specs.Pending.{stands_pending, how_many}
-use Rattle.channel_interleaving.specs.Roll.{is_woken}
+use Rattle.channel_interleaving.specs.NameTable.{is_woken}
 use Rattle.channel_world.specs.Kinds.{pending_on_line}
-use Rattle.channel_world.specs.View.{names_in, messages_in, capacity_in, is_closed, calls_in, taken_in, at_rest, sight_of, IsQuiet, WorldView}
+use Rattle.channel_world.specs.View.{names_in, messages_in, capacity_in, is_closed, calls_in, taken_in, at_rest, observation_of, IsQuiet, WorldView}
 
 -- one more message fits: always, where there is no bound
 abbrev pub HasAPlace : Option ℕ → ℕ → Type 0
@@ -40,7 +40,7 @@ module _ {T : Type 0} where
   abbrev pub SendsAreAnswered : WorldView T → Type 0
   SendsAreAnswered w =
       (name : Waiter) → IsUnwoken Sends name (names_in w) → is_closed w ≡ false
-      → HasPlaces (capacity_in w) (messages_in w + (woken_among w + (calls_in w + (sight_of w).freed)))
+      → HasPlaces (capacity_in w) (messages_in w + (woken_among w + (calls_in w + (observation_of w).freed)))
 
   -- where a stream sleeps beside a message a call is under way
   abbrev pub StreamsAreAnswered : WorldView T → Type 0
@@ -56,22 +56,22 @@ module _ {T : Type 0} where
   -- no receive sleeps where more messages are held than receives are woken and calls sending or receiving,
   abbrev pub NoReceiveSleeps : WorldView T → Type 0
   NoReceiveSleeps w =
-      woken_on Receives (names_in w) + ((sight_of w).sending + (sight_of w).receiving) < messages_in w → NobodySleeps Receives w
+      woken_on Receives (names_in w) + ((observation_of w).sending + (observation_of w).receiving) < messages_in w → NobodySleeps Receives w
 
   -- no send on an open channel where more fits than messages, woken sends, sending calls, and messages that calls have taken
   abbrev pub NoSendSleeps : WorldView T → Type 0
   NoSendSleeps w =
       is_closed w ≡ false
-      → HasAPlace (capacity_in w) (messages_in w + (woken_on Sends (names_in w) + ((sight_of w).sending + taken_in w)))
+      → HasAPlace (capacity_in w) (messages_in w + (woken_on Sends (names_in w) + ((observation_of w).sending + taken_in w)))
       → NobodySleeps Sends w
 
   -- no stream beside a message where no call is sending,
   abbrev pub NoStreamSleeps : WorldView T → Type 0
-  NoStreamSleeps w = (sight_of w).sending ≡ 0 → 0 < messages_in w → NobodySleeps Streams w
+  NoStreamSleeps w = (observation_of w).sending ≡ 0 → 0 < messages_in w → NobodySleeps Streams w
 
   -- nobody on a closed channel where no call has closed it,
   abbrev pub NobodySleepsWhereClosed : WorldView T → Type 0
-  NobodySleepsWhereClosed w = (sight_of w).closers ≡ 0 → is_closed w ≡ true → (line : Line) → NobodySleeps line w
+  NobodySleepsWhereClosed w = (observation_of w).closers ≡ 0 → is_closed w ≡ true → (line : Line) → NobodySleeps line w
 
   -- and nobody on a line of which as many are woken as are pending
   abbrev pub ALineIsAwake : WorldView T → Type 0

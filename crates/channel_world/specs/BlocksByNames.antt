@@ -15,9 +15,9 @@ use Rattle.channel_interleaving.specs.AskedBy.{IsOrListens}
 use Rattle.channel_interleaving.specs.Bookkeeping.{asks}
 use Rattle.channel_interleaving.specs.declared.names.OperationKind.{OperationKind}
 use Rattle.channel_interleaving.specs.declared.names.OperationKind.TheVariants as kind
-use Rattle.channel_interleaving.specs.declared.names.Standing.{Standing}
-use Rattle.channel_interleaving.specs.declared.names.Standing.TheVariants.{Rests, Waits}
-use Rattle.channel_interleaving.specs.declared.roll.Roll.{Roll}
+use Rattle.channel_interleaving.specs.declared.names.PollState.{PollState}
+use Rattle.channel_interleaving.specs.declared.names.PollState.TheVariants.{Rests, Waits}
+use Rattle.channel_interleaving.specs.declared.name_table.NameTable.{NameTable}
 
 module _ {T : Type 0} where
   abbrev pub kind_of : Blocked T → OperationKind
@@ -25,16 +25,16 @@ module _ {T : Type 0} where
   kind_of blocked.Receive = kind.Receive
 
   -- an operation with the message of a call that blocks lives under this name, and stands so
-  pub record StandsFor (b : Blocked T) (standing : Standing) (op : OpId) (r : Roll T) : Type 0 where
+  pub record StandsFor (b : Blocked T) (poll_state : PollState) (op : OpId) (r : NameTable T) : Type 0 where
     pub handle : HandleId
     pub lives : at op.0 r.operations
-        ≡ Some (record { kind = kind_of b; handle = handle; message = message_of (waiting_of b); standing = standing })
+        ≡ Some (record { kind = kind_of b; handle = handle; message = message_of (waiting_of b); poll_state = poll_state })
 
 -- Where the operation isn't pending its poll is the call's first poll. Where it is pending, woken or not, its poll is the one that the
 -- call makes when it has woken, but that this asks the listener first; and so is the poll that is refused its task.
 pub record PollsByName (T : Type 0) : Type 0 where
-  pub first : (b : Blocked T) (op : OpId) (r : Roll T) → StandsFor b Rests op r → asks r (Poll op) ≡ first_poll b (Op op)
-  pub next : (b : Blocked T) (op : OpId) (r : Roll T) (key : Key) (is_woken : Bool) → StandsFor b (Waits key is_woken) op r
+  pub first : (b : Blocked T) (op : OpId) (r : NameTable T) → StandsFor b Rests op r → asks r (Poll op) ≡ first_poll b (Op op)
+  pub next : (b : Blocked T) (op : OpId) (r : NameTable T) (key : Key) (is_woken : Bool) → StandsFor b (Waits key is_woken) op r
       → IsOrListens (asks r (Poll op)) (poll_woken b key (Op op))
-  pub refused : (b : Blocked T) (op : OpId) (r : Roll T) (key : Key) (is_woken : Bool) → StandsFor b (Waits key is_woken) op r
+  pub refused : (b : Blocked T) (op : OpId) (r : NameTable T) (key : Key) (is_woken : Bool) → StandsFor b (Waits key is_woken) op r
       → asks r (PollRefused op) ≡ poll_refused b key

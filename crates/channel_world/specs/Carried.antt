@@ -4,7 +4,7 @@ use Rattle.channel_calls.specs.declared.reply.Reply.{Reply}
 use Rattle.channel_model.specs.declared.name.Waiter.{Waiter}
 use Rattle.channel_model.specs.declared.run.CallRun.{CallRun}
 use Rattle.channel_model.specs.declared.run.Done.{Done}
-use Rattle.channel_steps.specs.Scene.{Scene}
+use Rattle.channel_steps.specs.Configuration.{Configuration}
 use Rattle.channel_world.specs.declared.settle.Settled.{Settled}
 use Rattle.channel_world.specs.View.{messages_in, capacity_in, Stands, Led, LeadsOn, WorldView}
 
@@ -22,7 +22,7 @@ abbrev pub polls_replied : {T : Type 0} → List (Settled T) → List (Reply T)
 polls_replied {T} polls = map (λ (p : Settled T). p.reply) polls
 
 module _ {T : Type 0} where
-  -- What was done to a world led it to another one, with these replies: so it is from each scene in which it stood.
+  -- What was done to a world led it to another one, with these replies: so it is from each configuration in which it stood.
   pub record LeadsTo (old : WorldView T) (replies : List (Reply T)) (new : WorldView T) : Type 0 where
     pub on : LeadsOn old replies new
 
@@ -35,9 +35,9 @@ StaysWhereItIs T = (a : WorldView T) → LeadsTo a [] a
 abbrev pub LeadsOnInTurn : Type 0 → Type 0
 LeadsOnInTurn T = (a b c : WorldView T) (rs ss : List (Reply T)) → LeadsTo a rs b → LeadsTo b ss c → LeadsTo a (rs ++ ss) c
 
--- The same from one scene: what was led from it to a world, and leads from there to another, is led from it to that one.
+-- The same from one configuration: what was led from it to a world, and leads from there to another, is led from it to that one.
 abbrev pub LeadsFurther : Type 0 → Type 0
-LeadsFurther T = (b c : WorldView T) (s : Scene T Waiter) (rs ss : List (Reply T)) → Led s rs b → LeadsTo b ss c → Led s (rs ++ ss) c
+LeadsFurther T = (b c : WorldView T) (s : Configuration T Waiter) (rs ss : List (Reply T)) → Led s rs b → LeadsTo b ss c → Led s (rs ++ ss) c
 
 -- A world never holds more messages than its capacity, calls under way or not.
 abbrev pub HoldsWhatFits : Type 0 → Type 0

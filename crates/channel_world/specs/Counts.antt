@@ -9,10 +9,10 @@ use Rattle.channel_model.specs.declared.name.HandleKind.{HandleKind}
 use Rattle.channel_model.specs.declared.name.HandleKind.TheVariants.{Sender, Receiver}
 use Rattle.channel_model.specs.declared.name.Waiter.{Waiter}
 use Rattle.channel_steps.specs.Moments.{LeftLast}
-use Rattle.channel_steps.specs.Scene.{Under, Scene}
+use Rattle.channel_steps.specs.Configuration.{ActiveCall, Configuration}
 use Rattle.channel_interleaving.specs.Counted.{is_lowering, is_closing}
 use Rattle.channel_interleaving.specs.Owners.{All}
-use Rattle.channel_interleaving.specs.Roll.{names_of}
+use Rattle.channel_interleaving.specs.NameTable.{names_of}
 use Rattle.channel_world.specs.View.{names_in, is_closed, count_in, to_lower, to_close, at_rest, IsQuiet, StandsIn, WorldView}
 
 -- the strong handles of a side
@@ -43,14 +43,14 @@ module _ {T : Type 0} where
 
   -- Of a call under way: it is to lower the count of a side where it drops a handle of that side and has no mark yet, and only
   -- there; and it is at closing only where it drops one and its one mark is that which lowered the count from one.
-  pub record IsByDrops (side : Side) (u : Under T Waiter) : Type 0 where
+  pub record IsByDrops (side : Side) (u : ActiveCall T Waiter) : Type 0 where
     pub lowers : is_lowering side u.at ≡ true → Drops side u.ask × (u.marks ≡ [])
     pub all : Drops side u.ask → u.marks ≡ [] → is_lowering side u.at ≡ true
     pub closes : is_closing side u.at ≡ true → Drops side u.ask × LeftLast side u.marks u.seen
 
-  -- so it is of each, in each scene in which the world stands
+  -- so it is of each, in each configuration in which the world stands
   abbrev pub AreByDrops : WorldView T → Type 0
-  AreByDrops w = (s : Scene T Waiter) → StandsIn w s → (side : Side) → All (λ (u : Under T Waiter). IsByDrops side u) s.under_way
+  AreByDrops w = (s : Configuration T Waiter) → StandsIn w s → (side : Side) → All (λ (u : ActiveCall T Waiter). IsByDrops side u) s.under_way
 
   -- ---- at rest
 

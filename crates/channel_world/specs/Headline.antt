@@ -7,23 +7,23 @@ use Rattle.channel_model.specs.declared.name.Waiter.{Waiter}
 use Rattle.channel_model.specs.declared.run.Stopped.{Stopped}
 use Rattle.channel_steps.specs.Moments.{Spent}
 use Rattle.channel_steps.specs.Run.{IsRun}
-use Rattle.channel_steps.specs.Scene.{Scene}
+use Rattle.channel_steps.specs.Configuration.{Configuration}
 use Rattle.channel_laws.specs.Marked.{AddUp}
 use Rattle.channel_world.specs.Marked.{all_taken, all_brought}
 use Rattle.channel_world.specs.Sentences.{MomentSays, StepSays}
 use Rattle.channel_world.specs.StepsLeft.{EndInARow}
 use Rattle.channel_world.specs.TheEnd.{GiveNothing, NothingComesAfter}
-use Rattle.channel_world.specs.View.{book_of, moment_of, StandsIn, WorldView}
+use Rattle.channel_world.specs.View.{name_state_of, moment_of, StandsIn, WorldView}
 
 module _ {T : Type 0} where
-  -- The world `old`, standing in the scene `from`, was given the steps `steps`; `left` were left, and it became `new`. A scene is
-  -- a plain channel with its calls under way, each with the moments and the marks since its begin. That a world stands in a scene
-  -- is its invariant: whoever uses this record hands it on and need not open it.
+  -- The world `old`, standing in the configuration `from`, was given the steps `steps`; `left` were left, and it became `new`. A
+  -- configuration is a plain channel with its calls under way, each with the moments and the marks since its begin. That a world stands in
+  -- a configuration is its invariant: whoever uses this record hands it on and need not open it.
   pub record Headline (steps left : List (Step T)) (old : WorldView T) (trace : List (Entry T)) (stopped : Option Stopped)
-      (new : WorldView T) (from : Scene T Waiter) : Type 0 where
-    -- the steps that were made, and the scene at the end
+      (new : WorldView T) (from : Configuration T Waiter) : Type 0 where
+    -- the steps that were made, and the configuration at the end
     pub made : List (Step T)
-    pub to : Scene T Waiter
+    pub to : Configuration T Waiter
     pub first : steps ≡ made ++ left
     pub stands : StandsIn new to
     -- what is said of a moment is said of the first one; and what is said of a step, and of the moment after it, of each step of the
@@ -40,4 +40,4 @@ module _ {T : Type 0} where
     -- from each moment on, so in front of the list too
     pub ends_soon : EndInARow from made trace run.moments
     -- the run stops at the first step that is refused, which stays in front, for the first reason that there is
-    pub stops : StopsAt (book_of new) left (length trace) stopped
+    pub stops : StopsAt (name_state_of new) left (length trace) stopped

@@ -1,5 +1,5 @@
--- What leaves and what comes in any run from one scene to another, by lists of steps, lists of calls and settlings in turn: message by
--- message, each with the party whose call brought it; in which order they leave, and what becomes of a refused one.
+-- What leaves and what comes in any run from one configuration to another, by lists of steps, lists of calls and settlings in turn: message
+-- by message, each with the party whose call brought it; in which order they leave, and what becomes of a refused one.
 use Rattle.std.specs.Prelude.{◌≡◌, ℕ, ◌+◌, ◌<◌, List, [], ◌∷◌, ◌++◌, map, length, slice_get, Some, Err}
 use Rattle.futures.specs.declared.task.Poll.TheVariants.{Ready, Pending}
 use Rattle.channel_calls.specs.Errors.{unsent, handed_back, try_handed_back}
@@ -12,8 +12,8 @@ use Rattle.channel_calls.specs.declared.stage.Kept.{Kept}
 use Rattle.channel_model.specs.State.{State}
 use Rattle.channel_model.specs.declared.name.Waiter.{Waiter}
 use Rattle.channel_steps.specs.Moments.{MarkedMoment, with_marked}
-use Rattle.channel_steps.specs.Run.{EachStep, IsRun, Next, NextScene}
-use Rattle.channel_steps.specs.Scene.{Scene, came_by, gone_by}
+use Rattle.channel_steps.specs.Run.{EachStep, IsRun, Next, NextConfiguration}
+use Rattle.channel_steps.specs.Configuration.{Configuration, came_by, gone_by}
 use Rattle.channel_steps.specs.declared.party.Entry.{Entry as ChannelEntry}
 use Rattle.channel_steps.specs.declared.run.Step.{Step as ChannelStep}
 use Rattle.channel_steps.specs.declared.run.Step.TheVariants as step
@@ -23,13 +23,13 @@ module _ {T : Type 0} where
   -- ---- one step
 
   -- what it lets in, with the party whose call brought it
-  abbrev pub let_in : (s : Scene T Waiter) (x : ChannelStep T Waiter) (e : ChannelEntry T) (names : List Waiter) (t : Scene T Waiter)
+  abbrev pub let_in : (s : Configuration T Waiter) (x : ChannelStep T Waiter) (e : ChannelEntry T) (names : List Waiter) (t : Configuration T Waiter)
       → Next s x e names t → List (ℕ × T)
   let_in s (step.Begin p a) e names t n = []
   let_in s (step.Step p) e names t n = map (λ m. (p, m)) (came_by e.mark n.mine.ask)
 
   -- what it takes out
-  abbrev pub let_out : (s : Scene T Waiter) (x : ChannelStep T Waiter) (e : ChannelEntry T) (names : List Waiter) (t : Scene T Waiter)
+  abbrev pub let_out : (s : Configuration T Waiter) (x : ChannelStep T Waiter) (e : ChannelEntry T) (names : List Waiter) (t : Configuration T Waiter)
       → Next s x e names t → List T
   let_out s (step.Begin p a) e names t n = []
   let_out s (step.Step p) e names t n = gone_by e.mark s.now.queue.items
@@ -47,7 +47,7 @@ module _ {T : Type 0} where
   KeepsItOut a ds r k = Unit {0}
 
   -- so it is of a step that ends its call
-  abbrev pub EndsWithItOut : (s : Scene T Waiter) (x : ChannelStep T Waiter) (e : ChannelEntry T) (names : List Waiter) (t : Scene T Waiter)
+  abbrev pub EndsWithItOut : (s : Configuration T Waiter) (x : ChannelStep T Waiter) (e : ChannelEntry T) (names : List Waiter) (t : Configuration T Waiter)
       → Next s x e names t → Type 0
   EndsWithItOut s (step.Begin p a) e names t n = Unit {0}
   EndsWithItOut s (step.Step p) e names t n =
@@ -56,43 +56,43 @@ module _ {T : Type 0} where
 
   -- ---- a run: what all of its steps let in, what they take out, and that each refused send is kept out
 
-  abbrev pub all_let_in : (s : Scene T Waiter) (xs : List (ChannelStep T Waiter)) (es : List (ChannelEntry T)) (ns : List (Scene T Waiter))
-      → EachStep NextScene s xs es ns → List (ℕ × T)
+  abbrev pub all_let_in : (s : Configuration T Waiter) (xs : List (ChannelStep T Waiter)) (es : List (ChannelEntry T)) (ns : List (Configuration T Waiter))
+      → EachStep NextConfiguration s xs es ns → List (ℕ × T)
   all_let_in s (x ∷ xs) (e ∷ es) (n ∷ ns) h = let_in s x e h.0.0 n h.0.1 ++ all_let_in n xs es ns h.1
   all_let_in s xs es ns h = []
 
-  abbrev pub all_let_out : (s : Scene T Waiter) (xs : List (ChannelStep T Waiter)) (es : List (ChannelEntry T)) (ns : List (Scene T Waiter))
-      → EachStep NextScene s xs es ns → List T
+  abbrev pub all_let_out : (s : Configuration T Waiter) (xs : List (ChannelStep T Waiter)) (es : List (ChannelEntry T)) (ns : List (Configuration T Waiter))
+      → EachStep NextConfiguration s xs es ns → List T
   all_let_out s (x ∷ xs) (e ∷ es) (n ∷ ns) h = let_out s x e h.0.0 n h.0.1 ++ all_let_out n xs es ns h.1
   all_let_out s xs es ns h = []
 
-  abbrev pub AllKeptOut : (s : Scene T Waiter) (xs : List (ChannelStep T Waiter)) (es : List (ChannelEntry T)) (ns : List (Scene T Waiter))
-      → EachStep NextScene s xs es ns → Type 0
+  abbrev pub AllKeptOut : (s : Configuration T Waiter) (xs : List (ChannelStep T Waiter)) (es : List (ChannelEntry T)) (ns : List (Configuration T Waiter))
+      → EachStep NextConfiguration s xs es ns → Type 0
   AllKeptOut s (x ∷ xs) (e ∷ es) (n ∷ ns) h = EndsWithItOut s x e h.0.0 n h.0.1 × AllKeptOut n xs es ns h.1
   AllKeptOut s xs es ns h = Unit {0}
 
-  module _ {s t : Scene T Waiter} {xs : List (ChannelStep T Waiter)} {es : List (ChannelEntry T)} where
-    -- What came on it, in the order of its steps, each with the party whose call brought it. A party has one call under way at a time, so of
-    -- what one party brought the order is also that of its calls.
-    abbrev pub brought_on : IsRun NextScene s xs es t → List (ℕ × T)
+  module _ {s t : Configuration T Waiter} {xs : List (ChannelStep T Waiter)} {es : List (ChannelEntry T)} where
+    -- What came on it, in the order of its steps, each with the party whose call brought it. A party has one call under way at a time, so
+    -- of what one party brought the order is also that of its calls.
+    abbrev pub brought_on : IsRun NextConfiguration s xs es t → List (ℕ × T)
     brought_on run = all_let_in s xs es run.moments run.each
 
     -- what left, in order
-    abbrev pub left_on : IsRun NextScene s xs es t → List T
+    abbrev pub left_on : IsRun NextConfiguration s xs es t → List T
     left_on run = all_let_out s xs es run.moments run.each
 
     -- what was held at first, and after it what came
-    abbrev pub accepted_on : IsRun NextScene s xs es t → List T
+    abbrev pub accepted_on : IsRun NextConfiguration s xs es t → List T
     accepted_on run = s.now.queue.items ++ map (λ (m : ℕ × T). m.1) (brought_on run)
 
     -- each refused send of it
-    abbrev pub EachKeepsItOut : IsRun NextScene s xs es t → Type 0
+    abbrev pub EachKeepsItOut : IsRun NextConfiguration s xs es t → Type 0
     EachKeepsItOut run = AllKeptOut s xs es run.moments run.each
 
   -- ---- at rest
 
-  -- with no call under way a scene is the state of the model
-  pub record IsStateOf (s : Scene T Waiter) (t : State T) : Type 0 where
+  -- with no call under way a configuration is the state of the model
+  pub record IsStateOf (s : Configuration T Waiter) (t : State T) : Type 0 where
     pub nobody : s.under_way ≡ []
     pub messages : s.now.queue.items ≡ t.channel.messages
     pub capacity : s.now.queue.capacity ≡ t.channel.capacity
@@ -102,24 +102,24 @@ module _ {T : Type 0} where
 
   -- so is each in which the world stands
   abbrev pub StandsAsItsState : WorldView T → Type 0
-  StandsAsItsState w = IsQuiet w → (s : Scene T Waiter) → StandsIn w s → IsStateOf s (at_rest w)
+  StandsAsItsState w = IsQuiet w → (s : Configuration T Waiter) → StandsIn w s → IsStateOf s (at_rest w)
 
-  -- what left since a scene, followed by the messages of the state, is what it held followed by what came
+  -- what left since a configuration, followed by the messages of the state, is what it held followed by what came
   abbrev pub HasItsAccounts : WorldView T → Type 0
   HasItsAccounts w =
-      IsQuiet w → (s : Scene T Waiter) (replies : List (Reply T)) (led : Led s replies w)
+      IsQuiet w → (s : Configuration T Waiter) (replies : List (Reply T)) (led : Led s replies w)
       → left_on led.way.run ++ (at_rest w).channel.messages ≡ accepted_on led.way.run
 
 -- What leaves as the n-th is what was held or came as the n-th.
 abbrev pub LeaveInTurn : Type 0 → Type 0
 LeaveInTurn T =
-    (s t : Scene T Waiter) (steps : List (ChannelStep T Waiter)) (trace : List (ChannelEntry T)) (run : IsRun NextScene s steps trace t)
+    (s t : Configuration T Waiter) (steps : List (ChannelStep T Waiter)) (trace : List (ChannelEntry T)) (run : IsRun NextConfiguration s steps trace t)
     (n : ℕ) → n < length (left_on run) → slice_get (left_on run) n ≡ slice_get (accepted_on run) n
 
 -- So of two messages of which one was held or came later, it has left only where the other one has, and that as an earlier one.
 abbrev pub LaterLeavesLater : Type 0 → Type 0
 LaterLeavesLater T =
-    (s t : Scene T Waiter) (steps : List (ChannelStep T Waiter)) (trace : List (ChannelEntry T)) (run : IsRun NextScene s steps trace t)
+    (s t : Configuration T Waiter) (steps : List (ChannelStep T Waiter)) (trace : List (ChannelEntry T)) (run : IsRun NextConfiguration s steps trace t)
     (i j : ℕ) (first later : T) → i < j → slice_get (accepted_on run) i ≡ Some first → slice_get (accepted_on run) j ≡ Some later
     → j < length (left_on run) → (slice_get (left_on run) i ≡ Some first) × (slice_get (left_on run) j ≡ Some later)
 
@@ -127,7 +127,7 @@ LaterLeavesLater T =
 -- left as the one that it came as, behind all that was held at first: so the first as an earlier one.
 abbrev pub OfOnePartyInTurn : Type 0 → Type 0
 OfOnePartyInTurn T =
-    (s t : Scene T Waiter) (steps : List (ChannelStep T Waiter)) (trace : List (ChannelEntry T)) (run : IsRun NextScene s steps trace t)
+    (s t : Configuration T Waiter) (steps : List (ChannelStep T Waiter)) (trace : List (ChannelEntry T)) (run : IsRun NextConfiguration s steps trace t)
     (party i j : ℕ) (first later : T) → i < j → slice_get (brought_on run) i ≡ Some (party, first)
     → slice_get (brought_on run) j ≡ Some (party, later) → length s.now.queue.items + j < length (left_on run)
     → (slice_get (left_on run) (length s.now.queue.items + i) ≡ Some first)
@@ -136,5 +136,5 @@ OfOnePartyInTurn T =
 -- No refused send lets its message in.
 abbrev pub RefusedIsKeptOut : Type 0 → Type 0
 RefusedIsKeptOut T =
-    (s t : Scene T Waiter) (steps : List (ChannelStep T Waiter)) (trace : List (ChannelEntry T)) (run : IsRun NextScene s steps trace t)
+    (s t : Configuration T Waiter) (steps : List (ChannelStep T Waiter)) (trace : List (ChannelEntry T)) (run : IsRun NextConfiguration s steps trace t)
     → EachKeepsItOut run

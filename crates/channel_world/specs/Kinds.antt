@@ -4,22 +4,22 @@ use Rattle.std.specs.List.{count_by}
 use Rattle.channel_calls.specs.declared.stage.Line.{Line}
 use Rattle.channel_model.specs.Laws.{same_line}
 use Rattle.channel_interleaving.specs.Owed.{all_names}
-use Rattle.channel_interleaving.specs.Owners.{Post, waits, posted, operation_post, stream_post, post}
+use Rattle.channel_interleaving.specs.Owners.{NameStatus, waits, status_by, operation_status, stream_status, status}
 use Rattle.channel_interleaving.specs.declared.doing.Doing.{Doing}
-use Rattle.channel_interleaving.specs.declared.names.Hold.{Hold}
+use Rattle.channel_interleaving.specs.declared.names.HandleEntry.{HandleEntry}
 use Rattle.channel_interleaving.specs.declared.names.Operation.{Operation}
 use Rattle.channel_interleaving.specs.declared.names.OperationKind.{OperationKind}
 use Rattle.channel_interleaving.specs.declared.names.OperationKind.TheVariants.{Send}
-use Rattle.channel_interleaving.specs.declared.roll.Roll.{Roll}
+use Rattle.channel_interleaving.specs.declared.name_table.NameTable.{NameTable}
 
 -- whether one that stands so is pending on this line, woken or not
-abbrev pub is_pending_on : Line → Post → Bool
+abbrev pub is_pending_on : Line → NameStatus → Bool
 is_pending_on line (waits h is_woken) = same_line line h.line
 is_pending_on line other = false
 
 -- how a receiver's stream stands under a name that was taken
-abbrev pub stream_stance : Option Hold → Post
-stream_stance o = posted (λ (x : Hold). stream_post x.handle.kind x.standing) (Some o)
+abbrev pub stream_stance : Option HandleEntry → NameStatus
+stream_stance o = status_by (λ (x : HandleEntry). stream_status x.handle.kind x.poll_state) (Some o)
 
 -- the messages that these calls have taken
 abbrev pub takings_of : List Doing → ℕ
@@ -28,8 +28,8 @@ takings_of (d ∷ ds) = d.taken + takings_of ds
 
 module _ {T : Type 0} where
   -- how an operation stands
-  abbrev pub operation_stance : Option (Operation T) → Post
-  operation_stance o = posted (λ (x : Operation T). operation_post x.kind x.message x.standing) (Some o)
+  abbrev pub operation_stance : Option (Operation T) → NameStatus
+  operation_stance o = status_by (λ (x : Operation T). operation_status x.kind x.message x.poll_state) (Some o)
 
   -- a finished send is never pending
   abbrev pub may_pend : OperationKind → Option T → Bool
@@ -37,5 +37,5 @@ module _ {T : Type 0} where
   may_pend kind m = true
 
   -- how many are pending on this line
-  abbrev pub pending_on_line : Line → Roll T → ℕ
-  pending_on_line line r = count_by (λ w. is_pending_on line (post r w)) (all_names r)
+  abbrev pub pending_on_line : Line → NameTable T → ℕ
+  pending_on_line line r = count_by (λ w. is_pending_on line (status r w)) (all_names r)

@@ -2,7 +2,7 @@
 use Rattle.std.specs.Prelude.{ℕ, ◌==◌, if◌then◌else◌, List, [], ◌∷◌, ◌++◌}
 use Rattle.channel_laws.specs.Marked.{brought_by}
 use Rattle.channel_model.specs.declared.name.Waiter.{Waiter}
-use Rattle.channel_steps.specs.Scene.{Under, Scene, brought, gone_by}
+use Rattle.channel_steps.specs.Configuration.{ActiveCall, Configuration, brought, gone_by}
 use Rattle.channel_interleaving.specs.Runs.{Moment}
 use Rattle.channel_interleaving.specs.declared.step.Entry.{Entry}
 use Rattle.channel_interleaving.specs.declared.step.Step.{Step}
@@ -10,20 +10,20 @@ use Rattle.channel_interleaving.specs.declared.step.Step.TheVariants as step
 
 module _ {T : Type 0} where
   -- the message that the call of this party brings, if it is one that brings one
-  abbrev pub message_brought : ℕ → List (Under T Waiter) → List T
+  abbrev pub message_brought : ℕ → List (ActiveCall T Waiter) → List T
   message_brought party [] = []
   message_brought party (u ∷ us) = if u.party == party then brought u.ask else message_brought party us
 
-  abbrev pub brought_at : Scene T Waiter → Step T → Entry T → List T
+  abbrev pub brought_at : Configuration T Waiter → Step T → Entry T → List T
   brought_at s (step.Begin p c) e = []
   brought_at s (step.Step p) e = brought_by e.mark (message_brought p.0 s.under_way)
 
   -- all that came in by the steps made, in order
-  abbrev pub all_brought : Scene T Waiter → List (Step T) → List (Entry T) → List (Moment T) → List T
-  all_brought s (x ∷ xs) (e ∷ es) (n ∷ ns) = brought_at s x e ++ all_brought n.scene xs es ns
+  abbrev pub all_brought : Configuration T Waiter → List (Step T) → List (Entry T) → List (Moment T) → List T
+  all_brought s (x ∷ xs) (e ∷ es) (n ∷ ns) = brought_at s x e ++ all_brought n.configuration xs es ns
   all_brought s xs es ns = []
 
   -- all that they took out, in order: each the oldest message at its moment
-  abbrev pub all_taken : Scene T Waiter → List (Entry T) → List (Moment T) → List T
-  all_taken s (e ∷ es) (n ∷ ns) = gone_by e.mark s.now.queue.items ++ all_taken n.scene es ns
+  abbrev pub all_taken : Configuration T Waiter → List (Entry T) → List (Moment T) → List T
+  all_taken s (e ∷ es) (n ∷ ns) = gone_by e.mark s.now.queue.items ++ all_taken n.configuration es ns
   all_taken s es ns = []

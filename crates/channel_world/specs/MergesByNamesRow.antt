@@ -6,11 +6,11 @@ use Rattle.channel_laws.specs.Bridge.{just_opened, Given, steps_of}
 use Rattle.channel_laws.specs.BridgeHeadline.{KeepsTheHeadline}
 use Rattle.channel_laws.specs.BridgeRow.{two_clones}
 use Rattle.channel_model.specs.declared.name.Waiter.{Waiter}
-use Rattle.channel_world.specs.MergesByNames.{first_book, BeginByNames}
+use Rattle.channel_world.specs.MergesByNames.{first_name_state, BeginByNames}
 
 -- its begins are what `MergesByNamesAreRuns` asks
 abbrev pub TwoClonesByNames : (T S : Type 0) → (S → Waiter → S → Type 0) → Type 0
 TwoClonesByNames T S wakes =
     (form : QueueForm) (given : ℕ → List (Given T)) (sink : S) (last : Parts T Waiter) (woken : S)
     (k : KeepsTheHeadline wakes form two_clones given sink last woken)
-    → BeginByNames wakes first_book (just_opened form sink) (steps_of two_clones) k.is.trace k.is.run.moments
+    → BeginByNames wakes first_name_state (just_opened form sink) (steps_of two_clones) k.is.trace k.is.run.moments

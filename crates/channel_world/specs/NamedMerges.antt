@@ -11,13 +11,13 @@ use Rattle.channel_laws.specs.BridgeRow.{two_clones}
 use Rattle.channel_laws.specs.Named.{KeepsItByNames, WakesNamed, name_of, steps_asking}
 use Rattle.channel_laws.specs.Tasks.{ask_by}
 use Rattle.channel_model.specs.declared.name.Waiter.{Waiter}
-use Rattle.channel_world.specs.MergesByNames.{first_book, BeginByNames, IsByNames}
+use Rattle.channel_world.specs.MergesByNames.{first_name_state, BeginByNames, IsByNames}
 
 -- what the begins of a merge have to be, where the calls ask this, with their names
 abbrev pub BeginsAreNamed : {T W S : Type 0} (wakes : S → W → S → Type 0) {form : QueueForm} {events : List (Happening T W)} {given : ℕ → List (Given T)} {sink : S}
     {last : Parts T W} {woken : S} {named : List (ChannelAsk T (W × Waiter))} → KeepsItByNames wakes form events given sink last woken named → Type 0
 BeginsAreNamed wakes {form} {events} {given} {sink} {last} {woken} {named} k =
-    BeginByNames (WakesNamed wakes) first_book (just_opened form sink) (steps_asking events (map (λ a. ask_by name_of a) named)) k.headline.is.trace k.headline.is.run.moments
+    BeginByNames (WakesNamed wakes) first_name_state (just_opened form sink) (steps_asking events (map (λ a. ask_by name_of a) named)) k.headline.is.trace k.headline.is.run.moments
 
 abbrev pub NamedMergesAreRuns : (T W S : Type 0) → (S → W → S → Type 0) → Type 0
 NamedMergesAreRuns T W S wakes =

@@ -2,7 +2,7 @@
 use Rattle.std.specs.Prelude.{◌≡◌, length}
 use Rattle.channel_model.specs.Settling.{pending_count}
 use Rattle.channel_interleaving.specs.Pending.{stands_pending, how_many}
-use Rattle.channel_interleaving.specs.Roll.{is_woken}
+use Rattle.channel_interleaving.specs.NameTable.{is_woken}
 use Rattle.channel_world.specs.View.{names_in, messages_in, calls_in, at_rest, IsQuiet, WorldView}
 
 module _ {T : Type 0} where

@@ -8,7 +8,7 @@ use Rattle.channel_interleaving.specs.declared.step.Step.{Step}
 use Rattle.channel_interleaving.specs.declared.step.Step.TheVariants as step
 use Rattle.channel_model.specs.declared.refusal.WorldRefusal.{WorldRefusal}
 use Rattle.channel_model.specs.declared.run.Stopped.{Stopped}
-use Rattle.channel_world.specs.View.{book_of, RanTo, WorldView}
+use Rattle.channel_world.specs.View.{name_state_of, RanTo, WorldView}
 
 module _ {T : Type 0} where
   -- how many steps were asked for: those that were made, and the one that was refused
@@ -40,11 +40,11 @@ module _ {T : Type 0} where
     pub written : after ≡ before ++ entry ∷ []
     pub told : answered ≡ is_some entry.reply
     pub ran : RanTo (step.Step p ∷ []) [] old (entry ∷ []) new
-    pub goes_on : entry.reply ≡ None → step_refusal (book_of new).roll (book_of new).agents (step.Step p) ≡ None
+    pub goes_on : entry.reply ≡ None → step_refusal (name_state_of new).name_table (name_state_of new).agents (step.Step p) ≡ None
 
   -- it is refused, for the first reason that there is, and nothing is written
   pub record IsRefused (p : PartyId) (old : WorldView T) (before : List (Entry T)) (why : WorldRefusal) (after : List (Entry T))
       (new : WorldView T) : Type 0 where
     pub unwritten : after ≡ before
     pub ran : RanTo (step.Step p ∷ []) (step.Step p ∷ []) old [] new
-    pub reason : MayRefuseStep (book_of new) (step.Step p) why
+    pub reason : MayRefuseStep (name_state_of new) (step.Step p) why

@@ -15,15 +15,15 @@ use Rattle.channel_steps.specs.Known.{IsQuick}
 use Rattle.channel_steps.specs.Left.{most_left}
 use Rattle.channel_steps.specs.Moments.{Shut, Spent}
 use Rattle.channel_steps.specs.Run.{call_begun}
-use Rattle.channel_steps.specs.Scene.{Under, blocks_after, EndsInTime, brought, does, sees, unless_ended}
+use Rattle.channel_steps.specs.Configuration.{ActiveCall, blocks_after, EndsInTime, brought, does, sees, unless_ended}
 use Rattle.channel_steps.specs.Tellings.{telling, dropping, WokenBy}
 use Rattle.channel_interleaving.specs.Bookkeeping.{asks}
 use Rattle.channel_interleaving.specs.Left.{wanted_of}
 use Rattle.channel_interleaving.specs.Owed.{Owed}
 use Rattle.channel_interleaving.specs.Refusal.{step_refusal}
-use Rattle.channel_interleaving.specs.Run.{IsBookAfter}
+use Rattle.channel_interleaving.specs.Run.{IsNameStateAfter}
 use Rattle.channel_interleaving.specs.Runs.{Moment}
-use Rattle.channel_interleaving.specs.SightAt.{sight_at}
+use Rattle.channel_interleaving.specs.ObservationAt.{observation_at}
 use Rattle.channel_interleaving.specs.declared.step.Entry.{Entry}
 use Rattle.channel_interleaving.specs.declared.step.PartyId.{PartyId}
 use Rattle.channel_interleaving.specs.declared.step.Step.{Step}
@@ -39,20 +39,20 @@ module _ {T : Type 0} where
   -- ---- a moment
 
   pub record MomentSays (m : Moment T) : Type 0 where
-    -- it is a moment of this world, which stands in its scene
+    -- it is a moment of this world, which stands in its configuration
     pub world : WorldView T
-    pub is : m ≡ moment_of world m.scene
-    pub stands : StandsIn world m.scene
+    pub is : m ≡ moment_of world m.configuration
+    pub stands : StandsIn world m.configuration
     -- of each call under way, the marks are the first of those that a call which asks this makes
-    pub begun : Each (λ u. BeginsItsMarks u) m.scene.under_way
+    pub begun : Each (λ u. BeginsItsMarks u) m.configuration.under_way
     -- beside one who is pending and was not woken, there is no message, free place or closing but such as a woken one or a call
     -- under way answers for
-    pub owed : Owed (sight_at m.book.roll m.scene)
+    pub owed : Owed (observation_at m.name_state.name_table m.configuration)
     -- the channel is closed or not and holds so many messages as its queue's words say; and each message lies in the slot that
     -- they name for it alone, without a bound by the blocks that the queue has used, or is with the call that is yet to put it there
-    pub words : WordsSay m.parts.cells (active_calls world) m.scene
+    pub words : WordsSay m.parts.cells (active_calls world) m.configuration
     -- no call has more steps left than these, by how many messages a receive of several may take, where the others are quiet
-    pub few : (party : ℕ) → m.left party ≤ most_left (wanted_of party m.scene.under_way)
+    pub few : (party : ℕ) → m.left party ≤ most_left (wanted_of party m.configuration.under_way)
 
   -- ---- the beginning of a call
 
@@ -62,47 +62,47 @@ module _ {T : Type 0} where
     pub reply : e.reply ≡ None
     pub woken : e.woken.items ≡ []
     pub parts : n.parts ≡ m.parts
-    pub now : n.scene.now ≡ m.scene.now
+    pub now : n.configuration.now ≡ m.configuration.now
     -- a call of this party is under way from now on, whose only moment is the present one, with no mark and nothing told
     pub at_first : Stage (Phase T) T Waiter
-    pub under_way : n.scene.under_way ≡ m.scene.under_way ++ call_begun p.0 (asks m.book.roll c) at_first m.scene.now ∷ []
-    pub book : IsBookAfter (step.Begin p c) e None m.book n.book
+    pub under_way : n.configuration.under_way ≡ m.configuration.under_way ++ call_begun p.0 (asks m.name_state.name_table c) at_first m.configuration.now ∷ []
+    pub name_state : IsNameStateAfter (step.Begin p c) e None m.name_state n.name_state
 
   -- ---- a step of a call
 
   -- what it does, while the party's call is this one
-  pub record WorkDoes (m : Moment T) (call : Under T Waiter) (e : Entry T) (n : Moment T) : Type 0 where
+  pub record WorkDoes (m : Moment T) (call : ActiveCall T Waiter) (e : Entry T) (n : Moment T) : Type 0 where
     -- it asks no listener before it tries, but a stream's
     pub tries : asks_first call.ask ≡ false
     -- to the plain channel it does what its mark says, by touching one cell, one list or one count at most
-    pub effect : plain n.scene.now ≡ marked e.mark (brought call.ask) (plain m.scene.now)
+    pub effect : plain n.configuration.now ≡ marked e.mark (brought call.ask) (plain m.configuration.now)
     pub touches : OnePlace m.parts n.parts
     -- it wakes those whom its one telling finds waiting, in order, or him to whom a listener of its own that it drops passes its
     -- notice on, and nobody else
-    pub wakes : WokenBy (telling call.at) (dropping call.at) m.scene.now e.woken.items
+    pub wakes : WokenBy (telling call.at) (dropping call.at) m.configuration.now e.woken.items
 
   pub record WorkSays (m : Moment T) (p : PartyId) (e : Entry T) (n : Moment T) : Type 0 where
     -- the party's call, among those under way
-    pub before : List (Under T Waiter)
-    pub call : Under T Waiter
-    pub behind : List (Under T Waiter)
-    pub under_way : m.scene.under_way ≡ before ++ (call ∷ behind)
+    pub before : List (ActiveCall T Waiter)
+    pub call : ActiveCall T Waiter
+    pub behind : List (ActiveCall T Waiter)
+    pub under_way : m.configuration.under_way ≡ before ++ (call ∷ behind)
     pub party : call.party ≡ p.0
     -- the same call after the step: one moment more, the step's mark, and what the step told. It is under way no more if it has
     -- answered; to all others the step is one more moment
     pub at_now : Stage (Phase T) T Waiter
-    pub after : Under T Waiter
-    pub is : after ≡ does call at_now e.mark m.scene.now n.scene.now
-    pub goes_on : n.scene.under_way ≡ map (sees n.scene.now) before ++ (unless_ended after e.reply ++ map (sees n.scene.now) behind)
+    pub after : ActiveCall T Waiter
+    pub is : after ≡ does call at_now e.mark m.configuration.now n.configuration.now
+    pub goes_on : n.configuration.under_way ≡ map (sees n.configuration.now) before ++ (unless_ended after e.reply ++ map (sees n.configuration.now) behind)
     pub work : WorkDoes m call e n
     -- where it ends its call; what the call leaves is what the names get back
     pub left : Option (Kept T)
     pub ends : IfSome e.reply (λ r. EndSays after r left)
-    pub book : IsBookAfter (step.Step p) e left m.book n.book
+    pub name_state : IsNameStateAfter (step.Step p) e left m.name_state n.name_state
     -- a short call ends within eight steps of its own, whatever others do
     pub in_time : IsQuick call.ask → EndsInTime call.made e.reply
     -- where the others are quiet, a step that does not end its call leaves it fewer steps
-    pub nearer : e.reply ≡ None → OthersQuietOf p.0 m.scene → n.left p.0 < m.left p.0
+    pub nearer : e.reply ≡ None → OthersQuietOf p.0 m.configuration → n.left p.0 < m.left p.0
     -- a call that began when the end was said gives no message
     pub late : AllSpent call.seen → Replies GivesMessage e.reply → ⊥
 
@@ -115,13 +115,13 @@ module _ {T : Type 0} where
 
   pub record StepSays (m : Moment T) (x : Step T) (e : Entry T) (n : Moment T) : Type 0 where
     -- none of the seven reasons refuses it
-    pub accepted : step_refusal m.book.roll m.book.agents x ≡ None
+    pub accepted : step_refusal m.name_state.name_table m.name_state.agents x ≡ None
     pub call : CallSays m x e n
     -- the queue has used the blocks that it had used before, and one more, at the end, where its tail's word then names another
-    pub blocks : n.scene.blocks ≡ blocks_after n.parts.cells.form m.scene.blocks m.parts.cells n.parts.cells
+    pub blocks : n.configuration.blocks ≡ blocks_after n.parts.cells.form m.configuration.blocks m.parts.cells n.parts.cells
     -- what is closed stays closed; what is over, closed with nothing there and nothing on its way, stays over, and no message comes
     -- or leaves; and a reply that says the end found it over
-    pub closed : Shut m.scene.now → Shut n.scene.now
-    pub over : Spent m.scene.now → Spent n.scene.now × IsStill e.mark
-    pub the_end : Replies SaysTheEnd e.reply → Spent n.scene.now
+    pub closed : Shut m.configuration.now → Shut n.configuration.now
+    pub over : Spent m.configuration.now → Spent n.configuration.now × IsStill e.mark
+    pub the_end : Replies SaysTheEnd e.reply → Spent n.configuration.now
     pub after : MomentSays n

@@ -1,11 +1,11 @@
--- Laws of all replies that were given on the way from a scene, by runs of steps, lists of calls and settlings in turn.
+-- Laws of all replies that were given on the way from a configuration, by runs of steps, lists of calls and settlings in turn.
 use Rattle.std.specs.Prelude.{◌≡◌, ℕ, ◌+◌, ◌≤◌, cond, true, List, [], ◌∷◌, ◌++◌, Option, None, Some}
 use Rattle.channel_calls.specs.declared.reply.Reply.{Reply}
 use Rattle.channel_laws.specs.Bounds.{SaysFull, AllOf, one_if_closed}
 use Rattle.channel_laws.specs.Ends.{Each}
 use Rattle.channel_model.specs.declared.name.Waiter.{Waiter}
-use Rattle.channel_steps.specs.Run.{new_scene}
-use Rattle.channel_steps.specs.Scene.{Under, Scene}
+use Rattle.channel_steps.specs.Run.{new_configuration}
+use Rattle.channel_steps.specs.Configuration.{ActiveCall, Configuration}
 use Rattle.channel_interleaving.specs.Counted.{tally}
 use Rattle.channel_interleaving.specs.Doing.{any_close}
 use Rattle.channel_world.specs.Carried.{LeadsTo}
@@ -18,11 +18,11 @@ module _ {T : Type 0} where
   closings_among (r ∷ rs) = one_if_closed (Some r) + closings_among rs
 
   -- how many of the calls under way have closed it, and are yet to say so or to end otherwise
-  abbrev pub closers_in : Scene T Waiter → ℕ
-  closers_in s = tally (λ (u : Under T Waiter). any_close u.marks) s.under_way
+  abbrev pub closers_in : Configuration T Waiter → ℕ
+  closers_in s = tally (λ (u : ActiveCall T Waiter). any_close u.marks) s.under_way
 
   -- how many replies may yet say so: one for each of those, and one more while it is open
-  abbrev pub closings_left : Scene T Waiter → ℕ
+  abbrev pub closings_left : Configuration T Waiter → ℕ
   closings_left s = closers_in s + cond s.now.queue.closed 0 1
 
   -- none of these replies refuses a message since the channel is full
@@ -30,36 +30,36 @@ module _ {T : Type 0} where
   NoneSaysFull [] = Unit {0}
   NoneSaysFull (r ∷ rs) = (SaysFull r → ⊥) × NoneSaysFull rs
 
-  -- a scene without a bound, in which no call under way has seen one
-  pub record HasNoBound (s : Scene T Waiter) : Type 0 where
+  -- a configuration without a bound, in which no call under way has seen one
+  pub record HasNoBound (s : Configuration T Waiter) : Type 0 where
     pub now : s.now.queue.capacity ≡ None
-    pub seen : Each (λ (u : Under T Waiter). AllOf None u.seen) s.under_way
+    pub seen : Each (λ (u : ActiveCall T Waiter). AllOf None u.seen) s.under_way
 
   -- ---- of what is done to a world, since whatever opening it came from
 
   -- of all replies since then, with these, at most one says that it closed the channel
   pub record ClosesOnceWith (world : WorldView T) (replies : List (Reply T)) : Type 0 where
-    pub since : (capacity : Option ℕ) (before : List (Reply T)) → Led (new_scene capacity) before world
+    pub since : (capacity : Option ℕ) (before : List (Reply T)) → Led (new_configuration capacity) before world
         → closings_among (before ++ replies) ≤ 1
 
   -- of all since one without a bound, with these, none says that it is full
   pub record IsNeverFullWith (world : WorldView T) (replies : List (Reply T)) : Type 0 where
-    pub since : (before : List (Reply T)) → Led (new_scene None) before world → NoneSaysFull (before ++ replies)
+    pub since : (before : List (Reply T)) → Led (new_configuration None) before world → NoneSaysFull (before ++ replies)
 
 -- of all replies on the way to this world
 module _ {T : Type 0} (world : WorldView T) where
   -- Since the opening at most one says that it closed the channel.
   abbrev pub ClosesOnce : Type 0
-  ClosesOnce = (capacity : Option ℕ) (replies : List (Reply T)) → Led (new_scene capacity) replies world → closings_among replies ≤ 1
+  ClosesOnce = (capacity : Option ℕ) (replies : List (Reply T)) → Led (new_configuration capacity) replies world → closings_among replies ≤ 1
 
   -- So of those that led here from whatever world, with all that were given before.
   abbrev pub ClosesOnceToHere : Type 0
   ClosesOnceToHere = (a : WorldView T) (replies : List (Reply T)) → LeadsTo a replies world → ClosesOnceWith a replies
 
-  -- From whatever scene no more say so than may yet: one at most, where no call under way has closed it, and none, where it is
+  -- From whatever configuration no more say so than may yet: one at most, where no call under way has closed it, and none, where it is
   -- closed too.
   abbrev pub ClosesWhatIsLeft : Type 0
-  ClosesWhatIsLeft = (s : Scene T Waiter) (replies : List (Reply T)) → Led s replies world → closings_among replies ≤ closings_left s
+  ClosesWhatIsLeft = (s : Configuration T Waiter) (replies : List (Reply T)) → Led s replies world → closings_among replies ≤ closings_left s
 
   -- So from whatever world with no call under way: one at most,
   abbrev pub ClosesOnceFromRest : Type 0
@@ -74,15 +74,15 @@ module _ {T : Type 0} (world : WorldView T) where
 
   -- Since an opening without a bound none says that the channel is full,
   abbrev pub IsNeverFull : Type 0
-  IsNeverFull = (replies : List (Reply T)) → Led (new_scene None) replies world → NoneSaysFull replies
+  IsNeverFull = (replies : List (Reply T)) → Led (new_configuration None) replies world → NoneSaysFull replies
 
   -- so of those that led here from whatever world, with all that were given before;
   abbrev pub IsNeverFullToHere : Type 0
   IsNeverFullToHere = (a : WorldView T) (replies : List (Reply T)) → LeadsTo a replies world → IsNeverFullWith a replies
 
-  -- nor from whatever scene without a bound.
+  -- nor from whatever configuration without a bound.
   abbrev pub IsNeverFullSince : Type 0
-  IsNeverFullSince = (s : Scene T Waiter) (replies : List (Reply T)) → HasNoBound s → Led s replies world → NoneSaysFull replies
+  IsNeverFullSince = (s : Configuration T Waiter) (replies : List (Reply T)) → HasNoBound s → Led s replies world → NoneSaysFull replies
 
   -- So from whatever world with no call under way that has none.
   abbrev pub IsNeverFullFromRest : Type 0

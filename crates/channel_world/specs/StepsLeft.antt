@@ -2,7 +2,7 @@
 use Rattle.std.specs.Prelude.{ℕ, suc, ◌≤◌, ◌==◌, ◌&&◌, if◌then◌else◌, is_none, List, [], ◌∷◌}
 use Rattle.channel_model.specs.declared.name.Waiter.{Waiter}
 use Rattle.channel_steps.specs.Left.{most_left}
-use Rattle.channel_steps.specs.Scene.{Scene, OthersQuiet}
+use Rattle.channel_steps.specs.Configuration.{Configuration, OthersQuiet}
 use Rattle.channel_interleaving.specs.Left.{calls_of_others, wanted_of}
 use Rattle.channel_interleaving.specs.Runs.{Moment}
 use Rattle.channel_interleaving.specs.declared.step.Entry.{Entry}
@@ -18,20 +18,20 @@ module _ {T : Type 0} where
 
   -- the calls under way but this party's are quiet: none has a mark but Nothing, and an unbounded channel has had its first taking,
   -- or there is no other call
-  abbrev pub OthersQuietOf : ℕ → Scene T Waiter → Type 0
+  abbrev pub OthersQuietOf : ℕ → Configuration T Waiter → Type 0
   OthersQuietOf p s = OthersQuiet s.now (calls_of_others p s.under_way)
 
-  -- where the others of a party's call are quiet in this scene, it makes no more steps than these before it ends, if its are the
+  -- where the others of a party's call are quiet in this configuration, it makes no more steps than these before it ends, if its are the
   -- next: those in front of a list, also where not all of them are made
-  abbrev pub EndInFront : Scene T Waiter → List (Step T) → List (Entry T) → Type 0
+  abbrev pub EndInFront : Configuration T Waiter → List (Step T) → List (Entry T) → Type 0
   EndInFront s steps trace = (party : ℕ) → OthersQuietOf party s → in_a_row party steps trace ≤ most_left (wanted_of party s.under_way)
 
-  -- so it is in the scene of each moment
-  abbrev pub EndInARow : Scene T Waiter → List (Step T) → List (Entry T) → List (Moment T) → Type 0
+  -- so it is in the configuration of each moment
+  abbrev pub EndInARow : Configuration T Waiter → List (Step T) → List (Entry T) → List (Moment T) → Type 0
   EndInARow s [] [] [] = Unit {0}
-  EndInARow s (x ∷ xs) (e ∷ es) (n ∷ ns) = EndInFront s (x ∷ xs) (e ∷ es) × EndInARow n.scene xs es ns
+  EndInARow s (x ∷ xs) (e ∷ es) (n ∷ ns) = EndInFront s (x ∷ xs) (e ∷ es) × EndInARow n.configuration xs es ns
   EndInARow s _ _ _ = ⊥
 
-  -- from whatever scene the world stood in: a call whose others are quiet makes no more steps than these in front of the list
+  -- from whatever configuration the world stood in: a call whose others are quiet makes no more steps than these in front of the list
   abbrev pub EndsInFront : WorldView T → List (Step T) → List (Entry T) → Type 0
-  EndsInFront old steps trace = (s : Scene T Waiter) → StandsIn old s → EndInFront s steps trace
+  EndsInFront old steps trace = (s : Configuration T Waiter) → StandsIn old s → EndInFront s steps trace

@@ -9,55 +9,55 @@ use Rattle.channel_calls.specs.declared.reply.Reply.{Reply}
 use Rattle.channel_calls.specs.declared.stage.Side.{Side}
 use Rattle.channel_model.specs.State.{State}
 use Rattle.channel_model.specs.declared.name.Waiter.{Waiter}
-use Rattle.channel_steps.specs.Scene.{Scene}
+use Rattle.channel_steps.specs.Configuration.{Configuration}
 use Rattle.channel_steps.specs.declared.party.Party.{Party}
 use Rattle.channel_interleaving.specs.Counted.{tally, is_lowering, is_closing}
-use Rattle.channel_interleaving.specs.Floor as floor
+use Rattle.channel_interleaving.specs.WorldState as world_state
 use Rattle.channel_interleaving.specs.Left.{left_of}
-use Rattle.channel_interleaving.specs.Owed.{Sight}
-use Rattle.channel_interleaving.specs.Run.{Book}
+use Rattle.channel_interleaving.specs.Owed.{Observation}
+use Rattle.channel_interleaving.specs.Run.{NameState}
 use Rattle.channel_interleaving.specs.Runs as runs
 use Rattle.channel_interleaving.specs.Runs.{Moment}
-use Rattle.channel_interleaving.specs.declared.floor.Floor.{Floor}
-use Rattle.channel_interleaving.specs.declared.roll.Roll.{Roll}
+use Rattle.channel_interleaving.specs.declared.world_state.WorldState.{WorldState}
+use Rattle.channel_interleaving.specs.declared.name_table.NameTable.{NameTable}
 use Rattle.channel_interleaving.specs.declared.step.Entry.{Entry}
 use Rattle.channel_interleaving.specs.declared.step.Step.{Step}
 use Rattle.channel_world.specs.Kinds.{takings_of}
 use Rattle.channel_world.specs.World as world
 
 pub record WorldView (T : Type 0) : Type 0 where
-  inside : Floor T
+  inside : WorldState T
 
 module _ {T : Type 0} where
-  abbrev pub view_of : Floor T → WorldView T
+  abbrev pub view_of : WorldState T → WorldView T
   view_of f = record { inside = f }
 
   -- views differ where what is inside differs
-  abbrev pub view_code : Coded (Floor T) → Coded (WorldView T)
-  view_code c = code_by (Floor T) c (λ (w : WorldView T). w.inside) view_of (λ _. refl)
+  abbrev pub view_code : Coded (WorldState T) → Coded (WorldView T)
+  view_code c = code_by (WorldState T) c (λ (w : WorldView T). w.inside) view_of (λ _. refl)
 
   -- ---- what it shows
 
   -- names, messages, capacity and flag; and how many calls under way are sending, are receiving, have closed it, and how many
   -- places they have freed and not announced
-  abbrev pub sight_of : WorldView T → Sight T
-  sight_of w = floor.sight_of w.inside
+  abbrev pub observation_of : WorldView T → Observation T
+  observation_of w = world_state.observation_of w.inside
 
-  abbrev pub names_in : WorldView T → Roll T
-  names_in w = (sight_of w).roll
+  abbrev pub names_in : WorldView T → NameTable T
+  names_in w = (observation_of w).name_table
 
   abbrev pub messages_in : WorldView T → ℕ
-  messages_in w = (sight_of w).messages
+  messages_in w = (observation_of w).messages
 
   abbrev pub capacity_in : WorldView T → Option ℕ
-  capacity_in w = (sight_of w).capacity
+  capacity_in w = (observation_of w).capacity
 
   abbrev pub is_closed : WorldView T → Bool
-  is_closed w = (sight_of w).closed
+  is_closed w = (observation_of w).closed
 
   -- how many calls are under way
   abbrev pub calls_in : WorldView T → ℕ
-  calls_in w = floor.calls_in w.inside
+  calls_in w = world_state.calls_in w.inside
 
   -- how many messages these calls have taken
   abbrev pub taken_in : WorldView T → ℕ
@@ -65,7 +65,7 @@ module _ {T : Type 0} where
 
   -- the count of senders or of receivers
   abbrev pub count_in : Side → WorldView T → ℕ
-  count_in side w = count side (floor.parts_in w.inside).roster
+  count_in side w = count side (world_state.parts_in w.inside).roster
 
   -- how many drops of strong handles of this side are under way whose next step lowers the count; what they drop lives under no name
   abbrev pub to_lower : Side → WorldView T → ℕ
@@ -82,45 +82,45 @@ module _ {T : Type 0} where
   -- ---- what is said of it
 
   abbrev pub IsQuiet : WorldView T → Type 0
-  IsQuiet w = floor.IsQuiet w.inside
+  IsQuiet w = world_state.IsQuiet w.inside
 
   abbrev pub TellsQuiet : WorldView T → Bool → Type 0
-  TellsQuiet w quiet = floor.TellsQuiet w.inside quiet
+  TellsQuiet w quiet = world_state.TellsQuiet w.inside quiet
 
   abbrev pub HasPositions : ℕ → WorldView T → Type 0
-  HasPositions n w = floor.HasPositions n w.inside
+  HasPositions n w = world_state.HasPositions n w.inside
 
   abbrev pub IsJustOpened : Option ℕ → WorldView T → Type 0
-  IsJustOpened capacity w = floor.IsJustOpened capacity w.inside
+  IsJustOpened capacity w = world_state.IsJustOpened capacity w.inside
 
-  -- it stands in this scene, which is its invariant, or in some
-  abbrev pub StandsIn : WorldView T → Scene T Waiter → Type 0
-  StandsIn w s = floor.StandsIn w.inside s
+  -- it stands in this configuration, which is its invariant, or in some
+  abbrev pub StandsIn : WorldView T → Configuration T Waiter → Type 0
+  StandsIn w s = world_state.StandsIn w.inside s
 
   abbrev pub Stands : WorldView T → Type 0
-  Stands w = floor.Stands w.inside
+  Stands w = world_state.Stands w.inside
 
-  -- steps led from this scene to one in which it stands, with these replies
-  abbrev pub Led : Scene T Waiter → List (Reply T) → WorldView T → Type 0
-  Led s replies w = floor.Led s replies w.inside
+  -- steps led from this configuration to one in which it stands, with these replies
+  abbrev pub Led : Configuration T Waiter → List (Reply T) → WorldView T → Type 0
+  Led s replies w = world_state.Led s replies w.inside
 
   abbrev pub LeadsOn : WorldView T → List (Reply T) → WorldView T → Type 0
-  LeadsOn old replies new = floor.LeadsOn old.inside replies new.inside
+  LeadsOn old replies new = world_state.LeadsOn old.inside replies new.inside
 
   -- ---- what the sentences of a run and the laws look at
 
   -- names, with who may be woken and who is at work
-  abbrev pub book_of : WorldView T → Book T
-  book_of w = record { roll = w.inside.roll; order = w.inside.order; agents = w.inside.agents.items }
+  abbrev pub name_state_of : WorldView T → NameState T
+  name_state_of w = record { name_table = w.inside.name_table; order = w.inside.order; agents = w.inside.agents.items }
 
   -- the calls under way, each at its stage
   abbrev pub active_calls : WorldView T → List (Party T Waiter)
   active_calls w = w.inside.parties.items
 
-  abbrev pub moment_of : WorldView T → Scene T Waiter → Moment T
+  abbrev pub moment_of : WorldView T → Configuration T Waiter → Moment T
   moment_of w s =
       let parts : Parts T Waiter = parts_of w.inside.channel in
-      record { parts = parts; scene = s; book = book_of w; left = λ party. left_of party parts (active_calls w) }
+      record { parts = parts; configuration = s; name_state = name_state_of w; left = λ party. left_of party parts (active_calls w) }
 
   abbrev pub RanTo : List (Step T) → List (Step T) → WorldView T → List (Entry T) → WorldView T → Type 0
   RanTo steps left old trace new = runs.RanTo steps left old.inside trace new.inside
@@ -128,7 +128,7 @@ module _ {T : Type 0} where
   -- ---- what the functions of a world say to each other
 
   abbrev pub IsKept : WorldView T → Type 0
-  IsKept w = floor.IsKept w.inside
+  IsKept w = world_state.IsKept w.inside
 
   abbrev pub has_one_place : WorldView T → Bool
   has_one_place w = w.inside.has_one_place

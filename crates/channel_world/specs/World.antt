@@ -10,10 +10,10 @@ use Rattle.channel_model.specs.State.{State}
 use Rattle.channel_model.specs.declared.call.Call.{Call}
 use Rattle.channel_model.specs.declared.call.Call.TheVariants as call
 use Rattle.channel_model.specs.declared.name.Waiter.{Waiter}
-use Rattle.channel_interleaving.specs.Floor.{parts_in}
+use Rattle.channel_interleaving.specs.WorldState.{parts_in}
 use Rattle.channel_interleaving.specs.OwnerOrder.{woken_in}
-use Rattle.channel_interleaving.specs.Roll.{names_of}
-use Rattle.channel_interleaving.specs.declared.floor.Floor.{Floor}
+use Rattle.channel_interleaving.specs.NameTable.{names_of}
+use Rattle.channel_interleaving.specs.declared.world_state.WorldState.{WorldState}
 
 -- those who wait in each list, and the woken
 abbrev pub waiting_in : Roster Waiter → List Waiter → Waiting
@@ -41,11 +41,11 @@ module _ {T : Type 0} where
   }
 
   -- The state of a world with no call under way. While calls are made one at a time this is all that a world is.
-  abbrev pub at_rest : Floor T → State T
+  abbrev pub at_rest : WorldState T → State T
   at_rest f = record {
     channel = channel_of (parts_in f);
-    names = names_of f.roll;
-    waiting = waiting_in (parts_in f).roster (woken_in f.roll f.order);
+    names = names_of f.name_table;
+    waiting = waiting_in (parts_in f).roster (woken_in f.name_table f.order);
   }
 
   -- how many a call may wake at most

@@ -2,14 +2,14 @@
 
 ghost use Rattle.std.specs.Prelude.{◌≡◌, ◌<◌, ◌^◌, IfSome, IsSome};
 ghost use Rattle.channel_interleaving.specs.Owed.{is_woken_on};
-ghost use Rattle.channel_interleaving.specs.Roll.{line_of_kind};
+ghost use Rattle.channel_interleaving.specs.NameTable.{line_of_kind};
 ghost use Rattle.channel_model.specs.Laws.{same_line};
 ghost use Rattle.channel_world.specs.Kinds.{is_pending_on, may_pend, operation_stance, stream_stance, takings_of};
 
 use super::world::World;
 use channel_calls::stage::Line;
 use channel_interleaving::doing::Doing;
-use channel_interleaving::names::{Hold, Operation, OperationKind, Standing};
+use channel_interleaving::names::{HandleEntry, Operation, OperationKind, PollState};
 use channel_model::name::HandleKind;
 
 /// Whether an operation of this kind waits on this line.
@@ -57,9 +57,9 @@ fn pends_on<T>(line: Line, operation: &Option<Operation<T>>) -> bool
     ensures { result ≡ is_pending_on line (operation_stance operation.now) }
 {
     match operation {
-        Some(operation) => match operation.standing {
-            Standing::Waits { .. } => may_pend(operation) && waits_on(line, operation.kind),
-            Standing::Rests | Standing::IsPolled { .. } => false,
+        Some(operation) => match operation.poll_state {
+            PollState::Waits { .. } => may_pend(operation) && waits_on(line, operation.kind),
+            PollState::Rests | PollState::IsPolled { .. } => false,
         },
         None => false,
     }
@@ -70,23 +70,23 @@ fn is_woken_on<T>(line: Line, operation: &Option<Operation<T>>) -> bool
     ensures { result ≡ is_woken_on line (operation_stance operation.now) }
 {
     match operation {
-        Some(operation) => match operation.standing {
-            Standing::Waits { key: _, is_woken } => {
+        Some(operation) => match operation.poll_state {
+            PollState::Waits { key: _, is_woken } => {
                 is_woken && may_pend(operation) && waits_on(line, operation.kind)
             }
-            Standing::Rests | Standing::IsPolled { .. } => false,
+            PollState::Rests | PollState::IsPolled { .. } => false,
         },
         None => false,
     }
 }
 
 /// Whether a receiver's stream is pending on this line.
-fn streams_on(line: Line, hold: &Option<Hold>) -> bool
-    ensures { result ≡ is_pending_on line (stream_stance hold.now) }
+fn streams_on(line: Line, handle_entry: &Option<HandleEntry>) -> bool
+    ensures { result ≡ is_pending_on line (stream_stance handle_entry.now) }
 {
-    match hold {
-        Some(hold) => match (hold.handle.kind, hold.standing) {
-            (HandleKind::Receiver, Standing::Waits { .. }) => is_of_streams(line),
+    match handle_entry {
+        Some(handle_entry) => match (handle_entry.handle.kind, handle_entry.poll_state) {
+            (HandleKind::Receiver, PollState::Waits { .. }) => is_of_streams(line),
             _ => false,
         },
         None => false,
@@ -94,12 +94,12 @@ fn streams_on(line: Line, hold: &Option<Hold>) -> bool
 }
 
 /// Whether a receiver's stream is pending on this line and was woken.
-fn is_stream_woken_on(line: Line, hold: &Option<Hold>) -> bool
-    ensures { result ≡ is_woken_on line (stream_stance hold.now) }
+fn is_stream_woken_on(line: Line, handle_entry: &Option<HandleEntry>) -> bool
+    ensures { result ≡ is_woken_on line (stream_stance handle_entry.now) }
 {
-    match hold {
-        Some(hold) => match (hold.handle.kind, hold.standing) {
-            (HandleKind::Receiver, Standing::Waits { key: _, is_woken }) => {
+    match handle_entry {
+        Some(handle_entry) => match (handle_entry.handle.kind, handle_entry.poll_state) {
+            (HandleKind::Receiver, PollState::Waits { key: _, is_woken }) => {
                 is_woken && is_of_streams(line)
             }
             _ => false,
@@ -132,9 +132,9 @@ impl<T: Drop> World<T> {
         ensures { result ≡ pending_on_line line (names_in self.now) }
     {
         self.keeps_names();
-        let operations = self.floor.roll.operations.iter();
+        let operations = self.world_state.name_table.operations.iter();
         let operations = operations.filter(|(_, x)| pends_on(line, *x)).count();
-        let streams = self.floor.roll.handles.iter();
+        let streams = self.world_state.name_table.handles.iter();
         let streams = streams.filter(|(_, x)| streams_on(line, *x)).count();
         operations + streams
     }
@@ -144,9 +144,9 @@ impl<T: Drop> World<T> {
         ensures { result ≡ woken_on line (names_in self.now) }
     {
         self.keeps_names();
-        let operations = self.floor.roll.operations.iter();
+        let operations = self.world_state.name_table.operations.iter();
         let operations = operations.filter(|(_, x)| is_woken_on(line, *x)).count();
-        let streams = self.floor.roll.handles.iter();
+        let streams = self.world_state.name_table.handles.iter();
         let streams = streams
             .filter(|(_, x)| is_stream_woken_on(line, *x))
             .count();
@@ -159,6 +159,6 @@ impl<T: Drop> World<T> {
         ensures told { IfSome result (λ n. n ≡ taken_in self.now) }
         ensures known { taken_in self.now < 2 ^ 64 → IsSome result }
     {
-        taken_by(&self.floor.doings)
+        taken_by(&self.world_state.doings)
     }
 }

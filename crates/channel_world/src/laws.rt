@@ -13,7 +13,7 @@ ghost use Rattle.channel_world.specs.Numbers.{CallsAtRest, MessagesAtRest, Pendi
 ghost use Rattle.channel_interleaving.specs.Owed.{Owed};
 ghost use Rattle.channel_world.specs.Settled.{SettlingIsShort};
 ghost use Rattle.channel_world.specs.Since.{ClosesOnce, ClosesOnceFromRest, ClosesOnceToHere, ClosesWhatIsLeft, IsNeverFull, IsNeverFullFromRest, IsNeverFullSince, IsNeverFullToHere, NoneClosesAgain};
-ghost use Rattle.channel_world.specs.View.{sight_of};
+ghost use Rattle.channel_world.specs.View.{observation_of};
 
 pub use crate::recorded::laws::{a_record_leaves_nobody_asleep, a_record_loses_nothing};
 use crate::world::World;
@@ -66,9 +66,9 @@ pub fn counts_are_live_handles<T: Drop>(world: &World<T>)
     world.keeps();
 }
 
-/// What the numbers count that a world tells, where no call is under way, which is where `under_way()` is 0: `messages()` is the
-/// length of the list of its state; `pending()` is the number of operations and streams that stand in its four lines, untold or woken, in whose words the
-/// bound of settling is said; and `woken()` is the number of those of them who were woken, the length of their order. So where
+/// What the numbers count that a world tells, where no call is under way, which is where `under_way()` is 0: `messages()` is the length of
+/// the list of its state; `pending()` is the number of operations and streams that stand in its four lines, untold or woken, in whose words
+/// the bound of settling is said; and `woken()` is the number of those of them who were woken, the length of their order. So where
 /// `pending()` answered w, `settle` makes no more than w(w+1)/2 polls.
 ///
 /// Own to this project.
@@ -92,8 +92,8 @@ pub fn settling_is_short<T>()
     ensures short { SettlingIsShort T }
 {}
 
-/// Nobody is left asleep in the state that a world is with no call under way: its four lines, and those who were woken. Where nobody is woken no
-/// receive is pending beside a message, and no send on an open channel in which one more message fits; no stream is pending beside
+/// Nobody is left asleep in the state that a world is with no call under way: its four lines, and those who were woken. Where nobody is
+/// woken no receive is pending beside a message, and no send on an open channel in which one more message fits; no stream is pending beside
 /// a message, and nobody on a closed channel, woken or not who else.
 ///
 /// Own to this project.
@@ -128,7 +128,7 @@ pub fn at_rest_nobody_is_left_asleep<T: Drop>(world: &World<T>)
 ///
 /// Own to this project.
 pub fn who_sleeps_is_answered_for<T: Drop>(world: &World<T>)
-    ensures owed { Owed (sight_of world.now) }
+    ensures owed { Owed (observation_of world.now) }
     ensures receives { ReceivesAreAnswered world.now }
     ensures sends { SendsAreAnswered world.now }
     ensures streams { StreamsAreAnswered world.now }
@@ -151,7 +151,7 @@ pub fn who_sleeps_is_answered_for<T: Drop>(world: &World<T>)
 /// Of all replies that were given since the opening of a world, by runs of steps, lists of calls and settlings in turn, at most one
 /// says that it closed the channel.
 ///
-/// From whatever scene on there are no more than those calls under way that have closed it and not answered, and one more while it
+/// From whatever configuration on there are no more than those calls under way that have closed it and not answered, and one more while it
 /// is open. So from a world with no call under way there is one at most; and none, where it is closed.
 ///
 /// Own to this project.
@@ -163,9 +163,9 @@ pub fn the_channel_is_closed_once<T: Drop>(world: &World<T>)
     ensures again { NoneClosesAgain world.now }
 {}
 
-/// Of all replies that were given since the opening of a world without a bound, by runs of steps, lists of calls and settlings in
-/// turn, none refuses a message since the channel is full. So it is from whatever scene without a bound, where no call under way has
-/// seen one; and from whatever world without a bound that has no call under way.
+/// Of all replies that were given since the opening of a world without a bound, by runs of steps, lists of calls and settlings in turn,
+/// none refuses a message since the channel is full. So it is from whatever configuration without a bound, where no call under way has seen
+/// one; and from whatever world without a bound that has no call under way.
 ///
 /// Own to this project.
 pub fn an_unbounded_world_is_never_full<T: Drop>(world: &World<T>)
@@ -175,10 +175,10 @@ pub fn an_unbounded_world_is_never_full<T: Drop>(world: &World<T>)
     ensures from_rest { IsNeverFullFromRest world.now }
 {}
 
-/// On any way from one scene to another, by runs of steps, lists of calls and settlings in turn, what leaves as the n-th is what was
-/// held or came as the n-th. What came is told in the order of the steps, each message with the party whose call brought it, and a
-/// party makes one call after another. So of two messages that were accepted in successive calls of one party the later never leaves
-/// first: it has left only where the other one has, and as a later one. The ways are those of `leads`.
+/// On any way from one configuration to another, by runs of steps, lists of calls and settlings in turn, what leaves as the n-th is what
+/// was held or came as the n-th. What came is told in the order of the steps, each message with the party whose call brought it, and a
+/// party makes one call after another. So of two messages that were accepted in successive calls of one party the later never leaves first:
+/// it has left only where the other one has, and as a later one. The ways are those of `leads`.
 ///
 /// Own to this project.
 pub fn by_steps_messages_leave_in_turn<T>()
@@ -195,25 +195,25 @@ pub fn by_steps_a_refused_message_is_not_held<T>()
     ensures kept_out { RefusedIsKeptOut T }
 {}
 
-/// With no call under way each scene in which the world stands is the state that the world is: it has the same messages, capacity and
-/// counts, and is closed or not. So what left since whatever scene it came from, followed by the messages of that state, is what
-/// the scene held followed by what came, message by message.
+/// With no call under way each configuration in which the world stands is the state that the world is: it has the same messages, capacity
+/// and counts, and is closed or not. So what left since whatever configuration it came from, followed by the messages of that state, is
+/// what the configuration held followed by what came, message by message.
 ///
 /// Own to this project.
-pub fn a_scene_at_rest_is_its_state<T: Drop>(world: &World<T>)
+pub fn a_configuration_at_rest_is_its_state<T: Drop>(world: &World<T>)
     ensures state { StandsAsItsState world.now }
     ensures accounts { HasItsAccounts world.now }
 {}
 
 /// What any number of parties do to a new channel is a run by names, where their calls are calls by names. Of the parties and the
 /// cells this is asked, that they keep the headline of a merge (`channel_laws::laws::merges_keep_the_headline`). Of each begin it is
-/// asked that it is that of a call which nothing refuses, and asks what this call asks. Its book is the one that the steps before it
+/// asked that it is that of a call which nothing refuses, and asks what this call asks. Its name state is the one that the steps before it
 /// have made of that of an opening. So the task of a poll is the name that it is for. A poll of a send or a receive may ask its
 /// listener first, as that of a call that blocks does.
 ///
-/// Then each step is one by names, which none of the seven reasons refuses. The book goes on as a world's does: who begins is at work,
-/// who is woken comes last in the order of waking, and who answers has written back to his names. So it is at each moment, the first one
-/// too: beside one who is pending under a name and was not woken there is no message, free place or closing that nobody answers for. A
+/// Then each step is one by names, which none of the seven reasons refuses. The name state goes on as a world's does: who begins is at
+/// work, who is woken comes last in the order of waking, and who answers has written back to his names. So it is at each moment, the first
+/// one too: beside one who is pending under a name and was not woken there is no message, free place or closing that nobody answers for. A
 /// woken one or a call under way answers for it. All this is said of the moments and the steps of which the headline of the merge speaks.
 ///
 /// There is such a merge: the first sender is cloned twice at once.

@@ -34,9 +34,9 @@ impl<T: Drop> World<T> {
     ghost use Rattle.std.specs.Prelude.{◌≡◌, ◌≤◌, ◌<◌, ◌+◌, [], replicate, vec_len, vec_capacity, None, IfOk, IfErr, IfSome, OnErr};
     ghost use Rattle.std.specs.VecDeque.{deque_len, deque_capacity};
     ghost use Rattle.channel_model.specs.declared.name.Waiter.{Waiter};
-    ghost use Rattle.channel_steps.specs.Scene.{Scene};
+    ghost use Rattle.channel_steps.specs.Configuration.{Configuration};
     ghost use Rattle.channel_interleaving.specs.Runs.{accepted_in, left_in};
-    ghost use Rattle.channel_interleaving.specs.Way.{replies_in};
+    ghost use Rattle.channel_interleaving.specs.Reaches.{replies_in};
     ghost use Rattle.channel_world.specs.Carried.{LeadsTo};
     ghost use Rattle.channel_world.specs.Headline.{Headline};
     ghost use Rattle.channel_world.specs.PartyRun.{steps_asked, refused_of, AreSilent, EndsWithAnswer, IsRefused, StepsOnce};
@@ -93,7 +93,7 @@ impl<T: Drop> World<T> {
     /// where that is refused it is `Err(NoMemory)`, whether the party has a call under way or not, and nothing is changed. Nothing
     /// waits. Own to this project.
     pub fn run_party(&mut self, party: PartyId, most: usize) -> Result<Run<T>, NoMemory>
-        ensures headline { IfOk result (λ run. (s : Scene T Waiter) → StandsIn self.old s → Headline
+        ensures headline { IfOk result (λ run. (s : Configuration T Waiter) → StandsIn self.old s → Headline
             (replicate (steps_asked run.trace.items run.stopped) (Step.Step party)) (refused_of party run.stopped)
             self.old run.trace.items run.stopped self.new s) }
         ensures soon { IfOk result (λ run. EndsInFront self.old

@@ -12,10 +12,10 @@ impl<T: Drop> World<T> {
     pub(crate) fn untold_count(&self) -> Option<usize>
         ensures { IfSome result (λ n. untold_count (at_rest self.now).waiting ≤ n) }
     {
-        let sends = self.floor.channel.waiting(Line::Sends);
-        let receives = self.floor.channel.waiting(Line::Receives);
-        let streams = self.floor.channel.waiting(Line::Streams);
-        let closings = self.floor.channel.waiting(Line::Closings);
+        let sends = self.world_state.channel.waiting(Line::Sends);
+        let receives = self.world_state.channel.waiting(Line::Receives);
+        let streams = self.world_state.channel.waiting(Line::Streams);
+        let closings = self.world_state.channel.waiting(Line::Closings);
         let messengers = sends.checked_add(receives)?;
         let listening = streams.checked_add(closings)?;
         messengers.checked_add(listening)
@@ -27,8 +27,8 @@ impl<T: Drop> World<T> {
     {
         match call {
             Call::Close { .. } | Call::Drop { .. } => self.untold_count(),
-            Call::RecvMany { .. } => Some(self.floor.channel.waiting(Line::Sends)),
-            _ => self.floor.channel.waiting(Line::Streams).checked_add(2),
+            Call::RecvMany { .. } => Some(self.world_state.channel.waiting(Line::Sends)),
+            _ => self.world_state.channel.waiting(Line::Streams).checked_add(2),
         }
     }
 }

@@ -31,7 +31,7 @@ impl<T: Drop> World<T> {
     /// that might bring the 2^61st message, where the channel has more than one place.
     ///
     /// No call is under way when this begins, and none when it ends; however the world came about, by calls or by steps of
-    /// any parties. From each scene in which the world stood steps lead to one in which it stands, on which just those replies were
+    /// any parties. From each configuration in which the world stood steps lead to one in which it stands, on which just those replies were
     /// given, in order, that are answered here; and what left the channel, followed by what it holds, is what it held followed by
     /// what came, in order. Nothing here waits. Own to this project.
     pub fn run_calls(&mut self, calls: &mut VecDeque<Call<T>>) -> CallRun<T>

@@ -62,7 +62,7 @@ impl<T: Drop> World<T> {
     fn is_on(&self, line: Line, name: Waiter) -> bool
         ensures { result ≡ is_line line (line_at (at_rest self.now).names name) }
     {
-        self.floor.roll.is_on(line, name)
+        self.world_state.name_table.is_on(line, name)
     }
 
     /// How many of these names belong to this line. None where there is no such number.
@@ -87,7 +87,7 @@ impl<T: Drop> World<T> {
         a_channel_at_rest_is_a_world::<T>();
         self.keeps_names();
         let told = self.count_on(line, woken)?;
-        self.floor.channel.waiting(line).checked_add(told)
+        self.world_state.channel.waiting(line).checked_add(told)
     }
 
     /// How many polls settling makes at most, where these are woken. None where there is no such number.
@@ -152,7 +152,7 @@ impl<T: Drop> World<T> {
     fn woken_names(&self) -> Result<Vec<Waiter>, AllocError>
         ensures { IfOk result (λ names. names.items ≡ (at_rest self.now).waiting.woken) }
     {
-        self.floor.order.woken(&self.floor.roll, self.floor.alloc)
+        self.world_state.order.woken(&self.world_state.name_table, self.world_state.alloc)
     }
 
     /// Room for all that settling answers. None where it was refused, or where somebody is woken and the queue has no positions for the
@@ -192,7 +192,7 @@ impl<T: Drop> World<T> {
     {
         a_poll_of_settling_is_the_models::<T>();
         self.keeps_names();
-        self.floor.poll_alone(name, names)
+        self.world_state.poll_alone(name, names)
     }
 }
 
@@ -218,14 +218,14 @@ impl<T: Drop> World<T> {
     /// Room for just that many answers, and for as many names, is taken before the first poll. Where it is refused, it is `NoMemory`, and
     /// nothing is changed. So it is, where somebody is woken and the channel has more than one place, if the messages that were accepted
     /// and those that may come in come to 2^61. These are none where the channel is closed. Else they are as many as sends are pending, or
-    /// as places are free and receives and streams are pending, which is less. No poll is refused memory: where it goes on waiting,
-    /// the node of the listener that was told serves the next one. So a settling is refused its room, or it settles. Only once all 2^64 - 1 serial
-    /// numbers of a list of listeners were given, the reply of a poll that would go on waiting there says that none was left, and it is
-    /// pending no more; all the rest holds as before.
+    /// as places are free and receives and streams are pending, which is less. No poll is refused memory: where it goes on waiting, the
+    /// node of the listener that was told serves the next one. So a settling is refused its room, or it settles. Only once all 2^64 - 1
+    /// serial numbers of a list of listeners were given, the reply of a poll that would go on waiting there says that none was left, and it
+    /// is pending no more; all the rest holds as before.
     ///
-    /// No call is to be under way, and none is after it. From each scene in which the world stood steps lead to one in which it stands,
-    /// on which just the replies of these polls were given, in order. What left the channel, followed by what it holds, is what it held
-    /// followed by what came, in order. Nothing waits. Own to this project.
+    /// No call is to be under way, and none is after it. From each configuration in which the world stood steps lead to one in which it
+    /// stands, on which just the replies of these polls were given, in order. What left the channel, followed by what it holds, is what it
+    /// held followed by what came, in order. Nothing waits. Own to this project.
     pub fn settle(&mut self) -> Result<Vec<Settled<T>>, NoMemory>
         requires quiet { IsQuiet self.old }
         ensures polls { IfOk result (λ polls. Settles (at_rest self.old) (polls_in polls.items) (at_rest self.new)) }

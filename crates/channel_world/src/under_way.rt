@@ -40,15 +40,15 @@ fn is_receiving(doing: &Doing) -> bool
 
 impl<T: Drop> World<T> {
     ghost use Rattle.std.specs.Prelude.{◌≡◌};
-    ghost use Rattle.channel_world.specs.View.{sight_of};
+    ghost use Rattle.channel_world.specs.View.{observation_of};
 
     /// How many calls are under way of each kind. A walk over the calls under way. Own to this project.
     pub fn calls_by_kind(&self) -> UnderWay
-        ensures sending { result.sending ≡ (sight_of self.now).sending }
-        ensures receiving { result.receiving ≡ (sight_of self.now).receiving }
-        ensures closers { result.closers ≡ (sight_of self.now).closers }
+        ensures sending { result.sending ≡ (observation_of self.now).sending }
+        ensures receiving { result.receiving ≡ (observation_of self.now).receiving }
+        ensures closers { result.closers ≡ (observation_of self.now).closers }
     {
-        let doings = &self.floor.doings;
+        let doings = &self.world_state.doings;
         UnderWay {
             sending: doings.iter().filter(|doing| is_sending(*doing)).count(),
             receiving: doings.iter().filter(|doing| is_receiving(*doing)).count(),

@@ -2,7 +2,7 @@
 use super::call::{Call, Done, WorldRefusal};
 use super::step::{Run, Step};
 use channel_calls::error::OpenError;
-use channel_interleaving::floor::Floor;
+use channel_interleaving::world_state::WorldState;
 use channel_rest::laws::a_call_made_alone_is_the_models;
 use channel_steps::start::is_quiet;
 use concurrent_queue::cells::QueueForm;
@@ -19,21 +19,21 @@ use std::marker::Model;
 /// this project; what the calls answer is as in `async-channel` 2.5.0.
 #[derive(Drop)]
 pub struct World<T> {
-    pub(crate) floor: Floor<T>,
+    pub(crate) world_state: WorldState<T>,
 }
 
 impl<T> Model for World<T> {
     ghost use Rattle.std.specs.Coded.{codes};
-    ghost use Rattle.channel_interleaving.specs.Floor.{IsKept};
+    ghost use Rattle.channel_interleaving.specs.WorldState.{IsKept};
     ghost use Rattle.channel_world.specs.View.{view_of, view_code, WorldView};
 
     ghost Value = { WorldView T };
 
     ghost coded = { view_code (Prim.hlevel codes) };
 
-    ghost view = { λ w. view_of w.floor };
+    ghost view = { λ w. view_of w.world_state };
 
-    ghost invariant = { λ w. IsKept w.floor };
+    ghost invariant = { λ w. IsKept w.world_state };
 }
 
 impl<T: Drop> World<T> {
@@ -53,14 +53,14 @@ impl<T: Drop> World<T> {
         ensures unchanged { OnErr result (ids.new ≡ ids.old) }
         ensures used_up { result ≡ Err OpenError.IdsUsedUp → 2 ^ 64 - 1 < ids.old + 4 }
     {
-        let Ok(floor) = Floor::open(alloc, form) else {
+        let Ok(world_state) = WorldState::open(alloc, form) else {
             return Err(OpenError::NoMemory);
         };
         let Ok(_ids) = ids.next_four() else {
-            drop(floor);
+            drop(world_state);
             return Err(OpenError::IdsUsedUp);
         };
-        Ok(World { floor })
+        Ok(World { world_state })
     }
 
     /// An open channel of this capacity, without a message, and nobody at work.
@@ -107,18 +107,18 @@ impl<T: Drop> World<T> {
 impl<T: Drop> World<T> {
     ghost use Rattle.std.specs.Prelude.{◌≡◌, ◌+◌, [], length, None, Some, IfSome, IsTrue, vec_len};
     ghost use Rattle.channel_model.specs.declared.name.Waiter.{Waiter};
-    ghost use Rattle.channel_steps.specs.Scene.{Scene};
+    ghost use Rattle.channel_steps.specs.Configuration.{Configuration};
     ghost use Rattle.channel_interleaving.specs.Apart.{AreApart};
-    ghost use Rattle.channel_interleaving.specs.Roll.{is_woken};
+    ghost use Rattle.channel_interleaving.specs.NameTable.{is_woken};
     ghost use Rattle.channel_interleaving.specs.Pending.{stands_pending, how_many};
     ghost use Rattle.channel_interleaving.specs.Run.{StopsAt};
     ghost use Rattle.channel_interleaving.specs.Runs.{accepted_in, left_in};
-    ghost use Rattle.channel_interleaving.specs.Way.{replies_in};
+    ghost use Rattle.channel_interleaving.specs.Reaches.{replies_in};
     ghost use Rattle.channel_world.specs.Carried.{LeadsTo};
     ghost use Rattle.channel_world.specs.Headline.{Headline};
     ghost use Rattle.channel_world.specs.StepsLeft.{EndsInFront};
     ghost use Rattle.channel_world.specs.TheEnd.{NothingComesAfter};
-    ghost use Rattle.channel_world.specs.View.{names_in, messages_in, capacity_in, is_closed, calls_in, at_rest, book_of, TellsQuiet, HasPositions, StandsIn, Stands, RanTo, IsKept};
+    ghost use Rattle.channel_world.specs.View.{names_in, messages_in, capacity_in, is_closed, calls_in, at_rest, name_state_of, TellsQuiet, HasPositions, StandsIn, Stands, RanTo, IsKept};
 
     /// Runs steps of any parties, from the front. The first one that is refused stays in front, with nothing of it done;
     /// `stopped` says at which place of the list, counted from 0, and why.
@@ -129,9 +129,9 @@ impl<T: Drop> World<T> {
     /// pending operation stay unwoken beside a message, free place or closing that no woken operation or call under way answers
     /// for. `specs/Headline` has this sentence by sentence, of the run; `specs/Sentences` of each moment and of each step.
     ///
-    /// The promise is of every scene in which the world stood: a plain channel with the calls under way on it, each with its
-    /// moments and marks so far. Some such scene there always is, and a run or a list of calls that comes after leads on from
-    /// the one to which this one came: the replies that were given since a scene, and the accounts of all that was done since, are
+    /// The promise is of every configuration in which the world stood: a plain channel with the calls under way on it, each with its
+    /// moments and marks so far. Some such configuration there always is, and a run or a list of calls that comes after leads on from
+    /// the one to which this one came: the replies that were given since a configuration, and the accounts of all that was done since, are
     /// carried through each of them. The numbers of messages before and after it need none, nor do those of the steps: those that
     /// were made, of which the trace has an entry each, and those that are left are all; and where it didn't stop none is left.
     ///
@@ -142,7 +142,7 @@ impl<T: Drop> World<T> {
     /// counts no positions, so there no send is refused for them. Nothing is refused for the number of steps or calls. Nothing
     /// waits. Own to this project.
     pub fn run_steps(&mut self, steps: &mut VecDeque<Step<T>>) -> Run<T>
-        ensures headline { (s : Scene T Waiter) → StandsIn self.old s
+        ensures headline { (s : Configuration T Waiter) → StandsIn self.old s
             → Headline steps.old.items steps.new.items self.old result.trace.items result.stopped self.new s }
         ensures soon { EndsInFront self.old steps.old.items result.trace.items }
         ensures the_end { NothingComesAfter steps.old.items result.trace.items }
@@ -160,13 +160,13 @@ impl<T: Drop> World<T> {
     /// Makes steps of any parties from the front, up to the first that is refused: they are a run of the channel's steps by names.
     pub(crate) fn make_steps(&mut self, steps: &mut VecDeque<Step<T>>) -> Run<T>
         ensures ran { RanTo steps.old.items steps.new.items self.old result.trace.items self.new }
-        ensures stopped { StopsAt (book_of self.new) steps.new.items (vec_len result.trace) result.stopped }
+        ensures stopped { StopsAt (name_state_of self.new) steps.new.items (vec_len result.trace) result.stopped }
         ensures stands { Stands self.new }
     {
-        self.floor.run_steps(steps)
+        self.world_state.run_steps(steps)
     }
 
-    /// Says that every world stands in a scene, and does nothing. Own to this project.
+    /// Says that every world stands in a configuration, and does nothing. Own to this project.
     pub fn keeps(&self)
         ensures { Stands self.now }
     {
@@ -178,22 +178,22 @@ impl<T: Drop> World<T> {
         ensures kept { IsKept self.now }
         ensures apart { AreApart (names_in self.now) }
     {
-        let _handles = self.floor.roll.handles.iter();
-        let _operations = self.floor.roll.operations.iter();
+        let _handles = self.world_state.name_table.handles.iter();
+        let _operations = self.world_state.name_table.operations.iter();
     }
 
     /// Whether no call is under way. Own to this project.
     pub fn is_quiet(&self) -> bool
         ensures { TellsQuiet self.now result }
     {
-        is_quiet(&self.floor.parties)
+        is_quiet(&self.world_state.parties)
     }
 
     /// How many calls are under way. Own to this project.
     pub fn under_way(&self) -> usize
         ensures { result ≡ calls_in self.now }
     {
-        self.floor.agents.len()
+        self.world_state.agents.len()
     }
 
     /// Whether the queue has positions for so many more messages. One place alone needs none, so there it is always so. Own to
@@ -203,28 +203,28 @@ impl<T: Drop> World<T> {
         ensures all { HasPositions count self.now → IsTrue result }
         ensures one_place { (at_rest self.now).channel.capacity ≡ Some 1 → IsTrue result }
     {
-        self.floor.has_positions(count)
+        self.world_state.has_positions(count)
     }
 
     /// How many messages the channel can hold; none where there is no bound. Own to this project.
     pub fn capacity(&self) -> Option<usize>
         ensures { result ≡ capacity_in self.now }
     {
-        self.floor.channel.capacity()
+        self.world_state.channel.capacity()
     }
 
     /// Whether the channel is closed, by its cells as they are: a call that is to close it may be under way. Own to this project.
     pub fn is_closed(&self) -> bool
         ensures { result ≡ is_closed self.now }
     {
-        self.floor.channel.is_closed()
+        self.world_state.channel.is_closed()
     }
 
     /// How many messages the channel holds. Own to this project.
     pub fn messages(&self) -> u64
         ensures { result ≡ messages_in self.now }
     {
-        self.floor.messages
+        self.world_state.messages
     }
 
     /// How many operations and streams are pending: they live, their last poll ended so, and no poll of them is under way.
@@ -232,14 +232,14 @@ impl<T: Drop> World<T> {
     pub fn pending(&self) -> usize
         ensures { result ≡ how_many stands_pending (names_in self.now) }
     {
-        self.floor.roll.count_pending()
+        self.world_state.name_table.count_pending()
     }
 
     /// How many of those that are pending were woken since their last poll. A walk over all names. Own to this project.
     pub fn woken(&self) -> usize
         ensures { result ≡ how_many is_woken (names_in self.now) }
     {
-        self.floor.roll.count_woken()
+        self.world_state.name_table.count_woken()
     }
 }
 
@@ -247,7 +247,7 @@ impl<T: Drop> World<T> {
     ghost use Rattle.std.specs.Prelude.{◌≡◌, None, IfOk, IfErr, OnErr};
     ghost use Rattle.channel_model.specs.Refusal.{refusal};
     ghost use Rattle.channel_model.specs.Refused.{Answers};
-    ghost use Rattle.channel_interleaving.specs.Way.{reply_of};
+    ghost use Rattle.channel_interleaving.specs.Reaches.{reply_of};
     ghost use Rattle.channel_world.specs.View.{at_rest, IsQuiet, LeadsOn};
 
     /// Makes a call that is not refused, alone; or hands it back where its answer got no room, with nothing changed.
@@ -265,7 +265,7 @@ impl<T: Drop> World<T> {
         let Some(room) = self.room_for(&call) else {
             return Err(call);
         };
-        self.floor.call_alone(call, room)
+        self.world_state.call_alone(call, room)
     }
 
     /// Why the call is refused, room for its answer aside.
@@ -275,11 +275,11 @@ impl<T: Drop> World<T> {
     {
         a_call_made_alone_is_the_models::<T>();
         self.keeps_names();
-        self.floor.roll.refusal(call)
+        self.world_state.name_table.refusal(call)
     }
 
     /// Where the memory of its answers comes from.
     pub(crate) fn alloc(&self) -> Global {
-        self.floor.alloc
+        self.world_state.alloc
     }
 }

@@ -46,8 +46,8 @@ returns-in-Err-clause-alone g c =
     c.step_queue-answer.result c.step_queue-answer.ensures.deed c.in-Some.answer c.in-Err.reply c.answers.result c.in-Some.is
     c.in-Err.ensures c.answers.ensures).0
 
-pub returns-in-Err-clause-scenes : goal.returns-in-Err-clause-scenes
-returns-in-Err-clause-scenes g c =
+pub returns-in-Err-clause-configurations : goal.returns-in-Err-clause-configurations
+returns-in-Err-clause-configurations g c =
     let l = c.loop-answer in
     let count : c.counted.result ≡ counted l.messages (mark_of_queue (mark_of c.step_queue-answer.new.call)) =
     c.counted.ensures ∙ ap (λ (m : QueueMark). counted l.messages (mark_of_queue m)) c.last_mark.ensures in
@@ -71,8 +71,8 @@ returns-in-Some-clause-alone g c =
     (rw c.in-Ok.ensures refl))
     one.0 one.1 one.2 c.answers-in-Some.ensures).0
 
-pub returns-in-Some-clause-scenes : goal.returns-in-Some-clause-scenes
-returns-in-Some-clause-scenes g c =
+pub returns-in-Some-clause-configurations : goal.returns-in-Some-clause-configurations
+returns-in-Some-clause-configurations g c =
     let l = c.loop-answer in
     let count : c.counted.result ≡ counted l.messages (mark_of_queue (mark_of c.step_queue-answer.new.call)) =
     c.counted.ensures ∙ ap (λ (m : QueueMark). counted l.messages (mark_of_queue m)) c.last_mark.ensures in

@@ -46,8 +46,8 @@ returns-in-Some-unsent-clause-alone g c =
     c.step_queue-answer.result c.step_queue-answer.ensures.deed c.in-Some.answer c.in-Some-unsent.reply c.answers.result c.in-Some.is
     c.in-Some-unsent.ensures c.answers.ensures).0
 
-pub returns-in-Some-unsent-clause-scenes : goal.returns-in-Some-unsent-clause-scenes
-returns-in-Some-unsent-clause-scenes g c =
+pub returns-in-Some-unsent-clause-configurations : goal.returns-in-Some-unsent-clause-configurations
+returns-in-Some-unsent-clause-configurations g c =
     let l = c.loop-answer in
     let count : c.counted.result ≡ counted l.messages (mark_of_queue (mark_of c.step_queue-answer.new.call)) =
     c.counted.ensures ∙ ap (λ (m : QueueMark). counted l.messages (mark_of_queue m)) c.last_mark.ensures in
@@ -72,8 +72,8 @@ returns-in-Some-clause-alone g c =
     (rw c.in_default-unsent.ensures refl))
     one.0 one.1 one.2 all.0 all.1 all.2 c.answers-in-Some.ensures).0
 
-pub returns-in-Some-clause-scenes : goal.returns-in-Some-clause-scenes
-returns-in-Some-clause-scenes g c =
+pub returns-in-Some-clause-configurations : goal.returns-in-Some-clause-configurations
+returns-in-Some-clause-configurations g c =
     let l = c.loop-answer in
     let count : c.counted.result ≡ counted l.messages (mark_of_queue (mark_of c.step_queue-answer.new.call)) =
     c.counted.ensures ∙ ap (λ (m : QueueMark). counted l.messages (mark_of_queue m)) c.last_mark.ensures in

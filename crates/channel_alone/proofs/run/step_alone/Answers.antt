@@ -2,14 +2,14 @@ use Rattle.std.proofs.Common.{None, Some}
 use Rattle.channel_calls.specs.Plain.{parts_of}
 use Rattle.channel_alone.proofs.AmpleFacts.{ample_first, ample_next}
 use Rattle.channel_alone.proofs.LoopFacts.{plain_step, way_starts, way_nearer, way_more, way_ends}
-use Rattle.channel_alone.proofs.SceneLoop.{scenes_start, scenes_more, scenes_end}
+use Rattle.channel_alone.proofs.ConfigurationLoop.{configurations_start, configurations_more, configurations_end}
 use Rattle.channel_alone.proofs.run.step_alone.Goals as goal
 
 pub loop-reply-init : goal.loop-reply-init
 loop-reply-init g c =
     let before = parts_of c.args.channel.now in (
       way_starts g.S.Wakes.wakes c.args.ask before c.args.sink.now c.new-call.result c.new-call.ensures.begins,
-      scenes_start g.S.Wakes.wakes c.args.ask before c.args.sink.now c.args.messages.now c.new-call.result
+      configurations_start g.S.Wakes.wakes c.args.ask before c.args.sink.now c.args.messages.now c.new-call.result
           c.new-call.ensures.begins,
       ample_first c.args.ask c.args.channel.now c.new-call.result.stage c.new-call.ensures.takes,
     )
@@ -23,11 +23,11 @@ returns-in-Some-clause-alone g c =
     (parts_of c.step-reply.new.cells) call.stage call.mark c.step-reply.new.sink c.in-Some.reply (plain_step g.S.Wakes.wakes l.channel c.step-reply.new.cells l.sink c.step-reply.new.sink call.mark call.stage _ l.call.stage c.in-Some.ensures.deed)
     c.into_kept-kept.result c.into_kept-kept.ensures
 
-pub returns-in-Some-clause-scenes : goal.returns-in-Some-clause-scenes
-returns-in-Some-clause-scenes g c =
+pub returns-in-Some-clause-configurations : goal.returns-in-Some-clause-configurations
+returns-in-Some-clause-configurations g c =
     let l = c.loop-reply in
     let call = c.step-reply.new.self in
-    scenes_end g.S.Wakes.wakes c.args.ask (parts_of c.args.channel.now) c.args.sink.now c.args.messages.now (parts_of l.channel)
+    configurations_end g.S.Wakes.wakes c.args.ask (parts_of c.args.channel.now) c.args.sink.now c.args.messages.now (parts_of l.channel)
     l.call.stage l.sink l.messages l.invariant.1
     (parts_of c.step-reply.new.cells) call.stage call.mark c.step-reply.new.sink c.counted.result c.last_mark.result
     c.last_mark.ensures c.counted.ensures
@@ -49,7 +49,7 @@ loop-reply-preserved g c =
     let call = c.step-reply.new.self in (
       way_more g.S.Wakes.wakes c.args.ask before c.args.sink.now (parts_of l.channel) l.call.stage l.sink l.invariant.0 now
           call.stage call.mark c.step-reply.new.sink (plain_step g.S.Wakes.wakes l.channel c.step-reply.new.cells l.sink c.step-reply.new.sink call.mark call.stage _ l.call.stage c.in-None.ensures.deed),
-      scenes_more g.S.Wakes.wakes c.args.ask before c.args.sink.now c.args.messages.now (parts_of l.channel) l.call.stage l.sink
+      configurations_more g.S.Wakes.wakes c.args.ask before c.args.sink.now c.args.messages.now (parts_of l.channel) l.call.stage l.sink
           l.messages l.invariant.1
           now call.stage call.mark c.step-reply.new.sink c.counted.result c.last_mark.result c.last_mark.ensures c.counted.ensures
           (plain_step g.S.Wakes.wakes l.channel c.step-reply.new.cells l.sink c.step-reply.new.sink call.mark call.stage _ l.call.stage c.in-None.ensures.deed),

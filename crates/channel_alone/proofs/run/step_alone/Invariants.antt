@@ -2,7 +2,7 @@ use Rattle.channel_calls.specs.Plain.{parts_of}
 use Rattle.channel_alone.proofs.AmpleFacts.{StaysAmple}
 use Rattle.channel_alone.proofs.Order.{measure}
 use Rattle.channel_alone.proofs.LoopFacts.{IsOnItsWay}
-use Rattle.channel_alone.proofs.SceneLoop.{IsBetween}
+use Rattle.channel_alone.proofs.ConfigurationLoop.{IsBetween}
 use Rattle.channel_alone.proofs.run.step_alone.Given as goal
 
 abbrev pub invariant-loop-reply : goal.invariant-loop-reply

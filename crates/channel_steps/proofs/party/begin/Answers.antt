@@ -2,7 +2,7 @@ use Rattle.std.proofs.Common.{refl}
 use Rattle.concurrent_queue.specs.Queue.{asked}
 use Rattle.concurrent_queue.specs.declared.call.QueueAsk.TheVariants.{Pop}
 use Rattle.channel_steps.proofs.RunFacts.{begun}
-use Rattle.channel_steps.proofs.SceneFacts.{map-round}
+use Rattle.channel_steps.proofs.ConfigurationFacts.{map-round}
 use Rattle.channel_steps.proofs.party.begin.Goals as goal
 
 pub returns-clause-begins : goal.returns-clause-begins

@@ -3,8 +3,8 @@ use Rattle.std.proofs.lemmas.Option.{slice_get_read}
 use Rattle.channel_calls.proofs.Interface.{exact_step}
 use Rattle.channel_calls.specs.declared.stage.Kept.{Kept}
 use Rattle.channel_steps.specs.declared.party.Party.{Party}
-use Rattle.channel_steps.specs.Scene.{parties_after, left_by}
-use Rattle.channel_steps.proofs.SceneFacts.{stepped_at, made_at, remove-set, get-set, ids_after}
+use Rattle.channel_steps.specs.Configuration.{parties_after, left_by}
+use Rattle.channel_steps.proofs.ConfigurationFacts.{stepped_at, made_at, remove-set, get-set, ids_after}
 use Rattle.channel_steps.proofs.party.step_at.Goals as goal
 use Rattle.channel_steps.proofs.party.step_at.Goals.{in-Some, in-None}
 

@@ -1,12 +1,12 @@
--- From what every step keeps, in the scene in which the world stands, since no name stands twice.
+-- From what every step keeps, in the configuration in which the world stands, since no name stands twice.
 use Rattle.channel_world.proofs.AsleepFacts.{calls_at_rest}
 use Rattle.channel_world.proofs.NumberFacts.{messages_at_rest, pending_at_rest, woken_at_rest}
-use Rattle.channel_world.proofs.Inside.{floor_of}
+use Rattle.channel_world.proofs.Inside.{world_state_of}
 use Rattle.channel_world.proofs.laws.numbers_are_those_at_rest.Goals as goal
 
 pub returns : goal.returns
 returns g c =
-    let w = (floor_of c.args.world.now) in
+    let w = (world_state_of c.args.world.now) in
     let k = c.keeps.ensures in
     let rests = c.a_channel_at_rest_is_a_world.ensures.as_in_the_world in
     let apart = c.keeps_names.ensures.apart in

@@ -4,7 +4,7 @@ use Rattle.channel_interleaving.specs.OwnerOrder.{woken_in}
 use Rattle.channel_interleaving.proofs.order.Order.woken.Given as goal
 
 abbrev pub invariant-loop-name : goal.invariant-loop-name
-invariant-loop-name g l = l.names.items ++ woken_in l.roll (keys_of l.places) ≡ woken_in l.roll l.self
+invariant-loop-name g l = l.names.items ++ woken_in l.name_table (keys_of l.places) ≡ woken_in l.name_table l.self
 
 abbrev pub decreases-loop-name : goal.decreases-loop-name
 decreases-loop-name g l = length l.places

@@ -3,15 +3,15 @@ use Rattle.std.proofs.Common.{subst}
 use Rattle.channel_world.specs.Account.{AccountView}
 use Rattle.channel_world.specs.Carried.{LeadsTo}
 use Rattle.channel_world.proofs.SinceFacts.{closes_once_to_here, is_never_full_to_here}
-use Rattle.channel_world.proofs.Inside.{floor_of}
+use Rattle.channel_world.proofs.Inside.{world_state_of}
 use Rattle.channel_world.proofs.account.Account.says.Goals as goal
 
 pub returns-clause-closes_once : goal.returns-clause-closes_once
 returns-clause-closes_once g c =
     let led = subst (λ (a : AccountView g.row.T.Denot). LeadsTo a.since a.replies a.until) c.self.view_is c.self.invariant in
-    closes_once_to_here (floor_of c.args.self.now.until) _ _ led
+    closes_once_to_here (world_state_of c.args.self.now.until) _ _ led
 
 pub returns-clause-never_full : goal.returns-clause-never_full
 returns-clause-never_full g c =
     let led = subst (λ (a : AccountView g.row.T.Denot). LeadsTo a.since a.replies a.until) c.self.view_is c.self.invariant in
-    is_never_full_to_here (floor_of c.args.self.now.until) _ _ led
+    is_never_full_to_here (world_state_of c.args.self.now.until) _ _ led

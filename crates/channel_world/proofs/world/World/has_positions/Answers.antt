@@ -1,6 +1,6 @@
 use Rattle.std.proofs.Common.{◌≡◌, Some, IsTrue, inl, subst}
-use Rattle.channel_interleaving.specs.Floor.{HasPositions}
-use Rattle.channel_interleaving.specs.declared.floor.Floor.{Floor}
+use Rattle.channel_interleaving.specs.WorldState.{HasPositions}
+use Rattle.channel_interleaving.specs.declared.world_state.WorldState.{WorldState}
 use Rattle.channel_interleaving.proofs.ShownFacts.{one_place}
 use Rattle.channel_world.specs.World.{at_rest}
 use Rattle.channel_world.proofs.Inside.{inside_is}
@@ -8,16 +8,16 @@ use Rattle.channel_world.proofs.world.World.has_positions.Goals as goal
 
 pub returns-clause-enough : goal.returns-clause-enough
 returns-clause-enough g c =
-    subst (λ (f : Floor g.row.T.Denot). IsTrue c.has_positions.result → HasPositions c.args.count f) (inside_is c.self.inside.floor c.args.self.now c.self.view_is)
+    subst (λ (f : WorldState g.row.T.Denot). IsTrue c.has_positions.result → HasPositions c.args.count f) (inside_is c.self.inside.world_state c.args.self.now c.self.view_is)
     c.has_positions.ensures.enough
 
 pub returns-clause-all : goal.returns-clause-all
 returns-clause-all g c =
-    subst (λ (f : Floor g.row.T.Denot). HasPositions c.args.count f → IsTrue c.has_positions.result) (inside_is c.self.inside.floor c.args.self.now c.self.view_is)
+    subst (λ (f : WorldState g.row.T.Denot). HasPositions c.args.count f → IsTrue c.has_positions.result) (inside_is c.self.inside.world_state c.args.self.now c.self.view_is)
     c.has_positions.ensures.all
 
 pub returns-clause-one_place : goal.returns-clause-one_place
 returns-clause-one_place g c =
     let o = c.self.invariant.listeners in
-    subst (λ (f : Floor g.row.T.Denot). (at_rest f).channel.capacity ≡ Some 1 → IsTrue c.has_positions.result) (inside_is c.self.inside.floor c.args.self.now c.self.view_is)
-    (λ one. c.has_positions.ensures.all (inl (one_place c.self.inside.floor o.scene o.shown one)))
+    subst (λ (f : WorldState g.row.T.Denot). (at_rest f).channel.capacity ≡ Some 1 → IsTrue c.has_positions.result) (inside_is c.self.inside.world_state c.args.self.now c.self.view_is)
+    (λ one. c.has_positions.ensures.all (inl (one_place c.self.inside.world_state o.configuration o.shown one)))

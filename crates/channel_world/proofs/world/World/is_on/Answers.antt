@@ -1,5 +1,5 @@
 use Rattle.std.proofs.Common.{◌≡◌, subst}
-use Rattle.channel_interleaving.specs.declared.floor.Floor.{Floor}
+use Rattle.channel_interleaving.specs.declared.world_state.WorldState.{WorldState}
 use Rattle.channel_model.specs.Laws.{is_line, line_at}
 use Rattle.channel_world.specs.World.{at_rest}
 use Rattle.channel_world.proofs.Inside.{inside_is}
@@ -7,4 +7,4 @@ use Rattle.channel_world.proofs.world.World.is_on.Goals as goal
 
 pub returns : goal.returns
 returns g c =
-    subst (λ (f : Floor g.row.T.Denot). c.is_on.result ≡ is_line c.args.line (line_at (at_rest f).names c.args.name)) (inside_is c.self.inside.floor c.args.self.now c.self.view_is) c.is_on.ensures
+    subst (λ (f : WorldState g.row.T.Denot). c.is_on.result ≡ is_line c.args.line (line_at (at_rest f).names c.args.name)) (inside_is c.self.inside.world_state c.args.self.now c.self.view_is) c.is_on.ensures

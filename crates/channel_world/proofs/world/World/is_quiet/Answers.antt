@@ -1,11 +1,11 @@
 use Rattle.std.proofs.Common.{subst}
-use Rattle.channel_interleaving.specs.Floor.{TellsQuiet}
-use Rattle.channel_interleaving.specs.declared.floor.Floor.{Floor}
+use Rattle.channel_interleaving.specs.WorldState.{TellsQuiet}
+use Rattle.channel_interleaving.specs.declared.world_state.WorldState.{WorldState}
 use Rattle.channel_interleaving.proofs.LoneFacts.{tells_quiet}
 use Rattle.channel_world.proofs.Inside.{inside_is}
 use Rattle.channel_world.proofs.world.World.is_quiet.Goals as goal
 
 pub returns : goal.returns
 returns g c =
-    subst (λ (f : Floor g.row.T.Denot). TellsQuiet f c.is_quiet.result) (inside_is c.self.inside.floor c.args.self.now c.self.view_is)
-    (tells_quiet c.self.inside.floor c.is_quiet.result c.self.invariant.listeners c.is_quiet.ensures)
+    subst (λ (f : WorldState g.row.T.Denot). TellsQuiet f c.is_quiet.result) (inside_is c.self.inside.world_state c.args.self.now c.self.view_is)
+    (tells_quiet c.self.inside.world_state c.is_quiet.result c.self.invariant.listeners c.is_quiet.ensures)

@@ -1,6 +1,6 @@
-use Rattle.channel_interleaving.proofs.FloorFacts.{stands}
-use Rattle.channel_world.proofs.Inside.{floor_of}
+use Rattle.channel_interleaving.proofs.WorldStateFacts.{stands}
+use Rattle.channel_world.proofs.Inside.{world_state_of}
 use Rattle.channel_world.proofs.world.World.keeps.Goals as goal
 
 pub returns : goal.returns
-returns g c = stands (floor_of c.args.self.now) c.keeps_names.ensures.kept.listeners
+returns g c = stands (world_state_of c.args.self.now) c.keeps_names.ensures.kept.listeners

@@ -1,24 +1,24 @@
 -- From a run of a channel by names: what stood, stands at its end.
 use Rattle.std.proofs.Common.{subst}
 use Rattle.channel_interleaving.specs.Runs.{RanTo}
-use Rattle.channel_interleaving.specs.declared.floor.Floor.{Floor}
-use Rattle.channel_interleaving.proofs.FloorFacts.{stands, owned_where}
+use Rattle.channel_interleaving.specs.declared.world_state.WorldState.{WorldState}
+use Rattle.channel_interleaving.proofs.WorldStateFacts.{stands, owned_where}
 use Rattle.channel_world.proofs.Inside.{inside_is}
 use Rattle.channel_world.proofs.world.World.make_steps.Goals as goal
 
 pub invariant_of-self : goal.invariant_of-self
 invariant_of-self g c =
-    let before = stands c.self.inside.floor c.self.invariant.listeners in
-    let ran = c.run_steps.ensures.ran before.scene before.stands in
+    let before = stands c.self.inside.world_state c.self.invariant.listeners in
+    let ran = c.run_steps.ensures.ran before.configuration before.stands in
     record { listeners = owned_where c.run_steps.new.self ran.last ran.stands; at_work = c.run_steps.ensures.at_work }
 
 pub returns-clause-ran : goal.returns-clause-ran
 returns-clause-ran g c =
-    subst (λ (f : Floor g.row.T.Denot). RanTo c.args.steps.now.items c.run_steps.new.steps.items f c.run_steps.result.trace.items c.run_steps.new.self)
-    (inside_is c.self.inside.floor c.args.self.now c.self.view_is) c.run_steps.ensures.ran
+    subst (λ (f : WorldState g.row.T.Denot). RanTo c.args.steps.now.items c.run_steps.new.steps.items f c.run_steps.result.trace.items c.run_steps.new.self)
+    (inside_is c.self.inside.world_state c.args.self.now c.self.view_is) c.run_steps.ensures.ran
 
 pub returns-clause-stands : goal.returns-clause-stands
 returns-clause-stands g c =
-    let before = stands c.self.inside.floor c.self.invariant.listeners in
-    let ran = c.run_steps.ensures.ran before.scene before.stands in
-    record { scene = ran.last; stands = ran.stands }
+    let before = stands c.self.inside.world_state c.self.invariant.listeners in
+    let ran = c.run_steps.ensures.ran before.configuration before.stands in
+    record { configuration = ran.last; stands = ran.stands }

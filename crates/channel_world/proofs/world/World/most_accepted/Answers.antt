@@ -1,17 +1,17 @@
 -- From the numbers of those who are pending on each line, and of the places that are free.
 use Rattle.std.proofs.Common.{arith, ◌≡◌, ◌∙◌, ◌+◌, length, false, Some, sym}
 use Rattle.channel_calls.specs.declared.stage.Line.TheVariants.{Sends, Receives, Streams}
-use Rattle.channel_interleaving.proofs.FloorFacts.{stands}
+use Rattle.channel_interleaving.proofs.WorldStateFacts.{stands}
 use Rattle.channel_world.specs.Settled.{pending_on}
 use Rattle.channel_world.specs.World.{at_rest}
 use Rattle.channel_world.proofs.ComingIn.{bounded_in}
 use Rattle.channel_world.proofs.NumberFacts.{messages_at_rest}
-use Rattle.channel_world.proofs.Inside.{floor_of}
+use Rattle.channel_world.proofs.Inside.{world_state_of}
 use Rattle.channel_world.proofs.world.World.most_accepted.Goals as goal
 
 pub returns-then-sends-places : goal.returns-then-sends-places
 returns-then-sends-places g c =
-    let f = floor_of c.args.self.now in
+    let f = world_state_of c.args.self.now in
     let s = at_rest f in
     let k = stands f c.keeps_names.ensures.kept.listeners in
     let held : c.messages.result ≡ length s.channel.messages = c.messages.ensures ∙ messages_at_rest f k c.requires.quiet in
@@ -27,7 +27,7 @@ returns-then-sends-places g c =
 
 pub returns-else-sends-places : goal.returns-else-sends-places
 returns-else-sends-places g c =
-    let f = floor_of c.args.self.now in
+    let f = world_state_of c.args.self.now in
     let s = at_rest f in
     let k = stands f c.keeps_names.ensures.kept.listeners in
     let held : c.messages.result ≡ length s.channel.messages = c.messages.ensures ∙ messages_at_rest f k c.requires.quiet in

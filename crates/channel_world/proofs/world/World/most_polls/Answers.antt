@@ -4,12 +4,12 @@ use Rattle.channel_model.specs.declared.name.Waiter.{Waiter}
 use Rattle.channel_world.specs.World.{at_rest}
 use Rattle.channel_world.proofs.SettleFacts.{just_so_many}
 use Rattle.channel_world.proofs.Tasks.{just_it}
-use Rattle.channel_world.proofs.Inside.{floor_of}
+use Rattle.channel_world.proofs.Inside.{world_state_of}
 use Rattle.channel_world.proofs.world.World.most_polls.Goals as goal
 
 pub returns : goal.returns
 returns g c =
-    let s = at_rest (floor_of c.args.self.now) in
+    let s = at_rest (world_state_of c.args.self.now) in
     let sends = c.in_ok-sends.sends in
     let receives = c.in_ok-receives.receives in
     let streams = c.in_ok-streams.streams in

@@ -1,20 +1,20 @@
 -- From the parts of a channel that was just opened.
 use Rattle.std.proofs.Common.{refl}
 use Rattle.concurrent_queue.specs.Capacity.{capacity_of}
-use Rattle.channel_steps.specs.Run.{new_scene}
-use Rattle.channel_interleaving.specs.Floor.{parts_in}
-use Rattle.channel_interleaving.proofs.FloorFacts.{new_kept, no_parties, stands_in}
+use Rattle.channel_steps.specs.Run.{new_configuration}
+use Rattle.channel_interleaving.specs.WorldState.{parts_in}
+use Rattle.channel_interleaving.proofs.WorldStateFacts.{new_kept, no_parties, stands_in}
 use Rattle.channel_world.proofs.Opening.{opened_is}
 use Rattle.channel_world.proofs.world.World.open.Goals as goal
 
 pub returns-clause-shown : goal.returns-clause-shown
 returns-clause-shown g c =
     let o = c.in-Ok.ensures in
-    let first = new_scene (capacity_of c.args.form) in
-    record { stands = stands_in c.in-Ok.floor first o.shown (new_kept c.in-Ok.floor (capacity_of c.args.form) o.book); book = o.book }
+    let first = new_configuration (capacity_of c.args.form) in
+    record { stands = stands_in c.in-Ok.world_state first o.shown (new_kept c.in-Ok.world_state (capacity_of c.args.form) o.name_state); name_state = o.name_state }
 
 pub returns-clause-open : goal.returns-clause-open
 returns-clause-open g c =
-    let f = c.in-Ok.floor in
-    let quiet = no_parties (parts_in f) f.parties.items (new_scene (capacity_of c.args.form)) refl c.in-Ok.ensures.shown.shows in
+    let f = c.in-Ok.world_state in
+    let quiet = no_parties (parts_in f) f.parties.items (new_configuration (capacity_of c.args.form)) refl c.in-Ok.ensures.shown.shows in
     opened_is f (capacity_of c.args.form) (returns-clause-shown g c) quiet

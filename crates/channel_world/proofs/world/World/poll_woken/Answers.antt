@@ -5,44 +5,44 @@ use Rattle.channel_interleaving.proofs.LoneFacts.{call_kept, call_leads}
 use Rattle.channel_interleaving.proofs.WokenPolls.{woken_admitted}
 use Rattle.channel_model.specs.Settling.{poll_of}
 use Rattle.channel_world.proofs.Polls.{poll_brings_within, poll_wakes_few, poll_answers}
-use Rattle.channel_world.proofs.Inside.{floor_of, inside_is}
+use Rattle.channel_world.proofs.Inside.{world_state_of, inside_is}
 use Rattle.channel_world.proofs.world.World.poll_woken.Goals as goal
 
 pub poll_alone-requires-clause-room : goal.poll_alone-requires-clause-room
 poll_alone-requires-clause-room g c =
     let k = c.keeps_names.ensures in
-    rw (inside_is c.self.inside.floor c.args.self.now c.self.view_is)
-    (poll_wakes_few (floor_of c.args.self.now) k.kept c.requires.quiet c.a_poll_of_settling_is_the_models.ensures c.args.name c.requires.woken _ _
+    rw (inside_is c.self.inside.world_state c.args.self.now c.self.view_is)
+    (poll_wakes_few (world_state_of c.args.self.now) k.kept c.requires.quiet c.a_poll_of_settling_is_the_models.ensures c.args.name c.requires.woken _ _
     c.requires.room)
 
 pub poll_alone-requires-clause-limit : goal.poll_alone-requires-clause-limit
 poll_alone-requires-clause-limit g c =
     let k = c.keeps_names.ensures in
-    rw (inside_is c.self.inside.floor c.args.self.now c.self.view_is)
-    (poll_brings_within (floor_of c.args.self.now) k.kept c.requires.quiet c.a_poll_of_settling_is_the_models.ensures c.args.name c.requires.woken
+    rw (inside_is c.self.inside.world_state c.args.self.now c.self.view_is)
+    (poll_brings_within (world_state_of c.args.self.now) k.kept c.requires.quiet c.a_poll_of_settling_is_the_models.ensures c.args.name c.requires.woken
     c.requires.limit)
 
 pub invariant_of-self : goal.invariant_of-self
 invariant_of-self g c =
     let a = c.poll_alone.ensures in
-    let old = (floor_of c.args.self.now) in
+    let old = (world_state_of c.args.self.now) in
     let p : PollsAlone c.args.name old c.args.names.items c.poll_alone.result.reply c.poll_alone.result.names.items c.poll_alone.new.self
-    = rw (sym (inside_is c.self.inside.floor c.args.self.now c.self.view_is)) a.polled in
+    = rw (sym (inside_is c.self.inside.world_state c.args.self.now c.self.view_is)) a.polled in
     call_kept (poll_of c.args.name) old c.poll_alone.new.self c.poll_alone.result.reply p.woken c.keeps_names.ensures.kept c.requires.quiet a.at_work
-    (woken_admitted old.roll old.order c.args.name c.requires.woken) p.called
+    (woken_admitted old.name_table old.order c.args.name c.requires.woken) p.called
 
 pub returns-clause-polled : goal.returns-clause-polled
 returns-clause-polled g c =
     let k = c.keeps_names.ensures in
-    poll_answers (floor_of c.args.self.now) k.kept c.requires.quiet c.a_poll_of_settling_is_the_models.ensures c.args.name c.requires.woken
+    poll_answers (world_state_of c.args.self.now) k.kept c.requires.quiet c.a_poll_of_settling_is_the_models.ensures c.args.name c.requires.woken
     c.poll_alone.new.self c.args.names.items c.poll_alone.result.reply c.poll_alone.result.names.items c.poll_alone.ensures.quiet
-    (rw (sym (inside_is c.self.inside.floor c.args.self.now c.self.view_is)) c.poll_alone.ensures.polled)
+    (rw (sym (inside_is c.self.inside.world_state c.args.self.now c.self.view_is)) c.poll_alone.ensures.polled)
 
 pub returns-clause-leads : goal.returns-clause-leads
 returns-clause-leads g c =
     let a = c.poll_alone.ensures in
-    let old = (floor_of c.args.self.now) in
+    let old = (world_state_of c.args.self.now) in
     let p : PollsAlone c.args.name old c.args.names.items c.poll_alone.result.reply c.poll_alone.result.names.items c.poll_alone.new.self
-    = rw (sym (inside_is c.self.inside.floor c.args.self.now c.self.view_is)) a.polled in
+    = rw (sym (inside_is c.self.inside.world_state c.args.self.now c.self.view_is)) a.polled in
     call_leads (poll_of c.args.name) old c.poll_alone.new.self c.poll_alone.result.reply p.woken c.keeps_names.ensures.kept.at_work c.requires.quiet
-    (woken_admitted old.roll old.order c.args.name c.requires.woken) p.called
+    (woken_admitted old.name_table old.order c.args.name c.requires.woken) p.called

@@ -1,13 +1,13 @@
 -- From what is refused of a channel by names.
 use Rattle.std.proofs.Common.{◌∙◌, ap}
 use Rattle.channel_interleaving.specs.Refusal as names
-use Rattle.channel_interleaving.specs.declared.floor.Floor.{Floor}
+use Rattle.channel_interleaving.specs.declared.world_state.WorldState.{WorldState}
 use Rattle.channel_world.proofs.Whole.{refused_alike}
-use Rattle.channel_world.proofs.Inside.{floor_of, inside_is}
+use Rattle.channel_world.proofs.Inside.{world_state_of, inside_is}
 use Rattle.channel_world.proofs.world.World.refusal.Goals as goal
 
 pub returns : goal.returns
 returns g c =
     c.refusal.ensures
-    ∙ (ap (λ (f : Floor g.row.T.Denot). names.begin_refusal f.roll c.args.call.now) (inside_is c.self.inside.floor c.args.self.now c.self.view_is)
-    ∙ refused_alike c.a_call_made_alone_is_the_models.ensures.refused (floor_of c.args.self.now) c.keeps_names.ensures.kept c.requires.quiet c.args.call.now)
+    ∙ (ap (λ (f : WorldState g.row.T.Denot). names.begin_refusal f.name_table c.args.call.now) (inside_is c.self.inside.world_state c.args.self.now c.self.view_is)
+    ∙ refused_alike c.a_call_made_alone_is_the_models.ensures.refused (world_state_of c.args.self.now) c.keeps_names.ensures.kept c.requires.quiet c.args.call.now)

@@ -1,27 +1,27 @@
 -- From the number of tasks; a call that closes nothing wakes two more than the streams at most.
 use Rattle.std.proofs.Common.{arith, ◌+◌, ◌≤◌, IfSome, length, subst, sym}
-use Rattle.channel_interleaving.specs.Floor.{parts_in}
-use Rattle.channel_interleaving.specs.declared.floor.Floor.{Floor}
+use Rattle.channel_interleaving.specs.WorldState.{parts_in}
+use Rattle.channel_interleaving.specs.declared.world_state.WorldState.{WorldState}
 use Rattle.channel_model.specs.declared.call.Call.{Call}
 use Rattle.channel_world.specs.World.{at_rest, most_woken}
 use Rattle.channel_world.proofs.Tasks.{few_tasks, closes_nothing, no_less}
-use Rattle.channel_world.proofs.Inside.{floor_of, inside_is}
+use Rattle.channel_world.proofs.Inside.{world_state_of, inside_is}
 use Rattle.channel_world.proofs.world.World.room_for.Goals as goal
 
 pub returns-in_default : goal.returns-in_default
 returns-in_default g c =
-    let f = c.self.inside.floor in
+    let f = c.self.inside.world_state in
     let few = few_tasks (parts_in f).roster.streams.waiting in
     let most = closes_nothing c.args.call.now (at_rest f).waiting c.in_default.not-Close c.in_default.not-Drop c.in_default.not-RecvMany in
     let count = c.waiting-in_default.ensures in
-    subst (λ (x : Floor g.row.T.Denot). IfSome c.checked_add.result (λ n. most_woken c.args.call.now (at_rest x).waiting ≤ n)) (inside_is c.self.inside.floor c.args.self.now c.self.view_is)
+    subst (λ (x : WorldState g.row.T.Denot). IfSome c.checked_add.result (λ n. most_woken c.args.call.now (at_rest x).waiting ≤ n)) (inside_is c.self.inside.world_state c.args.self.now c.self.view_is)
     (no_less _ c.checked_add.result _ (c.waiting-in_default.result + 2) c.checked_add.ensures (omega (arith, few, most, count)))
 
 pub returns-in-RecvMany : goal.returns-in-RecvMany
 returns-in-RecvMany g c =
-    let f = c.self.inside.floor in
+    let f = c.self.inside.world_state in
     let few = few_tasks (parts_in f).roster.sends.waiting in
     let count = c.waiting.ensures in
     let enough : length (at_rest f).waiting.sends ≤ c.waiting.result = omega (arith, few, count) in
-    subst (λ (x : Call g.row.T.Denot). most_woken x (at_rest (floor_of c.args.self.now)).waiting ≤ c.waiting.result) (sym c.in-RecvMany.is)
-    (subst (λ (x : Floor g.row.T.Denot). length (at_rest x).waiting.sends ≤ c.waiting.result) (inside_is c.self.inside.floor c.args.self.now c.self.view_is) enough)
+    subst (λ (x : Call g.row.T.Denot). most_woken x (at_rest (world_state_of c.args.self.now)).waiting ≤ c.waiting.result) (sym c.in-RecvMany.is)
+    (subst (λ (x : WorldState g.row.T.Denot). length (at_rest x).waiting.sends ≤ c.waiting.result) (inside_is c.self.inside.world_state c.args.self.now c.self.view_is) enough)

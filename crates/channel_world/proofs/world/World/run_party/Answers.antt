@@ -7,9 +7,9 @@ use Rattle.channel_interleaving.specs.declared.step.Step.TheVariants as step
 use Rattle.channel_interleaving.proofs.Interface.{ran_leads}
 use Rattle.channel_world.specs.PartyRun.{refused_of, AreSilent, EndsWithAnswer, IsRefused, StepsOnce}
 use Rattle.channel_world.proofs.HeadlineFacts.{headline, ends_in_front, counted}
-use Rattle.channel_interleaving.proofs.FloorFacts.{ran_none}
+use Rattle.channel_interleaving.proofs.WorldStateFacts.{ran_none}
 use Rattle.channel_world.proofs.PartyFacts.{Ended, ended_refused, ended_well, not_silent, answer_ends, once_silent, none_written, party_more, silent_ends, silent_more, some_written}
-use Rattle.channel_world.proofs.Inside.{floor_of}
+use Rattle.channel_world.proofs.Inside.{world_state_of}
 use Rattle.channel_world.proofs.world.World.run_party.Goals as goal
 
 pub loop-made-init : goal.loop-made-init
@@ -17,8 +17,8 @@ loop-made-init g c =
     let none = c.new-trace.ensures.items in
     record {
       count = ap (λ (t : List (Entry g.row.T.Denot)). length t) none;
-      ran = subst (λ (t : List (Entry g.row.T.Denot)). RanTo [] [] (floor_of c.args.self.now) t (floor_of c.args.self.now)) (sym none) (ran_none []
-          (floor_of c.args.self.now));
+      ran = subst (λ (t : List (Entry g.row.T.Denot)). RanTo [] [] (world_state_of c.args.self.now) t (world_state_of c.args.self.now)) (sym none) (ran_none []
+          (world_state_of c.args.self.now));
       silent = subst (λ (t : List (Entry g.row.T.Denot)). AreSilent t) (sym none) tt;
       at_work = λ some. absurd (let long = ap (λ (t : List (Entry g.row.T.Denot)). length t) none in omega (arith, long, some));
       unmoved = λ e. refl;
@@ -28,21 +28,21 @@ loop-made-init g c =
 
 pub returns-then-not-have_room-clause-headline : goal.returns-then-not-have_room-clause-headline
 returns-then-not-have_room-clause-headline g c =
-    let ended : Ended c.args.party (floor_of c.args.self.now) c.stopped.result.trace.items c.stopped.result.stopped (floor_of c.loop-made.self) =
+    let ended : Ended c.args.party (world_state_of c.args.self.now) c.stopped.result.trace.items c.stopped.result.stopped (world_state_of c.loop-made.self) =
     (let trace = c.loop-made.trace.items in
     let some : 0 < length trace = some_written (vec_len c.have_room.new.trace) c.have_room.new.trace.items trace
     (sym c.is_empty.ensures ∙ c.if-is_empty.false) c.have_room.new.trace.ok.0 c.have_room.ensures.trace in
-    ended_refused c.args.party c.loop-made._made (floor_of c.args.self.now) trace (floor_of c.loop-made.self) (floor_of c.loop-made.self) NoMemory
+    ended_refused c.args.party c.loop-made._made (world_state_of c.args.self.now) trace (world_state_of c.loop-made.self) (world_state_of c.loop-made.self) NoMemory
     c.stopped.result.trace.items c.stopped.result.stopped (vec_len c.have_room.new.trace) c.loop-made.invariant.count
-    c.loop-made.invariant.ran (ran_none (step.Step c.args.party ∷ []) (floor_of c.loop-made.self)) (inr (
+    c.loop-made.invariant.ran (ran_none (step.Step c.args.party ∷ []) (world_state_of c.loop-made.self)) (inr (
       c.loop-made.invariant.at_work
           some,
       refl,
     ))
     (ap (λ t. t.items) c.stopped.ensures.trace ∙ c.have_room.ensures.trace) c.stopped.ensures.stopped
     (c.have_room.new.trace.ok.0 ∙ ap (λ (t : List (Entry g.row.T.Denot)). length t) c.have_room.ensures.trace)) in
-    headline _ (refused_of c.args.party c.stopped.result.stopped) (floor_of c.args.self.now) c.stopped.result.trace.items
-    c.stopped.result.stopped (floor_of c.loop-made.self) ended.ran ended.stops
+    headline _ (refused_of c.args.party c.stopped.result.stopped) (world_state_of c.args.self.now) c.stopped.result.trace.items
+    c.stopped.result.stopped (world_state_of c.loop-made.self) ended.ran ended.stops
 
 pub returns-then-not-have_room-clause-answered : goal.returns-then-not-have_room-clause-answered
 returns-then-not-have_room-clause-answered g c =
@@ -52,13 +52,13 @@ returns-then-not-have_room-clause-answered g c =
 
 pub returns-then-not-have_room-clause-leads : goal.returns-then-not-have_room-clause-leads
 returns-then-not-have_room-clause-leads g c =
-    let ended : Ended c.args.party (floor_of c.args.self.now) c.stopped.result.trace.items c.stopped.result.stopped (floor_of c.loop-made.self) =
+    let ended : Ended c.args.party (world_state_of c.args.self.now) c.stopped.result.trace.items c.stopped.result.stopped (world_state_of c.loop-made.self) =
     (let trace = c.loop-made.trace.items in
     let some : 0 < length trace = some_written (vec_len c.have_room.new.trace) c.have_room.new.trace.items trace
     (sym c.is_empty.ensures ∙ c.if-is_empty.false) c.have_room.new.trace.ok.0 c.have_room.ensures.trace in
-    ended_refused c.args.party c.loop-made._made (floor_of c.args.self.now) trace (floor_of c.loop-made.self) (floor_of c.loop-made.self) NoMemory
+    ended_refused c.args.party c.loop-made._made (world_state_of c.args.self.now) trace (world_state_of c.loop-made.self) (world_state_of c.loop-made.self) NoMemory
     c.stopped.result.trace.items c.stopped.result.stopped (vec_len c.have_room.new.trace) c.loop-made.invariant.count
-    c.loop-made.invariant.ran (ran_none (step.Step c.args.party ∷ []) (floor_of c.loop-made.self)) (inr (
+    c.loop-made.invariant.ran (ran_none (step.Step c.args.party ∷ []) (world_state_of c.loop-made.self)) (inr (
       c.loop-made.invariant.at_work
           some,
       refl,
@@ -66,40 +66,40 @@ returns-then-not-have_room-clause-leads g c =
     (ap (λ t. t.items) c.stopped.ensures.trace ∙ c.have_room.ensures.trace) c.stopped.ensures.stopped
     (c.have_room.new.trace.ok.0 ∙ ap (λ (t : List (Entry g.row.T.Denot)). length t) c.have_room.ensures.trace)) in
     record {
-      on = ran_leads _ (refused_of c.args.party c.stopped.result.stopped) (floor_of c.args.self.now) c.stopped.result.trace.items (floor_of c.loop-made.self)
+      on = ran_leads _ (refused_of c.args.party c.stopped.result.stopped) (world_state_of c.args.self.now) c.stopped.result.trace.items (world_state_of c.loop-made.self)
           ended.ran;
     }
 
 pub returns-then-not-have_room-clause-messages : goal.returns-then-not-have_room-clause-messages
 returns-then-not-have_room-clause-messages g c =
-    let ended : Ended c.args.party (floor_of c.args.self.now) c.stopped.result.trace.items c.stopped.result.stopped (floor_of c.loop-made.self) =
+    let ended : Ended c.args.party (world_state_of c.args.self.now) c.stopped.result.trace.items c.stopped.result.stopped (world_state_of c.loop-made.self) =
     (let trace = c.loop-made.trace.items in
     let some : 0 < length trace = some_written (vec_len c.have_room.new.trace) c.have_room.new.trace.items trace
     (sym c.is_empty.ensures ∙ c.if-is_empty.false) c.have_room.new.trace.ok.0 c.have_room.ensures.trace in
-    ended_refused c.args.party c.loop-made._made (floor_of c.args.self.now) trace (floor_of c.loop-made.self) (floor_of c.loop-made.self) NoMemory
+    ended_refused c.args.party c.loop-made._made (world_state_of c.args.self.now) trace (world_state_of c.loop-made.self) (world_state_of c.loop-made.self) NoMemory
     c.stopped.result.trace.items c.stopped.result.stopped (vec_len c.have_room.new.trace) c.loop-made.invariant.count
-    c.loop-made.invariant.ran (ran_none (step.Step c.args.party ∷ []) (floor_of c.loop-made.self)) (inr (
+    c.loop-made.invariant.ran (ran_none (step.Step c.args.party ∷ []) (world_state_of c.loop-made.self)) (inr (
       c.loop-made.invariant.at_work
           some,
       refl,
     ))
     (ap (λ t. t.items) c.stopped.ensures.trace ∙ c.have_room.ensures.trace) c.stopped.ensures.stopped
     (c.have_room.new.trace.ok.0 ∙ ap (λ (t : List (Entry g.row.T.Denot)). length t) c.have_room.ensures.trace)) in
-    counted _ (refused_of c.args.party c.stopped.result.stopped) (floor_of c.args.self.now) c.stopped.result.trace.items (floor_of c.loop-made.self)
+    counted _ (refused_of c.args.party c.stopped.result.stopped) (world_state_of c.args.self.now) c.stopped.result.trace.items (world_state_of c.loop-made.self)
     ended.ran c.keeps.ensures
 
 pub returns-then-answered-clause-headline : goal.returns-then-answered-clause-headline
 returns-then-answered-clause-headline g c =
-    let ended : Ended c.args.party (floor_of c.args.self.now) c.step_party.new.trace.items None (floor_of c.step_party.new.self) =
+    let ended : Ended c.args.party (world_state_of c.args.self.now) c.step_party.new.trace.items None (world_state_of c.step_party.new.self) =
     (let once = (subst (λ (t : List (Entry g.row.T.Denot)). StepsOnce c.args.party c.loop-made.self t c.in-Ok.answered
     c.step_party.new.trace.items c.step_party.new.self) c.have_room.ensures.trace c.in-Ok.ensures.made) in
     let count = c.loop-made.invariant.count in
     let long : length c.step_party.new.trace.items ≡ c.loop-made._made + 1 =
     (let w = ap (λ (t : List (Entry g.row.T.Denot)). length t) once.written in grind (arith, common_steps, w, count)) in
-    ended_well c.args.party (c.loop-made._made + 1) (floor_of c.args.self.now) c.step_party.new.trace.items (floor_of c.step_party.new.self) long
-    (party_more c.args.party c.loop-made._made (floor_of c.args.self.now) c.loop-made.trace.items (floor_of c.loop-made.self) c.in-Ok.answered
-    c.step_party.new.trace.items (floor_of c.step_party.new.self) c.loop-made.invariant.ran once)) in
-    headline _ (refused_of c.args.party None) (floor_of c.args.self.now) c.step_party.new.trace.items None (floor_of c.step_party.new.self) ended.ran
+    ended_well c.args.party (c.loop-made._made + 1) (world_state_of c.args.self.now) c.step_party.new.trace.items (world_state_of c.step_party.new.self) long
+    (party_more c.args.party c.loop-made._made (world_state_of c.args.self.now) c.loop-made.trace.items (world_state_of c.loop-made.self) c.in-Ok.answered
+    c.step_party.new.trace.items (world_state_of c.step_party.new.self) c.loop-made.invariant.ran once)) in
+    headline _ (refused_of c.args.party None) (world_state_of c.args.self.now) c.step_party.new.trace.items None (world_state_of c.step_party.new.self) ended.ran
     ended.stops
 
 pub returns-then-answered-clause-answered : goal.returns-then-answered-clause-answered
@@ -111,29 +111,29 @@ returns-then-answered-clause-answered g c =
 
 pub returns-then-answered-clause-leads : goal.returns-then-answered-clause-leads
 returns-then-answered-clause-leads g c =
-    let ended : Ended c.args.party (floor_of c.args.self.now) c.step_party.new.trace.items None (floor_of c.step_party.new.self) =
+    let ended : Ended c.args.party (world_state_of c.args.self.now) c.step_party.new.trace.items None (world_state_of c.step_party.new.self) =
     (let once = (subst (λ (t : List (Entry g.row.T.Denot)). StepsOnce c.args.party c.loop-made.self t c.in-Ok.answered
     c.step_party.new.trace.items c.step_party.new.self) c.have_room.ensures.trace c.in-Ok.ensures.made) in
     let count = c.loop-made.invariant.count in
     let long : length c.step_party.new.trace.items ≡ c.loop-made._made + 1 =
     (let w = ap (λ (t : List (Entry g.row.T.Denot)). length t) once.written in grind (arith, common_steps, w, count)) in
-    ended_well c.args.party (c.loop-made._made + 1) (floor_of c.args.self.now) c.step_party.new.trace.items (floor_of c.step_party.new.self) long
-    (party_more c.args.party c.loop-made._made (floor_of c.args.self.now) c.loop-made.trace.items (floor_of c.loop-made.self) c.in-Ok.answered
-    c.step_party.new.trace.items (floor_of c.step_party.new.self) c.loop-made.invariant.ran once)) in
-    record { on = ran_leads _ (refused_of c.args.party None) (floor_of c.args.self.now) c.step_party.new.trace.items (floor_of c.step_party.new.self) ended.ran }
+    ended_well c.args.party (c.loop-made._made + 1) (world_state_of c.args.self.now) c.step_party.new.trace.items (world_state_of c.step_party.new.self) long
+    (party_more c.args.party c.loop-made._made (world_state_of c.args.self.now) c.loop-made.trace.items (world_state_of c.loop-made.self) c.in-Ok.answered
+    c.step_party.new.trace.items (world_state_of c.step_party.new.self) c.loop-made.invariant.ran once)) in
+    record { on = ran_leads _ (refused_of c.args.party None) (world_state_of c.args.self.now) c.step_party.new.trace.items (world_state_of c.step_party.new.self) ended.ran }
 
 pub returns-then-answered-clause-messages : goal.returns-then-answered-clause-messages
 returns-then-answered-clause-messages g c =
-    let ended : Ended c.args.party (floor_of c.args.self.now) c.step_party.new.trace.items None (floor_of c.step_party.new.self) =
+    let ended : Ended c.args.party (world_state_of c.args.self.now) c.step_party.new.trace.items None (world_state_of c.step_party.new.self) =
     (let once = (subst (λ (t : List (Entry g.row.T.Denot)). StepsOnce c.args.party c.loop-made.self t c.in-Ok.answered
     c.step_party.new.trace.items c.step_party.new.self) c.have_room.ensures.trace c.in-Ok.ensures.made) in
     let count = c.loop-made.invariant.count in
     let long : length c.step_party.new.trace.items ≡ c.loop-made._made + 1 =
     (let w = ap (λ (t : List (Entry g.row.T.Denot)). length t) once.written in grind (arith, common_steps, w, count)) in
-    ended_well c.args.party (c.loop-made._made + 1) (floor_of c.args.self.now) c.step_party.new.trace.items (floor_of c.step_party.new.self) long
-    (party_more c.args.party c.loop-made._made (floor_of c.args.self.now) c.loop-made.trace.items (floor_of c.loop-made.self) c.in-Ok.answered
-    c.step_party.new.trace.items (floor_of c.step_party.new.self) c.loop-made.invariant.ran once)) in
-    counted _ (refused_of c.args.party None) (floor_of c.args.self.now) c.step_party.new.trace.items (floor_of c.step_party.new.self) ended.ran
+    ended_well c.args.party (c.loop-made._made + 1) (world_state_of c.args.self.now) c.step_party.new.trace.items (world_state_of c.step_party.new.self) long
+    (party_more c.args.party c.loop-made._made (world_state_of c.args.self.now) c.loop-made.trace.items (world_state_of c.loop-made.self) c.in-Ok.answered
+    c.step_party.new.trace.items (world_state_of c.step_party.new.self) c.loop-made.invariant.ran once)) in
+    counted _ (refused_of c.args.party None) (world_state_of c.args.self.now) c.step_party.new.trace.items (world_state_of c.step_party.new.self) ended.ran
     c.keeps.ensures
 
 pub returns-then-answered-clause-short : goal.returns-then-answered-clause-short
@@ -145,18 +145,18 @@ returns-then-answered-clause-short g c = λ none silent.
 
 pub returns-in-Err-clause-headline : goal.returns-in-Err-clause-headline
 returns-in-Err-clause-headline g c =
-    let ended : Ended c.args.party (floor_of c.args.self.now) c.stopped-in-Err.result.trace.items c.stopped-in-Err.result.stopped
-    (floor_of c.step_party.new.self) =
+    let ended : Ended c.args.party (world_state_of c.args.self.now) c.stopped-in-Err.result.trace.items c.stopped-in-Err.result.stopped
+    (world_state_of c.step_party.new.self) =
     (let refused = (subst (λ (t : List (Entry g.row.T.Denot)). IsRefused c.args.party c.loop-made.self t c.in-Err.why
     c.step_party.new.trace.items c.step_party.new.self) c.have_room.ensures.trace c.in-Err.ensures.refused) in
-    ended_refused c.args.party c.loop-made._made (floor_of c.args.self.now) c.loop-made.trace.items (floor_of c.loop-made.self) (floor_of c.step_party.new.self)
+    ended_refused c.args.party c.loop-made._made (world_state_of c.args.self.now) c.loop-made.trace.items (world_state_of c.loop-made.self) (world_state_of c.step_party.new.self)
     c.in-Err.why
     c.stopped-in-Err.result.trace.items c.stopped-in-Err.result.stopped (vec_len c.step_party.new.trace) c.loop-made.invariant.count
     c.loop-made.invariant.ran refused.ran refused.reason (ap (λ t. t.items) c.stopped-in-Err.ensures.trace ∙ refused.unwritten)
     c.stopped-in-Err.ensures.stopped
     (c.step_party.new.trace.ok.0 ∙ ap (λ (t : List (Entry g.row.T.Denot)). length t) refused.unwritten)) in
-    headline _ (refused_of c.args.party c.stopped-in-Err.result.stopped) (floor_of c.args.self.now) c.stopped-in-Err.result.trace.items
-    c.stopped-in-Err.result.stopped (floor_of c.step_party.new.self) ended.ran ended.stops
+    headline _ (refused_of c.args.party c.stopped-in-Err.result.stopped) (world_state_of c.args.self.now) c.stopped-in-Err.result.trace.items
+    c.stopped-in-Err.result.stopped (world_state_of c.step_party.new.self) ended.ran ended.stops
 
 pub returns-in-Err-clause-answered : goal.returns-in-Err-clause-answered
 returns-in-Err-clause-answered g c =
@@ -168,42 +168,42 @@ returns-in-Err-clause-answered g c =
 
 pub returns-in-Err-clause-leads : goal.returns-in-Err-clause-leads
 returns-in-Err-clause-leads g c =
-    let ended : Ended c.args.party (floor_of c.args.self.now) c.stopped-in-Err.result.trace.items c.stopped-in-Err.result.stopped
-    (floor_of c.step_party.new.self) =
+    let ended : Ended c.args.party (world_state_of c.args.self.now) c.stopped-in-Err.result.trace.items c.stopped-in-Err.result.stopped
+    (world_state_of c.step_party.new.self) =
     (let refused = (subst (λ (t : List (Entry g.row.T.Denot)). IsRefused c.args.party c.loop-made.self t c.in-Err.why
     c.step_party.new.trace.items c.step_party.new.self) c.have_room.ensures.trace c.in-Err.ensures.refused) in
-    ended_refused c.args.party c.loop-made._made (floor_of c.args.self.now) c.loop-made.trace.items (floor_of c.loop-made.self) (floor_of c.step_party.new.self)
+    ended_refused c.args.party c.loop-made._made (world_state_of c.args.self.now) c.loop-made.trace.items (world_state_of c.loop-made.self) (world_state_of c.step_party.new.self)
     c.in-Err.why
     c.stopped-in-Err.result.trace.items c.stopped-in-Err.result.stopped (vec_len c.step_party.new.trace) c.loop-made.invariant.count
     c.loop-made.invariant.ran refused.ran refused.reason (ap (λ t. t.items) c.stopped-in-Err.ensures.trace ∙ refused.unwritten)
     c.stopped-in-Err.ensures.stopped
     (c.step_party.new.trace.ok.0 ∙ ap (λ (t : List (Entry g.row.T.Denot)). length t) refused.unwritten)) in
     record {
-      on = ran_leads _ (refused_of c.args.party c.stopped-in-Err.result.stopped) (floor_of c.args.self.now) c.stopped-in-Err.result.trace.items
-          (floor_of c.step_party.new.self) ended.ran;
+      on = ran_leads _ (refused_of c.args.party c.stopped-in-Err.result.stopped) (world_state_of c.args.self.now) c.stopped-in-Err.result.trace.items
+          (world_state_of c.step_party.new.self) ended.ran;
     }
 
 pub returns-in-Err-clause-messages : goal.returns-in-Err-clause-messages
 returns-in-Err-clause-messages g c =
-    let ended : Ended c.args.party (floor_of c.args.self.now) c.stopped-in-Err.result.trace.items c.stopped-in-Err.result.stopped
-    (floor_of c.step_party.new.self) =
+    let ended : Ended c.args.party (world_state_of c.args.self.now) c.stopped-in-Err.result.trace.items c.stopped-in-Err.result.stopped
+    (world_state_of c.step_party.new.self) =
     (let refused = (subst (λ (t : List (Entry g.row.T.Denot)). IsRefused c.args.party c.loop-made.self t c.in-Err.why
     c.step_party.new.trace.items c.step_party.new.self) c.have_room.ensures.trace c.in-Err.ensures.refused) in
-    ended_refused c.args.party c.loop-made._made (floor_of c.args.self.now) c.loop-made.trace.items (floor_of c.loop-made.self) (floor_of c.step_party.new.self)
+    ended_refused c.args.party c.loop-made._made (world_state_of c.args.self.now) c.loop-made.trace.items (world_state_of c.loop-made.self) (world_state_of c.step_party.new.self)
     c.in-Err.why
     c.stopped-in-Err.result.trace.items c.stopped-in-Err.result.stopped (vec_len c.step_party.new.trace) c.loop-made.invariant.count
     c.loop-made.invariant.ran refused.ran refused.reason (ap (λ t. t.items) c.stopped-in-Err.ensures.trace ∙ refused.unwritten)
     c.stopped-in-Err.ensures.stopped
     (c.step_party.new.trace.ok.0 ∙ ap (λ (t : List (Entry g.row.T.Denot)). length t) refused.unwritten)) in
-    counted _ (refused_of c.args.party c.stopped-in-Err.result.stopped) (floor_of c.args.self.now) c.stopped-in-Err.result.trace.items
-    (floor_of c.step_party.new.self) ended.ran c.keeps.ensures
+    counted _ (refused_of c.args.party c.stopped-in-Err.result.stopped) (world_state_of c.args.self.now) c.stopped-in-Err.result.trace.items
+    (world_state_of c.step_party.new.self) ended.ran c.keeps.ensures
 
 pub returns-clause-headline : goal.returns-clause-headline
 returns-clause-headline g c =
-    let ended : Ended c.args.party (floor_of c.args.self.now) c.loop-made.trace.items None (floor_of c.loop-made.self) =
-    (ended_well c.args.party c.loop-made._made (floor_of c.args.self.now) c.loop-made.trace.items (floor_of c.loop-made.self) c.loop-made.invariant.count
+    let ended : Ended c.args.party (world_state_of c.args.self.now) c.loop-made.trace.items None (world_state_of c.loop-made.self) =
+    (ended_well c.args.party c.loop-made._made (world_state_of c.args.self.now) c.loop-made.trace.items (world_state_of c.loop-made.self) c.loop-made.invariant.count
     c.loop-made.invariant.ran) in
-    headline _ (refused_of c.args.party None) (floor_of c.args.self.now) c.loop-made.trace.items None (floor_of c.loop-made.self) ended.ran ended.stops
+    headline _ (refused_of c.args.party None) (world_state_of c.args.self.now) c.loop-made.trace.items None (world_state_of c.loop-made.self) ended.ran ended.stops
 
 pub returns-clause-answered : goal.returns-clause-answered
 returns-clause-answered g c =
@@ -211,17 +211,17 @@ returns-clause-answered g c =
 
 pub returns-clause-leads : goal.returns-clause-leads
 returns-clause-leads g c =
-    let ended : Ended c.args.party (floor_of c.args.self.now) c.loop-made.trace.items None (floor_of c.loop-made.self) =
-    (ended_well c.args.party c.loop-made._made (floor_of c.args.self.now) c.loop-made.trace.items (floor_of c.loop-made.self) c.loop-made.invariant.count
+    let ended : Ended c.args.party (world_state_of c.args.self.now) c.loop-made.trace.items None (world_state_of c.loop-made.self) =
+    (ended_well c.args.party c.loop-made._made (world_state_of c.args.self.now) c.loop-made.trace.items (world_state_of c.loop-made.self) c.loop-made.invariant.count
     c.loop-made.invariant.ran) in
-    record { on = ran_leads _ (refused_of c.args.party None) (floor_of c.args.self.now) c.loop-made.trace.items (floor_of c.loop-made.self) ended.ran }
+    record { on = ran_leads _ (refused_of c.args.party None) (world_state_of c.args.self.now) c.loop-made.trace.items (world_state_of c.loop-made.self) ended.ran }
 
 pub returns-clause-messages : goal.returns-clause-messages
 returns-clause-messages g c =
-    let ended : Ended c.args.party (floor_of c.args.self.now) c.loop-made.trace.items None (floor_of c.loop-made.self) =
-    (ended_well c.args.party c.loop-made._made (floor_of c.args.self.now) c.loop-made.trace.items (floor_of c.loop-made.self) c.loop-made.invariant.count
+    let ended : Ended c.args.party (world_state_of c.args.self.now) c.loop-made.trace.items None (world_state_of c.loop-made.self) =
+    (ended_well c.args.party c.loop-made._made (world_state_of c.args.self.now) c.loop-made.trace.items (world_state_of c.loop-made.self) c.loop-made.invariant.count
     c.loop-made.invariant.ran) in
-    counted _ (refused_of c.args.party None) (floor_of c.args.self.now) c.loop-made.trace.items (floor_of c.loop-made.self) ended.ran c.keeps.ensures
+    counted _ (refused_of c.args.party None) (world_state_of c.args.self.now) c.loop-made.trace.items (world_state_of c.loop-made.self) ended.ran c.keeps.ensures
 
 pub loop-made-preserved : goal.loop-made-preserved
 loop-made-preserved g c =
@@ -229,15 +229,15 @@ loop-made-preserved g c =
     c.step_party.new.trace.items c.step_party.new.self) c.if-answered.false
     (subst (λ (t : List (Entry g.row.T.Denot)). StepsOnce c.args.party c.loop-made.self t c.in-Ok.answered
     c.step_party.new.trace.items c.step_party.new.self) c.have_room.ensures.trace c.in-Ok.ensures.made)) in
-    let quiet = once_silent c.args.party (floor_of c.loop-made.self) c.loop-made.trace.items c.step_party.new.trace.items
-    (floor_of c.step_party.new.self) once in
+    let quiet = once_silent c.args.party (world_state_of c.loop-made.self) c.loop-made.trace.items c.step_party.new.trace.items
+    (world_state_of c.step_party.new.self) once in
     let count = c.loop-made.invariant.count in
     let long : length c.step_party.new.trace.items ≡ c.loop-made._made + 1 =
     (let w = ap (λ (t : List (Entry g.row.T.Denot)). length t) once.written in grind (arith, common_steps, w, count)) in
     record {
       count = long;
-      ran = party_more c.args.party c.loop-made._made (floor_of c.args.self.now) c.loop-made.trace.items (floor_of c.loop-made.self) false
-          c.step_party.new.trace.items (floor_of c.step_party.new.self) c.loop-made.invariant.ran once;
+      ran = party_more c.args.party c.loop-made._made (world_state_of c.args.self.now) c.loop-made.trace.items (world_state_of c.loop-made.self) false
+          c.step_party.new.trace.items (world_state_of c.step_party.new.self) c.loop-made.invariant.ran once;
       silent = subst (λ (t : List (Entry g.row.T.Denot)). AreSilent t) (sym once.written)
           (silent_more c.loop-made.trace.items once.entry c.loop-made.invariant.silent quiet);
       at_work = λ some. once.goes_on quiet;
@@ -270,7 +270,7 @@ returns-then-not-have_room-clause-soon g c =
 
 pub returns-then-not-have_room-clause-the_end : goal.returns-then-not-have_room-clause-the_end
 returns-then-not-have_room-clause-the_end g c =
-    (returns-then-not-have_room-clause-headline g c c.keeps.ensures.scene c.keeps.ensures.stands).after_the_end
+    (returns-then-not-have_room-clause-headline g c c.keeps.ensures.configuration c.keeps.ensures.stands).after_the_end
 
 pub returns-then-answered-clause-soon : goal.returns-then-answered-clause-soon
 returns-then-answered-clause-soon g c =
@@ -278,7 +278,7 @@ returns-then-answered-clause-soon g c =
 
 pub returns-then-answered-clause-the_end : goal.returns-then-answered-clause-the_end
 returns-then-answered-clause-the_end g c =
-    (returns-then-answered-clause-headline g c c.keeps.ensures.scene c.keeps.ensures.stands).after_the_end
+    (returns-then-answered-clause-headline g c c.keeps.ensures.configuration c.keeps.ensures.stands).after_the_end
 
 pub returns-in-Err-clause-soon : goal.returns-in-Err-clause-soon
 returns-in-Err-clause-soon g c =
@@ -286,7 +286,7 @@ returns-in-Err-clause-soon g c =
 
 pub returns-in-Err-clause-the_end : goal.returns-in-Err-clause-the_end
 returns-in-Err-clause-the_end g c =
-    (returns-in-Err-clause-headline g c c.keeps.ensures.scene c.keeps.ensures.stands).after_the_end
+    (returns-in-Err-clause-headline g c c.keeps.ensures.configuration c.keeps.ensures.stands).after_the_end
 
 pub returns-clause-soon : goal.returns-clause-soon
 returns-clause-soon g c =
@@ -294,4 +294,4 @@ returns-clause-soon g c =
 
 pub returns-clause-the_end : goal.returns-clause-the_end
 returns-clause-the_end g c =
-    (returns-clause-headline g c c.keeps.ensures.scene c.keeps.ensures.stands).after_the_end
+    (returns-clause-headline g c c.keeps.ensures.configuration c.keeps.ensures.stands).after_the_end

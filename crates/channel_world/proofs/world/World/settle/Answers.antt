@@ -2,7 +2,7 @@
 use Rattle.std.proofs.Common.{arith, rules, ◌≡◌, ◌∙◌, slice_get, Some, vec_len, refl}
 use Rattle.std.proofs.lemmas.Option.{slice_get_read}
 use Rattle.channel_interleaving.proofs.Interface.{leads_nowhere, stands_led}
-use Rattle.channel_interleaving.proofs.FloorFacts.{stands}
+use Rattle.channel_interleaving.proofs.WorldStateFacts.{stands}
 use Rattle.channel_world.specs.Settled.{polls_in}
 use Rattle.channel_world.specs.World.{at_rest}
 use Rattle.channel_world.proofs.AsleepFacts.{no_receive_goes_on, no_send_goes_on, no_stream_goes_on}
@@ -12,12 +12,12 @@ use Rattle.channel_world.proofs.NumberFacts.{messages_at_rest, pending_at_rest}
 use Rattle.channel_world.proofs.Polls.{awake_at_rest}
 use Rattle.channel_world.proofs.Positions.{fewer_positions, one_position, positions_on}
 use Rattle.channel_world.proofs.SettleFacts.{ample_pushed, few_told, goes_first, goes_on, goes_pushed, goes_end, next_poll, one_poll}
-use Rattle.channel_world.proofs.Inside.{floor_of}
+use Rattle.channel_world.proofs.Inside.{world_state_of}
 use Rattle.channel_world.proofs.world.World.settle.Goals as goal
 
 pub loop-names-init : goal.loop-names-init
 loop-names-init g c =
-    let now = (floor_of c.args.self.now) in
+    let now = (world_state_of c.args.self.now) in
     let awake = awake_at_rest now c.keeps_names.ensures.kept c.requires.quiet c.a_channel_at_rest_is_a_world.ensures.as_in_the_world in
     let r = c.in-Some.ensures in
     record {
@@ -42,7 +42,7 @@ poll_woken-reply-requires-clause-woken g c =
     let name = c.index-name.result.now in
     let here : slice_get names.items place ≡ Some name =
     slice_get_read names.items (vec_len names) place name names.ok.0 (search rules) c.index-name.ensures in
-    let next = next_poll (at_rest (floor_of c.args.self.now)) (at_rest (floor_of c.loop-names.self)) polls.items names.items place name c.loop-names.invariant.goes
+    let next = next_poll (at_rest (world_state_of c.args.self.now)) (at_rest (world_state_of c.loop-names.self)) polls.items names.items place name c.loop-names.invariant.goes
     (c.len-in-loop-names-2.ensures ∙ polls.ok.0) here in
     next.woken
 
@@ -54,12 +54,12 @@ poll_woken-reply-requires-clause-limit g c =
     let name = c.index-name.result.now in
     let here : slice_get names.items place ≡ Some name =
     slice_get_read names.items (vec_len names) place name names.ok.0 (search rules) c.index-name.ensures in
-    let next = next_poll (at_rest (floor_of c.args.self.now)) (at_rest (floor_of c.loop-names.self)) polls.items names.items place name c.loop-names.invariant.goes
+    let next = next_poll (at_rest (world_state_of c.args.self.now)) (at_rest (world_state_of c.loop-names.self)) polls.items names.items place name c.loop-names.invariant.goes
     (c.len-in-loop-names-2.ensures ∙ polls.ok.0) here in
     let i = c.loop-names.invariant in
-    let before = stands (floor_of c.args.self.now) c.keeps_names.ensures.kept.listeners in
-    let now = stands_led (floor_of c.args.self.now) (floor_of c.loop-names.self) _ before i.leads in
-    one_position (floor_of c.loop-names.self) now i.quiet (let goes = i.goes in goes.awake) name next.front (i.places name next.woken)
+    let before = stands (world_state_of c.args.self.now) c.keeps_names.ensures.kept.listeners in
+    let now = stands_led (world_state_of c.args.self.now) (world_state_of c.loop-names.self) _ before i.leads in
+    one_position (world_state_of c.loop-names.self) now i.quiet (let goes = i.goes in goes.awake) name next.front (i.places name next.woken)
 
 pub poll_woken-reply-requires-clause-room : goal.poll_woken-reply-requires-clause-room
 poll_woken-reply-requires-clause-room g c =
@@ -69,7 +69,7 @@ poll_woken-reply-requires-clause-room g c =
     let name = c.index-name.result.now in
     let here : slice_get names.items place ≡ Some name =
     slice_get_read names.items (vec_len names) place name names.ok.0 (search rules) c.index-name.ensures in
-    let next = next_poll (at_rest (floor_of c.args.self.now)) (at_rest (floor_of c.loop-names.self)) polls.items names.items place name c.loop-names.invariant.goes
+    let next = next_poll (at_rest (world_state_of c.args.self.now)) (at_rest (world_state_of c.loop-names.self)) polls.items names.items place name c.loop-names.invariant.goes
     (c.len-in-loop-names-2.ensures ∙ polls.ok.0) here in
     λ a says.
     let one = next.room a says in
@@ -85,7 +85,7 @@ push_reserved-requires g c =
     let name = c.index-name.result.now in
     let here : slice_get names.items place ≡ Some name =
     slice_get_read names.items (vec_len names) place name names.ok.0 (search rules) c.index-name.ensures in
-    let next = next_poll (at_rest (floor_of c.args.self.now)) (at_rest (floor_of c.loop-names.self)) polls.items names.items place name c.loop-names.invariant.goes
+    let next = next_poll (at_rest (world_state_of c.args.self.now)) (at_rest (world_state_of c.loop-names.self)) polls.items names.items place name c.loop-names.invariant.goes
     (c.len-in-loop-names-2.ensures ∙ polls.ok.0) here in
     let left = next.left in
     let room = c.loop-names.invariant.polls in
@@ -100,30 +100,30 @@ loop-names-preserved g c =
     let name = c.index-name.result.now in
     let here : slice_get names.items place ≡ Some name =
     slice_get_read names.items (vec_len names) place name names.ok.0 (search rules) c.index-name.ensures in
-    let next = next_poll (at_rest (floor_of c.args.self.now)) (at_rest (floor_of c.loop-names.self)) polls.items names.items place name c.loop-names.invariant.goes
+    let next = next_poll (at_rest (world_state_of c.args.self.now)) (at_rest (world_state_of c.loop-names.self)) polls.items names.items place name c.loop-names.invariant.goes
     (c.len-in-loop-names-2.ensures ∙ polls.ok.0) here in
     let e = c.poll_woken-reply.ensures in
     let after = c.poll_woken-reply.result in
-    let u = at_rest (floor_of c.poll_woken-reply.new.self) in
+    let u = at_rest (world_state_of c.poll_woken-reply.new.self) in
     let pushed = c.push_reserved.ensures in
     let i = c.loop-names.invariant in
     let more = e.capacity in
     let wider = pushed.capacity in
     let a = i.names in
     let b = i.polls in
-    let before = stands (floor_of c.args.self.now) c.keeps_names.ensures.kept.listeners in
-    let now = stands_led (floor_of c.args.self.now) (floor_of c.loop-names.self) _ before i.leads in
+    let before = stands (world_state_of c.args.self.now) c.keeps_names.ensures.kept.listeners in
+    let now = stands_led (world_state_of c.args.self.now) (world_state_of c.loop-names.self) _ before i.leads in
     record {
-      goes = goes_pushed (at_rest (floor_of c.args.self.now)) u polls.items c.push_reserved.new.self.items name after.reply after.names.items pushed.items
-          (goes_on (at_rest (floor_of c.args.self.now)) (at_rest (floor_of c.loop-names.self)) (polls_in polls.items) names.items name i.goes next.front u after.reply after.names.items e.polled);
+      goes = goes_pushed (at_rest (world_state_of c.args.self.now)) u polls.items c.push_reserved.new.self.items name after.reply after.names.items pushed.items
+          (goes_on (at_rest (world_state_of c.args.self.now)) (at_rest (world_state_of c.loop-names.self)) (polls_in polls.items) names.items name i.goes next.front u after.reply after.names.items e.polled);
       quiet = e.quiet;
       ample = ample_pushed polls.items c.push_reserved.new.self.items name after.reply pushed.items i.ample e.ample;
-      leads = leads_polled (floor_of c.args.self.now) (floor_of c.loop-names.self) (floor_of c.poll_woken-reply.new.self) polls.items c.push_reserved.new.self.items _ pushed.items i.leads e.leads;
+      leads = leads_polled (world_state_of c.args.self.now) (world_state_of c.loop-names.self) (world_state_of c.poll_woken-reply.new.self) polls.items c.push_reserved.new.self.items _ pushed.items i.leads e.leads;
       names = omega (arith, more, a);
       polls = omega (arith, wider, b);
       places = λ other woken.
-          positions_on (floor_of c.loop-names.self) now i.quiet (let goes = i.goes in goes.awake) name next.front
-          (floor_of c.poll_woken-reply.new.self) names.items after.reply after.names.items e.polled e.place e.accepted (i.places name next.woken);
+          positions_on (world_state_of c.loop-names.self) now i.quiet (let goes = i.goes in goes.awake) name next.front
+          (world_state_of c.poll_woken-reply.new.self) names.items after.reply after.names.items e.polled e.place e.accepted (i.places name next.woken);
     }
 
 pub loop-names-smaller : goal.loop-names-smaller
@@ -134,7 +134,7 @@ loop-names-smaller g c =
     let name = c.index-name.result.now in
     let here : slice_get names.items place ≡ Some name =
     slice_get_read names.items (vec_len names) place name names.ok.0 (search rules) c.index-name.ensures in
-    let next = next_poll (at_rest (floor_of c.args.self.now)) (at_rest (floor_of c.loop-names.self)) polls.items names.items place name c.loop-names.invariant.goes
+    let next = next_poll (at_rest (world_state_of c.args.self.now)) (at_rest (world_state_of c.loop-names.self)) polls.items names.items place name c.loop-names.invariant.goes
     (c.len-in-loop-names-2.ensures ∙ polls.ok.0) here in
     let left = next.left in
     let longer = c.push_reserved.ensures.len in
@@ -145,7 +145,7 @@ pub returns-clause-polls : goal.returns-clause-polls
 returns-clause-polls g c =
     let names = c.loop-names.names in
     let polls = c.loop-names.polls in
-    let end = goes_end (at_rest (floor_of c.args.self.now)) (at_rest (floor_of c.loop-names.self)) polls.items names.items c.loop-names.invariant.goes
+    let end = goes_end (at_rest (world_state_of c.args.self.now)) (at_rest (world_state_of c.loop-names.self)) polls.items names.items c.loop-names.invariant.goes
     (let a = names.ok.0 in let b = polls.ok.0 in omega (arith, a, b, c.loop-names-test.false)) in
     end.settles
 
@@ -153,7 +153,7 @@ pub returns-clause-few : goal.returns-clause-few
 returns-clause-few g c =
     let names = c.loop-names.names in
     let polls = c.loop-names.polls in
-    let end = goes_end (at_rest (floor_of c.args.self.now)) (at_rest (floor_of c.loop-names.self)) polls.items names.items c.loop-names.invariant.goes
+    let end = goes_end (at_rest (world_state_of c.args.self.now)) (at_rest (world_state_of c.loop-names.self)) polls.items names.items c.loop-names.invariant.goes
     (let a = names.ok.0 in let b = polls.ok.0 in omega (arith, a, b, c.loop-names-test.false)) in
     let few = end.few in let b = polls.ok.0 in rw b few
 
@@ -161,7 +161,7 @@ pub returns-clause-short : goal.returns-clause-short
 returns-clause-short g c =
     let names = c.loop-names.names in
     let polls = c.loop-names.polls in
-    let end = goes_end (at_rest (floor_of c.args.self.now)) (at_rest (floor_of c.loop-names.self)) polls.items names.items c.loop-names.invariant.goes
+    let end = goes_end (at_rest (world_state_of c.args.self.now)) (at_rest (world_state_of c.loop-names.self)) polls.items names.items c.loop-names.invariant.goes
     (let a = names.ok.0 in let b = polls.ok.0 in omega (arith, a, b, c.loop-names-test.false)) in
     let short = end.short in let b = polls.ok.0 in rw b short
 
@@ -175,7 +175,7 @@ pub returns-clause-nobody_woken : goal.returns-clause-nobody_woken
 returns-clause-nobody_woken g c =
     let names = c.loop-names.names in
     let polls = c.loop-names.polls in
-    let end = goes_end (at_rest (floor_of c.args.self.now)) (at_rest (floor_of c.loop-names.self)) polls.items names.items c.loop-names.invariant.goes
+    let end = goes_end (at_rest (world_state_of c.args.self.now)) (at_rest (world_state_of c.loop-names.self)) polls.items names.items c.loop-names.invariant.goes
     (let a = names.ok.0 in let b = polls.ok.0 in omega (arith, a, b, c.loop-names-test.false)) in
     end.rests.0
 
@@ -183,7 +183,7 @@ pub returns-clause-closing : goal.returns-clause-closing
 returns-clause-closing g c =
     let names = c.loop-names.names in
     let polls = c.loop-names.polls in
-    let end = goes_end (at_rest (floor_of c.args.self.now)) (at_rest (floor_of c.loop-names.self)) polls.items names.items c.loop-names.invariant.goes
+    let end = goes_end (at_rest (world_state_of c.args.self.now)) (at_rest (world_state_of c.loop-names.self)) polls.items names.items c.loop-names.invariant.goes
     (let a = names.ok.0 in let b = polls.ok.0 in omega (arith, a, b, c.loop-names-test.false)) in
     let n = end.rests.1 in n.opened
 
@@ -196,18 +196,18 @@ returns-clause-leads g c = record { on = c.loop-names.invariant.leads }
 
 pub returns-clause-stands : goal.returns-clause-stands
 returns-clause-stands g c =
-    let before = stands (floor_of c.args.self.now) c.keeps_names.ensures.kept.listeners in
-    stands_led (floor_of c.args.self.now) (floor_of c.loop-names.self) _ before c.loop-names.invariant.leads
+    let before = stands (world_state_of c.args.self.now) c.keeps_names.ensures.kept.listeners in
+    stands_led (world_state_of c.args.self.now) (world_state_of c.loop-names.self) _ before c.loop-names.invariant.leads
 
 pub returns-clause-few_pending : goal.returns-clause-few_pending
 returns-clause-few_pending g c =
     let names = c.loop-names.names in
     let polls = c.loop-names.polls in
-    let end = goes_end (at_rest (floor_of c.args.self.now)) (at_rest (floor_of c.loop-names.self)) polls.items names.items c.loop-names.invariant.goes
+    let end = goes_end (at_rest (world_state_of c.args.self.now)) (at_rest (world_state_of c.loop-names.self)) polls.items names.items c.loop-names.invariant.goes
     (let a = names.ok.0 in let b = polls.ok.0 in omega (arith, a, b, c.loop-names-test.false)) in
-    let before = stands (floor_of c.args.self.now) c.keeps_names.ensures.kept.listeners in
+    let before = stands (world_state_of c.args.self.now) c.keeps_names.ensures.kept.listeners in
     let rests = c.a_channel_at_rest_is_a_world.ensures.as_in_the_world in
-    let pending = pending_at_rest (floor_of c.args.self.now) before rests c.keeps_names.ensures.apart c.requires.quiet in
+    let pending = pending_at_rest (world_state_of c.args.self.now) before rests c.keeps_names.ensures.apart c.requires.quiet in
     let few = end.few in
     let b = polls.ok.0 in
     few_told _ _ _ _ b pending few
@@ -220,25 +220,25 @@ pub returns-clause-receives : goal.returns-clause-receives
 returns-clause-receives g c =
     let names = c.loop-names.names in
     let polls = c.loop-names.polls in
-    let end = goes_end (at_rest (floor_of c.args.self.now)) (at_rest (floor_of c.loop-names.self)) polls.items names.items c.loop-names.invariant.goes
+    let end = goes_end (at_rest (world_state_of c.args.self.now)) (at_rest (world_state_of c.loop-names.self)) polls.items names.items c.loop-names.invariant.goes
     (let a = names.ok.0 in let b = polls.ok.0 in omega (arith, a, b, c.loop-names-test.false)) in
-    no_receive_goes_on (floor_of c.loop-names.self) (messages_at_rest (floor_of c.loop-names.self) (returns-clause-stands g c) c.loop-names.invariant.quiet) end.rests.1
+    no_receive_goes_on (world_state_of c.loop-names.self) (messages_at_rest (world_state_of c.loop-names.self) (returns-clause-stands g c) c.loop-names.invariant.quiet) end.rests.1
 
 pub returns-clause-streams : goal.returns-clause-streams
 returns-clause-streams g c =
     let names = c.loop-names.names in
     let polls = c.loop-names.polls in
-    let end = goes_end (at_rest (floor_of c.args.self.now)) (at_rest (floor_of c.loop-names.self)) polls.items names.items c.loop-names.invariant.goes
+    let end = goes_end (at_rest (world_state_of c.args.self.now)) (at_rest (world_state_of c.loop-names.self)) polls.items names.items c.loop-names.invariant.goes
     (let a = names.ok.0 in let b = polls.ok.0 in omega (arith, a, b, c.loop-names-test.false)) in
-    no_stream_goes_on (floor_of c.loop-names.self) (messages_at_rest (floor_of c.loop-names.self) (returns-clause-stands g c) c.loop-names.invariant.quiet) end.rests.1
+    no_stream_goes_on (world_state_of c.loop-names.self) (messages_at_rest (world_state_of c.loop-names.self) (returns-clause-stands g c) c.loop-names.invariant.quiet) end.rests.1
 
 pub returns-clause-sends : goal.returns-clause-sends
 returns-clause-sends g c =
     let names = c.loop-names.names in
     let polls = c.loop-names.polls in
-    let end = goes_end (at_rest (floor_of c.args.self.now)) (at_rest (floor_of c.loop-names.self)) polls.items names.items c.loop-names.invariant.goes
+    let end = goes_end (at_rest (world_state_of c.args.self.now)) (at_rest (world_state_of c.loop-names.self)) polls.items names.items c.loop-names.invariant.goes
     (let a = names.ok.0 in let b = polls.ok.0 in omega (arith, a, b, c.loop-names-test.false)) in
-    no_send_goes_on (floor_of c.loop-names.self) (messages_at_rest (floor_of c.loop-names.self) (returns-clause-stands g c) c.loop-names.invariant.quiet) end.rests.1
+    no_send_goes_on (world_state_of c.loop-names.self) (messages_at_rest (world_state_of c.loop-names.self) (returns-clause-stands g c) c.loop-names.invariant.quiet) end.rests.1
 
 pub returns-in_default-clause-stands : goal.returns-in_default-clause-stands
-returns-in_default-clause-stands g c = stands (floor_of c.args.self.now) c.keeps_names.ensures.kept.listeners
+returns-in_default-clause-stands g c = stands (world_state_of c.args.self.now) c.keeps_names.ensures.kept.listeners

@@ -1,12 +1,12 @@
 use Rattle.std.proofs.Common.{arith, ◌≡◌, List, [], ◌∷◌, ◌++◌, ◌∙◌, length, vec_len, None, Some, refl, sym, ap, subst}
-use Rattle.channel_interleaving.specs.Floor.{book_of, Stands}
+use Rattle.channel_interleaving.specs.WorldState.{name_state_of, Stands}
 use Rattle.channel_interleaving.specs.Run.{StopsAt}
 use Rattle.channel_interleaving.specs.Runs.{RanTo}
 use Rattle.channel_interleaving.specs.declared.step.Entry.{Entry}
 use Rattle.channel_interleaving.specs.declared.step.Step.{Step}
 use Rattle.channel_interleaving.specs.declared.step.Step.TheVariants as step
 use Rattle.channel_world.proofs.PartyFacts.{first_of, one_made, none_made}
-use Rattle.channel_world.proofs.Inside.{floor_of}
+use Rattle.channel_world.proofs.Inside.{world_state_of}
 use Rattle.channel_world.proofs.world.World.step_party.Goals as goal
 
 pub returns-in-Some-clause-refused : goal.returns-in-Some-clause-refused
@@ -15,15 +15,15 @@ returns-in-Some-clause-refused g c =
     let left = run.new.steps.items in
     let trace = run.result.trace.items in
     let x : Step g.row.T.Denot = step.Step c.args.party in
-    let before : Stands (floor_of c.args.self.now) = c.keeps.ensures in
+    let before : Stands (world_state_of c.args.self.now) = c.keeps.ensures in
     let pushed : c.push_back_reserved.new.self.items ≡ x ∷ [] =
     c.push_back_reserved.ensures.items ∙ ap (λ (l : List (Step g.row.T.Denot)). l ++ x ∷ []) c.requires.empty in
-    let ran : RanTo (x ∷ []) left (floor_of c.args.self.now) trace (floor_of run.new.self) =
-    subst (λ (l : List (Step g.row.T.Denot)). RanTo l left (floor_of c.args.self.now) trace (floor_of run.new.self)) pushed run.ensures.ran in
-    let stops : StopsAt (book_of (floor_of run.new.self)) left (length trace) (Some c.in-Some.field-0) =
-    subst (λ n. StopsAt (book_of (floor_of run.new.self)) left n (Some c.in-Some.field-0)) run.result.trace.ok.0
-    (subst (λ o. StopsAt (book_of (floor_of run.new.self)) left (vec_len run.result.trace) o) c.in-Some.is run.ensures.stopped) in
-    let none = none_made c.args.party left (floor_of c.args.self.now) trace c.in-Some.field-0 (floor_of run.new.self) before ran stops in
+    let ran : RanTo (x ∷ []) left (world_state_of c.args.self.now) trace (world_state_of run.new.self) =
+    subst (λ (l : List (Step g.row.T.Denot)). RanTo l left (world_state_of c.args.self.now) trace (world_state_of run.new.self)) pushed run.ensures.ran in
+    let stops : StopsAt (name_state_of (world_state_of run.new.self)) left (length trace) (Some c.in-Some.field-0) =
+    subst (λ n. StopsAt (name_state_of (world_state_of run.new.self)) left n (Some c.in-Some.field-0)) run.result.trace.ok.0
+    (subst (λ o. StopsAt (name_state_of (world_state_of run.new.self)) left (vec_len run.result.trace) o) c.in-Some.is run.ensures.stopped) in
+    let none = none_made c.args.party left (world_state_of c.args.self.now) trace c.in-Some.field-0 (world_state_of run.new.self) before ran stops in
     record { unwritten = refl; ran = none.ran; reason = none.reason }
 
 pub returns-clause-made : goal.returns-clause-made
@@ -32,14 +32,14 @@ returns-clause-made g c =
     let left = run.new.steps.items in
     let trace = run.result.trace.items in
     let x : Step g.row.T.Denot = step.Step c.args.party in
-    let before : Stands (floor_of c.args.self.now) = c.keeps.ensures in
+    let before : Stands (world_state_of c.args.self.now) = c.keeps.ensures in
     let pushed : c.push_back_reserved.new.self.items ≡ x ∷ [] =
     c.push_back_reserved.ensures.items ∙ ap (λ (l : List (Step g.row.T.Denot)). l ++ x ∷ []) c.requires.empty in
-    let ran : RanTo (x ∷ []) left (floor_of c.args.self.now) trace (floor_of run.new.self) =
-    subst (λ (l : List (Step g.row.T.Denot)). RanTo l left (floor_of c.args.self.now) trace (floor_of run.new.self)) pushed run.ensures.ran in
-    let used : left ≡ [] = subst (λ o. StopsAt (book_of (floor_of run.new.self)) left (vec_len run.result.trace) o) c.in_default.is
+    let ran : RanTo (x ∷ []) left (world_state_of c.args.self.now) trace (world_state_of run.new.self) =
+    subst (λ (l : List (Step g.row.T.Denot)). RanTo l left (world_state_of c.args.self.now) trace (world_state_of run.new.self)) pushed run.ensures.ran in
+    let used : left ≡ [] = subst (λ o. StopsAt (name_state_of (world_state_of run.new.self)) left (vec_len run.result.trace) o) c.in_default.is
     run.ensures.stopped in
-    let one = one_made c.args.party left (floor_of c.args.self.now) trace (floor_of run.new.self) before ran used in
+    let one = one_made c.args.party left (world_state_of c.args.self.now) trace (world_state_of run.new.self) before ran used in
     let entry : Entry g.row.T.Denot = c.in-Some-pop.entry in
     let popped : one.entry ∷ [] ≡ c.pop.new.self.items ++ entry ∷ [] = sym one.entries ∙ c.in-Some-pop.ensures.items in
     let same : entry ≡ one.entry = cc (first_of one.entry entry c.pop.new.self.items [] popped).1 in
@@ -47,7 +47,7 @@ returns-clause-made g c =
       entry = entry;
       written = c.push_reserved.ensures.items;
       told = c.is_some-answered.ensures;
-      ran = subst (λ (e : Entry g.row.T.Denot). RanTo (x ∷ []) [] (floor_of c.args.self.now) (e ∷ []) (floor_of run.new.self)) (sym same) one.ran;
+      ran = subst (λ (e : Entry g.row.T.Denot). RanTo (x ∷ []) [] (world_state_of c.args.self.now) (e ∷ []) (world_state_of run.new.self)) (sym same) one.ran;
       goes_on = λ silent. one.goes_on (subst (λ (e : Entry g.row.T.Denot). e.reply ≡ None) same silent);
     }
 
@@ -57,14 +57,14 @@ unreachable-requires g c =
     let left = run.new.steps.items in
     let trace = run.result.trace.items in
     let x : Step g.row.T.Denot = step.Step c.args.party in
-    let before : Stands (floor_of c.args.self.now) = c.keeps.ensures in
+    let before : Stands (world_state_of c.args.self.now) = c.keeps.ensures in
     let pushed : c.push_back_reserved.new.self.items ≡ x ∷ [] =
     c.push_back_reserved.ensures.items ∙ ap (λ (l : List (Step g.row.T.Denot)). l ++ x ∷ []) c.requires.empty in
-    let ran : RanTo (x ∷ []) left (floor_of c.args.self.now) trace (floor_of run.new.self) =
-    subst (λ (l : List (Step g.row.T.Denot)). RanTo l left (floor_of c.args.self.now) trace (floor_of run.new.self)) pushed run.ensures.ran in
-    let used : left ≡ [] = subst (λ o. StopsAt (book_of (floor_of run.new.self)) left (vec_len run.result.trace) o) c.in_default.is
+    let ran : RanTo (x ∷ []) left (world_state_of c.args.self.now) trace (world_state_of run.new.self) =
+    subst (λ (l : List (Step g.row.T.Denot)). RanTo l left (world_state_of c.args.self.now) trace (world_state_of run.new.self)) pushed run.ensures.ran in
+    let used : left ≡ [] = subst (λ o. StopsAt (name_state_of (world_state_of run.new.self)) left (vec_len run.result.trace) o) c.in_default.is
     run.ensures.stopped in
-    let one = one_made c.args.party left (floor_of c.args.self.now) trace (floor_of run.new.self) before ran used in
+    let one = one_made c.args.party left (world_state_of c.args.self.now) trace (world_state_of run.new.self) before ran used in
     let written : length trace ≡ 1 = ap (λ (t : List (Entry g.row.T.Denot)). length t) one.entries in
     let long : vec_len run.result.trace ≡ length trace = run.result.trace.ok.0 in
     let empty = c.in-None.ensures.cases.0 in
