@@ -1,4 +1,4 @@
-//! Tests of `channel_interleaving` and of the world over it: worked interleavings, with the steps that each call takes. A
+//! Tests of `channel_world_runs` and of the world over it: worked interleavings, with the steps that each call takes. A
 //! crate of their own, so that what they prove is proved once.
 #![tactic(auto)]
 

@@ -3,12 +3,12 @@
 ghost use Rattle.std.specs.Prelude.{IfOk};
 ghost use Rattle.concurrent_queue.specs.Made.{CanBeMade};
 ghost use Rattle.channel_calls.specs.Plain.{parts_of};
-ghost use Rattle.channel_alone.specs.Run.{IsAtRest, IsOneSlot};
+ghost use Rattle.channel_steps.specs.solo.Run.{IsAtRest, IsOneSlot};
 
 use crate::checks::{expect_equal, expect_true};
 use crate::names::{Names, no_names};
 use crate::said::{Said, answer_of};
-use channel_alone::run::run_alone;
+use channel_steps::alone::run_alone;
 use channel_calls::ask::{ChannelAsk, lent, woken};
 use channel_calls::plain::PlainChannel;
 use channel_calls::stage::{Line, Side};

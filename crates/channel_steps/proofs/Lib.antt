@@ -16,3 +16,5 @@ pub mod StartFacts
 pub mod LoneFacts
 pub mod CountFacts
 pub mod Interface
+pub mod every_run
+pub mod solo

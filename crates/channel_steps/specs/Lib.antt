@@ -7,3 +7,5 @@ pub mod Configuration
 pub mod Run
 pub mod Count
 pub mod Start
+pub mod every_run
+pub mod solo

@@ -2,7 +2,7 @@
 use Rattle.std.proofs.Common.{rules, List, [], ◌≡◌, ◌++◌, sym, ap, subst, ◌∙◌}
 use Rattle.std.specs.declared.snapshot.Snapshot.{Snapshot}
 use Rattle.channel_calls.specs.declared.reply.Reply.{Reply}
-use Rattle.channel_interleaving.proofs.Interface.{leads_nowhere, leads_on}
+use Rattle.channel_world_runs.proofs.Interface.{leads_nowhere, leads_on}
 use Rattle.channel_world.specs.Account.{AccountView, account_of, replied_by, replied_so_far}
 use Rattle.channel_world.specs.Carried.{LeadsTo}
 use Rattle.channel_world.specs.View.{WorldView}

@@ -1,19 +1,19 @@
 -- What answers for who sleeps, in the numbers that a world tells.
 use Rattle.std.proofs.Common.{arith, ◌≡◌, ◌⊎◌, ◌<◌, ℕ, List, [], ◌∷◌, length, Option, None, Some, inl, inr, refl, sym, ap, subst, ◌∙◌}
 use Rattle.std.proofs.lemmas.List.{length-map}
-use Rattle.channel_model.specs.Awake.{AwakeIn}
-use Rattle.channel_model.specs.Laws.{free_places}
-use Rattle.channel_model.specs.Settling.{NobodyGoesOn}
-use Rattle.channel_model.specs.State.{State}
-use Rattle.channel_model.specs.declared.name.Waiter.{Waiter}
-use Rattle.channel_model.proofs.Settle.{at_rest as settled_rest}
+use Rattle.channel_world_model.specs.Awake.{AwakeIn}
+use Rattle.channel_world_model.specs.Laws.{free_places}
+use Rattle.channel_world_model.specs.Settling.{NobodyGoesOn}
+use Rattle.channel_world_model.specs.State.{State}
+use Rattle.channel_world_model.specs.declared.name.Waiter.{Waiter}
+use Rattle.channel_world_model.proofs.Settle.{at_rest as settled_rest}
 use Rattle.channel_steps.specs.declared.party.Party.{Party}
-use Rattle.channel_interleaving.specs.Apart.{AreApart}
-use Rattle.channel_interleaving.specs.WorldState.{calls_in, messages_in, name_state_of, AreAtWork, IsQuiet, Stands}
-use Rattle.channel_interleaving.specs.declared.world_state.WorldState.{WorldState}
-use Rattle.channel_interleaving.specs.declared.names.Agent.{Agent}
-use Rattle.channel_interleaving.proofs.Interface.{none_under_way}
-use Rattle.channel_rest.specs.Rest.{RestIsAWorld}
+use Rattle.channel_world_runs.specs.Apart.{AreApart}
+use Rattle.channel_world_runs.specs.WorldState.{calls_in, messages_in, name_state_of, AreAtWork, IsQuiet, Stands}
+use Rattle.channel_world_runs.specs.declared.world_state.WorldState.{WorldState}
+use Rattle.channel_world_runs.specs.declared.names.Agent.{Agent}
+use Rattle.channel_world_runs.proofs.Interface.{none_under_way}
+use Rattle.channel_world_runs.specs.rest.Rest.{RestIsAWorld}
 use Rattle.channel_world.proofs.Opening.{at_rest_is}
 use Rattle.channel_world.proofs.NumberFacts.{messages_at_rest, woken_at_rest}
 use Rattle.channel_world.specs.Asleep.{NobodyIsLeftAtRest, NoReceiveIsLeft, NoStreamIsLeft, NoSendIsLeft, NobodyIsLeftOnAClosed, HasAPlace, NoReceivePendsBesideAMessage, NoSendPendsBesideAPlace, NoStreamPendsBesideAMessage, woken_among}

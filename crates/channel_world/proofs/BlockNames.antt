@@ -9,21 +9,21 @@ use Rattle.channel_calls.specs.declared.ask.ChannelAsk.TheVariants.{RefusePoll}
 use Rattle.channel_calls.specs.declared.blocked.Blocked.{Blocked}
 use Rattle.channel_calls.specs.declared.blocked.Blocked.TheVariants.{Send, Receive}
 use Rattle.channel_calls.specs.declared.stage.Line.TheVariants.{Sends, Receives}
-use Rattle.channel_laws.specs.BridgeBlocks.{first_poll, poll_refused}
-use Rattle.channel_model.specs.Asked.{poll_asked, refusal_asked}
-use Rattle.channel_model.specs.declared.call.Call.TheVariants.{Poll, PollRefused}
-use Rattle.channel_model.specs.declared.name.HandleId.{HandleId}
-use Rattle.channel_model.specs.declared.name.OpId.{OpId}
-use Rattle.channel_model.specs.declared.name.Waiter.{Waiter}
-use Rattle.channel_model.specs.declared.name.Waiter.TheVariants.{Op}
-use Rattle.channel_interleaving.specs.AskedBy.{listening_first}
-use Rattle.channel_interleaving.specs.Bookkeeping.{asks, polled_ask}
-use Rattle.channel_interleaving.specs.NameTable.{key_of, held_of, operation_of}
-use Rattle.channel_interleaving.specs.declared.names.Operation.{Operation}
-use Rattle.channel_interleaving.specs.declared.names.PollState.{PollState}
-use Rattle.channel_interleaving.specs.declared.names.PollState.TheVariants.{Rests, Waits}
-use Rattle.channel_interleaving.specs.declared.name_table.NameTable.{NameTable}
-use Rattle.channel_interleaving.proofs.OwnerBegins.{poll_is, key_is}
+use Rattle.channel_steps.specs.every_run.BridgeBlocks.{first_poll, poll_refused}
+use Rattle.channel_world_model.specs.Asked.{poll_asked, refusal_asked}
+use Rattle.channel_world_model.specs.declared.call.Call.TheVariants.{Poll, PollRefused}
+use Rattle.channel_world_model.specs.declared.name.HandleId.{HandleId}
+use Rattle.channel_world_model.specs.declared.name.OpId.{OpId}
+use Rattle.channel_world_model.specs.declared.name.Waiter.{Waiter}
+use Rattle.channel_world_model.specs.declared.name.Waiter.TheVariants.{Op}
+use Rattle.channel_world_runs.specs.AskedBy.{listening_first}
+use Rattle.channel_world_runs.specs.Bookkeeping.{asks, polled_ask}
+use Rattle.channel_world_runs.specs.NameTable.{key_of, held_of, operation_of}
+use Rattle.channel_world_runs.specs.declared.names.Operation.{Operation}
+use Rattle.channel_world_runs.specs.declared.names.PollState.{PollState}
+use Rattle.channel_world_runs.specs.declared.names.PollState.TheVariants.{Rests, Waits}
+use Rattle.channel_world_runs.specs.declared.name_table.NameTable.{NameTable}
+use Rattle.channel_world_runs.proofs.OwnerBegins.{poll_is, key_is}
 use Rattle.channel_world.specs.BlocksByNames.{kind_of, StandsFor, PollsByName}
 
 module _ {T : Type 0} where

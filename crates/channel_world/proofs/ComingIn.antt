@@ -5,18 +5,18 @@ use Rattle.std.specs.Prelude.{slice_get}
 use Rattle.std.proofs.lemmas.Bool.{eqb-false, ltb-false, ltb-true}
 use Rattle.channel_calls.specs.declared.stage.Line.{Line}
 use Rattle.channel_calls.specs.declared.stage.Line.TheVariants.{Sends, Receives, Streams}
-use Rattle.channel_model.specs.Answer.{Answer, first, found_in}
-use Rattle.channel_model.specs.Awake.{AwakeIn, Kind}
-use Rattle.channel_model.specs.Channel.{ModelChannel, is_full}
-use Rattle.channel_model.specs.Laws.{is_line, line_at}
-use Rattle.channel_model.specs.Refused.{Answers}
-use Rattle.channel_model.specs.Settling.{poll_of}
-use Rattle.channel_model.specs.State.{State}
-use Rattle.channel_model.specs.declared.name.Waiter.{Waiter}
-use Rattle.channel_model.specs.declared.space.Space.TheVariants.{Open, Filled, Shut}
-use Rattle.channel_model.proofs.Settle.{count_all, first_there, one_if}
-use Rattle.channel_model.proofs.WaiterLemmas.{decided}
-use Rattle.channel_interleaving.specs.Positions.{came_in}
+use Rattle.channel_world_model.specs.Answer.{Answer, first, found_in}
+use Rattle.channel_world_model.specs.Awake.{AwakeIn, Kind}
+use Rattle.channel_world_model.specs.Channel.{ModelChannel, is_full}
+use Rattle.channel_world_model.specs.Laws.{is_line, line_at}
+use Rattle.channel_world_model.specs.Refused.{Answers}
+use Rattle.channel_world_model.specs.Settling.{poll_of}
+use Rattle.channel_world_model.specs.State.{State}
+use Rattle.channel_world_model.specs.declared.name.Waiter.{Waiter}
+use Rattle.channel_world_model.specs.declared.space.Space.TheVariants.{Open, Filled, Shut}
+use Rattle.channel_world_model.proofs.Settle.{count_all, first_there, one_if}
+use Rattle.channel_world_model.proofs.WaiterLemmas.{decided}
+use Rattle.channel_world_runs.specs.Positions.{came_in}
 use Rattle.channel_world.specs.Settled.{most_in, most_accepted}
 use Rattle.channel_world.proofs.Short.{Comes, Does, Left, LeftOrStood, Stays, Takes, polled_on, polled_so}
 use Rattle.channel_world.proofs.Weights.{on, count_more, count_on}

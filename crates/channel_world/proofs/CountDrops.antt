@@ -21,14 +21,14 @@ use Rattle.channel_calls.specs.declared.stage.Stage.TheVariants.{Trying, Working
 use Rattle.channel_calls.specs.declared.stage.Waiting.{Waiting}
 use Rattle.channel_calls.specs.declared.stage.Work.{Work}
 use Rattle.channel_calls.specs.declared.stage.Work.TheVariants.{TellReceive, TellStreams, TellSend, TellSends, TakeRoom, TellAll, Insert, Register, Leave, Lower, Count, Load, Raise}
-use Rattle.channel_model.specs.declared.name.Waiter.{Waiter}
+use Rattle.channel_world_model.specs.declared.name.Waiter.{Waiter}
 use Rattle.channel_steps.specs.Answers.{Met}
 use Rattle.channel_steps.specs.Known.{TriesFor, WorkAt, StageAt, IsFor, Makes}
 use Rattle.channel_steps.specs.Known as known
 use Rattle.channel_steps.specs.Moments.{MarkedMoment, LeftLast, Dropped}
 use Rattle.channel_steps.specs.Configuration.{ActiveCall, AllKnown}
-use Rattle.channel_interleaving.specs.Counted.{same_side, is_last_of, is_lowering, is_closing}
-use Rattle.channel_interleaving.specs.Owners.{All}
+use Rattle.channel_world_runs.specs.Counted.{same_side, is_last_of, is_lowering, is_closing}
+use Rattle.channel_world_runs.specs.Owners.{All}
 use Rattle.channel_world.specs.Counts.{Drops, IsByDrops}
 
 module _ (T : Type 0) where

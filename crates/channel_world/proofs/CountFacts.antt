@@ -14,19 +14,19 @@ use Rattle.channel_calls.specs.declared.stage.Side.TheVariants.{Senders, Receive
 use Rattle.channel_calls.specs.declared.stage.Stage.{Stage}
 use Rattle.channel_calls.specs.declared.stage.Stage.TheVariants.{Trying, Working, Finished}
 use Rattle.channel_calls.specs.declared.stage.Work.TheVariants.{Lower}
-use Rattle.channel_model.specs.Handles.{is_of, live_of}
-use Rattle.channel_model.specs.Names.{Directory}
-use Rattle.channel_model.specs.Refusal.{are_alike}
-use Rattle.channel_model.specs.declared.name.Handle.{Handle}
-use Rattle.channel_model.specs.declared.name.HandleKind.{HandleKind}
-use Rattle.channel_model.specs.declared.name.HandleKind.TheVariants.{Sender, Receiver, WeakSender, WeakReceiver}
-use Rattle.channel_model.specs.declared.name.Waiter.{Waiter}
+use Rattle.channel_world_model.specs.Handles.{is_of, live_of}
+use Rattle.channel_world_model.specs.Names.{Directory}
+use Rattle.channel_world_model.specs.Refusal.{are_alike}
+use Rattle.channel_world_model.specs.declared.name.Handle.{Handle}
+use Rattle.channel_world_model.specs.declared.name.HandleKind.{HandleKind}
+use Rattle.channel_world_model.specs.declared.name.HandleKind.TheVariants.{Sender, Receiver, WeakSender, WeakReceiver}
+use Rattle.channel_world_model.specs.declared.name.Waiter.{Waiter}
 use Rattle.channel_steps.specs.Configuration.{ActiveCall, Configuration, ActiveCallWitness, active_call_of, all_seats}
 use Rattle.channel_steps.specs.declared.party.Party.{Party}
-use Rattle.channel_interleaving.specs.Counted.{tally, is_strong, strong_lives, live_on, is_lowering, is_closing}
-use Rattle.channel_interleaving.specs.WorldState.{parts_in, Shown, IsQuiet, Stands}
-use Rattle.channel_interleaving.specs.declared.world_state.WorldState.{WorldState}
-use Rattle.channel_interleaving.specs.declared.names.HandleEntry.{HandleEntry}
+use Rattle.channel_world_runs.specs.Counted.{tally, is_strong, strong_lives, live_on, is_lowering, is_closing}
+use Rattle.channel_world_runs.specs.WorldState.{parts_in, Shown, IsQuiet, Stands}
+use Rattle.channel_world_runs.specs.declared.world_state.WorldState.{WorldState}
+use Rattle.channel_world_runs.specs.declared.names.HandleEntry.{HandleEntry}
 use Rattle.channel_world.specs.Counts.{strong_kind, live, CountsLive, OpenHasBoth, AreByDrops, CountsAtRest}
 use Rattle.channel_world.proofs.CountDrops.{by_drops}
 use Rattle.channel_world.specs.View.{count_in, to_lower, to_close, view_of}

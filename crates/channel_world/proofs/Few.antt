@@ -5,24 +5,24 @@ use Rattle.channel_calls.specs.declared.error.Refused.TheVariants.{NoMemory}
 use Rattle.channel_calls.specs.declared.reply.Reply.TheVariants as reply
 use Rattle.channel_calls.specs.declared.stage.Line.{Line}
 use Rattle.channel_calls.specs.declared.stage.Line.TheVariants.{Sends, Receives, Streams, Closings}
-use Rattle.channel_model.specs.Answer.{Answer, answer, replying, after_telling, space_of, Found, first, none_yet, none_ever, found, displacing, next_answer, strong_handles, dropped, one_more, news_without_one, drop_one, drop_answer, poll_answer, poll_refused_answer, give_up_answer, send_poll_answer, recv_poll_answer, try_send_answer, force_send_answer, try_recv_answer, recv_many_answer, clone_answer, downgrade_answer, upgrade_answer, close_answer, shut, strong_of}
-use Rattle.channel_model.specs.Channel.{ModelChannel}
-use Rattle.channel_model.specs.Lines.{Waiting, untold, told_by, after_news, told_by_rooms, gone, passed_on, told_after, is_among, is_stream, without_waiter}
-use Rattle.channel_model.specs.Names.{ModelOperation, send, recv, closing, at}
-use Rattle.channel_model.specs.Refused.{Answers, Lack, memory, serials, answer_without, not_held, send_not_polled, recv_not_polled, not_polled, next_not_polled}
-use Rattle.channel_model.specs.State.{State, with_channel, with_waiting}
-use Rattle.channel_model.specs.declared.call.Call.{Call}
-use Rattle.channel_model.specs.declared.call.Call.TheVariants as call
-use Rattle.channel_model.specs.declared.name.Handle.{Handle}
-use Rattle.channel_model.specs.declared.name.HandleId.{HandleId}
-use Rattle.channel_model.specs.declared.name.HandleKind.{HandleKind}
-use Rattle.channel_model.specs.declared.name.HandleKind.TheVariants.{Sender, Receiver, WeakSender, WeakReceiver}
-use Rattle.channel_model.specs.declared.name.OpId.{OpId}
-use Rattle.channel_model.specs.declared.name.Waiter.{Waiter}
-use Rattle.channel_model.specs.declared.name.Waiter.TheVariants.{Op, Stream}
-use Rattle.channel_model.specs.declared.news.News.TheVariants.{Nothing, Message, Room, Closing, NextIn}
-use Rattle.channel_model.specs.declared.space.Space.{Space}
-use Rattle.channel_model.specs.declared.space.Space.TheVariants.{Open, Filled, Shut}
+use Rattle.channel_world_model.specs.Answer.{Answer, answer, replying, after_telling, space_of, Found, first, none_yet, none_ever, found, displacing, next_answer, strong_handles, dropped, one_more, news_without_one, drop_one, drop_answer, poll_answer, poll_refused_answer, give_up_answer, send_poll_answer, recv_poll_answer, try_send_answer, force_send_answer, try_recv_answer, recv_many_answer, clone_answer, downgrade_answer, upgrade_answer, close_answer, shut, strong_of}
+use Rattle.channel_world_model.specs.Channel.{ModelChannel}
+use Rattle.channel_world_model.specs.Lines.{Waiting, untold, told_by, after_news, told_by_rooms, gone, passed_on, told_after, is_among, is_stream, without_waiter}
+use Rattle.channel_world_model.specs.Names.{ModelOperation, send, recv, closing, at}
+use Rattle.channel_world_model.specs.Refused.{Answers, Lack, memory, serials, answer_without, not_held, send_not_polled, recv_not_polled, not_polled, next_not_polled}
+use Rattle.channel_world_model.specs.State.{State, with_channel, with_waiting}
+use Rattle.channel_world_model.specs.declared.call.Call.{Call}
+use Rattle.channel_world_model.specs.declared.call.Call.TheVariants as call
+use Rattle.channel_world_model.specs.declared.name.Handle.{Handle}
+use Rattle.channel_world_model.specs.declared.name.HandleId.{HandleId}
+use Rattle.channel_world_model.specs.declared.name.HandleKind.{HandleKind}
+use Rattle.channel_world_model.specs.declared.name.HandleKind.TheVariants.{Sender, Receiver, WeakSender, WeakReceiver}
+use Rattle.channel_world_model.specs.declared.name.OpId.{OpId}
+use Rattle.channel_world_model.specs.declared.name.Waiter.{Waiter}
+use Rattle.channel_world_model.specs.declared.name.Waiter.TheVariants.{Op, Stream}
+use Rattle.channel_world_model.specs.declared.news.News.TheVariants.{Nothing, Message, Room, Closing, NextIn}
+use Rattle.channel_world_model.specs.declared.space.Space.{Space}
+use Rattle.channel_world_model.specs.declared.space.Space.TheVariants.{Open, Filled, Shut}
 use Rattle.channel_world.specs.World.{untold_count, most_woken}
 
 -- ---- lists

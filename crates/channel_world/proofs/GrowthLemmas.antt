@@ -2,20 +2,20 @@
 use Rattle.std.proofs.Common.{◌≡◌, inl, inr, ℕ, zero, suc, Err, Bool, true, false, cond, Option, Some, None, is_none, refl, subst}
 use Rattle.channel_calls.specs.declared.error.Refused.TheVariants.{NoMemory}
 use Rattle.channel_calls.specs.declared.reply.Reply.TheVariants as reply
-use Rattle.channel_model.specs.Names.{ModelOperation, send, recv, closing, at}
-use Rattle.channel_model.specs.Channel.{ModelChannel}
-use Rattle.channel_model.specs.State.{State}
-use Rattle.channel_model.specs.Lines.{is_among}
-use Rattle.channel_model.specs.Answer.{Answer, answer, replying, Found, first, none_yet, none_ever, found, space_of}
-use Rattle.channel_model.specs.Refused.{Lack, memory, serials, Answers, answer_without, not_held, not_received, not_polled, send_not_polled, recv_not_polled, next_not_polled}
-use Rattle.channel_model.specs.declared.call.Call.{Call}
-use Rattle.channel_model.specs.declared.call.Call.TheVariants as call
-use Rattle.channel_language.specs.Text.{wants_growth}
-use Rattle.channel_model.specs.declared.space.Space.{Space}
-use Rattle.channel_model.specs.declared.space.Space.TheVariants.{Open, Filled, Shut}
-use Rattle.channel_model.specs.declared.name.OpId.{OpId}
-use Rattle.channel_model.specs.declared.name.Waiter.{Waiter}
-use Rattle.channel_model.specs.declared.name.Waiter.TheVariants.{Op, Stream}
+use Rattle.channel_world_model.specs.Names.{ModelOperation, send, recv, closing, at}
+use Rattle.channel_world_model.specs.Channel.{ModelChannel}
+use Rattle.channel_world_model.specs.State.{State}
+use Rattle.channel_world_model.specs.Lines.{is_among}
+use Rattle.channel_world_model.specs.Answer.{Answer, answer, replying, Found, first, none_yet, none_ever, found, space_of}
+use Rattle.channel_world_model.specs.Refused.{Lack, memory, serials, Answers, answer_without, not_held, not_received, not_polled, send_not_polled, recv_not_polled, next_not_polled}
+use Rattle.channel_world_model.specs.declared.call.Call.{Call}
+use Rattle.channel_world_model.specs.declared.call.Call.TheVariants as call
+use Rattle.channel_world_language.specs.Text.{wants_growth}
+use Rattle.channel_world_model.specs.declared.space.Space.{Space}
+use Rattle.channel_world_model.specs.declared.space.Space.TheVariants.{Open, Filled, Shut}
+use Rattle.channel_world_model.specs.declared.name.OpId.{OpId}
+use Rattle.channel_world_model.specs.declared.name.Waiter.{Waiter}
+use Rattle.channel_world_model.specs.declared.name.Waiter.TheVariants.{Op, Stream}
 
 where_false : (b : Bool) (a x : Answer ℕ) → wants_growth a.reply ≡ true → cond b None (Some a) ≡ Some x → wants_growth x.reply ≡ true
 where_false true a x w e = cc

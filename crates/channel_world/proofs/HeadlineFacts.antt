@@ -2,37 +2,37 @@
 use Rattle.std.proofs.Common.{arith, ◌≡◌, ◌+◌, List, length, Option, None, refl, sym, ap, subst}
 use Rattle.channel_calls.specs.Parts.{Parts}
 use Rattle.channel_calls.specs.declared.reply.Reply.{Reply}
-use Rattle.channel_model.specs.declared.call.Call.{Call}
-use Rattle.channel_model.specs.declared.name.Waiter.{Waiter}
-use Rattle.channel_model.specs.declared.run.Stopped.{Stopped}
-use Rattle.channel_laws.specs.Ends.{SaysTheEnd, Replies}
-use Rattle.channel_laws.proofs.Interface.{stays_closed, stays_over, says_over, late_gives}
+use Rattle.channel_world_model.specs.declared.call.Call.{Call}
+use Rattle.channel_world_model.specs.declared.name.Waiter.{Waiter}
+use Rattle.channel_world_model.specs.declared.run.Stopped.{Stopped}
+use Rattle.channel_steps.specs.every_run.Ends.{SaysTheEnd, Replies}
+use Rattle.channel_steps.proofs.every_run.Interface.{stays_closed, stays_over, says_over, late_gives}
 use Rattle.channel_steps.specs.Moments.{Spent}
 use Rattle.channel_steps.specs.Configuration.{ActiveCall, Configuration, does}
 use Rattle.channel_steps.specs.declared.party.Entry.{Entry as ChannelEntry}
 use Rattle.channel_steps.specs.declared.run.Step.{Step as ChannelStep}
 use Rattle.channel_steps.proofs.Interface.{each_says}
-use Rattle.channel_interleaving.specs.Kept.{WorldInvariant}
-use Rattle.channel_interleaving.specs.WorldState.{name_state_of, parts_in, messages_in, StandsIn, Stands}
-use Rattle.channel_interleaving.specs.Run.{StopsAt, channel_step}
-use Rattle.channel_interleaving.specs.Runs.{Moment, Holds, LeadsBy, accepted_in, left_in, moment_of, RanTo}
-use Rattle.channel_interleaving.specs.declared.world_state.WorldState.{WorldState}
-use Rattle.channel_interleaving.specs.declared.step.Entry.{Entry}
-use Rattle.channel_interleaving.specs.declared.step.PartyId.{PartyId}
-use Rattle.channel_interleaving.specs.declared.step.Step.{Step}
-use Rattle.channel_interleaving.specs.declared.step.Step.TheVariants as step
-use Rattle.channel_interleaving.proofs.Interface.{few_in, owed_at, tries_at}
-use Rattle.channel_laws.proofs.MarkFacts.{all_begin}
-use Rattle.channel_laws.proofs.EndFacts.{may_end}
-use Rattle.channel_laws.proofs.MarkedFacts.{step_marked}
+use Rattle.channel_world_runs.specs.Kept.{WorldInvariant}
+use Rattle.channel_world_runs.specs.WorldState.{name_state_of, parts_in, messages_in, StandsIn, Stands}
+use Rattle.channel_world_runs.specs.Run.{StopsAt, channel_step}
+use Rattle.channel_world_runs.specs.Runs.{Moment, Holds, LeadsBy, accepted_in, left_in, moment_of, RanTo}
+use Rattle.channel_world_runs.specs.declared.world_state.WorldState.{WorldState}
+use Rattle.channel_world_runs.specs.declared.step.Entry.{Entry}
+use Rattle.channel_world_runs.specs.declared.step.PartyId.{PartyId}
+use Rattle.channel_world_runs.specs.declared.step.Step.{Step}
+use Rattle.channel_world_runs.specs.declared.step.Step.TheVariants as step
+use Rattle.channel_world_runs.proofs.Interface.{few_in, owed_at, tries_at}
+use Rattle.channel_steps.proofs.every_run.MarkFacts.{all_begin}
+use Rattle.channel_steps.proofs.every_run.EndFacts.{may_end}
+use Rattle.channel_steps.proofs.every_run.MarkedFacts.{step_marked}
 use Rattle.channel_world.proofs.MarkedFacts.{all_add}
 use Rattle.channel_world.proofs.SoonFacts.{all_in_a_row, in_front}
 use Rattle.channel_world.proofs.TheEndFacts.{ended_before, nothing_comes}
-use Rattle.channel_laws.proofs.WordsFacts.{words_say}
+use Rattle.channel_steps.proofs.every_run.WordsFacts.{words_say}
 use Rattle.channel_world.specs.Headline.{Headline}
-use Rattle.channel_laws.specs.Marked.{AddUp}
+use Rattle.channel_steps.specs.every_run.Marked.{AddUp}
 use Rattle.channel_world.specs.Marked.{all_brought, all_taken}
-use Rattle.channel_laws.specs.Words.{WordsSay}
+use Rattle.channel_steps.specs.every_run.Words.{WordsSay}
 use Rattle.channel_world.specs.StepsLeft.{EndInFront}
 use Rattle.channel_world.specs.Sentences.{MomentSays, BeginSays, WorkSays, CallSays, StepSays}
 use Rattle.channel_world.specs.View.{view_of, WorldView}

@@ -1,6 +1,6 @@
 -- What is inside a view, for the proofs of this crate alone.
 use Rattle.std.proofs.Common.{◌≡◌, refl, ap}
-use Rattle.channel_interleaving.specs.declared.world_state.WorldState.{WorldState}
+use Rattle.channel_world_runs.specs.declared.world_state.WorldState.{WorldState}
 use Rattle.channel_world.specs.View.{WorldView, view_of}
 
 module _ {T : Type 0} where

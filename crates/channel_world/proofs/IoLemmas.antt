@@ -3,8 +3,8 @@ use Rattle.std.proofs.Common.{arith, ◌≡◌, ℕ, ◌-◌, List, [], ◌∷�
 use Rattle.std.specs.Io.KnownBytes.{Appends, Keeps, Consumes, IsAtEnd}
 use Rattle.std.proofs.lemmas.List.{take-append-drop, take_all, length-drop}
 use Rattle.channel_world.specs.Script.{Script, script, script_of_lines}
-use Rattle.channel_language.specs.Language.{today}
-use Rattle.channel_language.specs.Words.{lines_of}
+use Rattle.channel_world_language.specs.Language.{today}
+use Rattle.channel_world_language.specs.Words.{lines_of}
 use Rattle.std.proofs.lemmas.Bool.Decides.{nat_tests}
 use Rattle.channel_world.specs.Added.{Extends}
 use Rattle.channel_world.specs.Output.{AppendsFront, IsText, IsReadEnd, WritesText, WritesScript, late_line, last_lines, text_of_lines}

@@ -12,21 +12,21 @@ use Rattle.channel_calls.specs.declared.stage.Line.TheVariants.{Sends, Receives,
 use Rattle.channel_calls.specs.declared.stage.Stage.{Stage}
 use Rattle.channel_calls.specs.declared.stage.Stage.TheVariants.{Working}
 use Rattle.channel_calls.specs.declared.stage.Work.TheVariants.{Leave}
-use Rattle.channel_model.specs.Laws.{same_line}
-use Rattle.channel_model.specs.Names.{Directory}
-use Rattle.channel_model.specs.declared.name.Waiter.{Waiter}
-use Rattle.channel_model.specs.declared.name.Waiter.TheVariants.{Op, Stream}
+use Rattle.channel_world_model.specs.Laws.{same_line}
+use Rattle.channel_world_model.specs.Names.{Directory}
+use Rattle.channel_world_model.specs.declared.name.Waiter.{Waiter}
+use Rattle.channel_world_model.specs.declared.name.Waiter.TheVariants.{Op, Stream}
 use Rattle.channel_steps.specs.declared.party.Party.{Party}
-use Rattle.channel_interleaving.specs.Apart.{AreApart}
-use Rattle.channel_interleaving.specs.WorldState.{observation_of, Stands}
-use Rattle.channel_interleaving.specs.Owed.{IsUnwoken, all_names, is_woken_on, woken_on, unannounced, all_unannounced}
-use Rattle.channel_interleaving.specs.Owners.{NameStatus, waits, status_by, stream_status, operation_status, status}
-use Rattle.channel_interleaving.specs.declared.doing.Doing.{Doing}
-use Rattle.channel_interleaving.specs.declared.world_state.WorldState.{WorldState}
-use Rattle.channel_interleaving.specs.declared.names.HandleEntry.{HandleEntry}
-use Rattle.channel_interleaving.specs.declared.names.Operation.{Operation}
-use Rattle.channel_interleaving.specs.declared.name_table.NameTable.{NameTable}
-use Rattle.channel_interleaving.proofs.OwedCounts.{one_if, count_first}
+use Rattle.channel_world_runs.specs.Apart.{AreApart}
+use Rattle.channel_world_runs.specs.WorldState.{observation_of, Stands}
+use Rattle.channel_world_runs.specs.Owed.{IsUnwoken, all_names, is_woken_on, woken_on, unannounced, all_unannounced}
+use Rattle.channel_world_runs.specs.Owners.{NameStatus, waits, status_by, stream_status, operation_status, status}
+use Rattle.channel_world_runs.specs.declared.doing.Doing.{Doing}
+use Rattle.channel_world_runs.specs.declared.world_state.WorldState.{WorldState}
+use Rattle.channel_world_runs.specs.declared.names.HandleEntry.{HandleEntry}
+use Rattle.channel_world_runs.specs.declared.names.Operation.{Operation}
+use Rattle.channel_world_runs.specs.declared.name_table.NameTable.{NameTable}
+use Rattle.channel_world_runs.proofs.OwedCounts.{one_if, count_first}
 use Rattle.channel_world.specs.Asleep.{ALineIsAwake, NobodySleepsWhereClosed, NoReceiveSleeps, NoSendSleeps, NoStreamSleeps}
 use Rattle.channel_world.specs.Kinds.{is_pending_on, operation_stance, pending_on_line, stream_stance, takings_of}
 use Rattle.channel_world.specs.View.{view_of}

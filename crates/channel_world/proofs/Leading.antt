@@ -1,10 +1,10 @@
 -- What leads on, with one more reply and with none.
 use Rattle.std.proofs.Common.{◌≡◌, List, [], ◌∷◌, ◌++◌, map, refl, sym, ap, subst, append-nil}
 use Rattle.channel_calls.specs.declared.reply.Reply.{Reply}
-use Rattle.channel_interleaving.specs.WorldState.{LeadsOn}
-use Rattle.channel_interleaving.specs.declared.world_state.WorldState.{WorldState}
-use Rattle.channel_interleaving.proofs.Interface.{leads_on}
-use Rattle.channel_model.specs.declared.run.Done.{Done}
+use Rattle.channel_world_runs.specs.WorldState.{LeadsOn}
+use Rattle.channel_world_runs.specs.declared.world_state.WorldState.{WorldState}
+use Rattle.channel_world_runs.proofs.Interface.{leads_on}
+use Rattle.channel_world_model.specs.declared.run.Done.{Done}
 use Rattle.channel_world.specs.Carried.{replied_in, polls_replied}
 use Rattle.channel_world.specs.declared.settle.Settled.{Settled}
 

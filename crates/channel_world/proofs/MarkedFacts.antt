@@ -4,19 +4,19 @@ use Rattle.std.proofs.lemmas.Bool.Decides.{nat_tests}
 use Rattle.channel_calls.specs.Moves as moves
 use Rattle.channel_calls.specs.declared.mark.Mark.{Mark}
 use Rattle.channel_calls.specs.declared.mark.Mark.TheVariants.{Nothing}
-use Rattle.channel_laws.specs.Marked.{brought_by, AddUp}
-use Rattle.channel_laws.proofs.MarkedFacts.{came_is, none_adds, both_add}
-use Rattle.channel_model.specs.declared.name.Waiter.{Waiter}
+use Rattle.channel_steps.specs.every_run.Marked.{brought_by, AddUp}
+use Rattle.channel_steps.proofs.every_run.MarkedFacts.{came_is, none_adds, both_add}
+use Rattle.channel_world_model.specs.declared.name.Waiter.{Waiter}
 use Rattle.channel_steps.specs.Run.{EachStep, end_of}
 use Rattle.channel_steps.specs.Configuration.{ActiveCall, brought, gone_by, came_by}
 use Rattle.channel_steps.specs.declared.party.Entry.{Entry as ChannelEntry}
-use Rattle.channel_interleaving.proofs.Interface.{none_before}
-use Rattle.channel_interleaving.specs.Kept.{WorldInvariant}
-use Rattle.channel_interleaving.specs.Owners.{All}
-use Rattle.channel_interleaving.specs.Runs.{Moment, LeadsBy}
-use Rattle.channel_interleaving.specs.declared.step.Entry.{Entry}
-use Rattle.channel_interleaving.specs.declared.step.Step.{Step}
-use Rattle.channel_interleaving.specs.declared.step.Step.TheVariants as step
+use Rattle.channel_world_runs.proofs.Interface.{none_before}
+use Rattle.channel_world_runs.specs.Kept.{WorldInvariant}
+use Rattle.channel_world_runs.specs.Owners.{All}
+use Rattle.channel_world_runs.specs.Runs.{Moment, LeadsBy}
+use Rattle.channel_world_runs.specs.declared.step.Entry.{Entry}
+use Rattle.channel_world_runs.specs.declared.step.Step.{Step}
+use Rattle.channel_world_runs.specs.declared.step.Step.TheVariants as step
 use Rattle.channel_world.specs.Marked.{message_brought, brought_at, all_brought, all_taken}
 
 same_number : (a b : ℕ) → a ≡ b → (a == b) ≡ true

@@ -1,23 +1,23 @@
 -- The run of a merge whose begins are those of calls by names, step by step.
 use Rattle.std.proofs.Common.{◌≡◌, List, [], ◌∷◌, map, ap, None, refl}
 use Rattle.concurrent_queue.specs.Capacity.{capacity_of}
-use Rattle.channel_model.specs.declared.name.Waiter.{Waiter}
+use Rattle.channel_world_model.specs.declared.name.Waiter.{Waiter}
 use Rattle.channel_steps.specs.Run.{EachStep, end_of}
 use Rattle.channel_steps.specs.declared.party.Entry.{Entry}
 use Rattle.channel_steps.specs.declared.run.Step.{Step as ChannelStep}
 use Rattle.channel_steps.specs.declared.run.Step.TheVariants as channel
-use Rattle.channel_laws.specs.BridgeHeadline.{MergeStepSays}
-use Rattle.channel_laws.specs.Bridge.{MergeMoment, just_opened, steps_of}
-use Rattle.channel_interleaving.specs.AskedBy.{IsStepOf}
-use Rattle.channel_interleaving.specs.Kept.{NamesKept}
-use Rattle.channel_interleaving.specs.Refusal.{step_refusal}
-use Rattle.channel_interleaving.specs.Run.{NameState, IsNameStateOf, name_state_begun}
-use Rattle.channel_interleaving.specs.declared.step.PartyId.{PartyId}
-use Rattle.channel_interleaving.specs.declared.step.Step.{Step}
-use Rattle.channel_interleaving.specs.declared.step.Step.TheVariants as step
-use Rattle.channel_interleaving.proofs.WorldInvariant.{names_kept_first, names_kept_next}
-use Rattle.channel_interleaving.proofs.ByNames.{may_begin, may_step}
-use Rattle.channel_interleaving.proofs.Interface.{names_owed_at}
+use Rattle.channel_steps.specs.every_run.BridgeHeadline.{MergeStepSays}
+use Rattle.channel_steps.specs.every_run.Bridge.{MergeMoment, just_opened, steps_of}
+use Rattle.channel_world_runs.specs.AskedBy.{IsStepOf}
+use Rattle.channel_world_runs.specs.Kept.{NamesKept}
+use Rattle.channel_world_runs.specs.Refusal.{step_refusal}
+use Rattle.channel_world_runs.specs.Run.{NameState, IsNameStateOf, name_state_begun}
+use Rattle.channel_world_runs.specs.declared.step.PartyId.{PartyId}
+use Rattle.channel_world_runs.specs.declared.step.Step.{Step}
+use Rattle.channel_world_runs.specs.declared.step.Step.TheVariants as step
+use Rattle.channel_world_runs.proofs.WorldInvariant.{names_kept_first, names_kept_next}
+use Rattle.channel_world_runs.proofs.ByNames.{may_begin, may_step}
+use Rattle.channel_world_runs.proofs.Interface.{names_owed_at}
 use Rattle.channel_world.specs.MergesByNames.{NamedStep, NamedMoment, first_name_state, BeginByNames, SaysByNames, MergesByNamesAreRuns}
 
 module _ {T S : Type 0} (wakes : S → Waiter → S → Type 0) where

@@ -1,13 +1,13 @@
 -- Two clones of a sender, merged, by names.
 use Rattle.std.proofs.Common.{List, [], ◌∷◌, drop, inl, refl}
-use Rattle.channel_laws.specs.Bridge.{MergeMoment, just_opened, steps_of}
-use Rattle.channel_laws.specs.BridgeRow.{two_clones}
-use Rattle.channel_model.specs.declared.call.Call.TheVariants.{TryClone}
-use Rattle.channel_model.specs.declared.name.Waiter.{Waiter}
+use Rattle.channel_steps.specs.every_run.Bridge.{MergeMoment, just_opened, steps_of}
+use Rattle.channel_steps.specs.every_run.BridgeRow.{two_clones}
+use Rattle.channel_world_model.specs.declared.call.Call.TheVariants.{TryClone}
+use Rattle.channel_world_model.specs.declared.name.Waiter.{Waiter}
 use Rattle.channel_steps.specs.declared.party.Entry.{Entry}
 use Rattle.channel_steps.specs.declared.run.Step.{Step as ChannelStep}
 use Rattle.channel_steps.specs.declared.run.Step.TheVariants as channel
-use Rattle.channel_interleaving.specs.Run.{NameState, name_state_begun}
+use Rattle.channel_world_runs.specs.Run.{NameState, name_state_begun}
 use Rattle.channel_world.specs.MergesByNames.{first_name_state, BeginByNames}
 use Rattle.channel_world.specs.MergesByNamesRow.{TwoClonesByNames}
 

@@ -1,10 +1,10 @@
 -- A merge whose calls are given names beside their tasks, by names.
 use Rattle.std.proofs.Common.{List, sym, subst}
-use Rattle.channel_model.specs.declared.name.Waiter.{Waiter}
+use Rattle.channel_world_model.specs.declared.name.Waiter.{Waiter}
 use Rattle.channel_steps.specs.declared.run.Step.{Step}
-use Rattle.channel_laws.specs.Bridge.{just_opened}
-use Rattle.channel_laws.specs.Named.{WakesNamed, name_of}
-use Rattle.channel_laws.specs.Tasks.{all_by, parts_by}
+use Rattle.channel_steps.specs.every_run.Bridge.{just_opened}
+use Rattle.channel_steps.specs.every_run.Named.{WakesNamed, name_of}
+use Rattle.channel_steps.specs.every_run.Tasks.{all_by, parts_by}
 use Rattle.channel_world.specs.MergesByNames.{first_name_state, BeginByNames}
 use Rattle.channel_world.specs.NamedMerges.{NamedMergesAreRuns, TwoClonesAreNamed}
 use Rattle.channel_world.proofs.MergeNames.{merges_by_names_are_runs}

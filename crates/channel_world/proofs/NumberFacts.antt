@@ -6,37 +6,37 @@ use Rattle.std.proofs.Common.{arith, ◌≡◌, ◌⊎◌, ℕ, ◌+◌, ◌≤�
 use Rattle.event_listener.specs.declared.key.Key.{Key}
 use Rattle.channel_calls.specs.declared.stage.Line.{Line}
 use Rattle.channel_calls.specs.declared.stage.Line.TheVariants.{Sends, Receives, Streams, Closings}
-use Rattle.channel_model.specs.Awake.{times, times_in}
-use Rattle.channel_model.specs.Lines.{Waiting, is_among, same_waiter, untold}
-use Rattle.channel_model.specs.Names.{at}
-use Rattle.channel_model.specs.Settling.{pending_count}
-use Rattle.channel_model.specs.State.{State}
-use Rattle.channel_model.specs.declared.name.HandleKind.{HandleKind}
-use Rattle.channel_model.specs.declared.name.HandleKind.TheVariants as handle_kind
-use Rattle.channel_model.specs.declared.name.Waiter.{Waiter}
-use Rattle.channel_model.specs.declared.name.Waiter.TheVariants.{Op, Stream}
-use Rattle.channel_model.proofs.Counting.{among_append, among_counts, count_append}
-use Rattle.channel_model.proofs.WaiterLemmas.{decided, or_true, same_refl, same_sound}
-use Rattle.channel_interleaving.specs.Apart.{AreApart}
-use Rattle.channel_interleaving.specs.WorldState.{name_state_of, IsQuiet, Stands}
-use Rattle.channel_interleaving.specs.OwnerOrder.{was_woken}
-use Rattle.channel_interleaving.specs.Owners.{IsAmong, NameStatus, invalid, status_on, no_stream_status, stream_status, status_by, send_status, operation_status, status}
-use Rattle.channel_interleaving.specs.Pending.{stands_pending, how_many, operation_stands, stream_stands}
-use Rattle.channel_interleaving.specs.NameTable.{key_of, held_of, is_woken}
-use Rattle.channel_interleaving.specs.Kept.{WorldInvariant}
-use Rattle.channel_interleaving.specs.Run.{NameState}
-use Rattle.channel_interleaving.specs.declared.world_state.WorldState.{WorldState}
-use Rattle.channel_interleaving.specs.declared.names.HandleEntry.{HandleEntry}
-use Rattle.channel_interleaving.specs.declared.names.Operation.{Operation}
-use Rattle.channel_interleaving.specs.declared.names.OperationKind.{OperationKind}
-use Rattle.channel_interleaving.specs.declared.names.OperationKind.TheVariants as kind
-use Rattle.channel_interleaving.specs.declared.names.PollState.{PollState}
-use Rattle.channel_interleaving.specs.declared.names.PollState.TheVariants.{Rests, Waits, IsPolled}
-use Rattle.channel_interleaving.specs.declared.name_table.NameTable.{NameTable}
-use Rattle.channel_interleaving.proofs.Interface.{none_under_way}
-use Rattle.channel_refinement.specs.Refines.{AreUntold}
-use Rattle.channel_rest.specs.Rest.{state_at, IsWorld, RestIsAWorld}
-use Rattle.channel_rest.proofs.Woken.{among_filter, woken_waits}
+use Rattle.channel_world_model.specs.Awake.{times, times_in}
+use Rattle.channel_world_model.specs.Lines.{Waiting, is_among, same_waiter, untold}
+use Rattle.channel_world_model.specs.Names.{at}
+use Rattle.channel_world_model.specs.Settling.{pending_count}
+use Rattle.channel_world_model.specs.State.{State}
+use Rattle.channel_world_model.specs.declared.name.HandleKind.{HandleKind}
+use Rattle.channel_world_model.specs.declared.name.HandleKind.TheVariants as handle_kind
+use Rattle.channel_world_model.specs.declared.name.Waiter.{Waiter}
+use Rattle.channel_world_model.specs.declared.name.Waiter.TheVariants.{Op, Stream}
+use Rattle.channel_world_model.proofs.Counting.{among_append, among_counts, count_append}
+use Rattle.channel_world_model.proofs.WaiterLemmas.{decided, or_true, same_refl, same_sound}
+use Rattle.channel_world_runs.specs.Apart.{AreApart}
+use Rattle.channel_world_runs.specs.WorldState.{name_state_of, IsQuiet, Stands}
+use Rattle.channel_world_runs.specs.OwnerOrder.{was_woken}
+use Rattle.channel_world_runs.specs.Owners.{IsAmong, NameStatus, invalid, status_on, no_stream_status, stream_status, status_by, send_status, operation_status, status}
+use Rattle.channel_world_runs.specs.Pending.{stands_pending, how_many, operation_stands, stream_stands}
+use Rattle.channel_world_runs.specs.NameTable.{key_of, held_of, is_woken}
+use Rattle.channel_world_runs.specs.Kept.{WorldInvariant}
+use Rattle.channel_world_runs.specs.Run.{NameState}
+use Rattle.channel_world_runs.specs.declared.world_state.WorldState.{WorldState}
+use Rattle.channel_world_runs.specs.declared.names.HandleEntry.{HandleEntry}
+use Rattle.channel_world_runs.specs.declared.names.Operation.{Operation}
+use Rattle.channel_world_runs.specs.declared.names.OperationKind.{OperationKind}
+use Rattle.channel_world_runs.specs.declared.names.OperationKind.TheVariants as kind
+use Rattle.channel_world_runs.specs.declared.names.PollState.{PollState}
+use Rattle.channel_world_runs.specs.declared.names.PollState.TheVariants.{Rests, Waits, IsPolled}
+use Rattle.channel_world_runs.specs.declared.name_table.NameTable.{NameTable}
+use Rattle.channel_world_runs.proofs.Interface.{none_under_way}
+use Rattle.channel_world_runs.specs.refinement.Refines.{AreUntold}
+use Rattle.channel_world_runs.specs.rest.Rest.{state_at, IsWorld, RestIsAWorld}
+use Rattle.channel_world_runs.proofs.rest.Woken.{among_filter, woken_waits}
 use Rattle.channel_steps.specs.Configuration.{Configuration}
 use Rattle.channel_world.specs.Numbers.{MessagesAtRest, PendingAtRest, WokenAtRest}
 use Rattle.channel_world.specs.World.{at_rest}

@@ -2,13 +2,13 @@
 use Rattle.std.specs.List.{IsDistinct, AllByRecursion, count_by}
 use Rattle.std.specs.Map.{keys_of}
 use Rattle.std.proofs.Common.{arith, ◌≡◌, ℕ, ◌+◌, ◌≤◌, nat_eq, Bool, true, false, cond, List, [], ◌∷◌, length, Option, None, inl, inr, refl, sym, ◌∙◌, subst}
-use Rattle.channel_interleaving.proofs.OwedCounts.{one_if, count_first}
-use Rattle.channel_model.proofs.Counting.{among_counts, among_self, count_without_other, or_right}
-use Rattle.channel_model.proofs.WaiterLemmas.{decided, same_number}
-use Rattle.channel_model.specs.Awake.{times}
-use Rattle.channel_model.specs.Lines.{same_waiter, is_among, without_waiter}
-use Rattle.channel_model.specs.Names.{Directory, at}
-use Rattle.channel_model.specs.declared.name.Waiter.{Waiter}
+use Rattle.channel_world_runs.proofs.OwedCounts.{one_if, count_first}
+use Rattle.channel_world_model.proofs.Counting.{among_counts, among_self, count_without_other, or_right}
+use Rattle.channel_world_model.proofs.WaiterLemmas.{decided, same_number}
+use Rattle.channel_world_model.specs.Awake.{times}
+use Rattle.channel_world_model.specs.Lines.{same_waiter, is_among, without_waiter}
+use Rattle.channel_world_model.specs.Names.{Directory, at}
+use Rattle.channel_world_model.specs.declared.name.Waiter.{Waiter}
 
 -- ---- two lists
 

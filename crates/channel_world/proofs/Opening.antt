@@ -4,12 +4,12 @@ use Rattle.concurrent_queue.specs.Queue.{Queue}
 use Rattle.concurrent_queue.specs.Step.{FitsAt}
 use Rattle.concurrent_queue.proofs.Interface.{shows}
 use Rattle.channel_calls.specs.Moves.{Channel}
-use Rattle.channel_interleaving.specs.WorldState.{parts_in, name_state_of, Shown, IsJustOpened, IsQuiet}
-use Rattle.channel_interleaving.specs.Run.{NameState}
-use Rattle.channel_interleaving.specs.declared.world_state.WorldState.{WorldState}
-use Rattle.channel_model.specs.State.{start}
-use Rattle.channel_model.specs.declared.name.Waiter.{Waiter}
-use Rattle.channel_rest.specs.Rest.{state_at}
+use Rattle.channel_world_runs.specs.WorldState.{parts_in, name_state_of, Shown, IsJustOpened, IsQuiet}
+use Rattle.channel_world_runs.specs.Run.{NameState}
+use Rattle.channel_world_runs.specs.declared.world_state.WorldState.{WorldState}
+use Rattle.channel_world_model.specs.State.{start}
+use Rattle.channel_world_model.specs.declared.name.Waiter.{Waiter}
+use Rattle.channel_world_runs.specs.rest.Rest.{state_at}
 use Rattle.channel_steps.specs.Run.{new_configuration}
 use Rattle.channel_steps.specs.Configuration.{Configuration, ActiveCallWitness, all_seats}
 use Rattle.channel_world.specs.World.{at_rest}

@@ -4,23 +4,23 @@ use Rattle.std.specs.Prelude.{IfSome}
 use Rattle.std.proofs.lemmas.Bool.{eqb-true}
 use Rattle.std.proofs.lemmas.List.{replicate_more}
 use Rattle.channel_calls.specs.declared.reply.Reply.{Reply}
-use Rattle.channel_model.specs.declared.name.Waiter.{Waiter}
-use Rattle.channel_model.specs.declared.refusal.WorldRefusal.{WorldRefusal}
-use Rattle.channel_model.specs.declared.run.Stopped.{Stopped}
+use Rattle.channel_world_model.specs.declared.name.Waiter.{Waiter}
+use Rattle.channel_world_model.specs.declared.refusal.WorldRefusal.{WorldRefusal}
+use Rattle.channel_world_model.specs.declared.run.Stopped.{Stopped}
 use Rattle.channel_steps.specs.Run.{EachStep, IsRun, end_of}
 use Rattle.channel_steps.specs.Configuration.{Configuration}
 use Rattle.channel_steps.proofs.Interface.{run_on}
-use Rattle.channel_interleaving.specs.WorldState.{name_state_of, Stands}
-use Rattle.channel_interleaving.specs.Refusal.{step_refusal}
-use Rattle.channel_interleaving.specs.Run.{NameState, StepIsMade, MayRefuseStep, StopsAt, name_state_ended, with_woken}
-use Rattle.channel_interleaving.specs.Runs.{Moment, LeadsBy, RanTo, accepted_in, left_in, moment_of}
-use Rattle.channel_interleaving.specs.declared.world_state.WorldState.{WorldState}
-use Rattle.channel_interleaving.specs.declared.names.Agent.{Agent}
-use Rattle.channel_interleaving.specs.declared.step.Entry.{Entry}
-use Rattle.channel_interleaving.specs.declared.step.PartyId.{PartyId}
-use Rattle.channel_interleaving.specs.declared.step.Step.{Step}
-use Rattle.channel_interleaving.specs.declared.step.Step.TheVariants as step
-use Rattle.channel_interleaving.proofs.AccountFacts.{accounts_both}
+use Rattle.channel_world_runs.specs.WorldState.{name_state_of, Stands}
+use Rattle.channel_world_runs.specs.Refusal.{step_refusal}
+use Rattle.channel_world_runs.specs.Run.{NameState, StepIsMade, MayRefuseStep, StopsAt, name_state_ended, with_woken}
+use Rattle.channel_world_runs.specs.Runs.{Moment, LeadsBy, RanTo, accepted_in, left_in, moment_of}
+use Rattle.channel_world_runs.specs.declared.world_state.WorldState.{WorldState}
+use Rattle.channel_world_runs.specs.declared.names.Agent.{Agent}
+use Rattle.channel_world_runs.specs.declared.step.Entry.{Entry}
+use Rattle.channel_world_runs.specs.declared.step.PartyId.{PartyId}
+use Rattle.channel_world_runs.specs.declared.step.Step.{Step}
+use Rattle.channel_world_runs.specs.declared.step.Step.TheVariants as step
+use Rattle.channel_world_runs.proofs.AccountFacts.{accounts_both}
 use Rattle.channel_world.specs.PartyRun.{steps_asked, refused_of, AreSilent, EndsWithAnswer, StepsOnce}
 use Rattle.channel_world.specs.View.{view_of}
 

@@ -6,28 +6,28 @@ use Rattle.channel_calls.specs.Parts.{Roster, listeners}
 use Rattle.channel_calls.specs.declared.reply.Reply.{Reply}
 use Rattle.channel_calls.specs.declared.stage.Line.{Line}
 use Rattle.channel_calls.specs.declared.stage.Line.TheVariants.{Sends, Receives, Streams, Closings}
-use Rattle.channel_alone.specs.Alone.{Outcome, Alone}
-use Rattle.channel_interleaving.proofs.Interface.{none_under_way, no_agents}
-use Rattle.channel_interleaving.specs.Bookkeeping.{asks}
-use Rattle.channel_interleaving.specs.WorldState.{parts_in, name_state_of, HasPositions, Shown, IsKept, IsQuiet}
-use Rattle.channel_interleaving.specs.Kept.{WorldInvariant}
-use Rattle.channel_interleaving.specs.Lone.{name_state_alone, BringsWithin, WakesAtMost}
-use Rattle.channel_interleaving.specs.Positions.{accepted_by, brings}
-use Rattle.channel_interleaving.specs.NameTable.{held_of}
-use Rattle.channel_interleaving.specs.Run.{NameState}
-use Rattle.channel_interleaving.specs.Settle.{PollsAlone}
-use Rattle.channel_interleaving.specs.declared.world_state.WorldState.{WorldState}
-use Rattle.channel_model.specs.Answer.{Answer}
-use Rattle.channel_model.specs.Asked.{KeysHeld}
-use Rattle.channel_model.specs.Awake.{AwakeIn}
-use Rattle.channel_model.specs.Lines.{is_among, untold}
-use Rattle.channel_model.specs.Refused.{Answers}
-use Rattle.channel_model.specs.Settling.{poll_of}
-use Rattle.channel_model.specs.State.{State}
-use Rattle.channel_model.specs.declared.name.Waiter.{Waiter}
-use Rattle.channel_refinement.specs.Refines.{AreUntold}
-use Rattle.channel_rest.specs.Lone.{PollsAnswer}
-use Rattle.channel_rest.specs.Rest.{state_at, IsWorld, RestIsAWorld}
+use Rattle.channel_steps.specs.solo.Alone.{Outcome, Alone}
+use Rattle.channel_world_runs.proofs.Interface.{none_under_way, no_agents}
+use Rattle.channel_world_runs.specs.Bookkeeping.{asks}
+use Rattle.channel_world_runs.specs.WorldState.{parts_in, name_state_of, HasPositions, Shown, IsKept, IsQuiet}
+use Rattle.channel_world_runs.specs.Kept.{WorldInvariant}
+use Rattle.channel_world_runs.specs.Lone.{name_state_alone, BringsWithin, WakesAtMost}
+use Rattle.channel_world_runs.specs.Positions.{accepted_by, brings}
+use Rattle.channel_world_runs.specs.NameTable.{held_of}
+use Rattle.channel_world_runs.specs.Run.{NameState}
+use Rattle.channel_world_runs.specs.Settle.{PollsAlone}
+use Rattle.channel_world_runs.specs.declared.world_state.WorldState.{WorldState}
+use Rattle.channel_world_model.specs.Answer.{Answer}
+use Rattle.channel_world_model.specs.Asked.{KeysHeld}
+use Rattle.channel_world_model.specs.Awake.{AwakeIn}
+use Rattle.channel_world_model.specs.Lines.{is_among, untold}
+use Rattle.channel_world_model.specs.Refused.{Answers}
+use Rattle.channel_world_model.specs.Settling.{poll_of}
+use Rattle.channel_world_model.specs.State.{State}
+use Rattle.channel_world_model.specs.declared.name.Waiter.{Waiter}
+use Rattle.channel_world_runs.specs.refinement.Refines.{AreUntold}
+use Rattle.channel_world_runs.specs.rest.Lone.{PollsAnswer}
+use Rattle.channel_world_runs.specs.rest.Rest.{state_at, IsWorld, RestIsAWorld}
 use Rattle.channel_steps.specs.Configuration.{Configuration}
 use Rattle.channel_world.specs.Settled.{Polls}
 use Rattle.channel_world.specs.World.{at_rest}

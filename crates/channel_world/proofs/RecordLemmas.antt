@@ -1,15 +1,15 @@
 -- Records that grow, the one call of a run, the calls of seats, and the two laws of every record.
 use Rattle.std.proofs.Common.{arith, ◌≡◌, ◌+◌, ◌-◌, ◌*◌, ◌^◌, ◌≤◌, ℕ, zero, suc, List, [], ◌∷◌, ◌++◌, length, Option, None, Some, IfSome, refl, sym, subst, ap, ◌∙◌, add-one, append_assoc, append-nil}
 use Rattle.std.specs.Option.{option_map}
-use Rattle.channel_model.specs.Awake.{AwakeIn}
-use Rattle.channel_model.specs.Laws.{removed_by, brought_by_call, sends_after, NobodyIsLeft}
-use Rattle.channel_model.specs.Run.{Runs, Stops, MayBeDone, MayStop}
-use Rattle.channel_model.specs.State.{State, start}
-use Rattle.channel_model.specs.declared.call.Call.{Call}
-use Rattle.channel_model.specs.declared.refusal.WorldRefusal.{WorldRefusal}
-use Rattle.channel_model.specs.declared.run.Done.{Done}
-use Rattle.channel_model.specs.declared.run.Stopped.{Stopped}
-use Rattle.channel_model.proofs.LawSteps.{Kept, step_good, opened_kept}
+use Rattle.channel_world_model.specs.Awake.{AwakeIn}
+use Rattle.channel_world_model.specs.Laws.{removed_by, brought_by_call, sends_after, NobodyIsLeft}
+use Rattle.channel_world_model.specs.Run.{Runs, Stops, MayBeDone, MayStop}
+use Rattle.channel_world_model.specs.State.{State, start}
+use Rattle.channel_world_model.specs.declared.call.Call.{Call}
+use Rattle.channel_world_model.specs.declared.refusal.WorldRefusal.{WorldRefusal}
+use Rattle.channel_world_model.specs.declared.run.Done.{Done}
+use Rattle.channel_world_model.specs.declared.run.Stopped.{Stopped}
+use Rattle.channel_world_model.proofs.LawSteps.{Kept, step_good, opened_kept}
 use Rattle.channel_world.specs.RecordLaws.{removed_in_record, accepted_in_record, accepted_after}
 use Rattle.channel_world.specs.RecordReplay.{MadeAsSaid, Replays, IsHistory}
 use Rattle.channel_world.specs.RecordSeat.{SeatView, amount_of, call_weight, calls_of, numbers_of, sum_below}

@@ -1,9 +1,9 @@
 -- How the output grows.
 use Rattle.std.proofs.lemmas.Bool.Decides.{nat_tests}
 use Rattle.std.proofs.Common.{arith, ◌≤◌, ◌^◌, nat_lt, false, Option, None, Some, IfSome, codes, ◌≡◌, ℕ, suc, ◌+◌, List, [], ◌∷◌, ◌++◌, refl, sym, subst, ap, ◌∙◌, append_assoc, append-nil}
-use Rattle.channel_language.specs.Language.{Language}
+use Rattle.channel_world_language.specs.Language.{Language}
 use Rattle.channel_world.specs.Script.{Script, ScriptScene, ending, replying_first, readable, obeyed, followed, opened, first_scene}
-use Rattle.channel_language.specs.Command.{Command}
+use Rattle.channel_world_language.specs.Command.{Command}
 use Rattle.channel_world.specs.Added.{Adds, Extends}
 use Rattle.channel_world.specs.declared.script.end.ScriptEnd.{ScriptEnd}
 use Rattle.channel_world.specs.declared.script.end.ScriptEnd.TheVariants.{Done, Unreadable, Capacity, Memory, Fault}

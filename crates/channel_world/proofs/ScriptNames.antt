@@ -3,20 +3,20 @@
 use Rattle.std.proofs.Common.{◌≡◌, ℕ, [], ◌∷◌, Bool, true, false, not, ◌&&◌, if◌then◌else◌, Option, None, Some, Ok, Err, is_some, option_and_then, refl, sym, ◌∙◌}
 use Rattle.std.specs.List.{list_all}
 use Rattle.std.specs.Option.{option_map, option_map_or}
-use Rattle.channel_model.specs.Names.{Names, at}
-use Rattle.channel_model.specs.Refusal.{uses, is_live, refusal}
-use Rattle.channel_model.specs.declared.call.Call.{Call}
-use Rattle.channel_model.specs.declared.call.Call.TheVariants as call
-use Rattle.channel_model.specs.declared.name.HandleId.{HandleId}
-use Rattle.channel_model.specs.declared.name.OpId.{OpId}
-use Rattle.channel_model.specs.declared.refusal.WorldRefusal.{WorldRefusal}
-use Rattle.channel_model.specs.declared.refusal.WorldRefusal.TheVariants as why
-use Rattle.channel_language.specs.Asked.{used, lives, is_known, is_given_before, handle_of, op_of, of_handle, of_op, of_either, new_handle, new_op, question_call, call_of}
-use Rattle.channel_language.specs.Command.{Command, Question, try_send, force_send, try_recv, recv_many, send, recv, closed, poll, next, drop, close, clone, downgrade, upgrade, same_channel, is_terminated, ask, settle, is_closed, is_empty, is_full, len, capacity, sender_count, receiver_count}
-use Rattle.channel_language.specs.Table.{Table, named_in}
-use Rattle.channel_language.specs.Words.{Name}
-use Rattle.channel_language.specs.declared.table.Named.{Named}
-use Rattle.channel_language.specs.declared.table.Named.TheVariants as named
+use Rattle.channel_world_model.specs.Names.{Names, at}
+use Rattle.channel_world_model.specs.Refusal.{uses, is_live, refusal}
+use Rattle.channel_world_model.specs.declared.call.Call.{Call}
+use Rattle.channel_world_model.specs.declared.call.Call.TheVariants as call
+use Rattle.channel_world_model.specs.declared.name.HandleId.{HandleId}
+use Rattle.channel_world_model.specs.declared.name.OpId.{OpId}
+use Rattle.channel_world_model.specs.declared.refusal.WorldRefusal.{WorldRefusal}
+use Rattle.channel_world_model.specs.declared.refusal.WorldRefusal.TheVariants as why
+use Rattle.channel_world_language.specs.Asked.{used, lives, is_known, is_given_before, handle_of, op_of, of_handle, of_op, of_either, new_handle, new_op, question_call, call_of}
+use Rattle.channel_world_language.specs.Command.{Command, Question, try_send, force_send, try_recv, recv_many, send, recv, closed, poll, next, drop, close, clone, downgrade, upgrade, same_channel, is_terminated, ask, settle, is_closed, is_empty, is_full, len, capacity, sender_count, receiver_count}
+use Rattle.channel_world_language.specs.Table.{Table, named_in}
+use Rattle.channel_world_language.specs.Words.{Name}
+use Rattle.channel_world_language.specs.declared.table.Named.{Named}
+use Rattle.channel_world_language.specs.declared.table.Named.TheVariants as named
 use Rattle.channel_world.specs.Script.{ScriptScene, why_refused, checked}
 
 module _ (names : Names ℕ) where

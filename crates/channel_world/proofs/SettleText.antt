@@ -5,14 +5,14 @@ use Rattle.std.specs.Fmt.{decimal}
 use Rattle.std.specs.Option.{option_map_or}
 use Rattle.std.specs.List.{flat_map, list_any}
 use Rattle.channel_calls.specs.declared.reply.Reply.{Reply}
-use Rattle.channel_model.specs.Answer.{Answer, answer}
-use Rattle.channel_model.specs.Settling.{poll_of, Settles, pending_count}
-use Rattle.channel_model.specs.State.{State}
-use Rattle.channel_model.specs.declared.name.Waiter.{Waiter}
+use Rattle.channel_world_model.specs.Answer.{Answer, answer}
+use Rattle.channel_world_model.specs.Settling.{poll_of, Settles, pending_count}
+use Rattle.channel_world_model.specs.State.{State}
+use Rattle.channel_world_model.specs.declared.name.Waiter.{Waiter}
 use Rattle.channel_world.specs.Script.{ScriptScene, Obeyed, settled, settles, waiting_count}
 use Rattle.channel_world.specs.Settled.{polls_in}
-use Rattle.channel_language.specs.Table.{Table}
-use Rattle.channel_language.specs.Text.{poll_text, parted, settle_text, part_before, wants_growth}
+use Rattle.channel_world_language.specs.Table.{Table}
+use Rattle.channel_world_language.specs.Text.{poll_text, parted, settle_text, part_before, wants_growth}
 use Rattle.channel_world.specs.Settled.{AreAmple}
 use Rattle.channel_world.specs.declared.settle.Settled.{Settled}
 use Rattle.channel_world.proofs.GrowthLemmas.{is_ample}

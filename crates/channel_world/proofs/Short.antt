@@ -6,27 +6,27 @@ use Rattle.channel_calls.specs.declared.reply.Reply.{Reply}
 use Rattle.channel_calls.specs.declared.reply.Reply.TheVariants as reply
 use Rattle.channel_calls.specs.declared.stage.Line.{Line}
 use Rattle.channel_calls.specs.declared.stage.Line.TheVariants.{Sends, Receives, Streams, Closings}
-use Rattle.channel_model.specs.Answer.{Answer, answer, replying, after_leaving, pending, space_of, Found, first, none_yet, none_ever, found, send_poll_answer, recv_poll_answer, next_answer, closed_poll_answer, poll_answer}
-use Rattle.channel_model.specs.Awake.{AwakeIn, Kind, Placed}
-use Rattle.channel_model.specs.Channel.{appended, with_messages}
-use Rattle.channel_model.specs.Laws.{is_line, line_at, line_of_operation}
-use Rattle.channel_model.specs.Lines.{Waiting, is_among, untold, told_by, after_news, gone, passed_on, left_after, told_after, standing}
-use Rattle.channel_model.specs.Names.{Names, ModelOperation, send, recv, closing, at, with_operation_changed}
-use Rattle.channel_model.specs.Refused.{Lack, memory, serials, refused, not_listening, not_standing, not_held, send_not_polled, recv_not_polled, not_polled, next_not_polled, answer_without, Answers}
-use Rattle.channel_model.specs.Settling.{poll_of, SettlesTo}
-use Rattle.channel_model.specs.State.{State, with_waiting}
-use Rattle.channel_model.specs.declared.name.HandleId.{HandleId}
-use Rattle.channel_model.specs.declared.name.OpId.{OpId}
-use Rattle.channel_model.specs.declared.name.Waiter.{Waiter}
-use Rattle.channel_model.specs.declared.name.Waiter.TheVariants.{Op, Stream}
-use Rattle.channel_model.specs.declared.news.News.{News}
-use Rattle.channel_model.specs.declared.news.News.TheVariants.{Nothing, Message, Room}
-use Rattle.channel_model.specs.declared.space.Space.{Space}
-use Rattle.channel_model.specs.declared.space.Space.TheVariants.{Open, Filled, Shut}
-use Rattle.channel_model.proofs.LawSteps.{found_name, poll_awake, set_elsewhere, set_here}
-use Rattle.channel_model.proofs.Settle.{count_all, count_news, count_gone, count_gone_one, count_end, few_passed, first_one, first_there, front_stays, not_untold, one_if, woken_next}
-use Rattle.channel_model.proofs.WaiterLemmas.{decided, none_left}
-use Rattle.channel_interleaving.specs.Positions.{came_in}
+use Rattle.channel_world_model.specs.Answer.{Answer, answer, replying, after_leaving, pending, space_of, Found, first, none_yet, none_ever, found, send_poll_answer, recv_poll_answer, next_answer, closed_poll_answer, poll_answer}
+use Rattle.channel_world_model.specs.Awake.{AwakeIn, Kind, Placed}
+use Rattle.channel_world_model.specs.Channel.{appended, with_messages}
+use Rattle.channel_world_model.specs.Laws.{is_line, line_at, line_of_operation}
+use Rattle.channel_world_model.specs.Lines.{Waiting, is_among, untold, told_by, after_news, gone, passed_on, left_after, told_after, standing}
+use Rattle.channel_world_model.specs.Names.{Names, ModelOperation, send, recv, closing, at, with_operation_changed}
+use Rattle.channel_world_model.specs.Refused.{Lack, memory, serials, refused, not_listening, not_standing, not_held, send_not_polled, recv_not_polled, not_polled, next_not_polled, answer_without, Answers}
+use Rattle.channel_world_model.specs.Settling.{poll_of, SettlesTo}
+use Rattle.channel_world_model.specs.State.{State, with_waiting}
+use Rattle.channel_world_model.specs.declared.name.HandleId.{HandleId}
+use Rattle.channel_world_model.specs.declared.name.OpId.{OpId}
+use Rattle.channel_world_model.specs.declared.name.Waiter.{Waiter}
+use Rattle.channel_world_model.specs.declared.name.Waiter.TheVariants.{Op, Stream}
+use Rattle.channel_world_model.specs.declared.news.News.{News}
+use Rattle.channel_world_model.specs.declared.news.News.TheVariants.{Nothing, Message, Room}
+use Rattle.channel_world_model.specs.declared.space.Space.{Space}
+use Rattle.channel_world_model.specs.declared.space.Space.TheVariants.{Open, Filled, Shut}
+use Rattle.channel_world_model.proofs.LawSteps.{found_name, poll_awake, set_elsewhere, set_here}
+use Rattle.channel_world_model.proofs.Settle.{count_all, count_news, count_gone, count_gone_one, count_end, few_passed, first_one, first_there, front_stays, not_untold, one_if, woken_next}
+use Rattle.channel_world_model.proofs.WaiterLemmas.{decided, none_left}
+use Rattle.channel_world_runs.specs.Positions.{came_in}
 use Rattle.futures.specs.declared.task.Poll.TheVariants.{Ready, Pending}
 use Rattle.channel_world.specs.Settled.{SettlingIsShort, most_polls, pending_on}
 use Rattle.channel_world.proofs.Weights.{on, weight, no_more, by_one, by_send, by_receive, by_stream, count_on, all_streams, fewer_kinds}

@@ -7,12 +7,12 @@ use Rattle.channel_calls.specs.declared.mark.Mark.TheVariants.{Nothing, Close}
 use Rattle.channel_calls.specs.declared.reply.Reply.{Reply}
 use Rattle.channel_calls.specs.declared.reply.Reply.TheVariants as reply
 use Rattle.channel_calls.specs.declared.stage.Kept.{Kept}
-use Rattle.channel_laws.specs.Bounds.{SaysFull, NoneFull, AllOf, BoundSound, one_if_closed}
-use Rattle.channel_laws.specs.Ends.{Each, Replies}
-use Rattle.channel_laws.proofs.BoundMoves.{SaysOf, FlagOf}
-use Rattle.channel_laws.proofs.Bounds.{step_bounded, never_full}
-use Rattle.channel_laws.proofs.Closers.{row_closed}
-use Rattle.channel_model.specs.declared.name.Waiter.{Waiter}
+use Rattle.channel_steps.specs.every_run.Bounds.{SaysFull, NoneFull, AllOf, BoundSound, one_if_closed}
+use Rattle.channel_steps.specs.every_run.Ends.{Each, Replies}
+use Rattle.channel_steps.proofs.every_run.BoundMoves.{SaysOf, FlagOf}
+use Rattle.channel_steps.proofs.every_run.Bounds.{step_bounded, never_full}
+use Rattle.channel_steps.proofs.every_run.Closers.{row_closed}
+use Rattle.channel_world_model.specs.declared.name.Waiter.{Waiter}
 use Rattle.channel_steps.specs.Moments.{MarkedMoment, with_marked, ClosedIt}
 use Rattle.channel_steps.specs.Run.{Next, NextConfiguration, IsRun, new_configuration, call_begun}
 use Rattle.channel_steps.specs.Configuration.{ActiveCall, Configuration, Steps, MayFinish, sees, does, unless_ended}
@@ -20,13 +20,13 @@ use Rattle.channel_steps.specs.declared.party.Entry.{Entry as ChannelEntry}
 use Rattle.channel_steps.specs.declared.run.Step.{Step as ChannelStep}
 use Rattle.channel_steps.specs.declared.run.Step.TheVariants as step
 use Rattle.channel_steps.proofs.Interface.{run_so}
-use Rattle.channel_interleaving.proofs.Interface.{led_further, none_under_way}
-use Rattle.channel_interleaving.specs.Counted.{tally}
-use Rattle.channel_interleaving.specs.Doing.{any_close, is_close}
-use Rattle.channel_interleaving.specs.WorldState.{IsQuiet, Stands}
-use Rattle.channel_interleaving.specs.Reaches.{replies_of}
-use Rattle.channel_interleaving.specs.declared.world_state.WorldState.{WorldState}
-use Rattle.channel_model.specs.State.{State}
+use Rattle.channel_world_runs.proofs.Interface.{led_further, none_under_way}
+use Rattle.channel_world_runs.specs.Counted.{tally}
+use Rattle.channel_world_runs.specs.Doing.{any_close, is_close}
+use Rattle.channel_world_runs.specs.WorldState.{IsQuiet, Stands}
+use Rattle.channel_world_runs.specs.Reaches.{replies_of}
+use Rattle.channel_world_runs.specs.declared.world_state.WorldState.{WorldState}
+use Rattle.channel_world_model.specs.State.{State}
 use Rattle.channel_world.specs.Since.{closings_among, closers_in, closings_left, NoneSaysFull, HasNoBound, ClosesOnce, ClosesOnceToHere, ClosesWhatIsLeft, ClosesOnceFromRest, NoneClosesAgain, IsNeverFull, IsNeverFullToHere, IsNeverFullSince, IsNeverFullFromRest}
 use Rattle.channel_world.specs.World.{at_rest}
 use Rattle.channel_world.proofs.Opening.{at_rest_is}

@@ -10,36 +10,36 @@ use Rattle.lru.proofs.Splits.{all_from}
 use Rattle.event_listener.specs.declared.key.Key.{Key}
 use Rattle.channel_calls.specs.declared.stage.Line.{Line}
 use Rattle.channel_calls.specs.declared.stage.Line.TheVariants.{Sends, Receives, Streams}
-use Rattle.channel_laws.specs.Sends.{HasPlaces}
-use Rattle.channel_model.specs.Laws.{same_line}
-use Rattle.channel_model.specs.Names.{Directory}
-use Rattle.channel_model.specs.declared.name.HandleKind.{HandleKind}
-use Rattle.channel_model.specs.declared.name.HandleKind.TheVariants as handle_kind
-use Rattle.channel_model.specs.declared.name.Waiter.{Waiter}
-use Rattle.channel_model.specs.declared.name.Waiter.TheVariants.{Op, Stream}
-use Rattle.channel_model.proofs.WaiterLemmas.{decided}
+use Rattle.channel_steps.specs.every_run.Sends.{HasPlaces}
+use Rattle.channel_world_model.specs.Laws.{same_line}
+use Rattle.channel_world_model.specs.Names.{Directory}
+use Rattle.channel_world_model.specs.declared.name.HandleKind.{HandleKind}
+use Rattle.channel_world_model.specs.declared.name.HandleKind.TheVariants as handle_kind
+use Rattle.channel_world_model.specs.declared.name.Waiter.{Waiter}
+use Rattle.channel_world_model.specs.declared.name.Waiter.TheVariants.{Op, Stream}
+use Rattle.channel_world_model.proofs.WaiterLemmas.{decided}
 use Rattle.channel_steps.specs.Configuration.{ActiveCall}
 use Rattle.channel_steps.specs.declared.party.Party.{Party}
-use Rattle.channel_interleaving.specs.Apart.{AreApart}
-use Rattle.channel_interleaving.specs.Doing.{doing_of}
-use Rattle.channel_interleaving.specs.WorldState.{calls_in, messages_in, observation_of, Stands}
-use Rattle.channel_interleaving.specs.Owed.{Owed, IsUnwoken, is_sending, is_receiving, is_woken_on, woken_on, all_unannounced}
-use Rattle.channel_interleaving.specs.Owners.{NameStatus, waits, status_by, status_on, no_stream_status, stream_status, send_status, operation_status, status, Together}
-use Rattle.channel_interleaving.specs.Pending.{stands_pending, how_many, operation_stands, stream_stands}
-use Rattle.channel_interleaving.specs.NameTable.{is_woken}
-use Rattle.channel_interleaving.specs.declared.doing.Doing.{Doing}
-use Rattle.channel_interleaving.specs.declared.doing.Role.{Role}
-use Rattle.channel_interleaving.specs.declared.doing.Role.TheVariants.{Sending, Receiving, Other}
-use Rattle.channel_interleaving.specs.declared.world_state.WorldState.{WorldState}
-use Rattle.channel_interleaving.specs.declared.names.Agent.{Agent}
-use Rattle.channel_interleaving.specs.declared.names.HandleEntry.{HandleEntry}
-use Rattle.channel_interleaving.specs.declared.names.Operation.{Operation}
-use Rattle.channel_interleaving.specs.declared.names.OperationKind.{OperationKind}
-use Rattle.channel_interleaving.specs.declared.names.OperationKind.TheVariants as kind
-use Rattle.channel_interleaving.specs.declared.names.PollState.{PollState}
-use Rattle.channel_interleaving.specs.declared.names.PollState.TheVariants.{Rests, Waits, IsPolled}
-use Rattle.channel_interleaving.specs.declared.name_table.NameTable.{NameTable}
-use Rattle.channel_interleaving.proofs.OwedCounts.{one_if, count_first}
+use Rattle.channel_world_runs.specs.Apart.{AreApart}
+use Rattle.channel_world_runs.specs.Doing.{doing_of}
+use Rattle.channel_world_runs.specs.WorldState.{calls_in, messages_in, observation_of, Stands}
+use Rattle.channel_world_runs.specs.Owed.{Owed, IsUnwoken, is_sending, is_receiving, is_woken_on, woken_on, all_unannounced}
+use Rattle.channel_world_runs.specs.Owners.{NameStatus, waits, status_by, status_on, no_stream_status, stream_status, send_status, operation_status, status, Together}
+use Rattle.channel_world_runs.specs.Pending.{stands_pending, how_many, operation_stands, stream_stands}
+use Rattle.channel_world_runs.specs.NameTable.{is_woken}
+use Rattle.channel_world_runs.specs.declared.doing.Doing.{Doing}
+use Rattle.channel_world_runs.specs.declared.doing.Role.{Role}
+use Rattle.channel_world_runs.specs.declared.doing.Role.TheVariants.{Sending, Receiving, Other}
+use Rattle.channel_world_runs.specs.declared.world_state.WorldState.{WorldState}
+use Rattle.channel_world_runs.specs.declared.names.Agent.{Agent}
+use Rattle.channel_world_runs.specs.declared.names.HandleEntry.{HandleEntry}
+use Rattle.channel_world_runs.specs.declared.names.Operation.{Operation}
+use Rattle.channel_world_runs.specs.declared.names.OperationKind.{OperationKind}
+use Rattle.channel_world_runs.specs.declared.names.OperationKind.TheVariants as kind
+use Rattle.channel_world_runs.specs.declared.names.PollState.{PollState}
+use Rattle.channel_world_runs.specs.declared.names.PollState.TheVariants.{Rests, Waits, IsPolled}
+use Rattle.channel_world_runs.specs.declared.name_table.NameTable.{NameTable}
+use Rattle.channel_world_runs.proofs.OwedCounts.{one_if, count_first}
 use Rattle.channel_world.specs.Asleep.{ReceivesAreAnswered, SendsAreAnswered, StreamsAreAnswered, ClosingIsAnswered, NoReceiveSleepsBesideAMessage, NoStreamSleepsBesideAMessage, NoSendSleepsBesideAPlace, NobodySleepsOnAClosed, AllAreAwake, HasAPlace}
 use Rattle.channel_world.specs.View.{view_of}
 

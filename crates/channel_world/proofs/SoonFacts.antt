@@ -2,15 +2,15 @@
 use Rattle.std.proofs.Common.{arith, ◌≡◌, ℕ, suc, ◌≤◌, ◌<◌, ◌==◌, ◌&&◌, Bool, true, false, if◌then◌else◌, is_none, List, [], ◌∷◌, ◌++◌, Option, None, Some, refl, sym, ap, ◌∙◌, subst}
 use Rattle.std.proofs.lemmas.Bool.Decides.{nat_tests}
 use Rattle.channel_calls.specs.declared.reply.Reply.{Reply}
-use Rattle.channel_model.specs.declared.name.Waiter.{Waiter}
+use Rattle.channel_world_model.specs.declared.name.Waiter.{Waiter}
 use Rattle.channel_steps.specs.Run.{EachStep}
 use Rattle.channel_steps.specs.Configuration.{Configuration}
-use Rattle.channel_interleaving.proofs.Interface.{nobody_still}
-use Rattle.channel_interleaving.specs.Kept.{WorldInvariant}
-use Rattle.channel_interleaving.specs.Runs.{Moment, FewLeft, LeadsBy}
-use Rattle.channel_interleaving.specs.declared.step.Entry.{Entry}
-use Rattle.channel_interleaving.specs.declared.step.Step.{Step}
-use Rattle.channel_interleaving.specs.declared.step.Step.TheVariants as step
+use Rattle.channel_world_runs.proofs.Interface.{nobody_still}
+use Rattle.channel_world_runs.specs.Kept.{WorldInvariant}
+use Rattle.channel_world_runs.specs.Runs.{Moment, FewLeft, LeadsBy}
+use Rattle.channel_world_runs.specs.declared.step.Entry.{Entry}
+use Rattle.channel_world_runs.specs.declared.step.Step.{Step}
+use Rattle.channel_world_runs.specs.declared.step.Step.TheVariants as step
 use Rattle.channel_world.specs.StepsLeft.{in_a_row, OthersQuietOf, EndInARow, EndInFront}
 
 same_number : (a b : ℕ) → (a == b) ≡ true → a ≡ b

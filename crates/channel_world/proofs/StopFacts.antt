@@ -1,18 +1,18 @@
 -- How many steps of a list were made, and where it stopped.
 use Rattle.std.proofs.Common.{arith, ◌≡◌, ◌+◌, ℕ, List, [], ◌∷◌, length, Option, None, Some, IfSome, ap, length-append}
-use Rattle.channel_model.specs.Run.{Runs}
-use Rattle.channel_model.specs.State.{State}
-use Rattle.channel_model.specs.declared.call.Call.{Call}
-use Rattle.channel_model.specs.declared.refusal.WorldRefusal.{WorldRefusal}
-use Rattle.channel_model.specs.declared.run.Done.{Done}
-use Rattle.channel_model.specs.declared.run.Stopped.{Stopped}
+use Rattle.channel_world_model.specs.Run.{Runs}
+use Rattle.channel_world_model.specs.State.{State}
+use Rattle.channel_world_model.specs.declared.call.Call.{Call}
+use Rattle.channel_world_model.specs.declared.refusal.WorldRefusal.{WorldRefusal}
+use Rattle.channel_world_model.specs.declared.run.Done.{Done}
+use Rattle.channel_world_model.specs.declared.run.Stopped.{Stopped}
 use Rattle.channel_steps.proofs.Interface.{run_entries}
-use Rattle.channel_interleaving.specs.WorldState.{Stands}
-use Rattle.channel_interleaving.specs.Run.{NameState, StopsAt}
-use Rattle.channel_interleaving.specs.Runs.{LeadsBy, RanTo}
-use Rattle.channel_interleaving.specs.declared.world_state.WorldState.{WorldState}
-use Rattle.channel_interleaving.specs.declared.step.Entry.{Entry}
-use Rattle.channel_interleaving.specs.declared.step.Step.{Step}
+use Rattle.channel_world_runs.specs.WorldState.{Stands}
+use Rattle.channel_world_runs.specs.Run.{NameState, StopsAt}
+use Rattle.channel_world_runs.specs.Runs.{LeadsBy, RanTo}
+use Rattle.channel_world_runs.specs.declared.world_state.WorldState.{WorldState}
+use Rattle.channel_world_runs.specs.declared.step.Entry.{Entry}
+use Rattle.channel_world_runs.specs.declared.step.Step.{Step}
 
 module _ {T : Type 0} where
   -- where it did not stop the list is used up

@@ -2,19 +2,19 @@
 use Rattle.std.proofs.Common.{◌≡◌, ℕ, List, [], ◌∷◌, ◌++◌, map, Option, None, Some, inl, inr, sym, subst}
 use Rattle.channel_calls.specs.Moves.{Channel}
 use Rattle.channel_calls.specs.declared.reply.Reply.{Reply}
-use Rattle.channel_laws.specs.Over.{AllSpent}
-use Rattle.channel_model.specs.declared.name.Waiter.{Waiter}
+use Rattle.channel_steps.specs.every_run.Over.{AllSpent}
+use Rattle.channel_world_model.specs.declared.name.Waiter.{Waiter}
 use Rattle.channel_steps.specs.Moments.{Spent}
 use Rattle.channel_steps.specs.Run.{EachStep, call_begun}
 use Rattle.channel_steps.specs.Configuration.{ActiveCall, sees, unless_ended}
-use Rattle.channel_interleaving.proofs.Interface.{none_of}
-use Rattle.channel_interleaving.specs.Bookkeeping.{asks}
-use Rattle.channel_interleaving.specs.Kept.{WorldInvariant}
-use Rattle.channel_interleaving.specs.Owners.{All, IsAmong}
-use Rattle.channel_interleaving.specs.Runs.{Moment, LeadsBy}
-use Rattle.channel_interleaving.specs.declared.step.Entry.{Entry}
-use Rattle.channel_interleaving.specs.declared.step.Step.{Step}
-use Rattle.channel_interleaving.specs.declared.step.Step.TheVariants as step
+use Rattle.channel_world_runs.proofs.Interface.{none_of}
+use Rattle.channel_world_runs.specs.Bookkeeping.{asks}
+use Rattle.channel_world_runs.specs.Kept.{WorldInvariant}
+use Rattle.channel_world_runs.specs.Owners.{All, IsAmong}
+use Rattle.channel_world_runs.specs.Runs.{Moment, LeadsBy}
+use Rattle.channel_world_runs.specs.declared.step.Entry.{Entry}
+use Rattle.channel_world_runs.specs.declared.step.Step.{Step}
+use Rattle.channel_world_runs.specs.declared.step.Step.TheVariants as step
 use Rattle.channel_world.specs.Sentences.{StepSays}
 use Rattle.channel_world.specs.TheEnd.{GiveNothing, NothingComesAfter}
 

@@ -5,13 +5,13 @@ use Rattle.std.specs.List.{filter}
 use Rattle.std.proofs.lemmas.List.Sums.{count_by-le-length, length-filter}
 use Rattle.channel_calls.specs.declared.stage.Line.{Line}
 use Rattle.channel_calls.specs.declared.stage.Line.TheVariants.{Sends, Receives, Streams, Closings}
-use Rattle.channel_model.specs.Awake.{Kind, Placed}
-use Rattle.channel_model.specs.Laws.{count_of, is_line}
-use Rattle.channel_model.specs.Lines.{Waiting, same_waiter, is_among, untold}
-use Rattle.channel_model.specs.declared.name.Waiter.{Waiter}
-use Rattle.channel_model.proofs.Counting.{among_self, or_right}
-use Rattle.channel_model.proofs.Settle.{count_all}
-use Rattle.channel_model.proofs.WaiterLemmas.{decided}
+use Rattle.channel_world_model.specs.Awake.{Kind, Placed}
+use Rattle.channel_world_model.specs.Laws.{count_of, is_line}
+use Rattle.channel_world_model.specs.Lines.{Waiting, same_waiter, is_among, untold}
+use Rattle.channel_world_model.specs.declared.name.Waiter.{Waiter}
+use Rattle.channel_world_model.proofs.Counting.{among_self, or_right}
+use Rattle.channel_world_model.proofs.Settle.{count_all}
+use Rattle.channel_world_model.proofs.WaiterLemmas.{decided}
 
 -- whether a name belongs to the line
 abbrev pub on : Kind → Line → Waiter → Bool

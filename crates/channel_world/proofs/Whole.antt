@@ -1,23 +1,23 @@
 -- One whole call: what the channel did alone is the answer of the model.
 use Rattle.std.proofs.Common.{arith, ◌≡◌, ◌≤◌, ℕ, List, [], length, None, Result, Ok, Err, IfOk, refl, sym, ap, subst, ◌∙◌}
 use Rattle.channel_calls.specs.declared.reply.Reply.{Reply}
-use Rattle.channel_alone.specs.Alone.{Outcome, Alone}
-use Rattle.channel_interleaving.proofs.Interface.{none_under_way, no_agents}
-use Rattle.channel_interleaving.specs.Bookkeeping.{asks}
-use Rattle.channel_interleaving.specs.WorldState.{name_state_of, Shown, IsKept, IsQuiet}
-use Rattle.channel_interleaving.specs.Kept.{WorldInvariant}
-use Rattle.channel_interleaving.specs.Lone.{name_state_alone, CallsAlone, WakesAtMost}
-use Rattle.channel_interleaving.specs.Refusal as names
-use Rattle.channel_interleaving.specs.Run.{NameState}
-use Rattle.channel_interleaving.specs.declared.world_state.WorldState.{WorldState}
-use Rattle.channel_model.specs.Refusal.{refusal}
-use Rattle.channel_model.specs.Refused.{Answers}
-use Rattle.channel_model.specs.State.{State}
-use Rattle.channel_model.specs.declared.call.Call.{Call}
-use Rattle.channel_model.specs.declared.name.Waiter.{Waiter}
-use Rattle.channel_model.specs.declared.run.Done.{Done}
-use Rattle.channel_rest.specs.Lone.{RefusalsAgree, LoneCallsAnswer}
-use Rattle.channel_rest.specs.Rest.{state_at}
+use Rattle.channel_steps.specs.solo.Alone.{Outcome, Alone}
+use Rattle.channel_world_runs.proofs.Interface.{none_under_way, no_agents}
+use Rattle.channel_world_runs.specs.Bookkeeping.{asks}
+use Rattle.channel_world_runs.specs.WorldState.{name_state_of, Shown, IsKept, IsQuiet}
+use Rattle.channel_world_runs.specs.Kept.{WorldInvariant}
+use Rattle.channel_world_runs.specs.Lone.{name_state_alone, CallsAlone, WakesAtMost}
+use Rattle.channel_world_runs.specs.Refusal as names
+use Rattle.channel_world_runs.specs.Run.{NameState}
+use Rattle.channel_world_runs.specs.declared.world_state.WorldState.{WorldState}
+use Rattle.channel_world_model.specs.Refusal.{refusal}
+use Rattle.channel_world_model.specs.Refused.{Answers}
+use Rattle.channel_world_model.specs.State.{State}
+use Rattle.channel_world_model.specs.declared.call.Call.{Call}
+use Rattle.channel_world_model.specs.declared.name.Waiter.{Waiter}
+use Rattle.channel_world_model.specs.declared.run.Done.{Done}
+use Rattle.channel_world_runs.specs.rest.Lone.{RefusalsAgree, LoneCallsAnswer}
+use Rattle.channel_world_runs.specs.rest.Rest.{state_at}
 use Rattle.channel_steps.specs.Configuration.{Configuration}
 use Rattle.channel_world.specs.World.{at_rest, most_woken}
 use Rattle.channel_world.proofs.Few.{few_woken}

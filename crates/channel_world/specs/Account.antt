@@ -3,7 +3,7 @@
 use Rattle.std.specs.Prelude.{List, [], ◌++◌, refl}
 use Rattle.std.specs.Coded.{Coded, code_by, coded_list, coded×}
 use Rattle.channel_calls.specs.declared.reply.Reply.{Reply}
-use Rattle.channel_interleaving.specs.Reaches.{replies_in}
+use Rattle.channel_world_runs.specs.Reaches.{replies_in}
 use Rattle.channel_world.specs.Carried.{replied_in, polls_replied}
 use Rattle.channel_world.specs.View.{WorldView}
 use Rattle.channel_world.specs.declared.account.Deed.{Deed}

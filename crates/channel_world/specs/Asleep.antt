@@ -2,13 +2,13 @@
 use Rattle.std.specs.Prelude.{◌≡◌, ℕ, ◌+◌, ◌<◌, ◌≤◌, true, false, [], Option, None, Some}
 use Rattle.channel_calls.specs.declared.stage.Line.{Line}
 use Rattle.channel_calls.specs.declared.stage.Line.TheVariants.{Sends, Receives, Streams}
-use Rattle.channel_laws.specs.Sends.{HasPlaces}
-use Rattle.channel_model.specs.Laws.{NobodyIsLeft}
-use Rattle.channel_model.specs.Lines.{untold}
-use Rattle.channel_model.specs.declared.name.Waiter.{Waiter}
-use Rattle.channel_interleaving.specs.Owed.{IsUnwoken, woken_on}
-use Rattle.channel_interleaving.specs.Pending.{stands_pending, how_many}
-use Rattle.channel_interleaving.specs.NameTable.{is_woken}
+use Rattle.channel_steps.specs.every_run.Sends.{HasPlaces}
+use Rattle.channel_world_model.specs.Laws.{NobodyIsLeft}
+use Rattle.channel_world_model.specs.Lines.{untold}
+use Rattle.channel_world_model.specs.declared.name.Waiter.{Waiter}
+use Rattle.channel_world_runs.specs.Owed.{IsUnwoken, woken_on}
+use Rattle.channel_world_runs.specs.Pending.{stands_pending, how_many}
+use Rattle.channel_world_runs.specs.NameTable.{is_woken}
 use Rattle.channel_world.specs.Kinds.{pending_on_line}
 use Rattle.channel_world.specs.View.{names_in, messages_in, capacity_in, is_closed, calls_in, taken_in, at_rest, observation_of, IsQuiet, WorldView}
 

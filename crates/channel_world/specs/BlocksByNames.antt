@@ -5,19 +5,19 @@ use Rattle.channel_calls.specs.Blocks.{waiting_of, poll_woken}
 use Rattle.channel_calls.specs.Turns.{message_of}
 use Rattle.channel_calls.specs.declared.blocked.Blocked.{Blocked}
 use Rattle.channel_calls.specs.declared.blocked.Blocked.TheVariants as blocked
-use Rattle.channel_laws.specs.BridgeBlocks.{first_poll, poll_refused}
-use Rattle.channel_model.specs.Names.{at}
-use Rattle.channel_model.specs.declared.call.Call.TheVariants.{Poll, PollRefused}
-use Rattle.channel_model.specs.declared.name.HandleId.{HandleId}
-use Rattle.channel_model.specs.declared.name.OpId.{OpId}
-use Rattle.channel_model.specs.declared.name.Waiter.TheVariants.{Op}
-use Rattle.channel_interleaving.specs.AskedBy.{IsOrListens}
-use Rattle.channel_interleaving.specs.Bookkeeping.{asks}
-use Rattle.channel_interleaving.specs.declared.names.OperationKind.{OperationKind}
-use Rattle.channel_interleaving.specs.declared.names.OperationKind.TheVariants as kind
-use Rattle.channel_interleaving.specs.declared.names.PollState.{PollState}
-use Rattle.channel_interleaving.specs.declared.names.PollState.TheVariants.{Rests, Waits}
-use Rattle.channel_interleaving.specs.declared.name_table.NameTable.{NameTable}
+use Rattle.channel_steps.specs.every_run.BridgeBlocks.{first_poll, poll_refused}
+use Rattle.channel_world_model.specs.Names.{at}
+use Rattle.channel_world_model.specs.declared.call.Call.TheVariants.{Poll, PollRefused}
+use Rattle.channel_world_model.specs.declared.name.HandleId.{HandleId}
+use Rattle.channel_world_model.specs.declared.name.OpId.{OpId}
+use Rattle.channel_world_model.specs.declared.name.Waiter.TheVariants.{Op}
+use Rattle.channel_world_runs.specs.AskedBy.{IsOrListens}
+use Rattle.channel_world_runs.specs.Bookkeeping.{asks}
+use Rattle.channel_world_runs.specs.declared.names.OperationKind.{OperationKind}
+use Rattle.channel_world_runs.specs.declared.names.OperationKind.TheVariants as kind
+use Rattle.channel_world_runs.specs.declared.names.PollState.{PollState}
+use Rattle.channel_world_runs.specs.declared.names.PollState.TheVariants.{Rests, Waits}
+use Rattle.channel_world_runs.specs.declared.name_table.NameTable.{NameTable}
 
 module _ {T : Type 0} where
   abbrev pub kind_of : Blocked T → OperationKind

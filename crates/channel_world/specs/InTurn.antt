@@ -9,8 +9,8 @@ use Rattle.channel_calls.specs.declared.error.Refused.TheVariants as refused
 use Rattle.channel_calls.specs.declared.reply.Reply.{Reply}
 use Rattle.channel_calls.specs.declared.reply.Reply.TheVariants as reply
 use Rattle.channel_calls.specs.declared.stage.Kept.{Kept}
-use Rattle.channel_model.specs.State.{State}
-use Rattle.channel_model.specs.declared.name.Waiter.{Waiter}
+use Rattle.channel_world_model.specs.State.{State}
+use Rattle.channel_world_model.specs.declared.name.Waiter.{Waiter}
 use Rattle.channel_steps.specs.Moments.{MarkedMoment, with_marked}
 use Rattle.channel_steps.specs.Run.{EachStep, IsRun, Next, NextConfiguration}
 use Rattle.channel_steps.specs.Configuration.{Configuration, came_by, gone_by}

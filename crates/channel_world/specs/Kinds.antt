@@ -2,15 +2,15 @@
 use Rattle.std.specs.Prelude.{ℕ, ◌+◌, Bool, false, true, List, [], ◌∷◌, Option, Some, is_some}
 use Rattle.std.specs.List.{count_by}
 use Rattle.channel_calls.specs.declared.stage.Line.{Line}
-use Rattle.channel_model.specs.Laws.{same_line}
-use Rattle.channel_interleaving.specs.Owed.{all_names}
-use Rattle.channel_interleaving.specs.Owners.{NameStatus, waits, status_by, operation_status, stream_status, status}
-use Rattle.channel_interleaving.specs.declared.doing.Doing.{Doing}
-use Rattle.channel_interleaving.specs.declared.names.HandleEntry.{HandleEntry}
-use Rattle.channel_interleaving.specs.declared.names.Operation.{Operation}
-use Rattle.channel_interleaving.specs.declared.names.OperationKind.{OperationKind}
-use Rattle.channel_interleaving.specs.declared.names.OperationKind.TheVariants.{Send}
-use Rattle.channel_interleaving.specs.declared.name_table.NameTable.{NameTable}
+use Rattle.channel_world_model.specs.Laws.{same_line}
+use Rattle.channel_world_runs.specs.Owed.{all_names}
+use Rattle.channel_world_runs.specs.Owners.{NameStatus, waits, status_by, operation_status, stream_status, status}
+use Rattle.channel_world_runs.specs.declared.doing.Doing.{Doing}
+use Rattle.channel_world_runs.specs.declared.names.HandleEntry.{HandleEntry}
+use Rattle.channel_world_runs.specs.declared.names.Operation.{Operation}
+use Rattle.channel_world_runs.specs.declared.names.OperationKind.{OperationKind}
+use Rattle.channel_world_runs.specs.declared.names.OperationKind.TheVariants.{Send}
+use Rattle.channel_world_runs.specs.declared.name_table.NameTable.{NameTable}
 
 -- whether one that stands so is pending on this line, woken or not
 abbrev pub is_pending_on : Line → NameStatus → Bool

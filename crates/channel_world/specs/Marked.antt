@@ -1,12 +1,12 @@
 -- What a run brought into a channel and took out of it.
 use Rattle.std.specs.Prelude.{ℕ, ◌==◌, if◌then◌else◌, List, [], ◌∷◌, ◌++◌}
-use Rattle.channel_laws.specs.Marked.{brought_by}
-use Rattle.channel_model.specs.declared.name.Waiter.{Waiter}
+use Rattle.channel_steps.specs.every_run.Marked.{brought_by}
+use Rattle.channel_world_model.specs.declared.name.Waiter.{Waiter}
 use Rattle.channel_steps.specs.Configuration.{ActiveCall, Configuration, brought, gone_by}
-use Rattle.channel_interleaving.specs.Runs.{Moment}
-use Rattle.channel_interleaving.specs.declared.step.Entry.{Entry}
-use Rattle.channel_interleaving.specs.declared.step.Step.{Step}
-use Rattle.channel_interleaving.specs.declared.step.Step.TheVariants as step
+use Rattle.channel_world_runs.specs.Runs.{Moment}
+use Rattle.channel_world_runs.specs.declared.step.Entry.{Entry}
+use Rattle.channel_world_runs.specs.declared.step.Step.{Step}
+use Rattle.channel_world_runs.specs.declared.step.Step.TheVariants as step
 
 module _ {T : Type 0} where
   -- the message that the call of this party brings, if it is one that brings one

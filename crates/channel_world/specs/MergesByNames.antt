@@ -5,23 +5,23 @@ use Rattle.concurrent_queue.specs.Capacity.{capacity_of}
 use Rattle.concurrent_queue.specs.declared.cells.QueueForm.{QueueForm}
 use Rattle.event_listener.specs.Notices.{Woken}
 use Rattle.channel_calls.specs.Parts.{Parts}
-use Rattle.channel_model.specs.declared.call.Call.{Call}
-use Rattle.channel_model.specs.declared.name.Waiter.{Waiter}
+use Rattle.channel_world_model.specs.declared.call.Call.{Call}
+use Rattle.channel_world_model.specs.declared.name.Waiter.{Waiter}
 use Rattle.channel_steps.specs.Run.{IsRun, Next, new_configuration}
 use Rattle.channel_steps.specs.declared.party.Entry.{Entry}
 use Rattle.channel_steps.specs.declared.run.Step.{Step as ChannelStep}
 use Rattle.channel_steps.specs.declared.run.Step.TheVariants as channel
-use Rattle.channel_laws.specs.Bridge.{MergeMoment, just_opened, Happening, Given, steps_of}
-use Rattle.channel_laws.specs.BridgeHeadline.{KeepsTheHeadline}
-use Rattle.channel_interleaving.specs.AskedBy.{IsOrListens, IsStepOf}
-use Rattle.channel_interleaving.specs.Bookkeeping.{asks}
-use Rattle.channel_interleaving.specs.Owed.{Owed}
-use Rattle.channel_interleaving.specs.Refusal.{begin_refusal, step_refusal}
-use Rattle.channel_interleaving.specs.NameTable.{first_name_table}
-use Rattle.channel_interleaving.specs.Run.{NameState, IsNameStateOf, name_state_begun}
-use Rattle.channel_interleaving.specs.ObservationAt.{observation_at}
-use Rattle.channel_interleaving.specs.declared.step.Step.{Step}
-use Rattle.channel_interleaving.specs.declared.step.Step.TheVariants as step
+use Rattle.channel_steps.specs.every_run.Bridge.{MergeMoment, just_opened, Happening, Given, steps_of}
+use Rattle.channel_steps.specs.every_run.BridgeHeadline.{KeepsTheHeadline}
+use Rattle.channel_world_runs.specs.AskedBy.{IsOrListens, IsStepOf}
+use Rattle.channel_world_runs.specs.Bookkeeping.{asks}
+use Rattle.channel_world_runs.specs.Owed.{Owed}
+use Rattle.channel_world_runs.specs.Refusal.{begin_refusal, step_refusal}
+use Rattle.channel_world_runs.specs.NameTable.{first_name_table}
+use Rattle.channel_world_runs.specs.Run.{NameState, IsNameStateOf, name_state_begun}
+use Rattle.channel_world_runs.specs.ObservationAt.{observation_at}
+use Rattle.channel_world_runs.specs.declared.step.Step.{Step}
+use Rattle.channel_world_runs.specs.declared.step.Step.TheVariants as step
 
 -- a step by names, beside the step of the channel that it is
 pub record NamedStep (T : Type 0) : Type 0 where

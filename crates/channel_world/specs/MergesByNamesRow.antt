@@ -2,10 +2,10 @@
 use Rattle.std.specs.Prelude.{ℕ, List}
 use Rattle.concurrent_queue.specs.declared.cells.QueueForm.{QueueForm}
 use Rattle.channel_calls.specs.Parts.{Parts}
-use Rattle.channel_laws.specs.Bridge.{just_opened, Given, steps_of}
-use Rattle.channel_laws.specs.BridgeHeadline.{KeepsTheHeadline}
-use Rattle.channel_laws.specs.BridgeRow.{two_clones}
-use Rattle.channel_model.specs.declared.name.Waiter.{Waiter}
+use Rattle.channel_steps.specs.every_run.Bridge.{just_opened, Given, steps_of}
+use Rattle.channel_steps.specs.every_run.BridgeHeadline.{KeepsTheHeadline}
+use Rattle.channel_steps.specs.every_run.BridgeRow.{two_clones}
+use Rattle.channel_world_model.specs.declared.name.Waiter.{Waiter}
 use Rattle.channel_world.specs.MergesByNames.{first_name_state, BeginByNames}
 
 -- its begins are what `MergesByNamesAreRuns` asks

@@ -6,11 +6,11 @@ use Rattle.channel_calls.specs.Parts.{Parts}
 use Rattle.channel_calls.specs.declared.ask.ChannelAsk.{ChannelAsk}
 use Rattle.channel_calls.specs.declared.ask.ChannelAsk.TheVariants.{CloneHandle}
 use Rattle.channel_calls.specs.declared.stage.Side.TheVariants.{Senders}
-use Rattle.channel_laws.specs.Bridge.{just_opened, Happening, Given}
-use Rattle.channel_laws.specs.BridgeRow.{two_clones}
-use Rattle.channel_laws.specs.Named.{KeepsItByNames, WakesNamed, name_of, steps_asking}
-use Rattle.channel_laws.specs.Tasks.{ask_by}
-use Rattle.channel_model.specs.declared.name.Waiter.{Waiter}
+use Rattle.channel_steps.specs.every_run.Bridge.{just_opened, Happening, Given}
+use Rattle.channel_steps.specs.every_run.BridgeRow.{two_clones}
+use Rattle.channel_steps.specs.every_run.Named.{KeepsItByNames, WakesNamed, name_of, steps_asking}
+use Rattle.channel_steps.specs.every_run.Tasks.{ask_by}
+use Rattle.channel_world_model.specs.declared.name.Waiter.{Waiter}
 use Rattle.channel_world.specs.MergesByNames.{first_name_state, BeginByNames, IsByNames}
 
 -- what the begins of a merge have to be, where the calls ask this, with their names

@@ -1,6 +1,6 @@
 -- Two laws of every record of calls.
 use Rattle.std.specs.Prelude.{◌≡◌, ℕ, List, [], ◌∷◌, ◌++◌, Option}
-use Rattle.channel_model.specs.Laws.{removed_by, brought_by_call, sends_after, NobodyIsLeft}
+use Rattle.channel_world_model.specs.Laws.{removed_by, brought_by_call, sends_after, NobodyIsLeft}
 use Rattle.channel_world.specs.RecordReplay.{IsHistory}
 use Rattle.channel_world.specs.declared.recorded.receipt.Receipt.{Receipt}
 

@@ -1,8 +1,8 @@
 -- What a lock keeps: a world with its record, and the parts of the ledger that no seat has.
 use Rattle.std.specs.Prelude.{◌≡◌, ◌+◌, ◌-◌, ◌^◌, ◌<◌, ◌≤◌, ℕ, List, Option, Some}
-use Rattle.channel_model.specs.Run.{MayStop}
-use Rattle.channel_model.specs.State.{State, start}
-use Rattle.channel_model.specs.declared.call.Call.{Call}
+use Rattle.channel_world_model.specs.Run.{MayStop}
+use Rattle.channel_world_model.specs.State.{State, start}
+use Rattle.channel_world_model.specs.declared.call.Call.{Call}
 use Rattle.channel_world.specs.RecordReplay.{Replays}
 use Rattle.channel_world.specs.RecordSeat.{amount_of, sum_below}
 use Rattle.channel_world.specs.declared.recorded.error.RecordError.{RecordError}

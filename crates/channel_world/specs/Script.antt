@@ -2,24 +2,24 @@
 use Rattle.std.specs.Prelude.{ℕ, ◌+◌, ◌*◌, ◌/◌, ◌^◌, ◌==◌, nat_lt, List, [], ◌∷◌, ◌++◌, length, false, not, Option, None, Some, Result, Ok, Err, codes, slice_get, if◌then◌else◌, zero, suc}
 use Rattle.std.specs.List.{list_all}
 use Rattle.std.specs.Option.{option_map_or, option_or}
-use Rattle.channel_model.specs.State.{State, start}
-use Rattle.channel_model.specs.Refusal.{refusal}
-use Rattle.channel_model.specs.Answer.{answer}
-use Rattle.channel_model.specs.Settling.{poll_of}
-use Rattle.channel_model.specs.declared.call.Call.{Call}
+use Rattle.channel_world_model.specs.State.{State, start}
+use Rattle.channel_world_model.specs.Refusal.{refusal}
+use Rattle.channel_world_model.specs.Answer.{answer}
+use Rattle.channel_world_model.specs.Settling.{poll_of}
+use Rattle.channel_world_model.specs.declared.call.Call.{Call}
 use Rattle.channel_calls.specs.declared.reply.Reply.{Reply}
-use Rattle.channel_language.specs.Words.{lines_of}
-use Rattle.channel_language.specs.Command.{Command, settle, Opening, bounded, unbounded, parse, openings}
-use Rattle.channel_language.specs.Language.{Language, today}
-use Rattle.channel_language.specs.Table.{Table}
-use Rattle.channel_language.specs.Asked.{used, is_known, is_given_before, with_given, call_of}
-use Rattle.channel_language.specs.Text.{reply_text, wakes_text, refused_text, settle_text}
-use Rattle.channel_language.specs.declared.table.Sort.TheVariants as sort
+use Rattle.channel_world_language.specs.Words.{lines_of}
+use Rattle.channel_world_language.specs.Command.{Command, settle, Opening, bounded, unbounded, parse, openings}
+use Rattle.channel_world_language.specs.Language.{Language, today}
+use Rattle.channel_world_language.specs.Table.{Table}
+use Rattle.channel_world_language.specs.Asked.{used, is_known, is_given_before, with_given, call_of}
+use Rattle.channel_world_language.specs.Text.{reply_text, wakes_text, refused_text, settle_text}
+use Rattle.channel_world_language.specs.declared.table.Sort.TheVariants as sort
 use Rattle.channel_world.specs.declared.script.end.ScriptEnd.{ScriptEnd}
 use Rattle.channel_world.specs.declared.script.end.ScriptEnd.TheVariants.{Done, Unreadable, Capacity, Memory, Fault}
-use Rattle.channel_model.specs.declared.name.Waiter.{Waiter}
-use Rattle.channel_model.specs.declared.refusal.WorldRefusal.{WorldRefusal}
-use Rattle.channel_model.specs.declared.refusal.WorldRefusal.TheVariants as why
+use Rattle.channel_world_model.specs.declared.name.Waiter.{Waiter}
+use Rattle.channel_world_model.specs.declared.refusal.WorldRefusal.{WorldRefusal}
+use Rattle.channel_world_model.specs.declared.refusal.WorldRefusal.TheVariants as why
 
 -- ---- one command
 

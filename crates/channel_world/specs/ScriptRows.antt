@@ -2,7 +2,7 @@
 use Rattle.std.specs.Prelude.{◌≡◌, ℕ, List, [], ◌∷◌, ◌++◌, codes, refl}
 use Rattle.std.specs.Fmt.{digits}
 use Rattle.std.specs.List.{repeat}
-use Rattle.channel_language.specs.Language.{Language, today}
+use Rattle.channel_world_language.specs.Language.{Language, today}
 use Rattle.channel_world.specs.Script.{script_in, script}
 use Rattle.channel_world.specs.Output.{text_of_lines, last_lines, status_of, text_of_script}
 

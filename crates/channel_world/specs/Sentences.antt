@@ -6,10 +6,10 @@ use Rattle.channel_calls.specs.Moves.{OnePlace}
 use Rattle.channel_calls.specs.declared.mark.Mark.TheVariants.{Nothing}
 use Rattle.channel_calls.specs.declared.stage.Kept.{Kept}
 use Rattle.channel_calls.specs.declared.stage.Stage.{Stage}
-use Rattle.channel_laws.specs.Ends.{Each, IsStill, SaysTheEnd, GivesMessage, Replies}
-use Rattle.channel_laws.specs.Over.{AllSpent}
-use Rattle.channel_model.specs.declared.call.Call.{Call}
-use Rattle.channel_model.specs.declared.name.Waiter.{Waiter}
+use Rattle.channel_steps.specs.every_run.Ends.{Each, IsStill, SaysTheEnd, GivesMessage, Replies}
+use Rattle.channel_steps.specs.every_run.Over.{AllSpent}
+use Rattle.channel_world_model.specs.declared.call.Call.{Call}
+use Rattle.channel_world_model.specs.declared.name.Waiter.{Waiter}
 use Rattle.channel_steps.specs.Answers.{asks_first}
 use Rattle.channel_steps.specs.Known.{IsQuick}
 use Rattle.channel_steps.specs.Left.{most_left}
@@ -17,22 +17,22 @@ use Rattle.channel_steps.specs.Moments.{Shut, Spent}
 use Rattle.channel_steps.specs.Run.{call_begun}
 use Rattle.channel_steps.specs.Configuration.{ActiveCall, blocks_after, EndsInTime, brought, does, sees, unless_ended}
 use Rattle.channel_steps.specs.Tellings.{telling, dropping, WokenBy}
-use Rattle.channel_interleaving.specs.Bookkeeping.{asks}
-use Rattle.channel_interleaving.specs.Left.{wanted_of}
-use Rattle.channel_interleaving.specs.Owed.{Owed}
-use Rattle.channel_interleaving.specs.Refusal.{step_refusal}
-use Rattle.channel_interleaving.specs.Run.{IsNameStateAfter}
-use Rattle.channel_interleaving.specs.Runs.{Moment}
-use Rattle.channel_interleaving.specs.ObservationAt.{observation_at}
-use Rattle.channel_interleaving.specs.declared.step.Entry.{Entry}
-use Rattle.channel_interleaving.specs.declared.step.PartyId.{PartyId}
-use Rattle.channel_interleaving.specs.declared.step.Step.{Step}
-use Rattle.channel_interleaving.specs.declared.step.Step.TheVariants as step
-use Rattle.channel_laws.specs.EndSays.{EndSays}
-use Rattle.channel_laws.specs.Marked.{plain, marked}
-use Rattle.channel_laws.specs.Marks.{BeginsItsMarks}
+use Rattle.channel_world_runs.specs.Bookkeeping.{asks}
+use Rattle.channel_world_runs.specs.Left.{wanted_of}
+use Rattle.channel_world_runs.specs.Owed.{Owed}
+use Rattle.channel_world_runs.specs.Refusal.{step_refusal}
+use Rattle.channel_world_runs.specs.Run.{IsNameStateAfter}
+use Rattle.channel_world_runs.specs.Runs.{Moment}
+use Rattle.channel_world_runs.specs.ObservationAt.{observation_at}
+use Rattle.channel_world_runs.specs.declared.step.Entry.{Entry}
+use Rattle.channel_world_runs.specs.declared.step.PartyId.{PartyId}
+use Rattle.channel_world_runs.specs.declared.step.Step.{Step}
+use Rattle.channel_world_runs.specs.declared.step.Step.TheVariants as step
+use Rattle.channel_steps.specs.every_run.EndSays.{EndSays}
+use Rattle.channel_steps.specs.every_run.Marked.{plain, marked}
+use Rattle.channel_steps.specs.every_run.Marks.{BeginsItsMarks}
 use Rattle.channel_world.specs.StepsLeft.{OthersQuietOf}
-use Rattle.channel_laws.specs.Words.{WordsSay}
+use Rattle.channel_steps.specs.every_run.Words.{WordsSay}
 use Rattle.channel_world.specs.View.{active_calls, moment_of, StandsIn, WorldView}
 
 module _ {T : Type 0} where

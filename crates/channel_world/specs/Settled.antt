@@ -2,21 +2,21 @@
 use Rattle.std.specs.Prelude.{◌≡◌, ◌+◌, ◌-◌, ◌*◌, ◌≤◌, ◌++◌, ℕ, min, List, length, map, if◌then◌else◌, true, false}
 use Rattle.std.specs.List.{list_any}
 use Rattle.std.specs.Option.{option_map_or}
-use Rattle.channel_alone.specs.Ample.{lacks_memory}
-use Rattle.channel_language.specs.Text.{wants_growth}
+use Rattle.channel_steps.specs.solo.Ample.{lacks_memory}
+use Rattle.channel_world_language.specs.Text.{wants_growth}
 use Rattle.channel_calls.specs.declared.reply.Reply.{Reply}
 use Rattle.channel_calls.specs.declared.stage.Line.{Line}
 use Rattle.channel_calls.specs.declared.stage.Line.TheVariants.{Sends, Receives, Streams}
-use Rattle.channel_interleaving.specs.Positions.{accepted_by, brings}
-use Rattle.channel_model.specs.Answer.{Answer}
-use Rattle.channel_model.specs.Awake.{AwakeIn}
-use Rattle.channel_model.specs.Channel.{ModelChannel}
-use Rattle.channel_model.specs.Laws.{woken_of_line}
-use Rattle.channel_model.specs.Lines.{is_among, untold}
-use Rattle.channel_model.specs.Refused.{Answers}
-use Rattle.channel_model.specs.Settling.{poll_of, SettlesTo}
-use Rattle.channel_model.specs.State.{State}
-use Rattle.channel_model.specs.declared.name.Waiter.{Waiter}
+use Rattle.channel_world_runs.specs.Positions.{accepted_by, brings}
+use Rattle.channel_world_model.specs.Answer.{Answer}
+use Rattle.channel_world_model.specs.Awake.{AwakeIn}
+use Rattle.channel_world_model.specs.Channel.{ModelChannel}
+use Rattle.channel_world_model.specs.Laws.{woken_of_line}
+use Rattle.channel_world_model.specs.Lines.{is_among, untold}
+use Rattle.channel_world_model.specs.Refused.{Answers}
+use Rattle.channel_world_model.specs.Settling.{poll_of, SettlesTo}
+use Rattle.channel_world_model.specs.State.{State}
+use Rattle.channel_world_model.specs.declared.name.Waiter.{Waiter}
 use Rattle.channel_world.specs.View.{WorldView, at_rest, names_in, HasPositions}
 use Rattle.channel_world.specs.declared.settle.Settled.{Settled}
 

@@ -1,13 +1,13 @@
 -- How soon a call ends where the others are quiet: the number of steps of its own that are left to it at each moment of a run.
 use Rattle.std.specs.Prelude.{ℕ, suc, ◌≤◌, ◌==◌, ◌&&◌, if◌then◌else◌, is_none, List, [], ◌∷◌}
-use Rattle.channel_model.specs.declared.name.Waiter.{Waiter}
+use Rattle.channel_world_model.specs.declared.name.Waiter.{Waiter}
 use Rattle.channel_steps.specs.Left.{most_left}
 use Rattle.channel_steps.specs.Configuration.{Configuration, OthersQuiet}
-use Rattle.channel_interleaving.specs.Left.{calls_of_others, wanted_of}
-use Rattle.channel_interleaving.specs.Runs.{Moment}
-use Rattle.channel_interleaving.specs.declared.step.Entry.{Entry}
-use Rattle.channel_interleaving.specs.declared.step.Step.{Step}
-use Rattle.channel_interleaving.specs.declared.step.Step.TheVariants as step
+use Rattle.channel_world_runs.specs.Left.{calls_of_others, wanted_of}
+use Rattle.channel_world_runs.specs.Runs.{Moment}
+use Rattle.channel_world_runs.specs.declared.step.Entry.{Entry}
+use Rattle.channel_world_runs.specs.declared.step.Step.{Step}
+use Rattle.channel_world_runs.specs.declared.step.Step.TheVariants as step
 use Rattle.channel_world.specs.View.{StandsIn, WorldView}
 
 module _ {T : Type 0} where

@@ -1,10 +1,10 @@
 -- Nothing comes after the end: once a receive answered closed, or a stream ended, no call that begins later gives a message.
 use Rattle.std.specs.Prelude.{ℕ, List, [], ◌∷◌}
-use Rattle.channel_laws.specs.Ends.{SaysTheEnd, GivesMessage, Replies}
-use Rattle.channel_interleaving.specs.Owners.{IsAmong}
-use Rattle.channel_interleaving.specs.declared.step.Entry.{Entry}
-use Rattle.channel_interleaving.specs.declared.step.Step.{Step}
-use Rattle.channel_interleaving.specs.declared.step.Step.TheVariants as step
+use Rattle.channel_steps.specs.every_run.Ends.{SaysTheEnd, GivesMessage, Replies}
+use Rattle.channel_world_runs.specs.Owners.{IsAmong}
+use Rattle.channel_world_runs.specs.declared.step.Entry.{Entry}
+use Rattle.channel_world_runs.specs.declared.step.Step.{Step}
+use Rattle.channel_world_runs.specs.declared.step.Step.TheVariants as step
 
 module _ {T : Type 0} where
   -- no call of these parties, and none that begins here, gives a message by one of these steps, as far as they were made

@@ -7,21 +7,21 @@ use Rattle.channel_calls.specs.Parts.{Parts, count}
 use Rattle.channel_calls.specs.Plain.{parts_of}
 use Rattle.channel_calls.specs.declared.reply.Reply.{Reply}
 use Rattle.channel_calls.specs.declared.stage.Side.{Side}
-use Rattle.channel_model.specs.State.{State}
-use Rattle.channel_model.specs.declared.name.Waiter.{Waiter}
+use Rattle.channel_world_model.specs.State.{State}
+use Rattle.channel_world_model.specs.declared.name.Waiter.{Waiter}
 use Rattle.channel_steps.specs.Configuration.{Configuration}
 use Rattle.channel_steps.specs.declared.party.Party.{Party}
-use Rattle.channel_interleaving.specs.Counted.{tally, is_lowering, is_closing}
-use Rattle.channel_interleaving.specs.WorldState as world_state
-use Rattle.channel_interleaving.specs.Left.{left_of}
-use Rattle.channel_interleaving.specs.Owed.{Observation}
-use Rattle.channel_interleaving.specs.Run.{NameState}
-use Rattle.channel_interleaving.specs.Runs as runs
-use Rattle.channel_interleaving.specs.Runs.{Moment}
-use Rattle.channel_interleaving.specs.declared.world_state.WorldState.{WorldState}
-use Rattle.channel_interleaving.specs.declared.name_table.NameTable.{NameTable}
-use Rattle.channel_interleaving.specs.declared.step.Entry.{Entry}
-use Rattle.channel_interleaving.specs.declared.step.Step.{Step}
+use Rattle.channel_world_runs.specs.Counted.{tally, is_lowering, is_closing}
+use Rattle.channel_world_runs.specs.WorldState as world_state
+use Rattle.channel_world_runs.specs.Left.{left_of}
+use Rattle.channel_world_runs.specs.Owed.{Observation}
+use Rattle.channel_world_runs.specs.Run.{NameState}
+use Rattle.channel_world_runs.specs.Runs as runs
+use Rattle.channel_world_runs.specs.Runs.{Moment}
+use Rattle.channel_world_runs.specs.declared.world_state.WorldState.{WorldState}
+use Rattle.channel_world_runs.specs.declared.name_table.NameTable.{NameTable}
+use Rattle.channel_world_runs.specs.declared.step.Entry.{Entry}
+use Rattle.channel_world_runs.specs.declared.step.Step.{Step}
 use Rattle.channel_world.specs.Kinds.{takings_of}
 use Rattle.channel_world.specs.World as world
 

@@ -4,16 +4,16 @@ use Rattle.concurrent_queue.specs.Capacity.{capacity_of}
 use Rattle.concurrent_queue.specs.Step.{items_in, closed_in}
 use Rattle.event_listener.specs.Lists.{tasks_of}
 use Rattle.channel_calls.specs.Parts.{Parts, Roster}
-use Rattle.channel_model.specs.Channel.{ModelChannel}
-use Rattle.channel_model.specs.Lines.{Waiting}
-use Rattle.channel_model.specs.State.{State}
-use Rattle.channel_model.specs.declared.call.Call.{Call}
-use Rattle.channel_model.specs.declared.call.Call.TheVariants as call
-use Rattle.channel_model.specs.declared.name.Waiter.{Waiter}
-use Rattle.channel_interleaving.specs.WorldState.{parts_in}
-use Rattle.channel_interleaving.specs.OwnerOrder.{woken_in}
-use Rattle.channel_interleaving.specs.NameTable.{names_of}
-use Rattle.channel_interleaving.specs.declared.world_state.WorldState.{WorldState}
+use Rattle.channel_world_model.specs.Channel.{ModelChannel}
+use Rattle.channel_world_model.specs.Lines.{Waiting}
+use Rattle.channel_world_model.specs.State.{State}
+use Rattle.channel_world_model.specs.declared.call.Call.{Call}
+use Rattle.channel_world_model.specs.declared.call.Call.TheVariants as call
+use Rattle.channel_world_model.specs.declared.name.Waiter.{Waiter}
+use Rattle.channel_world_runs.specs.WorldState.{parts_in}
+use Rattle.channel_world_runs.specs.OwnerOrder.{woken_in}
+use Rattle.channel_world_runs.specs.NameTable.{names_of}
+use Rattle.channel_world_runs.specs.declared.world_state.WorldState.{WorldState}
 
 -- those who wait in each list, and the woken
 abbrev pub waiting_in : Roster Waiter → List Waiter → Waiting

@@ -1,7 +1,7 @@
 //! Accounts: what is done to a world, one thing after another, as proofs see it.
 
 ghost use Rattle.std.specs.Prelude.{◌≡◌, [], ◌++◌};
-ghost use Rattle.channel_interleaving.specs.Reaches.{replies_in};
+ghost use Rattle.channel_world_runs.specs.Reaches.{replies_in};
 ghost use Rattle.channel_world.specs.Account.{replied_by};
 ghost use Rattle.channel_world.specs.Carried.{replied_in, polls_replied, LeadsTo};
 ghost use Rattle.channel_world.specs.Since.{ClosesOnceWith, IsNeverFullWith};

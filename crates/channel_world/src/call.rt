@@ -1,6 +1,6 @@
 //! What may be asked of a world, and what it answers.
 
 pub use channel_calls::reply::Reply;
-pub use channel_model::call::Call;
-pub use channel_model::refusal::WorldRefusal;
-pub use channel_model::run::{CallRun, Done, Stopped};
+pub use channel_world_model::call::Call;
+pub use channel_world_model::refusal::WorldRefusal;
+pub use channel_world_model::run::{CallRun, Done, Stopped};

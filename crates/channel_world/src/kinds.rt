@@ -1,16 +1,16 @@
 //! Those who are pending, and those of them who were woken, line by line; and what calls under way have taken.
 
 ghost use Rattle.std.specs.Prelude.{◌≡◌, ◌<◌, ◌^◌, IfSome, IsSome};
-ghost use Rattle.channel_interleaving.specs.Owed.{is_woken_on};
-ghost use Rattle.channel_interleaving.specs.NameTable.{line_of_kind};
-ghost use Rattle.channel_model.specs.Laws.{same_line};
+ghost use Rattle.channel_world_runs.specs.Owed.{is_woken_on};
+ghost use Rattle.channel_world_runs.specs.NameTable.{line_of_kind};
+ghost use Rattle.channel_world_model.specs.Laws.{same_line};
 ghost use Rattle.channel_world.specs.Kinds.{is_pending_on, may_pend, operation_stance, stream_stance, takings_of};
 
 use super::world::World;
 use channel_calls::stage::Line;
-use channel_interleaving::doing::Doing;
-use channel_interleaving::names::{HandleEntry, Operation, OperationKind, PollState};
-use channel_model::name::HandleKind;
+use channel_world_model::name::HandleKind;
+use channel_world_runs::doing::Doing;
+use channel_world_runs::names::{HandleEntry, Operation, OperationKind, PollState};
 
 /// Whether an operation of this kind waits on this line.
 fn waits_on(line: Line, kind: OperationKind) -> bool
@@ -122,7 +122,7 @@ fn taken_by(doings: &Vec<Doing>) -> Option<u64>
 
 impl<T: Drop> World<T> {
     ghost use Rattle.std.specs.Prelude.{◌≡◌, ◌<◌, ◌^◌, IfSome, IsSome};
-    ghost use Rattle.channel_interleaving.specs.Owed.{woken_on};
+    ghost use Rattle.channel_world_runs.specs.Owed.{woken_on};
     ghost use Rattle.channel_world.specs.Kinds.{pending_on_line};
     ghost use Rattle.channel_world.specs.View.{names_in, taken_in};
 

@@ -10,20 +10,20 @@ ghost use Rattle.channel_world.specs.MergesByNames.{MergesByNamesAreRuns};
 ghost use Rattle.channel_world.specs.MergesByNamesRow.{TwoClonesByNames};
 ghost use Rattle.channel_world.specs.NamedMerges.{NamedMergesAreRuns, TwoClonesAreNamed};
 ghost use Rattle.channel_world.specs.Numbers.{CallsAtRest, MessagesAtRest, PendingAtRest, WokenAtRest};
-ghost use Rattle.channel_interleaving.specs.Owed.{Owed};
+ghost use Rattle.channel_world_runs.specs.Owed.{Owed};
 ghost use Rattle.channel_world.specs.Settled.{SettlingIsShort};
 ghost use Rattle.channel_world.specs.Since.{ClosesOnce, ClosesOnceFromRest, ClosesOnceToHere, ClosesWhatIsLeft, IsNeverFull, IsNeverFullFromRest, IsNeverFullSince, IsNeverFullToHere, NoneClosesAgain};
 ghost use Rattle.channel_world.specs.View.{observation_of};
 
 pub use crate::recorded::laws::{a_record_leaves_nobody_asleep, a_record_loses_nothing};
 use crate::world::World;
-pub use channel_model::laws::{
+pub use channel_world_model::laws::{
     a_refused_message_is_not_held, an_unbounded_channel_is_never_full, at_most_one_closes,
     counts_are_handles, length_is_within, messages_leave_in_turn, nobody_is_left_asleep,
     nothing_is_lost, settling_ends, upgrades_while_open,
 };
-use channel_model::name::Waiter;
-pub use channel_rest::laws::{
+use channel_world_model::name::Waiter;
+pub use channel_world_runs::rest_laws::{
     a_call_made_alone_is_the_models, a_channel_at_rest_is_a_world, a_poll_of_settling_is_the_models,
 };
 use event_listener::wakes::Wakes;
@@ -206,7 +206,7 @@ pub fn a_configuration_at_rest_is_its_state<T: Drop>(world: &World<T>)
 {}
 
 /// What any number of parties do to a new channel is a run by names, where their calls are calls by names. Of the parties and the
-/// cells this is asked, that they keep the headline of a merge (`channel_laws::laws::merges_keep_the_headline`). Of each begin it is
+/// cells this is asked, that they keep the headline of a merge (`channel_steps::laws::merges_keep_the_headline`). Of each begin it is
 /// asked that it is that of a call which nothing refuses, and asks what this call asks. Its name state is the one that the steps before it
 /// have made of that of an opening. So the task of a poll is the name that it is for. A poll of a send or a receive may ask its
 /// listener first, as that of a call that blocks does.
@@ -226,7 +226,7 @@ pub fn merges_by_names_are_runs<T, S: Wakes<Waiter>>()
 
 /// So it is where the tasks are of any kind, as the wakers of threads, of which many calls may have one. Each call of a merge is given
 /// a name beside its task, and with the names alone the merge keeps the headline
-/// (`channel_laws::laws::named_merges_keep_the_headline`). If with them its begins are those of calls by names, it is a run by names, and
+/// (`channel_steps::laws::named_merges_keep_the_headline`). If with them its begins are those of calls by names, it is a run by names, and
 /// all that `merges_by_names_are_runs` says is said of it. Each party was given what it was given with its tasks.
 ///
 /// There is such a merge: the first sender is cloned twice at once.
@@ -237,7 +237,7 @@ pub fn named_merges_are_runs_by_names<T, W, S: Wakes<W>>()
     ensures row { TwoClonesAreNamed T W S S.wakes }
 {}
 
-/// The polls of a call that blocks, which `channel_laws::laws::blocking_makes_calls` tells, are those of an operation by name, if their
+/// The polls of a call that blocks, which `channel_steps::laws::blocking_makes_calls` tells, are those of an operation by name, if their
 /// task is the name. Its first poll is that of an operation that is not pending yet. Each later one is that of an operation that is
 /// pending with the listener that the poll before it left, but asks this listener first. And a poll that is refused its task is so
 /// by name. So `merges_by_names_are_runs` speaks of calls that block as well. Not so of one that was refused its task before it ever

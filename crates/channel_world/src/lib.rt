@@ -5,9 +5,9 @@
 //! that it woke; [`World::run_steps`] takes a list of [`Step`]s of parties. A call or a step that is refused stays in front of
 //! its list, for a reason that [`WorldRefusal`] names. [`script::run_script`] runs a script over a world, from bytes to bytes.
 //!
-//! What is said of calls made one at a time stands in `channel_model`. What is said of runs of steps is one record, in
+//! What is said of calls made one at a time stands in `channel_world_model`. What is said of runs of steps is one record, in
 //! `specs/Headline`; what it says of each moment and of each step is in `specs/Sentences`, in the words of `channel_steps` and
-//! `channel_interleaving`.
+//! `channel_world_runs`.
 #![tactic(auto)]
 
 pub mod account;

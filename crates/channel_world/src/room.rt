@@ -28,7 +28,11 @@ impl<T: Drop> World<T> {
         match call {
             Call::Close { .. } | Call::Drop { .. } => self.untold_count(),
             Call::RecvMany { .. } => Some(self.world_state.channel.waiting(Line::Sends)),
-            _ => self.world_state.channel.waiting(Line::Streams).checked_add(2),
+            _ => self
+                .world_state
+                .channel
+                .waiting(Line::Streams)
+                .checked_add(2),
         }
     }
 }

@@ -6,7 +6,7 @@ use std::collections::VecDeque;
 impl<T: Drop> World<T> {
     ghost use Rattle.std.specs.Prelude.{◌≡◌, ◌+◌, ◌<◌, [], length, None, IfSome, IfNone, vec_len, vec_capacity};
     ghost use Rattle.std.specs.Option.{option_map};
-    ghost use Rattle.channel_model.specs.Run.{Runs, MayStop};
+    ghost use Rattle.channel_world_model.specs.Run.{Runs, MayStop};
     ghost use Rattle.channel_world.specs.Carried.{replied_in, LeadsTo};
     ghost use Rattle.channel_world.specs.View.{at_rest, IsQuiet, Stands};
 

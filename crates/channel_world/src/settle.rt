@@ -6,8 +6,10 @@ use super::call::Reply;
 use super::name::Waiter;
 use super::world::World;
 use channel_calls::stage::Line;
-use channel_interleaving::settle::Polled;
-use channel_rest::laws::{a_channel_at_rest_is_a_world, a_poll_of_settling_is_the_models};
+use channel_world_runs::rest_laws::{
+    a_channel_at_rest_is_a_world, a_poll_of_settling_is_the_models,
+};
+use channel_world_runs::settle::Polled;
 use event_listener::error::NoMemory;
 use std::alloc::{AllocError, Global};
 
@@ -48,13 +50,13 @@ fn take_room<T: Drop>(mut names: Vec<Waiter>, most: usize, alloc: Global) -> Opt
 
 impl<T: Drop> World<T> {
     ghost use Rattle.std.specs.Prelude.{◌≡◌, ◌≤◌, ◌+◌, [], ◌∷◌, true, false, length, vec_len, vec_capacity, IfOk, IfSome, OnSome, IsTrue};
-    ghost use Rattle.channel_alone.specs.Ample.{lacks_memory};
-    ghost use Rattle.channel_interleaving.specs.Positions.{accepted_by, brings};
-    ghost use Rattle.channel_model.specs.Answer.{Answer};
-    ghost use Rattle.channel_model.specs.Laws.{count_of, is_line, line_at};
-    ghost use Rattle.channel_model.specs.Lines.{is_among};
-    ghost use Rattle.channel_model.specs.Refused.{Answers};
-    ghost use Rattle.channel_model.specs.Settling.{poll_of};
+    ghost use Rattle.channel_steps.specs.solo.Ample.{lacks_memory};
+    ghost use Rattle.channel_world_runs.specs.Positions.{accepted_by, brings};
+    ghost use Rattle.channel_world_model.specs.Answer.{Answer};
+    ghost use Rattle.channel_world_model.specs.Laws.{count_of, is_line, line_at};
+    ghost use Rattle.channel_world_model.specs.Lines.{is_among};
+    ghost use Rattle.channel_world_model.specs.Refused.{Answers};
+    ghost use Rattle.channel_world_model.specs.Settling.{poll_of};
     ghost use Rattle.channel_world.specs.Settled.{Polls, PollHasPosition, HasPositionsToSettle, most_accepted, most_polls, pending_on};
     ghost use Rattle.channel_world.specs.View.{names_in, at_rest, has_one_place, accepted_by_now, IsQuiet, LeadsOn};
 
@@ -152,7 +154,9 @@ impl<T: Drop> World<T> {
     fn woken_names(&self) -> Result<Vec<Waiter>, AllocError>
         ensures { IfOk result (λ names. names.items ≡ (at_rest self.now).waiting.woken) }
     {
-        self.world_state.order.woken(&self.world_state.name_table, self.world_state.alloc)
+        self.world_state
+            .order
+            .woken(&self.world_state.name_table, self.world_state.alloc)
     }
 
     /// Room for all that settling answers. None where it was refused, or where somebody is woken and the queue has no positions for the
@@ -198,8 +202,8 @@ impl<T: Drop> World<T> {
 
 impl<T: Drop> World<T> {
     ghost use Rattle.std.specs.Prelude.{◌≡◌, ◌≤◌, ◌+◌, ◌*◌, [], vec_len, vec_capacity, IfOk, OnOk, OnErr};
-    ghost use Rattle.channel_interleaving.specs.Pending.{stands_pending, how_many};
-    ghost use Rattle.channel_model.specs.Settling.{Settles, pending_count};
+    ghost use Rattle.channel_world_runs.specs.Pending.{stands_pending, how_many};
+    ghost use Rattle.channel_world_model.specs.Settling.{Settles, pending_count};
     ghost use Rattle.channel_world.specs.Carried.{polls_replied, LeadsTo};
     ghost use Rattle.channel_world.specs.Asleep.{NoReceivePendsBesideAMessage, NoSendPendsBesideAPlace, NoStreamPendsBesideAMessage, NobodyPendsOnAClosed};
     ghost use Rattle.channel_world.specs.Settled.{polls_in, most_polls, NoneLackedMemory};

@@ -1,3 +1,3 @@
 //! Steps of parties, and what runs of them did.
 
-pub use channel_interleaving::step::{Entry, PartyId, Run, Step};
+pub use channel_world_runs::step::{Entry, PartyId, Run, Step};

@@ -1,10 +1,10 @@
 //! The calls under way on a world, by what they are to those who wait.
 
 ghost use Rattle.std.specs.Prelude.{◌≡◌};
-ghost use Rattle.channel_interleaving.specs.Owed.{is_sending, is_receiving};
+ghost use Rattle.channel_world_runs.specs.Owed.{is_sending, is_receiving};
 
 use super::world::World;
-use channel_interleaving::doing::{Doing, Role};
+use channel_world_runs::doing::{Doing, Role};
 
 /// How many calls are under way, by what they are to those who wait. One that has closed the channel is neither sending nor receiving,
 /// and so are questions, clones and drops. Own to this project.

@@ -2,9 +2,9 @@
 use super::call::{Call, Done, WorldRefusal};
 use super::step::{Run, Step};
 use channel_calls::error::OpenError;
-use channel_interleaving::world_state::WorldState;
-use channel_rest::laws::a_call_made_alone_is_the_models;
 use channel_steps::start::is_quiet;
+use channel_world_runs::rest_laws::a_call_made_alone_is_the_models;
+use channel_world_runs::world_state::WorldState;
 use concurrent_queue::cells::QueueForm;
 use event_listener::id::EventIds;
 use std::alloc::Global;
@@ -24,7 +24,7 @@ pub struct World<T> {
 
 impl<T> Model for World<T> {
     ghost use Rattle.std.specs.Coded.{codes};
-    ghost use Rattle.channel_interleaving.specs.WorldState.{IsKept};
+    ghost use Rattle.channel_world_runs.specs.WorldState.{IsKept};
     ghost use Rattle.channel_world.specs.View.{view_of, view_code, WorldView};
 
     ghost Value = { WorldView T };
@@ -40,7 +40,7 @@ impl<T: Drop> World<T> {
     ghost use Rattle.std.specs.Prelude.{◌≡◌, ◌<◌, ◌+◌, ◌-◌, ◌^◌, None, Some, Err, OnOk, OnErr, IfOk};
     ghost use Rattle.concurrent_queue.specs.Capacity.{capacity_of};
     ghost use Rattle.concurrent_queue.specs.Made.{CanBeMade};
-    ghost use Rattle.channel_model.specs.State.{start};
+    ghost use Rattle.channel_world_model.specs.State.{start};
     ghost use Rattle.channel_world.specs.View.{at_rest, IsQuiet, IsJustOpened};
 
     /// An open channel over a queue of this form. Memory is taken first, and then four identities together or none.
@@ -106,14 +106,14 @@ impl<T: Drop> World<T> {
 
 impl<T: Drop> World<T> {
     ghost use Rattle.std.specs.Prelude.{◌≡◌, ◌+◌, [], length, None, Some, IfSome, IsTrue, vec_len};
-    ghost use Rattle.channel_model.specs.declared.name.Waiter.{Waiter};
+    ghost use Rattle.channel_world_model.specs.declared.name.Waiter.{Waiter};
     ghost use Rattle.channel_steps.specs.Configuration.{Configuration};
-    ghost use Rattle.channel_interleaving.specs.Apart.{AreApart};
-    ghost use Rattle.channel_interleaving.specs.NameTable.{is_woken};
-    ghost use Rattle.channel_interleaving.specs.Pending.{stands_pending, how_many};
-    ghost use Rattle.channel_interleaving.specs.Run.{StopsAt};
-    ghost use Rattle.channel_interleaving.specs.Runs.{accepted_in, left_in};
-    ghost use Rattle.channel_interleaving.specs.Reaches.{replies_in};
+    ghost use Rattle.channel_world_runs.specs.Apart.{AreApart};
+    ghost use Rattle.channel_world_runs.specs.NameTable.{is_woken};
+    ghost use Rattle.channel_world_runs.specs.Pending.{stands_pending, how_many};
+    ghost use Rattle.channel_world_runs.specs.Run.{StopsAt};
+    ghost use Rattle.channel_world_runs.specs.Runs.{accepted_in, left_in};
+    ghost use Rattle.channel_world_runs.specs.Reaches.{replies_in};
     ghost use Rattle.channel_world.specs.Carried.{LeadsTo};
     ghost use Rattle.channel_world.specs.Headline.{Headline};
     ghost use Rattle.channel_world.specs.StepsLeft.{EndsInFront};
@@ -245,9 +245,9 @@ impl<T: Drop> World<T> {
 
 impl<T: Drop> World<T> {
     ghost use Rattle.std.specs.Prelude.{◌≡◌, None, IfOk, IfErr, OnErr};
-    ghost use Rattle.channel_model.specs.Refusal.{refusal};
-    ghost use Rattle.channel_model.specs.Refused.{Answers};
-    ghost use Rattle.channel_interleaving.specs.Reaches.{reply_of};
+    ghost use Rattle.channel_world_model.specs.Refusal.{refusal};
+    ghost use Rattle.channel_world_model.specs.Refused.{Answers};
+    ghost use Rattle.channel_world_runs.specs.Reaches.{reply_of};
     ghost use Rattle.channel_world.specs.View.{at_rest, IsQuiet, LeadsOn};
 
     /// Makes a call that is not refused, alone; or hands it back where its answer got no room, with nothing changed.

@@ -3,11 +3,11 @@
 ghost use Rattle.std.specs.Prelude.{◌≡◌, ◌+◌, ◌*◌, ◌<◌, ◌≤◌, ℕ, List, [], ◌++◌, length, slice_get, true, IfOk, vec_len};
 ghost use Rattle.channel_calls.specs.declared.reply.Reply.{Reply};
 ghost use Rattle.channel_calls.specs.declared.stage.Line.{Line};
-ghost use Rattle.channel_interleaving.specs.Pending.{how_many, stands_pending};
-ghost use Rattle.channel_interleaving.specs.Runs.{accepted_in, left_in};
-ghost use Rattle.channel_interleaving.specs.Way.{replies_in};
-ghost use Rattle.channel_model.specs.Handles.{HandlesAreCounted};
-ghost use Rattle.channel_model.specs.declared.name.Waiter.{Waiter};
+ghost use Rattle.channel_world_runs.specs.Pending.{how_many, stands_pending};
+ghost use Rattle.channel_world_runs.specs.Runs.{accepted_in, left_in};
+ghost use Rattle.channel_world_runs.specs.Way.{replies_in};
+ghost use Rattle.channel_world_model.specs.Handles.{HandlesAreCounted};
+ghost use Rattle.channel_world_model.specs.declared.name.Waiter.{Waiter};
 ghost use Rattle.channel_steps.specs.Scene.{Scene};
 ghost use Rattle.channel_world.specs.Asleep.{NobodySleeps};
 ghost use Rattle.channel_world.specs.Carried.{replied_if, LeadsTo};

@@ -5,9 +5,9 @@ use Rattle.concurrent_queue.specs.declared.call.QueueReply.{QueueReply}
 use Rattle.concurrent_queue.specs.declared.cells.QueueForm.{QueueForm}
 use Rattle.concurrent_queue.specs.declared.queue_call.QueueCall.{QueueCall}
 use Rattle.channel_calls.specs.Deeds.{Deed}
-use Rattle.channel_laws.specs.Bridge.{QueueWalks}
+use Rattle.channel_steps.specs.every_run.Bridge.{QueueWalks}
 use Rattle.async_channel.specs.Saw.{Saw, SawSteps}
-use Rattle.channel_laws.proofs.BridgeWalks as bridge
+use Rattle.channel_steps.proofs.every_run.BridgeWalks as bridge
 use Rattle.handle_laws.specs.Events.{WalksAct, SawRested, RestedAct, StandsAct}
 
 module _ {T W X : Type 0} (did : cell.Deed T → X → X → Type 0) (form : QueueForm) (saw : Deed T W → X → X → Type 0) where

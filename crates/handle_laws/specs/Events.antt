@@ -23,8 +23,8 @@ use Rattle.channel_calls.specs.declared.reply.Reply.TheVariants as reply
 use Rattle.channel_calls.specs.declared.stage.Kept.{Kept}
 use Rattle.channel_calls.specs.declared.stage.Side.{Side}
 use Rattle.channel_calls.specs.declared.stage.Stage.{Stage}
-use Rattle.channel_laws.specs.Bridge.{Act, Event, begins, does, Given, Acts, Along}
-use Rattle.channel_laws.specs.BridgeBlocks.{InCalls, IsLeft, Rested}
+use Rattle.channel_steps.specs.every_run.Bridge.{Act, Event, begins, does, Given, Acts, Along}
+use Rattle.channel_steps.specs.every_run.BridgeBlocks.{InCalls, IsLeft, Rested}
 use Rattle.async_channel.specs.Counts.{Clones, Upgrades}
 use Rattle.async_channel.specs.Handles.{Handle}
 use Rattle.async_channel.specs.Polls.{Polls, PollsSend}

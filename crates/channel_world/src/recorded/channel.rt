@@ -1,7 +1,7 @@
 //! The recorded channel.
 
 ghost use Rattle.std.specs.Prelude.{◌≡◌, ◌<◌, ◌≤◌, ◌+◌, ◌-◌, ◌^◌, Err, IsOk, IfOk, IfErr, OnOk, OnErr, length};
-ghost use Rattle.channel_model.specs.State.{start};
+ghost use Rattle.channel_world_model.specs.State.{start};
 ghost use Rattle.channel_world.specs.RecordReplay.{EndsHistory};
 ghost use Rattle.channel_world.specs.RecordSeat.{calls_of, numbers_of, with_call_more, sum_below};
 ghost use Rattle.channel_world.specs.Recording.{call_in};

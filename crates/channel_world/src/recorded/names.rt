@@ -15,7 +15,7 @@ pub struct Names {
 
 impl Model for Names {
     ghost use Rattle.std.specs.Prelude.{List};
-    ghost use Rattle.channel_model.specs.declared.name.Waiter.{Waiter};
+    ghost use Rattle.channel_world_model.specs.declared.name.Waiter.{Waiter};
 
     ghost Value = { List Waiter };
 
@@ -53,9 +53,9 @@ impl Names {
 
 impl PartialEq for Names {
     ghost use Rattle.std.specs.Cmp.Lexicographic.{pointwise, lists_per};
-    ghost use Rattle.channel_model.specs.Lines.{same_waiter};
+    ghost use Rattle.channel_world_model.specs.Lines.{same_waiter};
     ghost use Rattle.std.specs.Cmp.{partial_equiv_from_equiv};
-    ghost use Rattle.channel_model.proofs.WaiterLemmas.{same_equiv};
+    ghost use Rattle.channel_world_model.proofs.WaiterLemmas.{same_equiv};
 
     ghost eq = { λ a b. pointwise same_waiter a b };
 
@@ -68,7 +68,7 @@ impl PartialEq for Names {
 
 impl Eq for Names {
     ghost use Rattle.std.specs.Cmp.Lexicographic.{lists_equiv};
-    ghost use Rattle.channel_model.proofs.WaiterLemmas.{same_equiv};
+    ghost use Rattle.channel_world_model.proofs.WaiterLemmas.{same_equiv};
 
     ghost laws = { lists_equiv same_equiv };
 }

@@ -59,7 +59,7 @@ impl<T: Copy, L: Ledger> Model for Recording<T, L> {
 }
 
 impl<T: Copy, L: Ledger> Recording<T, L> {
-    ghost use Rattle.channel_model.specs.State.{start};
+    ghost use Rattle.channel_world_model.specs.State.{start};
     ghost use Rattle.channel_world.specs.RecordReplay.{EndsHistory, MadeAsSaid};
     ghost use Rattle.channel_world.specs.RecordSeat.{calls_of, new_seat, numbers_of, with_call_more, sum_below};
     ghost use Rattle.channel_world.specs.Recording.{with_seat, call_in, MayRefuseRecorded};

@@ -1,10 +1,10 @@
 //! Scripts, from bytes to bytes.
 ghost use Rattle.std.specs.Prelude.{◌≡◌, ◌≤◌, ◌<◌, ◌^◌, ◌++◌, ◌∷◌, [], length, Some, None, IfOk, OnOk, OnErr, OnSome, IfSome};
 ghost use Rattle.std.specs.Option.{option_map};
-ghost use Rattle.channel_model.specs.State.{start};
-ghost use Rattle.channel_language.specs.Words.{lines_of};
-ghost use Rattle.channel_language.specs.Language.{today};
-ghost use Rattle.channel_language.specs.Said.{said_line};
+ghost use Rattle.channel_world_model.specs.State.{start};
+ghost use Rattle.channel_world_language.specs.Words.{lines_of};
+ghost use Rattle.channel_world_language.specs.Language.{today};
+ghost use Rattle.channel_world_language.specs.Said.{said_line};
 ghost use Rattle.channel_world.specs.Staged.{scene_of};
 ghost use Rattle.channel_world.specs.Script.{readable, ending, followed, first_names, opened, script_of_lines};
 ghost use Rattle.channel_world.specs.Added.{Extends};
@@ -13,9 +13,9 @@ ghost use Rattle.channel_world.specs.View.{at_rest, IsQuiet};
 use super::end::ScriptEnd;
 use super::scene::Scene;
 use crate::world::World;
-use channel_language::command::{Line, Opening, parse_line, parse_opening};
-use channel_language::table::{Sort, Table};
-use channel_language::words::first_line;
+use channel_world_language::command::{Line, Opening, parse_line, parse_opening};
+use channel_world_language::table::{Sort, Table};
+use channel_world_language::words::first_line;
 use event_listener::id::EventIds;
 use std::alloc::{AllocError, Global};
 

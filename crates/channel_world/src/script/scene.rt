@@ -2,23 +2,23 @@
 ghost use Rattle.std.specs.Prelude.{◌≡◌, ◌<◌, ◌≤◌, ◌+◌, ◌^◌, ◌∷◌, [], ℕ, length, false, Ok, Err, IfOk, IfErr, OnOk, option_and_then, option_copied};
 ghost use Rattle.std.specs.Option.{option_map, option_to_list};
 ghost use Rattle.std.specs.List.{list_all};
-ghost use Rattle.channel_model.specs.Refusal.{refusal};
-ghost use Rattle.channel_language.specs.Table.{named_in};
-ghost use Rattle.channel_language.specs.Asked.{used, given, lives, is_known, is_given_before, with_given, handle_of, question_call, call_of};
+ghost use Rattle.channel_world_model.specs.Refusal.{refusal};
+ghost use Rattle.channel_world_language.specs.Table.{named_in};
+ghost use Rattle.channel_world_language.specs.Asked.{used, given, lives, is_known, is_given_before, with_given, handle_of, question_call, call_of};
 ghost use Rattle.channel_world.specs.Script.{checked, answered, obeyed, settles};
-ghost use Rattle.channel_language.specs.Said.{said, said_line, asked_as};
-ghost use Rattle.channel_language.specs.Said.{sort_of, sending_call, making_call, handle_call, op_call};
+ghost use Rattle.channel_world_language.specs.Said.{said, said_line, asked_as};
+ghost use Rattle.channel_world_language.specs.Said.{sort_of, sending_call, making_call, handle_call, op_call};
 ghost use Rattle.channel_world.specs.Staged.{scene_of};
 ghost use Rattle.channel_world.specs.View.{at_rest, IsQuiet};
 
 use super::text::add_settling;
 use crate::world::World;
-use channel_language::call::{call_of, given, used};
-use channel_language::command::{Command, Line};
-use channel_language::table::{Named, Table};
-use channel_language::text::{add_answer, add_refused};
-use channel_model::call::Call;
-use channel_model::refusal::WorldRefusal;
+use channel_world_language::call::{call_of, given, used};
+use channel_world_language::command::{Command, Line};
+use channel_world_language::table::{Named, Table};
+use channel_world_language::text::{add_answer, add_refused};
+use channel_world_model::call::Call;
+use channel_world_model::refusal::WorldRefusal;
 use std::alloc::AllocError;
 
 /// A channel, and the names that its script gave.

@@ -1,11 +1,11 @@
 //! The reply line of a settling.
 ghost use Rattle.std.specs.Prelude.{◌≡◌, ◌++◌, OnOk};
-ghost use Rattle.channel_language.specs.Text.{settle_text};
+ghost use Rattle.channel_world_language.specs.Text.{settle_text};
 ghost use Rattle.channel_world.specs.Settled.{polls_in, AreAmple};
 
 use crate::settle::Settled;
-use channel_language::table::Table;
-use channel_language::text::{add_number, add_poll, part_before};
+use channel_world_language::table::Table;
+use channel_world_language::text::{add_number, add_poll, part_before};
 use std::alloc::AllocError;
 
 /// Adds the line for a settling; not where a poll of it was refused memory or serials.

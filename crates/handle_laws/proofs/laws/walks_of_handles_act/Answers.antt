@@ -4,7 +4,7 @@ use Rattle.channel_calls.specs.Turns.{leaving}
 use Rattle.channel_calls.specs.declared.ask.ChannelAsk.TheVariants.{CloneHandle, Upgrade, RecvMany, TryRecv}
 use Rattle.channel_calls.specs.declared.error.Refused.TheVariants.{Plain}
 use Rattle.channel_calls.specs.declared.reply.Reply.TheVariants as reply
-use Rattle.channel_laws.proofs.BridgeBlocks.{blocks_in_calls}
+use Rattle.channel_steps.proofs.every_run.BridgeBlocks.{blocks_in_calls}
 use Rattle.handle_laws.specs.Events.{SeveralAct, FillsAct, TakesAct}
 use Rattle.handle_laws.proofs.Walks.{walks_act, rested_act, stands_act}
 use Rattle.concurrent_queue.specs.Deeds as cell

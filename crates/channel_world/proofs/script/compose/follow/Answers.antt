@@ -1,7 +1,7 @@
 use Rattle.std.proofs.Common.{arith, rules, ◌≡◌, ◌+◌, Some, subst, ap}
-use Rattle.channel_language.specs.Words.{lines_of}
-use Rattle.channel_language.specs.Language.{today}
-use Rattle.channel_language.specs.Said.{said_line}
+use Rattle.channel_world_language.specs.Words.{lines_of}
+use Rattle.channel_world_language.specs.Language.{today}
+use Rattle.channel_world_language.specs.Said.{said_line}
 use Rattle.channel_world.specs.Staged.{scene_of}
 use Rattle.channel_world.specs.Script.{Script, followed, replying_first, readable, ending}
 use Rattle.channel_world.specs.declared.script.end.ScriptEnd.TheVariants.{Done, Memory}

@@ -1,7 +1,7 @@
 use Rattle.std.proofs.Common.{◌≤◌, length}
 use Rattle.channel_world.specs.View.{IsQuiet}
-use Rattle.channel_language.specs.Words.{lines_of}
-use Rattle.channel_language.specs.Language.{today}
+use Rattle.channel_world_language.specs.Words.{lines_of}
+use Rattle.channel_world_language.specs.Language.{today}
 use Rattle.channel_world.specs.Staged.{scene_of}
 use Rattle.channel_world.specs.Script.{followed}
 use Rattle.channel_world.proofs.ScriptLemmas.{GoesOn}

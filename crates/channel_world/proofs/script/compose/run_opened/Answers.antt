@@ -1,6 +1,6 @@
 use Rattle.std.proofs.Common.{◌≡◌, ◌++◌, ◌∷◌, [], List, ℕ, codes, refl, subst, sym, append_assoc}
-use Rattle.channel_language.specs.Words.{lines_of}
-use Rattle.channel_language.specs.Language.{today}
+use Rattle.channel_world_language.specs.Words.{lines_of}
+use Rattle.channel_world_language.specs.Language.{today}
 use Rattle.channel_world.specs.Staged.{scene_of}
 use Rattle.channel_world.specs.Script.{Script, ScriptScene, opened, followed, first_scene}
 use Rattle.channel_world.specs.Added.{Extends}

@@ -4,7 +4,7 @@ use Rattle.std.proofs.lemmas.List.{take_all}
 use Rattle.std.specs.Fmt.{decimal}
 use Rattle.channel_world.specs.Settled.{polls_in}
 use Rattle.channel_world.proofs.SettleText.{written}
-use Rattle.channel_language.specs.Text.{parted}
+use Rattle.channel_world_language.specs.Text.{parted}
 use Rattle.channel_world.proofs.script.text.add_settling.Goals as goal
 
 pub returns-clause-text : goal.returns-clause-text

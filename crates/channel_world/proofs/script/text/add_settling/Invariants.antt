@@ -1,7 +1,7 @@
 use Rattle.std.proofs.Common.{◌≡◌, ◌++◌, take, length, codes}
 use Rattle.std.specs.Fmt.{decimal}
 use Rattle.channel_world.specs.Settled.{polls_in}
-use Rattle.channel_language.specs.Text.{parted}
+use Rattle.channel_world_language.specs.Text.{parted}
 use Rattle.channel_world.specs.Settled.{AreAmple}
 use Rattle.channel_world.proofs.script.text.add_settling.Given as goal
 

@@ -1,7 +1,7 @@
 -- From the law that a call made alone is the model's.
 use Rattle.std.proofs.Common.{◌∙◌, sym}
-use Rattle.channel_interleaving.proofs.Interface.{leads_nowhere}
-use Rattle.channel_interleaving.proofs.LoneFacts.{kept_whatever, leads_whatever}
+use Rattle.channel_world_runs.proofs.Interface.{leads_nowhere}
+use Rattle.channel_world_runs.proofs.LoneFacts.{kept_whatever, leads_whatever}
 use Rattle.channel_world.proofs.Whole.{refused_alike, wakes_few, answers_whatever}
 use Rattle.channel_world.proofs.Inside.{world_state_of, inside_is}
 use Rattle.channel_world.proofs.world.World.answer.Goals as goal

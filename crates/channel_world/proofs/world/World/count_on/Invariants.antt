@@ -1,5 +1,5 @@
 use Rattle.std.proofs.Common.{◌≡◌, ◌+◌, drop}
-use Rattle.channel_model.specs.Laws.{count_of, line_at}
+use Rattle.channel_world_model.specs.Laws.{count_of, line_at}
 use Rattle.channel_world.specs.View.{at_rest}
 use Rattle.channel_world.proofs.world.World.count_on.Given as goal
 

@@ -1,7 +1,7 @@
 use Rattle.std.proofs.Common.{◌≡◌, Some, IsTrue, inl, subst}
-use Rattle.channel_interleaving.specs.WorldState.{HasPositions}
-use Rattle.channel_interleaving.specs.declared.world_state.WorldState.{WorldState}
-use Rattle.channel_interleaving.proofs.ShownFacts.{one_place}
+use Rattle.channel_world_runs.specs.WorldState.{HasPositions}
+use Rattle.channel_world_runs.specs.declared.world_state.WorldState.{WorldState}
+use Rattle.channel_world_runs.proofs.ShownFacts.{one_place}
 use Rattle.channel_world.specs.World.{at_rest}
 use Rattle.channel_world.proofs.Inside.{inside_is}
 use Rattle.channel_world.proofs.world.World.has_positions.Goals as goal

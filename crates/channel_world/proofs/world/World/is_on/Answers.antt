@@ -1,6 +1,6 @@
 use Rattle.std.proofs.Common.{◌≡◌, subst}
-use Rattle.channel_interleaving.specs.declared.world_state.WorldState.{WorldState}
-use Rattle.channel_model.specs.Laws.{is_line, line_at}
+use Rattle.channel_world_runs.specs.declared.world_state.WorldState.{WorldState}
+use Rattle.channel_world_model.specs.Laws.{is_line, line_at}
 use Rattle.channel_world.specs.World.{at_rest}
 use Rattle.channel_world.proofs.Inside.{inside_is}
 use Rattle.channel_world.proofs.world.World.is_on.Goals as goal

@@ -1,7 +1,7 @@
 use Rattle.std.proofs.Common.{subst}
-use Rattle.channel_interleaving.specs.WorldState.{TellsQuiet}
-use Rattle.channel_interleaving.specs.declared.world_state.WorldState.{WorldState}
-use Rattle.channel_interleaving.proofs.LoneFacts.{tells_quiet}
+use Rattle.channel_world_runs.specs.WorldState.{TellsQuiet}
+use Rattle.channel_world_runs.specs.declared.world_state.WorldState.{WorldState}
+use Rattle.channel_world_runs.proofs.LoneFacts.{tells_quiet}
 use Rattle.channel_world.proofs.Inside.{inside_is}
 use Rattle.channel_world.proofs.world.World.is_quiet.Goals as goal
 

@@ -1,4 +1,4 @@
-use Rattle.channel_interleaving.proofs.WorldStateFacts.{stands}
+use Rattle.channel_world_runs.proofs.WorldStateFacts.{stands}
 use Rattle.channel_world.proofs.Inside.{world_state_of}
 use Rattle.channel_world.proofs.world.World.keeps.Goals as goal
 

@@ -1,8 +1,8 @@
 -- From a run of a channel by names: what stood, stands at its end.
 use Rattle.std.proofs.Common.{subst}
-use Rattle.channel_interleaving.specs.Runs.{RanTo}
-use Rattle.channel_interleaving.specs.declared.world_state.WorldState.{WorldState}
-use Rattle.channel_interleaving.proofs.WorldStateFacts.{stands, owned_where}
+use Rattle.channel_world_runs.specs.Runs.{RanTo}
+use Rattle.channel_world_runs.specs.declared.world_state.WorldState.{WorldState}
+use Rattle.channel_world_runs.proofs.WorldStateFacts.{stands, owned_where}
 use Rattle.channel_world.proofs.Inside.{inside_is}
 use Rattle.channel_world.proofs.world.World.make_steps.Goals as goal
 

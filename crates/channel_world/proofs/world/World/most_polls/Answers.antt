@@ -1,6 +1,6 @@
 -- From the numbers of those who are pending on each line.
 use Rattle.std.proofs.Common.{arith, ◌+◌, ◌*◌, ◌≡◌, ◌∙◌, List, length, vec_len, ap}
-use Rattle.channel_model.specs.declared.name.Waiter.{Waiter}
+use Rattle.channel_world_model.specs.declared.name.Waiter.{Waiter}
 use Rattle.channel_world.specs.World.{at_rest}
 use Rattle.channel_world.proofs.SettleFacts.{just_so_many}
 use Rattle.channel_world.proofs.Tasks.{just_it}

@@ -2,8 +2,8 @@
 use Rattle.std.proofs.Common.{refl}
 use Rattle.concurrent_queue.specs.Capacity.{capacity_of}
 use Rattle.channel_steps.specs.Run.{new_configuration}
-use Rattle.channel_interleaving.specs.WorldState.{parts_in}
-use Rattle.channel_interleaving.proofs.WorldStateFacts.{new_kept, no_parties, stands_in}
+use Rattle.channel_world_runs.specs.WorldState.{parts_in}
+use Rattle.channel_world_runs.proofs.WorldStateFacts.{new_kept, no_parties, stands_in}
 use Rattle.channel_world.proofs.Opening.{opened_is}
 use Rattle.channel_world.proofs.world.World.open.Goals as goal
 

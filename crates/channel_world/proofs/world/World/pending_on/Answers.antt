@@ -1,10 +1,10 @@
 -- From the listeners that wait on the list, each of which stands untold in the line, and from those of the line among the woken.
 use Rattle.std.proofs.Common.{arith, ◌≡◌, ◌+◌, ◌∙◌, List, length, ap, subst}
 use Rattle.channel_calls.specs.Parts.{listeners}
-use Rattle.channel_interleaving.specs.WorldState.{parts_in}
-use Rattle.channel_interleaving.specs.declared.world_state.WorldState.{WorldState}
-use Rattle.channel_model.specs.Laws.{count_of, line_at, woken_of_line}
-use Rattle.channel_model.specs.declared.name.Waiter.{Waiter}
+use Rattle.channel_world_runs.specs.WorldState.{parts_in}
+use Rattle.channel_world_runs.specs.declared.world_state.WorldState.{WorldState}
+use Rattle.channel_world_model.specs.Laws.{count_of, line_at, woken_of_line}
+use Rattle.channel_world_model.specs.declared.name.Waiter.{Waiter}
 use Rattle.channel_world.specs.World.{at_rest}
 use Rattle.channel_world.proofs.Polls.{as_many_wait}
 use Rattle.channel_world.proofs.Tasks.{just_it}

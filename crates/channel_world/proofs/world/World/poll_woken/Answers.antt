@@ -1,9 +1,9 @@
 -- From the law that a poll of settling is the model's.
 use Rattle.std.proofs.Common.{sym}
-use Rattle.channel_interleaving.specs.Settle.{PollsAlone}
-use Rattle.channel_interleaving.proofs.LoneFacts.{call_kept, call_leads}
-use Rattle.channel_interleaving.proofs.WokenPolls.{woken_admitted}
-use Rattle.channel_model.specs.Settling.{poll_of}
+use Rattle.channel_world_runs.specs.Settle.{PollsAlone}
+use Rattle.channel_world_runs.proofs.LoneFacts.{call_kept, call_leads}
+use Rattle.channel_world_runs.proofs.WokenPolls.{woken_admitted}
+use Rattle.channel_world_model.specs.Settling.{poll_of}
 use Rattle.channel_world.proofs.Polls.{poll_brings_within, poll_wakes_few, poll_answers}
 use Rattle.channel_world.proofs.Inside.{world_state_of, inside_is}
 use Rattle.channel_world.proofs.world.World.poll_woken.Goals as goal

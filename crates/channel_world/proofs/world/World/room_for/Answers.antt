@@ -1,8 +1,8 @@
 -- From the number of tasks; a call that closes nothing wakes two more than the streams at most.
 use Rattle.std.proofs.Common.{arith, ◌+◌, ◌≤◌, IfSome, length, subst, sym}
-use Rattle.channel_interleaving.specs.WorldState.{parts_in}
-use Rattle.channel_interleaving.specs.declared.world_state.WorldState.{WorldState}
-use Rattle.channel_model.specs.declared.call.Call.{Call}
+use Rattle.channel_world_runs.specs.WorldState.{parts_in}
+use Rattle.channel_world_runs.specs.declared.world_state.WorldState.{WorldState}
+use Rattle.channel_world_model.specs.declared.call.Call.{Call}
 use Rattle.channel_world.specs.World.{at_rest, most_woken}
 use Rattle.channel_world.proofs.Tasks.{few_tasks, closes_nothing, no_less}
 use Rattle.channel_world.proofs.Inside.{world_state_of, inside_is}

@@ -1,9 +1,9 @@
 use Rattle.std.proofs.Common.{arith, ◌≡◌, Some, None, ◌∷◌, ◌++◌, [], rules, refl, ap, ◌∙◌}
 use Rattle.std.specs.Option.{option_to_list}
-use Rattle.channel_model.specs.Refusal.{refusal}
-use Rattle.channel_model.specs.declared.refusal.WorldRefusal.TheVariants as why
-use Rattle.channel_model.proofs.RunLemmas.{goes_on_empty, stop_in_front, stop_at_end, run_ends, run_ends_full, goes_on_by}
-use Rattle.channel_interleaving.proofs.Interface.{leads_nowhere, stands_led}
+use Rattle.channel_world_model.specs.Refusal.{refusal}
+use Rattle.channel_world_model.specs.declared.refusal.WorldRefusal.TheVariants as why
+use Rattle.channel_world_model.proofs.RunLemmas.{goes_on_empty, stop_in_front, stop_at_end, run_ends, run_ends_full, goes_on_by}
+use Rattle.channel_world_runs.proofs.Interface.{leads_nowhere, stands_led}
 use Rattle.channel_world.specs.World.{at_rest}
 use Rattle.channel_world.proofs.Leading.{leads_same, leads_answered, leads_still}
 use Rattle.channel_world.proofs.StopFacts.{calls_made, calls_used_up}

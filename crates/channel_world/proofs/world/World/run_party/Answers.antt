@@ -1,13 +1,13 @@
 use Rattle.std.proofs.Common.{arith, ◌≡◌, Bool, ◌<◌, ◌+◌, false, List, [], ◌∷◌, ◌∙◌, length, vec_len, None, inr, refl, sym, ap, subst}
 use Rattle.std.proofs.lemmas.Grind.{common_steps}
-use Rattle.channel_model.specs.declared.refusal.WorldRefusal.TheVariants.{NoMemory}
-use Rattle.channel_interleaving.specs.Runs.{RanTo}
-use Rattle.channel_interleaving.specs.declared.step.Entry.{Entry}
-use Rattle.channel_interleaving.specs.declared.step.Step.TheVariants as step
-use Rattle.channel_interleaving.proofs.Interface.{ran_leads}
+use Rattle.channel_world_model.specs.declared.refusal.WorldRefusal.TheVariants.{NoMemory}
+use Rattle.channel_world_runs.specs.Runs.{RanTo}
+use Rattle.channel_world_runs.specs.declared.step.Entry.{Entry}
+use Rattle.channel_world_runs.specs.declared.step.Step.TheVariants as step
+use Rattle.channel_world_runs.proofs.Interface.{ran_leads}
 use Rattle.channel_world.specs.PartyRun.{refused_of, AreSilent, EndsWithAnswer, IsRefused, StepsOnce}
 use Rattle.channel_world.proofs.HeadlineFacts.{headline, ends_in_front, counted}
-use Rattle.channel_interleaving.proofs.WorldStateFacts.{ran_none}
+use Rattle.channel_world_runs.proofs.WorldStateFacts.{ran_none}
 use Rattle.channel_world.proofs.PartyFacts.{Ended, ended_refused, ended_well, not_silent, answer_ends, once_silent, none_written, party_more, silent_ends, silent_more, some_written}
 use Rattle.channel_world.proofs.Inside.{world_state_of}
 use Rattle.channel_world.proofs.world.World.run_party.Goals as goal

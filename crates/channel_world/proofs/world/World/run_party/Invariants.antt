@@ -1,7 +1,7 @@
 use Rattle.std.proofs.Common.{◌≡◌, ◌<◌, [], length, replicate, None}
-use Rattle.channel_interleaving.specs.Refusal.{step_refusal}
+use Rattle.channel_world_runs.specs.Refusal.{step_refusal}
 use Rattle.channel_world.specs.View.{name_state_of, RanTo, Stands}
-use Rattle.channel_interleaving.specs.declared.step.Step.TheVariants as step
+use Rattle.channel_world_runs.specs.declared.step.Step.TheVariants as step
 use Rattle.channel_world.specs.PartyRun.{AreSilent}
 use Rattle.channel_world.proofs.world.World.run_party.Given as goal
 

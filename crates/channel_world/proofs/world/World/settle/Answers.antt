@@ -1,8 +1,8 @@
 -- From the loop: the polls so far, and what is to come.
 use Rattle.std.proofs.Common.{arith, rules, ◌≡◌, ◌∙◌, slice_get, Some, vec_len, refl}
 use Rattle.std.proofs.lemmas.Option.{slice_get_read}
-use Rattle.channel_interleaving.proofs.Interface.{leads_nowhere, stands_led}
-use Rattle.channel_interleaving.proofs.WorldStateFacts.{stands}
+use Rattle.channel_world_runs.proofs.Interface.{leads_nowhere, stands_led}
+use Rattle.channel_world_runs.proofs.WorldStateFacts.{stands}
 use Rattle.channel_world.specs.Settled.{polls_in}
 use Rattle.channel_world.specs.World.{at_rest}
 use Rattle.channel_world.proofs.AsleepFacts.{no_receive_goes_on, no_send_goes_on, no_stream_goes_on}

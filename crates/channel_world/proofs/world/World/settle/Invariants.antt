@@ -1,6 +1,6 @@
 use Rattle.std.proofs.Common.{◌≡◌, ◌≤◌, ◌-◌, true, vec_len, vec_capacity}
-use Rattle.channel_model.specs.Lines.{is_among}
-use Rattle.channel_model.specs.declared.name.Waiter.{Waiter}
+use Rattle.channel_world_model.specs.Lines.{is_among}
+use Rattle.channel_world_model.specs.declared.name.Waiter.{Waiter}
 use Rattle.channel_world.proofs.ComingIn.{still_in}
 use Rattle.channel_world.proofs.SettleFacts.{Goes}
 use Rattle.channel_world.specs.Carried.{polls_replied}

@@ -1,10 +1,10 @@
 use Rattle.std.proofs.Common.{arith, ◌≡◌, List, [], ◌∷◌, ◌++◌, ◌∙◌, length, vec_len, None, Some, refl, sym, ap, subst}
-use Rattle.channel_interleaving.specs.WorldState.{name_state_of, Stands}
-use Rattle.channel_interleaving.specs.Run.{StopsAt}
-use Rattle.channel_interleaving.specs.Runs.{RanTo}
-use Rattle.channel_interleaving.specs.declared.step.Entry.{Entry}
-use Rattle.channel_interleaving.specs.declared.step.Step.{Step}
-use Rattle.channel_interleaving.specs.declared.step.Step.TheVariants as step
+use Rattle.channel_world_runs.specs.WorldState.{name_state_of, Stands}
+use Rattle.channel_world_runs.specs.Run.{StopsAt}
+use Rattle.channel_world_runs.specs.Runs.{RanTo}
+use Rattle.channel_world_runs.specs.declared.step.Entry.{Entry}
+use Rattle.channel_world_runs.specs.declared.step.Step.{Step}
+use Rattle.channel_world_runs.specs.declared.step.Step.TheVariants as step
 use Rattle.channel_world.proofs.PartyFacts.{first_of, one_made, none_made}
 use Rattle.channel_world.proofs.Inside.{world_state_of}
 use Rattle.channel_world.proofs.world.World.step_party.Goals as goal

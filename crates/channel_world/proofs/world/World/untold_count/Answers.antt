@@ -1,7 +1,7 @@
 -- From the number of tasks.
 use Rattle.std.proofs.Common.{arith, ◌+◌, ◌≤◌, IfSome, subst}
-use Rattle.channel_interleaving.specs.WorldState.{parts_in}
-use Rattle.channel_interleaving.specs.declared.world_state.WorldState.{WorldState}
+use Rattle.channel_world_runs.specs.WorldState.{parts_in}
+use Rattle.channel_world_runs.specs.declared.world_state.WorldState.{WorldState}
 use Rattle.channel_world.specs.World.{at_rest, untold_count}
 use Rattle.channel_world.proofs.Tasks.{few_tasks, no_less}
 use Rattle.channel_world.proofs.Inside.{inside_is}

@@ -1,9 +1,9 @@
 -- From a walk over all that was ever taken, under which no name stands twice.
 use Rattle.std.proofs.Common.{arith, rules, ◌≡◌, ◌∙◌, subst}
 use Rattle.std.specs.List.{count_by}
-use Rattle.channel_interleaving.specs.Owed.{is_woken_on}
-use Rattle.channel_interleaving.specs.declared.world_state.WorldState.{WorldState}
-use Rattle.channel_interleaving.proofs.PendingFacts.{passed}
+use Rattle.channel_world_runs.specs.Owed.{is_woken_on}
+use Rattle.channel_world_runs.specs.declared.world_state.WorldState.{WorldState}
+use Rattle.channel_world_runs.proofs.PendingFacts.{passed}
 use Rattle.channel_world.specs.Kinds.{operation_stance, stream_stance}
 use Rattle.channel_world.proofs.KindFacts.{by_entries}
 use Rattle.channel_world.proofs.Inside.{world_state_of, inside_is}

@@ -1,6 +1,6 @@
 use Rattle.std.proofs.Common.{arith, ◌≡◌, ◌∙◌, ◌∷◌, ◌++◌, [], List, Some, ap, length, refl, subst, sym, vec_len}
-use Rattle.channel_model.specs.Answer.{Answer}
-use Rattle.channel_model.specs.Run.{MayBeDone, MayStop}
+use Rattle.channel_world_model.specs.Answer.{Answer}
+use Rattle.channel_world_model.specs.Run.{MayBeDone, MayStop}
 use Rattle.channel_world.proofs.Few.{few_woken}
 use Rattle.channel_world.proofs.FewListed.{few_listed}
 use Rattle.channel_world.proofs.RecordLemmas.{one_done, made_so, none_done, one_recorded, still_recording, sum_is_small}

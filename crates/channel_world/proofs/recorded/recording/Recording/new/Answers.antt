@@ -1,5 +1,5 @@
 use Rattle.std.proofs.Common.{List, arith, subst, sym}
-use Rattle.channel_model.specs.State.{start}
+use Rattle.channel_world_model.specs.State.{start}
 use Rattle.channel_world.specs.RecordReplay.{Replays}
 use Rattle.channel_world.specs.View.{at_rest}
 use Rattle.channel_world.specs.declared.recorded.receipt.Receipt.{Receipt}

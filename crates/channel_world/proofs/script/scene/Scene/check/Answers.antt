@@ -1,8 +1,8 @@
 -- Each name was looked for once, and the world asked.
 use Rattle.std.proofs.Common.{◌≡◌, true, false, None, rules}
-use Rattle.channel_model.specs.Refusal.{refusal}
-use Rattle.channel_language.specs.Asked.{is_given_before}
-use Rattle.channel_language.specs.Said.{said}
+use Rattle.channel_world_model.specs.Refusal.{refusal}
+use Rattle.channel_world_language.specs.Asked.{is_given_before}
+use Rattle.channel_world_language.specs.Said.{said}
 use Rattle.channel_world.specs.Staged.{scene_of}
 use Rattle.channel_world.specs.View.{at_rest}
 use Rattle.channel_world.proofs.ScriptNames.{world_refuses, name_is_taken, nothing_refuses}

@@ -1,8 +1,0 @@
--- Names that a step wakes.
-use Rattle.std.specs.Prelude.{◌≡◌, ◌<◌, ◌≤◌, ◌++◌, ◌∷◌, [], vec_len, vec_capacity}
-use Rattle.channel_model.specs.declared.name.Waiter.{Waiter}
-use Rattle.channel_interleaving.specs.declared.woken.Woken.{Woken}
-
--- where there is room, the name comes after all before it
-abbrev pub Hears : Woken → Waiter → Woken → Type 0
-Hears old w new = vec_len old.names < vec_capacity old.names → (new.names.items ≡ old.names.items ++ w ∷ []) × (vec_capacity old.names ≤ vec_capacity new.names)

@@ -1,6 +1,0 @@
--- From what every merge keeps.
-use Rattle.channel_laws.proofs.BridgeHeadline.{merges_are_runs}
-use Rattle.channel_laws.proofs.laws.merges_are_runs.Goals as goal
-
-pub returns : goal.returns
-returns g c = record { runs = merges_are_runs _ _ _ _ }

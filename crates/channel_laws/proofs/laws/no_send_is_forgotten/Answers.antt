@@ -1,6 +1,0 @@
--- Who takes a message tells one more send, and who was told tries or passes it on.
-use Rattle.channel_laws.proofs.Sends.{sends_stay_owed, no_send_is_forgotten}
-use Rattle.channel_laws.proofs.laws.no_send_is_forgotten.Goals as goal
-
-pub returns : goal.returns
-returns g c = record { kept = sends_stay_owed _ _; owed = no_send_is_forgotten _ _ }

@@ -1,6 +1,0 @@
--- A reply that says the end found it at a moment of its call, and from then on no call gets a mark that takes.
-use Rattle.channel_laws.proofs.Ends.{end_is_known, nothing_comes}
-use Rattle.channel_laws.proofs.laws.nothing_comes_after_the_end.Goals as goal
-
-pub returns : goal.returns
-returns g c = record { known = end_is_known _ _; nothing = nothing_comes _ _ }

@@ -1,8 +1,0 @@
--- From each step of the walk, noted.
-use Rattle.channel_calls.specs.Deeds.{Done}
-use Rattle.channel_laws.specs.Bridge.{InCells}
-use Rattle.channel_laws.proofs.BridgeWalks.{walks_act}
-use Rattle.channel_laws.proofs.laws.walks_act.Goals as goal
-
-pub returns : goal.returns
-returns g c = record { acts = λ view. walks_act (Done g.C.ChannelCells.did g.S.Wakes.wakes) (InCells g.Q.Cells.did view) }

@@ -1,6 +1,0 @@
--- No step of a call moves anything there.
-use Rattle.channel_laws.proofs.Ends.{end_is_for_good}
-use Rattle.channel_laws.proofs.laws.what_is_over_stays_over.Goals as goal
-
-pub returns : goal.returns
-returns g c = record { stays = end_is_for_good _ _ }

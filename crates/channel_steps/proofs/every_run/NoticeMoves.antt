@@ -1,0 +1,112 @@
+-- Who tells all of a list has closed the channel, and it is closed.
+use Rattle.std.proofs.Common.{◌≡◌, ℕ, zero, suc, List, [], ◌∷◌, ◌++◌, Option, ◌⊎◌, inl, inr, refl, sym, ap, ◌∙◌, subst}
+use Rattle.channel_steps.proofs.every_run.Words.{Phase, QueueMark, mark_of_queue, Channel, Effect, queued, Moves, Mark, Append, Replace, Close, Reply, Closer, Line, Sends, Receives, Streams, Closings, Stage, Trying, Working, Finished, TellAll, ToldAt, MarkedMoment, with_marked, Shut, Telling, all_from, one_of, more_of, all_of, owed_for, owed_takings, takings, owed_besides, HasClosed, HasToTell, IsStill}
+use Rattle.concurrent_queue.specs.declared.call.QueueMark.TheVariants as queue
+use Rattle.channel_calls.specs.declared.mark.Mark.TheVariants.{Nothing}
+use Rattle.channel_steps.specs.Tellings.{owed}
+use Rattle.channel_steps.proofs.every_run.ClosedMoves.{worked_spares}
+
+-- ---- tellings
+
+module _ (x : Telling) where
+  abbrev IsAmong : List Telling → Type 0
+  IsAmong [] = ⊥
+  IsAmong (y ∷ ys) = (y ≡ x) ⊎ IsAmong ys
+
+  among_right : (xs ys : List Telling) → IsAmong ys → IsAmong (xs ++ ys)
+  among_right [] ys h = h
+  among_right (y ∷ xs) ys h = inr (among_right xs ys h)
+
+  among_either : (xs ys : List Telling) → IsAmong (xs ++ ys) → IsAmong xs ⊎ IsAmong ys
+  among_either [] ys h = inr h
+  among_either (y ∷ xs) ys (inl h) = inl (inl h)
+  among_either (y ∷ xs) ys (inr h) = deeper (among_either xs ys h)
+    where
+      deeper : IsAmong xs ⊎ IsAmong ys → IsAmong (y ∷ xs) ⊎ IsAmong ys
+      deeper (inl h) = inl (inr h)
+      deeper (inr h) = inr h
+
+-- a closing tells those last who wait for it
+closings_last : (line : Line) → IsAmong (all_of Closings) (all_from line)
+closings_last Sends = inr (inr (inr (inl refl)))
+closings_last Receives = inr (inr (inl refl))
+closings_last Streams = inr (inl refl)
+closings_last Closings = inl refl
+
+-- takings do not
+takings_owe : (n : ℕ) → IsAmong (all_of Closings) (owed_takings n) → ⊥
+takings_owe zero h = h
+takings_owe (suc n) (inl e) = absurd (let never : more_of (suc n) Sends ≡ all_of Closings = e in cc)
+takings_owe (suc n) (inr h) = h
+
+-- and nothing else does
+closing_owes : (m : Mark) → IsAmong (all_of Closings) (owed_for m) → m ≡ Close
+closing_owes Append (inl e) = absurd (let never : one_of Receives ≡ all_of Closings = e in cc)
+closing_owes Append (inr (inl e)) = absurd (let never : all_of Streams ≡ all_of Closings = e in cc)
+closing_owes Append (inr (inr h)) = absurd h
+closing_owes Replace (inl e) = absurd (let never : one_of Receives ≡ all_of Closings = e in cc)
+closing_owes Replace (inr (inl e)) = absurd (let never : all_of Streams ≡ all_of Closings = e in cc)
+closing_owes Replace (inr (inr h)) = absurd h
+closing_owes Close h = refl
+closing_owes m h = absurd h
+
+module _ {T W : Type 0} where
+  by_mark : (d : MarkedMoment T W) (ds : List (MarkedMoment T W)) → (IsAmong (all_of Closings) (owed_besides ds) → HasClosed ds)
+      → IsAmong (all_of Closings) (owed_for d.mark) ⊎ IsAmong (all_of Closings) (owed_besides ds) → HasClosed (d ∷ ds)
+  by_mark d ds f (inl h) = inl (closing_owes d.mark h)
+  by_mark d ds f (inr h) = inr (f h)
+
+  has_besides : (ds : List (MarkedMoment T W)) → IsAmong (all_of Closings) (owed_besides ds) → HasClosed ds
+  has_besides [] h = absurd h
+  has_besides (d ∷ ds) h = by_mark d ds (has_besides ds) (among_either (all_of Closings) (owed_for d.mark) (owed_besides ds) h)
+
+  has_owed : (ds : List (MarkedMoment T W)) → IsAmong (all_of Closings) (owed ds) → HasClosed ds
+  has_owed ds h = by (among_either (all_of Closings) (owed_takings (takings ds)) (owed_besides ds) h) where
+    by : IsAmong (all_of Closings) (owed_takings (takings ds)) ⊎ IsAmong (all_of Closings) (owed_besides ds) → HasClosed ds
+    by (inl h) = absurd (takings_owe (takings ds) h)
+    by (inr h) = has_besides ds h
+
+  -- who tells all of a list has closed the channel
+  pub teller_has_closed : (told : List Telling) (line : Line) (closer : Closer) (ds : List (MarkedMoment T W))
+      → ToldAt told (let at : Stage (Phase T) T W = Working (TellAll line closer) in at) ds → HasClosed ds
+  teller_has_closed told line closer ds h =
+      has_owed ds (subst (λ (ts : List Telling). IsAmong (all_of Closings) ts) h
+      (among_right (all_of Closings) told (all_from line) (closings_last line)))
+
+  pub told_has_closed : (line : Line) (told : List Telling) (at : Stage (Phase T) T W) (ds : List (MarkedMoment T W)) → ToldAt told at ds → HasToTell line at → HasClosed ds
+  told_has_closed line told (Working (TellAll next closer)) ds h tells = teller_has_closed told next closer ds h
+  told_has_closed line told at ds h tells = absurd tells
+
+  -- ---- marks
+
+  had_or_last : (ds : List (MarkedMoment T W)) (d : MarkedMoment T W) → HasClosed (ds ++ d ∷ []) → HasClosed ds ⊎ (d.mark ≡ Close)
+  had_or_last [] d (inl h) = inr h
+  had_or_last [] d (inr h) = absurd h
+  had_or_last (x ∷ ds) d (inl h) = inl (inl h)
+  had_or_last (x ∷ ds) d (inr h) = deeper (had_or_last ds d h)
+    where
+      deeper : HasClosed ds ⊎ (d.mark ≡ Close) → HasClosed (x ∷ ds) ⊎ (d.mark ≡ Close)
+      deeper (inl h) = inl (inr h)
+      deeper (inr h) = inr h
+
+  -- a call that has closed after its step had so before, or the step did
+  pub closed_before : (ds : List (MarkedMoment T W)) (m : Mark) (c : Channel T W) (seen : List (Channel T W))
+      → HasClosed (with_marked ds m c seen) → HasClosed ds ⊎ (m ≡ Close)
+  closed_before ds Nothing c seen h = inl h
+  closed_before ds m c seen h = had_or_last ds (record { mark = m; before = c; seen = seen }) h
+
+  queue_closes : (f : Phase T) (m : QueueMark) (c : Channel T W) → mark_of_queue m ≡ Close
+      → Shut (let e : Effect T W = queued f m c in e.channel)
+  queue_closes f queue.Close c h = refl
+  queue_closes f queue.Nothing c h = absurd (let never : Nothing ≡ Close = h in cc)
+  queue_closes f w c h = absurd cc
+
+  -- where a step closes the channel it is closed
+  pub close_shuts : (c : Channel T W) (at : Stage (Phase T) T W) (e : Effect T W) (r : Option (Reply T))
+      (s : Stage (Phase T) T W) → Moves c at e r s → e.mark ≡ Close → Shut e.channel
+  close_shuts c (Trying f aim) e r s g closes =
+      subst (λ (z : Effect T W). Shut z.channel) (sym g.effect)
+      (queue_closes f g.mark c (sym (ap (λ (z : Effect T W). z.mark) g.effect) ∙ closes))
+  close_shuts c (Working w) e r s g closes = let k = worked_spares c w e r s g in absurd (subst IsStill closes k.1)
+  close_shuts c (Finished kept) e r s g closes =
+      absurd (let never : Nothing ≡ Close = sym (ap (λ (z : Effect T W). z.mark) g.0) ∙ closes in cc)

@@ -1,0 +1,221 @@
+-- How those who were told were told, over runs.
+use Rattle.std.proofs.Common.{◌≡◌, ℕ, Bool, true, false, List, Option, ◌⊎◌, inl, inr, refl, sym, ◌∙◌, subst}
+use Rattle.channel_steps.proofs.every_run.Words.{Phase, Key, Channel, Effect, tells_all, Moves, ChannelAsk, Reply, Line, Sends, Receives, Streams, Closings, Stage, Working, TellReceive, TellStreams, TellSend, TellSends, TellAll, ToldAt, MarkedMoment, Open, Shut, Configuration, Steps, Known, Telling, Next, Begins, new_configuration, Entry, Step, HasClosed, LooksAgain, MayBeTold, IsOneByOne, EachTold, AnyTold, told_of, TellingsSound, TellingsStayFit, TellingsAlwaysFit, Waits, Any}
+use Rattle.channel_calls.specs.declared.mark.Mark.TheVariants as mark
+use Rattle.channel_steps.specs.declared.run.Step.TheVariants as step
+use Rattle.channel_steps.proofs.Interface.{known_next}
+use Rattle.channel_steps.specs.every_run.Ends.{Each}
+use Rattle.channel_steps.proofs.every_run.AnyFacts.{any_mine, any_steps, any_begins}
+use Rattle.channel_steps.proofs.every_run.Closed.{shut_does}
+use Rattle.channel_steps.proofs.every_run.Closings.{new_apart}
+use Rattle.channel_steps.proofs.every_run.ClosingMoves.{StillLooks, looks_goes, newcomer_looks, nobody_left}
+use Rattle.channel_steps.proofs.every_run.EachFacts.{of_mine, each_known, each_steps, each_begins}
+use Rattle.channel_steps.proofs.every_run.ListMoves.{Tries, moved_lists, waited, apart_next}
+use Rattle.channel_steps.proofs.every_run.NoticeMoves.{teller_has_closed, closed_before, close_shuts}
+use Rattle.channel_steps.proofs.every_run.RunFacts.{kept_long}
+use Rattle.channel_steps.proofs.every_run.ToldFacts.{each_as, any_as}
+use Rattle.channel_steps.proofs.every_run.ToldMoves.{Tells, moved_told}
+
+open_as : (b b' : Bool) → (b ≡ true → b' ≡ true) → b' ≡ false → b ≡ false
+open_as true b' f e = absurd (let never : true ≡ false = sym (f refl) ∙ e in cc)
+open_as false b' f e = refl
+
+at_line : (P : Line → Type 0) (line at : Line) → line ≡ at → P at → P line
+at_line P line at e h = subst P (sym e) h
+
+module _ {T W : Type 0} where
+  -- a telling of an open channel is as it may be, and else the call has closed the channel
+  tells_as : (line : Line) (b : Bool) (told : List Telling) (at : Stage (Phase T) T W) (ds : List (MarkedMoment T W))
+      → ToldAt told at ds → Tells line b at → MayBeTold line b ⊎ HasClosed ds
+  tells_as line b told (Working (TellReceive x)) ds k h = inl (at_line (λ (z : Line). MayBeTold z b) line Receives h.0 (sym h.1))
+  tells_as line b told (Working (TellStreams x)) ds k h = inl (at_line (λ (z : Line). MayBeTold z b) line Streams h.0 (sym h.1))
+  tells_as line b told (Working (TellSend x)) ds k h = inl (at_line (λ (z : Line). MayBeTold z b) line Sends h.0 (sym h.1))
+  tells_as line b told (Working (TellSends n x)) ds k h = inl (at_line (λ (z : Line). MayBeTold z b) line Sends h.0 (sym h.1))
+  tells_as line b told (Working (TellAll at closer)) ds k h = inr (teller_has_closed told at closer ds k)
+  tells_as line b told at ds k h = absurd h
+
+  -- who tells a send or a receive by the default tells all of its list, and has closed the channel
+  by_default_as : (line : Line) (one : IsOneByOne line) (told : List Telling) (c : Channel T W) (at : Stage (Phase T) T W)
+      (e : Effect T W) (r : Option (Reply T)) (s : Stage (Phase T) T W) (ds : List (MarkedMoment T W))
+      → ToldAt told at ds → Moves c at e r s → Tells line false at → HasClosed ds × ((key : Key) → Waits line key e.channel → ⊥)
+  by_default_as line one told c (Working (TellReceive x)) e r s ds k g h = absurd (let never : true ≡ false = h.1 in cc)
+  by_default_as line one told c (Working (TellStreams x)) e r s ds k g h = absurd (subst IsOneByOne h.0 one)
+  by_default_as line one told c (Working (TellSend x)) e r s ds k g h = absurd (let never : true ≡ false = h.1 in cc)
+  by_default_as line one told c (Working (TellSends n x)) e r s ds k g h = absurd (let never : true ≡ false = h.1 in cc)
+  by_default_as line one told c (Working (TellAll at closer)) e r s ds k g h = (
+    teller_has_closed told at closer ds k,
+    λ key w. nobody_left at key c
+        (subst (λ (z : Line). Waits z key (let e : Effect T W = tells_all at c in e.channel)) h.0
+        (subst (λ (z : Effect T W). Waits line key z.channel) g.0 w)),
+  )
+  by_default_as line one told c at e r s ds k g h = absurd h
+
+  -- ---- one step
+
+  module _ (s t : Configuration T W) (p : ℕ) (e : Entry T) (names : List W) (st : Steps s p e names t) (sound : TellingsSound s) where
+    abbrev effect : Effect T W
+    effect = record { channel = t.now; mark = e.mark; woken = names }
+
+    mine_known : Known s.now st.mine
+    mine_known = of_mine (Known s.now) s t p e names st (each_known s.now s.under_way sound.known)
+
+    shut_on : Shut s.now → Shut t.now
+    shut_on shut = let k = shut_does s.now st.mine.at effect e.reply st.at_now shut st.moves in k.0.0
+
+    open_back : Open t.now → Open s.now
+    open_back now = open_as s.now.queue.closed t.now.queue.closed shut_on now
+
+    mine_closed : HasClosed st.mine.marks → Shut t.now
+    mine_closed h = shut_on (of_mine (λ u. HasClosed u.marks → Shut s.now) s t p e names st sound.closers h)
+
+    or_closes : HasClosed st.mine.marks ⊎ (e.mark ≡ mark.Close) → Shut t.now
+    or_closes (inl h) = mine_closed h
+    or_closes (inr h) = close_shuts s.now st.mine.at effect e.reply st.at_now st.moves h
+
+    closers_after : Each (λ u. HasClosed u.marks → Shut t.now) t.under_way
+    closers_after =
+        each_steps (λ u. HasClosed u.marks → Shut s.now) (λ u. HasClosed u.marks → Shut t.now) s t p e names st
+        (λ u f h. shut_on (f h)) (λ f h. or_closes (closed_before st.mine.marks e.mark s.now st.mine.seen h)) sound.closers
+
+    module _ (line : Line) where
+      may_be : (b : Bool) → Open t.now → MayBeTold line b ⊎ HasClosed st.mine.marks → MayBeTold line b
+      may_be b now (inl h) = h
+      may_be b now (inr h) = absurd (let never : true ≡ false = sym (mine_closed h) ∙ now in cc)
+
+      was_or_tells : (b : Bool) → Open t.now → AnyTold b (told_of line s.now) ⊎ Tells line b st.mine.at → MayBeTold line b
+      was_or_tells b now (inl h) = any_as (MayBeTold line) (told_of line s.now) (sound.fit.while_open line (open_back now)) b h
+      was_or_tells b now (inr h) =
+          let k = mine_known in may_be b now (tells_as line b st.mine.told st.mine.at st.mine.marks k.tells h)
+
+      open_after : Open t.now → EachTold (MayBeTold line) (told_of line t.now)
+      open_after now =
+          each_as (MayBeTold line) (told_of line t.now)
+          (λ b h. was_or_tells b now (moved_told line b s.now st.mine.at effect e.reply st.at_now st.moves h))
+
+      module _ (key : Key) (w : Waits line key t.now) (shut : Shut s.now) where
+        abbrev Looked : Type 0
+        Looked = Any (λ u. LooksAgain line key u.at) t.under_way
+
+        goes_on : StillLooks line key e.reply st.at_now → Looked
+        goes_on h = any_mine (λ u. LooksAgain line key u.at) s t p e names st (λ u h. h) h.0 h.1
+
+        still_looks : Looked ⊎ LooksAgain line key st.mine.at → Looked
+        still_looks (inl h) = h
+        still_looks (inr h) =
+            let k = mine_known in
+            goes_on (looks_goes s.now st.mine.ask st.mine.at st.mine.marks st.mine.seen effect e.reply st.at_now line key
+            k.stands st.moves shut h (sound.apart line) w)
+
+        looks_or_new : ((key : Key) → Waits line key s.now → Any (λ u. LooksAgain line key u.at) s.under_way)
+            → Waits line key s.now ⊎ Tries line s.now effect e.reply st.at_now key → Looked
+        looks_or_new before (inl h) =
+            still_looks (any_steps (λ u. LooksAgain line key u.at) s t p e names st (λ u h. h) (before key h))
+        looks_or_new before (inr h) = goes_on (newcomer_looks s.now effect e.reply st.at_now line key h)
+
+        looked : ((key : Key) → Waits line key s.now → Any (λ u. LooksAgain line key u.at) s.under_way) → Looked
+        looked before =
+            looks_or_new before (waited line s.now effect e.reply st.at_now key
+            (moved_lists line s.now st.mine.at effect e.reply st.at_now st.moves) w)
+
+      abbrev ClosedThen : Configuration T W → Type 0
+      ClosedThen z = Shut z.now × ((key : Key) → Waits line key z.now → Any (λ u. LooksAgain line key u.at) z.under_way)
+
+      default_then : IsOneByOne line → ClosedThen s ⊎ Tells line false st.mine.at → ClosedThen t
+      default_then one (inl h) = (shut_on h.0, λ key w. looked key w h.0 h.1)
+      default_then one (inr h) =
+          let k = mine_known in
+          let all = by_default_as line one st.mine.told s.now st.mine.at effect e.reply st.at_now st.mine.marks k.tells st.moves
+          h in
+          (mine_closed all.0, λ key w. absurd (all.1 key w))
+
+      was_default : IsOneByOne line → AnyTold false (told_of line s.now) ⊎ Tells line false st.mine.at → ClosedThen s
+          ⊎ Tells line false st.mine.at
+      was_default one (inl h) = inl (sound.fit.by_default line one h)
+      was_default one (inr h) = inr h
+
+      default_after : IsOneByOne line → AnyTold false (told_of line t.now) → ClosedThen t
+      default_after one h =
+          default_then one (was_default one (moved_told line false s.now st.mine.at effect e.reply st.at_now st.moves h))
+
+  -- ---- a call that begins
+
+  module _ (s t : Configuration T W) (p : ℕ) (ask : ChannelAsk T W) (e : Entry T) (b : Begins s p ask e t) (sound : TellingsSound s) where
+    begun_default : (line : Line) → IsOneByOne line → AnyTold false (told_of line t.now)
+        → Shut t.now × ((key : Key) → Waits line key t.now → Any (λ u. LooksAgain line key u.at) t.under_way)
+    begun_default line one h =
+        let k = sound.fit.by_default line one (subst (λ (c : Channel T W). AnyTold false (told_of line c)) b.now h) in (
+          subst (λ (c : Channel T W). Shut c) (sym b.now) k.0,
+          λ key w. any_begins (λ u. LooksAgain line key u.at) s t p ask e b
+              (k.1 key (subst (λ (c : Channel T W). Waits line key c) b.now w)),
+        )
+
+    begun_open : (line : Line) → Open t.now → EachTold (MayBeTold line) (told_of line t.now)
+    begun_open line now =
+        subst (λ (c : Channel T W). EachTold (MayBeTold line) (told_of line c)) (sym b.now)
+        (sound.fit.while_open line (subst (λ (c : Channel T W). Open c) b.now now))
+
+    begun_closers : Each (λ u. HasClosed u.marks → Shut t.now) t.under_way
+    begun_closers =
+        each_begins (λ u. HasClosed u.marks → Shut s.now) (λ u. HasClosed u.marks → Shut t.now) s t p ask e b
+        (λ u f h. subst (λ (c : Channel T W). Shut c) (sym b.now) (f h)) (λ h. absurd h) sound.closers
+
+  pub tellings_next : (s : Configuration T W) (x : Step T W) (e : Entry T) (names : List W) (t : Configuration T W) → Next s x e names t
+      → TellingsSound s → TellingsSound t
+  tellings_next s (step.Begin p ask) e names t n sound =
+      let k = known_next s (step.Begin p ask) e names t n sound.known sound.balanced in
+      let b = n.0 in
+      record {
+        known = k.0;
+        balanced = k.1;
+        apart = λ line. apart_next line s (step.Begin p ask) e names t n (sound.apart line);
+        closers = begun_closers s t p ask e b sound;
+        fit = record { while_open = begun_open s t p ask e b sound; by_default = begun_default s t p ask e b sound };
+      }
+  tellings_next s (step.Step p) e names t n sound =
+      let k = known_next s (step.Step p) e names t n sound.known sound.balanced in
+      record {
+        known = k.0;
+        balanced = k.1;
+        apart = λ line. apart_next line s (step.Step p) e names t n (sound.apart line);
+        closers = closers_after s t p e names n sound;
+        fit = record { while_open = open_after s t p e names n sound; by_default = default_after s t p e names n sound };
+      }
+
+-- ---- a channel that was just opened
+
+module _ (T W : Type 0) where
+  new_open : (cap : Option ℕ) (line : Line)
+      → EachTold (MayBeTold line) (told_of line (let s : Configuration T W = new_configuration cap in s.now))
+  new_open cap Sends = tt
+  new_open cap Receives = tt
+  new_open cap Streams = tt
+  new_open cap Closings = tt
+
+  new_default : (cap : Option ℕ) (line : Line) → AnyTold false (told_of line (let s : Configuration T W = new_configuration cap in s.now)) → ⊥
+  new_default cap Sends h = h
+  new_default cap Receives h = h
+  new_default cap Streams h = h
+  new_default cap Closings h = h
+
+module _ {T W : Type 0} where
+  pub tellings_new : (cap : Option ℕ) → TellingsSound (new_configuration {T = T} {W = W} cap)
+  tellings_new cap =
+      record {
+        known = tt;
+        balanced = refl;
+        apart = new_apart T W cap;
+        closers = tt;
+        fit =
+            record {
+              while_open = λ line now. new_open T W cap line;
+              by_default = λ line one h. absurd
+                  (new_default T W cap line h);
+            };
+      }
+
+module _ (T W : Type 0) where
+  pub tellings_stay_fit : TellingsStayFit T W
+  tellings_stay_fit s t steps trace h run = kept_long TellingsSound tellings_next s t steps trace h run
+
+  pub tellings_always_fit : TellingsAlwaysFit T W
+  tellings_always_fit cap t steps trace run = let h = tellings_stay_fit (new_configuration cap) t steps trace (tellings_new cap) run in h.fit

@@ -1,0 +1,400 @@
+-- A call that is stepped to its end with nobody else at work, from the contract of a step alone.
+use Rattle.channel_steps.proofs.solo.Words.{◌≡◌, ℕ, ◌+◌, ◌*◌, ◌<◌, ◌≤◌, List, [], ◌∷◌, ◌++◌, append_assoc, Option, None, Some, ◌⊎◌, inl, inr, refl, sym, ap, ◌∙◌, subst, arith, Queue, Phase, asked, after, Continues, Answers, IsInRange, Fits, rank, QueueCall, QueueAsk, QueueMark, QueueReply, shows, IsIdle, Comes, Does, does, Woken, ChannelAsk, Mark, Reply, Aim, Kept, Stage, Trying, Working, Finished, Turn, Tries, Works, Ends, Work, Parts, Roster, answered_next, kept_by, Channel, Effect, channel, Turned, Tried, seats, phase, IsTaken, Hastens, Made, IsStepOver, Outcome, Alone, after_waking, answers, HasNextPosition}
+use Rattle.channel_steps.proofs.solo.TryFacts.{brought_by, brought_by_is, left_by, Found, tries_start, tries_on, tries_end}
+use Rattle.channel_steps.proofs.solo.Order.{order, order_turn, order_try, near, measure, measure_falls, try_is_late, answered_order, telling_order}
+use Rattle.channel_steps.proofs.solo.Rest.{RestTry, RestWork, RestTurn, RestStage, turn_rests}
+use Rattle.channel_steps.proofs.solo.AnswerFacts.{answered_rest}
+use Rattle.channel_steps.proofs.solo.WorkFacts.{Backs, work_backs}
+
+-- ---- the sink
+
+pub woken_on : {S W : Type 0} (wakes : S → W → S → Type 0) (s m t : S) (xs ys : List W) → Woken wakes s xs m → Woken wakes m ys t
+    → Woken wakes s (xs ++ ys) t
+woken_on wakes s m t [] ys h k = subst (λ z. Woken wakes z ys t) h k
+woken_on wakes s m t (x ∷ xs) ys (n, w, h) k = (n, w, woken_on wakes n m t xs ys h k)
+
+most_one : (n : ℕ) → (n ≡ 0) ⊎ (n ≡ 1) → n ≤ 1
+most_one n (inl e) = omega (arith, e)
+most_one n (inr e) = omega (arith, e)
+
+module _ {T : Type 0} where
+  pub still_in_range : (q p : Queue T) → HasNextPosition q → p.capacity ≡ q.capacity → p.accepted ≤ q.accepted + 1 → IsInRange p
+  still_in_range q p (inl h) c e = inl (c ∙ h)
+  still_in_range q p (inr h) c e = inr (omega (arith, h, e))
+
+at_asked : {T : Type 0} (q : Queue T) (f : Phase T) (a : QueueAsk T) → f ≡ asked a → Comes q q f
+at_asked {T} q f a e = subst (λ (g : Phase T). Comes q q g) (sym e) (tries_start q a)
+
+module _ {T W : Type 0} where
+  -- ---- stages
+
+  abbrev pub At : Queue T → Phase T → Stage (QueueCall T) T W → Queue T → Type 0
+  At from f (Trying call x) now = Comes from now f
+  At from f (Working w) now = now ≡ from
+  At from f (Finished kept) now = ⊥
+
+  same_asked : (f g : Phase T) (x y : Aim T W) → (let s : Stage (Phase T) T W = Trying f x in s) ≡ Trying g y → f ≡ g
+  same_asked f g x y e = cc
+
+  -- the stage after a turn that does not answer
+  at_turn : (turn : Turn T W) (f : Phase T) (s : Stage (QueueCall T) T W) (q : Queue T)
+      → Turned turn None (phase f s) → At q f s q
+  at_turn (Tries a x) f (Trying call y) q h = at_asked q f a (same_asked f (asked a) y x h.1)
+  at_turn (Tries a x) f (Working w) q h =
+      absurd (let no : (let s : Stage (Phase T) T W = Working w in s) ≡ Trying (asked a) x = h.1 in cc)
+  at_turn (Tries a x) f (Finished kept) q h =
+      absurd (let no : (let s : Stage (Phase T) T W = Finished kept in s) ≡ Trying (asked a) x = h.1 in cc)
+  at_turn (Works v) f (Trying call y) q h =
+      absurd (let no : (let s : Stage (Phase T) T W = Trying f y in s) ≡ Working v = h.1 in cc)
+  at_turn (Works v) f (Working w) q h = refl
+  at_turn (Works v) f (Finished kept) q h =
+      absurd (let no : (let s : Stage (Phase T) T W = Finished kept in s) ≡ Working v = h.1 in cc)
+  at_turn (Ends x kept) f s q h = absurd (let no : (let y : Option (Reply T) = None in y) ≡ Some x = h.0 in cc)
+
+  order_phase : (a : Roster W) (f : Phase T) (s : Stage (QueueCall T) T W) → order a (phase f s) ≡ order a s
+  order_phase a f (Trying call x) = refl
+  order_phase a f s = refl
+
+  order_turned : (a : Roster W) (turn : Turn T W) (r : Option (Reply T)) (s : Stage (Phase T) T W) → Turned turn r s
+      → order a s ≡ order_turn a turn
+  order_turned a (Tries x y) r s h = ap (λ (z : Stage (Phase T) T W). order a z) h.1
+  order_turned a turn r s h = ap (λ (z : Stage (Phase T) T W). order a z) h.1
+
+  order_taken : (a : Roster W) (turn : Turn T W) (r : Option (Reply T)) (s : Stage (QueueCall T) T W) → IsTaken turn r s
+      → order a s ≡ order_turn a turn
+  order_taken a (Tries x y) r s (call, starts, none, e) = ap (λ (z : Stage (QueueCall T) T W). order a z) e
+  order_taken a turn r s h = ap (λ (z : Stage (QueueCall T) T W). order a z) h.1
+
+  -- where a turn answers
+  pub record Answered (turn : Turn T W) (x : Reply T) (s : Stage (Phase T) T W) : Type 0 where
+    pub kept : Kept T
+    pub finished : s ≡ Finished kept
+    pub rests : (c : Channel T W) → RestTurn turn c (answers x kept c)
+
+  pub answered : (turn : Turn T W) (x : Reply T) (s : Stage (Phase T) T W) → Turned turn (Some x) s → Answered turn x s
+  answered (Tries a y) x s h = absurd (let no : Some x ≡ None = h.0 in cc)
+  answered (Works w) x s h = absurd (let no : Some x ≡ None = h.0 in cc)
+  answered (Ends y kept) x s h =
+      let e : x ≡ y = (let some : Some x ≡ Some y = h.0 in cc) in
+      record { kept = kept; finished = h.1; rests = λ c. ap (λ (z : Reply T). answers z kept c) e }
+
+  pub finished_kept : (f : Phase T) (s : Stage (QueueCall T) T W) (kept : Kept T) → phase f s ≡ Finished kept
+      → (kept_by s ≡ kept) × (seats f s ≡ [])
+  finished_kept f (Trying call x) kept e =
+      absurd (let no : (let s : Stage (Phase T) T W = Trying f x in s) ≡ Finished kept = e in cc)
+  finished_kept f (Working w) kept e = absurd (let no : (let s : Stage (Phase T) T W = Working w in s) ≡ Finished kept = e in cc)
+  finished_kept f (Finished k) kept e =
+      ((let same : (let s : Stage (Phase T) T W = Finished k in s) ≡ Finished kept = e in cc), refl)
+
+  -- ---- how far a call has come
+
+  -- a call that is alone at work and began over the channel c0; `from` is the queue where its try began
+  pub record IsAlone (a : ChannelAsk T W) (c0 : Channel T W) (parts : Parts T W) (stage : Stage (QueueCall T) T W)
+      (so_far : List W) : Type 0 where
+    pub from : Queue T
+    pub now : Queue T
+    pub at : Phase T
+    pub idle : IsIdle from
+    pub fits : Fits parts.cells now (seats at stage ++ [])
+    pub known : At from at stage now
+    pub place : HasNextPosition c0.queue
+    pub capacity : from.capacity ≡ c0.queue.capacity
+    pub accepted : from.accepted ≤ c0.queue.accepted + 1
+    pub unspent : 5 < order parts.roster stage → from.accepted ≡ c0.queue.accepted
+    pub on : (o : Outcome T W) → RestStage (phase at stage) (channel from parts) o → Alone a c0 (after_waking so_far o)
+
+  -- a step after which a turn was taken
+  pub record Advances (a : ChannelAsk T W) (c0 : Channel T W) (parts' : Parts T W) (stage' : Stage (QueueCall T) T W)
+      (woken : List W) (r : Option (Reply T)) : Type 0 where
+    pub queue : Queue T
+    pub at : Phase T
+    pub turn : Turn T W
+    pub turned : Turned turn r (phase at stage')
+    pub idle : IsIdle queue
+    pub fits : Fits parts'.cells queue (seats at stage' ++ [])
+    pub place : HasNextPosition c0.queue
+    pub capacity : queue.capacity ≡ c0.queue.capacity
+    pub accepted : queue.accepted ≤ c0.queue.accepted + 1
+    pub unspent : 5 < order_turn parts'.roster turn → queue.accepted ≡ c0.queue.accepted
+    pub on : (o : Outcome T W) → RestTurn turn (channel queue parts') o → Alone a c0 (after_waking woken o)
+
+  pub goes_on : (a : ChannelAsk T W) (c0 : Channel T W) (parts' : Parts T W) (stage' : Stage (QueueCall T) T W) (woken : List W)
+      → Advances a c0 parts' stage' woken None → IsAlone a c0 parts' stage' woken
+  goes_on a c0 parts' stage' woken x =
+      record {
+        from = x.queue;
+        now = x.queue;
+        at = x.at;
+        idle = x.idle;
+        fits = x.fits;
+        known = at_turn x.turn x.at stage' x.queue x.turned;
+        place = x.place;
+        capacity = x.capacity;
+        accepted = x.accepted;
+        unspent = λ h. x.unspent
+            (let e = sym (order_phase parts'.roster x.at stage')
+            ∙ order_turned parts'.roster x.turn None (phase x.at stage') x.turned in subst (λ (n : ℕ). 5 < n) e h);
+        on = λ o k. x.on o (turn_rests x.turn (phase x.at stage') (channel x.queue parts') o x.turned k);
+      }
+
+  -- with its queue and its phase
+  pub goes_on_so : (a : ChannelAsk T W) (c0 : Channel T W) (parts' : Parts T W) (stage' : Stage (QueueCall T) T W)
+      (woken : List W) (x : Advances a c0 parts' stage' woken None)
+      → (y : IsAlone a c0 parts' stage' woken) × (y.now ≡ x.queue) × (y.at ≡ x.at)
+  unfolding goes_on
+  goes_on_so a c0 parts' stage' woken x = (goes_on a c0 parts' stage' woken x, refl, refl)
+
+  -- the queue is as large as it was
+  pub capacity_now : (a : ChannelAsk T W) (c0 : Channel T W) (parts : Parts T W) (stage : Stage (QueueCall T) T W)
+      (so_far : List W) (x : IsAlone a c0 parts stage so_far) → x.now.capacity ≡ c0.queue.capacity
+  capacity_now a c0 parts (Trying call y) so_far x =
+      let d : Does x.from x.now x.at = does x.from x.now x.at x.idle x.known in d.capacity ∙ x.capacity
+  capacity_now a c0 parts (Working w) so_far x = ap (λ (q : Queue T). q.capacity) x.known ∙ x.capacity
+  capacity_now a c0 parts (Finished kept) so_far x = absurd x.known
+
+  module _ (a : ChannelAsk T W) (c0 : Channel T W) (parts : Parts T W) (so_far names : List W) (parts' : Parts T W)
+      (stage' : Stage (QueueCall T) T W) (m : Mark) (r : Option (Reply T)) where
+    -- after a step a turn was taken, or the queue's call goes on, with this queue and this phase
+    abbrev pub AdvancesTo : Queue T → Phase T → Type 0
+    AdvancesTo q f = (y : Advances a c0 parts' stage' (so_far ++ names) r) × (y.queue ≡ q) × (y.at ≡ f)
+
+    abbrev pub StaysAt : Queue T → Phase T → Type 0
+    StaysAt q f = (y : IsAlone a c0 parts' stage' (so_far ++ names)) × (y.now ≡ q) × (y.at ≡ f)
+
+    abbrev pub StepsTo : Queue T → Phase T → Type 0
+    StepsTo q f = (StaysAt q f × (r ≡ None)) ⊎ AdvancesTo q f
+
+    woken_more : (o : Outcome T W) → Alone a c0 (after_waking so_far (after_waking names o))
+        → Alone a c0 (after_waking (so_far ++ names) o)
+    woken_more o h = subst (λ (ws : List W). Alone a c0 (record o { woken = ws })) (sym (append_assoc so_far names o.woken)) h
+
+    woken_none : names ≡ [] → (o : Outcome T W) → Alone a c0 (after_waking so_far o)
+        → Alone a c0 (after_waking (so_far ++ names) o)
+    woken_none e o h = woken_more o (subst (λ (ws : List W). Alone a c0 (after_waking so_far (after_waking ws o))) (sym e) h)
+
+    -- ---- a step on a list or a count
+
+    worked : (w : Work T W) (x : IsAlone a c0 parts (Working w) so_far)
+        → (made : Made parts (Working w) names parts' stage' m r x.fits.0 x.now x.at [] []) → AdvancesTo made.queue made.phase_now
+    worked w x made =
+        let e : Effect T W = record { channel = channel made.queue parts'; mark = m; woken = names } in
+        let b : Backs (channel x.now parts) w e r (phase made.phase_now stage') =
+        work_backs (channel x.now parts) w e r (phase made.phase_now stage') made.moves in
+        let same : made.queue ≡ x.from = b.queue ∙ x.known in
+        let y : Advances a c0 parts' stage' (so_far ++ names) r =
+        record {
+          queue = made.queue;
+          at = made.phase_now;
+          turn = b.turn;
+          turned = b.turned;
+          idle = subst (λ (q : Queue T). IsIdle q) (sym same) x.idle;
+          fits = (_, made.fits);
+          place = x.place;
+          capacity = ap (λ (q : Queue T). q.capacity) same ∙ x.capacity;
+          accepted = (let n = ap (λ (q : Queue T). q.accepted) same in let k = x.accepted in omega (arith, n, k));
+          unspent = λ h. ap (λ (q : Queue T). q.accepted) same ∙ x.unspent (let f = b.falls in omega (arith, h, f));
+          on = λ o k. woken_more o
+              (x.on (after_waking names o)
+              (subst (λ (q : Queue T). RestWork w (channel q parts) (after_waking names o)) x.known (b.back o k)));
+        }
+        in
+        (y, refl, refl)
+
+    -- ---- a step of the queue's call
+
+    module _ (call : QueueCall T) (y : Aim T W) (x : IsAlone a c0 parts (Trying call y) so_far)
+        (made : Made parts (Trying call y) names parts' stage' m r x.fits.0 x.now x.at [] []) where
+      tried : Tried (channel x.now parts) x.at y (record { channel = channel made.queue parts'; mark = m; woken = names }) r
+          (phase made.phase_now stage')
+      tried = made.moves
+
+      nobody : names ≡ []
+      nobody = ap (λ (e : Effect T W). e.woken) tried.effect
+
+      same_roster : parts'.roster ≡ parts.roster
+      same_roster = ap (λ (e : Effect T W). e.channel.roster) tried.effect
+
+      queue_now : made.queue ≡ after x.at tried.mark x.now
+      queue_now = ap (λ (e : Effect T W). e.channel.queue) tried.effect
+
+      unspent_yet : x.from.accepted ≡ c0.queue.accepted
+      unspent_yet = x.unspent (try_is_late parts.roster y)
+
+      -- it goes on
+      on_try : (f' : Phase T) → Continues x.now x.at tried.mark f' → (call' : QueueCall T) → stage' ≡ Trying call' y
+          → made.phase_now ≡ f' → StaysAt made.queue made.phase_now
+      on_try f' goes call' e same =
+          let stays : IsAlone a c0 parts' stage' (so_far ++ names) =
+          record {
+            from = x.from;
+            now = made.queue;
+            at = made.phase_now;
+            idle = x.idle;
+            fits = (_, made.fits);
+            known = subst (λ (z : Stage (QueueCall T) T W). At x.from made.phase_now z made.queue) (sym e)
+                (subst (λ (g : Phase T). Comes x.from made.queue g) (sym same)
+                (subst (λ (q : Queue T). Comes x.from q f') (sym queue_now)
+                (tries_on x.from x.now x.at f' tried.mark goes x.known)));
+            place = x.place;
+            capacity = x.capacity;
+            accepted = x.accepted;
+            unspent = λ h. unspent_yet;
+            on = λ o k.
+                let k1 : RestTry made.phase_now.ask y (channel x.from parts') o =
+                subst (λ (z : Stage (QueueCall T) T W). RestStage (phase made.phase_now z) (channel x.from parts') o) e k in
+                let k2 : RestTry f'.ask y (channel x.from parts') o =
+                subst (λ (g : Phase T). RestTry g.ask y (channel x.from parts') o) same k1 in
+                let k3 : RestTry x.at.ask y (channel x.from parts') o =
+                subst (λ (b : QueueAsk T). RestTry b y (channel x.from parts') o) goes.0 k2 in
+                let k4 : RestTry x.at.ask y (channel x.from parts) o =
+                subst (λ (z : Roster W). RestTry x.at.ask y (record { queue = x.from; roster = z }) o) same_roster k3 in
+                woken_none nobody o (x.on o k4);
+          }
+          in
+          (stays, refl, refl)
+
+      -- it answers
+      at_answer : (z : QueueReply T) → Answers x.now x.at tried.mark z
+          → Turned (answered_next y z) r (phase made.phase_now stage') → AdvancesTo made.queue made.phase_now
+      at_answer z answers turned =
+          let found0 : Found x.from x.at.ask z (after x.at tried.mark x.now) =
+          tries_end x.from x.now x.at tried.mark z x.idle answers x.known in
+          let found : Found x.from x.at.ask z made.queue =
+          subst (λ (q : Queue T). Found x.from x.at.ask z q) (sym queue_now) found0 in
+          let advances : Advances a c0 parts' stage' (so_far ++ names) r =
+          record {
+            queue = made.queue;
+            at = made.phase_now;
+            turn = answered_next y z;
+            turned = turned;
+            idle = record {
+              balanced = (shows parts'.cells made.queue (seats made.phase_now stage' ++ []) (_, made.fits)).balance;
+              nothing_comes = found.nothing_comes;
+            };
+            fits = (_, made.fits);
+            place = x.place;
+            capacity = found.capacity ∙ x.capacity;
+            accepted = (let n = found.accepted in let k = most_one (brought_by z) (brought_by_is z) in let e = unspent_yet in
+                omega (arith, n, k, e));
+            unspent = λ h. unspent_still z found h (brought_by_is z);
+            on = λ o k.
+                let k1 : RestTurn (answered_next y z) (record { queue = made.queue; roster = parts.roster }) o =
+                subst (λ (b : Roster W). RestTurn (answered_next y z) (record { queue = made.queue; roster = b }) o)
+                same_roster k in
+                let k2 : RestTurn (answered_next y z) (record { queue = left_by x.at.ask z x.from; roster = parts.roster }) o =
+                subst (λ (q : Queue T). RestTurn (answered_next y z) (record { queue = q; roster = parts.roster }) o) found.left
+                k1
+                in
+                woken_none nobody o (x.on o (answered_rest (channel x.from parts) o x.at.ask y z found.finds k2));
+          }
+          in
+          (advances, refl, refl)
+        where
+          unspent_still : (z : QueueReply T) → Found x.from x.at.ask z made.queue
+              → 5 < order_turn parts'.roster (answered_next y z) → (brought_by z ≡ 0) ⊎ (brought_by z ≡ 1)
+              → made.queue.accepted ≡ c0.queue.accepted
+          unspent_still z found h (inl none) = let n = found.accepted in let e = unspent_yet in omega (arith, n, e, none)
+          unspent_still z found h (inr one) = absurd (let k = telling_order parts'.roster y z one in omega (arith, h, k))
+
+    -- ---- a step
+
+    same_try : (f g : Phase T) (y : Aim T W) (s : Stage (QueueCall T) T W) → phase f s ≡ Trying g y
+        → (call : QueueCall T) × (s ≡ Trying call y) × (f ≡ g)
+    same_try f g y (Trying call z) e =
+        let same : z ≡ y = (let e' : (let s : Stage (Phase T) T W = Trying f z in s) ≡ Trying g y = e in cc) in
+        (call, ap (λ (w : Aim T W). let s : Stage (QueueCall T) T W = Trying call w in s) same, same_asked f g z y e)
+    same_try f g y (Working w) e = absurd (let no : (let s : Stage (Phase T) T W = Working w in s) ≡ Trying g y = e in cc)
+    same_try f g y (Finished kept) e = absurd (let no : (let s : Stage (Phase T) T W = Finished kept in s) ≡ Trying g y = e in cc)
+
+    abbrev Next : Type 0
+    Next = (IsAlone a c0 parts' stage' (so_far ++ names) × (r ≡ None)) ⊎ Advances a c0 parts' stage' (so_far ++ names) r
+
+    by_how : (call : QueueCall T) (y : Aim T W) (x : IsAlone a c0 parts (Trying call y) so_far)
+        (made : Made parts (Trying call y) names parts' stage' m r x.fits.0 x.now x.at [] []) (mark : QueueMark)
+        → mark ≡ (tried call y x made).mark
+        → ((f' : Phase T) × Continues x.now x.at mark f' × (r ≡ None) × (phase made.phase_now stage' ≡ Trying f' y))
+        ⊎ ((z : QueueReply T) × Answers x.now x.at mark z × Turned (answered_next y z) r (phase made.phase_now stage'))
+        → StepsTo made.queue made.phase_now
+    by_how call y x made mark e (inl (f', goes, none, on)) =
+        let t = same_try made.phase_now f' y stage' on in
+        inl (on_try call y x made f' (subst (λ (k : QueueMark). Continues x.now x.at k f') e goes) t.0 t.1 t.2, none)
+    by_how call y x made mark e (inr (z, ans, turned)) =
+        inr (at_answer call y x made z (subst (λ (k : QueueMark). Answers x.now x.at k z) e ans) turned)
+
+    -- the queue and the phase after a step are those to which it leads
+    pub next : (stage : Stage (QueueCall T) T W) (x : IsAlone a c0 parts stage so_far)
+        → (made : Made parts stage names parts' stage' m r x.fits.0 x.now x.at [] []) → StepsTo made.queue made.phase_now
+    next (Trying call y) x made = by_how call y x made (tried call y x made).mark refl (tried call y x made).how
+    next (Working w) x made = inr (worked w x made)
+    next (Finished kept) x made = absurd x.known
+
+    pub accepts_one : (stage : Stage (QueueCall T) T W) (x : IsAlone a c0 parts stage so_far)
+        → x.now.accepted ≤ c0.queue.accepted + 1
+    accepts_one (Trying call y) x =
+        let d : Does x.from x.now x.at = does x.from x.now x.at x.idle x.known in
+        let n = d.most in let e = x.unspent (try_is_late parts.roster y) in
+        omega (arith, n, e)
+    accepts_one (Working w) x = (let n = ap (λ (q : Queue T). q.accepted) x.known in let k = x.accepted in omega (arith, n, k))
+    accepts_one (Finished kept) x = absurd x.known
+
+    pub in_range : (stage : Stage (QueueCall T) T W) (x : IsAlone a c0 parts stage so_far) → IsInRange x.now
+    in_range (Trying call y) x =
+        let d : Does x.from x.now x.at = does x.from x.now x.at x.idle x.known in
+        let n = d.most in let e = x.unspent (try_is_late parts.roster y) in
+        still_in_range c0.queue x.now x.place (d.capacity ∙ x.capacity) (omega (arith, n, e))
+    in_range (Working w) x =
+        subst (λ (q : Queue T). IsInRange q) (sym x.known) (still_in_range c0.queue x.from x.place x.capacity x.accepted)
+    in_range (Finished kept) x = absurd x.known
+
+    pub made_by : (stage : Stage (QueueCall T) T W) (x : IsAlone a c0 parts stage so_far)
+        → IsStepOver parts stage names parts' stage' m r → Made parts stage names parts' stage' m r x.fits.0 x.now x.at [] []
+    made_by stage x step = step x.fits.0 x.now x.at [] [] (in_range stage x) x.fits.1
+
+    pub step_next : (stage : Stage (QueueCall T) T W) → IsAlone a c0 parts stage so_far
+        → IsStepOver parts stage names parts' stage' m r → Next
+    step_next stage x step = let made = made_by stage x step in forget made.queue made.phase_now (next stage x made)
+      where
+        forget : (q : Queue T) (f : Phase T) → StepsTo q f → Next
+        forget q f (inl h) = inl (h.0.0, h.1)
+        forget q f (inr h) = inr h.0
+
+    -- ---- the end is nearer
+
+    hastened : (call : QueueCall T) (y : Aim T W) (x : IsAlone a c0 parts (Trying call y) so_far)
+        (made : Made parts (Trying call y) names parts' stage' m r x.fits.0 x.now x.at [] [])
+        → Hastens parts.cells x.now x.at (Trying call y) parts'.cells r stage'
+        → measure parts'.cells parts'.roster stage' < measure parts.cells parts.roster (Trying call y)
+    hastened call y x made (inl (call', e, less)) =
+        let same : order_try parts'.roster y ≡ order_try parts.roster y =
+        ap (λ (b : Roster W). order_try b y) (same_roster call y x made) in
+        let now : order_try parts'.roster y * 64 + rank parts'.cells call' < order_try parts.roster y * 64 + rank parts.cells
+        call = omega (arith, same, less) in
+        subst (λ (z : Stage (QueueCall T) T W). measure parts'.cells parts'.roster z < measure parts.cells parts.roster
+        (Trying call y)) (sym e) now
+    hastened call y x made (inr (z, k, ans, taken)) =
+        let same : order_try parts'.roster y ≡ order_try parts.roster y =
+        ap (λ (b : Roster W). order_try b y) (same_roster call y x made) in
+        let turn = order_taken parts'.roster (answered_next y z) r stage' taken in
+        let falls = answered_order parts'.roster y z in
+        measure_falls parts.cells parts'.cells parts.roster parts'.roster (Trying call y) stage'
+        (near parts'.cells made.queue made.phase_now stage' (_, made.fits)) (omega (arith, same, turn, falls))
+
+    nearer_by : (stage : Stage (QueueCall T) T W) (x : IsAlone a c0 parts stage so_far)
+        → Made parts stage names parts' stage' m r x.fits.0 x.now x.at [] []
+        → measure parts'.cells parts'.roster stage' < measure parts.cells parts.roster stage
+    nearer_by (Trying call y) x made = hastened call y x made (made.ends (tt, λ e. inr refl))
+    nearer_by (Working w) x made =
+        let e : Effect T W = record { channel = channel made.queue parts'; mark = m; woken = names } in
+        let b : Backs (channel x.now parts) w e r (phase made.phase_now stage') =
+        work_backs (channel x.now parts) w e r (phase made.phase_now stage') made.moves in
+        let turn = sym (order_phase parts'.roster made.phase_now stage')
+        ∙ order_turned parts'.roster b.turn r (phase made.phase_now stage') b.turned in
+        let falls = b.falls in
+        measure_falls parts.cells parts'.cells parts.roster parts'.roster (Working w) stage'
+        (near parts'.cells made.queue made.phase_now stage' (_, made.fits)) (omega (arith, turn, falls))
+    nearer_by (Finished kept) x made = absurd x.known
+
+    pub step_nearer : (stage : Stage (QueueCall T) T W) → IsAlone a c0 parts stage so_far
+        → IsStepOver parts stage names parts' stage' m r
+        → measure parts'.cells parts'.roster stage' < measure parts.cells parts.roster stage
+    step_nearer stage x step = nearer_by stage x (made_by stage x step)

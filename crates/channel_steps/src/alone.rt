@@ -1,0 +1,79 @@
+//! A call of a channel that is stepped to its end.
+
+ghost use Rattle.std.specs.Prelude.{◌≡◌, false};
+ghost use Rattle.channel_calls.specs.Plain.{parts_of};
+ghost use Rattle.channel_steps.specs.solo.Ample.{lacks_memory, HasNode};
+ghost use Rattle.channel_steps.specs.solo.Run.{IsAtRest, AnswersAlone};
+ghost use Rattle.channel_steps.specs.solo.Configurations.{RunsInConfigurations};
+
+use crate::ahead::{receive_alone, send_alone};
+use crate::count::counted;
+use channel_calls::ask::ChannelAsk;
+use channel_calls::call::ChannelCall;
+use channel_calls::plain::PlainChannel;
+use channel_calls::reply::Reply;
+use channel_calls::stage::Kept;
+use event_listener::wakes::Wakes;
+
+/// What a call left at its end.
+#[derive(Drop)]
+pub struct Done<T> {
+    /// What it answers.
+    pub reply: Reply<T>,
+    /// What it leaves to its operation.
+    pub kept: Kept<T>,
+}
+
+/// Makes a call from its beginning to its end, and chooses each of its steps.
+fn step_alone<T: Drop, W: Drop, S: Wakes<W>>(
+    ask: ChannelAsk<T, W>,
+    channel: &mut PlainChannel<T, W>,
+    messages: &mut u64,
+    sink: &mut S,
+) -> Done<T>
+    requires at_rest { IsAtRest (parts_of channel.old) }
+    ensures alone { AnswersAlone S.wakes ask (parts_of channel.old) sink.old result (parts_of channel.new) sink.new }
+    ensures configurations { RunsInConfigurations S.wakes ask (parts_of channel.old) sink.old messages.old
+        result (parts_of channel.new) sink.new messages.new }
+    ensures ample { HasNode ask (parts_of channel.old) → lacks_memory result.reply ≡ false }
+{
+    let mut call = ChannelCall::new(ask);
+    loop {
+        let reply = call.step(channel, sink);
+        *messages = counted(*messages, call.last_mark());
+        match reply {
+            Some(reply) => {
+                let kept = call.into_kept();
+                return Done { reply, kept };
+            }
+            None => {}
+        }
+    }
+}
+
+/// Makes a call of a channel of one owner from its beginning to its end, with no other call under way, and never waits.
+/// Tasks that it wakes go to the sink in order. Want of memory is answered as the call's own refusal, with the message kept
+/// or handed back. Where it is told how many messages the channel holds, it says so of the channel after it.
+///
+/// A poll that holds a listener wants no memory: where that one was told and there is still cause to wait, the node that it leaves
+/// serves the next listener. What can still be refused to it is a serial number, once all 2^64 - 1 of its list were given.
+///
+/// Its steps lead from configuration to configuration, as those of one party where no other is at work. Own to this project.
+pub fn run_alone<T: Drop, W: Drop, S: Wakes<W>>(
+    ask: ChannelAsk<T, W>,
+    channel: &mut PlainChannel<T, W>,
+    messages: &mut u64,
+    sink: &mut S,
+) -> Done<T>
+    requires at_rest { IsAtRest (parts_of channel.old) }
+    ensures alone { AnswersAlone S.wakes ask (parts_of channel.old) sink.old result (parts_of channel.new) sink.new }
+    ensures configurations { RunsInConfigurations S.wakes ask (parts_of channel.old) sink.old messages.old
+        result (parts_of channel.new) sink.new messages.new }
+    ensures ample { HasNode ask (parts_of channel.old) → lacks_memory result.reply ≡ false }
+{
+    match ask {
+        ChannelAsk::TrySend(message) => send_alone(message, channel, messages, sink),
+        ChannelAsk::TryRecv => receive_alone(channel, messages, sink),
+        ask => step_alone(ask, channel, messages, sink),
+    }
+}

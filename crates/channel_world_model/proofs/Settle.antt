@@ -1,0 +1,430 @@
+-- Settling ends: each poll of the oldest woken one brings it nearer, and with w pending it makes no more than w(w+1)/2 polls.
+use Rattle.channel_world_model.proofs.Words.{cond_both, false_from_ne_true, arith, ◌≡◌, ◌⊎◌, ◌≤◌, ◌+◌, ◌*◌, ℕ, zero, suc, List, [], ◌∷◌, ◌++◌, length, take, drop, Bool, true, false, if◌then◌else◌, not, Option, Some, IsSome, Ok, refl, sym, ap, subst, ◌∙◌, ◌&&◌, inl, inr, append-nil, append_assoc, filter, list_any, filter-append, slice_get, Answer, after_leaving, pending, space_of, Found, first, none_yet, none_ever, found, send_poll_answer, recv_poll_answer, next_answer, closed_poll_answer, poll_answer, answer, AwakeIn, Enough, Kind, Placed, times, count_of, free_places, line_at, line_of_operation, Waiting, same_waiter, is_among, untold, told_by, after_news, without_waiter, gone, passed_on, left_after, told_after, at_end, standing, is_stream, ModelOperation, send, recv, closing, at, Lack, answer_without, Answers, Call, poll_of, Settles, SettlesTo, NobodyGoesOn, pending_count, pairs, polls_left, State, with_waiting, Reply, Line, Sends, Receives, Streams, Closings, News, Nothing, Message, Room, Closing, NextIn, Space, Open, Filled, Shut, Waiter, Op, Stream, OpId, HandleId, Ready, Pending}
+use Rattle.std.proofs.Math.Nat.{suc-mul, mul-suc}
+use Rattle.channel_world_model.specs.declared.call.Call.TheVariants as call
+use Rattle.channel_calls.specs.declared.reply.Reply.TheVariants as reply
+use Rattle.channel_world_model.proofs.WaiterLemmas.{decided, same_refl, none_left, without_absent}
+use Rattle.channel_world_model.proofs.Counting.{among_counts, count_fewer, count_fewer_one}
+use Rattle.channel_world_model.proofs.Lacking.{Lacking, lacking}
+use Rattle.channel_world_model.proofs.Awake.{told_stood, woken_end}
+use Rattle.channel_world_model.proofs.LawSteps.{poll_awake}
+pub use Rattle.channel_world_model.proofs.Counting.{one_if, count_all, count_news, count_gone, count_gone_one, count_end}
+
+-- ---- how many
+
+every : Waiter → Bool
+every w = true
+
+all_of : (ws : List Waiter) → length (filter every ws) ≡ length ws
+unfolding every
+all_of [] = refl
+all_of (w ∷ ws) = ap (λ (n : ℕ). suc n) (all_of ws)
+
+size_is : (l : Waiting) → count_all every l ≡ pending_count l
+size_is l = omega (arith, all_of l.sends, all_of l.receives, all_of l.streams, all_of l.closings, all_of l.woken)
+
+-- news make nobody pending, and nobody ready
+size_news : (news : News) (l : Waiting) → pending_count (after_news news l) ≡ pending_count l
+size_news news l = omega (arith, count_news every news l, size_is l, size_is (after_news news l))
+
+fewer : (w : Waiter) (ws : List Waiter) → length (without_waiter w ws) ≤ length ws
+fewer w ws = omega (arith, count_fewer every w ws, all_of ws, all_of (without_waiter w ws))
+
+-- one who is there leaves fewer behind
+one_fewer : (w : Waiter) (ws : List Waiter) → is_among w ws ≡ true → suc (length (without_waiter w ws)) ≤ length ws
+unfolding every
+one_fewer w ws e = omega (arith, count_fewer_one every w ws e, all_of ws, all_of (without_waiter w ws))
+
+size_gone : (w : Waiter) (l : Waiting) → pending_count (gone w l) ≤ pending_count l
+size_gone w l = omega (arith, count_gone every w l, size_is l, size_is (gone w l))
+
+woken_gone : (w : Waiter) (l : Waiting) → is_among w l.woken ≡ true → suc (pending_count (gone w l)) ≤ pending_count l
+unfolding every
+woken_gone w l e = omega (arith, count_gone_one every w l e, size_is l, size_is (gone w l))
+
+size_end : (line : Line) (w : Waiter) (l : Waiting) → pending_count (at_end line w l) ≡ suc (pending_count (gone w l))
+unfolding every
+size_end line w l = omega (arith, count_end every line w l, size_is (at_end line w l), size_is (gone w l))
+
+-- ---- one poll
+
+-- one fewer is pending; or one fewer is woken, and no more are pending
+pub Nearer : Waiting → Waiting → Type 0
+Nearer l m = (suc (pending_count m) ≤ pending_count l) ⊎ ((pending_count m ≤ pending_count l) × (suc (length m.woken) ≤ length l.woken))
+
+pub front_stays : (w : Waiter) (xs ys : List Waiter) → is_among w xs ≡ true → is_among w (xs ++ ys) ≡ true
+front_stays w [] ys e = cc e
+front_stays w (x ∷ xs) ys e = elim (decided (same_waiter w x)) [
+  | inl t ↦ rw t refl
+  | inr t ↦ rw t (front_stays w xs ys (rw t at e))
+]
+
+-- one who leaves
+left_nearer : (news : News) (line : Line) (w : Waiter) (l : Waiting) → is_among w l.woken ≡ true → Nearer l (left_after news line w l)
+unfolding Nearer
+left_nearer news line w l e =
+    let told = after_news news l in
+    let there : is_among w told.woken ≡ true = front_stays w l.woken (told_by news l) e in
+    let a = size_news (passed_on line w told) (gone w told) in
+    let b = woken_gone w told there in
+    let c = size_news news l in
+    inl (omega (arith, a, b, c))
+
+-- one who is gone, after which news may be told
+gone_nearer : (news : News) (w : Waiter) (l : Waiting) → is_among w l.woken ≡ true → Nearer l (after_news news (gone w l))
+unfolding Nearer
+gone_nearer news w l e =
+    let a = size_news news (gone w l) in
+    let b = woken_gone w l e in
+    inl (omega (arith, a, b))
+
+just_gone : (w : Waiter) (l : Waiting) → is_among w l.woken ≡ true → Nearer l (gone w l)
+unfolding Nearer
+just_gone w l e = inl (woken_gone w l e)
+
+-- one who stands again
+end_nearer : (line : Line) (w : Waiter) (l : Waiting) → is_among w l.woken ≡ true → Nearer l (at_end line w l)
+unfolding Nearer
+end_nearer line w l e =
+    let a = size_end line w l in
+    let b = woken_gone w l e in
+    let c = one_fewer w l.woken e in
+    inr (omega (arith, a, b), subst (λ (ws : List Waiter). suc (length ws) ≤ length l.woken) (sym (woken_end line w l)) c)
+
+standing_nearer : (line : Line) (w : Waiter) (l : Waiting) → is_among w l.woken ≡ true → is_among w (untold line l) ≡ false
+    → Nearer l (standing line w l)
+standing_nearer line w l e off = rw off (end_nearer line w l e)
+
+-- a stream that is gone and stands again
+again_nearer : (w : Waiter) (l : Waiting) → is_among w l.woken ≡ true → Nearer l (standing Streams w (gone w l))
+unfolding Nearer
+again_nearer w l e =
+    let off : is_among w (untold Streams (gone w l)) ≡ false = none_left w l.streams in
+    let a = size_end Streams w (gone w l) in
+    let b = woken_gone w l e in
+    let c = one_fewer w l.woken e in
+    let d = size_gone w (gone w l) in
+    let f = fewer w (without_waiter w l.woken) in
+    rw off (inr (omega (arith, a, b, d), omega (arith, c, f)))
+
+-- one who is woken is not untold
+pub not_untold : (k : Kind) (line : Line) (w : Waiter) (l : Waiting) → Placed k l → is_among w l.woken ≡ true → is_among w (untold line l) ≡ false
+not_untold k line w l p e = false_from_ne_true (is_among w (untold line l)) (λ t. twice line t)
+  where
+    once : times w l.sends + times w l.receives + times w l.streams + times w l.closings + times w l.woken ≤ 1
+    once = p.once w
+
+    twice : (own : Line) → is_among w (untold own l) ≡ true → ⊥
+    twice Sends t = omega (arith, once, among_counts w l.sends t, among_counts w l.woken e)
+    twice own t = omega (arith, once, among_counts w (untold own l) t, among_counts w l.woken e)
+
+-- ---- the cases of a poll of one that is woken
+
+-- news that a poll may tell
+abbrev pub IsBrief : News → Type 0
+IsBrief Nothing = Unit {0}
+IsBrief Message = Unit {0}
+IsBrief Room = Unit {0}
+IsBrief Closing = ⊥
+IsBrief (NextIn line) = ⊥
+
+-- what a poll may leave of those who wait, and whom it may wake
+pub record Cases (w : Waiter) (l : Waiting) (P : Waiting → List Waiter → Type 0) : Type 0 where
+  -- it leaves its line, after these news, and passes on what it was told
+  pub left : (news : News) → IsBrief news → (line : Line) → P (left_after news line w l) (told_after news line w l)
+  -- it stands in its line again
+  pub stands : (line : Line) → P (standing line w l) []
+  -- a stream leaves, with a message or without
+  pub takes : P (after_news Room (gone w l)) (told_by Room (gone w l))
+  pub leaves : P (gone w l) []
+  -- and stands again
+  pub again : P (standing Streams w (gone w l)) []
+
+module _ {T : Type 0} where
+  module _ (s : State T) (P : Waiting → List Waiter → Type 0) where
+    abbrev So : Answer T → Type 0
+    So a = P a.after.waiting a.woken
+
+    -- ---- with ample memory
+
+    send_so : (op : OpId) (handle : HandleId) (m : T) (x : Space) → Cases (Op op) s.waiting P → So (send_poll_answer s op handle m x)
+    send_so op handle m Open c = c.left Message tt Sends
+    send_so op handle m Filled c = c.stands Sends
+    send_so op handle m Shut c = c.left Nothing tt Sends
+
+    recv_so : (op : OpId) (x : Found T) → Cases (Op op) s.waiting P → So (recv_poll_answer s op x)
+    recv_so op (first m ms) c = c.left Room tt Receives
+    recv_so op none_yet c = c.stands Receives
+    recv_so op none_ever c = c.left Nothing tt Receives
+
+    closed_so : (op : OpId) → Cases (Op op) s.waiting P → So (closed_poll_answer s op)
+    closed_so op c =
+        cond_both s.channel.closed (after_leaving Nothing Closings (Op op) s (reply.ClosedPoll (Ready (Ok tt)))) (pending Closings (Op op) s (reply.ClosedPoll Pending))
+        So
+        (λ t. c.left Nothing tt Closings) (λ t. c.stands Closings)
+
+    -- who is woken belongs to a line
+    poll_so : (op : OpId) (o : Option (ModelOperation T)) → IsSome (line_of_operation o) → Cases (Op op) s.waiting P → So (poll_answer s op o)
+    poll_so op (Some (send handle (Some m))) h c = send_so op handle m (space_of s.channel) c
+    poll_so op (Some (recv handle)) h c = recv_so op (found s.channel) c
+    poll_so op (Some (closing handle)) h c = closed_so op c
+    poll_so op o h c = cc h
+
+    next_so : (receiver : HandleId) (x : Found T) → Cases (Stream receiver) s.waiting P
+        → So (next_answer (with_waiting (gone (Stream receiver) s.waiting) s) receiver x)
+    next_so receiver (first m ms) c = c.takes
+    next_so receiver none_yet c = c.again
+    next_so receiver none_ever c = c.leaves
+
+    -- ---- where a growth is refused
+
+    -- of calls that are polls
+    abbrev PolledSo : Call T → Answer T → Type 0
+    PolledSo (call.Poll op) a = Cases (Op op) s.waiting P → So a
+    PolledSo (call.PollNext receiver) a = Cases (Stream receiver) s.waiting P → So a
+    PolledSo c a = Unit {0}
+
+    lacks : Lacking s PolledSo
+    lacks = record {
+      try_send = λ sender m. tt;
+      force_send = λ sender m. tt;
+      recv_many = λ receiver limit. tt;
+      leaves = λ op handle m there c. c.left Nothing tt Sends;
+      send_out = λ lack op handle m there full c. c.leaves;
+      recv_out = λ lack op handle there none c. c.leaves;
+      closing_out = λ lack op handle there c. c.leaves;
+      next_out = λ lack receiver none c. c.leaves;
+    }
+
+    unanswered_so : (lack : Lack) (w : Waiter) (a : Answer T) → answer_without lack s (poll_of w) ≡ Some a → Cases w s.waiting P → So a
+    unanswered_so lack (Op op) a e c = lacking s PolledSo lacks lack (call.Poll op) a e c
+    unanswered_so lack (Stream receiver) a e c = lacking s PolledSo lacks lack (call.PollNext receiver) a e c
+
+    module _ (awake : AwakeIn s) where
+      answered_so : (w : Waiter) → is_among w s.waiting.woken ≡ true → Cases w s.waiting P → So (answer s (poll_of w))
+      answered_so (Op op) e c = poll_so op (at op.0 s.names.operations) (awake.placed.wakes (Op op) e) c
+      answered_so (Stream receiver) e c =
+          rw (not_untold (line_at s.names) Streams (Stream receiver) s.waiting awake.placed e) (next_so receiver (found s.channel) c)
+
+      -- however the poll of one that is woken is answered
+      pub poll_cases : (w : Waiter) (a : Answer T) → is_among w s.waiting.woken ≡ true → Answers s (poll_of w) a → Cases w s.waiting P → P a.after.waiting a.woken
+      poll_cases w a e (inl x) c = subst (λ (y : Answer T). So y) (sym x) (answered_so w e c)
+      poll_cases w a e (inr (lack, x)) c = unanswered_so lack w a x c
+
+pub first_there : (w : Waiter) (ws : List Waiter) → slice_get ws 0 ≡ Some w → is_among w ws ≡ true
+first_there w [] e = cc e
+first_there w (x ∷ xs) e = let same : x ≡ w = cc e in subst (λ (v : Waiter). is_among w (v ∷ xs) ≡ true) (sym same) (rw (same_refl w) refl)
+
+first_some : (w : Waiter) (ws : List Waiter) → slice_get ws 0 ≡ Some w → 1 ≤ length ws
+first_some w [] e = cc e
+first_some w (x ∷ xs) e = omega arith
+
+-- ---- the end is nearer
+
+near_cases : (k : Kind) (w : Waiter) (l : Waiting) → Placed k l → is_among w l.woken ≡ true → Cases w l (λ m names. Nearer l m)
+near_cases k w l placed e = record {
+  left = λ news brief line. left_nearer news line w l e;
+  stands = λ line. standing_nearer line w l e (not_untold k line w l placed e);
+  takes = gone_nearer Room w l e;
+  leaves = just_gone w l e;
+  again = again_nearer w l e;
+}
+
+pub nearer : {T : Type 0} → (s : State T) → AwakeIn s → (w : Waiter) (a : Answer T) → is_among w s.waiting.woken ≡ true → Answers s (poll_of w) a
+    → Nearer s.waiting a.after.waiting
+nearer s awake w a e answers =
+    poll_cases s (λ m names. Nearer s.waiting m) awake w a e answers (near_cases (line_at s.names) w s.waiting awake.placed e)
+
+-- ---- the woken are a queue: the one that is polled leaves its front, and those whom it wakes come to its end
+
+pub Follows : Waiter → Waiting → Waiting → List Waiter → Type 0
+Follows w l m names = m.woken ≡ without_waiter w l.woken ++ names
+
+not_told : (k : Kind) (news : News) (w : Waiter) (l : Waiting) → Placed k l → is_among w l.woken ≡ true → is_among w (told_by news l) ≡ false
+not_told k news w l p e = by (decided (is_among w (told_by news l)))
+  where
+    never : {A : Type 0} (b : Bool) → b ≡ true → b ≡ false → A
+    never b f g = let no : true ≡ false = sym f ∙ g in cc
+
+    by : (is_among w (told_by news l) ≡ true) ⊎ (is_among w (told_by news l) ≡ false) → is_among w (told_by news l) ≡ false
+    by (inr t) = t
+    by (inl t) = let stood = told_stood news w l t in never (is_among w (untold stood.0 l)) stood.1 (not_untold k stood.0 w l p e)
+
+module _ (k : Kind) (w : Waiter) (l : Waiting) (placed : Placed k l) (e : is_among w l.woken ≡ true) where
+  left_follows : (news : News) (line : Line) → Follows w l (left_after news line w l) (told_after news line w l)
+  unfolding Follows
+  left_follows news line =
+      let told = after_news news l in
+      let new = told_by news l in
+      let more = told_by (passed_on line w told) (gone w told) in
+      let kept : without_waiter w new ≡ new = without_absent w new (not_told k news w l placed e) in
+      ap (λ (ws : List Waiter). ws ++ more) (filter-append (λ (v : Waiter). not (same_waiter w v)) l.woken new)
+      ∙ (ap (λ (ws : List Waiter). (without_waiter w l.woken ++ ws) ++ more) kept ∙ append_assoc (without_waiter w l.woken) new more)
+
+  stands_follows : (line : Line) → Follows w l (standing line w l) []
+  unfolding Follows
+  stands_follows line = rw (not_untold k line w l placed e) (woken_end line w l ∙ sym (append-nil (without_waiter w l.woken)))
+
+  leaves_follows : Follows w l (gone w l) []
+  unfolding Follows
+  leaves_follows = sym (append-nil (without_waiter w l.woken))
+
+  takes_follows : Follows w l (after_news Room (gone w l)) (told_by Room (gone w l))
+  unfolding Follows
+  takes_follows = refl
+
+  again_follows : Follows w l (standing Streams w (gone w l)) []
+  unfolding Follows
+  again_follows =
+      rw (none_left w l.streams)
+      (woken_end Streams w (gone w l) ∙ (without_absent w (without_waiter w l.woken) (none_left w l.woken) ∙ sym (append-nil (without_waiter w l.woken))))
+
+  follow_cases : Cases w l (λ m names. Follows w l m names)
+  follow_cases = record { left = λ news brief line. left_follows news line; stands = stands_follows; takes = takes_follows; leaves = leaves_follows; again = again_follows }
+
+first_absent : (w : Waiter) (ws : List Waiter) → times w (w ∷ ws) ≤ 1 → is_among w ws ≡ false
+first_absent w ws h = by (decided (is_among w ws))
+  where
+    here : times w (w ∷ ws) ≡ suc (times w ws)
+    here = rw (same_refl w) refl
+
+    by : (is_among w ws ≡ true) ⊎ (is_among w ws ≡ false) → is_among w ws ≡ false
+    by (inr t) = t
+    by (inl t) = absurd (let one = among_counts w ws t in omega (arith, h, here, one))
+
+without_first : (w : Waiter) (ws : List Waiter) → slice_get ws 0 ≡ Some w → times w ws ≤ 1 → without_waiter w ws ≡ drop 1 ws
+without_first w [] e h = refl
+without_first w (x ∷ xs) e h =
+    let same : w ≡ x = cc e in
+    let absent : is_among w xs ≡ false = first_absent w xs (subst (λ (v : Waiter). times w (v ∷ xs) ≤ 1) (sym same) h) in
+    subst (λ (v : Waiter). without_waiter w (v ∷ xs) ≡ xs) same (rw (same_refl w) (without_absent w xs absent))
+
+-- so whoever settles may keep the woken in a queue of its own
+pub woken_next : {T : Type 0} → (s : State T) → AwakeIn s → (w : Waiter) (a : Answer T) → slice_get s.waiting.woken 0 ≡ Some w → Answers s (poll_of w) a
+    → a.after.waiting.woken ≡ drop 1 s.waiting.woken ++ a.woken
+unfolding Follows
+woken_next s awake w a front answers =
+    let e = first_there w s.waiting.woken front in
+    let all : times w s.waiting.sends + times w s.waiting.receives + times w s.waiting.streams + times w s.waiting.closings + times w s.waiting.woken ≤ 1 = awake.placed.once w in
+    let f : a.after.waiting.woken ≡ without_waiter w s.waiting.woken ++ a.woken =
+    poll_cases s (λ m names. Follows w s.waiting m names) awake w a e answers (follow_cases (line_at s.names) w s.waiting awake.placed e) in
+    f ∙ ap (λ (ws : List Waiter). ws ++ a.woken) (without_first w s.waiting.woken front (omega (arith, all)))
+
+-- ---- how many are woken by one poll
+
+pub first_one : (ws : List Waiter) → length (take 1 ws) ≤ 1
+first_one [] = omega arith
+first_one (w ∷ ws) = omega arith
+
+pub few_first : (b : Bool) (line : Line) (l : Waiting) → length (told_by (if b then NextIn line else Nothing) l) ≤ 1
+few_first true line l = first_one (untold line l)
+few_first false line l = omega arith
+
+pub few_passed : (line : Line) (w : Waiter) (l m : Waiting) → length (told_by (passed_on line w l) m) ≤ 1
+few_passed Sends w l m = few_first (is_among w l.woken) Sends m
+few_passed Receives w l m = few_first (is_among w l.woken) Receives m
+few_passed Streams w l m = few_first (is_among w l.woken && not (list_any is_stream (without_waiter w l.woken))) Streams m
+few_passed Closings w l m = omega arith
+
+-- ---- how many polls are left
+
+pairs_up : (m n : ℕ) → m ≤ n → pairs m ≤ pairs n
+pairs_up zero n h = omega arith
+pairs_up (suc m) zero h = absurd (omega (arith, h))
+pairs_up (suc m) (suc n) h = let i = pairs_up m n (omega (arith, h)) in omega (arith, h, i)
+
+-- w(w+1)/2
+twice_pairs : (w : ℕ) → 2 * (pairs w + w) ≡ w * (w + 1)
+twice_pairs zero = refl
+twice_pairs (suc n) =
+    let i = twice_pairs n in
+    let a = suc-mul n (suc n + 1) in
+    let b = mul-suc n (n + 1) in
+    let same : suc n + 1 ≡ suc (n + 1) = omega arith in
+    let c : n * (suc n + 1) ≡ n * suc (n + 1) = ap (λ x. n * x) same in
+    omega (arith, i, a, b, c)
+
+woken_few : (l : Waiting) → length l.woken ≤ pending_count l
+woken_few l = omega arith
+
+pub fewer_left : (l m : Waiting) → 1 ≤ length l.woken → Nearer l m → suc (polls_left m) ≤ polls_left l
+unfolding Nearer
+fewer_left l m some (inr (h, k)) = let p = pairs_up (pending_count m) (pending_count l) h in omega (arith, p, k)
+fewer_left l m some (inl h) =
+    let p = pairs_up (suc (pending_count m)) (pending_count l) h in
+    let q = woken_few m in
+    omega (arith, p, q, some)
+
+few_woken : (k : Kind) (line : Line) (n : ℕ) (l : Waiting) → l.woken ≡ [] → Enough k line n l → (untold line l ≡ []) ⊎ (n ≡ 0)
+few_woken k line n l none (inl e) = inl e
+few_woken k line n l none (inr h) =
+    let nobody = ap (λ (ws : List Waiter). count_of k line ws) none in inr (omega (arith, h, nobody))
+
+-- ---- settling
+
+module _ {T : Type 0} where
+  pub record Polled (s t : State T) (n : ℕ) : Type 0 where
+    pub awake : AwakeIn t
+    pub left : n + polls_left t.waiting ≤ polls_left s.waiting
+
+  pub polled : (s t : State T) (ps : List (Waiter × Reply T)) → AwakeIn s → SettlesTo s ps t → Polled s t (length ps)
+  polled s t [] awake same = record {
+    awake = subst (λ (x : State T). AwakeIn x) (sym same) awake;
+    left = subst (λ (x : State T). 0 + polls_left x.waiting ≤ polls_left s.waiting) (sym same) (omega arith);
+  }
+  polled s t (p ∷ ps) awake (front, (mid, names, answers, more)) =
+      let a : Answer T = record { after = mid; reply = p.1; woken = names } in
+      let near = nearer s awake p.0 a (first_there p.0 s.waiting.woken front) answers in
+      let fewer = fewer_left s.waiting mid.waiting (first_some p.0 s.waiting.woken front) near in
+      let on = polled mid t ps (poll_awake s p.0 a awake answers) more in
+      let left = on.left in
+      record { awake = on.awake; left = omega (arith, fewer, left) }
+
+  pub settling_ends : (s t : State T) (ps : List (Waiter × Reply T)) → AwakeIn s → SettlesTo s ps t
+      → 2 * length ps ≤ pending_count s.waiting * (pending_count s.waiting + 1)
+  settling_ends s t ps awake settles =
+      let on = polled s t ps awake settles in
+      let left = on.left in
+      let few = woken_few s.waiting in
+      let twice = twice_pairs (pending_count s.waiting) in
+      omega (arith, left, few, twice)
+
+  pub settles_to : (s t : State T) (ps : List (Waiter × Reply T)) → Settles s ps t → SettlesTo s ps t × (t.waiting.woken ≡ [])
+  settles_to s t [] (none, same) = (same, ap (λ (x : State T). x.waiting.woken) same ∙ none)
+  settles_to s t (p ∷ ps) (front, (mid, names, answers, more)) = let on = settles_to mid t ps more in ((front, (mid, names, answers, on.0)), on.1)
+
+  -- one more poll may follow where anybody is woken
+  pub settle_more : (s t u : State T) (ps : List (Waiter × Reply T)) (w : Waiter) (r : Reply T) (names : List Waiter)
+      → SettlesTo s ps t → slice_get t.waiting.woken 0 ≡ Some w → Answers t (poll_of w) (record { after = u; reply = r; woken = names })
+      → SettlesTo s (ps ++ (w, r) ∷ []) u
+  settle_more s t u [] w r names same front answers =
+      let here : slice_get s.waiting.woken 0 ≡ Some w = subst (λ (x : State T). slice_get x.waiting.woken 0 ≡ Some w) same front in
+      let says : Answers s (poll_of w) (record { after = u; reply = r; woken = names }) =
+      subst (λ (x : State T). Answers x (poll_of w) (record { after = u; reply = r; woken = names })) same answers in
+      (here, (u, names, says, refl))
+  settle_more s t u (p ∷ ps) w r names (f, (mid, ns, a, more)) front answers =
+      (f, (mid, ns, a, settle_more mid t u ps w r names more front answers))
+
+  pub settle_ends : (s t : State T) (ps : List (Waiter × Reply T)) → SettlesTo s ps t → t.waiting.woken ≡ [] → Settles s ps t
+  settle_ends s t [] same none = (ap (λ (x : State T). x.waiting.woken) (sym same) ∙ none, same)
+  settle_ends s t (p ∷ ps) (f, (mid, ns, a, more)) none = (f, (mid, ns, a, settle_ends mid t ps more none))
+
+  -- ---- with ample memory there is one settling
+
+  -- ---- at rest
+
+  pub at_rest : (s t : State T) (ps : List (Waiter × Reply T)) → AwakeIn s → Settles s ps t → (t.waiting.woken ≡ []) × NobodyGoesOn t
+  at_rest s t ps awake settles =
+      let to = settles_to s t ps settles in
+      let a = (polled s t ps awake to.0).awake in
+      let k = line_at t.names in
+      let n = length t.channel.messages in (
+        to.1,
+        record {
+          receives = few_woken k Receives n t.waiting to.1 a.receives;
+          sends = λ o. few_woken k Sends (free_places t.channel.capacity n) t.waiting to.1 (a.sends o);
+          unbounded = a.unbounded;
+          streams = a.streams;
+          opened = a.opened;
+        },
+      )

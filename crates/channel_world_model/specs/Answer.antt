@@ -1,0 +1,291 @@
+-- What a call answers and leaves, when calls are made one at a time and memory is ample: a function of state and call.
+use Rattle.std.specs.Prelude.{ℕ, zero, suc, take, drop, ◌+◌, ◌-◌, ◌^◌, ◌==◌, nat_lt, List, [], ◌∷◌, ◌++◌, length, ◌&&◌, ◌||◌, Bool, true, false, not, Option, None, Some, is_none, Ok, Err, if◌then◌else◌}
+use Rattle.channel_world_model.specs.Channel.{ModelChannel, is_full, appended, with_messages}
+use Rattle.channel_world_model.specs.Names.{ModelOperation, send, recv, closing, at, with_new, with_spent, without_name, with_handles, with_new_operation, with_operation_changed, without_operation}
+use Rattle.channel_world_model.specs.Lines.{is_among, told_by, after_news, after_rooms, told_by_rooms, gone, left_after, told_after, standing}
+use Rattle.channel_world_model.specs.State.{State, with_channel, with_names, with_waiting}
+use Rattle.channel_world_model.specs.declared.call.Call.{Call}
+use Rattle.channel_world_model.specs.declared.call.Call.TheVariants as call
+use Rattle.channel_calls.specs.declared.reply.Reply.{Reply}
+use Rattle.channel_calls.specs.declared.reply.Reply.TheVariants as reply
+use Rattle.channel_calls.specs.declared.stage.Line.{Line}
+use Rattle.channel_calls.specs.declared.stage.Line.TheVariants.{Sends, Receives, Streams, Closings}
+use Rattle.channel_world_model.specs.declared.news.News.{News}
+use Rattle.channel_world_model.specs.declared.news.News.TheVariants.{Nothing, Message, Room, Closing}
+use Rattle.channel_world_model.specs.declared.space.Space.{Space}
+use Rattle.channel_world_model.specs.declared.space.Space.TheVariants.{Open, Filled, Shut}
+use Rattle.channel_world_model.specs.declared.name.Waiter.{Waiter}
+use Rattle.channel_world_model.specs.declared.name.Waiter.TheVariants.{Op, Stream}
+use Rattle.channel_world_model.specs.declared.name.OpId.{OpId}
+use Rattle.channel_world_model.specs.declared.name.HandleId.{HandleId}
+use Rattle.channel_world_model.specs.declared.name.HandleKind.{HandleKind}
+use Rattle.channel_world_model.specs.declared.name.HandleKind.TheVariants.{Sender, Receiver, WeakSender, WeakReceiver}
+use Rattle.channel_world_model.specs.declared.name.Handle.{Handle}
+use Rattle.channel_calls.specs.declared.error.Refused.TheVariants.{Plain, NoMemory}
+use Rattle.event_listener.specs.declared.error.ListenError.TheVariants as listen
+use Rattle.channel_calls.specs.declared.error.TrySendError.TheVariants as try_send
+use Rattle.channel_calls.specs.declared.error.TryRecvError.TheVariants as try_recv
+use Rattle.futures.specs.declared.task.Poll.TheVariants.{Ready, Pending}
+
+-- the state that a call leaves, its reply, and whom it woke, in order
+pub record Answer (T : Type 0) : Type 0 where
+  pub after : State T
+  pub reply : Reply T
+  pub woken : List Waiter
+
+-- ---- how an answer is put together
+
+-- nobody is told
+abbrev pub replying : {T : Type 0} → State T → Reply T → Answer T
+replying s r = record { after = s; reply = r; woken = [] }
+
+-- these news are told
+abbrev pub after_telling : {T : Type 0} → News → State T → Reply T → Answer T
+after_telling news s r = record { after = with_waiting (after_news news s.waiting) s; reply = r; woken = told_by news s.waiting }
+
+-- these news are told, and then w leaves its line and passes on what it was told
+abbrev pub after_leaving : {T : Type 0} → News → Line → Waiter → State T → Reply T → Answer T
+after_leaving news line w s r = record { after = with_waiting (left_after news line w s.waiting) s; reply = r; woken = told_after news line w s.waiting }
+
+-- so many places became free at once
+abbrev pub telling_rooms : {T : Type 0} → ℕ → State T → Reply T → Answer T
+telling_rooms n s r = record { after = with_waiting (after_rooms n s.waiting) s; reply = r; woken = told_by_rooms n s.waiting }
+
+-- w stands in its line
+abbrev pub pending : {T : Type 0} → Line → Waiter → State T → Reply T → Answer T
+pending line w s r = replying (with_waiting (standing line w s.waiting) s) r
+
+-- ---- what a sending and a taking find
+
+abbrev pub space_of : {T : Type 0} → ModelChannel T → Space
+space_of c = if c.closed then Shut else (if is_full c then Filled else Open)
+
+-- the oldest message and those after it, or none: not yet, or never again
+pub data Found (T : Type 0) : Type 0 where
+  first : T → List T → Found T
+  none_yet : Found T
+  none_ever : Found T
+
+abbrev pub found_in : {T : Type 0} → List T → Bool → Found T
+found_in (m ∷ ms) closed = first m ms
+found_in [] true = none_ever
+found_in [] false = none_yet
+
+abbrev pub found : {T : Type 0} → ModelChannel T → Found T
+found c = found_in c.messages c.closed
+
+-- ---- sending
+
+abbrev pub try_send_answer : {T : Type 0} → State T → T → Space → Answer T
+try_send_answer s m Open = after_telling Message (with_channel (appended s.channel m) s) (reply.TrySend (Ok tt))
+try_send_answer s m Filled = replying s (reply.TrySend (Err (Plain (try_send.Full m))))
+try_send_answer s m Shut = replying s (reply.TrySend (Err (Plain (try_send.Closed m))))
+
+-- The oldest message makes place for the new one. That is no taking: no send is told.
+abbrev pub displacing : {T : Type 0} → State T → T → List T → Answer T
+displacing s m [] = after_telling Message (with_channel (appended s.channel m) s) (reply.ForceSend (Ok None))
+displacing s m (oldest ∷ ms) = after_telling Message (with_channel (with_messages s.channel (ms ++ m ∷ [])) s) (reply.ForceSend (Ok (Some oldest)))
+
+abbrev pub force_send_answer : {T : Type 0} → State T → T → Space → Answer T
+force_send_answer s m Open = after_telling Message (with_channel (appended s.channel m) s) (reply.ForceSend (Ok None))
+force_send_answer s m Filled = displacing s m s.channel.messages
+force_send_answer s m Shut = replying s (reply.ForceSend (Err (Plain (record { 0 = m }))))
+
+-- the send has its message no more
+abbrev pub finished : {T : Type 0} → State T → OpId → HandleId → State T
+finished s op handle = with_names (with_operation_changed op (send handle None) s.names) s
+
+-- a send that has its message
+abbrev pub send_poll_answer : {T : Type 0} → State T → OpId → HandleId → T → Space → Answer T
+send_poll_answer s op handle m Open =
+    after_leaving Message Sends (Op op) (with_channel (appended s.channel m) (finished s op handle)) (reply.SendPoll (Ready (Ok tt)))
+send_poll_answer s op handle m Filled = pending Sends (Op op) s (reply.SendPoll Pending)
+send_poll_answer s op handle m Shut = after_leaving Nothing Sends (Op op) (finished s op handle) (reply.SendPoll (Ready (Err (Plain (record { 0 = m })))))
+
+-- ---- receiving
+
+abbrev pub try_recv_answer : {T : Type 0} → State T → Found T → Answer T
+try_recv_answer s (first m ms) = after_telling Room (with_channel (with_messages s.channel ms) s) (reply.TryRecv (Ok m))
+try_recv_answer s none_yet = replying s (reply.TryRecv (Err try_recv.Empty))
+try_recv_answer s none_ever = replying s (reply.TryRecv (Err try_recv.Closed))
+
+-- so many messages at most: these, out of the channel that holds the rest; none are none yet or never again
+abbrev pub recv_many_answer : {T : Type 0} → State T → ℕ → List T → List T → Answer T
+recv_many_answer s zero ms rest = replying s (reply.RecvMany (Ok []))
+recv_many_answer s (suc n) [] rest = replying s (reply.RecvMany (Err (Plain (if s.channel.closed then try_recv.Closed else try_recv.Empty))))
+recv_many_answer s (suc n) (m ∷ ms) rest = telling_rooms (length (m ∷ ms)) (with_channel (with_messages s.channel rest) s) (reply.RecvMany (Ok (m ∷ ms)))
+
+abbrev pub recv_poll_answer : {T : Type 0} → State T → OpId → Found T → Answer T
+recv_poll_answer s op (first m ms) = after_leaving Room Receives (Op op) (with_channel (with_messages s.channel ms) s) (reply.RecvPoll (Ready (Ok m)))
+recv_poll_answer s op none_yet = pending Receives (Op op) s (reply.RecvPoll Pending)
+recv_poll_answer s op none_ever = after_leaving Nothing Receives (Op op) s (reply.RecvPoll (Ready (Err (Plain (record {})))))
+
+-- A stream that is not standing untold. What it was told is used up by this poll, and passed on to nobody.
+abbrev pub next_answer : {T : Type 0} → State T → HandleId → Found T → Answer T
+next_answer s receiver (first m ms) = after_telling Room (with_channel (with_messages s.channel ms) s) (reply.Next (Ready (Some (Ok m))))
+next_answer s receiver none_yet = pending Streams (Stream receiver) s (reply.Next Pending)
+next_answer s receiver none_ever = replying s (reply.Next (Ready None))
+
+abbrev pub poll_next_answer : {T : Type 0} → State T → HandleId → Answer T
+poll_next_answer s receiver =
+    if is_among (Stream receiver) s.waiting.streams then replying s (reply.Next Pending)
+    else next_answer (with_waiting (gone (Stream receiver) s.waiting) s) receiver (found s.channel)
+
+-- ---- closing
+
+abbrev pub shut : {T : Type 0} → ModelChannel T → ModelChannel T
+shut c = record c { closed = true }
+
+abbrev pub close_answer : {T : Type 0} → State T → Answer T
+close_answer s = if s.channel.closed then replying s (reply.Closed false) else after_telling Closing (with_channel (shut s.channel) s) (reply.Closed true)
+
+abbrev pub closed_poll_answer : {T : Type 0} → State T → OpId → Answer T
+closed_poll_answer s op =
+    if s.channel.closed then after_leaving Nothing Closings (Op op) s (reply.ClosedPoll (Ready (Ok tt)))
+    else pending Closings (Op op) s (reply.ClosedPoll Pending)
+
+-- ---- operations
+
+-- a finished send stays pending, and stands in no line
+abbrev pub poll_answer : {T : Type 0} → State T → OpId → Option (ModelOperation T) → Answer T
+poll_answer s op (Some (send handle (Some m))) = send_poll_answer s op handle m (space_of s.channel)
+poll_answer s op (Some (send handle None)) = replying s (reply.SendPoll Pending)
+poll_answer s op (Some (recv handle)) = recv_poll_answer s op (found s.channel)
+poll_answer s op (Some (closing handle)) = closed_poll_answer s op
+poll_answer s op None = replying s reply.Unit
+
+-- a poll whose copy of the waker was refused: it leaves its line, and a send keeps its message
+abbrev pub poll_refused_answer : {T : Type 0} → State T → OpId → Option (ModelOperation T) → Answer T
+poll_refused_answer s op (Some (send handle msg)) = after_leaving Nothing Sends (Op op) s (reply.SendPoll (Ready (Err (NoMemory tt))))
+poll_refused_answer s op (Some (recv handle)) = after_leaving Nothing Receives (Op op) s (reply.RecvPoll (Ready (Err (NoMemory tt))))
+poll_refused_answer s op (Some (closing handle)) = after_leaving Nothing Closings (Op op) s (reply.ClosedPoll (Ready (Err listen.NoMemory)))
+poll_refused_answer s op None = replying s reply.Unit
+
+-- the operation that is given up lives no more
+abbrev pub given_up : {T : Type 0} → State T → OpId → ModelOperation T → State T
+given_up s op operation = with_names (without_operation op operation s.names) s
+
+abbrev pub give_up_answer : {T : Type 0} → State T → OpId → Option (ModelOperation T) → Answer T
+give_up_answer s op (Some (send handle msg)) = after_leaving Nothing Sends (Op op) (given_up s op (send handle msg)) (reply.GivenUp msg)
+give_up_answer s op (Some (recv handle)) = after_leaving Nothing Receives (Op op) (given_up s op (recv handle)) (reply.GivenUp None)
+give_up_answer s op (Some (closing handle)) = after_leaving Nothing Closings (Op op) (given_up s op (closing handle)) (reply.GivenUp None)
+give_up_answer s op None = replying s reply.Unit
+
+abbrev pub is_finished : {T : Type 0} → Option (ModelOperation T) → Bool
+is_finished (Some (send handle msg)) = is_none msg
+is_finished operation = false
+
+-- a new operation, which is not polled yet
+abbrev pub new_answer : {T : Type 0} → State T → OpId → ModelOperation T → Answer T
+new_answer s op operation = replying (with_names (with_new_operation op operation s.names) s) reply.Made
+
+-- ---- handles
+
+-- how many strong handles of this kind there are
+abbrev pub strong_handles : {T : Type 0} → HandleKind → ModelChannel T → ℕ
+strong_handles Sender c = c.senders
+strong_handles Receiver c = c.receivers
+strong_handles WeakSender c = 0
+strong_handles WeakReceiver c = 0
+
+abbrev pub with_strong_handles : {T : Type 0} → HandleKind → ℕ → ModelChannel T → ModelChannel T
+with_strong_handles Sender n c = record c { senders = n }
+with_strong_handles Receiver n c = record c { receivers = n }
+with_strong_handles WeakSender n c = c
+with_strong_handles WeakReceiver n c = c
+
+-- the channel after a strong handle of this kind is gone: the last one closes it
+abbrev pub without_one : {T : Type 0} → HandleKind → ModelChannel T → ModelChannel T
+without_one kind c = let left = with_strong_handles kind (strong_handles kind c - 1) c in if strong_handles kind c == 1 then shut left else left
+
+abbrev pub news_without_one : {T : Type 0} → HandleKind → ModelChannel T → News
+news_without_one kind c = if (strong_handles kind c == 1) && not c.closed then Closing else Nothing
+
+-- a receiver's own stream leaves after the closing
+abbrev pub drop_one : {T : Type 0} → State T → HandleId → HandleKind → Answer T
+drop_one s handle Sender = after_telling (news_without_one Sender s.channel) (with_channel (without_one Sender s.channel) s) reply.Unit
+drop_one s handle Receiver =
+    after_leaving (news_without_one Receiver s.channel) Streams (Stream handle) (with_channel (without_one Receiver s.channel) s) reply.Unit
+drop_one s handle WeakSender = replying s reply.Unit
+drop_one s handle WeakReceiver = replying s reply.Unit
+
+abbrev pub dropped : {T : Type 0} → State T → HandleId → State T
+dropped s handle = with_names (with_handles (without_name handle.0 s.names.handles) s.names) s
+
+abbrev pub drop_answer : {T : Type 0} → State T → HandleId → Option Handle → Answer T
+drop_answer s handle (Some h) = drop_one (dropped s handle) handle h.kind
+drop_answer s handle None = replying s reply.Unit
+
+abbrev pub made : {T : Type 0} → State T → HandleId → HandleKind → State T
+made s new kind = with_names (with_handles (with_new new.0 (record { kind = kind; borrowers = 0 }) s.names.handles) s.names) s
+
+-- nothing ever lives under the new name
+abbrev pub spent : {T : Type 0} → State T → HandleId → State T
+spent s new = with_names (with_handles (with_spent new.0 s.names.handles) s.names) s
+
+-- a new handle of this kind; no strong one is made where there are more than half of all numbers already
+abbrev pub one_more : {T : Type 0} → State T → HandleId → HandleKind → Answer T
+one_more s new kind =
+    let n = strong_handles kind s.channel in
+    if nat_lt (2 ^ 63 - 1) n then replying (spent s new) reply.TooMany
+    else replying (with_channel (with_strong_handles kind (n + 1) s.channel) (made s new kind)) reply.Made
+
+abbrev pub clone_answer : {T : Type 0} → State T → HandleId → Option Handle → Answer T
+clone_answer s new (Some h) = one_more s new h.kind
+clone_answer s new None = replying s reply.Unit
+
+abbrev pub weak_of : HandleKind → HandleKind
+weak_of Sender = WeakSender
+weak_of Receiver = WeakReceiver
+weak_of WeakSender = WeakSender
+weak_of WeakReceiver = WeakReceiver
+
+abbrev pub downgrade_answer : {T : Type 0} → State T → HandleId → Option Handle → Answer T
+downgrade_answer s new (Some h) = replying (made s new (weak_of h.kind)) reply.Made
+downgrade_answer s new None = replying s reply.Unit
+
+-- a strong handle of this kind, while the channel is open and such a handle lives
+abbrev pub upgrade_to : {T : Type 0} → State T → HandleId → HandleKind → Answer T
+upgrade_to s new kind =
+    if s.channel.closed || (strong_handles kind s.channel == 0) then replying (spent s new) reply.NotMade
+    else one_more s new kind
+
+abbrev pub strong_of : HandleKind → HandleKind
+strong_of WeakSender = Sender
+strong_of WeakReceiver = Receiver
+strong_of Sender = Sender
+strong_of Receiver = Receiver
+
+abbrev pub upgrade_answer : {T : Type 0} → State T → HandleId → Option Handle → Answer T
+upgrade_answer s new (Some h) = upgrade_to s new (strong_of h.kind)
+upgrade_answer s new None = replying s reply.Unit
+
+-- ---- the calls
+
+abbrev pub answer : {T : Type 0} → State T → Call T → Answer T
+answer s (call.NewSend op sender msg) = new_answer s op (send sender (Some msg))
+answer s (call.NewRecv op receiver) = new_answer s op (recv receiver)
+answer s (call.NewClosed op sender) = new_answer s op (closing sender)
+answer s (call.Poll op) = poll_answer s op (at op.0 s.names.operations)
+answer s (call.PollRefused op) = poll_refused_answer s op (at op.0 s.names.operations)
+answer s (call.GiveUp op) = give_up_answer s op (at op.0 s.names.operations)
+answer s (call.SendIsTerminated op) = replying s (reply.Flag (is_finished (at op.0 s.names.operations)))
+answer s (call.PollNext receiver) = poll_next_answer s receiver
+answer s (call.StreamIsTerminated receiver) = replying s (reply.Flag (s.channel.closed && (length s.channel.messages == 0)))
+answer s (call.TrySend sender msg) = try_send_answer s msg (space_of s.channel)
+answer s (call.ForceSend sender msg) = force_send_answer s msg (space_of s.channel)
+answer s (call.TryRecv receiver) = try_recv_answer s (found s.channel)
+answer s (call.RecvMany receiver limit) = recv_many_answer s limit (take limit s.channel.messages) (drop limit s.channel.messages)
+answer s (call.Close handle) = close_answer s
+answer s (call.Drop handle) = drop_answer s handle (at handle.0 s.names.handles)
+answer s (call.TryClone handle new) = clone_answer s new (at handle.0 s.names.handles)
+answer s (call.Downgrade handle new) = downgrade_answer s new (at handle.0 s.names.handles)
+answer s (call.Upgrade weak new) = upgrade_answer s new (at weak.0 s.names.handles)
+answer s (call.SameChannel a b) = replying s (reply.Flag true)
+answer s (call.IsClosed handle) = replying s (reply.Flag s.channel.closed)
+answer s (call.IsEmpty handle) = replying s (reply.Flag (length s.channel.messages == 0))
+answer s (call.IsFull handle) = replying s (reply.Flag (is_full s.channel))
+answer s (call.Len handle) = replying s (reply.Count (length s.channel.messages))
+answer s (call.Capacity handle) = replying s (reply.Cap s.channel.capacity)
+answer s (call.SenderCount handle) = replying s (reply.Count s.channel.senders)
+answer s (call.ReceiverCount handle) = replying s (reply.Count s.channel.receivers)

@@ -1,0 +1,122 @@
+-- What a call by names asks of its channel.
+use Rattle.std.specs.Prelude.{true, Option, None, Some}
+use Rattle.channel_calls.specs.Asks.{lent}
+use Rattle.channel_calls.specs.declared.ask.ChannelAsk.{ChannelAsk}
+use Rattle.channel_calls.specs.declared.ask.ChannelAsk.TheVariants as ask
+use Rattle.channel_calls.specs.declared.stage.Line.TheVariants as list
+use Rattle.channel_calls.specs.declared.stage.Side.TheVariants.{Senders, Receivers}
+use Rattle.channel_world_model.specs.Names.{Names, ModelOperation, send, recv, closing, at}
+use Rattle.channel_world_model.specs.Answer.{is_finished}
+use Rattle.channel_world_model.specs.declared.call.Call.{Call}
+use Rattle.channel_world_model.specs.declared.call.Call.TheVariants as call
+use Rattle.channel_world_model.specs.declared.name.HandleKind.TheVariants.{Sender, Receiver, WeakSender, WeakReceiver}
+use Rattle.channel_world_model.specs.declared.name.HandleId.{HandleId}
+use Rattle.channel_world_model.specs.declared.name.OpId.{OpId}
+use Rattle.channel_world_model.specs.declared.name.Waiter.{Waiter}
+use Rattle.channel_world_model.specs.declared.name.Waiter.TheVariants.{Op, Stream}
+use Rattle.channel_world_model.specs.declared.name.Handle.{Handle}
+use Rattle.event_listener.specs.declared.key.Key.{Key}
+
+-- the key of the listener that an operation or a stream holds
+abbrev pub KeysHeld : Type 0
+KeysHeld = Waiter → Option Key
+
+-- ---- asks
+
+-- who keeps the listener that a receiver's own stream leaves
+abbrev pub stream_of : HandleId → Option Handle → Option Waiter
+stream_of handle None = None
+stream_of handle (Some h) = elim h.kind [
+  | Sender ↦ None
+  | Receiver ↦ Some (Stream handle)
+  | WeakSender ↦ None
+  | WeakReceiver ↦ None
+]
+
+module _ {T : Type 0} where
+  -- of an operation; a world never asks for one that doesn't live
+  abbrev pub poll_asked : KeysHeld → OpId → Option (ModelOperation T) → ChannelAsk T Waiter
+  poll_asked held op (Some (send handle (Some m))) = ask.PollSend m (lent (held (Op op))) (Op op)
+  poll_asked held op (Some (send handle None)) = ask.PollFinishedSend
+  poll_asked held op (Some (recv handle)) = ask.PollRecv (lent (held (Op op))) (Op op)
+  poll_asked held op (Some (closing handle)) = ask.PollClosed (held (Op op)) (Op op)
+  poll_asked held op None = ask.Make
+
+  abbrev pub refusal_asked : KeysHeld → OpId → Option (ModelOperation T) → ChannelAsk T Waiter
+  refusal_asked held op (Some (send handle msg)) = ask.RefusePoll list.Sends msg (held (Op op))
+  refusal_asked held op (Some (recv handle)) = ask.RefusePoll list.Receives None (held (Op op))
+  refusal_asked held op (Some (closing handle)) = ask.RefusePoll list.Closings None (held (Op op))
+  refusal_asked held op None = ask.Make
+
+  abbrev pub giving_up_asked : KeysHeld → OpId → Option (ModelOperation T) → ChannelAsk T Waiter
+  giving_up_asked held op (Some (send handle msg)) = ask.GiveUp list.Sends msg (held (Op op))
+  giving_up_asked held op (Some (recv handle)) = ask.GiveUp list.Receives None (held (Op op))
+  giving_up_asked held op (Some (closing handle)) = ask.GiveUp list.Closings None (held (Op op))
+  giving_up_asked held op None = ask.Make
+
+  -- of a handle
+  abbrev pub drop_asked : KeysHeld → HandleId → Option Handle → ChannelAsk T Waiter
+  drop_asked held handle None = ask.Make
+  drop_asked held handle (Some h) = elim h.kind [
+    | Sender ↦ ask.DropSender
+    | Receiver ↦ ask.DropReceiver (held (Stream handle))
+    | WeakSender ↦ ask.DropWeak
+    | WeakReceiver ↦ ask.DropWeak
+  ]
+
+  abbrev pub clone_asked : Option Handle → ChannelAsk T Waiter
+  clone_asked None = ask.Make
+  clone_asked (Some h) = elim h.kind [
+    | Sender ↦ ask.CloneHandle Senders
+    | Receiver ↦ ask.CloneHandle Receivers
+    | WeakSender ↦ ask.Make
+    | WeakReceiver ↦ ask.Make
+  ]
+
+  abbrev pub upgrade_asked : Option Handle → ChannelAsk T Waiter
+  upgrade_asked None = ask.Make
+  upgrade_asked (Some h) = elim h.kind [
+    | Sender ↦ ask.Upgrade Senders
+    | Receiver ↦ ask.Upgrade Receivers
+    | WeakSender ↦ ask.Upgrade Senders
+    | WeakReceiver ↦ ask.Upgrade Receivers
+  ]
+
+  -- of a call that asks and changes nothing; one that makes an operation or a weak handle asks nothing
+  abbrev pub question_asked : Call T → ChannelAsk T Waiter
+  question_asked (call.StreamIsTerminated receiver) = ask.IsTerminated
+  question_asked (call.SameChannel a b) = ask.SameChannel true
+  question_asked (call.IsClosed handle) = ask.IsClosed
+  question_asked (call.IsEmpty handle) = ask.IsEmpty
+  question_asked (call.IsFull handle) = ask.IsFull
+  question_asked (call.Len handle) = ask.Len
+  question_asked (call.Capacity handle) = ask.Capacity
+  question_asked (call.SenderCount handle) = ask.HandleCount Senders
+  question_asked (call.ReceiverCount handle) = ask.HandleCount Receivers
+  question_asked c = ask.Make
+
+  -- what a call asks of the channel
+  abbrev pub asked : KeysHeld → Names T → Call T → ChannelAsk T Waiter
+  asked held names (call.Poll op) = poll_asked held op (at op.0 names.operations)
+  asked held names (call.PollRefused op) = refusal_asked held op (at op.0 names.operations)
+  asked held names (call.GiveUp op) = giving_up_asked held op (at op.0 names.operations)
+  asked held names (call.SendIsTerminated op) = ask.SendIsTerminated (is_finished (at op.0 names.operations))
+  asked held names (call.PollNext receiver) = ask.PollNext (held (Stream receiver)) (Stream receiver)
+  asked held names (call.TrySend sender msg) = ask.TrySend msg
+  asked held names (call.ForceSend sender msg) = ask.ForceSend msg
+  asked held names (call.TryRecv receiver) = ask.TryRecv
+  asked held names (call.RecvMany receiver limit) = ask.RecvMany limit
+  asked held names (call.Close handle) = ask.Close
+  asked held names (call.Drop handle) = drop_asked held handle (at handle.0 names.handles)
+  asked held names (call.TryClone handle new) = clone_asked (at handle.0 names.handles)
+  asked held names (call.Upgrade weak new) = upgrade_asked (at weak.0 names.handles)
+  asked held names c = question_asked c
+
+  -- who keeps the listener that a call leaves, if any does
+  abbrev pub keeper_in : Names T → Call T → Option Waiter
+  keeper_in names (call.Poll op) = Some (Op op)
+  keeper_in names (call.PollRefused op) = Some (Op op)
+  keeper_in names (call.GiveUp op) = Some (Op op)
+  keeper_in names (call.PollNext receiver) = Some (Stream receiver)
+  keeper_in names (call.Drop handle) = stream_of handle (at handle.0 names.handles)
+  keeper_in names c = None

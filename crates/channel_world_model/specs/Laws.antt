@@ -1,0 +1,118 @@
+-- Two laws of all runs of calls, one at a time, from a channel that was just opened.
+use Rattle.std.specs.Prelude.{◌≡◌, ◌⊎◌, ◌≤◌, ◌-◌, ℕ, nat_eq, List, [], ◌∷◌, ◌++◌, length, Bool, true, false, Option, None, Some, Ok}
+use Rattle.std.specs.List.{filter}
+use Rattle.std.specs.Map.{lookup}
+use Rattle.std.specs.Option.{option_to_list}
+use Rattle.channel_world_model.specs.Names.{Names, ModelOperation, send, recv, closing, at}
+use Rattle.channel_world_model.specs.Lines.{untold}
+use Rattle.channel_world_model.specs.State.{State, start}
+use Rattle.channel_world_model.specs.declared.call.Call.{Call}
+use Rattle.channel_world_model.specs.declared.call.Call.TheVariants as call
+use Rattle.channel_calls.specs.declared.reply.Reply.{Reply}
+use Rattle.channel_calls.specs.declared.reply.Reply.TheVariants as reply
+use Rattle.channel_world_model.specs.Run.{Runs}
+use Rattle.channel_world_model.specs.declared.run.Done.{Done}
+use Rattle.channel_world_model.specs.declared.refusal.WorldRefusal.{WorldRefusal}
+use Rattle.channel_world_model.specs.declared.name.Waiter.{Waiter}
+use Rattle.channel_world_model.specs.declared.name.Waiter.TheVariants.{Op, Stream}
+use Rattle.channel_calls.specs.declared.stage.Line.{Line}
+use Rattle.channel_calls.specs.declared.stage.Line.TheVariants.{Sends, Receives, Streams, Closings}
+use Rattle.futures.specs.declared.task.Poll.TheVariants.{Ready}
+
+-- ---- nothing is lost, doubled or reordered
+
+-- what a call took out of the channel: messages that were received, or one that a send displaced
+abbrev pub removed_by : {T : Type 0} → Reply T → List T
+removed_by (reply.TryRecv (Ok m)) = m ∷ []
+removed_by (reply.RecvMany (Ok ms)) = ms
+removed_by (reply.RecvPoll (Ready (Ok m))) = m ∷ []
+removed_by (reply.Next (Ready (Some (Ok m)))) = m ∷ []
+removed_by (reply.ForceSend (Ok (Some m))) = m ∷ []
+removed_by r = []
+
+-- what a call brought into the channel; `sends` has the message of each polled send under its name
+abbrev pub brought_by_call : {T : Type 0} → List (ℕ × T) → Call T → Reply T → List T
+brought_by_call sends (call.TrySend sender m) (reply.TrySend (Ok u)) = m ∷ []
+brought_by_call sends (call.ForceSend sender m) (reply.ForceSend (Ok d)) = m ∷ []
+brought_by_call sends (call.Poll op) (reply.SendPoll (Ready (Ok u))) = option_to_list (lookup (nat_eq op.0) sends)
+brought_by_call sends c r = []
+
+-- the sends that were made, after this call
+abbrev pub sends_after : {T : Type 0} → List (ℕ × T) → Call T → List (ℕ × T)
+sends_after sends (call.NewSend op sender m) = (op.0, m) ∷ sends
+sends_after sends c = sends
+
+-- what the calls of a run took out, in order
+abbrev pub removed : {T : Type 0} → List (Done T) → List T
+removed [] = []
+removed (d ∷ ds) = removed_by d.reply ++ removed ds
+
+-- and what they brought in
+abbrev pub accepted : {T : Type 0} → List (ℕ × T) → List (Call T) → List (Done T) → List T
+accepted sends [] ds = []
+accepted sends (c ∷ cs) [] = []
+accepted sends (c ∷ cs) (d ∷ ds) = brought_by_call sends c d.reply ++ accepted (sends_after sends c) cs ds
+
+-- What was received or displaced, followed by what is held, is what was accepted, in order.
+abbrev pub NothingIsLost : Type 0 → Type 0
+NothingIsLost T =
+    (capacity : Option ℕ) (calls rest : List (Call T)) (done : List (Done T)) (why : Option WorldRefusal) (world : State T)
+    → Runs (start capacity) calls done why rest world
+    → removed done ++ world.channel.messages ≡ accepted [] calls done
+
+-- ---- nobody is left asleep
+
+-- the line that an operation belongs to while it is pending; a finished send is never pending
+abbrev pub line_of_operation : {T : Type 0} → Option (ModelOperation T) → Option Line
+line_of_operation (Some (send handle (Some m))) = Some Sends
+line_of_operation (Some (send handle None)) = None
+line_of_operation (Some (recv handle)) = Some Receives
+line_of_operation (Some (closing handle)) = Some Closings
+line_of_operation None = None
+
+abbrev pub line_at : {T : Type 0} → Names T → Waiter → Option Line
+line_at names (Op op) = line_of_operation (at op.0 names.operations)
+line_at names (Stream receiver) = Some Streams
+
+abbrev pub same_line : Line → Line → Bool
+same_line Sends Sends = true
+same_line Receives Receives = true
+same_line Streams Streams = true
+same_line Closings Closings = true
+same_line a b = false
+
+abbrev pub is_line : Line → Option Line → Bool
+is_line line None = false
+is_line line (Some other) = same_line line other
+
+-- how many of these names belong to the line
+abbrev pub count_of : (Waiter → Option Line) → Line → List Waiter → ℕ
+count_of kind line ws = length (filter (λ w. is_line line (kind w)) ws)
+
+-- how many pending names of a line are woken
+abbrev pub woken_of_line : {T : Type 0} → Line → State T → ℕ
+woken_of_line line s = count_of (line_at s.names) line s.waiting.woken
+
+-- how many more messages fit; of an unbounded channel none is counted, since no send ever waits there
+abbrev pub free_places : Option ℕ → ℕ → ℕ
+free_places None held = 0
+free_places (Some capacity) held = capacity - held
+
+-- Nobody stays pending and unwoken beside a message, a free place or a closing that no woken one answers for.
+pub record NobodyIsLeft {T : Type 0} (s : State T) : Type 0 where
+  -- beside an unwoken receive there are no more messages than woken receives
+  pub receives : (s.waiting.receives ≡ []) ⊎ (length s.channel.messages ≤ woken_of_line Receives s)
+  -- beside an unwoken send, while the channel is open, no more free places than woken sends
+  pub sends : s.channel.closed ≡ false → (s.waiting.sends ≡ []) ⊎ (free_places s.channel.capacity (length s.channel.messages) ≤ woken_of_line Sends s)
+  -- an unbounded channel keeps no send waiting
+  pub unbounded : s.channel.capacity ≡ None → s.waiting.sends ≡ []
+  -- beside an unwoken stream there is no message
+  pub streams : (s.waiting.streams ≡ []) ⊎ (length s.channel.messages ≡ 0)
+  -- whoever is unwoken waits on an open channel
+  pub opened : s.channel.closed ≡ true → (line : Line) → untold line s.waiting ≡ []
+
+abbrev pub NobodyIsLeftAsleep : Type 0 → Type 0
+NobodyIsLeftAsleep T =
+    (capacity : Option ℕ) (calls rest : List (Call T)) (done : List (Done T)) (why : Option WorldRefusal) (world : State T)
+    → Runs (start capacity) calls done why rest world
+    → NobodyIsLeft world

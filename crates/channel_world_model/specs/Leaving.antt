@@ -1,0 +1,55 @@
+-- In which order messages leave, and what becomes of those that are refused: calls made one at a time.
+use Rattle.std.specs.Prelude.{◌≡◌, ◌<◌, ℕ, List, [], length, Option, None, Some, Err, slice_get}
+use Rattle.channel_world_model.specs.Laws.{removed, accepted}
+use Rattle.channel_world_model.specs.Names.{ModelOperation, send, recv, closing, at}
+use Rattle.channel_world_model.specs.Run.{MayBeDone, Runs}
+use Rattle.channel_world_model.specs.State.{State, start}
+use Rattle.channel_world_model.specs.declared.call.Call.{Call}
+use Rattle.channel_world_model.specs.declared.call.Call.TheVariants as call
+use Rattle.channel_world_model.specs.declared.name.OpId.{OpId}
+use Rattle.channel_calls.specs.Errors.{unsent, handed_back, try_handed_back}
+use Rattle.channel_calls.specs.declared.error.Refused.TheVariants as refused
+use Rattle.channel_calls.specs.declared.reply.Reply.{Reply}
+use Rattle.channel_calls.specs.declared.reply.Reply.TheVariants as reply
+use Rattle.channel_world_model.specs.declared.refusal.WorldRefusal.{WorldRefusal}
+use Rattle.channel_world_model.specs.declared.run.Done.{Done}
+use Rattle.futures.specs.declared.task.Poll.TheVariants.{Ready, Pending}
+
+-- ---- order
+
+-- The message that leaves as the n-th is the one that was accepted as the n-th. So of two messages the one that was accepted
+-- later never leaves first.
+abbrev pub LeavesInTurn : Type 0 → Type 0
+LeavesInTurn T =
+    (capacity : Option ℕ) (calls rest : List (Call T)) (done : List (Done T)) (why : Option WorldRefusal) (world : State T)
+    → Runs (start capacity) calls done why rest world
+    → (n : ℕ) → n < length (removed done) → slice_get (removed done) n ≡ slice_get (accepted [] calls done) n
+
+-- ---- refused sends
+
+-- the message of the operation, if it is an unfinished send
+abbrev pub unsent_in : {T : Type 0} → Option (ModelOperation T) → Option T
+unsent_in (Some (send handle m)) = m
+unsent_in (Some (recv handle)) = None
+unsent_in (Some (closing handle)) = None
+unsent_in None = None
+
+abbrev pub unsent_at : {T : Type 0} → OpId → State T → Option T
+unsent_at op s = unsent_in (at op.0 s.names.operations)
+
+-- Where a send was refused, or waits, the channel is as it was, and the message is handed back by the answer or stays with the
+-- send's operation.
+abbrev pub RefusesWhole : {T : Type 0} → State T → Call T → Reply T → State T → Type 0
+RefusesWhole s (call.TrySend sender m) (reply.TrySend (Err e)) t = (try_handed_back e ≡ m) × (t.channel ≡ s.channel)
+RefusesWhole s (call.ForceSend sender m) (reply.ForceSend (Err e)) t = (handed_back e ≡ m) × (t.channel ≡ s.channel)
+RefusesWhole s (call.Poll op) (reply.SendPoll (Ready (Err (refused.Plain e)))) t =
+    (unsent_at op s ≡ Some (unsent e)) × (unsent_at op t ≡ None) × (t.channel ≡ s.channel)
+RefusesWhole s (call.Poll op) (reply.SendPoll (Ready (Err (refused.NoMemory u)))) t = (unsent_at op t ≡ unsent_at op s) × (t.channel ≡ s.channel)
+RefusesWhole s (call.Poll op) (reply.SendPoll (Ready (Err (refused.SerialsUsedUp u)))) t = (unsent_at op t ≡ unsent_at op s) × (t.channel ≡ s.channel)
+RefusesWhole s (call.Poll op) (reply.SendPoll Pending) t = (unsent_at op t ≡ unsent_at op s) × (t.channel ≡ s.channel)
+RefusesWhole s (call.PollRefused op) (reply.SendPoll r) t = (unsent_at op t ≡ unsent_at op s) × (t.channel ≡ s.channel)
+RefusesWhole s c r t = Unit {0}
+
+-- So it is of every call, in whatever state it is made.
+abbrev pub RefusedIsNotHeld : Type 0 → Type 0
+RefusedIsNotHeld T = (s t : State T) (c : Call T) (d : Done T) → MayBeDone s c d t → RefusesWhole s c d.reply t

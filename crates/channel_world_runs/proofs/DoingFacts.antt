@@ -1,0 +1,243 @@
+-- What is noted of the calls under way is what they are and have done, from one step to the next.
+use Rattle.std.proofs.Common.{arith, ◌≡◌, ℕ, suc, ◌+◌, ◌-◌, ◌^◌, ◌≤◌, min, Bool, true, false, ◌||◌, List, [], ◌∷◌, ◌++◌, map, length, slice_get, slice_set, Option, None, Some, refl, sym, ap, ◌∙◌, subst}
+use Rattle.std.specs.List.{remove}
+use Rattle.channel_calls.specs.Moves.{Channel}
+use Rattle.channel_calls.specs.declared.ask.ChannelAsk.{ChannelAsk}
+use Rattle.channel_calls.specs.declared.mark.Mark.{Mark}
+use Rattle.channel_calls.specs.declared.mark.Mark.TheVariants as mark
+use Rattle.channel_calls.specs.declared.reply.Reply.{Reply}
+use Rattle.channel_calls.specs.declared.stage.Stage.{Stage}
+use Rattle.channel_world_model.specs.declared.name.Waiter.{Waiter}
+use Rattle.channel_steps.proofs.Interface.{messages_moved}
+use Rattle.channel_steps.specs.Count.{taken_out}
+use Rattle.channel_steps.specs.Moments.{MarkedMoment, with_marked}
+use Rattle.channel_steps.specs.Run.{Begins, call_begun}
+use Rattle.channel_steps.specs.Configuration.{ActiveCall, Configuration, Steps, IsBalanced, sees, does, unless_ended}
+use Rattle.channel_steps.specs.Tellings.{takings, with_taking}
+use Rattle.channel_steps.specs.declared.party.Entry.{Entry}
+use Rattle.concurrent_queue.specs.Queue.{Phase}
+use Rattle.channel_world_runs.specs.Doing.{is_close, any_close, role_of, doing_begun, doing_after, doing_of, noted}
+use Rattle.channel_world_runs.specs.Owners.{All}
+use Rattle.channel_world_runs.specs.declared.doing.Doing.{Doing}
+use Rattle.channel_world_runs.specs.declared.doing.Role.{Role}
+use Rattle.channel_world_runs.proofs.OwnerTogether.{all_join, all_left, all_right}
+use Rattle.channel_world_runs.proofs.PositionFacts.{step_brings}
+
+-- ---- the k-th of a list
+
+there : {A : Type 0} (xs : List A) (y : A) (ys : List A) → slice_get (xs ++ (y ∷ ys)) (length xs) ≡ Some y
+there [] y ys = refl
+there (x ∷ xs) y ys = there xs y ys
+
+set_there : {A : Type 0} (xs : List A) (y : A) (ys : List A) (z : A) → slice_set (xs ++ (y ∷ ys)) (length xs) z ≡ xs ++ (z ∷ ys)
+set_there [] y ys z = refl
+set_there (x ∷ xs) y ys z = ap (λ zs. x ∷ zs) (set_there xs y ys z)
+
+remove_there : {A : Type 0} (xs : List A) (y : A) (ys : List A) → remove (xs ++ (y ∷ ys)) (length xs) ≡ xs ++ ys
+remove_there [] y ys = refl
+remove_there (x ∷ xs) y ys = ap (λ zs. x ∷ zs) (remove_there xs y ys)
+
+map_both : {A B : Type 0} (f : A → B) (xs ys : List A) → map f (xs ++ ys) ≡ map f xs ++ map f ys
+map_both f [] ys = refl
+map_both f (x ∷ xs) ys = ap (λ zs. f x ∷ zs) (map_both f xs ys)
+
+map_long : {A B : Type 0} (f : A → B) (xs : List A) → length (map f xs) ≡ length xs
+map_long f [] = refl
+map_long f (x ∷ xs) = ap (λ (n : ℕ). suc n) (map_long f xs)
+
+-- ---- marks
+
+or_false : (b : Bool) → (b || false) ≡ b
+or_false true = refl
+or_false false = refl
+
+or_true : (b : Bool) → (b || true) ≡ true
+or_true true = refl
+or_true false = refl
+
+or_assoc : (a b c : Bool) → (a || (b || c)) ≡ ((a || b) || c)
+or_assoc true b c = refl
+or_assoc false b c = refl
+
+same_doing : (r : Role) (b c : Bool) (m n : ℕ) → b ≡ c → m ≡ n
+    → (let x : Doing = record { role = r; has_closed = b; taken = m } in x) ≡ record { role = r; has_closed = c; taken = n }
+same_doing r b c m n e f =
+    ap (λ (y : Bool). let x : Doing = record { role = r; has_closed = y; taken = m } in x) e
+    ∙ ap (λ (y : ℕ). let x : Doing = record { role = r; has_closed = c; taken = y } in x) f
+
+taking_more : (m : Mark) (n k : ℕ) → with_taking m (n + k) ≡ with_taking m n + k
+taking_more mark.Take n k = omega arith
+taking_more m n k = refl
+
+taking_out : (m : Mark) → with_taking m 0 ≤ taken_out m
+taking_out mark.Take = omega arith
+taking_out m = omega arith
+
+-- as far as a machine number goes
+abbrev at_most : ℕ → ℕ
+at_most n = min n (2 ^ 64 - 1)
+
+-- what is noted after a step with this mark
+noted_so : (r : Role) (b : Bool) (n : ℕ) (m : Mark)
+    → doing_after m (record { role = r; has_closed = b; taken = at_most n })
+    ≡ record { role = r; has_closed = b || is_close m; taken = at_most (n + with_taking m 0) }
+noted_so r b n mark.Close = same_doing r true (b || true) (at_most n) (at_most (n + 0)) (sym (or_true b)) (omega arith)
+noted_so r b n mark.Take =
+    same_doing r b (b || false) (min (at_most n + 1) (2 ^ 64 - 1)) (at_most (n + 1)) (sym (or_false b)) (omega arith)
+noted_so r b n m = same_doing r b (b || false) (at_most n) (at_most (n + 0)) (sym (or_false b)) (omega arith)
+
+module _ {T W : Type 0} where
+  close_more : (ds : List (MarkedMoment T W)) (d : MarkedMoment T W) → any_close (ds ++ (d ∷ [])) ≡ (any_close ds || is_close d.mark)
+  close_more [] d = or_false (is_close d.mark)
+  close_more (e ∷ ds) d =
+      ap (λ (b : Bool). is_close e.mark || b) (close_more ds d) ∙ or_assoc (is_close e.mark) (any_close ds) (is_close d.mark)
+
+  takings_more : (ds : List (MarkedMoment T W)) (d : MarkedMoment T W) → takings (ds ++ (d ∷ [])) ≡ takings ds + with_taking d.mark 0
+  takings_more [] d = omega arith
+  takings_more (e ∷ ds) d =
+      ap (λ (n : ℕ). with_taking e.mark n) (takings_more ds d) ∙ taking_more e.mark (takings ds) (with_taking d.mark 0)
+
+  -- what a call has done, after a step more
+  takings_by : (ds : List (MarkedMoment T W)) (m : Mark) (c : Channel T W) (seen : List (Channel T W))
+      → takings (with_marked ds m c seen) ≡ takings ds + with_taking m 0
+  takings_by ds mark.Nothing c seen = omega arith
+  takings_by ds mark.Append c seen = takings_more ds (record { mark = mark.Append; before = c; seen = seen })
+  takings_by ds mark.Take c seen = takings_more ds (record { mark = mark.Take; before = c; seen = seen })
+  takings_by ds mark.TakeDisplaced c seen = takings_more ds (record { mark = mark.TakeDisplaced; before = c; seen = seen })
+  takings_by ds mark.Replace c seen = takings_more ds (record { mark = mark.Replace; before = c; seen = seen })
+  takings_by ds mark.Close c seen = takings_more ds (record { mark = mark.Close; before = c; seen = seen })
+  takings_by ds mark.SenderUp c seen = takings_more ds (record { mark = mark.SenderUp; before = c; seen = seen })
+  takings_by ds mark.SenderDown c seen = takings_more ds (record { mark = mark.SenderDown; before = c; seen = seen })
+  takings_by ds mark.ReceiverUp c seen = takings_more ds (record { mark = mark.ReceiverUp; before = c; seen = seen })
+  takings_by ds mark.ReceiverDown c seen = takings_more ds (record { mark = mark.ReceiverDown; before = c; seen = seen })
+
+  close_by : (ds : List (MarkedMoment T W)) (m : Mark) (c : Channel T W) (seen : List (Channel T W))
+      → any_close (with_marked ds m c seen) ≡ (any_close ds || is_close m)
+  close_by ds mark.Nothing c seen = sym (or_false (any_close ds))
+  close_by ds mark.Append c seen = close_more ds (record { mark = mark.Append; before = c; seen = seen })
+  close_by ds mark.Take c seen = close_more ds (record { mark = mark.Take; before = c; seen = seen })
+  close_by ds mark.TakeDisplaced c seen = close_more ds (record { mark = mark.TakeDisplaced; before = c; seen = seen })
+  close_by ds mark.Replace c seen = close_more ds (record { mark = mark.Replace; before = c; seen = seen })
+  close_by ds mark.Close c seen = close_more ds (record { mark = mark.Close; before = c; seen = seen })
+  close_by ds mark.SenderUp c seen = close_more ds (record { mark = mark.SenderUp; before = c; seen = seen })
+  close_by ds mark.SenderDown c seen = close_more ds (record { mark = mark.SenderDown; before = c; seen = seen })
+  close_by ds mark.ReceiverUp c seen = close_more ds (record { mark = mark.ReceiverUp; before = c; seen = seen })
+  close_by ds mark.ReceiverDown c seen = close_more ds (record { mark = mark.ReceiverDown; before = c; seen = seen })
+
+  does_noted : (u : ActiveCall T W) (at : Stage (Phase T) T W) (m : Mark) (c d : Channel T W)
+      → doing_after m (doing_of u) ≡ doing_of (does u at m c d)
+  does_noted u at m c d =
+      noted_so (role_of u.ask) (any_close u.marks) (takings u.marks) m
+      ∙ same_doing (role_of u.ask) _ _ _ _ (sym (close_by u.marks m c u.seen))
+      (ap (λ (n : ℕ). at_most n) (sym (takings_by u.marks m c u.seen)))
+
+  -- others only see a step
+  seen_same : (c : Channel T W) (us : List (ActiveCall T W)) → map doing_of (map (sees c) us) ≡ map doing_of us
+  seen_same c [] = refl
+  seen_same c (u ∷ us) = ap (λ (ds : List Doing). doing_of u ∷ ds) (seen_same c us)
+
+module _ {T : Type 0} where
+  -- none has taken more than were removed
+  abbrev pub TookFew : ℕ → ActiveCall T Waiter → Type 0
+  TookFew n u = takings u.marks ≤ n
+
+  few_seen : (c : Channel T Waiter) (n k : ℕ) (us : List (ActiveCall T Waiter)) → n ≤ k → All (TookFew n) us → All (TookFew k) (map (sees c) us)
+  few_seen c n k [] more h = tt
+  few_seen c n k (u ∷ us) more h = let own = h.0 in (omega (arith, own, more), few_seen c n k us more h.1)
+
+  -- ---- a call begins
+
+  pub begun_noted : (s : Configuration T Waiter) (p : ℕ) (a : ChannelAsk T Waiter) (e : Entry T) (t : Configuration T Waiter) (doings : List Doing)
+      → Begins s p a e t → doings ≡ map doing_of s.under_way → doings ++ (doing_begun a ∷ []) ≡ map doing_of t.under_way
+  begun_noted s p a e t doings b same =
+      ap (λ (ds : List Doing). ds ++ (doing_begun a ∷ [])) same
+      ∙ (sym (map_both doing_of s.under_way (call_begun p a b.at s.now ∷ [])) ∙ ap (λ (us : List (ActiveCall T Waiter)). map doing_of us) (sym b.under_way))
+
+  pub begun_few : (s : Configuration T Waiter) (p : ℕ) (a : ChannelAsk T Waiter) (e : Entry T) (t : Configuration T Waiter) → Begins s p a e t
+      → All (TookFew s.now.queue.removed) s.under_way → All (TookFew t.now.queue.removed) t.under_way
+  begun_few s p a e t b h =
+      let all = all_join (TookFew s.now.queue.removed) s.under_way (call_begun p a b.at s.now ∷ []) h (omega arith, tt) in
+      subst (λ (us : List (ActiveCall T Waiter)). All (TookFew t.now.queue.removed) us) (sym b.under_way)
+      (subst (λ (c : Channel T Waiter). All (TookFew c.queue.removed) (s.under_way ++ (call_begun p a b.at s.now ∷ []))) (sym b.now) all)
+
+  -- ---- a call makes a step
+
+  -- so many are removed by it
+  removed_by : (s : Configuration T Waiter) (p : ℕ) (e : Entry T) (names : List Waiter) (t : Configuration T Waiter) → Steps s p e names t
+      → IsBalanced s.now.queue → IsBalanced t.now.queue → t.now.queue.removed ≡ s.now.queue.removed + taken_out e.mark
+  removed_by s p e names t n a b =
+      let moved = messages_moved s p e names t n a b in
+      let brings = step_brings s p e names t n in
+      let came = brings.accepted in
+      omega (arith, moved, came, a, b)
+
+  -- it may have taken one more
+  took_one : (u : ActiveCall T Waiter) (at : Stage (Phase T) T Waiter) (m : Mark) (c d : Channel T Waiter) (n k : ℕ) → TookFew n u
+      → k ≡ n + taken_out m → TookFew k (does u at m c d)
+  took_one u at m c d n k few more =
+      let now = takings_by u.marks m c u.seen in
+      let one = taking_out m in
+      omega (arith, now, one, few, more)
+
+  took_unless : (u : ActiveCall T Waiter) (r : Option (Reply T)) (n : ℕ) → TookFew n u → All (TookFew n) (unless_ended u r)
+  took_unless u None n h = (h, tt)
+  took_unless u (Some r) n h = tt
+
+  pub stepped_few : (s : Configuration T Waiter) (p : ℕ) (e : Entry T) (names : List Waiter) (t : Configuration T Waiter) → Steps s p e names t
+      → IsBalanced s.now.queue → IsBalanced t.now.queue → All (TookFew s.now.queue.removed) s.under_way
+      → All (TookFew t.now.queue.removed) t.under_way
+  stepped_few s p e names t n a b h =
+      let k : ℕ = t.now.queue.removed in
+      let more = removed_by s p e names t n a b in
+      let grown : s.now.queue.removed ≤ k = omega (arith, more) in
+      let all = subst (λ (us : List (ActiveCall T Waiter)). All (TookFew s.now.queue.removed) us) n.there h in
+      let right = all_right (TookFew s.now.queue.removed) n.before (n.mine ∷ n.behind) all in
+      let own = took_unless (does n.mine n.at_now e.mark s.now t.now) e.reply k
+      (took_one n.mine n.at_now e.mark s.now t.now s.now.queue.removed k right.0 more) in
+      let before = few_seen t.now s.now.queue.removed k n.before grown (all_left (TookFew s.now.queue.removed) n.before (n.mine ∷ n.behind) all) in
+      let behind = few_seen t.now s.now.queue.removed k n.behind grown right.1 in
+      subst (λ (us : List (ActiveCall T Waiter)). All (TookFew k) us) (sym n.left)
+      (all_join (TookFew k) (map (sees t.now) n.before) _ before
+      (all_join (TookFew k) (unless_ended (does n.mine n.at_now e.mark s.now t.now) e.reply) (map (sees t.now) n.behind) own behind))
+
+  now_is : (s : Configuration T Waiter) (p : ℕ) (e : Entry T) (names : List Waiter) (t : Configuration T Waiter) (n : Steps s p e names t)
+      → map doing_of t.under_way
+      ≡ map doing_of n.before ++ (map doing_of (unless_ended (does n.mine n.at_now e.mark s.now t.now) e.reply) ++ map doing_of n.behind)
+  now_is s p e names t n =
+      let own = unless_ended (does n.mine n.at_now e.mark s.now t.now) e.reply in
+      ap (λ (us : List (ActiveCall T Waiter)). map doing_of us) n.left
+      ∙ (map_both doing_of (map (sees t.now) n.before) (own ++ map (sees t.now) n.behind)
+      ∙ (ap (λ (ds : List Doing). ds ++ map doing_of (own ++ map (sees t.now) n.behind)) (seen_same t.now n.before)
+      ∙ ap (λ (ds : List Doing). map doing_of n.before ++ ds)
+      (map_both doing_of own (map (sees t.now) n.behind) ∙ ap (λ (ds : List Doing). map doing_of own ++ ds) (seen_same t.now n.behind))))
+
+  was : (s : Configuration T Waiter) (p : ℕ) (e : Entry T) (names : List Waiter) (t : Configuration T Waiter) (n : Steps s p e names t)
+      → map doing_of s.under_way ≡ map doing_of n.before ++ (doing_of n.mine ∷ map doing_of n.behind)
+  was s p e names t n =
+      ap (λ (us : List (ActiveCall T Waiter)). map doing_of us) n.there ∙ map_both doing_of n.before (n.mine ∷ n.behind)
+
+  pub stepped_at : (s : Configuration T Waiter) (p : ℕ) (e : Entry T) (names : List Waiter) (t : Configuration T Waiter) (n : Steps s p e names t) (k : ℕ)
+      → length n.before ≡ k → slice_get (map doing_of s.under_way) k ≡ Some (doing_of n.mine)
+  stepped_at s p e names t n k place =
+      let long = map_long doing_of n.before in
+      ap (λ (ds : List Doing). slice_get ds k) (was s p e names t n)
+      ∙ (ap (λ (i : ℕ). slice_get (map doing_of n.before ++ (doing_of n.mine ∷ map doing_of n.behind)) i) (sym (long ∙ place))
+      ∙ there (map doing_of n.before) (doing_of n.mine) (map doing_of n.behind))
+
+  noted_parts : (before : List Doing) (d d' : Doing) (behind : List Doing) (m : Mark) (r : Option (Reply T)) (u : ActiveCall T Waiter)
+      → doing_after m d ≡ d' → doing_of u ≡ d'
+      → noted (length before) d m r (before ++ (d ∷ behind)) ≡ before ++ (map doing_of (unless_ended u r) ++ behind)
+  noted_parts before d d' behind m None u e f =
+      set_there before d behind (doing_after m d) ∙ ap (λ (x : Doing). before ++ (x ∷ behind)) (e ∙ sym f)
+  noted_parts before d d' behind m (Some r) u e f = remove_there before d behind
+
+  pub stepped_noted : (s : Configuration T Waiter) (p : ℕ) (e : Entry T) (names : List Waiter) (t : Configuration T Waiter) (n : Steps s p e names t) (k : ℕ)
+      → length n.before ≡ k → noted k (doing_of n.mine) e.mark e.reply (map doing_of s.under_way) ≡ map doing_of t.under_way
+  stepped_noted s p e names t n k place =
+      let after = does n.mine n.at_now e.mark s.now t.now in
+      ap (λ (ds : List Doing). noted k (doing_of n.mine) e.mark e.reply ds) (was s p e names t n)
+      ∙ (ap (λ (i : ℕ). noted i (doing_of n.mine) e.mark e.reply (map doing_of n.before ++ (doing_of n.mine ∷ map doing_of n.behind)))
+      (sym (map_long doing_of n.before ∙ place))
+      ∙ (noted_parts (map doing_of n.before) (doing_of n.mine) (doing_of after) (map doing_of n.behind) e.mark e.reply after
+      (does_noted n.mine n.at_now e.mark s.now t.now) refl
+      ∙ sym (now_is s p e names t n)))

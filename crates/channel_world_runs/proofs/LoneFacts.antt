@@ -1,0 +1,212 @@
+-- A call made alone, by names: what its code does, and what is kept.
+use Rattle.std.proofs.Common.{arith, ◌≡◌, ◌+◌, ◌-◌, ◌≤◌, ◌^◌, min, ℕ, Bool, true, false, List, [], ◌∷◌, map, length, drop, Option, None, Result, Ok, Err, IfOk, OnErr, ◌⊎◌, inl, inr, refl, sym, ap, ◌∙◌, subst, vec_len, vec_capacity}
+use Rattle.channel_calls.specs.Moves.{Channel}
+use Rattle.channel_calls.specs.declared.ask.ChannelAsk.{ChannelAsk}
+use Rattle.channel_calls.specs.declared.reply.Reply.{Reply}
+use Rattle.channel_steps.specs.solo.Alone.{Alone}
+use Rattle.channel_steps.specs.solo.Run.{HasNextPosition, IsAtRest}
+use Rattle.channel_steps.specs.solo.Configurations.{LoneRun, RunsInConfigurations}
+use Rattle.channel_steps.specs.declared.alone.Done.{Done}
+use Rattle.channel_world_model.specs.declared.call.Call.{Call}
+use Rattle.channel_world_model.specs.declared.name.Waiter.{Waiter}
+use Rattle.channel_world_model.specs.declared.run.Done.{Done as Answered}
+use Rattle.concurrent_queue.specs.Step.{FitsAt}
+use Rattle.channel_steps.specs.Configuration.{ActiveCall, Configuration, ActiveCallWitness, active_call_of, all_seats, Represents, parties_in}
+use Rattle.channel_steps.specs.Start.{EachConfigurationTellsQuiet as Tells}
+use Rattle.channel_world_runs.specs.Bookkeeping.{asks}
+use Rattle.channel_world_runs.specs.WorldState.{parts_in, name_state_of, AreCounted, HasOnePlace, Shown, AreAtWork, AreOwned, IsKept, IsQuiet, IsSame, LeadsOn, TellsQuiet}
+use Rattle.channel_world_runs.specs.WorldState as place
+use Rattle.channel_world_runs.specs.Doing.{doing_of}
+use Rattle.channel_world_runs.specs.Kept.{WorldInvariant}
+use Rattle.channel_world_runs.specs.Owners.{All}
+use Rattle.channel_world_runs.specs.Lone.{names_alone, order_alone, BringsWithin, CallsAlone, WakesAtMost}
+use Rattle.channel_world_runs.specs.Positions.{brings, accepted_by, is_one_place, yet_in}
+use Rattle.channel_world_runs.specs.Refusal.{begin_refusal}
+use Rattle.channel_world_runs.specs.Run.{NameState}
+use Rattle.channel_world_runs.specs.Reaches.{Reaches, reply_of}
+use Rattle.channel_world_runs.specs.Woken.{Hears}
+use Rattle.channel_world_runs.specs.declared.world_state.WorldState.{WorldState}
+use Rattle.channel_world_runs.specs.declared.names.Agent.{Agent}
+use Rattle.channel_world_runs.specs.declared.woken.Woken.{Woken as Sink}
+use Rattle.channel_world_runs.proofs.WorldInvariant.{kept_alone}
+use Rattle.channel_world_runs.proofs.AccountFacts.{no_accounts, run_accounts}
+use Rattle.channel_world_runs.proofs.DoingFacts.{TookFew}
+use Rattle.channel_world_runs.proofs.OwnerBegins.{Admitted, admitted}
+use Rattle.channel_world_runs.proofs.WorldStateFacts.{no_parties, owned_same, owned_where, stands_in, stands_same}
+use Rattle.channel_world_runs.proofs.PlaceFacts.{Counted, came_most, counted_alone}
+use Rattle.channel_world_runs.proofs.ShownFacts.{has_position}
+use Rattle.channel_world_runs.proofs.ReachesFacts.{no_way, lone_way}
+use Rattle.channel_world_runs.proofs.WokenFacts.{all_heard, drop_front}
+
+module _ {T : Type 0} where
+  -- where there is no party, no call is under way
+  pub none_under_way : (f : WorldState T) (s : Configuration T Waiter) → IsQuiet f → Shown f s → s.under_way ≡ []
+  none_under_way f s quiet sh = sh.shows.under_way ∙ nobody sh.shows.witnesses (sym sh.shows.parties_are ∙ quiet)
+    where
+      nobody : (xs : List (ActiveCallWitness T Waiter)) → map (λ (x : ActiveCallWitness T Waiter). x.party) xs ≡ [] → map active_call_of xs ≡ []
+      nobody [] e = refl
+      nobody (x ∷ xs) e = absurd cc
+
+  pub tells_quiet : (f : WorldState T) (quiet : Bool) → AreOwned f → Tells f.parties.items quiet → TellsQuiet f quiet
+  tells_quiet f quiet o tells = record { told = told quiet tells; busy = busy quiet tells }
+    where
+      told : (b : Bool) → Tells f.parties.items b → b ≡ true → IsQuiet f
+      told true h e = no_parties (parts_in f) f.parties.items o.configuration (h (parts_in f) o.configuration o.shown.shows) o.shown.shows
+      told false h e = absurd (let no : false ≡ true = e in cc)
+
+      busy : (b : Bool) → Tells f.parties.items b → b ≡ false → IsQuiet f → ⊥
+      busy true h e quiet = absurd (let no : true ≡ false = e in cc)
+      busy false h e quiet = h (parts_in f) o.configuration o.shown.shows (none_under_way f o.configuration quiet o.shown)
+
+  pub no_agents : (f : WorldState T) → AreAtWork f → IsQuiet f → f.agents.items ≡ []
+  no_agents f at_work quiet = none f.agents.items (at_work ∙ ap (λ ps. parties_in ps) quiet)
+    where
+      none : (xs : List (Agent T)) → map (λ (a : Agent T). a.party) xs ≡ [] → xs ≡ []
+      none [] e = refl
+      none (x ∷ xs) e = absurd cc
+
+  -- the cells are at rest
+  pub is_at_rest : (f : WorldState T) (s : Configuration T Waiter) → Shown f s → IsQuiet f → IsAtRest (parts_in f)
+  is_at_rest f s sh quiet =
+      let q = sh.shows.queue in
+      let none = nobody sh.shows.witnesses (sym sh.shows.parties_are ∙ quiet) in (
+        q,
+        subst (λ (x : Channel T Waiter). HasNextPosition x.queue) sh.shows.now (has_position f s sh),
+        (s.blocks, subst (λ (xs : List (ActiveCallWitness T Waiter)). FitsAt s.blocks (parts_in f).cells q (all_seats xs)) none sh.shows.fits),
+      )
+    where
+      nobody : (xs : List (ActiveCallWitness T Waiter)) → map (λ (x : ActiveCallWitness T Waiter). x.party) xs ≡ [] → xs ≡ []
+      nobody [] e = refl
+      nobody (x ∷ xs) e = absurd cc
+
+  -- a call that was made alone left the messages that were counted within the positions
+  counted_then : (old new : WorldState T) (b : Bool) (x : Reply T) (came : ℕ) (s t : Configuration T Waiter)
+      → (s.now.queue.accepted ≤ old.accepted → Counted old.accepted b x t) → place.HasPositions came old → came ≡ accepted_by b x
+      → new.accepted ≡ min (old.accepted + came) (2 ^ 64 - 1) → new.has_one_place ≡ old.has_one_place → t.under_way ≡ []
+      → HasOnePlace old ⊎ AreCounted old s → HasOnePlace new ⊎ AreCounted new t
+  counted_then old new b x came s t counted room same counts kept over (inl one) = inl (kept ∙ one)
+  counted_then old new b x came s t counted room same counts kept over (inr k) = by room where
+    none : yet_in t.under_way ≡ 0
+    none = ap yet_in over
+
+    by : place.HasPositions came old → HasOnePlace new ⊎ AreCounted new t
+    by (inl one) = inl (kept ∙ one)
+    by (inr most) =
+        let now : Counted old.accepted b x t = counted k.accepted in
+        let accepted = now.accepted in
+        inr (record { accepted = omega (arith, accepted, same, counts, most); within = omega (arith, none, counts, most) })
+
+  -- where there is a position for whatever a call may bring, there is one for what it does
+  pub brings_within : (c : Call T) (f : WorldState T) → place.HasPosition c f → BringsWithin c f
+  brings_within c f room s o sh all alone = by (brings f.name_table c) refl where
+    one : place.HasPositions (length f.parties.items + 1) f → place.HasPositions (accepted_by true o.reply) f
+    one (inl single) = inl single
+    one (inr left) = let most = came_most o.reply in inr (omega (arith, left, most))
+
+    none : HasOnePlace f ⊎ AreCounted f s → place.HasPositions (accepted_by false o.reply) f
+    none (inl single) = inl single
+    none (inr k) = let within = k.within in inr (omega (arith, within))
+
+    by : (b : Bool) → brings f.name_table c ≡ b → place.HasPositions (accepted_by b o.reply) f
+    by true e = one (room e)
+    by false e = none sh.positions
+
+  pub is_called : (c : Call T) (old new : WorldState T) (a : ChannelAsk T Waiter) (d : Done T) (empty full : Sink) (fresh : List Waiter) (room came : ℕ)
+      → RunsInConfigurations Hears a (parts_in old) empty old.messages d (parts_in new) full new.messages
+      → a ≡ asks old.name_table c → IsQuiet old → IsQuiet new → BringsWithin c old → came ≡ accepted_by (brings old.name_table c) d.reply
+      → new.accepted ≡ min (old.accepted + came) (2 ^ 64 - 1) → new.has_one_place ≡ old.has_one_place
+      → drop (length empty.names.items) full.names.items ≡ fresh → length empty.names.items + room ≤ vec_capacity empty.names
+      → WakesAtMost room c old → new.doings.items ≡ old.doings.items
+      → name_state_of new ≡ record {
+        name_table = names_alone old.name_table c d.reply d.kept fresh;
+        order = order_alone old.name_table c d.kept fresh old.order;
+        agents = [];
+      }
+      → CallsAlone c old d.reply fresh new
+  is_called c old new a d empty full fresh room came ran asked quiet still place_left brought counts same_place behind enough few doings name_state s sh all =
+      let r = ran s 0 (has_position old s sh) (subst (λ ps. Represents (parts_in old) ps s) quiet sh.shows) in
+      let alone : Alone (asks old.name_table c) s.now r.outcome =
+      subst (λ (x : ChannelAsk T Waiter). Alone x s.now r.outcome) asked r.does in
+      let most = few s r.outcome sh all alone in
+      let start : vec_len empty.names ≡ length empty.names.items = empty.names.ok.0 in
+      let heard : fresh ≡ r.outcome.woken =
+      sym behind
+      ∙ (ap (λ (ws : List Waiter). drop (length empty.names.items) ws) (all_heard empty r.outcome.woken full r.woken (omega (arith, most, enough, start)))
+      ∙ drop_front empty.names.items r.outcome.woken) in
+      let run : LoneRun s 0 (asks old.name_table c) r.outcome r.after =
+      subst (λ (x : ChannelAsk T Waiter). LoneRun s 0 x r.outcome r.after) asked r.run in
+      let said : came ≡ accepted_by (brings old.name_table c) r.outcome.reply =
+      brought ∙ ap (λ (y : Reply T). accepted_by (brings old.name_table c) y) r.reply in
+      let capacity : r.after.now.queue.capacity ≡ s.now.queue.capacity =
+      ap (λ (x : Channel T Waiter). x.queue.capacity) r.now ∙ r.capacity in
+      record {
+        outcome = r.outcome;
+        after = r.after;
+        alone = alone;
+        reply = r.reply;
+        woken = heard;
+        run = run;
+        now = r.now;
+        shown = record {
+          shows = subst (λ ps. Represents (parts_in new) ps r.after) (sym still) r.shown;
+          place = same_place ∙ (sh.place ∙ sym (ap (λ (cap : Option ℕ). is_one_place cap) capacity));
+          positions = counted_then old new (brings old.name_table c) r.outcome.reply came s r.after
+              (counted_alone old.name_table c old.accepted s r.after r.outcome 0 run alone r.now (none_under_way old s quiet sh))
+              (subst (λ n. place.HasPositions n old) (sym said) (place_left s r.outcome sh all alone)) said counts same_place run.over
+              sh.positions;
+          messages = r.counted sh.messages;
+          doings = doings ∙ (sh.doings ∙ (ap (λ (us : List (ActiveCall T Waiter)). map doing_of us) (none_under_way old s quiet sh)
+              ∙ sym (ap (λ (us : List (ActiveCall T Waiter)). map doing_of us) run.over)));
+          few = subst (λ (us : List (ActiveCall T Waiter)). All (TookFew r.after.now.queue.removed) us) (sym run.over) tt;
+        };
+        name_state = name_state ∙ rw (r.reply, r.kept, heard) refl;
+      }
+
+  -- a call made alone leads from a configuration in which the channel stood to one in which it stands
+  pub call_leads : (c : Call T) (old new : WorldState T) (x : Reply T) (names : List Waiter) → AreAtWork old → IsQuiet old
+      → Admitted old.name_table c → CallsAlone c old x names new → LeadsOn old (x ∷ []) new
+  call_leads c old new x names at_work quiet fine called s k =
+      let d = called s k.shown k.kept in
+      let kept : WorldInvariant (name_state_of new) d.after =
+      subst (λ (b : NameState T). WorldInvariant b d.after) (sym d.name_state)
+      (kept_alone (name_state_of old) c s d.after d.outcome (no_agents old at_work quiet) fine d.run k.kept) in
+      let way = lone_way s d.after 0 (asks old.name_table c) d.outcome d.run in
+      record {
+        last = d.after;
+        way = subst (λ (y : Reply T). Reaches s (y ∷ []) d.after) (sym d.reply) way;
+        stands = stands_in new d.after d.shown kept;
+        accounts = run_accounts s d.after way.steps way.trace way.run;
+      }
+
+  pub same_leads : (old new : WorldState T) → IsSame old new → LeadsOn old [] new
+  same_leads old new same s k =
+      record { last = s; way = no_way s; stands = stands_same old new s same k; accounts = no_accounts s }
+
+  pub leads_whatever : (c : Call T) (old new : WorldState T) (result : Result (Answered T) (Call T)) → AreAtWork old → IsQuiet old
+      → begin_refusal old.name_table c ≡ None
+      → IfOk result (λ (d : Answered T). CallsAlone c old d.reply d.woken.items new)
+      → OnErr result (IsSame old new) → LeadsOn old (reply_of result) new
+  leads_whatever c old new (Ok d) at_work quiet fine called same =
+      call_leads c old new d.reply d.woken.items at_work quiet (admitted old.name_table c fine) called
+  leads_whatever c old new (Err x) at_work quiet fine called same = same_leads old new same
+
+  -- what is kept, a call made alone keeps
+  pub call_kept : (c : Call T) (old new : WorldState T) (x : Reply T) (names : List Waiter) → IsKept old → IsQuiet old → AreAtWork new
+      → Admitted old.name_table c → CallsAlone c old x names new → IsKept new
+  call_kept c old new x names k quiet at_work fine called =
+      let o = k.listeners in
+      let l = call_leads c old new x names k.at_work quiet fine called o.configuration (stands_in old o.configuration o.shown o.kept) in
+      record {
+        listeners = owned_where new l.last l.stands;
+        at_work = at_work;
+      }
+
+  -- and so where it was handed back
+  pub kept_whatever : (c : Call T) (old new : WorldState T) (result : Result (Answered T) (Call T)) → IsKept old → IsQuiet old
+      → AreAtWork new → begin_refusal old.name_table c ≡ None
+      → IfOk result (λ (d : Answered T). CallsAlone c old d.reply d.woken.items new)
+      → OnErr result (IsSame old new) → IsKept new
+  kept_whatever c old new (Ok d) k quiet at_work fine called same =
+      call_kept c old new d.reply d.woken.items k quiet at_work (admitted old.name_table c fine) called
+  kept_whatever c old new (Err x) k quiet at_work fine called same =
+      record { listeners = owned_same old new same k.listeners; at_work = at_work }

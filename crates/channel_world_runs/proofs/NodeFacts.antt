@@ -1,0 +1,172 @@
+-- Who is pending and was woken holds a listener that is on its list, so that its poll, made alone, is refused no memory.
+use Rattle.std.proofs.Common.{cond, ◌≡◌, nat_eq, ℕ, Bool, true, false, if◌then◌else◌, List, [], ◌∷◌, Option, None, Some, is_some, inl, inr, refl, sym, ap, ◌∙◌, subst}
+use Rattle.std.specs.Map.{lookup, keys_of}
+use Rattle.std.specs.Option.{option_map, option_map_or}
+use Rattle.concurrent_queue.specs.Capacity.{capacity_of}
+use Rattle.concurrent_queue.proofs.Interface.{shows}
+use Rattle.event_listener.specs.Lists.{Notice, kind_of, told_as, waits_as, same_key}
+use Rattle.event_listener.specs.declared.key.Key.{Key}
+use Rattle.channel_calls.specs.Moves.{Channel}
+use Rattle.channel_calls.specs.Parts.{Parts, Listeners, Roster, listeners}
+use Rattle.channel_calls.specs.declared.ask.ChannelAsk.{ChannelAsk}
+use Rattle.channel_calls.specs.declared.reply.Reply.{Reply}
+use Rattle.channel_calls.specs.declared.stage.Held.{Held}
+use Rattle.channel_calls.specs.declared.stage.Line.{Line}
+use Rattle.channel_calls.specs.declared.stage.Line.TheVariants.{Sends, Receives, Streams, Closings}
+use Rattle.channel_steps.specs.solo.Ample.{lacks_memory, IsOnList, HasNode}
+use Rattle.channel_steps.specs.every_run.Unlisted.{NoSendListens}
+use Rattle.channel_world_model.specs.Asked.{poll_asked}
+use Rattle.channel_world_model.specs.Asked as model
+use Rattle.channel_world_model.specs.Names.{at}
+use Rattle.channel_world_model.specs.Settling.{poll_of}
+use Rattle.channel_world_model.specs.declared.call.Call.TheVariants as call
+use Rattle.channel_world_model.specs.declared.name.HandleId.{HandleId}
+use Rattle.channel_world_model.specs.declared.name.HandleKind.{HandleKind}
+use Rattle.channel_world_model.specs.declared.name.HandleKind.TheVariants as handle_kind
+use Rattle.channel_world_model.specs.declared.name.OpId.{OpId}
+use Rattle.channel_world_model.specs.declared.name.Waiter.{Waiter}
+use Rattle.channel_world_model.specs.declared.name.Waiter.TheVariants.{Op, Stream}
+use Rattle.channel_steps.specs.Configuration.{Configuration, all_seats}
+use Rattle.channel_world_runs.specs.Bookkeeping.{asks}
+use Rattle.channel_world_runs.specs.WorldState.{parts_in, name_state_of, Shown, AreOwned}
+use Rattle.channel_world_runs.specs.Kept.{WorldInvariant}
+use Rattle.channel_world_runs.specs.OwnerOrder.{was_woken}
+use Rattle.channel_world_runs.specs.OwnerWoken.{IsTold}
+use Rattle.channel_world_runs.specs.Owners.{IsAmong, free, retired, invalid, rests, waits, polled, no_stream_status, stream_status, operation_status, status_by, status}
+use Rattle.channel_world_runs.specs.NameTable.{key_of, operation_of, held_of}
+use Rattle.channel_world_runs.specs.Settle.{IsWoken}
+use Rattle.channel_world_runs.specs.declared.world_state.WorldState.{WorldState}
+use Rattle.channel_world_runs.specs.declared.names.HandleEntry.{HandleEntry}
+use Rattle.channel_world_runs.specs.declared.names.Operation.{Operation}
+use Rattle.channel_world_runs.specs.declared.names.OperationKind.{OperationKind}
+use Rattle.channel_world_runs.specs.declared.names.OperationKind.TheVariants as kind
+use Rattle.channel_world_runs.specs.declared.names.PollState.{PollState}
+use Rattle.channel_world_runs.specs.declared.names.PollState.TheVariants.{Rests, Waits, IsPolled}
+use Rattle.channel_world_runs.specs.declared.name_table.NameTable.{NameTable}
+use Rattle.channel_world_runs.proofs.OwnerLists.{same_self}
+use Rattle.channel_world_runs.proofs.WokenPolls.{among_filter, woken_waits}
+
+-- one that was told is listed
+told_there : (key : Key) (xs : List (Key × Notice Unit)) → IsAmong key (keys_of xs) → is_some (lookup (same_key key) xs) ≡ true
+told_there key [] i = absurd i
+told_there key (x ∷ xs) (inl e) = let same : same_key key x.0 ≡ true = ap (same_key key) e ∙ same_self key in rw same refl
+told_there key (x ∷ xs) (inr i) = by (same_key key x.0) (told_there key xs i) where
+  by : (b : Bool) → is_some (lookup (same_key key) xs) ≡ true → is_some (cond b (Some x.1) (lookup (same_key key) xs)) ≡ true
+  by true more = refl
+  by false more = more
+
+-- this listener is on its list
+abbrev IsThere : Held → Roster Waiter → Type 0
+IsThere h a = is_some (kind_of (listeners h.line a) h.key) ≡ true
+
+told_listed : (h : Held) (a : Roster Waiter) → IsAmong h.key (keys_of (listeners h.line a).told) → IsThere h a
+told_listed h a i =
+    let l = listeners h.line a in by (is_some (told_as l h.key)) (is_some (waits_as l h.key)) (told_there h.key l.told i)
+  where
+    by : (told waiting : Bool) → told ≡ true → is_some (if told then Some true else (if waiting then Some false else None)) ≡ true
+    by true waiting e = refl
+    by false waiting e = cc e
+
+-- what is no receiver is pending as no stream
+no_stream : (s : PollState) (h : Held) → no_stream_status s ≡ waits h true → ⊥
+no_stream Rests h e = let no : rests Streams ≡ waits h true = e in cc
+no_stream (Waits key z) h e = let no : invalid ≡ waits h true = e in cc
+no_stream (IsPolled z) h e = let no : invalid ≡ waits h true = e in cc
+
+-- who waits with this listener holds it, on its own line
+same_held : (line : Line) (key : Key) (z : Bool) (h : Held) → waits (record { line = line; key = key }) z ≡ waits h true
+    → (let mine : Held = record { line = line; key = key } in mine) ≡ h
+same_held line key z h e = cc e
+
+module _ {T : Type 0} where
+  -- a send that may be woken is on a channel with a bound
+  abbrev pub MayWait : Held → Parts T Waiter → Type 0
+  MayWait h p = h.line ≡ Sends → is_some (capacity_of p.cells.form) ≡ true
+
+  module _ (p : Parts T Waiter) (h : Held) (there : IsThere h p.roster) (bound : MayWait h p) where
+    by_kind : (held : model.KeysHeld) (op : OpId) (handle : HandleId) (k : OperationKind) (m : Option T) (s : PollState)
+        → held (Op op) ≡ key_of s → operation_status k m s ≡ waits h true
+        → HasNode (poll_asked held op (Some (operation_of (record { kind = k; handle = handle; message = m; poll_state = s })))) p
+    by_kind held op handle kind.Send None Rests e f = absurd (let no : rests Sends ≡ waits h true = f in cc)
+    by_kind held op handle kind.Send None (Waits key z) e f = absurd (let no : invalid ≡ waits h true = f in cc)
+    by_kind held op handle kind.Send None (IsPolled z) e f = absurd (let no : polled Sends ≡ waits h true = f in cc)
+    by_kind held op handle kind.Send (Some m) Rests e f = absurd (let no : rests Sends ≡ waits h true = f in cc)
+    by_kind held op handle kind.Send (Some m) (IsPolled z) e f = absurd (let no : polled Sends ≡ waits h true = f in cc)
+    by_kind held op handle kind.Send (Some m) (Waits key z) e f =
+        let same = same_held Sends key z h f in
+        (rw e (subst (λ (x : Held). IsThere x p.roster) (sym same) there), bound (ap (λ (x : Held). x.line) (sym same)))
+    by_kind held op handle kind.Receive m Rests e f = absurd (let no : rests Receives ≡ waits h true = f in cc)
+    by_kind held op handle kind.Receive m (IsPolled z) e f = absurd (let no : polled Receives ≡ waits h true = f in cc)
+    by_kind held op handle kind.Receive m (Waits key z) e f =
+        rw e (subst (λ (x : Held). IsThere x p.roster) (sym (same_held Receives key z h f)) there)
+    by_kind held op handle kind.Closing m Rests e f = absurd (let no : rests Closings ≡ waits h true = f in cc)
+    by_kind held op handle kind.Closing m (IsPolled z) e f = absurd (let no : polled Closings ≡ waits h true = f in cc)
+    by_kind held op handle kind.Closing m (Waits key z) e f =
+        rw e (subst (λ (x : Held). IsThere x p.roster) (sym (same_held Closings key z h f)) there)
+
+    operation_node : (r : NameTable T) (op : OpId) (o : Option (Option (Operation T))) → lookup (nat_eq op.0) r.operations ≡ o
+        → status_by (λ (x : Operation T). operation_status x.kind x.message x.poll_state) o ≡ waits h true → HasNode (asks r (call.Poll op)) p
+    operation_node r op None e f = absurd (let no : free ≡ waits h true = f in cc)
+    operation_node r op (Some None) e f = absurd (let no : retired ≡ waits h true = f in cc)
+    operation_node r op (Some (Some x)) e f =
+        let there : at op.0 r.operations ≡ Some x = ap (λ (o : Option (Option (Operation T))). option_map_or (λ (y : Option (Operation T)). y) o None) e in
+        subst (λ (o : Option (Operation T)). HasNode (poll_asked (held_of r) op (option_map operation_of o)) p) (sym there)
+        (by_kind (held_of r) op x.handle x.kind x.message x.poll_state
+        (ap (λ (o : Option (Operation T)). option_map_or (λ (y : Operation T). key_of y.poll_state) o None) there) f)
+
+    -- a receiver that is pending as a stream
+    by_stream : (k : HandleKind) (s : PollState) (key : Option Key) → key ≡ key_of s → stream_status k s ≡ waits h true
+        → IsOnList Streams key p.roster
+    by_stream handle_kind.Receiver Rests key e f = absurd (let no : rests Streams ≡ waits h true = f in cc)
+    by_stream handle_kind.Receiver (IsPolled z) key e f = absurd (let no : polled Streams ≡ waits h true = f in cc)
+    by_stream handle_kind.Receiver (Waits own z) key e f =
+        rw e (subst (λ (x : Held). IsThere x p.roster) (sym (same_held Streams own z h f)) there)
+    by_stream handle_kind.Sender s key e f = absurd (no_stream s h f)
+    by_stream handle_kind.WeakSender s key e f = absurd (no_stream s h f)
+    by_stream handle_kind.WeakReceiver s key e f = absurd (no_stream s h f)
+
+    stream_node : (r : NameTable T) (receiver : HandleId) (o : Option (Option HandleEntry)) → lookup (nat_eq receiver.0) r.handles ≡ o
+        → status_by (λ (x : HandleEntry). stream_status x.handle.kind x.poll_state) o ≡ waits h true → HasNode (asks r (call.PollNext receiver)) p
+    stream_node r receiver None e f = absurd (let no : free ≡ waits h true = f in cc)
+    stream_node r receiver (Some None) e f = absurd (let no : retired ≡ waits h true = f in cc)
+    stream_node r receiver (Some (Some x)) e f =
+        by_stream x.handle.kind x.poll_state (held_of r (Stream receiver))
+        (ap (λ (o : Option (Option HandleEntry)). option_map_or (λ (y : HandleEntry). key_of y.poll_state)
+        (option_map_or (λ (y : Option HandleEntry). y) o None) None) e) f
+
+    woken_node : (r : NameTable T) (w : Waiter) → status r w ≡ waits h true → HasNode (asks r (poll_of w)) p
+    woken_node r (Op op) f = operation_node r op (lookup (nat_eq op.0) r.operations) refl f
+    woken_node r (Stream receiver) f = stream_node r receiver (lookup (nat_eq receiver.0) r.handles) refl f
+
+  -- where a send was told the channel has a bound
+  may_wait : (f : WorldState T) (s : Configuration T Waiter) → Shown f s → NoSendListens s.now → (h : Held) → IsTold h s.now → MayWait h (parts_in f)
+  may_wait f s sh unlisted h told line = by s.now.queue.capacity refl
+    where
+      same : s.now.queue.capacity ≡ capacity_of (parts_in f).cells.form
+      same = ap (λ (c : Channel T Waiter). c.queue.capacity) sh.shows.now
+          ∙ (shows (parts_in f).cells sh.shows.queue (all_seats sh.shows.witnesses) (_, sh.shows.fits)).limit
+
+      by : (cap : Option ℕ) → s.now.queue.capacity ≡ cap → is_some (capacity_of (parts_in f).cells.form) ≡ true
+      by (Some n) e = ap (λ (o : Option ℕ). is_some o) (sym same ∙ e)
+      by None e =
+          let sent : IsAmong h.key (keys_of s.now.roster.sends.told) =
+          subst (λ (l : Line). IsAmong h.key (keys_of (listeners l s.now.roster).told)) line told in
+          absurd (subst (λ (l : Listeners Waiter). IsAmong h.key (keys_of l.told)) (unlisted e) sent)
+
+  -- what is pending and was woken
+  pub has_node : (f : WorldState T) (s : Configuration T Waiter) (w : Waiter) → Shown f s → WorldInvariant (name_state_of f) s → IsWoken w f
+      → HasNode (asks f.name_table (poll_of w)) (parts_in f)
+  has_node f s w sh kept woken =
+      let h = woken_waits (status f.name_table w) (among_filter (λ v. was_woken (status f.name_table v)) w f.order woken).0 in
+      let told : IsTold h.0 s.now = kept.woken.told w h.0 h.1 in
+      let lists : s.now.roster ≡ (parts_in f).roster = ap (λ (c : Channel T Waiter). c.roster) sh.shows.now in
+      woken_node (parts_in f) h.0
+      (told_listed h.0 (parts_in f).roster
+      (subst (λ (a : Roster Waiter). IsAmong h.0.key (keys_of (listeners h.0.line a).told)) lists told))
+      (may_wait f s sh kept.sound.unlisted.unlisted h.0 told) f.name_table w h.1
+
+  -- so its poll, made alone, is refused no memory
+  pub is_ample : (f : WorldState T) (w : Waiter) (a : ChannelAsk T Waiter) (x : Reply T) → AreOwned f → IsWoken w f → a ≡ asks f.name_table (poll_of w)
+      → (HasNode a (parts_in f) → lacks_memory x ≡ false) → lacks_memory x ≡ false
+  is_ample f w a x o woken asked ample =
+      ample (subst (λ (b : ChannelAsk T Waiter). HasNode b (parts_in f)) (sym asked) (has_node f o.configuration w o.shown o.kept woken))

@@ -1,0 +1,239 @@
+-- What is owed in a configuration that is shown, a world owes as it is.
+use Rattle.std.proofs.Common.{arith, ◌≡◌, ℕ, zero, suc, ◌+◌, ◌-◌, ◌^◌, ◌≤◌, ◌<◌, min, Bool, true, false, ◌||◌, List, [], ◌∷◌, ◌++◌, map, length, Option, ◌⊎◌, inl, inr, refl, sym, ap, ◌∙◌, subst}
+use Rattle.std.specs.List.{count_by}
+use Rattle.concurrent_queue.proofs.Interface.{shows}
+use Rattle.concurrent_queue.specs.Capacity.{capacity_of}
+use Rattle.concurrent_queue.specs.Queue.{Queue, Phase}
+use Rattle.concurrent_queue.specs.Step.{closed_in}
+use Rattle.concurrent_queue.specs.declared.queue_call.QueueCall.{QueueCall}
+use Rattle.channel_calls.specs.Moves.{Channel, phase}
+use Rattle.channel_calls.specs.declared.mark.Mark.{Mark}
+use Rattle.channel_calls.specs.declared.mark.Mark.TheVariants.{Close}
+use Rattle.channel_calls.specs.declared.plain.PlainChannel.{PlainChannel}
+use Rattle.channel_calls.specs.Plain.{parts_of}
+use Rattle.channel_calls.specs.declared.stage.Line.TheVariants.{Sends}
+use Rattle.channel_calls.specs.declared.stage.Stage.{Stage}
+use Rattle.channel_calls.specs.declared.stage.Stage.TheVariants.{Working}
+use Rattle.channel_calls.specs.declared.stage.Work.TheVariants.{Leave}
+use Rattle.channel_steps.specs.every_run.Closings.{HasClosed}
+use Rattle.channel_steps.specs.every_run.Sends.{HasPlaces}
+use Rattle.channel_steps.specs.every_run.Sound.{WakeInvariant}
+use Rattle.channel_world_model.specs.declared.name.Waiter.{Waiter}
+use Rattle.channel_steps.specs.Known.{ToldAt}
+use Rattle.channel_steps.specs.Moments.{MarkedMoment}
+use Rattle.channel_steps.specs.Configuration.{ActiveCall, Configuration, ActiveCallWitness, AllKnown, active_call_of, all_seats}
+use Rattle.channel_steps.specs.Tellings.{Telling, takings, owed_takings, owed_besides}
+use Rattle.channel_steps.specs.declared.party.Party.{Party}
+use Rattle.channel_world_runs.specs.Doing.{is_close, any_close, doing_of}
+use Rattle.channel_world_runs.specs.WorldState.{name_state_of, parts_in, observation_of, AreCounted, HasOnePlace, Shown, IsSame}
+use Rattle.channel_world_runs.specs.Owed.{Observation, Owed, is_sending, is_receiving, unannounced, all_unannounced, woken_on}
+use Rattle.channel_world_runs.specs.Owners.{All, AnyOf, Owned}
+use Rattle.channel_world_runs.specs.Run.{NameState}
+use Rattle.channel_world_runs.specs.ObservationAt.{unless_told, freed_by, all_freed, observation_at}
+use Rattle.channel_world_runs.specs.declared.doing.Doing.{Doing}
+use Rattle.channel_world_runs.specs.declared.world_state.WorldState.{WorldState}
+use Rattle.channel_world_runs.specs.declared.name_table.NameTable.{NameTable}
+use Rattle.channel_world_runs.proofs.DoingFacts.{TookFew}
+use Rattle.channel_world_runs.proofs.OwedCounts.{one_if, count_first}
+use Rattle.channel_world_runs.proofs.OwedFacts.{places, owed}
+use Rattle.channel_world_runs.proofs.OwedConfigurations.{OwedIn}
+use Rattle.channel_world_runs.proofs.OwedConfigurations as configurations
+use Rattle.channel_world_runs.proofs.ShownFacts.{balanced_in, capacity_is, one_slot}
+
+-- ---- what was told
+
+unless_most : (told : List Telling) (n : ℕ) → unless_told told n ≤ n
+unless_most [] n = omega arith
+unless_most (t ∷ ts) n = omega arith
+
+-- who has nothing left to tell has announced all that it took
+all_announced : (told : List Telling) (n : ℕ) (besides : List Telling) → told ++ [] ≡ owed_takings n ++ besides → unless_told told n ≤ 0
+all_announced [] zero besides e = omega arith
+all_announced [] (suc n) besides e = absurd cc
+all_announced (t ∷ ts) n besides e = omega arith
+
+is_closing : (m : Mark) → m ≡ Close → is_close m ≡ true
+is_closing m e = ap is_close e
+
+module _ {T : Type 0} where
+  -- ---- numbers
+
+  counted : (test : Doing → Bool) (us : List (ActiveCall T Waiter))
+      → count_by test (map doing_of us) ≡ count_by (λ (u : ActiveCall T Waiter). test (doing_of u)) us
+  counted test [] = refl
+  counted test (u ∷ us) =
+      let here = count_first test (doing_of u) (map doing_of us) in
+      let there = count_first (λ (v : ActiveCall T Waiter). test (doing_of v)) u us in
+      let rest = counted test us in
+      omega (arith, here, there, rest)
+
+  some_counts : (P : ActiveCall T Waiter → Type 0) (test : ActiveCall T Waiter → Bool) → ((u : ActiveCall T Waiter) → P u → test u ≡ true)
+      → (us : List (ActiveCall T Waiter)) → AnyOf P us → 0 < count_by test us
+  some_counts P test f [] i = absurd i
+  some_counts P test f (u ∷ us) (inl h) =
+      let first = count_first test u us in
+      let one : one_if (test u) ≡ 1 = ap one_if (f u h) in
+      omega (arith, first, one)
+  some_counts P test f (u ∷ us) (inr i) =
+      let first = count_first test u us in
+      let rest = some_counts P test f us i in
+      omega (arith, first, rest)
+
+  closed_is : (ds : List (MarkedMoment T Waiter)) → HasClosed ds → any_close ds ≡ true
+  closed_is [] h = absurd h
+  closed_is (d ∷ ds) (inl e) = ap (λ (b : Bool). b || any_close ds) (is_closing d.mark e)
+  closed_is (d ∷ ds) (inr h) = ap (λ (b : Bool). is_close d.mark || b) (closed_is ds h) ∙ or_true (is_close d.mark) where
+    or_true : (b : Bool) → (b || true) ≡ true
+    or_true true = refl
+    or_true false = refl
+
+  -- ---- what was freed
+
+  -- as far as a machine number goes
+  no_more : (f : Phase T) (at : Stage (QueueCall T) T Waiter) (u : ActiveCall T Waiter) → ToldAt u.told (phase f at) u.marks
+      → min (freed_by u) (2 ^ 64 - 1) ≤ unannounced at (doing_of u)
+  no_more f (Working (Leave x)) u h =
+      let none = all_announced u.told (takings u.marks) (owed_besides u.marks) h in omega (arith, none)
+  no_more f at u h = let most = unless_most u.told (takings u.marks) in omega (arith, most)
+
+  module _ (now : Channel T Waiter) where
+    -- where few were taken, all are counted
+    all_no_more : (n : ℕ) → n < 2 ^ 61 → (xs : List (ActiveCallWitness T Waiter)) → AllKnown now (map active_call_of xs)
+        → All (TookFew n) (map active_call_of xs)
+        → all_freed (map active_call_of xs)
+        ≤ all_unannounced (map (λ (x : ActiveCallWitness T Waiter). x.party) xs) (map doing_of (map active_call_of xs))
+    all_no_more n low [] k few = omega arith
+    all_no_more n low (x ∷ xs) k few =
+        let known = k.0 in
+        let most : freed_by (active_call_of x) ≤ takings x.marks = unless_most x.told (takings x.marks) in
+        let took : takings x.marks ≤ n = few.0 in
+        let one = no_more x.inner x.party.call.stage (active_call_of x) known.tells in
+        let rest = all_no_more n low xs k.1 few.1 in
+        omega (arith, one, rest, most, took, low)
+
+    -- and where any were, one is
+    some_no_more : (xs : List (ActiveCallWitness T Waiter)) → AllKnown now (map active_call_of xs)
+        → min (all_freed (map active_call_of xs)) 1
+        ≤ all_unannounced (map (λ (x : ActiveCallWitness T Waiter). x.party) xs) (map doing_of (map active_call_of xs))
+    some_no_more [] k = omega arith
+    some_no_more (x ∷ xs) k =
+        let known = k.0 in
+        let one = no_more x.inner x.party.call.stage (active_call_of x) known.tells in
+        let rest = some_no_more xs k.1 in
+        omega (arith, one, rest)
+
+  -- ---- a world as it is
+
+  module _ (f : WorldState T) (s : Configuration T Waiter) (sh : Shown f s) where
+    shown_queue : s.now.queue ≡ sh.shows.queue
+    shown_queue = ap (λ (c : Channel T Waiter). c.queue) sh.shows.now
+
+    closed_is_so : s.now.queue.closed ≡ closed_in (parts_in f).cells
+    closed_is_so =
+        let shown = shows (parts_in f).cells sh.shows.queue (all_seats sh.shows.witnesses) (_, sh.shows.fits) in
+        ap (λ (q : Queue T). q.closed) shown_queue ∙ sym shown.flag
+
+    by_role : (test : Doing → Bool) → count_by test f.doings.items ≡ count_by (λ (u : ActiveCall T Waiter). test (doing_of u)) s.under_way
+    by_role test = ap (λ (ds : List Doing). count_by test ds) sh.doings ∙ counted test s.under_way
+
+    known : AllKnown s.now (map active_call_of sh.shows.witnesses)
+    known = subst (λ (us : List (ActiveCall T Waiter)). AllKnown s.now us) sh.shows.under_way sh.shows.known
+
+    freed_here : all_freed s.under_way ≡ all_freed (map active_call_of sh.shows.witnesses)
+    freed_here = ap (λ (us : List (ActiveCall T Waiter)). all_freed us) sh.shows.under_way
+
+    noted_here : all_unannounced f.parties.items f.doings.items
+        ≡ all_unannounced (map (λ (x : ActiveCallWitness T Waiter). x.party) sh.shows.witnesses) (map doing_of (map active_call_of sh.shows.witnesses))
+    noted_here =
+        ap (λ (ps : List (Party T Waiter)). all_unannounced ps f.doings.items) sh.shows.parties_are
+        ∙ ap (λ (ds : List Doing). all_unannounced (map (λ (x : ActiveCallWitness T Waiter). x.party) sh.shows.witnesses) ds)
+        (sh.doings ∙ ap (λ (us : List (ActiveCall T Waiter)). map doing_of us) sh.shows.under_way)
+
+    -- no more places than those that are counted, with so many besides
+    places_noted : (items messages woken sends sending : ℕ) → messages ≡ items → sending ≡ sends
+        → HasPlaces s.now.queue.capacity (items + (woken + (sends + all_freed s.under_way)))
+        → HasPlaces s.now.queue.capacity (messages + (woken + (sending + all_unannounced f.parties.items f.doings.items)))
+    places_noted items messages woken sends sending same same_sends h = by sh.positions where
+      before : ℕ
+      before = items + (woken + (sends + all_freed s.under_way))
+
+      after : ℕ
+      after = messages + (woken + (sending + all_unannounced f.parties.items f.doings.items))
+
+      by : HasOnePlace f ⊎ AreCounted f s → HasPlaces s.now.queue.capacity after
+      by (inl one) =
+          let slot = one_slot f s sh one in
+          let enough : 1 ≤ before = subst (λ (c : Option ℕ). HasPlaces c before) slot h in
+          let some = some_no_more s.now sh.shows.witnesses known in
+          let now : 1 ≤ after = omega (arith, same, same_sends, enough, some, freed_here, noted_here) in
+          subst (λ (c : Option ℕ). HasPlaces c after) (sym slot) now
+      by (inr k) =
+          let balanced = balanced_in (parts_in f) f.parties.items s sh.shows in
+          let accepted = k.accepted in
+          let within = k.within in
+          let few = subst (λ (us : List (ActiveCall T Waiter)). All (TookFew s.now.queue.removed) us) sh.shows.under_way sh.few in
+          let all = all_no_more s.now s.now.queue.removed (omega (arith, balanced, accepted, within)) sh.shows.witnesses known few in
+          places s.now.queue.capacity before after (omega (arith, same, same_sends, all, freed_here, noted_here)) h
+
+    pub observation_owed : OwedIn (name_state_of f) s → Owed (observation_of f)
+    observation_owed o = record {
+      receives = λ name i.
+          let h = o.receives name i.0 i.1 in
+          omega (arith, h, sh.messages, by_role (λ (d : Doing). is_sending d.role), by_role (λ (d : Doing). is_receiving d.role));
+      sends = λ name i is_open.
+          let h = o.sends name i.0 i.1 (closed_is_so ∙ is_open) in
+          subst (λ (c : Option ℕ). HasPlaces c ((observation_of f).messages + (woken_on Sends f.name_table + ((observation_of f).sending + (observation_of f).freed)))) (capacity_is f s sh)
+          (places_noted _ _ _ _ _ sh.messages (by_role (λ (d : Doing). is_sending d.role)) h);
+      streams = λ name i some. stream (o.streams name i.0 i.1) some;
+      closing = λ line name i shut.
+          let h = o.closing name (record { line = line; key = i.0 }) i.1 (closed_is_so ∙ shut) in
+          let one = some_counts (λ (u : ActiveCall T Waiter). HasClosed u.marks) (λ (u : ActiveCall T Waiter). any_close u.marks) (λ u k. closed_is u.marks k) s.under_way h in
+          omega (arith, one, by_role (λ (d : Doing). d.has_closed));
+    } where
+      stream : (s.now.queue.items ≡ []) ⊎ AnyOf (λ u. configurations.is_sending u.ask ≡ true) s.under_way → 0 < f.messages → 0 < (observation_of f).sending
+      stream (inl none) some = let empty = ap length none in omega (arith, empty, some, sh.messages)
+      stream (inr i) some =
+          let one = some_counts (λ (u : ActiveCall T Waiter). configurations.is_sending u.ask ≡ true) (λ (u : ActiveCall T Waiter). configurations.is_sending u.ask) (λ u k. k) s.under_way i in
+          omega (arith, one, by_role (λ (d : Doing). is_sending d.role))
+
+  -- ---- the configuration by itself
+
+  some_send : (s : Configuration T Waiter) → (s.now.queue.items ≡ []) ⊎ AnyOf (λ (u : ActiveCall T Waiter). configurations.is_sending u.ask ≡ true) s.under_way
+      → 0 < length s.now.queue.items → 0 < count_by (λ (u : ActiveCall T Waiter). configurations.is_sending u.ask) s.under_way
+  some_send s (inl none) some = let empty = ap length none in omega (arith, empty, some)
+  some_send s (inr i) some =
+      some_counts (λ (u : ActiveCall T Waiter). configurations.is_sending u.ask ≡ true) (λ (u : ActiveCall T Waiter). configurations.is_sending u.ask) (λ u k. k) s.under_way i
+
+  pub owed_at : (b : NameState T) (s : Configuration T Waiter) → Owned b s → WakeInvariant s → Owed (observation_at b.name_table s)
+  owed_at b s owned sound =
+      let o : OwedIn b s = owed b s owned sound in
+      record {
+        receives = λ name i. o.receives name i.0 i.1;
+        sends = λ name i is_open. o.sends name i.0 i.1 is_open;
+        streams = λ name i some. some_send s (o.streams name i.0 i.1) some;
+        closing = λ line name i shut.
+            some_counts (λ (u : ActiveCall T Waiter). HasClosed u.marks) (λ (u : ActiveCall T Waiter). any_close u.marks) (λ u c. closed_is u.marks c) s.under_way
+            (o.closing name (record { line = line; key = i.0 }) i.1 shut);
+      }
+
+  -- ---- room that was taken changes nothing
+
+  abbrev observation_with : NameTable T → ℕ → PlainChannel T Waiter → List (Party T Waiter) → List Doing → Observation T
+  observation_with r n c ps ds = record {
+    name_table = r;
+    messages = n;
+    capacity = capacity_of (parts_of c).cells.form;
+    closed = closed_in (parts_of c).cells;
+    sending = count_by (λ (d : Doing). is_sending d.role) ds;
+    receiving = count_by (λ (d : Doing). is_receiving d.role) ds;
+    closers = count_by (λ (d : Doing). d.has_closed) ds;
+    freed = all_unannounced ps ds;
+  }
+
+  pub observation_same : (g h : WorldState T) → IsSame g h → observation_of h ≡ observation_of g
+  observation_same g h same =
+      ap (λ (b : NameState T). observation_with b.name_table h.messages h.channel h.parties.items h.doings.items) same.name_state
+      ∙ (ap (λ (n : ℕ). observation_with g.name_table n h.channel h.parties.items h.doings.items) same.messages
+      ∙ (ap (λ (c : PlainChannel T Waiter). observation_with g.name_table g.messages c h.parties.items h.doings.items) same.channel
+      ∙ (ap (λ (ps : List (Party T Waiter)). observation_with g.name_table g.messages g.channel ps h.doings.items) same.parties
+      ∙ ap (λ (ds : List Doing). observation_with g.name_table g.messages g.channel g.parties.items ds) same.doings)))

@@ -1,0 +1,46 @@
+-- What is owed, said of a configuration: that is proved first, and of the world by it.
+use Rattle.std.specs.Prelude.{◌≡◌, ℕ, ◌+◌, ◌≤◌, Bool, true, false, [], length, ◌⊎◌}
+use Rattle.std.specs.List.{count_by}
+use Rattle.event_listener.specs.declared.key.Key.{Key}
+use Rattle.channel_calls.specs.declared.ask.ChannelAsk.{ChannelAsk}
+use Rattle.channel_calls.specs.declared.stage.Held.{Held}
+use Rattle.channel_calls.specs.declared.stage.Line.TheVariants.{Sends, Receives, Streams}
+use Rattle.channel_world_model.specs.declared.name.Waiter.{Waiter}
+use Rattle.channel_steps.specs.Moments.{Open, Shut}
+use Rattle.channel_steps.specs.Configuration.{ActiveCall, Configuration}
+use Rattle.channel_steps.specs.every_run.Closings.{HasClosed}
+use Rattle.channel_steps.specs.every_run.Sends.{HasPlaces}
+use Rattle.channel_world_runs.specs.Doing.{role_of}
+use Rattle.channel_world_runs.specs.Owed.{woken_on}
+use Rattle.channel_world_runs.specs.Owed as world
+use Rattle.channel_world_runs.specs.Owners.{waits, status, AnyOf}
+use Rattle.channel_world_runs.specs.Run.{NameState}
+use Rattle.channel_world_runs.specs.ObservationAt.{all_freed}
+
+module _ {T : Type 0} where
+  abbrev pub is_sending : ChannelAsk T Waiter → Bool
+  is_sending a = world.is_sending (role_of a)
+
+  abbrev pub is_receiving : ChannelAsk T Waiter → Bool
+  is_receiving a = world.is_receiving (role_of a)
+
+  -- the sending and the receiving calls under way
+  abbrev pub at_it : Configuration T Waiter → ℕ
+  at_it s =
+      count_by (λ (u : ActiveCall T Waiter). is_sending u.ask) s.under_way
+      + count_by (λ (u : ActiveCall T Waiter). is_receiving u.ask) s.under_way
+
+  -- the sending calls under way, and the places that calls under way have freed and not announced yet
+  abbrev pub to_send : Configuration T Waiter → ℕ
+  to_send s = count_by (λ (u : ActiveCall T Waiter). is_sending u.ask) s.under_way + all_freed s.under_way
+
+  -- the four lines
+  pub record OwedIn (b : NameState T) (s : Configuration T Waiter) : Type 0 where
+    pub receives : (w : Waiter) (key : Key) → status b.name_table w ≡ waits (record { line = Receives; key = key }) false → length s.now.queue.items ≤ woken_on Receives b.name_table + at_it s
+    pub sends :
+        (w : Waiter) (key : Key) → status b.name_table w ≡ waits (record { line = Sends; key = key }) false → Open s.now
+        → HasPlaces s.now.queue.capacity (length s.now.queue.items + (woken_on Sends b.name_table + to_send s))
+    pub streams :
+        (w : Waiter) (key : Key) → status b.name_table w ≡ waits (record { line = Streams; key = key }) false
+        → (s.now.queue.items ≡ []) ⊎ AnyOf (λ u. is_sending u.ask ≡ true) s.under_way
+    pub closing : (w : Waiter) (h : Held) → status b.name_table w ≡ waits h false → Shut s.now → AnyOf (λ u. HasClosed u.marks) s.under_way

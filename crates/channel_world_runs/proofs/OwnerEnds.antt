@@ -1,0 +1,330 @@
+-- What a call that ends gives back to the names.
+use Rattle.std.proofs.Common.{◌≡◌, ℕ, nat_eq, true, false, Option, None, Some, is_some, Err, ◌⊎◌, inl, inr, refl, sym, ap, ◌∙◌, subst}
+use Rattle.std.specs.Map.{lookup}
+use Rattle.std.specs.Option.{option_map_or}
+use Rattle.event_listener.specs.declared.key.Key.{Key}
+use Rattle.futures.specs.declared.task.Poll.TheVariants.{Ready, Pending}
+use Rattle.channel_calls.specs.Turns.{leaving}
+use Rattle.channel_calls.specs.declared.ask.ChannelAsk.{ChannelAsk}
+use Rattle.channel_calls.specs.declared.ask.ChannelAsk.TheVariants as ask
+use Rattle.channel_calls.specs.declared.error.Refused.TheVariants as refused
+use Rattle.channel_calls.specs.declared.reply.Reply.{Reply}
+use Rattle.channel_calls.specs.declared.reply.Reply.TheVariants as reply
+use Rattle.channel_calls.specs.declared.stage.Kept.{Kept}
+use Rattle.channel_calls.specs.declared.stage.Line.{Line}
+use Rattle.channel_calls.specs.declared.stage.Line.TheVariants.{Sends, Receives, Streams, Closings}
+use Rattle.channel_steps.specs.Answers.{PollKeeps, Keeps}
+use Rattle.channel_world_model.specs.Names.{Directory, at}
+use Rattle.channel_world_model.specs.declared.name.HandleId.{HandleId}
+use Rattle.channel_world_model.specs.declared.name.HandleKind.{HandleKind}
+use Rattle.channel_world_model.specs.declared.name.HandleKind.TheVariants as handle_kind
+use Rattle.channel_world_model.specs.declared.name.OpId.{OpId}
+use Rattle.channel_world_model.specs.declared.name.Waiter.{Waiter}
+use Rattle.channel_world_model.specs.declared.name.Waiter.TheVariants.{Op, Stream}
+use Rattle.channel_world_runs.specs.Bookkeeping.{restored, installed, written_back}
+use Rattle.channel_world_runs.specs.Owners.{NameStatus, free, retired, invalid, rests, waits, polled, status_on, no_stream_status, stream_status, status_by, operation_status, status, wait_of, subject, Suits}
+use Rattle.channel_world_runs.specs.NameTable.{poll_state_with, line_of_kind, unused, with_given_back, with_poll_state}
+use Rattle.channel_world_runs.specs.declared.names.OnReturn.{OnReturn}
+use Rattle.channel_world_runs.specs.declared.names.OnReturn.TheVariants as on_return
+use Rattle.channel_world_runs.specs.declared.names.HandleEntry.{HandleEntry}
+use Rattle.channel_world_runs.specs.declared.names.Operation.{Operation}
+use Rattle.channel_world_runs.specs.declared.names.OperationKind.{OperationKind}
+use Rattle.channel_world_runs.specs.declared.names.OperationKind.TheVariants as kind
+use Rattle.channel_world_runs.specs.declared.names.PollState.{PollState}
+use Rattle.channel_world_runs.specs.declared.names.PollState.TheVariants.{Rests, Waits, IsPolled}
+use Rattle.channel_world_runs.specs.declared.name_table.NameTable.{NameTable}
+use Rattle.channel_world_runs.proofs.OwnerNames.{Sets, Same, same_both, sets_same, same_sets, op_status, handle_entry_status, op_set, op_changed, handle_set, handle_changed, given_back_same}
+
+-- neither pending nor amiss
+abbrev pub IsCalm : NameStatus → Type 0
+IsCalm free = Unit {0}
+IsCalm retired = Unit {0}
+IsCalm invalid = ⊥
+IsCalm (rests line) = Unit {0}
+IsCalm (waits h is_woken) = ⊥
+IsCalm (polled line) = ⊥
+
+some_is : {X : Type 0} (x y : X) → Some x ≡ Some y → x ≡ y
+some_is x y e = ap (λ (o : Option _). elim o [ None ↦ x | Some z ↦ z ]) e
+
+polled_is : (a b : Line) → polled a ≡ polled b → a ≡ b
+polled_is a b e = ap (λ (x : NameStatus). elim x [ polled l ↦ l | free ↦ a | retired ↦ a | invalid ↦ a | rests l ↦ a | waits h w ↦ a ]) e
+
+abbrev IsPolledNow : NameStatus → Type 0
+IsPolledNow (polled line) = Unit {0}
+IsPolledNow free = ⊥
+IsPolledNow retired = ⊥
+IsPolledNow invalid = ⊥
+IsPolledNow (rests line) = ⊥
+IsPolledNow (waits h is_woken) = ⊥
+
+no_busy : (x : NameStatus) (line : Line) → x ≡ polled line → IsPolledNow x
+no_busy x line e = subst IsPolledNow (sym e) tt
+
+-- what is vacant was taken
+vacant_taken : {X : Type 0} (p : X → NameStatus) (o : Option (Option X)) → status_by p o ≡ retired → is_some o ≡ true
+vacant_taken p None e = absurd (let no : free ≡ retired = e in cc)
+vacant_taken p (Some x) e = refl
+
+polled_there : {X : Type 0} (p : X → NameStatus) (n : ℕ) (d : Directory X) (line : Line) → status_by p (lookup (nat_eq n) d) ≡ polled line
+    → (x : X) × (at n d ≡ Some x) × (p x ≡ polled line)
+polled_there {X} p n d line e = by (lookup (nat_eq n) d) refl e
+  where
+    by : (o : Option (Option X)) → lookup (nat_eq n) d ≡ o → status_by p o ≡ polled line
+        → (x : X) × (at n d ≡ Some x) × (p x ≡ polled line)
+    by None f h = absurd (let no : free ≡ polled line = h in cc)
+    by (Some None) f h = absurd (let no : retired ≡ polled line = h in cc)
+    by (Some (Some x)) f h = (x, ap (λ (o : Option (Option X)). option_map_or (λ (y : Option X). y) o None) f, h)
+
+on_line : (line l : Line) (s : PollState) → status_on line s ≡ polled l → line ≡ l
+on_line line l Rests e = absurd (no_busy (rests line) l e)
+on_line line l (Waits key w) e = absurd (no_busy (waits (record { line = line; key = key }) w) l e)
+on_line line l (IsPolled b) e = polled_is line l e
+
+no_stream : (l : Line) (s : PollState) → no_stream_status s ≡ polled l → ⊥
+no_stream l Rests e = no_busy (rests Streams) l e
+no_stream l (Waits key w) e = no_busy invalid l e
+no_stream l (IsPolled b) e = no_busy invalid l e
+
+stream_is : (k : HandleKind) (l : Line) (s : PollState) → stream_status k s ≡ polled l → (k ≡ handle_kind.Receiver) × (Streams ≡ l)
+stream_is handle_kind.Receiver l s e = (refl, on_line Streams l s e)
+stream_is handle_kind.Sender l s e = absurd (no_stream l s e)
+stream_is handle_kind.WeakSender l s e = absurd (no_stream l s e)
+stream_is handle_kind.WeakReceiver l s e = absurd (no_stream l s e)
+
+calm_stream : (k : HandleKind) → IsCalm (stream_status k Rests)
+calm_stream handle_kind.Receiver = tt
+calm_stream handle_kind.Sender = tt
+calm_stream handle_kind.WeakSender = tt
+calm_stream handle_kind.WeakReceiver = tt
+
+-- the wait is that of the name
+abbrev IsFor : Option (Line × Waiter) → Line → Waiter → Type 0
+IsFor wait line w = (wait ≡ None) ⊎ (wait ≡ Some (line, w))
+
+own_wait : (wait : Option (Line × Waiter)) (line l : Line) (w task : Waiter) → IsFor wait line w → wait ≡ Some (l, task)
+    → (l ≡ line) × (task ≡ w)
+own_wait wait line l w task (inl none) e = absurd (let no : None ≡ Some (l, task) = sym none ∙ e in cc)
+own_wait wait line l w task (inr some) e =
+    let same : (let x : Line × Waiter = (l, task) in x) ≡ (line, w) = some_is _ _ (sym e ∙ some) in
+    (ap (λ (x : Line × Waiter). x.0) same, ap (λ (x : Line × Waiter). x.1) same)
+
+module _ {T : Type 0} where
+  op_line : (k : OperationKind) (m : Option T) (l : Line) (s : PollState) → operation_status k m s ≡ polled l → line_of_kind k ≡ l
+  op_line kind.Send None l Rests e = absurd (no_busy (rests Sends) l e)
+  op_line kind.Send None l (Waits key w) e = absurd (no_busy invalid l e)
+  op_line kind.Send None l (IsPolled b) e = polled_is Sends l e
+  op_line kind.Send (Some m) l s e = on_line Sends l s e
+  op_line kind.Receive m l s e = on_line Receives l s e
+  op_line kind.Closing m l s e = on_line Closings l s e
+
+  calm_op : (k : OperationKind) (m : Option T) → IsCalm (operation_status k m Rests)
+  calm_op kind.Send None = tt
+  calm_op kind.Send (Some m) = tt
+  calm_op kind.Receive m = tt
+  calm_op kind.Closing m = tt
+
+  -- a send that waits has its message
+  abbrev pub Carries : Line → Option T → Type 0
+  Carries line m = line ≡ Sends → (v : T) × (m ≡ Some v)
+
+  waiting_op : (k : OperationKind) (m : Option T) (key : Key) → Carries (line_of_kind k) m
+      → operation_status k m (Waits key false) ≡ waits (record { line = line_of_kind k; key = key }) false
+  waiting_op kind.Send None key c = absurd (let f = c refl in let no : None ≡ Some f.0 = f.1 in cc)
+  waiting_op kind.Send (Some m) key c = refl
+  waiting_op kind.Receive m key c = refl
+  waiting_op kind.Closing m key c = refl
+
+  -- ---- what is left
+
+  -- the call leaves no listener, or one that waits on this list for this name
+  abbrev pub IsLeft : Kept T → Option (Line × Waiter) → Type 0
+  IsLeft kept wait = (kept.key ≡ None)
+      ⊎ ((line : Line) × (key : Key) × (task : Waiter) × (kept.key ≡ Some key) × (wait ≡ Some (line, task))
+      × Carries line kept.message)
+
+  -- the name at which it worked is pending with the listener that is left, or neither pending nor amiss
+  abbrev pub Comes : (Waiter → NameStatus) → OnReturn T → Kept T → Option (Line × Waiter) → Type 0
+  Comes p e kept wait =
+      ((kept.key ≡ None) × ((v : Waiter) → subject e ≡ Some v → IsCalm (p v)))
+      ⊎ ((line : Line) × (key : Key) × (task : Waiter) × (kept.key ≡ Some key) × (wait ≡ Some (line, task))
+      × (subject e ≡ Some task) × (p task ≡ waits (record { line = line; key = key }) false))
+
+  pub record Settles (p p' : Waiter → NameStatus) (e : OnReturn T) (kept : Kept T) (wait : Option (Line × Waiter)) : Type 0 where
+    pub others : (v : Waiter) → (subject e ≡ Some v → ⊥) → p' v ≡ p v
+    pub own : Comes p' e kept wait
+
+  no_wait : (p : Waiter → NameStatus) (e : OnReturn T) (kept : Kept T) (wait : Option (Line × Waiter)) → IsLeft kept wait → wait ≡ None
+      → ((v : Waiter) → subject e ≡ Some v → IsCalm (p v)) → Comes p e kept wait
+  no_wait p e kept wait (inl none) f h = inl (none, h)
+  no_wait p e kept wait (inr (line, key, task, k, w, m)) f h = absurd (let no : Some (line, task) ≡ None = sym w ∙ f in cc)
+
+  -- nothing is settled
+  plain : (p p' : Waiter → NameStatus) (e : OnReturn T) (kept : Kept T) (wait : Option (Line × Waiter)) → IsLeft kept wait → wait ≡ None
+      → subject e ≡ None → Same p p' → Settles p p' e kept wait
+  plain p p' e kept wait l f none same =
+      record {
+        others = λ v other. same v;
+        own = no_wait p' e kept wait l f (λ v s. absurd (let no : None ≡ Some v = sym none ∙ s in cc));
+      }
+
+  -- one name is set
+  set : (p p' : Waiter → NameStatus) (e : OnReturn T) (kept : Kept T) (wait : Option (Line × Waiter)) (w : Waiter) (x : NameStatus)
+      → subject e ≡ Some w → Sets p p' w x → Comes p' e kept wait → Settles p p' e kept wait
+  set p p' e kept wait w x whose s own =
+      record { others = λ v other. s.others v (λ same. other (whose ∙ ap (λ (y : Waiter). Some y) (sym same))); own = own }
+
+  calm_at : (p : Waiter → NameStatus) (e : OnReturn T) (w : Waiter) (x : NameStatus) → subject e ≡ Some w → p w ≡ x → IsCalm x → (v : Waiter)
+      → subject e ≡ Some v → IsCalm (p v)
+  calm_at p e w x whose is calm v s =
+      subst (λ (y : Waiter). IsCalm (p y)) (some_is w v (sym whose ∙ s)) (subst IsCalm (sym is) calm)
+
+  makes : (r : NameTable T) (op : OpId) (o : Operation T) (y : Reply T) (kept : Kept T) (wait : Option (Line × Waiter))
+      → IsLeft kept wait → Suits {T = T} (status r) (on_return.Make op o) wait
+      → Settles (status r) (status (written_back (on_return.Make op o) y kept r)) (on_return.Make op o) kept wait
+  makes r op o y kept wait l f =
+      let s = op_set r op (Some o) (vacant_taken op_status (lookup (nat_eq op.0) r.operations) f.0) in
+      let calm : IsCalm (op_status o) =
+      subst (λ (z : PollState). IsCalm (operation_status o.kind o.message z)) (sym f.1) (calm_op o.kind o.message) in
+      set (status r) (status (written_back (on_return.Make op o) y kept r)) (on_return.Make op o) kept wait (Op op) (op_status o) refl s
+      (no_wait (status (written_back (on_return.Make op o) y kept r)) (on_return.Make op o) kept wait l f.2
+      (calm_at (status (written_back (on_return.Make op o) y kept r)) (on_return.Make op o) (Op op) (op_status o) refl s.there calm))
+
+  polls : (r : NameTable T) (op : OpId) (y : Reply T) (kept : Kept T) (wait : Option (Line × Waiter)) → IsLeft kept wait
+      → Suits {T = T} (status r) (on_return.Poll op) wait
+      → Settles (status r) (status (written_back (on_return.Poll op) y kept r)) (on_return.Poll op) kept wait
+  polls r op y kept wait l f =
+      let there = polled_there op_status op.0 r.operations f.0 f.1 in
+      let o = there.0 in
+      let s = op_changed r op (restored kept) o there.1 in
+      let line = op_line o.kind o.message f.0 o.poll_state there.2 in
+      set (status r) (status (written_back (on_return.Poll op) y kept r)) (on_return.Poll op) kept wait (Op op) _ refl s (by o s.there line l)
+    where
+      after : Waiter → NameStatus
+      after = status (written_back (on_return.Poll op) y kept r)
+
+      by : (o : Operation T) → after (Op op) ≡ operation_status o.kind kept.message (poll_state_with kept.key) → line_of_kind o.kind ≡ f.0
+          → IsLeft kept wait → Comes after (on_return.Poll op) kept wait
+      by o e line (inl none) =
+          inl (
+            none,
+            calm_at after (on_return.Poll op) (Op op) _ refl
+                (e ∙ ap (λ k. operation_status o.kind kept.message (poll_state_with k)) none) (calm_op o.kind kept.message),
+          )
+      by o e line (inr (l, key, task, k, w, m)) =
+          let own = own_wait wait f.0 l (Op op) task f.2 w in
+          let same : line_of_kind o.kind ≡ l = line ∙ sym own.0 in
+          let waiting = waiting_op o.kind kept.message key (λ sends. m (sym same ∙ sends)) in
+          inr (
+            l,
+            key,
+            task,
+            k,
+            w,
+            ap (λ (v : Waiter). Some v) (sym own.1),
+            ap after own.1
+                ∙ (e ∙ (ap (λ x. operation_status o.kind kept.message (poll_state_with x)) k
+                ∙ (waiting ∙ ap (λ (x : Line). waits (record { line = x; key = key }) false) same))),
+          )
+
+  nexts : (r : NameTable T) (receiver : HandleId) (y : Reply T) (kept : Kept T) (wait : Option (Line × Waiter)) → IsLeft kept wait
+      → Suits {T = T} (status r) (on_return.PollNext receiver) wait
+      → Settles (status r) (status (written_back (on_return.PollNext receiver) y kept r)) (on_return.PollNext receiver) kept wait
+  nexts r receiver y kept wait l f =
+      let there = polled_there handle_entry_status receiver.0 r.handles f.0 f.1 in
+      let h = there.0 in
+      let is = stream_is h.handle.kind f.0 h.poll_state there.2 in
+      let put = with_poll_state (poll_state_with kept.key) receiver r in
+      let s = handle_changed r receiver (λ (x : HandleEntry). record x { poll_state = poll_state_with kept.key }) h there.1 in
+      let all = sets_same (status r) (status put) (status (with_given_back receiver put)) (Stream receiver) _ s
+      (given_back_same put receiver) in
+      set (status r) (status (written_back (on_return.PollNext receiver) y kept r)) (on_return.PollNext receiver) kept wait (Stream receiver) _
+      refl all (by (all.there ∙ ap (λ k. stream_status k (poll_state_with kept.key)) is.0) is.1 l)
+    where
+      after : Waiter → NameStatus
+      after = status (written_back (on_return.PollNext receiver) y kept r)
+
+      by : after (Stream receiver) ≡ status_on Streams (poll_state_with kept.key) → Streams ≡ f.0 → IsLeft kept wait
+          → Comes after (on_return.PollNext receiver) kept wait
+      by e line (inl none) =
+          inl (
+            none,
+            calm_at after (on_return.PollNext receiver) (Stream receiver) (rests Streams) refl
+                (e ∙ ap (λ k. status_on Streams (poll_state_with k)) none) tt,
+          )
+      by e line (inr (l, key, task, k, w, m)) =
+          let own = own_wait wait f.0 l (Stream receiver) task f.2 w in
+          let same : Streams ≡ l = line ∙ sym own.0 in
+          inr (
+            l,
+            key,
+            task,
+            k,
+            w,
+            ap (λ (v : Waiter). Some v) (sym own.1),
+            ap after own.1
+                ∙ (e ∙ (ap (λ x. status_on Streams (poll_state_with x)) k
+                ∙ ap (λ (x : Line). waits (record { line = x; key = key }) false) same)),
+          )
+
+  -- a new handle lives, or doesn't
+  installs : (r : NameTable T) (new : HandleId) (k : HandleKind) (y : Reply T) → status r (Stream new) ≡ retired
+      → (x : NameStatus) × IsCalm x × Sets (status r) (status (installed new k y r)) (Stream new) x
+  installs r new k reply.Made v = (
+    stream_status k Rests,
+    calm_stream k,
+    handle_set r new (Some (unused k))
+        (vacant_taken handle_entry_status (lookup (nat_eq new.0) r.handles) v),
+  )
+  installs r new k y v = (retired, tt, record { there = v; others = λ w other. refl })
+
+  news : (r : NameTable T) (from new : HandleId) (k : HandleKind) (y : Reply T) (kept : Kept T) (wait : Option (Line × Waiter))
+      → IsLeft kept wait → Suits {T = T} (status r) (on_return.New from new k) wait
+      → Settles (status r) (status (written_back (on_return.New from new k) y kept r)) (on_return.New from new k) kept wait
+  news r from new k y kept wait l f =
+      let back = with_given_back from r in
+      let back_same = given_back_same r from in
+      let i = installs back new k y (back_same (Stream new) ∙ f.0) in
+      let all = same_sets (status r) (status back) (status (installed new k y back)) (Stream new) i.0 back_same i.2 in
+      set (status r) (status (written_back (on_return.New from new k) y kept r)) (on_return.New from new k) kept wait (Stream new) i.0 refl all
+      (no_wait (status (written_back (on_return.New from new k) y kept r)) (on_return.New from new k) kept wait l f.1
+      (calm_at (status (written_back (on_return.New from new k) y kept r)) (on_return.New from new k) (Stream new) i.0 refl all.there i.1))
+
+  pub settles : (r : NameTable T) (e : OnReturn T) (y : Reply T) (kept : Kept T) (wait : Option (Line × Waiter)) → IsLeft kept wait
+      → Suits {T = T} (status r) e wait → Settles (status r) (status (written_back e y kept r)) e kept wait
+  settles r on_return.Nothing y kept wait l f = plain (status r) (status r) on_return.Nothing kept wait l f refl (λ v. refl)
+  settles r (on_return.Leave handle) y kept wait l f =
+      plain (status r) (status (with_given_back handle r)) (on_return.Leave handle) kept wait l f refl (given_back_same r handle)
+  settles r (on_return.LeaveBoth a b) y kept wait l f =
+      plain (status r) (status (with_given_back b (with_given_back a r))) (on_return.LeaveBoth a b) kept wait l f refl
+      (same_both (status r) (status (with_given_back a r)) (status (with_given_back b (with_given_back a r))) (given_back_same r a)
+      (given_back_same (with_given_back a r) b))
+  settles r (on_return.Make op o) y kept wait l f = makes r op o y kept wait l f
+  settles r (on_return.Poll op) y kept wait l f = polls r op y kept wait l f
+  settles r (on_return.PollNext receiver) y kept wait l f = nexts r receiver y kept wait l f
+  settles r (on_return.New from new k) y kept wait l f = news r from new k y kept wait l f
+
+  -- ---- what a send keeps
+
+  nothing_left : (k : Kept T) (m : Option T) (key : Key) → k ≡ leaving None m → k.key ≡ Some key → ⊥
+  nothing_left k m key e f = absurd (let no : None ≡ Some key = sym (ap (λ (x : Kept T). x.key) e) ∙ f in cc)
+
+  poll_carries : (m : Option T) (y : Reply T) (k : Kept T) (key : Key) → PollKeeps m y k → k.key ≡ Some key → k.message ≡ m
+  poll_carries m (reply.SendPoll Pending) k key h e = h.1
+  poll_carries m (reply.RecvPoll Pending) k key h e = h.1
+  poll_carries m (reply.ClosedPoll Pending) k key h e = h.1
+  poll_carries m (reply.Next Pending) k key h e = h.1
+  poll_carries m (reply.SendPoll (Ready (Err (refused.NoMemory u)))) k key h e = absurd (nothing_left k m key h e)
+  poll_carries m (reply.SendPoll (Ready (Err (refused.SerialsUsedUp u)))) k key h e = absurd (nothing_left k m key h e)
+  poll_carries m y k key h e = absurd (nothing_left k None key h e)
+
+  pub carries : (a : ChannelAsk T Waiter) (y : Reply T) (k : Kept T) (key : Key) (line : Line) (task : Waiter) → Keeps a y k
+      → k.key ≡ Some key → wait_of a ≡ Some (line, task) → Carries line k.message
+  carries (ask.PollSend m o t) y k key line task h e w sends = (m, poll_carries (Some m) y k key h e)
+  carries (ask.PollRecv o t) y k key line task h e w sends =
+      absurd (let no : Receives ≡ Sends = ap (λ (x : Line × Waiter). x.0) (some_is _ _ w) ∙ sends in cc)
+  carries (ask.PollClosed o t) y k key line task h e w sends =
+      absurd (let no : Closings ≡ Sends = ap (λ (x : Line × Waiter). x.0) (some_is _ _ w) ∙ sends in cc)
+  carries (ask.PollNext o t) y k key line task h e w sends =
+      absurd (let no : Streams ≡ Sends = ap (λ (x : Line × Waiter). x.0) (some_is _ _ w) ∙ sends in cc)
+  carries a y k key line task h e w sends = absurd (let no : None ≡ Some (line, task) = w in cc)

@@ -1,0 +1,343 @@
+-- How names stand after what calls do to them.
+use Rattle.std.proofs.Common.{arith, ◌≡◌, ℕ, nat_eq, Bool, true, false, cond, List, [], ◌∷◌, Option, None, Some, is_some, ◌⊎◌, inl, inr, refl, sym, ap, ◌∙◌, subst}
+use Rattle.std.proofs.lemmas.Bool.Decides.{nat_tests}
+use Rattle.std.specs.Map.{lookup, set_value}
+use Rattle.std.specs.Option.{option_map_or}
+use Rattle.channel_calls.specs.declared.stage.Line.{Line}
+use Rattle.channel_calls.specs.declared.stage.Line.TheVariants.{Sends, Receives, Streams, Closings}
+use Rattle.channel_world_model.specs.Names.{Directory, at, with_spent, with_changed}
+use Rattle.channel_world_model.specs.declared.name.HandleId.{HandleId}
+use Rattle.channel_world_model.specs.declared.name.HandleKind.{HandleKind}
+use Rattle.channel_world_model.specs.declared.name.HandleKind.TheVariants as handle_kind
+use Rattle.channel_world_model.specs.declared.name.OpId.{OpId}
+use Rattle.channel_world_model.specs.declared.name.Waiter.{Waiter}
+use Rattle.channel_world_model.specs.declared.name.Waiter.TheVariants.{Op, Stream}
+use Rattle.channel_world_runs.specs.Bookkeeping.{with_operation, handed_over_by, operation_named, handle_named, with_one_woken, all_woken}
+use Rattle.channel_world_runs.specs.Owners.{IsAmong, NameStatus, free, retired, invalid, rests, waits, polled, status_on, no_stream_status, stream_status, status_by, send_status, operation_status, status}
+use Rattle.channel_world_runs.specs.NameTable.{told, used_more, used_less, borrowed_more, handed_over, with_handle, with_lent, with_given_back, with_borrowed}
+use Rattle.channel_world_runs.specs.declared.names.HandleEntry.{HandleEntry}
+use Rattle.channel_world_runs.specs.declared.names.Operation.{Operation}
+use Rattle.channel_world_runs.specs.declared.names.OperationKind.{OperationKind}
+use Rattle.channel_world_runs.specs.declared.names.OperationKind.TheVariants as kind
+use Rattle.channel_world_runs.specs.declared.names.PollState.{PollState}
+use Rattle.channel_world_runs.specs.declared.names.PollState.TheVariants.{Rests, Waits, IsPolled}
+use Rattle.channel_world_runs.specs.declared.name_table.NameTable.{NameTable}
+
+pub same_number : (a b : ℕ) → nat_eq a b ≡ true → a ≡ b
+same_number a b e = grind (arith, nat_tests, e)
+
+pub own_number : (a : ℕ) → nat_eq a a ≡ true
+own_number a = grind (arith, nat_tests)
+
+pub number_or : (a b : ℕ) → (a ≡ b) ⊎ (a ≡ b → ⊥)
+number_or a b = by (nat_eq a b) refl
+  where
+    by : (t : Bool) → nat_eq a b ≡ t → (a ≡ b) ⊎ (a ≡ b → ⊥)
+    by true e = inl (same_number a b e)
+    by false e = inr (λ h. absurd (let never : true ≡ false = sym (own_number a) ∙ (ap (λ n. nat_eq a n) h ∙ e) in cc))
+
+op_named : (a b : OpId) → a.0 ≡ b.0 → Op a ≡ Op b
+op_named a b e = ap (λ n. let w : Waiter = Op (record { 0 = n }) in w) e
+
+stream_named : (a b : HandleId) → a.0 ≡ b.0 → Stream a ≡ Stream b
+stream_named a b e = ap (λ n. let w : Waiter = Stream (record { 0 = n }) in w) e
+
+pub waiter_or : (v w : Waiter) → (v ≡ w) ⊎ (v ≡ w → ⊥)
+waiter_or (Op a) (Op b) = by (number_or a.0 b.0)
+  where
+    by : (a.0 ≡ b.0) ⊎ (a.0 ≡ b.0 → ⊥) → (Op a ≡ Op b) ⊎ (Op a ≡ Op b → ⊥)
+    by (inl e) = inl (op_named a b e)
+    by (inr f) = inr (λ e. f (ap (λ (w : Waiter). elim w [ Op x ↦ x.0 | Stream x ↦ x.0 ]) e))
+waiter_or (Stream a) (Stream b) = by (number_or a.0 b.0)
+  where
+    by : (a.0 ≡ b.0) ⊎ (a.0 ≡ b.0 → ⊥) → (Stream a ≡ Stream b) ⊎ (Stream a ≡ Stream b → ⊥)
+    by (inl e) = inl (stream_named a b e)
+    by (inr f) = inr (λ e. f (ap (λ (w : Waiter). elim w [ Op x ↦ x.0 | Stream x ↦ x.0 ]) e))
+waiter_or (Op a) (Stream b) = inr (λ e. absurd (cc e))
+waiter_or (Stream a) (Op b) = inr (λ e. absurd (cc e))
+
+-- ---- one directory
+
+module _ {X : Type 0} (p : X → NameStatus) (d : Directory X) where
+  abbrev pub seen : Directory X → ℕ → NameStatus
+  seen e n = status_by p (lookup (nat_eq n) e)
+
+  spent_at : (t : Bool) (n : ℕ) → status_by p (cond t (Some None) (lookup (nat_eq n) d)) ≡ (cond t retired (seen d n))
+  spent_at true n = refl
+  spent_at false n = refl
+
+  differ : (a b : ℕ) → (a ≡ b → ⊥) → nat_eq a b ≡ false
+  differ a b f = by (nat_eq a b) refl
+    where
+      by : (t : Bool) → nat_eq a b ≡ t → t ≡ false
+      by true e = absurd (f (same_number a b e))
+      by false e = refl
+
+  pub spent_there : (n : ℕ) → seen (with_spent n d) n ≡ retired
+  spent_there n = spent_at (nat_eq n n) n ∙ ap (λ t. cond t retired (seen d n)) (own_number n)
+
+  pub spent_other : (n m : ℕ) → (m ≡ n → ⊥) → seen (with_spent n d) m ≡ seen d m
+  spent_other n m f = spent_at (nat_eq m n) m ∙ ap (λ t. cond t retired (seen d m)) (differ m n f)
+
+module _ {X : Type 0} where
+  set_at : (t : Bool) (n : ℕ) (f : ℕ × Option X) (es : Directory X) (v : Option X) → nat_eq n f.0 ≡ t → (is_some (lookup (nat_eq n) es) ≡ true → lookup (nat_eq n) (set_value (nat_eq n) es v) ≡ Some v)
+      → is_some (cond t (Some f.1) (lookup (nat_eq n) es)) ≡ true → lookup (nat_eq n) (cond t ((f.0, v) ∷ es) (f ∷ set_value (nat_eq n) es v)) ≡ Some v
+  set_at true n f es v same on h = ap (λ t. cond t (Some v) (lookup (nat_eq n) es)) same
+  set_at false n f es v same on h = ap (λ t. cond t (Some f.1) (lookup (nat_eq n) (set_value (nat_eq n) es v))) same ∙ on h
+
+  pub set_there : (n : ℕ) (es : Directory X) (v : Option X) → is_some (lookup (nat_eq n) es) ≡ true → lookup (nat_eq n) (set_value (nat_eq n) es v) ≡ Some v
+  set_there n [] v h = absurd (let no : false ≡ true = h in cc)
+  set_there n (f ∷ es) v h = set_at (nat_eq n f.0) n f es v refl (set_there n es v) h
+
+  other_at : (t : Bool) (n m : ℕ) (f : ℕ × Option X) (es : Directory X) (v : Option X) → nat_eq n f.0 ≡ t → (m ≡ n → ⊥) → lookup (nat_eq m) (set_value (nat_eq n) es v) ≡ lookup (nat_eq m) es
+      → lookup (nat_eq m) (cond t ((f.0, v) ∷ es) (f ∷ set_value (nat_eq n) es v)) ≡ lookup (nat_eq m) (f ∷ es)
+  other_at true n m f es v same other on = by (nat_eq m f.0) refl
+    where
+      by : (u : Bool) → nat_eq m f.0 ≡ u → cond u (Some v) (lookup (nat_eq m) es) ≡ cond u (Some f.1) (lookup (nat_eq m) es)
+      by true e = absurd (other (same_number m f.0 e ∙ sym (same_number n f.0 same)))
+      by false e = refl
+  other_at false n m f es v same other on = ap (λ o. cond (nat_eq m f.0) (Some f.1) o) on
+
+  pub set_other : (n m : ℕ) (es : Directory X) (v : Option X) → (m ≡ n → ⊥) → lookup (nat_eq m) (set_value (nat_eq n) es v) ≡ lookup (nat_eq m) es
+  set_other n m [] v other = refl
+  set_other n m (f ∷ es) v other = other_at (nat_eq n f.0) n m f es v refl other (set_other n m es v other)
+
+  -- what lives there was looked up
+  pub found : (n : ℕ) (d : Directory X) (x : X) → at n d ≡ Some x → lookup (nat_eq n) d ≡ Some (Some x)
+  found n d x e = by (lookup (nat_eq n) d) e
+    where
+      by : (o : Option (Option X)) → option_map_or (λ (y : Option X). y) o None ≡ Some x → o ≡ Some (Some x)
+      by None h = absurd (let no : None ≡ Some x = h in cc)
+      by (Some None) h = absurd (let no : None ≡ Some x = h in cc)
+      by (Some (Some y)) h = ap (λ (z : Option X). Some z) h
+
+  pub is_there : (o : Option (Option X)) (y : Option X) → o ≡ Some y → is_some o ≡ true
+  is_there o y e = ap (λ (z : Option (Option X)). is_some z) e
+
+-- ---- all names
+
+-- this name stands so then, and any other as before
+pub record Sets (p p' : Waiter → NameStatus) (w : Waiter) (x : NameStatus) : Type 0 where
+  pub there : p' w ≡ x
+  pub others : (v : Waiter) → (v ≡ w → ⊥) → p' v ≡ p v
+
+abbrev pub Same : (Waiter → NameStatus) → (Waiter → NameStatus) → Type 0
+Same p p' = (v : Waiter) → p' v ≡ p v
+
+pub same_both : (p q r : Waiter → NameStatus) → Same p q → Same q r → Same p r
+same_both p q r f g v = g v ∙ f v
+
+pub sets_same : (p q r : Waiter → NameStatus) (w : Waiter) (x : NameStatus) → Sets p q w x → Same q r → Sets p r w x
+sets_same p q r w x h f = record { there = f w ∙ h.there; others = λ v other. f v ∙ h.others v other }
+
+pub same_sets : (p q r : Waiter → NameStatus) (w : Waiter) (x : NameStatus) → Same p q → Sets q r w x → Sets p r w x
+same_sets p q r w x f h = record { there = h.there; others = λ v other. h.others v other ∙ f v }
+
+abbrev pub handle_entry_status : HandleEntry → NameStatus
+handle_entry_status h = stream_status h.handle.kind h.poll_state
+
+-- one that is pending is woken, any other stays
+abbrev pub told_status : NameStatus → NameStatus
+told_status (waits h is_woken) = waits h true
+told_status free = free
+told_status retired = retired
+told_status invalid = invalid
+told_status (rests line) = rests line
+told_status (polled line) = polled line
+
+told_on : (line : Line) (s : PollState) → status_on line (told s) ≡ told_status (status_on line s)
+told_on line Rests = refl
+told_on line (Waits key is_woken) = refl
+told_on line (IsPolled brings) = refl
+
+told_no_stream : (s : PollState) → no_stream_status (told s) ≡ told_status (no_stream_status s)
+told_no_stream Rests = refl
+told_no_stream (Waits key is_woken) = refl
+told_no_stream (IsPolled brings) = refl
+
+told_stream : (k : HandleKind) (s : PollState) → stream_status k (told s) ≡ told_status (stream_status k s)
+told_stream handle_kind.Receiver s = told_on Streams s
+told_stream handle_kind.Sender s = told_no_stream s
+told_stream handle_kind.WeakSender s = told_no_stream s
+told_stream handle_kind.WeakReceiver s = told_no_stream s
+
+twice : (x : NameStatus) → told_status (told_status x) ≡ told_status x
+twice (waits h is_woken) = refl
+twice free = refl
+twice retired = refl
+twice invalid = refl
+twice (rests line) = refl
+twice (polled line) = refl
+
+not_there : {X : Type 0} (p : X → NameStatus) (n : ℕ) (d : Directory X) → at n d ≡ None → told_status (status_by p (lookup (nat_eq n) d)) ≡ status_by p (lookup (nat_eq n) d)
+not_there {X} p n d e = by (lookup (nat_eq n) d) e
+  where
+    by : (o : Option (Option X)) → option_map_or (λ (y : Option X). y) o None ≡ None → told_status (status_by p o) ≡ status_by p o
+    by None h = refl
+    by (Some None) h = refl
+    by (Some (Some y)) h = absurd (let no : Some y ≡ None = h in cc)
+
+-- woken or not
+abbrev pub MayBeTold : (Waiter → NameStatus) → (Waiter → NameStatus) → Waiter → Type 0
+MayBeTold p p' v = (p' v ≡ p v) ⊎ (p' v ≡ told_status (p v))
+
+module _ {T : Type 0} where
+  abbrev pub op_status : Operation T → NameStatus
+  op_status o = operation_status o.kind o.message o.poll_state
+
+  -- ---- operations
+
+  op_others : (r : NameTable T) (op : OpId) (d : Directory (Operation T)) → ((n : ℕ) → (n ≡ op.0 → ⊥) → status_by op_status (lookup (nat_eq n) d) ≡ status_by op_status (lookup (nat_eq n) r.operations))
+      → (v : Waiter) → (v ≡ Op op → ⊥) → status (record r { operations = d }) v ≡ status r v
+  op_others r op d f (Op a) other = f a.0 (λ e. other (op_named a op e))
+  op_others r op d f (Stream h) other = refl
+
+  -- a value under the name of an operation
+  pub op_set : (r : NameTable T) (op : OpId) (v : Option (Operation T)) → is_some (lookup (nat_eq op.0) r.operations) ≡ true → Sets (status r) (status (record r { operations = set_value (nat_eq op.0) r.operations v })) (Op op) (status_by op_status (Some v))
+  op_set r op v e =
+      record {
+        there = ap (λ o. status_by op_status o) (set_there op.0 r.operations v e);
+        others = op_others r op (set_value (nat_eq op.0) r.operations v) (λ n other. ap (λ o. status_by op_status o) (set_other op.0 n r.operations v other));
+      }
+
+  pub op_spent : (r : NameTable T) (op : OpId) → Sets (status r) (status (operation_named op r)) (Op op) retired
+  op_spent r op =
+      record {
+        there = spent_there op_status r.operations op.0;
+        others = op_others r op (with_spent op.0 r.operations) (λ n other. spent_other op_status r.operations op.0 n other);
+      }
+
+  -- what lives there is changed
+  pub op_changed : (r : NameTable T) (op : OpId) (change : Operation T → Operation T) (o : Operation T) → at op.0 r.operations ≡ Some o → Sets (status r) (status (with_operation change op r)) (Op op) (op_status (change o))
+  op_changed r op change o e =
+      subst (λ (d : Directory (Operation T)). Sets (status r) (status (record r { operations = d })) (Op op) (op_status (change o)))
+      (sym (ap (λ (x : Option (Operation T)). option_map_or (λ (y : Operation T). with_changed op.0 (change y) r.operations) x r.operations) e))
+      (op_set r op (Some (change o)) (is_there (lookup (nat_eq op.0) r.operations) (Some o) (found op.0 r.operations o e)))
+
+  -- ---- handles
+
+  handle_others : (r : NameTable T) (handle : HandleId) (d : Directory HandleEntry) → ((n : ℕ) → (n ≡ handle.0 → ⊥) → status_by handle_entry_status (lookup (nat_eq n) d) ≡ status_by handle_entry_status (lookup (nat_eq n) r.handles))
+      → (v : Waiter) → (v ≡ Stream handle → ⊥) → status (record r { handles = d }) v ≡ status r v
+  handle_others r handle d f (Op a) other = refl
+  handle_others r handle d f (Stream h) other = f h.0 (λ e. other (stream_named h handle e))
+
+  pub handle_set : (r : NameTable T) (handle : HandleId) (v : Option HandleEntry) → is_some (lookup (nat_eq handle.0) r.handles) ≡ true → Sets (status r) (status (record r { handles = set_value (nat_eq handle.0) r.handles v })) (Stream handle) (status_by handle_entry_status (Some v))
+  handle_set r handle v e =
+      record {
+        there = ap (λ o. status_by handle_entry_status o) (set_there handle.0 r.handles v e);
+        others = handle_others r handle (set_value (nat_eq handle.0) r.handles v) (λ n other. ap (λ o. status_by handle_entry_status o) (set_other handle.0 n r.handles v other));
+      }
+
+  pub handle_spent : (r : NameTable T) (handle : HandleId) → Sets (status r) (status (handle_named handle r)) (Stream handle) retired
+  handle_spent r handle =
+      record {
+        there = spent_there handle_entry_status r.handles handle.0;
+        others = handle_others r handle (with_spent handle.0 r.handles) (λ n other. spent_other handle_entry_status r.handles handle.0 n other);
+      }
+
+  pub handle_changed : (r : NameTable T) (handle : HandleId) (change : HandleEntry → HandleEntry) (h : HandleEntry) → at handle.0 r.handles ≡ Some h → Sets (status r) (status (with_handle change handle r)) (Stream handle) (handle_entry_status (change h))
+  handle_changed r handle change h e =
+      subst (λ (d : Directory HandleEntry). Sets (status r) (status (record r { handles = d })) (Stream handle) (handle_entry_status (change h)))
+      (sym (ap (λ (x : Option HandleEntry). option_map_or (λ (y : HandleEntry). with_changed handle.0 (change y) r.handles) x r.handles) e))
+      (handle_set r handle (Some (change h)) (is_there (lookup (nat_eq handle.0) r.handles) (Some h) (found handle.0 r.handles h e)))
+
+  pub handle_none : (r : NameTable T) (handle : HandleId) (change : HandleEntry → HandleEntry) → at handle.0 r.handles ≡ None → with_handle change handle r ≡ r
+  handle_none r handle change e =
+      ap (λ (d : Directory HandleEntry). record r { handles = d }) (ap (λ (x : Option HandleEntry). option_map_or (λ (y : HandleEntry). with_changed handle.0 (change y) r.handles) x r.handles) e)
+
+  -- a change of how many use it
+  handle_kept : (r : NameTable T) (handle : HandleId) (change : HandleEntry → HandleEntry) → ((h : HandleEntry) → handle_entry_status (change h) ≡ handle_entry_status h) → Same (status r) (status (with_handle change handle r))
+  handle_kept r handle change keep = by (at handle.0 r.handles) refl
+    where
+      by : (o : Option HandleEntry) → at handle.0 r.handles ≡ o → Same (status r) (status (with_handle change handle r))
+      by None e v = ap (λ (x : NameTable T). status x v) (handle_none r handle change e)
+      by (Some h) e v = one (waiter_or v (Stream handle)) (handle_changed r handle change h e)
+        where
+          one : (v ≡ Stream handle) ⊎ (v ≡ Stream handle → ⊥) → Sets (status r) (status (with_handle change handle r)) (Stream handle) (handle_entry_status (change h)) → status (with_handle change handle r) v ≡ status r v
+          one (inl same) s =
+              subst (λ (w : Waiter). status (with_handle change handle r) w ≡ status r w) (sym same)
+              (s.there ∙ (keep h ∙ sym (ap (λ o. status_by handle_entry_status o) (found handle.0 r.handles h e))))
+          one (inr other) s = s.others v other
+
+  pub lent_same : (r : NameTable T) (handle : HandleId) → Same (status r) (status (with_lent handle r))
+  lent_same r handle = handle_kept r handle used_more (λ h. refl)
+
+  pub given_back_same : (r : NameTable T) (handle : HandleId) → Same (status r) (status (with_given_back handle r))
+  given_back_same r handle = handle_kept r handle used_less (λ h. refl)
+
+  pub borrowed_same : (r : NameTable T) (handle : HandleId) → Same (status r) (status (with_borrowed handle r))
+  borrowed_same r handle = handle_kept r handle borrowed_more (λ h. refl)
+
+  pub handed_over_same : (r : NameTable T) (o : Option (Operation T)) → Same (status r) (status (handed_over_by o r))
+  handed_over_same r None v = refl
+  handed_over_same r (Some o) v = handle_kept r o.handle handed_over (λ h. refl) v
+
+  -- ---- wakes
+
+  told_send : (m : Option T) (s : PollState) → send_status m (told s) ≡ told_status (send_status m s)
+  told_send None Rests = refl
+  told_send None (Waits key is_woken) = refl
+  told_send None (IsPolled brings) = refl
+  told_send (Some m) s = told_on Sends s
+
+  told_operation : (k : OperationKind) (m : Option T) (s : PollState) → operation_status k m (told s) ≡ told_status (operation_status k m s)
+  told_operation kind.Send m s = told_send m s
+  told_operation kind.Receive m s = told_on Receives s
+  told_operation kind.Closing m s = told_on Closings s
+
+  op_none : (r : NameTable T) (op : OpId) (change : Operation T → Operation T) → at op.0 r.operations ≡ None → with_operation change op r ≡ r
+  op_none r op change e =
+      ap (λ (d : Directory (Operation T)). record r { operations = d }) (ap (λ (x : Option (Operation T)). option_map_or (λ (y : Operation T). with_changed op.0 (change y) r.operations) x r.operations) e)
+
+  pub one_woken : (w : Waiter) (r : NameTable T) → Sets (status r) (status (with_one_woken w r)) w (told_status (status r w))
+  one_woken (Op op) r = by (at op.0 r.operations) refl
+    where
+      change : Operation T → Operation T
+      change o = record o { poll_state = told o.poll_state }
+
+      by : (o : Option (Operation T)) → at op.0 r.operations ≡ o → Sets (status r) (status (with_one_woken (Op op) r)) (Op op) (told_status (status r (Op op)))
+      by None e =
+          subst (λ (x : NameTable T). Sets (status r) (status x) (Op op) (told_status (status r (Op op)))) (sym (op_none r op change e))
+          (record { there = sym (not_there op_status op.0 r.operations e); others = λ v other. refl })
+      by (Some o) e =
+          let s = op_changed r op change o e in
+          record { there = s.there ∙ (told_operation o.kind o.message o.poll_state ∙ sym (ap (λ x. told_status (status_by op_status x)) (found op.0 r.operations o e))); others = s.others }
+  one_woken (Stream handle) r = by (at handle.0 r.handles) refl
+    where
+      change : HandleEntry → HandleEntry
+      change h = record h { poll_state = told h.poll_state }
+
+      by : (o : Option HandleEntry) → at handle.0 r.handles ≡ o → Sets (status r) (status (with_one_woken (Stream handle) r)) (Stream handle) (told_status (status r (Stream handle)))
+      by None e =
+          subst (λ (x : NameTable T). Sets (status r) (status x) (Stream handle) (told_status (status r (Stream handle)))) (sym (handle_none r handle change e))
+          (record { there = sym (not_there handle_entry_status handle.0 r.handles e); others = λ v other. refl })
+      by (Some h) e =
+          let s = handle_changed r handle change h e in
+          record { there = s.there ∙ (told_stream h.handle.kind h.poll_state ∙ sym (ap (λ x. told_status (status_by handle_entry_status x)) (found handle.0 r.handles h e))); others = s.others }
+
+  pub all_told : (ws : List Waiter) (r : NameTable T) (v : Waiter) → MayBeTold (status r) (status (all_woken ws r)) v
+  all_told [] r v = inl refl
+  all_told (w ∷ ws) r v = by (waiter_or v w) (all_told ws (with_one_woken w r) v)
+    where
+      s : Sets (status r) (status (with_one_woken w r)) w (told_status (status r w))
+      s = one_woken w r
+
+      by : (v ≡ w) ⊎ (v ≡ w → ⊥) → MayBeTold (status (with_one_woken w r)) (status (all_woken ws (with_one_woken w r))) v → MayBeTold (status r) (status (all_woken ws (with_one_woken w r))) v
+      by (inl same) (inl e) = inr (e ∙ (ap (λ x. status (with_one_woken w r) x) same ∙ (s.there ∙ ap (λ x. told_status (status r x)) (sym same))))
+      by (inl same) (inr e) = inr (e ∙ (ap (λ x. told_status (status (with_one_woken w r) x)) same ∙ (ap told_status s.there ∙ (twice (status r w) ∙ ap (λ x. told_status (status r x)) (sym same)))))
+      by (inr other) (inl e) = inl (e ∙ s.others v other)
+      by (inr other) (inr e) = inr (e ∙ ap told_status (s.others v other))
+
+  -- those who are named
+  pub named_told : (ws : List Waiter) (r : NameTable T) (v : Waiter) → IsAmong v ws → status (all_woken ws r) v ≡ told_status (status r v)
+  named_told [] r v h = absurd h
+  named_told (w ∷ ws) r v (inl same) = by (all_told ws (with_one_woken w r) v) (one_woken w r)
+    where
+      by : MayBeTold (status (with_one_woken w r)) (status (all_woken ws (with_one_woken w r))) v → Sets (status r) (status (with_one_woken w r)) w (told_status (status r w)) → status (all_woken ws (with_one_woken w r)) v ≡ told_status (status r v)
+      by (inl e) s = e ∙ (ap (λ x. status (with_one_woken w r) x) (sym same) ∙ (s.there ∙ ap (λ x. told_status (status r x)) same))
+      by (inr e) s = e ∙ (ap (λ x. told_status (status (with_one_woken w r) x)) (sym same) ∙ (ap told_status s.there ∙ (twice (status r w) ∙ ap (λ x. told_status (status r x)) same)))
+  named_told (w ∷ ws) r v (inr h) = by (waiter_or v w) (one_woken w r) (named_told ws (with_one_woken w r) v h)
+    where
+      by : (v ≡ w) ⊎ (v ≡ w → ⊥) → Sets (status r) (status (with_one_woken w r)) w (told_status (status r w)) → status (all_woken ws (with_one_woken w r)) v ≡ told_status (status (with_one_woken w r) v) → status (all_woken ws (with_one_woken w r)) v ≡ told_status (status r v)
+      by (inl same) s e = e ∙ (ap (λ x. told_status (status (with_one_woken w r) x)) same ∙ (ap told_status s.there ∙ (twice (status r w) ∙ ap (λ x. told_status (status r x)) (sym same))))
+      by (inr other) s e = e ∙ ap told_status (s.others v other)

@@ -1,0 +1,244 @@
+-- What a call has in hand after it takes a turn.
+use Rattle.channel_calls.specs.Several.{Gathered, with_last}
+use Rattle.channel_calls.specs.declared.error.TryRecvError.{TryRecvError}
+use Rattle.channel_calls.specs.declared.error.TryRecvError.TheVariants as try_recv_error
+use Rattle.std.proofs.Common.{◌≡◌, ℕ, zero, suc, List, [], ◌∷◌, ◌++◌, ◌==◌, Bool, true, false, if◌then◌else◌, nat_lt, Option, None, Some, Ok, Err, ◌⊎◌, inl, inr, refl}
+use Rattle.concurrent_queue.specs.Queue.{Queue, Stage, AnswersPush, AnswersPop, AnswersClose, AnswersShut, AnswersTo}
+use Rattle.concurrent_queue.specs.declared.call.QueueAsk.{QueueAsk}
+use Rattle.concurrent_queue.specs.declared.call.QueueAsk.TheVariants as queue
+use Rattle.concurrent_queue.specs.declared.call.QueueMark.{QueueMark}
+use Rattle.concurrent_queue.specs.declared.call.QueueMark.TheVariants.{Nothing, Close}
+use Rattle.concurrent_queue.specs.declared.call.QueueReply.{QueueReply}
+use Rattle.concurrent_queue.specs.declared.call.QueueReply.TheVariants as answer
+use Rattle.concurrent_queue.specs.declared.error.PushError.TheVariants as push_error
+use Rattle.concurrent_queue.specs.declared.error.ForcePushError.TheVariants as force_error
+use Rattle.concurrent_queue.specs.declared.error.PopError.TheVariants as pop_error
+use Rattle.event_listener.specs.declared.key.Key.{Key}
+use Rattle.channel_calls.specs.Answered.{over, answered_next, send_next, receive_next, stream_next, closing_next, closed_next, asked_next, terminated_next, upgraded_next, sent_next, forced_next, received_next, gathered_next, short_next, several_next}
+use Rattle.channel_calls.specs.Turns.{held_on, line_of, dropper, leaving, closer_ending, ends_by, refused_next, told_all_next, room_next, lowered_next, counted_next, loaded_next, raised_next, most}
+use Rattle.channel_calls.specs.declared.ask.ChannelAsk.{ChannelAsk}
+use Rattle.channel_calls.specs.declared.ask.ChannelAsk.TheVariants as ask
+use Rattle.channel_calls.specs.declared.reply.Reply.{Reply}
+use Rattle.channel_calls.specs.declared.reply.Reply.TheVariants as reply
+use Rattle.channel_calls.specs.declared.stage.Aim.{Aim}
+use Rattle.channel_calls.specs.declared.stage.Aim.TheVariants as aim
+use Rattle.channel_calls.specs.declared.stage.Closer.{Closer}
+use Rattle.channel_calls.specs.declared.stage.Closer.TheVariants as closer
+use Rattle.channel_calls.specs.declared.stage.Ending.{Ending}
+use Rattle.channel_calls.specs.declared.stage.Held.{Held}
+use Rattle.channel_calls.specs.declared.stage.Line.{Line}
+use Rattle.channel_calls.specs.declared.stage.Line.TheVariants.{Sends, Receives, Streams, Closings}
+use Rattle.channel_calls.specs.declared.stage.Making.{Making}
+use Rattle.channel_calls.specs.declared.stage.Making.TheVariants as making
+use Rattle.channel_calls.specs.declared.stage.Side.{Side}
+use Rattle.channel_calls.specs.declared.stage.Turn.{Turn}
+use Rattle.channel_calls.specs.declared.stage.Turn.TheVariants.{Tries, Works, Ends}
+use Rattle.channel_calls.specs.declared.stage.Waiting.{Waiting}
+use Rattle.channel_calls.specs.declared.stage.Waiting.TheVariants as waiting
+use Rattle.channel_calls.specs.declared.stage.Work.TheVariants.{Leave}
+use Rattle.channel_calls.specs.declared.stage.Work.TheVariants as work
+use Rattle.channel_steps.specs.Known.{TriesFor}
+use Rattle.channel_world_runs.specs.Owners.{closer_holds, aim_holds, aim_task, work_holds, work_task}
+
+module _ {W : Type 0} where
+  -- the task is this, or none
+  abbrev pub MayBear : Option W → Option W → Type 0
+  MayBear o task = (o ≡ None) ⊎ (o ≡ task)
+
+module _ {T : Type 0} where
+  -- an answer to this call of the queue
+  abbrev IsSent : QueueReply T → Type 0
+  IsSent (answer.Push r) = Unit {0}
+  IsSent x = ⊥
+
+  abbrev IsReceived : QueueReply T → Type 0
+  IsReceived (answer.Pop r) = Unit {0}
+  IsReceived x = ⊥
+
+  abbrev IsFlag : QueueReply T → Type 0
+  IsFlag (answer.Flag b) = Unit {0}
+  IsFlag x = ⊥
+
+  abbrev IsClosing : QueueReply T → Type 0
+  IsClosing (answer.Close b) = Unit {0}
+  IsClosing x = ⊥
+
+  push_is : (q : Queue T) (v : T) (m : QueueMark) (x : QueueReply T) (s : Stage T) → AnswersPush q v m x s → IsSent x
+  push_is q v Nothing (answer.Push r) s h = tt
+  push_is q v m x s h = absurd h
+
+  pop_is : (q : Queue T) (m : QueueMark) (x : QueueReply T) (s : Stage T) → AnswersPop q m x s → IsReceived x
+  pop_is q Nothing (answer.Pop r) s h = tt
+  pop_is q m x s h = absurd h
+
+  flag_is : (q : Queue T) (m : QueueMark) (x : QueueReply T) (s : Stage T) → AnswersShut q m x s → IsFlag x
+  flag_is q Nothing (answer.Flag r) s h = tt
+  flag_is q m x s h = absurd h
+
+  closing_is : (q : Queue T) (m : QueueMark) (x : QueueReply T) (s : Stage T) → AnswersClose q m x s → IsClosing x
+  closing_is q Nothing (answer.Close r) s h = tt
+  closing_is q Close (answer.Close r) s h = tt
+  closing_is q m x s h = absurd h
+
+module _ (T W : Type 0) where
+  -- after this turn the call has this listener in hand, for this task; where it ends, it has none
+  abbrev pub Has : Option Held → Option W → Turn T W → Type 0
+  Has h task (Tries x a) = (aim_holds a ≡ h) × MayBear (aim_task a) task
+  Has h task (Works w) = (work_holds w ≡ h) × MayBear (work_task w) task
+  Has h task (Ends x kept) = (h ≡ None) × (kept.key ≡ None)
+
+  ends_or : (e : Ending T) (o : Option Held) (task : Option W) → e.held ≡ o → Has o task (elim o [ None ↦ Ends e.reply (leaving None e.message) | Some held ↦ Works (Leave e) ])
+  ends_or e None task same = (refl, refl)
+  ends_or e (Some h) task same = (same, inl refl)
+
+  pub ends_has : (e : Ending T) (task : Option W) → Has e.held task (ends_by e)
+  ends_has e task = ends_or e e.held task refl
+
+  refused_has : (w : Waiting T) (key : Option Key) (task : W) → Has (held_on (line_of w) key) (Some task) (refused_next w key task)
+  refused_has w None task = (refl, inr refl)
+  refused_has w (Some key) task = (refl, inr refl)
+
+  over_has : (x : Reply T) (m : Option T) (line : Line) (key : Option Key) (task : Option W) → Has (held_on line key) task (ends_by (over x m line key))
+  over_has x m line None task = (refl, refl)
+  over_has x m line (Some key) task = (refl, inl refl)
+
+  closer_has : (c : Closer) (b : Bool) (task : Option W) → Has (closer_holds c) task (ends_by (closer_ending c b))
+  closer_has closer.Call b task = (refl, refl)
+  closer_has closer.Sender b task = (refl, refl)
+  closer_has (closer.Receiver None) b task = (refl, refl)
+  closer_has (closer.Receiver (Some key)) b task = (refl, inl refl)
+
+  pub told_all_has : (line : Line) (c : Closer) (task : Option W) → Has (closer_holds c) task (told_all_next line c)
+  told_all_has Sends c task = (refl, inl refl)
+  told_all_has Receives c task = (refl, inl refl)
+  told_all_has Streams c task = (refl, inl refl)
+  told_all_has Closings c task = closer_has c true task
+
+  lowered_or : (b : Bool) (side : Side) (key : Option Key) (task : Option W) → Has (closer_holds (dropper side key)) task (if b then Tries queue.Close (aim.Close (dropper side key)) else ends_by (closer_ending (dropper side key) false))
+  lowered_or true side key task = (refl, inl refl)
+  lowered_or false side key task = closer_has (dropper side key) false task
+
+  pub lowered_has : (side : Side) (key : Option Key) (n : ℕ) (task : Option W) → Has (closer_holds (dropper side key)) task (lowered_next side key n)
+  lowered_has side key n task = lowered_or (n == 1) side key task
+
+  counted_or : (b : Bool) (side : Side) (m : Making) (n : ℕ) → Has None None (if b then Ends reply.TooMany (leaving None None) else Works (work.Raise side n m))
+  counted_or true side m n = (refl, refl)
+  counted_or false side m n = (refl, inl refl)
+
+  counted_has : (side : Side) (m : Making) (n : ℕ) → Has None None (counted_next side m n)
+  counted_has side m n = counted_or (nat_lt most n) side m n
+
+  upgraded_or : (b : Bool) (side : Side) (n : ℕ) → Has None None (if b then Ends reply.NotMade (leaving None None) else counted_next side making.Upgrade n)
+  upgraded_or true side n = (refl, refl)
+  upgraded_or false side n = counted_has side making.Upgrade n
+
+  pub loaded_has : (side : Side) (m : Making) (n : ℕ) → Has None None (loaded_next side m n)
+  loaded_has side making.Clone n = counted_has side making.Clone n
+  loaded_has side making.Upgrade n = upgraded_or (n == 0) side n
+
+  pub raised_has : (side : Side) (m : Making) (b : Bool) → Has None None (raised_next side m b)
+  raised_has side m true = (refl, refl)
+  raised_has side m false = (refl, inl refl)
+
+  -- ---- an answer of the queue
+
+  sent_has : (x : QueueReply T) → Has None None (sent_next x)
+  sent_has (answer.Push (Ok u)) = (refl, inl refl)
+  sent_has (answer.Push (Err (push_error.Full m))) = (refl, refl)
+  sent_has (answer.Push (Err (push_error.Closed m))) = (refl, refl)
+  sent_has (answer.Push (Err (push_error.NoMemory m))) = (refl, refl)
+  sent_has x = (refl, refl)
+
+  forced_has : (x : QueueReply T) → Has None None (forced_next x)
+  forced_has (answer.Force (Ok d)) = (refl, inl refl)
+  forced_has (answer.Force (Err (force_error.Closed m))) = (refl, refl)
+  forced_has (answer.Force (Err (force_error.NoMemory m))) = (refl, refl)
+  forced_has x = (refl, refl)
+
+  received_has : (x : QueueReply T) → Has None None (received_next x)
+  received_has (answer.Pop (Ok m)) = (refl, inl refl)
+  received_has (answer.Pop (Err pop_error.Empty)) = (refl, refl)
+  received_has (answer.Pop (Err pop_error.Closed)) = (refl, refl)
+  received_has x = (refl, refl)
+
+  asked_has : (x : QueueReply T) → Has None None (asked_next x)
+  asked_has (answer.Flag b) = (refl, refl)
+  asked_has (answer.Count n) = (refl, refl)
+  asked_has (answer.Cap n) = (refl, refl)
+  asked_has x = (refl, refl)
+
+  terminated_has : (x : QueueReply T) → Has None None (terminated_next x)
+  terminated_has (answer.Flag true) = (refl, inl refl)
+  terminated_has (answer.Flag false) = (refl, refl)
+  terminated_has x = (refl, refl)
+
+  upgraded_has : (x : QueueReply T) (side : Side) → Has None None (upgraded_next x side)
+  upgraded_has (answer.Flag true) side = (refl, refl)
+  upgraded_has (answer.Flag false) side = (refl, inl refl)
+  upgraded_has x side = (refl, refl)
+
+  send_has : (x : QueueReply T) (key : Option Key) (task : W) → IsSent x → Has (held_on Sends key) (Some task) (send_next x key task)
+  send_has (answer.Push (Ok u)) key task h = (refl, inl refl)
+  send_has (answer.Push (Err (push_error.Full m))) key task h = refused_has (waiting.Send m) key task
+  send_has (answer.Push (Err (push_error.Closed m))) key task h = over_has _ None Sends key (Some task)
+  send_has (answer.Push (Err (push_error.NoMemory m))) key task h = over_has _ (Some m) Sends key (Some task)
+  send_has x key task h = absurd h
+
+  receive_has : (x : QueueReply T) (key : Option Key) (task : W) → IsReceived x → Has (held_on Receives key) (Some task) (receive_next x key task)
+  receive_has (answer.Pop (Ok m)) key task h = (refl, inl refl)
+  receive_has (answer.Pop (Err pop_error.Empty)) key task h = refused_has waiting.Receive key task
+  receive_has (answer.Pop (Err pop_error.Closed)) key task h = over_has _ None Receives key (Some task)
+  receive_has x key task h = absurd h
+
+  stream_has : (x : QueueReply T) (key : Option Key) (task : W) → IsReceived x → Has (held_on Streams key) (Some task) (stream_next x key task)
+  stream_has (answer.Pop (Ok m)) key task h = (refl, inl refl)
+  stream_has (answer.Pop (Err pop_error.Empty)) key task h = refused_has waiting.Stream key task
+  stream_has (answer.Pop (Err pop_error.Closed)) key task h = over_has _ None Streams key (Some task)
+  stream_has x key task h = absurd h
+
+  closing_has : (x : QueueReply T) (key : Option Key) (task : W) → IsFlag x → Has (held_on Closings key) (Some task) (closing_next x key task)
+  closing_has (answer.Flag true) key task h = over_has _ None Closings key (Some task)
+  closing_has (answer.Flag false) key task h = refused_has waiting.Closing key task
+  closing_has x key task h = absurd h
+
+  closed_has : (x : QueueReply T) (c : Closer) → IsClosing x → Has (closer_holds c) None (closed_next x c)
+  closed_has (answer.Close true) c h = (refl, inl refl)
+  closed_has (answer.Close false) c h = closer_has c false None
+  closed_has x c h = absurd h
+
+  pub room_has : (n : ℕ) → Has None None (room_next n)
+  room_has zero = (refl, refl)
+  room_has (suc n) = (refl, inl refl)
+
+  gathered_has : (vs : List T) (n : ℕ) → Has None None (gathered_next (with_last vs n))
+  gathered_has vs zero = (refl, inl refl)
+  gathered_has vs (suc n) = (refl, inl refl)
+
+  short_has : (vs : List T) (e : TryRecvError) → Has None None (short_next vs e)
+  short_has [] e = (refl, refl)
+  short_has (v ∷ vs) e = (refl, inl refl)
+
+  several_has : (x : QueueReply T) (g : Gathered T) → Has None None (several_next x g)
+  several_has (answer.Pop (Ok m)) g = gathered_has (g.taken ++ m ∷ []) g.more
+  several_has (answer.Pop (Err pop_error.Empty)) g = short_has g.taken try_recv_error.Empty
+  several_has (answer.Pop (Err pop_error.Closed)) g = short_has g.taken try_recv_error.Closed
+  several_has x g = (refl, refl)
+
+  -- a call of the channel goes on with what it has in hand
+  pub answered_has : (q : Queue T) (x : ChannelAsk T W) (y : Aim T W) (a : QueueAsk T) (m : QueueMark) (r : QueueReply T) (s : Stage T) (ds : _) (seen : _)
+      → TriesFor x y a ds seen → AnswersTo q a m r s → Has (aim_holds y) (aim_task y) (answered_next y r)
+  answered_has q x aim.TrySend a m r s ds seen t h = sent_has r
+  answered_has q x aim.ForceSend a m r s ds seen t h = forced_has r
+  answered_has q x aim.TryRecv a m r s ds seen t h = received_has r
+  answered_has q x (aim.RecvMany g) a m r s ds seen t h = several_has r g
+  answered_has q x aim.Ask a m r s ds seen t h = asked_has r
+  answered_has q x aim.IsTerminated a m r s ds seen t h = terminated_has r
+  answered_has q x (aim.Upgrade side) a m r s ds seen t h = upgraded_has r side
+  answered_has q (ask.PollSend v k u) (aim.Poll Sends key task) (queue.Push w) m r s ds seen t h = send_has r key task (push_is q w m r s h)
+  answered_has q (ask.PollRecv k u) (aim.Poll Receives key task) queue.Pop m r s ds seen t h = receive_has r key task (pop_is q m r s h)
+  answered_has q (ask.PollNext k u) (aim.Poll Streams key task) queue.Pop m r s ds seen t h = stream_has r key task (pop_is q m r s h)
+  answered_has q (ask.PollClosed k u) (aim.Poll Closings key task) queue.IsClosed m r s ds seen t h = closing_has r key task (flag_is q m r s h)
+  answered_has q ask.Close (aim.Close closer.Call) queue.Close m r s ds seen t h = closed_has r closer.Call (closing_is q m r s h)
+  answered_has q ask.DropSender (aim.Close closer.Sender) queue.Close m r s ds seen t h = closed_has r closer.Sender (closing_is q m r s h)
+  answered_has q (ask.DropReceiver k) (aim.Close (closer.Receiver key)) queue.Close m r s ds seen t h = closed_has r (closer.Receiver key) (closing_is q m r s h)
+  answered_has q x y a m r s ds seen t h = absurd t

@@ -1,0 +1,309 @@
+-- Messages that a call made alone brings in, and the positions that are left.
+use Rattle.std.proofs.Common.{arith, ◌≡◌, ℕ, ◌+◌, ◌≤◌, Bool, true, false, if◌then◌else◌, List, [], ◌∷◌, length, slice_get, Option, None, Some, Ok, Err, inl, inr, ◌⊎◌, refl, sym, ap, ◌∙◌, subst}
+use Rattle.std.specs.Option.{option_map, option_map_or}
+use Rattle.futures.specs.declared.task.Poll.TheVariants as poll
+use Rattle.concurrent_queue.specs.Queue.{Queue, is_filled}
+use Rattle.event_listener.specs.declared.key.Key.{Key}
+use Rattle.channel_steps.specs.solo.Alone.{Outcome, Alone, AsksListener, PollsSend, Where, over_queue, with_appended, replaced, answers, ends, of_message, WaitsOrGoesOn, ListensOrIsRefused}
+use Rattle.channel_steps.specs.solo.Configurations.{LoneRun, steps_by}
+use Rattle.channel_calls.specs.Answered.{over}
+use Rattle.channel_calls.specs.Moves.{Channel, tells_one, tells_all, registers}
+use Rattle.channel_calls.specs.Parts.{listeners, waits}
+use Rattle.channel_calls.specs.Turns.{says, leaving, line_of, message_of, pending_reply}
+use Rattle.channel_calls.specs.declared.ask.ChannelAsk.{ChannelAsk}
+use Rattle.channel_calls.specs.declared.ask.ChannelAsk.TheVariants as channel
+use Rattle.channel_calls.specs.declared.error.Refused.TheVariants as refused
+use Rattle.channel_calls.specs.declared.error.TrySendError.TheVariants as try_send_error
+use Rattle.channel_calls.specs.declared.reply.Reply.{Reply}
+use Rattle.channel_calls.specs.declared.reply.Reply.TheVariants as reply
+use Rattle.channel_calls.specs.declared.stage.Ending.{Ending}
+use Rattle.channel_calls.specs.declared.stage.Line.TheVariants.{Sends, Receives, Streams}
+use Rattle.channel_calls.specs.declared.stage.Side.TheVariants.{Senders, Receivers}
+use Rattle.channel_calls.specs.declared.stage.Waiting.{Waiting}
+use Rattle.channel_calls.specs.declared.stage.Waiting.TheVariants as waiting
+use Rattle.channel_world_model.specs.Asked.{poll_asked, refusal_asked, giving_up_asked, drop_asked, clone_asked, upgrade_asked}
+use Rattle.channel_world_model.specs.Laws.{is_line, line_of_operation}
+use Rattle.channel_world_model.specs.Laws as laws
+use Rattle.channel_world_model.specs.Settling.{poll_of}
+use Rattle.channel_world_model.specs.Names.{at}
+use Rattle.channel_world_model.specs.Names as model
+use Rattle.channel_world_model.specs.declared.call.Call.{Call}
+use Rattle.channel_world_model.specs.declared.call.Call.TheVariants as call
+use Rattle.channel_world_model.specs.declared.name.Handle.{Handle}
+use Rattle.channel_world_model.specs.declared.name.HandleId.{HandleId}
+use Rattle.channel_world_model.specs.declared.name.HandleKind.{HandleKind}
+use Rattle.channel_world_model.specs.declared.name.HandleKind.TheVariants as handle_kind
+use Rattle.channel_world_model.specs.declared.name.OpId.{OpId}
+use Rattle.channel_world_model.specs.declared.name.Waiter.{Waiter}
+use Rattle.channel_world_model.specs.declared.name.Waiter.TheVariants.{Op, Stream}
+use Rattle.channel_steps.specs.Run.{EachStep, NextConfiguration, end_of}
+use Rattle.channel_steps.specs.Configuration.{Configuration, brought}
+use Rattle.channel_steps.specs.declared.party.Entry.{Entry}
+use Rattle.channel_world_runs.specs.Bookkeeping.{asks}
+use Rattle.channel_world_runs.specs.Positions.{has_message, brings, came_in, accepted_by, yet_in}
+use Rattle.channel_world_runs.specs.NameTable.{held_of, handle_at, names_of, operation_at, operation_of}
+use Rattle.channel_world_runs.specs.declared.names.Operation.{Operation}
+use Rattle.channel_world_runs.specs.declared.names.OperationKind.{OperationKind}
+use Rattle.channel_world_runs.specs.declared.names.OperationKind.TheVariants as kind
+use Rattle.channel_world_runs.specs.declared.name_table.NameTable.{NameTable}
+use Rattle.channel_world_runs.proofs.PositionFacts.{left_queue, step_brings, begin_brings}
+use Rattle.channel_world_runs.proofs.RefusalLemmas as refusals
+
+module _ (T : Type 0) where
+  none_cloned : (o : Option Handle) → length (brought (let a : ChannelAsk T Waiter = clone_asked o in a)) ≡ 0
+  none_cloned None = refl
+  none_cloned (Some h) = by h.kind
+    where
+      by : (k : HandleKind) → let a : ChannelAsk T Waiter = elim k [
+        | handle_kind.Sender ↦ channel.CloneHandle Senders
+        | handle_kind.Receiver ↦ channel.CloneHandle Receivers
+        | handle_kind.WeakSender ↦ channel.Make
+        | handle_kind.WeakReceiver ↦ channel.Make
+      ] in length (brought a) ≡ 0
+      by handle_kind.Sender = refl
+      by handle_kind.Receiver = refl
+      by handle_kind.WeakSender = refl
+      by handle_kind.WeakReceiver = refl
+
+  none_upgraded : (o : Option Handle) → length (brought (let a : ChannelAsk T Waiter = upgrade_asked o in a)) ≡ 0
+  none_upgraded None = refl
+  none_upgraded (Some h) = by h.kind
+    where
+      by : (k : HandleKind) → let a : ChannelAsk T Waiter = elim k [
+        | handle_kind.Sender ↦ channel.Upgrade Senders
+        | handle_kind.Receiver ↦ channel.Upgrade Receivers
+        | handle_kind.WeakSender ↦ channel.Upgrade Senders
+        | handle_kind.WeakReceiver ↦ channel.Upgrade Receivers
+      ] in length (brought a) ≡ 0
+      by handle_kind.Sender = refl
+      by handle_kind.Receiver = refl
+      by handle_kind.WeakSender = refl
+      by handle_kind.WeakReceiver = refl
+
+module _ {T : Type 0} where
+  -- ---- a call that may bring none asks for none to be brought
+
+  none_polled : (r : NameTable T) (op : OpId) (o : Option (Operation T))
+      → option_map_or (λ (x : Operation T). has_message x.kind x.message) o false ≡ false
+      → length (brought (poll_asked (held_of r) op (option_map operation_of o))) ≡ 0
+  none_polled r op None e = refl
+  none_polled r op (Some o) e = by o.kind o.message e where
+    by : (k : OperationKind) (m : Option T) → has_message k m ≡ false
+        → length (brought (poll_asked (held_of r) op (Some (elim k [ kind.Send ↦ model.send o.handle m | kind.Receive ↦ model.recv o.handle | kind.Closing ↦ model.closing o.handle ])))) ≡ 0
+    by kind.Send None e = refl
+    by kind.Send (Some m) e = absurd (let no : true ≡ false = e in cc)
+    by kind.Receive m e = refl
+    by kind.Closing m e = refl
+
+  none_refused : (r : NameTable T) (op : OpId) (o : Option (model.ModelOperation T)) → length (brought (refusal_asked (held_of r) op o)) ≡ 0
+  none_refused r op None = refl
+  none_refused r op (Some (model.send handle m)) = refl
+  none_refused r op (Some (model.recv handle)) = refl
+  none_refused r op (Some (model.closing handle)) = refl
+
+  none_given_up : (r : NameTable T) (op : OpId) (o : Option (model.ModelOperation T)) → length (brought (giving_up_asked (held_of r) op o)) ≡ 0
+  none_given_up r op None = refl
+  none_given_up r op (Some (model.send handle m)) = refl
+  none_given_up r op (Some (model.recv handle)) = refl
+  none_given_up r op (Some (model.closing handle)) = refl
+
+  none_dropped : (r : NameTable T) (handle : HandleId) (o : Option Handle)
+      → length (brought (let a : ChannelAsk T Waiter = drop_asked (held_of r) handle o in a)) ≡ 0
+  none_dropped r handle None = refl
+  none_dropped r handle (Some h) = by h.kind
+    where
+      by : (k : HandleKind) → let a : ChannelAsk T Waiter = elim k [
+        | handle_kind.Sender ↦ channel.DropSender
+        | handle_kind.Receiver ↦ channel.DropReceiver (held_of r (Stream handle))
+        | handle_kind.WeakSender ↦ channel.DropWeak
+        | handle_kind.WeakReceiver ↦ channel.DropWeak
+      ] in length (brought a) ≡ 0
+      by handle_kind.Sender = refl
+      by handle_kind.Receiver = refl
+      by handle_kind.WeakSender = refl
+      by handle_kind.WeakReceiver = refl
+
+  -- no call brings more than one
+  pub brought_most : (a : ChannelAsk T Waiter) → length (brought a) ≤ 1
+  brought_most (channel.TrySend m) = omega arith
+  brought_most (channel.ForceSend m) = omega arith
+  brought_most (channel.PollSend m key task) = omega arith
+  brought_most a = omega arith
+
+  pub no_message : (r : NameTable T) (c : Call T) → brings r c ≡ false → length (brought (asks r c)) ≡ 0
+  no_message r (call.TrySend sender m) e = absurd (let no : true ≡ false = e in cc)
+  no_message r (call.ForceSend sender m) e = absurd (let no : true ≡ false = e in cc)
+  no_message r (call.Poll op) e = none_polled r op (at op.0 r.operations) e
+  no_message r (call.PollRefused op) e = none_refused r op (operation_at op r)
+  no_message r (call.GiveUp op) e = none_given_up r op (operation_at op r)
+  no_message r (call.Drop handle) e = none_dropped r handle (handle_at handle r)
+  no_message r (call.TryClone handle new) e = none_cloned T (handle_at handle r)
+  no_message r (call.Upgrade weak new) e = none_upgraded T (handle_at weak r)
+  no_message r c e = refl
+
+  -- a poll that may bring one is that of a send
+  pub only_sends_bring : (r : NameTable T) (w : Waiter) → brings r (poll_of w) ≡ true → is_line Sends (laws.line_at (names_of r) w) ≡ true
+  only_sends_bring r (Stream receiver) e = absurd (let no : false ≡ true = e in cc)
+  only_sends_bring r (Op op) e =
+      ap (λ (o : Option (model.ModelOperation T)). is_line Sends (line_of_operation o)) (refusals.operation_at r op.0)
+      ∙ by (at op.0 r.operations) e
+    where
+      kinds : (handle : HandleId) (k : OperationKind) (m : Option T) → has_message k m ≡ true
+          → is_line Sends (line_of_operation (Some (elim k [ kind.Send ↦ model.send handle m | kind.Receive ↦ model.recv handle | kind.Closing ↦ model.closing handle ]))) ≡ true
+      kinds handle kind.Send (Some m) has = refl
+      kinds handle kind.Send None has = absurd (let no : false ≡ true = has in cc)
+      kinds handle kind.Receive m has = absurd (let no : false ≡ true = has in cc)
+      kinds handle kind.Closing m has = absurd (let no : false ≡ true = has in cc)
+
+      by : (o : Option (Operation T)) → option_map_or (λ (x : Operation T). has_message x.kind x.message) o false ≡ true
+          → is_line Sends (line_of_operation (option_map operation_of o)) ≡ true
+      by None has = absurd (let no : false ≡ true = has in cc)
+      by (Some o) has = kinds o.handle o.kind o.message has
+
+  -- ---- what a call made alone brings in, its reply says
+
+  abbrev Accepts : Channel T Waiter → Outcome T Waiter → Type 0
+  Accepts c o = o.channel.queue.accepted ≤ c.queue.accepted + came_in o.reply
+
+  -- with no message
+  kept_out : (x : Ending T) (c : Channel T Waiter) (o : Outcome T Waiter) → o ≡ ends [] x c → Accepts c o
+  kept_out x c o e =
+      subst (λ (y : Outcome T Waiter). Accepts c y) (sym e)
+      (let same : (ends [] x c).channel.queue.accepted ≡ c.queue.accepted = ap (λ (q : Queue T). q.accepted) (left_queue x.held c) in omega (arith, same))
+
+  -- with one
+  let_in : (x : Ending T) (c d : Channel T Waiter) (o : Outcome T Waiter) → o ≡ ends of_message x d
+      → d.queue.accepted ≡ c.queue.accepted + 1 → came_in x.reply ≡ 1 → Accepts c o
+  let_in x c d o e more one =
+      subst (λ (y : Outcome T Waiter). Accepts c y) (sym e)
+      (let there : Channel T Waiter = (tells_all Streams (tells_one Receives d).channel).channel in
+      let same : (ends of_message x d).channel.queue.accepted ≡ d.queue.accepted = ap (λ (q : Queue T). q.accepted) (left_queue x.held there) in
+      omega (arith, same, more, one))
+
+  sends_by : (b f : Bool) (m : T) (c : Channel T Waiter) (o : Outcome T Waiter)
+      → o ≡ (if b then ends [] (says (reply.TrySend (Err (refused.Plain (try_send_error.Closed m))))) c
+      else (if f then ends [] (says (reply.TrySend (Err (refused.Plain (try_send_error.Full m))))) c
+      else ends of_message (says (reply.TrySend (Ok tt))) (over_queue (with_appended m) c)))
+      → Accepts c o
+  sends_by true f m c o e = kept_out (says (reply.TrySend (Err (refused.Plain (try_send_error.Closed m))))) c o e
+  sends_by false true m c o e = kept_out (says (reply.TrySend (Err (refused.Plain (try_send_error.Full m))))) c o e
+  sends_by false false m c o e = let_in (says (reply.TrySend (Ok tt))) c (over_queue (with_appended m) c) o e refl refl
+
+  forces_by : (b f : Bool) (m : T) (c : Channel T Waiter) (o : Outcome T Waiter)
+      → o ≡ (if b then ends [] (says (reply.ForceSend (Err (refused.Plain (record { 0 = m }))))) c
+      else (if f then ends of_message (says (reply.ForceSend (Ok (slice_get c.queue.items 0)))) (over_queue (replaced m) c)
+      else ends of_message (says (reply.ForceSend (Ok None))) (over_queue (with_appended m) c)))
+      → Accepts c o
+  forces_by true f m c o e = kept_out (says (reply.ForceSend (Err (refused.Plain (record { 0 = m }))))) c o e
+  forces_by false true m c o e = let_in (says (reply.ForceSend (Ok (slice_get c.queue.items 0)))) c (over_queue (replaced m) c) o e refl refl
+  forces_by false false m c o e = let_in (says (reply.ForceSend (Ok None))) c (over_queue (with_appended m) c) o e refl refl
+
+  -- a poll that waits brings none
+  listens_out : (w : Waiting T) (task : Waiter) (c : Channel T Waiter) (o : Outcome T Waiter) → ListensOrIsRefused w task c o → Accepts c o
+  listens_out w task c o (inl h) = subst (λ (y : Outcome T Waiter). Accepts c y) (sym h.2) (omega arith)
+  listens_out w task c o (inr h) = subst (λ (y : Outcome T Waiter). Accepts c y) (sym h.1) (omega arith)
+
+  registers_out : (b : Bool) (w : Waiting T) (key : Key) (task : Waiter) (c : Channel T Waiter) (o : Outcome T Waiter)
+      → Where b (o ≡ answers (pending_reply (line_of w)) (leaving (Some key) (message_of w)) (registers (line_of w) key task c).channel)
+      (ListensOrIsRefused w task (registers (line_of w) key task c).channel o) → Accepts c o
+  registers_out true w key task c o e = subst (λ (y : Outcome T Waiter). Accepts c y) (sym e) (omega arith)
+  registers_out false w key task c o h = listens_out w task (registers (line_of w) key task c).channel o h
+
+  waits_out : (w : Waiting T) (key : Option Key) (task : Waiter) (c : Channel T Waiter) (o : Outcome T Waiter) → WaitsOrGoesOn w key task c o
+      → Accepts c o
+  waits_out w None task c o h = listens_out w task c o h
+  waits_out w (Some key) task c o h = registers_out (waits key (listeners (line_of w) c.roster)) w key task c o h
+
+  polls_by : (b f : Bool) (m : T) (key : Option Key) (task : Waiter) (c : Channel T Waiter) (o : Outcome T Waiter)
+      → Where b (o ≡ ends [] (over (reply.SendPoll (poll.Ready (Err (refused.Plain (record { 0 = m }))))) None Sends key) c)
+      (Where f (WaitsOrGoesOn (waiting.Send m) key task c o)
+      (o ≡ ends of_message (over (reply.SendPoll (poll.Ready (Ok tt))) None Sends key) (over_queue (with_appended m) c)))
+      → Accepts c o
+  polls_by true f m key task c o e =
+      kept_out (over (reply.SendPoll (poll.Ready (Err (refused.Plain (record { 0 = m }))))) None Sends key) c o e
+  polls_by false true m key task c o h = waits_out (waiting.Send m) key task c o h
+  polls_by false false m key task c o e = let_in (over (reply.SendPoll (poll.Ready (Ok tt))) None Sends key) c (over_queue (with_appended m) c) o e refl refl
+
+  tries_out : (m : T) (key : Option Key) (task : Waiter) (c : Channel T Waiter) (o : Outcome T Waiter) → PollsSend m key task c o → Accepts c o
+  tries_out m key task c o (inl h) = kept_out (over (reply.SendPoll (poll.Ready (Err (refused.NoMemory tt)))) (Some m) Sends key) c o h.2
+  tries_out m key task c o (inr h) = polls_by c.queue.closed (is_filled c.queue) m key task c o h
+
+  asks_out : (b : Bool) (m : T) (key : Key) (task : Waiter) (c : Channel T Waiter) (o : Outcome T Waiter)
+      → Where b (o ≡ answers (pending_reply Sends) (leaving (Some key) (Some m)) (registers Sends key task c).channel)
+      (PollsSend m None task (registers Sends key task c).channel o) → Accepts c o
+  asks_out true m key task c o e = subst (λ (y : Outcome T Waiter). Accepts c y) (sym e) (omega arith)
+  asks_out false m key task c o h = tries_out m None task (registers Sends key task c).channel o h
+
+  poll_out : (b : Bool) (m : T) (key : Option Key) (task : Waiter) (c : Channel T Waiter) (o : Outcome T Waiter)
+      → Where b (AsksListener (waiting.Send m) key task c o (λ (d : Channel T Waiter). PollsSend m None task d o)) (PollsSend m key task c o) → Accepts c o
+  poll_out false m key task c o h = tries_out m key task c o h
+  poll_out true m None task c o h = tries_out m None task c o h
+  poll_out true m (Some key) task c o h = asks_out (waits key (listeners Sends c.roster)) m key task c o h
+
+  alone_accepts : (a : ChannelAsk T Waiter) (c : Channel T Waiter) (o : Outcome T Waiter) → Alone a c o
+      → (length (brought a) ≡ 0) ⊎ Accepts c o
+  alone_accepts (channel.TrySend m) c o (inl h) = inr (kept_out (says (reply.TrySend (Err (refused.NoMemory m)))) c o h.2)
+  alone_accepts (channel.TrySend m) c o (inr h) = inr (sends_by c.queue.closed (is_filled c.queue) m c o h)
+  alone_accepts (channel.ForceSend m) c o (inl h) = inr (kept_out (says (reply.ForceSend (Err (refused.NoMemory m)))) c o h.2)
+  alone_accepts (channel.ForceSend m) c o (inr h) = inr (forces_by c.queue.closed (is_filled c.queue) m c o h)
+  alone_accepts (channel.PollSend m l task) c o h = inr (poll_out l.asks_first m l.key task c o h)
+  alone_accepts a c o h = inl refl
+
+  -- ---- its steps bring in no more than it has
+
+  abbrev all_in : Configuration T Waiter → ℕ
+  all_in s = s.now.queue.accepted + yet_in s.under_way
+
+  steps_bring : (s : Configuration T Waiter) (p : ℕ) (es : List (Entry T)) (ns : List (Configuration T Waiter)) → EachStep NextConfiguration s (steps_by p es) es ns
+      → all_in (end_of s ns) ≤ all_in s
+  steps_bring s p [] [] h = omega arith
+  steps_bring s p (e ∷ es) (n ∷ ns) h =
+      let b = step_brings s p e h.0.0 n h.0.1 in
+      let one = b.accepted in
+      let fewer = b.fewer in
+      let rest = steps_bring n p es ns h.1 in
+      omega (arith, one, fewer, rest)
+  steps_bring s p [] (n ∷ ns) h = absurd h
+  steps_bring s p (e ∷ es) [] h = absurd h
+
+  lone_brings : (s : Configuration T Waiter) (p : ℕ) (a : ChannelAsk T Waiter) (o : Outcome T Waiter) (t : Configuration T Waiter) → LoneRun s p a o t
+      → all_in t ≤ all_in s + length (brought a)
+  lone_brings s p a o t run =
+      let same = ap (λ (c : Channel T Waiter). c.queue.accepted) run.begins.now in
+      let more = begin_brings s p a _ run.begun run.begins in
+      let goes = steps_bring run.begun p run.entries run.run.moments run.run.each in
+      let end = ap all_in run.run.ends in
+      omega (arith, same, more, goes, end)
+
+  pub came_most : (x : Reply T) → came_in x ≤ 1
+  came_most (reply.TrySend (Ok u)) = omega arith
+  came_most (reply.ForceSend (Ok d)) = omega arith
+  came_most (reply.SendPoll (poll.Ready (Ok u))) = omega arith
+  came_most x = omega arith
+
+  -- ---- the count of the accepted
+
+  -- what was counted before and what the reply says is no less than what was accepted, and no more than before where the call
+  -- brings none
+  pub record Counted (n : ℕ) (b : Bool) (x : Reply T) (t : Configuration T Waiter) : Type 0 where
+    pub accepted : t.now.queue.accepted ≤ n + accepted_by b x
+    pub most : accepted_by b x ≤ 1
+    pub none : b ≡ false → accepted_by b x ≡ 0
+
+  pub counted_alone : (r : NameTable T) (c : Call T) (n : ℕ) (s t : Configuration T Waiter) (o : Outcome T Waiter) (p : ℕ)
+      → LoneRun s p (asks r c) o t → Alone (asks r c) s.now o → t.now ≡ o.channel → s.under_way ≡ [] → s.now.queue.accepted ≤ n
+      → Counted n (brings r c) o.reply t
+  counted_alone r c n s t o p run alone now quiet low = by (brings r c) refl (alone_accepts (asks r c) s.now o alone) where
+    all : all_in t ≤ all_in s + length (brought (asks r c))
+    all = lone_brings s p (asks r c) o t run
+
+    none_yet : yet_in s.under_way ≡ 0
+    none_yet = ap yet_in quiet
+
+    there : t.now.queue.accepted ≡ o.channel.queue.accepted
+    there = ap (λ (d : Channel T Waiter). d.queue.accepted) now
+
+    by : (b : Bool) → brings r c ≡ b → (length (brought (asks r c)) ≡ 0) ⊎ Accepts s.now o → Counted n b o.reply t
+    by true e (inl none) = record { accepted = omega (arith, all, none_yet, none, low); most = came_most o.reply; none = λ f. absurd (let no : true ≡ false = f in cc) }
+    by true e (inr in_it) = record { accepted = omega (arith, there, in_it, low); most = came_most o.reply; none = λ f. absurd (let no : true ≡ false = f in cc) }
+    by false e h = let none = no_message r c e in record { accepted = omega (arith, all, none_yet, none, low); most = omega arith; none = λ f. refl }

@@ -1,0 +1,413 @@
+-- How many calls use each handle and how many operations borrow it, as calls begin, make steps and end.
+use Rattle.std.proofs.Common.{arith, ◌≡◌, ℕ, zero, suc, ◌+◌, ◌≤◌, nat_eq, Bool, true, false, cond, List, [], ◌∷◌, ◌++◌, length, slice_get, unwrap_or, Option, None, Some, ◌⊎◌, inl, inr, refl, sym, ap, ◌∙◌, subst}
+use Rattle.std.specs.List.{remove}
+use Rattle.std.specs.Option.{option_map, option_map_or}
+use Rattle.std.specs.Map.{lookup, set_value}
+use Rattle.channel_calls.specs.Turns.{nothing_kept}
+use Rattle.channel_calls.specs.declared.reply.Reply.{Reply}
+use Rattle.channel_calls.specs.declared.reply.Reply.TheVariants as reply
+use Rattle.channel_calls.specs.declared.stage.Kept.{Kept}
+use Rattle.channel_world_model.proofs.WaiterLemmas.{decided}
+use Rattle.channel_world_model.specs.Answer.{weak_of, strong_of}
+use Rattle.channel_world_model.specs.Names.{Directory, at, with_changed, without_name, with_spent}
+use Rattle.channel_world_model.specs.declared.call.Call.{Call}
+use Rattle.channel_world_model.specs.declared.call.Call.TheVariants as call
+use Rattle.channel_world_model.specs.declared.name.Handle.{Handle}
+use Rattle.channel_world_model.specs.declared.name.HandleId.{HandleId}
+use Rattle.channel_world_model.specs.declared.name.HandleKind.{HandleKind}
+use Rattle.channel_world_model.specs.declared.name.HandleKind.TheVariants as handle_kind
+use Rattle.channel_world_model.specs.declared.name.OpId.{OpId}
+use Rattle.channel_world_model.specs.declared.name.Waiter.{Waiter}
+use Rattle.channel_world_model.specs.declared.name.Waiter.TheVariants.{Op, Stream}
+use Rattle.channel_world_runs.specs.Bookkeeping.{names_begun, written_back, installed, with_one_woken, all_woken, lent_by, handed_over_by, lent_to_poll, with_operation, operation_named, handle_named, on_return_of, leave_handle_of, new_from}
+use Rattle.channel_world_runs.specs.NameTable.{poll_state_with, used_more, used_less, borrowed_more, handed_over, with_handle, with_lent, with_given_back, with_borrowed, with_handed_over, with_poll_state, unused, first_name_table, handle_at}
+use Rattle.channel_world_runs.specs.Run.{NameState, name_state_begun, name_state_ended, with_woken}
+use Rattle.channel_world_runs.specs.Users.{one, times_used, all_uses, FewUsers}
+use Rattle.channel_world_runs.specs.declared.names.Agent.{Agent}
+use Rattle.channel_world_runs.specs.declared.names.OnReturn.{OnReturn}
+use Rattle.channel_world_runs.specs.declared.names.OnReturn.TheVariants as on_return
+use Rattle.channel_world_runs.specs.declared.names.HandleEntry.{HandleEntry}
+use Rattle.channel_world_runs.specs.declared.names.Operation.{Operation}
+use Rattle.channel_world_runs.specs.declared.names.PollState.{PollState}
+use Rattle.channel_world_runs.specs.declared.names.PollState.TheVariants.{IsPolled}
+use Rattle.channel_world_runs.specs.declared.name_table.NameTable.{NameTable}
+use Rattle.channel_world_runs.specs.declared.step.PartyId.{PartyId}
+use Rattle.channel_world_runs.proofs.OwnerNames.{same_number, own_number, number_or, set_there, set_other, found, is_there, handle_none}
+
+-- a handle is used by no more calls, and borrowed by no more operations, than these
+abbrev Few : ℕ → ℕ → HandleEntry → Type 0
+Few n m h = (h.users ≤ n) × (h.handle.borrowers ≤ m)
+
+-- and so is each
+abbrev AreFew : (ℕ → ℕ) → ℕ → Directory HandleEntry → Type 0
+AreFew n m d = (name : ℕ) (h : HandleEntry) → at name d ≡ Some h → Few (n name) m h
+
+allows : (n o m p : ℕ) (h : HandleEntry) → n ≤ o → m ≤ p → Few n m h → Few o p h
+allows n o m p h more higher f =
+    let users : h.users ≤ n = f.0 in
+    let borrowers : h.handle.borrowers ≤ m = f.1 in
+    (omega (arith, users, more), omega (arith, borrowers, higher))
+
+abbrev NoMore : (ℕ → ℕ) → (ℕ → ℕ) → Type 0
+NoMore n m = (name : ℕ) → n name ≤ m name
+
+-- ---- directories
+
+inner : {X : Type 0} (x y : X) → Some x ≡ Some y → x ≡ y
+inner x y e = cc
+
+never : {X : Type 0} (x : X) → None ≡ Some x → ⊥
+never x e = absurd (let no : None ≡ Some x = e in cc)
+
+abbrev living : {X : Type 0} → Option (Option X) → Option X
+living o = option_map_or (λ (x : Option _). x) o None
+
+-- under the name of what lives there stands what was set, and under any other what stood there
+changed : {X : Type 0} (n m : ℕ) (d : Directory X) (v : Option X) (g : X) → at n d ≡ Some g
+    → ((m ≡ n) × (at m (set_value (nat_eq n) d v) ≡ v)) ⊎ ((m ≡ n → ⊥) × (at m (set_value (nat_eq n) d v) ≡ at m d))
+changed {X} n m d v g there = by (number_or m n) where
+  by : (m ≡ n) ⊎ (m ≡ n → ⊥)
+      → ((m ≡ n) × (at m (set_value (nat_eq n) d v) ≡ v)) ⊎ ((m ≡ n → ⊥) × (at m (set_value (nat_eq n) d v) ≡ at m d))
+  by (inl e) =
+      let set : lookup (nat_eq n) (set_value (nat_eq n) d v) ≡ Some v =
+      set_there n d v (is_there (lookup (nat_eq n) d) (Some g) (found n d g there)) in
+      inl (e, subst (λ (k : ℕ). at k (set_value (nat_eq n) d v) ≡ v) (sym e) (ap (λ (o : Option (Option X)). living o) set))
+  by (inr f) = inr (f, ap (λ (o : Option (Option X)). living o) (set_other n m d v f))
+
+more_few : (n o : ℕ → ℕ) (m p : ℕ) (d : Directory HandleEntry) → NoMore n o → m ≤ p → AreFew n m d → AreFew o p d
+more_few n o m p d more higher few name h i = allows (n name) (o name) m p h (more name) higher (few name h i)
+
+-- under a name that was just taken nothing lives
+spent_few : (n : ℕ → ℕ) (m name : ℕ) (d : Directory HandleEntry) → AreFew n m d → AreFew n m (with_spent name d)
+spent_few n m name d few k h i = by (nat_eq k name) i where
+  by : (t : Bool) → living (cond t (Some None) (lookup (nat_eq k) d)) ≡ Some h → Few (n k) m h
+  by true e = absurd (never h e)
+  by false e = few k h e
+
+-- and one that didn't live doesn't
+spent_none : (n m : ℕ) (d : Directory HandleEntry) → at m d ≡ None → at m (with_spent n d) ≡ None
+spent_none n m d e = by (nat_eq m n) where
+  by : (t : Bool) → living (cond t (Some None) (lookup (nat_eq m) d)) ≡ None
+  by true = refl
+  by false = e
+
+-- under a name stands what stood there, or what was set
+set_at : {X : Type 0} (n m : ℕ) (d : Directory X) (v : Option X)
+    → (at m (set_value (nat_eq n) d v) ≡ at m d) ⊎ (at m (set_value (nat_eq n) d v) ≡ v)
+set_at n m [] v = inl refl
+set_at n m (f ∷ d) v = elim (decided (nat_eq n f.0)) [
+  | inl t ↦ elim (decided (nat_eq m f.0)) [
+    | inl s ↦ inr (rw (t, s) refl)
+    | inr s ↦ inl (rw (t, s) refl)
+  ]
+  | inr t ↦ elim (decided (nat_eq m f.0)) [
+    | inl s ↦ inl (rw (t, s) refl)
+    | inr s ↦ rw (t, s) (set_at n m d v)
+  ]
+]
+
+-- so many may use it that is set
+set_few : (n : ℕ → ℕ) (m name : ℕ) (d : Directory HandleEntry) (v : Option HandleEntry) → AreFew n m d
+    → ((h : HandleEntry) → v ≡ Some h → (k : ℕ) → Few (n k) m h) → AreFew n m (set_value (nat_eq name) d v)
+set_few n m name d v few new k h i = by (set_at name k d v) where
+  by : (at k (set_value (nat_eq name) d v) ≡ at k d) ⊎ (at k (set_value (nat_eq name) d v) ≡ v) → Few (n k) m h
+  by (inl e) = few k h (sym e ∙ i)
+  by (inr e) = new h (sym e ∙ i) k
+
+set_length_at : {X : Type 0} (t : Bool) (n : ℕ) (f : ℕ × Option X) (d : Directory X) (v : Option X)
+    → length (set_value (nat_eq n) d v) ≡ length d → length (cond t ((f.0, v) ∷ d) (f ∷ set_value (nat_eq n) d v)) ≡ suc (length d)
+set_length_at true n f d v e = refl
+set_length_at false n f d v e = ap (λ (k : ℕ). suc k) e
+
+-- as many names as before
+set_length : {X : Type 0} (n : ℕ) (d : Directory X) (v : Option X) → length (set_value (nat_eq n) d v) ≡ length d
+set_length n [] v = refl
+set_length n (f ∷ d) v = set_length_at (nat_eq n f.0) n f d v (set_length n d v)
+
+-- ---- one handle
+
+one_there : (handle : HandleId) → one handle.0 handle ≡ 1
+one_there handle = ap (λ (t : Bool). cond t 1 0) (own_number handle.0)
+
+one_most : (name : ℕ) (handle : HandleId) → one name handle ≤ 1
+one_most name handle = by (nat_eq name handle.0) where
+  by : (t : Bool) → cond t 1 0 ≤ 1
+  by true = omega arith
+  by false = omega arith
+
+one_other : (name : ℕ) (handle : HandleId) → (name ≡ handle.0 → ⊥) → one name handle ≡ 0
+one_other name handle f = by (nat_eq name handle.0) refl where
+  by : (t : Bool) → nat_eq name handle.0 ≡ t → (let n : ℕ = cond t 1 0 in n ≡ 0)
+  by true e = absurd (f (same_number name handle.0 e))
+  by false e = refl
+
+module _ {T : Type 0} where
+  handle_few : (n o : ℕ → ℕ) (m p : ℕ) (change : HandleEntry → HandleEntry) (handle : HandleId) (r : NameTable T)
+      → ((name : ℕ) → (name ≡ handle.0 → ⊥) → n name ≤ o name) → m ≤ p
+      → ((h : HandleEntry) → Few (n handle.0) m h → Few (o handle.0) p (change h))
+      → AreFew n m r.handles → AreFew o p (with_handle change handle r).handles
+  handle_few n o m p change handle r more higher bound few = by (at handle.0 r.handles) refl where
+    by : (x : Option HandleEntry) → at handle.0 r.handles ≡ x
+        → AreFew o p (option_map_or (λ (h : HandleEntry). with_changed handle.0 (change h) r.handles) x r.handles)
+    by None e name h i = one_of (number_or name handle.0) where
+      one_of : (name ≡ handle.0) ⊎ (name ≡ handle.0 → ⊥) → Few (o name) p h
+      one_of (inl same) = absurd (never h (sym e ∙ subst (λ (k : ℕ). at k r.handles ≡ Some h) same i))
+      one_of (inr other) = allows (n name) (o name) m p h (more name other) higher (few name h i)
+    by (Some g) e name h i = one_of (changed handle.0 name r.handles (Some (change g)) g e) where
+      one_of : ((name ≡ handle.0) × (at name (set_value (nat_eq handle.0) r.handles (Some (change g))) ≡ Some (change g)))
+          ⊎ ((name ≡ handle.0 → ⊥) × (at name (set_value (nat_eq handle.0) r.handles (Some (change g))) ≡ at name r.handles))
+          → Few (o name) p h
+      one_of (inl (same, is)) =
+          subst (λ (k : ℕ). Few (o k) p h) (sym same)
+          (subst (λ (x : HandleEntry). Few (o handle.0) p x) (inner (change g) h (sym is ∙ i)) (bound g (few handle.0 g e)))
+      one_of (inr (other, is)) = allows (n name) (o name) m p h (more name other) higher (few name h (sym is ∙ i))
+
+  -- one more call may use it
+  lent_few : (n : ℕ → ℕ) (m : ℕ) (handle : HandleId) (r : NameTable T) → AreFew n m r.handles
+      → AreFew (λ name. n name + one name handle) m (with_lent handle r).handles
+  lent_few n m handle r few =
+      let there = one_there handle in
+      handle_few n (λ name. n name + one name handle) m m used_more handle r (λ name other. omega arith) (omega arith)
+      (λ h f. (let users : h.users ≤ n handle.0 = f.0 in omega (arith, users, there), f.1)) few
+
+  -- and one fewer
+  given_back_few : (n : ℕ → ℕ) (m : ℕ) (handle : HandleId) (r : NameTable T) → AreFew (λ name. n name + one name handle) m r.handles
+      → AreFew n m (with_given_back handle r).handles
+  given_back_few n m handle r few =
+      let there = one_there handle in
+      handle_few (λ name. n name + one name handle) n m m used_less handle r
+      (λ name other. let none = one_other name handle other in omega (arith, none)) (omega arith)
+      (λ h f. (let users : h.users ≤ n handle.0 + one handle.0 handle = f.0 in omega (arith, users, there), f.1)) few
+
+  -- one more operation may borrow it
+  borrowed_few : (n : ℕ → ℕ) (m : ℕ) (handle : HandleId) (r : NameTable T) → AreFew n m r.handles
+      → AreFew n (suc m) (with_borrowed handle r).handles
+  borrowed_few n m handle r few =
+      handle_few n n m (suc m) borrowed_more handle r (λ name other. omega arith) (omega arith)
+      (λ h f. (f.0, let borrowers : h.handle.borrowers ≤ m = f.1 in omega (arith, borrowers))) few
+
+  -- one more call may use it, and no more operations borrow it
+  handed_over_few : (n : ℕ → ℕ) (m : ℕ) (handle : HandleId) (r : NameTable T) → AreFew n m r.handles
+      → AreFew (λ name. n name + one name handle) m (with_handed_over handle r).handles
+  handed_over_few n m handle r few =
+      let there = one_there handle in
+      handle_few n (λ name. n name + one name handle) m m handed_over handle r (λ name other. omega arith) (omega arith)
+      (λ h f. (
+        let users : h.users ≤ n handle.0 = f.0 in omega (arith, users, there),
+        let borrowers : h.handle.borrowers ≤ m = f.1 in omega (arith, borrowers),
+      )) few
+
+  poll_state_few : (n : ℕ → ℕ) (m : ℕ) (s : PollState) (handle : HandleId) (r : NameTable T) → AreFew n m r.handles
+      → AreFew n m (with_poll_state s handle r).handles
+  poll_state_few n m s handle r few =
+      handle_few n n m m (λ (h : HandleEntry). record h { poll_state = s }) handle r (λ name other. omega arith) (omega arith) (λ h f. f) few
+
+  -- ---- the beginning of a call
+
+  operation_length : (change : Operation T → Operation T) (op : OpId) (r : NameTable T)
+      → length (with_operation change op r).operations ≡ length r.operations
+  operation_length change op r = by (at op.0 r.operations) where
+    by : (o : Option (Operation T))
+        → length (option_map_or (λ (x : Operation T). with_changed op.0 (change x) r.operations) o r.operations) ≡ length r.operations
+    by None = refl
+    by (Some x) = set_length op.0 r.operations (Some (change x))
+
+  module _ (n : ℕ → ℕ) (r : NameTable T) (few : AreFew n (length r.operations) r.handles) where
+    -- an operation is made
+    made : (op : OpId) (handle : HandleId)
+        → AreFew (λ name. n name + 0) (length (operation_named op r).operations) (with_borrowed handle (operation_named op r)).handles
+    made op handle =
+        more_few n (λ name. n name + 0) (suc (length r.operations)) (length (operation_named op r).operations)
+        (with_borrowed handle (operation_named op r)).handles (λ name. omega arith) (omega arith)
+        (borrowed_few n (length r.operations) handle (operation_named op r) few)
+
+    once : (handle : HandleId)
+        → AreFew (λ name. n name + one name handle) (length r.operations) (with_lent handle r).handles
+    once handle = lent_few n (length r.operations) handle r few
+
+    -- a handle is made from one that lives, or that doesn't
+    named : (handle new : HandleId) (kind : HandleKind → HandleKind)
+        → AreFew (λ name. n name + times_used name (let e : OnReturn T = new_from handle new kind (handle_at handle r) in e)) (length r.operations)
+        (with_lent handle (handle_named new r)).handles
+    named handle new kind = by (at handle.0 r.handles) refl where
+      spent : AreFew n (length r.operations) (handle_named new r).handles
+      spent = spent_few n (length r.operations) new.0 r.handles few
+
+      by : (o : Option HandleEntry) → at handle.0 r.handles ≡ o
+          → AreFew (λ name. n name + times_used name (let e : OnReturn T = new_from handle new kind (let f : Option Handle = option_map (λ (h : HandleEntry). h.handle) o in f) in e)) (length r.operations)
+          (with_lent handle (handle_named new r)).handles
+      by None e =
+          subst (λ (x : NameTable T). AreFew (λ name. n name + 0) (length r.operations) x.handles)
+          (sym (handle_none (handle_named new r) handle used_more (spent_none new.0 handle.0 r.handles e)))
+          (more_few n (λ name. n name + 0) (length r.operations) (length r.operations) (handle_named new r).handles (λ name. omega arith) (omega arith) spent)
+      by (Some h) e = lent_few n (length r.operations) handle (handle_named new r) spent
+
+    same : (l : ℕ) → l ≡ length r.operations → AreFew (λ name. n name + 0) l r.handles
+    same l e = more_few n (λ name. n name + 0) (length r.operations) l r.handles (λ name. omega arith) (omega (arith, e)) few
+
+    lent_by_few : (o : Option (Operation T))
+        → AreFew (λ name. n name + times_used name (let e : OnReturn T = leave_handle_of o in e)) (length (lent_by o r).operations) (lent_by o r).handles
+    lent_by_few None = same (length r.operations) refl
+    lent_by_few (Some o) = once o.handle
+
+    -- an operation is given up
+    handed_over_by_few : (op : OpId) (o : Option (Operation T))
+        → (let gone : NameTable T = record r { operations = without_name op.0 r.operations } in
+        AreFew (λ name. n name + times_used name (let e : OnReturn T = leave_handle_of o in e)) (length (handed_over_by o gone).operations) (handed_over_by o gone).handles)
+    handed_over_by_few op None = same (length (without_name op.0 r.operations)) (set_length op.0 r.operations None)
+    handed_over_by_few op (Some o) =
+        let gone : NameTable T = record r { operations = without_name op.0 r.operations } in
+        let as_many = set_length op.0 r.operations None in
+        more_few (λ name. n name + one name o.handle) (λ name. n name + one name o.handle) (length r.operations)
+        (length (without_name op.0 r.operations)) (with_handed_over o.handle gone).handles (λ name. omega arith) (omega (arith, as_many))
+        (handed_over_few n (length r.operations) o.handle gone few)
+
+    pub begun_few : (c : Call T) → AreFew (λ name. n name + times_used name (on_return_of r c)) (length (names_begun r c).operations) (names_begun r c).handles
+    begun_few (call.NewSend op sender msg) = made op sender
+    begun_few (call.NewRecv op receiver) = made op receiver
+    begun_few (call.NewClosed op sender) = made op sender
+    begun_few (call.Poll op) = same _ (operation_length lent_to_poll op r)
+    begun_few (call.PollRefused op) = same _ (operation_length lent_to_poll op r)
+    begun_few (call.GiveUp op) = handed_over_by_few op (at op.0 r.operations)
+    begun_few (call.SendIsTerminated op) = lent_by_few (at op.0 r.operations)
+    begun_few (call.PollNext receiver) =
+        let stands : NameTable T = with_poll_state (IsPolled false) receiver r in
+        lent_few n (length r.operations) receiver stands (poll_state_few n (length r.operations) (IsPolled false) receiver r few)
+    begun_few (call.StreamIsTerminated receiver) = once receiver
+    begun_few (call.TrySend sender msg) = once sender
+    begun_few (call.ForceSend sender msg) = once sender
+    begun_few (call.TryRecv receiver) = once receiver
+    begun_few (call.RecvMany receiver limit) = once receiver
+    begun_few (call.Close handle) = once handle
+    begun_few (call.Drop handle) =
+        more_few n (λ name. n name + 0) (length r.operations) (length r.operations) (without_name handle.0 r.handles) (λ name. omega arith) (omega arith)
+        (set_few n (length r.operations) handle.0 r.handles None few (λ h e k. absurd (never h e)))
+    begun_few (call.TryClone handle new) = named handle new (λ k. k)
+    begun_few (call.Downgrade handle new) = named handle new weak_of
+    begun_few (call.Upgrade weak new) = named weak new strong_of
+    begun_few (call.SameChannel a b) =
+        more_few (λ name. n name + one name a + one name b) (λ name. n name + (one name a + one name b)) (length r.operations) (length r.operations)
+        (with_lent b (with_lent a r)).handles (λ name. omega arith) (omega arith)
+        (lent_few (λ name. n name + one name a) (length r.operations) b (with_lent a r) (lent_few n (length r.operations) a r few))
+    begun_few (call.IsClosed handle) = once handle
+    begun_few (call.IsEmpty handle) = once handle
+    begun_few (call.IsFull handle) = once handle
+    begun_few (call.Len handle) = once handle
+    begun_few (call.Capacity handle) = once handle
+    begun_few (call.SenderCount handle) = once handle
+    begun_few (call.ReceiverCount handle) = once handle
+
+  -- ---- its end
+
+  installed_few : (n : ℕ → ℕ) (m : ℕ) (new : HandleId) (kind : HandleKind) (y : Reply T) (r : NameTable T) → AreFew n m r.handles
+      → AreFew n m (installed new kind y r).handles
+  installed_few n m new kind reply.Made r few =
+      set_few n m new.0 r.handles _ few (λ h e k. subst (λ (x : HandleEntry). Few (n k) m x) (inner (unused kind) h e) (omega arith, omega arith))
+  installed_few n m new kind y r few = few
+
+  -- a handle that it gives back is used by one fewer
+  settled_few : (n : ℕ → ℕ) (m : ℕ) (e : OnReturn T) (y : Reply T) (left : Kept T) (r : NameTable T)
+      → AreFew (λ name. n name + times_used name e) m r.handles → AreFew n m (written_back e y left r).handles
+  settled_few n m on_return.Nothing y left r few = more_few (λ name. n name + 0) n m m r.handles (λ name. omega arith) (omega arith) few
+  settled_few n m (on_return.Leave handle) y left r few = given_back_few n m handle r few
+  settled_few n m (on_return.LeaveBoth a b) y left r few =
+      given_back_few n m b (with_given_back a r)
+      (given_back_few (λ name. n name + one name b) m a r
+      (more_few (λ name. n name + (one name a + one name b)) (λ name. n name + one name b + one name a) m m r.handles (λ name. omega arith) (omega arith) few))
+  settled_few n m (on_return.Make op operation) y left r few = more_few (λ name. n name + 0) n m m r.handles (λ name. omega arith) (omega arith) few
+  settled_few n m (on_return.Poll op) y left r few = more_few (λ name. n name + 0) n m m r.handles (λ name. omega arith) (omega arith) few
+  settled_few n m (on_return.PollNext receiver) y left r few =
+      let stands = poll_state_with left.key in
+      given_back_few n m receiver (with_poll_state stands receiver r)
+      (poll_state_few (λ name. n name + one name receiver) m stands receiver r few)
+  settled_few n m (on_return.New from new kind) y left r few =
+      installed_few n m new kind y (with_given_back from r) (given_back_few n m from r few)
+
+  installed_length : (new : HandleId) (kind : HandleKind) (y : Reply T) (r : NameTable T)
+      → length (installed new kind y r).operations ≡ length r.operations
+  installed_length new kind reply.Made r = refl
+  installed_length new kind y r = refl
+
+  settled_length : (e : OnReturn T) (y : Reply T) (left : Kept T) (r : NameTable T)
+      → length (written_back e y left r).operations ≡ length r.operations
+  settled_length on_return.Nothing y left r = refl
+  settled_length (on_return.Leave handle) y left r = refl
+  settled_length (on_return.LeaveBoth a b) y left r = refl
+  settled_length (on_return.Make op operation) y left r = set_length op.0 r.operations (Some operation)
+  settled_length (on_return.Poll op) y left r = operation_length _ op r
+  settled_length (on_return.PollNext receiver) y left r = refl
+  settled_length (on_return.New from new kind) y left r = installed_length new kind y (with_given_back from r)
+
+  -- ---- wakes
+
+  all_woken_few : (n : ℕ → ℕ) (m : ℕ) (names : List Waiter) (r : NameTable T) → AreFew n m r.handles → AreFew n m (all_woken names r).handles
+  all_woken_few n m [] r few = few
+  all_woken_few n m (Op op ∷ names) r few = all_woken_few n m names (with_one_woken (Op op) r) few
+  all_woken_few n m (Stream handle ∷ names) r few =
+      all_woken_few n m names (with_one_woken (Stream handle) r)
+      (handle_few n n m m _ handle r (λ name other. omega arith) (omega arith) (λ h f. f) few)
+
+  all_woken_length : (names : List Waiter) (r : NameTable T) → length (all_woken names r).operations ≡ length r.operations
+  all_woken_length [] r = refl
+  all_woken_length (Op op ∷ names) r = all_woken_length names (with_one_woken (Op op) r) ∙ operation_length _ op r
+  all_woken_length (Stream handle ∷ names) r = all_woken_length names (with_one_woken (Stream handle) r)
+
+  -- ---- the calls under way
+
+  uses_more : (name : ℕ) (agents : List (Agent T)) (a : Agent T)
+      → all_uses name (agents ++ a ∷ []) ≡ all_uses name agents + times_used name a.on_return
+  uses_more name [] a = omega arith
+  uses_more name (b ∷ agents) a = let rest = uses_more name agents a in omega (arith, rest)
+
+  uses_fewer : (name k : ℕ) (agents : List (Agent T)) (a : Agent T) → slice_get agents k ≡ Some a
+      → all_uses name agents ≡ all_uses name (remove agents k) + times_used name a.on_return
+  uses_fewer name k [] a e = absurd cc
+  uses_fewer name zero (b ∷ agents) a e =
+      let same : times_used name b.on_return ≡ times_used name a.on_return = ap (λ (x : Agent T). times_used name x.on_return) (agent_is b a e) in
+      omega (arith, same)
+    where
+      agent_is : (x y : Agent T) → Some x ≡ Some y → x ≡ y
+      agent_is x y f = cc
+  uses_fewer name (suc k) (b ∷ agents) a e = let rest = uses_fewer name k agents a e in omega (arith, rest)
+
+  -- ---- steps
+
+  pub users_begun : (q : PartyId) (c : Call T) (b : NameState T) → FewUsers b → FewUsers (name_state_begun q c b)
+  users_begun q c b few name h i =
+      let most = begun_few (λ (n : ℕ). all_uses n b.agents) b.name_table few c name h i in
+      let more = uses_more name b.agents (record { party = q.0; on_return = on_return_of b.name_table c }) in
+      let users : h.users ≤ all_uses name b.agents + times_used name (on_return_of b.name_table c) = most.0 in
+      (omega (arith, users, more), most.1)
+
+  pub users_ended : (k : ℕ) (a : Agent T) (y : Option (Reply T)) (left : Option (Kept T)) (names : List Waiter) (b : NameState T)
+      → slice_get b.agents k ≡ Some a → FewUsers b → FewUsers (name_state_ended k a y left (with_woken names b))
+  users_ended k a None left names b there few name h i =
+      let most = all_woken_few (λ (n : ℕ). all_uses n b.agents) (length b.name_table.operations) names b.name_table few name h i in
+      let borrowers : h.handle.borrowers ≤ length b.name_table.operations = most.1 in
+      let same = all_woken_length names b.name_table in
+      (most.0, omega (arith, borrowers, same))
+  users_ended k a (Some y) left names b there few name h i =
+      let woken_now : NameTable T = all_woken names b.name_table in
+      let n : ℕ → ℕ = λ x. all_uses x (remove b.agents k) in
+      let m : ℕ = length b.name_table.operations in
+      let start : AreFew (λ x. n x + times_used x a.on_return) m b.name_table.handles =
+      more_few (λ x. all_uses x b.agents) (λ x. n x + times_used x a.on_return) m m b.name_table.handles
+      (λ x. let fewer = uses_fewer x k b.agents a there in omega (arith, fewer)) (omega arith) few in
+      let kept : Kept T = unwrap_or left nothing_kept in
+      let most = settled_few n m a.on_return y kept woken_now (all_woken_few (λ x. n x + times_used x a.on_return) m names b.name_table start) name h i in
+      let borrowers : h.handle.borrowers ≤ m = most.1 in
+      let same = all_woken_length names b.name_table in
+      let also = settled_length a.on_return y kept woken_now in
+      (most.0, omega (arith, borrowers, same, also))
+
+-- at first nobody uses a handle
+pub users_first : (T : Type 0) → FewUsers {T = T} (record { name_table = first_name_table; order = []; agents = [] })
+users_first T name h i = by (nat_eq name 1) (nat_eq name 0) i where
+  none : (kind : HandleKind) (x : HandleEntry) → Some (unused kind) ≡ Some x → Few 0 0 x
+  none kind x e = subst (λ (y : HandleEntry). Few 0 0 y) (inner (unused kind) x e) (omega arith, omega arith)
+
+  by : (t u : Bool) → living (cond t (Some (Some (unused handle_kind.Receiver))) (cond u (Some (Some (unused handle_kind.Sender))) None)) ≡ Some h
+      → Few 0 0 h
+  by true u e = none handle_kind.Receiver h e
+  by false true e = none handle_kind.Sender h e
+  by false false e = absurd (never h e)

@@ -1,0 +1,31 @@
+-- A channel that was just opened shows the start.
+use Rattle.channel_world_runs.proofs.refinement.Words.{ℕ, Option, refl, Channel, new_channel, line_at, State, start, Waiter, Sends, nothing_held, OpeningIsOver, Refines, ShowsLines}
+use Rattle.channel_world_model.proofs.Interface.{start_awake}
+
+module _ (T : Type 0) (capacity : Option ℕ) where
+  abbrev channel : Channel T Waiter
+  channel = new_channel capacity
+
+  abbrev s : State T
+  s = start capacity
+
+  lines : ShowsLines (line_at s.names) nothing_held s.channel.closed channel.roster s.waiting
+  lines Sends = record { untold = tt; told = tt }
+  lines x = record { untold = tt; told = tt }
+
+  pub starts : Refines nothing_held channel s
+  starts = record {
+    messages = refl;
+    closed = refl;
+    capacity = refl;
+    senders = refl;
+    receivers = refl;
+    lines = lines;
+    keys = record {
+      holds = λ w key e. cc e;
+      apart = λ line v w key k1 k2 e1 e2. cc e1;
+    };
+  }
+
+pub opening_over : (T : Type 0) → OpeningIsOver T
+opening_over T capacity = (starts T capacity, start_awake T capacity)

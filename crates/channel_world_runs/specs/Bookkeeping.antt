@@ -1,0 +1,213 @@
+-- What a call asks as it begins, what it does to the names then, and what it writes back at its end.
+use Rattle.std.specs.Prelude.{◌≡◌, List, [], ◌∷◌, false, is_some, Option, None, Some}
+use Rattle.std.specs.Option.{option_map_or}
+use Rattle.channel_calls.specs.Asks.{lent}
+use Rattle.channel_calls.specs.declared.ask.ChannelAsk.{ChannelAsk}
+use Rattle.channel_calls.specs.declared.ask.ChannelAsk.TheVariants as ask
+use Rattle.channel_calls.specs.declared.reply.Reply.{Reply}
+use Rattle.channel_calls.specs.declared.reply.Reply.TheVariants as reply
+use Rattle.channel_calls.specs.declared.stage.Kept.{Kept}
+use Rattle.channel_world_model.specs.Answer.{weak_of, strong_of}
+use Rattle.channel_world_model.specs.Asked.{asked, poll_asked, refusal_asked, giving_up_asked, drop_asked, clone_asked, upgrade_asked}
+use Rattle.channel_world_model.specs.Names.{at, with_spent, with_changed, without_name}
+use Rattle.channel_world_model.specs.declared.call.Call.{Call}
+use Rattle.channel_world_model.specs.declared.call.Call.TheVariants as call
+use Rattle.channel_world_model.specs.declared.name.Handle.{Handle}
+use Rattle.channel_world_model.specs.declared.name.HandleId.{HandleId}
+use Rattle.channel_world_model.specs.declared.name.HandleKind.{HandleKind}
+use Rattle.channel_world_model.specs.declared.name.HandleKind.TheVariants as handle_kind
+use Rattle.event_listener.specs.declared.key.Key.{Key}
+use Rattle.channel_world_model.specs.declared.name.OpId.{OpId}
+use Rattle.channel_world_model.specs.declared.name.Waiter.{Waiter}
+use Rattle.channel_world_model.specs.declared.name.Waiter.TheVariants as waiter
+use Rattle.channel_world_runs.specs.NameTable.{key_of, poll_state_with, told, is_done, unused, names_of, operation_at, handle_at, held_of, with_handle, with_lent, with_given_back, with_borrowed, with_handed_over, with_poll_state}
+use Rattle.channel_world_runs.specs.declared.beginning.Begun.{Begun}
+use Rattle.channel_world_runs.specs.declared.names.OnReturn.{OnReturn}
+use Rattle.channel_world_runs.specs.declared.names.OnReturn.TheVariants.{Nothing, Leave, LeaveBoth, Make, Poll, PollNext, New}
+use Rattle.channel_world_runs.specs.declared.names.HandleEntry.{HandleEntry}
+use Rattle.channel_world_runs.specs.declared.names.Operation.{Operation}
+use Rattle.channel_world_runs.specs.declared.names.OperationKind.{OperationKind}
+use Rattle.channel_world_runs.specs.declared.names.OperationKind.TheVariants.{Send, Receive, Closing}
+use Rattle.channel_world_runs.specs.declared.names.PollState.TheVariants.{Rests, IsPolled}
+use Rattle.channel_world_runs.specs.declared.name_table.NameTable.{NameTable}
+
+module _ {T : Type 0} where
+  -- ---- the beginning
+
+  -- a call asks what it asks when it is alone; a send whose message is with a poll under way has not finished
+  abbrev pub asks : NameTable T → Call T → ChannelAsk T Waiter
+  asks r (call.Poll op) = poll_asked (held_of r) op (operation_at op r)
+  asks r (call.PollRefused op) = refusal_asked (held_of r) op (operation_at op r)
+  asks r (call.GiveUp op) = giving_up_asked (held_of r) op (operation_at op r)
+  asks r (call.SendIsTerminated op) = ask.SendIsTerminated (option_map_or is_done (at op.0 r.operations) false)
+  asks r (call.Drop handle) = drop_asked (held_of r) handle (handle_at handle r)
+  asks r (call.TryClone handle new) = clone_asked (handle_at handle r)
+  asks r (call.Upgrade weak new) = upgrade_asked (handle_at weak r)
+  asks r c = asked (held_of r) (names_of r) c
+
+  -- an operation that was never polled
+  abbrev pub unpolled : OperationKind → HandleId → Option T → Operation T
+  unpolled kind handle message = record { kind = kind; handle = handle; message = message; poll_state = Rests }
+
+  -- the handle of an operation is used no more
+  abbrev pub leave_handle_of : Option (Operation T) → OnReturn T
+  leave_handle_of None = Nothing
+  leave_handle_of (Some o) = Leave o.handle
+
+  -- a handle is used no more; one of a kind that follows from its own lives, if it was made
+  abbrev pub new_from : HandleId → HandleId → (HandleKind → HandleKind) → Option Handle → OnReturn T
+  new_from from new kind None = Nothing
+  new_from from new kind (Some h) = New from new (kind h.kind)
+
+  -- what a call has to write back
+  abbrev pub on_return_of : NameTable T → Call T → OnReturn T
+  on_return_of r (call.NewSend op sender msg) = Make op (unpolled Send sender (Some msg))
+  on_return_of r (call.NewRecv op receiver) = Make op (unpolled Receive receiver None)
+  on_return_of r (call.NewClosed op sender) = Make op (unpolled Closing sender None)
+  on_return_of r (call.Poll op) = Poll op
+  on_return_of r (call.PollRefused op) = Poll op
+  on_return_of r (call.GiveUp op) = leave_handle_of (at op.0 r.operations)
+  on_return_of r (call.SendIsTerminated op) = leave_handle_of (at op.0 r.operations)
+  on_return_of r (call.PollNext receiver) = PollNext receiver
+  on_return_of r (call.StreamIsTerminated receiver) = Leave receiver
+  on_return_of r (call.TrySend sender msg) = Leave sender
+  on_return_of r (call.ForceSend sender msg) = Leave sender
+  on_return_of r (call.TryRecv receiver) = Leave receiver
+  on_return_of r (call.RecvMany receiver limit) = Leave receiver
+  on_return_of r (call.Close handle) = Leave handle
+  on_return_of r (call.Drop handle) = Nothing
+  on_return_of r (call.TryClone handle new) = new_from handle new (λ k. k) (handle_at handle r)
+  on_return_of r (call.Downgrade handle new) = new_from handle new weak_of (handle_at handle r)
+  on_return_of r (call.Upgrade weak new) = new_from weak new strong_of (handle_at weak r)
+  on_return_of r (call.SameChannel a b) = LeaveBoth a b
+  on_return_of r (call.IsClosed handle) = Leave handle
+  on_return_of r (call.IsEmpty handle) = Leave handle
+  on_return_of r (call.IsFull handle) = Leave handle
+  on_return_of r (call.Len handle) = Leave handle
+  on_return_of r (call.Capacity handle) = Leave handle
+  on_return_of r (call.SenderCount handle) = Leave handle
+  on_return_of r (call.ReceiverCount handle) = Leave handle
+
+  -- a new name is taken, and nothing lives under it yet
+  abbrev pub operation_named : OpId → NameTable T → NameTable T
+  operation_named op r = record r { operations = with_spent op.0 r.operations }
+
+  abbrev pub handle_named : HandleId → NameTable T → NameTable T
+  handle_named new r = record r { handles = with_spent new.0 r.handles }
+
+  -- a poll has what the operation had
+  abbrev pub lent_to_poll : Operation T → Operation T
+  lent_to_poll o = record o { message = None; poll_state = IsPolled (is_some o.message) }
+
+  -- what lives under the operation's name is changed so, where something lives
+  abbrev pub with_operation : (Operation T → Operation T) → OpId → NameTable T → NameTable T
+  with_operation change op r = record r { operations = option_map_or (λ (o : Operation T). with_changed op.0 (change o) r.operations) (at op.0 r.operations) r.operations }
+
+  -- a call uses the handle of this operation
+  abbrev pub lent_by : Option (Operation T) → NameTable T → NameTable T
+  lent_by None r = r
+  lent_by (Some o) r = with_lent o.handle r
+
+  -- the handle of this operation goes over to the call that gives it up
+  abbrev pub handed_over_by : Option (Operation T) → NameTable T → NameTable T
+  handed_over_by None r = r
+  handed_over_by (Some o) r = with_handed_over o.handle r
+
+  -- the names once a call has begun: what it makes has its name, and an operation borrows its handle, what it polls is lent to
+  -- it, what it gives up or drops lives no more, and the handles that it goes through are in use
+  abbrev pub names_begun : NameTable T → Call T → NameTable T
+  names_begun r (call.NewSend op sender msg) = with_borrowed sender (operation_named op r)
+  names_begun r (call.NewRecv op receiver) = with_borrowed receiver (operation_named op r)
+  names_begun r (call.NewClosed op sender) = with_borrowed sender (operation_named op r)
+  names_begun r (call.Poll op) = with_operation lent_to_poll op r
+  names_begun r (call.PollRefused op) = with_operation lent_to_poll op r
+  names_begun r (call.GiveUp op) = handed_over_by (at op.0 r.operations) (record r { operations = without_name op.0 r.operations })
+  names_begun r (call.SendIsTerminated op) = lent_by (at op.0 r.operations) r
+  names_begun r (call.PollNext receiver) = with_lent receiver (with_poll_state (IsPolled false) receiver r)
+  names_begun r (call.StreamIsTerminated receiver) = with_lent receiver r
+  names_begun r (call.TrySend sender msg) = with_lent sender r
+  names_begun r (call.ForceSend sender msg) = with_lent sender r
+  names_begun r (call.TryRecv receiver) = with_lent receiver r
+  names_begun r (call.RecvMany receiver limit) = with_lent receiver r
+  names_begun r (call.Close handle) = with_lent handle r
+  names_begun r (call.Drop handle) = record r { handles = without_name handle.0 r.handles }
+  names_begun r (call.TryClone handle new) = with_lent handle (handle_named new r)
+  names_begun r (call.Downgrade handle new) = with_lent handle (handle_named new r)
+  names_begun r (call.Upgrade weak new) = with_lent weak (handle_named new r)
+  names_begun r (call.SameChannel a b) = with_lent b (with_lent a r)
+  names_begun r (call.IsClosed handle) = with_lent handle r
+  names_begun r (call.IsEmpty handle) = with_lent handle r
+  names_begun r (call.IsFull handle) = with_lent handle r
+  names_begun r (call.Len handle) = with_lent handle r
+  names_begun r (call.Capacity handle) = with_lent handle r
+  names_begun r (call.SenderCount handle) = with_lent handle r
+  names_begun r (call.ReceiverCount handle) = with_lent handle r
+
+  -- ---- the code of a beginning
+
+  -- a call has begun that asks this, has this to write back, and leaves these names
+  abbrev pub Starts : ChannelAsk T Waiter → OnReturn T → NameTable T → Begun T → NameTable T → Type 0
+  Starts a on_return names begun new = (begun.ask ≡ a) × (begun.on_return ≡ on_return) × (new ≡ names)
+
+  -- what a poll of an operation asks
+  abbrev pub polled_ask : OperationKind → Option T → Option Key → OpId → ChannelAsk T Waiter
+  polled_ask Send (Some m) key op = ask.PollSend m (lent key) (waiter.Op op)
+  polled_ask Send None key op = ask.PollFinishedSend
+  polled_ask Receive m key op = ask.PollRecv (lent key) (waiter.Op op)
+  polled_ask Closing m key op = ask.PollClosed key (waiter.Op op)
+
+  -- the message of a send; any other operation has none
+  abbrev pub own_message : OperationKind → Option T → Option T
+  own_message Send m = m
+  own_message Receive m = None
+  own_message Closing m = None
+
+  -- what the drop of a handle asks
+  abbrev pub drop_ask_of : HandleKind → Option Key → ChannelAsk T Waiter
+  drop_ask_of handle_kind.Sender key = ask.DropSender
+  drop_ask_of handle_kind.Receiver key = ask.DropReceiver key
+  drop_ask_of handle_kind.WeakSender key = ask.DropWeak
+  drop_ask_of handle_kind.WeakReceiver key = ask.DropWeak
+
+  -- what a poll got of an operation that it found
+  abbrev pub IsLent : OpId → Option (Operation T) → NameTable T → Option (OperationKind × Option T × Option Key) → NameTable T → Type 0
+  IsLent op None old got new = (got ≡ None) × (new ≡ old)
+  IsLent op (Some o) old got new = (got ≡ Some (o.kind, o.message, key_of o.poll_state)) × (new ≡ with_operation lent_to_poll op old)
+
+  -- a call has begun
+  pub record BeginsByName (old : NameTable T) (c : Call T) (begun : Begun T) (new : NameTable T) : Type 0 where
+    pub ask : begun.ask ≡ asks old c
+    pub on_return : begun.on_return ≡ on_return_of old c
+    pub names : new ≡ names_begun old c
+
+  -- ---- the end
+
+  -- an operation has what its poll left to it
+  abbrev pub restored : Kept T → Operation T → Operation T
+  restored kept o = record o { message = kept.message; poll_state = poll_state_with kept.key }
+
+  -- a handle of this kind lives under the name, if the reply says that it was made
+  abbrev pub installed : HandleId → HandleKind → Reply T → NameTable T → NameTable T
+  installed new kind reply.Made r = record r { handles = with_changed new.0 (unused kind) r.handles }
+  installed new kind x r = r
+
+  -- the names after a call that gave this reply and left this
+  abbrev pub written_back : OnReturn T → Reply T → Kept T → NameTable T → NameTable T
+  written_back Nothing x kept r = r
+  written_back (Leave handle) x kept r = with_given_back handle r
+  written_back (LeaveBoth a b) x kept r = with_given_back b (with_given_back a r)
+  written_back (Make op operation) x kept r = record r { operations = with_changed op.0 operation r.operations }
+  written_back (Poll op) x kept r = with_operation (restored kept) op r
+  written_back (PollNext receiver) x kept r = with_given_back receiver (with_poll_state (poll_state_with kept.key) receiver r)
+  written_back (New from new kind) x kept r = installed new kind x (with_given_back from r)
+
+  -- ---- wakes
+
+  -- one that is pending is woken
+  abbrev pub with_one_woken : Waiter → NameTable T → NameTable T
+  with_one_woken (waiter.Op op) r = with_operation (λ (o : Operation T). record o { poll_state = told o.poll_state }) op r
+  with_one_woken (waiter.Stream handle) r = with_handle (λ (h : HandleEntry). record h { poll_state = told h.poll_state }) handle r
+
+  abbrev pub all_woken : List Waiter → NameTable T → NameTable T
+  all_woken [] r = r
+  all_woken (w ∷ ws) r = all_woken ws (with_one_woken w r)

@@ -1,0 +1,64 @@
+-- A call made alone, from its beginning to its end, by names.
+use Rattle.std.specs.Prelude.{◌≡◌, ◌≤◌, ℕ, List, [], length}
+use Rattle.channel_calls.specs.declared.reply.Reply.{Reply}
+use Rattle.channel_calls.specs.declared.stage.Kept.{Kept}
+use Rattle.channel_steps.specs.solo.Alone.{Outcome, Alone}
+use Rattle.channel_steps.specs.solo.Configurations.{LoneRun}
+use Rattle.channel_world_model.specs.declared.call.Call.{Call}
+use Rattle.channel_world_model.specs.declared.name.Waiter.{Waiter}
+use Rattle.channel_steps.specs.Configuration.{Configuration}
+use Rattle.channel_world_runs.specs.Bookkeeping.{asks, on_return_of, names_begun, written_back, all_woken}
+use Rattle.channel_world_runs.specs.WorldState.{name_state_of, HasPositions, Shown}
+use Rattle.channel_world_runs.specs.Kept.{WorldInvariant}
+use Rattle.channel_world_runs.specs.Order.{order_begun, all_moved_last, order_settled}
+use Rattle.channel_world_runs.specs.Positions.{accepted_by, brings}
+use Rattle.channel_world_runs.specs.Run.{NameState}
+use Rattle.channel_world_runs.specs.declared.world_state.WorldState.{WorldState}
+use Rattle.channel_world_runs.specs.declared.name_table.NameTable.{NameTable}
+
+module _ {T : Type 0} where
+  -- the names after a call that woke these, gave this reply and left this
+  abbrev pub names_alone : NameTable T → Call T → Reply T → Kept T → List Waiter → NameTable T
+  names_alone r c x kept names = written_back (on_return_of r c) x kept (all_woken names (names_begun r c))
+
+  -- and the order of waking
+  abbrev pub order_alone : NameTable T → Call T → Kept T → List Waiter → List Waiter → List Waiter
+  order_alone r c kept names order = order_settled (on_return_of r c) kept.key (all_moved_last names (order_begun c order))
+
+  -- the name state after it; nobody is at work
+  abbrev pub name_state_alone : NameState T → Call T → Outcome T Waiter → NameState T
+  name_state_alone b c o = record {
+    name_table = names_alone b.name_table c o.reply o.kept o.woken;
+    order = order_alone b.name_table c o.kept o.woken b.order;
+    agents = [];
+  }
+
+  -- A call was made alone, from a configuration that was shown: it asked what it asks given the names and the listeners held, its steps led
+  -- from configuration to configuration, its outcome is one of a lone call, and the names after it are what the bookkeeping makes of it.
+  pub record Called (c : Call T) (old : WorldState T) (x : Reply T) (names : List Waiter) (new : WorldState T)
+      (s : Configuration T Waiter) : Type 0 where
+    pub outcome : Outcome T Waiter
+    pub after : Configuration T Waiter
+    pub alone : Alone (asks old.name_table c) s.now outcome
+    pub reply : x ≡ outcome.reply
+    pub woken : names ≡ outcome.woken
+    pub run : LoneRun s 0 (asks old.name_table c) outcome after
+    pub now : after.now ≡ outcome.channel
+    pub shown : Shown new after
+    pub name_state : name_state_of new ≡ name_state_alone (name_state_of old) c outcome
+
+  -- in each configuration that is shown and in which all is kept
+  abbrev pub CallsAlone : Call T → WorldState T → Reply T → List Waiter → WorldState T → Type 0
+  CallsAlone c old x names new = (s : Configuration T Waiter) → Shown old s → WorldInvariant (name_state_of old) s → Called c old x names new s
+
+  -- a call made alone wakes no more than so many
+  abbrev pub WakesAtMost : ℕ → Call T → WorldState T → Type 0
+  WakesAtMost room c f =
+      (s : Configuration T Waiter) (o : Outcome T Waiter) → Shown f s → WorldInvariant (name_state_of f) s
+      → Alone (asks f.name_table c) s.now o → length o.woken ≤ room
+
+  -- a call made alone has a position of the queue for the message that it brings in, if it does
+  abbrev pub BringsWithin : Call T → WorldState T → Type 0
+  BringsWithin c f =
+      (s : Configuration T Waiter) (o : Outcome T Waiter) → Shown f s → WorldInvariant (name_state_of f) s
+      → Alone (asks f.name_table c) s.now o → HasPositions (accepted_by (brings f.name_table c) o.reply) f

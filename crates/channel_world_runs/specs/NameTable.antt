@@ -1,0 +1,162 @@
+-- What lives under which name.
+use Rattle.std.specs.Prelude.{◌≡◌, ℕ, ◌+◌, ◌-◌, ◌^◌, min, Bool, true, false, not, if◌then◌else◌, nat_eq, List, [], ◌∷◌, map, slice_get, Option, None, Some}
+use Rattle.std.specs.List.{list_any}
+use Rattle.std.specs.Option.{option_map, option_map_or}
+use Rattle.event_listener.specs.declared.key.Key.{Key}
+use Rattle.channel_calls.specs.declared.stage.Line.{Line}
+use Rattle.channel_calls.specs.declared.stage.Line.TheVariants.{Sends, Receives, Closings}
+use Rattle.channel_world_model.specs.Asked.{KeysHeld}
+use Rattle.channel_world_model.specs.Names.{Directory, Names, at, with_changed}
+use Rattle.channel_world_model.specs.Names as model
+use Rattle.channel_world_model.specs.declared.name.Handle.{Handle}
+use Rattle.channel_world_model.specs.declared.name.HandleId.{HandleId}
+use Rattle.channel_world_model.specs.declared.name.HandleKind.{HandleKind}
+use Rattle.channel_world_model.specs.declared.name.HandleKind.TheVariants as handle_kind
+use Rattle.channel_world_model.specs.declared.name.OpId.{OpId}
+use Rattle.channel_world_model.specs.declared.name.Waiter.TheVariants.{Op, Stream}
+use Rattle.channel_world_model.specs.declared.refusal.WorldRefusal.{WorldRefusal}
+use Rattle.channel_world_model.specs.declared.refusal.WorldRefusal.TheVariants.{OpUnderWay}
+use Rattle.channel_world_runs.specs.declared.names.Agent.{Agent}
+use Rattle.channel_world_runs.specs.declared.names.HandleEntry.{HandleEntry}
+use Rattle.channel_world_runs.specs.declared.names.Operation.{Operation}
+use Rattle.channel_world_runs.specs.declared.names.OperationKind.{OperationKind}
+use Rattle.channel_world_runs.specs.declared.names.OperationKind.TheVariants.{Send, Receive, Closing}
+use Rattle.channel_world_runs.specs.declared.names.PollState.{PollState}
+use Rattle.channel_world_runs.specs.declared.names.PollState.TheVariants.{Rests, Waits, IsPolled}
+use Rattle.channel_world_runs.specs.declared.name_table.NameTable.{NameTable}
+
+-- ---- standings
+
+-- the listener of one that is pending
+abbrev pub key_of : PollState → Option Key
+key_of (Waits key since) = Some key
+key_of s = None
+
+-- after a poll that left this listener, or none
+abbrev pub poll_state_with : Option Key → PollState
+poll_state_with None = Rests
+poll_state_with (Some key) = Waits key false
+
+abbrev pub is_polled : PollState → Bool
+is_polled Rests = false
+is_polled (Waits key is_woken) = false
+is_polled (IsPolled brings) = true
+
+-- a poll under way stands against it
+abbrev pub polled_refusal : PollState → Option WorldRefusal
+polled_refusal s = if is_polled s then Some OpUnderWay else None
+
+abbrev pub is_woken : PollState → Bool
+is_woken (Waits key woken) = woken
+is_woken s = false
+
+-- one that is pending is woken
+abbrev pub told : PollState → PollState
+told Rests = Rests
+told (Waits key is_woken) = Waits key true
+told (IsPolled brings) = IsPolled brings
+
+-- ---- operations
+
+-- the line in which it waits
+abbrev pub line_of_kind : OperationKind → Line
+line_of_kind Send = Sends
+line_of_kind Receive = Receives
+line_of_kind Closing = Closings
+
+-- whether a poll under way has the message
+abbrev pub is_lent : PollState → Bool
+is_lent (IsPolled brings) = brings
+is_lent s = false
+
+module _ {T : Type 0} where
+  -- a send is finished whose message is gone, and that no poll under way has
+  abbrev pub has_finished : OperationKind → Option T → PollState → Bool
+  has_finished Send None s = not (is_lent s)
+  has_finished kind m s = false
+
+  abbrev pub is_done : Operation T → Bool
+  is_done o = has_finished o.kind o.message o.poll_state
+
+  -- an operation as one call at a time sees it
+  abbrev pub operation_of : Operation T → model.ModelOperation T
+  operation_of o = elim o.kind [ Send ↦ model.send o.handle o.message | Receive ↦ model.recv o.handle | Closing ↦ model.closing o.handle ]
+
+-- ---- all names
+
+-- handle 0 is the first sender, handle 1 the first receiver; nobody uses them
+abbrev pub unused : HandleKind → HandleEntry
+unused kind = record { handle = record { kind = kind; borrowers = 0 }; users = 0; poll_state = Rests }
+
+abbrev pub first_handles : Directory HandleEntry
+first_handles = (1, Some (unused handle_kind.Receiver)) ∷ (0, Some (unused handle_kind.Sender)) ∷ []
+
+-- one more call under way uses it, or one fewer
+abbrev pub used_more : HandleEntry → HandleEntry
+used_more h = record h { users = min (h.users + 1) (2 ^ 64 - 1) }
+
+abbrev pub used_less : HandleEntry → HandleEntry
+used_less h = record h { users = h.users - 1 }
+
+-- one more operation borrows it
+abbrev pub borrowed_more : HandleEntry → HandleEntry
+borrowed_more h = record h { handle = record h.handle { borrowers = h.handle.borrowers + 1 } }
+
+-- an operation borrows it no more, and the call that gives this up uses it
+abbrev pub handed_over : HandleEntry → HandleEntry
+handed_over h = record h { handle = record h.handle { borrowers = h.handle.borrowers - 1 }; users = min (h.users + 1) (2 ^ 64 - 1) }
+
+module _ {T : Type 0} where
+  abbrev pub first_name_table : NameTable T
+  first_name_table = record { handles = first_handles; operations = [] }
+
+  -- what lives under a name, as one call at a time sees it
+  abbrev pub handle_at : HandleId → NameTable T → Option Handle
+  handle_at handle r = option_map (λ (h : HandleEntry). h.handle) (at handle.0 r.handles)
+
+  abbrev pub operation_at : OpId → NameTable T → Option (model.ModelOperation T)
+  operation_at op r = option_map operation_of (at op.0 r.operations)
+
+  -- all that lives, as one call at a time sees it
+  abbrev pub names_of : NameTable T → Names T
+  names_of r = record {
+    handles = map (λ e. (e.0, option_map (λ (h : HandleEntry). h.handle) e.1)) r.handles;
+    operations = map (λ e. (e.0, option_map operation_of e.1)) r.operations;
+  }
+
+  -- the listener that each holds that is pending
+  abbrev pub held_of : NameTable T → KeysHeld
+  held_of r = λ w. elim w [
+    | Op op ↦ option_map_or (λ (o : Operation T). key_of o.poll_state) (at op.0 r.operations) None
+    | Stream handle ↦ option_map_or (λ (h : HandleEntry). key_of h.poll_state) (at handle.0 r.handles) None
+  ]
+
+  -- what lives under the handle's name is changed so, where something lives
+  abbrev pub with_handle : (HandleEntry → HandleEntry) → HandleId → NameTable T → NameTable T
+  with_handle change handle r = record r { handles = option_map_or (λ (h : HandleEntry). with_changed handle.0 (change h) r.handles) (at handle.0 r.handles) r.handles }
+
+  abbrev pub with_lent : HandleId → NameTable T → NameTable T
+  with_lent handle r = with_handle used_more handle r
+
+  abbrev pub with_given_back : HandleId → NameTable T → NameTable T
+  with_given_back handle r = with_handle used_less handle r
+
+  abbrev pub with_borrowed : HandleId → NameTable T → NameTable T
+  with_borrowed handle r = with_handle borrowed_more handle r
+
+  abbrev pub with_handed_over : HandleId → NameTable T → NameTable T
+  with_handed_over handle r = with_handle handed_over handle r
+
+  -- the receiver's stream stands so
+  abbrev pub with_poll_state : PollState → HandleId → NameTable T → NameTable T
+  with_poll_state poll_state handle r = with_handle (λ (h : HandleEntry). record h { poll_state = poll_state }) handle r
+
+  -- ---- parties
+
+  -- whether a party has a call under way
+  abbrev pub is_at_work : ℕ → List (Agent T) → Bool
+  is_at_work party agents = list_any (λ (a : Agent T). nat_eq a.party party) agents
+
+  -- the k-th call under way is this party's
+  abbrev pub IsAgent : ℕ → List (Agent T) → ℕ → Type 0
+  IsAgent party agents k = (a : Agent T) × (slice_get agents k ≡ Some a) × (a.party ≡ party)

@@ -1,0 +1,86 @@
+-- The wake-ups owed to those who are pending and were not woken since their last poll, of a world as it is.
+use Rattle.std.specs.Prelude.{◌≡◌, ℕ, ◌+◌, ◌≤◌, ◌<◌, Bool, true, false, ◌&&◌, List, ◌∷◌, ◌++◌, map, Option}
+use Rattle.std.specs.List.{count_by}
+use Rattle.std.specs.Map.{keys_of}
+use Rattle.concurrent_queue.specs.declared.queue_call.QueueCall.{QueueCall}
+use Rattle.event_listener.specs.declared.key.Key.{Key}
+use Rattle.channel_calls.specs.declared.stage.Line.{Line}
+use Rattle.channel_calls.specs.declared.stage.Line.TheVariants.{Sends, Receives, Streams}
+use Rattle.channel_calls.specs.declared.stage.Stage.{Stage}
+use Rattle.channel_calls.specs.declared.stage.Stage.TheVariants.{Working}
+use Rattle.channel_calls.specs.declared.stage.Work.TheVariants.{Leave}
+use Rattle.channel_world_model.specs.Laws.{same_line}
+use Rattle.channel_world_model.specs.declared.name.Waiter.{Waiter}
+use Rattle.channel_world_model.specs.declared.name.Waiter.TheVariants.{Op, Stream}
+use Rattle.channel_steps.specs.declared.party.Party.{Party}
+use Rattle.channel_steps.specs.every_run.Sends.{HasPlaces}
+use Rattle.channel_world_runs.specs.Owners.{NameStatus, waits, not_woken, status}
+use Rattle.channel_world_runs.specs.declared.doing.Doing.{Doing}
+use Rattle.channel_world_runs.specs.declared.doing.Role.{Role}
+use Rattle.channel_world_runs.specs.declared.doing.Role.TheVariants.{Sending, Receiving}
+use Rattle.channel_world_runs.specs.declared.name_table.NameTable.{NameTable}
+
+-- whether one that stands so is pending on this line, and was woken
+abbrev pub is_woken_on : Line → NameStatus → Bool
+is_woken_on line (waits h is_woken) = is_woken && same_line line h.line
+is_woken_on line other = false
+
+-- ---- the calls under way
+
+abbrev pub is_sending : Role → Bool
+is_sending Sending = true
+is_sending r = false
+
+abbrev pub is_receiving : Role → Bool
+is_receiving Receiving = true
+is_receiving r = false
+
+module _ {T : Type 0} where
+  -- a call that has nothing left but to drop its listener has announced the places that it has freed
+  abbrev pub unannounced : Stage (QueueCall T) T Waiter → Doing → ℕ
+  unannounced (Working (Leave x)) d = 0
+  unannounced at d = d.taken
+
+  abbrev pub all_unannounced : List (Party T Waiter) → List Doing → ℕ
+  all_unannounced (p ∷ ps) (d ∷ ds) = unannounced p.call.stage d + all_unannounced ps ds
+  all_unannounced ps ds = 0
+
+-- ---- what is owed
+
+-- What a world shows at a moment: what lives under which name, how many messages it holds, at most so many, and whether it is
+-- closed; and of the calls under way how many are sending and how many receiving, how many have closed it, and how many places
+-- they have freed by taking messages and not announced yet to those who wait to send.
+pub record Observation (T : Type 0) : Type 0 where
+  pub name_table : NameTable T
+  pub messages : ℕ
+  pub capacity : Option ℕ
+  pub closed : Bool
+  pub sending : ℕ
+  pub receiving : ℕ
+  pub closers : ℕ
+  pub freed : ℕ
+
+module _ {T : Type 0} where
+  -- the names that were ever taken
+  abbrev pub all_names : NameTable T → List Waiter
+  all_names r = map (λ n. Op (record { 0 = n })) (keys_of r.operations) ++ map (λ n. Stream (record { 0 = n })) (keys_of r.handles)
+
+  -- how many are pending on this line and were woken
+  abbrev pub woken_on : Line → NameTable T → ℕ
+  woken_on line r = count_by (λ w. is_woken_on line (status r w)) (all_names r)
+
+  -- it is pending on this line, and was not woken since its last poll
+  abbrev pub IsUnwoken : Line → Waiter → NameTable T → Type 0
+  IsUnwoken line name r = (key : Key) × (status r name ≡ waits (record { line = line; key = key }) not_woken)
+
+  -- Where one is pending that was not woken since its last poll: of a receive, there are no more messages than woken pending
+  -- receives, and sending and receiving calls under way; of a send, where the channel is open, it has a bound, and no more places
+  -- than messages, woken pending sends, sending calls under way, and places that were freed and not announced yet; of a stream,
+  -- where there is a message, a sending call is under way; of any, where the channel is closed, the call that closed it is under
+  -- way.
+  pub record Owed (w : Observation T) : Type 0 where
+    pub receives : (name : Waiter) → IsUnwoken Receives name w.name_table → w.messages ≤ woken_on Receives w.name_table + (w.sending + w.receiving)
+    pub sends : (name : Waiter) → IsUnwoken Sends name w.name_table → w.closed ≡ false
+        → HasPlaces w.capacity (w.messages + (woken_on Sends w.name_table + (w.sending + w.freed)))
+    pub streams : (name : Waiter) → IsUnwoken Streams name w.name_table → 0 < w.messages → 0 < w.sending
+    pub closing : (line : Line) (name : Waiter) → IsUnwoken line name w.name_table → w.closed ≡ true → 0 < w.closers

@@ -1,0 +1,16 @@
+-- Who is polled, by whom.
+use Rattle.std.specs.Prelude.{◌≡◌, Some}
+use Rattle.channel_calls.specs.declared.stage.Line.{Line}
+use Rattle.channel_world_model.specs.declared.name.Waiter.{Waiter}
+use Rattle.channel_world_runs.specs.Owners.{IsAmong, polled, status, subject}
+use Rattle.channel_world_runs.specs.Run.{NameState}
+use Rattle.channel_world_runs.specs.declared.names.Agent.{Agent}
+
+module _ {T : Type 0} where
+  -- a party at work works at this name
+  abbrev pub IsWorkedAt : Waiter → NameState T → Type 0
+  IsWorkedAt w b = (a : Agent T) × IsAmong a b.agents × (subject a.on_return ≡ Some w)
+
+  -- where a poll of a name is under way, a party at work works there
+  abbrev pub PolledAtWork : NameState T → Type 0
+  PolledAtWork b = (w : Waiter) (line : Line) → status b.name_table w ≡ polled line → IsWorkedAt w b

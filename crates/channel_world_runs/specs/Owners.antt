@@ -1,0 +1,306 @@
+-- Who holds each listener: what is pending, by its name, or one call under way.
+use Rattle.std.specs.Prelude.{◌≡◌, ℕ, nat_eq, Bool, false, List, [], ◌∷◌, ◌++◌, Option, None, Some, ◌⊎◌}
+use Rattle.std.specs.Map.{lookup, keys_of}
+use Rattle.concurrent_queue.specs.Queue.{Phase}
+use Rattle.event_listener.specs.declared.key.Key.{Key}
+use Rattle.channel_calls.specs.Moves.{Channel}
+use Rattle.channel_calls.specs.Parts.{Listeners, listeners}
+use Rattle.channel_calls.specs.Turns.{held_on, line_of}
+use Rattle.channel_calls.specs.declared.ask.ChannelAsk.{ChannelAsk}
+use Rattle.channel_calls.specs.declared.ask.ChannelAsk.TheVariants as ask
+use Rattle.channel_calls.specs.declared.stage.Aim.{Aim}
+use Rattle.channel_calls.specs.declared.stage.Aim.TheVariants as aim
+use Rattle.channel_calls.specs.declared.stage.Closer.{Closer}
+use Rattle.channel_calls.specs.declared.stage.Closer.TheVariants as closer
+use Rattle.channel_calls.specs.declared.stage.Held.{Held}
+use Rattle.channel_calls.specs.declared.stage.Line.{Line}
+use Rattle.channel_calls.specs.declared.stage.Line.TheVariants.{Sends, Receives, Streams, Closings}
+use Rattle.channel_calls.specs.declared.stage.Side.TheVariants.{Senders, Receivers}
+use Rattle.channel_calls.specs.declared.stage.Stage.{Stage}
+use Rattle.channel_calls.specs.declared.stage.Stage.TheVariants.{Trying, Working, Finished}
+use Rattle.channel_calls.specs.declared.stage.Work.{Work}
+use Rattle.channel_calls.specs.declared.stage.Work.TheVariants.{TellReceive, TellStreams, TellSend, TellSends, TakeRoom, TellAll, Insert, Register, Leave, Lower, Count, Load, Raise}
+use Rattle.channel_world_model.specs.declared.name.HandleKind.{HandleKind}
+use Rattle.channel_world_model.specs.declared.name.HandleKind.TheVariants as handle_kind
+use Rattle.channel_world_model.specs.declared.name.Waiter.{Waiter}
+use Rattle.channel_world_model.specs.declared.name.Waiter.TheVariants.{Op, Stream}
+use Rattle.channel_steps.specs.Configuration.{ActiveCall, Configuration}
+use Rattle.channel_world_runs.specs.Run.{NameState}
+use Rattle.channel_world_runs.specs.declared.names.Agent.{Agent}
+use Rattle.channel_world_runs.specs.declared.names.OnReturn.{OnReturn}
+use Rattle.channel_world_runs.specs.declared.names.OnReturn.TheVariants as on_return
+use Rattle.channel_world_runs.specs.declared.names.HandleEntry.{HandleEntry}
+use Rattle.channel_world_runs.specs.declared.names.Operation.{Operation}
+use Rattle.channel_world_runs.specs.declared.names.OperationKind.{OperationKind}
+use Rattle.channel_world_runs.specs.declared.names.OperationKind.TheVariants as kind
+use Rattle.channel_world_runs.specs.declared.names.PollState.{PollState}
+use Rattle.channel_world_runs.specs.declared.names.PollState.TheVariants.{Rests, Waits, IsPolled}
+use Rattle.channel_world_runs.specs.declared.name_table.NameTable.{NameTable}
+
+module _ {A : Type 0} where
+  abbrev pub IsAmong : A → List A → Type 0
+  IsAmong x [] = ⊥
+  IsAmong x (y ∷ ys) = (y ≡ x) ⊎ IsAmong x ys
+
+  abbrev pub NoneTwice : List A → Type 0
+  NoneTwice [] = Unit {0}
+  NoneTwice (x ∷ xs) = (IsAmong x xs → ⊥) × NoneTwice xs
+
+  abbrev pub All : (A → Type 0) → List A → Type 0
+  All P [] = Unit {0}
+  All P (x ∷ xs) = P x × All P xs
+
+-- ---- the names
+
+-- whether what is pending was woken since its last poll
+abbrev pub WasWoken : Type 0
+WasWoken = Bool
+
+abbrev pub not_woken : WasWoken
+not_woken = false
+
+-- How a name stands: it was never taken; nothing lives under it; what lives there isn't pending; it is pending with this
+-- listener, and was woken or not; a poll of it is under way; or, which never is, a finished send or what is no receiver is
+-- pending.
+pub data NameStatus : Type 0 where
+  free : NameStatus
+  retired : NameStatus
+  invalid : NameStatus
+  rests : Line → NameStatus
+  waits : Held → WasWoken → NameStatus
+  polled : Line → NameStatus
+
+-- it waits, and was not woken
+abbrev pub waits_unwoken : Held → NameStatus
+waits_unwoken h = waits h not_woken
+
+abbrev pub status_on : Line → PollState → NameStatus
+status_on line Rests = rests line
+status_on line (Waits key is_woken) = waits (record { line = line; key = key }) is_woken
+status_on line (IsPolled brings) = polled line
+
+abbrev pub no_stream_status : PollState → NameStatus
+no_stream_status Rests = rests Streams
+no_stream_status s = invalid
+
+-- only a receiver is polled as a stream
+abbrev pub stream_status : HandleKind → PollState → NameStatus
+stream_status handle_kind.Receiver s = status_on Streams s
+stream_status other s = no_stream_status s
+
+abbrev pub status_by : {X : Type 0} → (X → NameStatus) → Option (Option X) → NameStatus
+status_by p None = free
+status_by p (Some None) = retired
+status_by p (Some (Some x)) = p x
+
+module _ {T : Type 0} where
+  -- a finished send isn't pending
+  abbrev pub send_status : Option T → PollState → NameStatus
+  send_status None Rests = rests Sends
+  send_status None (Waits key is_woken) = invalid
+  send_status None (IsPolled brings) = polled Sends
+  send_status (Some m) s = status_on Sends s
+
+  abbrev pub operation_status : OperationKind → Option T → PollState → NameStatus
+  operation_status kind.Send m s = send_status m s
+  operation_status kind.Receive m s = status_on Receives s
+  operation_status kind.Closing m s = status_on Closings s
+
+  abbrev pub status : NameTable T → Waiter → NameStatus
+  status r (Op op) = status_by (λ (o : Operation T). operation_status o.kind o.message o.poll_state) (lookup (nat_eq op.0) r.operations)
+  status r (Stream handle) = status_by (λ (h : HandleEntry). stream_status h.handle.kind h.poll_state) (lookup (nat_eq handle.0) r.handles)
+
+-- ---- the calls under way
+
+abbrev pub closer_holds : Closer → Option Held
+closer_holds closer.Call = None
+closer_holds closer.Sender = None
+closer_holds (closer.Receiver key) = held_on Streams key
+
+module _ {T W : Type 0} where
+  abbrev pub aim_holds : Aim T W → Option Held
+  aim_holds (aim.Poll line key task) = held_on line key
+  aim_holds (aim.Close c) = closer_holds c
+  aim_holds aim.TrySend = None
+  aim_holds aim.ForceSend = None
+  aim_holds aim.TryRecv = None
+  aim_holds (aim.RecvMany g) = None
+  aim_holds aim.Ask = None
+  aim_holds aim.IsTerminated = None
+  aim_holds (aim.Upgrade side) = None
+
+  abbrev pub aim_task : Aim T W → Option W
+  aim_task (aim.Poll line key task) = Some task
+  aim_task (aim.Close c) = None
+  aim_task aim.TrySend = None
+  aim_task aim.ForceSend = None
+  aim_task aim.TryRecv = None
+  aim_task (aim.RecvMany g) = None
+  aim_task aim.Ask = None
+  aim_task aim.IsTerminated = None
+  aim_task (aim.Upgrade side) = None
+
+module _ {W : Type 0} where
+  -- the task of its listener is that of its operation
+  abbrev pub Bears : Option W → Option (Line × W) → Type 0
+  Bears None wait = Unit {0}
+  Bears (Some task) wait = (line : Line) × (wait ≡ Some (line, task))
+
+module _ {T W : Type 0} where
+  abbrev pub work_holds : Work T W → Option Held
+  work_holds (TellReceive x) = x.held
+  work_holds (TellStreams x) = x.held
+  work_holds (TellSend x) = x.held
+  work_holds (TellSends n x) = x.held
+  work_holds (TakeRoom n) = None
+  work_holds (TellAll line c) = closer_holds c
+  work_holds (Insert w task) = None
+  work_holds (Register w key task) = Some (record { line = line_of w; key = key })
+  work_holds (Leave x) = x.held
+  work_holds (Lower Senders key) = None
+  work_holds (Lower Receivers key) = held_on Streams key
+  work_holds (Count side) = None
+  work_holds (Load side making) = None
+  work_holds (Raise side n making) = None
+
+  -- the listener that a call at this stage has in hand
+  abbrev pub holding : Stage (Phase T) T W → Option Held
+  holding (Trying f a) = aim_holds a
+  holding (Working w) = work_holds w
+  holding (Finished kept) = None
+
+  abbrev pub work_task : Work T W → Option W
+  work_task (Insert w task) = Some task
+  work_task (Register w key task) = Some task
+  work_task (TellReceive x) = None
+  work_task (TellStreams x) = None
+  work_task (TellSend x) = None
+  work_task (TellSends n x) = None
+  work_task (TakeRoom n) = None
+  work_task (TellAll line c) = None
+  work_task (Leave x) = None
+  work_task (Lower side key) = None
+  work_task (Count side) = None
+  work_task (Load side making) = None
+  work_task (Raise side n making) = None
+
+  -- the task that its listener is to wake
+  abbrev pub task_at : Stage (Phase T) T W → Option W
+  task_at (Trying f a) = aim_task a
+  task_at (Working w) = work_task w
+  task_at (Finished kept) = None
+
+  -- the list on which a call may wait, and for whom
+  abbrev pub wait_of : ChannelAsk T W → Option (Line × W)
+  wait_of (ask.PollSend m key task) = Some (Sends, task)
+  wait_of (ask.PollRecv key task) = Some (Receives, task)
+  wait_of (ask.PollClosed key task) = Some (Closings, task)
+  wait_of (ask.PollNext key task) = Some (Streams, task)
+  wait_of a = None
+
+module _ {T W : Type 0} where
+  -- the list whose listener a call may have in hand
+  abbrev pub line_asked : ChannelAsk T W → Option Line
+  line_asked (ask.PollSend m key task) = Some Sends
+  line_asked (ask.PollRecv key task) = Some Receives
+  line_asked (ask.PollClosed key task) = Some Closings
+  line_asked (ask.PollNext key task) = Some Streams
+  line_asked (ask.RefusePoll line message key) = Some line
+  line_asked (ask.GiveUp line message key) = Some line
+  line_asked (ask.DropReceiver key) = Some Streams
+  line_asked a = None
+
+-- ---- calls and what they write back
+
+module _ {T : Type 0} where
+  -- the name at which what is to be written back works: that of what it polls, or of what it makes
+  abbrev pub subject : OnReturn T → Option Waiter
+  subject (on_return.Poll op) = Some (Op op)
+  subject (on_return.PollNext receiver) = Some (Stream receiver)
+  subject (on_return.Make op operation) = Some (Op op)
+  subject (on_return.New from new kind) = Some (Stream new)
+  subject on_return.Nothing = None
+  subject (on_return.Leave handle) = None
+  subject (on_return.LeaveBoth a b) = None
+
+  -- a call waits, if at all, for the name that it polls; under a name that it makes nothing lives yet
+  abbrev pub Suits : (Waiter → NameStatus) → OnReturn T → Option (Line × Waiter) → Type 0
+  Suits p (on_return.Poll op) wait = (line : Line) × (p (Op op) ≡ polled line) × ((wait ≡ None) ⊎ (wait ≡ Some (line, Op op)))
+  Suits p (on_return.PollNext receiver) wait = (line : Line) × (p (Stream receiver) ≡ polled line) × ((wait ≡ None) ⊎ (wait ≡ Some (line, Stream receiver)))
+  Suits p (on_return.Make op operation) wait = (p (Op op) ≡ retired) × (operation.poll_state ≡ Rests) × (wait ≡ None)
+  Suits p (on_return.New from new kind) wait = (p (Stream new) ≡ retired) × (wait ≡ None)
+  Suits p on_return.Nothing wait = wait ≡ None
+  Suits p (on_return.Leave handle) wait = wait ≡ None
+  Suits p (on_return.LeaveBoth a b) wait = wait ≡ None
+
+  -- an agent and the call of the same party under way
+  pub record AgentFits (p : Waiter → NameStatus) (a : Agent T) (u : ActiveCall T Waiter) : Type 0 where
+    pub party : a.party ≡ u.party
+    pub suits : Suits p a.on_return (wait_of u.ask)
+    pub bears : Bears (task_at u.at) (wait_of u.ask)
+    pub lines : (h : Held) → holding u.at ≡ Some h → line_asked u.ask ≡ Some h.line
+
+  -- one by one, in the same order
+  abbrev pub Together : (Waiter → NameStatus) → List (Agent T) → List (ActiveCall T Waiter) → Type 0
+  Together p [] [] = Unit {0}
+  Together p [] (u ∷ us) = ⊥
+  Together p (a ∷ more) [] = ⊥
+  Together p (a ∷ more) (u ∷ us) = AgentFits p a u × Together p more us
+
+  -- two agents are of different parties, and don't work at the same name
+  pub record Differ (a b : Agent T) : Type 0 where
+    pub party : a.party ≡ b.party → ⊥
+    pub name : (w : Waiter) → subject a.on_return ≡ Some w → subject b.on_return ≡ Some w → ⊥
+
+  abbrev pub AllDiffer : List (Agent T) → Type 0
+  AllDiffer [] = Unit {0}
+  AllDiffer (a ∷ more) = All (Differ a) more × AllDiffer more
+
+-- ---- the lists
+
+module _ {W : Type 0} where
+  -- told or waiting, on one list
+  abbrev pub keys : Listeners W → List Key
+  keys l = keys_of l.told ++ keys_of l.waiting
+
+module _ {T W : Type 0} where
+  -- the listener is told or waits
+  abbrev pub IsListed : Held → Channel T W → Type 0
+  IsListed h c = IsAmong h.key (keys (listeners h.line c.roster))
+
+  -- it waits, to wake this task
+  abbrev pub WaitsToWake : Held → W → Channel T W → Type 0
+  WaitsToWake h task c = IsAmong (h.key, Some task) (listeners h.line c.roster).waiting
+
+  abbrev pub NoneListedTwice : Channel T W → Type 0
+  NoneListedTwice c = (line : Line) → NoneTwice (keys (listeners line c.roster))
+
+-- ---- owners
+
+-- one that may hold listeners: a name, or a party's call under way
+pub data Holder : Type 0 where
+  named : Waiter → Holder
+  calling : ℕ → Holder
+
+module _ {T : Type 0} where
+  abbrev pub AnyOf : (ActiveCall T Waiter → Type 0) → List (ActiveCall T Waiter) → Type 0
+  AnyOf P [] = ⊥
+  AnyOf P (u ∷ us) = P u ⊎ AnyOf P us
+
+  -- a name holds its listener while it is pending, a call while it has it in hand
+  abbrev pub HoldsIn : (Waiter → NameStatus) → List (ActiveCall T Waiter) → Holder → Held → Type 0
+  HoldsIn p us (named w) h = (is_woken : WasWoken) × (p w ≡ waits h is_woken)
+  HoldsIn p us (calling party) h = AnyOf (λ u. (u.party ≡ party) × (holding u.at ≡ Some h)) us
+
+  -- Each call under way is of one agent, and no two of one party or at one name. What is pending has its listener on its list;
+  -- there it waits, to wake that name, unless the name was woken. Each listener on a list is held, and by one alone: by what
+  -- is pending, or by a call that has it in hand. None stands on a list twice.
+  pub record Owned (b : NameState T) (s : Configuration T Waiter) : Type 0 where
+    pub together : Together (status b.name_table) b.agents s.under_way
+    pub differ : AllDiffer b.agents
+    pub none_amiss : (w : Waiter) → status b.name_table w ≡ invalid → ⊥
+    pub once : NoneListedTwice s.now
+    pub unwoken : (w : Waiter) (h : Held) → status b.name_table w ≡ waits_unwoken h → WaitsToWake h w s.now
+    pub listed : (x : Holder) (h : Held) → HoldsIn (status b.name_table) s.under_way x h → IsListed h s.now
+    pub held : (h : Held) → IsListed h s.now → (x : Holder) × HoldsIn (status b.name_table) s.under_way x h
+    pub alone : (x y : Holder) (h : Held) → HoldsIn (status b.name_table) s.under_way x h → HoldsIn (status b.name_table) s.under_way y h → x ≡ y

@@ -1,0 +1,26 @@
+-- How many of those who live are pending, and how many of these were woken.
+use Rattle.std.specs.Prelude.{ℕ, ◌+◌, Bool, false, Option, is_some}
+use Rattle.std.specs.List.{count_by}
+use Rattle.std.specs.Option.{option_map_or}
+use Rattle.channel_world_runs.specs.NameTable.{key_of}
+use Rattle.channel_world_runs.specs.declared.names.HandleEntry.{HandleEntry}
+use Rattle.channel_world_runs.specs.declared.names.Operation.{Operation}
+use Rattle.channel_world_runs.specs.declared.names.PollState.{PollState}
+use Rattle.channel_world_runs.specs.declared.name_table.NameTable.{NameTable}
+
+-- one that is pending holds a listener
+abbrev pub stands_pending : PollState → Bool
+stands_pending s = is_some (key_of s)
+
+-- whether a handle lives there that stands so as a stream
+abbrev pub stream_stands : (PollState → Bool) → Option HandleEntry → Bool
+stream_stands test x = option_map_or (λ (h : HandleEntry). test h.poll_state) x false
+
+module _ {T : Type 0} where
+  -- whether an operation lives there that stands so
+  abbrev pub operation_stands : (PollState → Bool) → Option (Operation T) → Bool
+  operation_stands test x = option_map_or (λ (o : Operation T). test o.poll_state) x false
+
+  -- how many operations and streams stand so, under all names that were ever taken
+  abbrev pub how_many : (PollState → Bool) → NameTable T → ℕ
+  how_many test r = count_by (λ e. operation_stands test e.1) r.operations + count_by (λ e. stream_stands test e.1) r.handles

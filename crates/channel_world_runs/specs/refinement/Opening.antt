@@ -1,0 +1,20 @@
+-- What a channel that was just opened shows.
+use Rattle.std.specs.Prelude.{ℕ, Option, None}
+use Rattle.channel_calls.specs.Moves.{Channel, new_channel}
+use Rattle.channel_world_model.specs.Awake.{AwakeIn}
+use Rattle.channel_world_model.specs.State.{State, start}
+use Rattle.channel_world_model.specs.declared.name.Waiter.{Waiter}
+use Rattle.channel_world_model.specs.Asked.{KeysHeld}
+use Rattle.channel_world_runs.specs.refinement.Refines.{Refines}
+
+-- no operation and no stream holds a listener's key
+abbrev pub nothing_held : KeysHeld
+nothing_held = λ w. None
+
+-- A channel of any capacity that was just opened shows the start, with no key held; and nobody is asleep there.
+abbrev pub OpeningIsOver : Type 0 → Type 0
+OpeningIsOver T =
+    (capacity : Option ℕ) →
+    let channel : Channel T Waiter = new_channel capacity in
+    let s : State T = start capacity in
+    Refines nothing_held channel s × AwakeIn s

@@ -1,0 +1,425 @@
+//! What calls do to the names as they begin, what they ask of the channel, and what they will have to write back.
+
+ghost use Rattle.std.specs.Prelude.{◌≡◌, Some};
+ghost use Rattle.channel_world_model.specs.Answer.{weak_of, strong_of};
+ghost use Rattle.channel_world_model.specs.Asked.{clone_asked, upgrade_asked};
+ghost use Rattle.channel_world_runs.specs.Bookkeeping.{polled_ask, own_message, drop_ask_of};
+
+use crate::name_table::NameTable;
+use crate::names::{OnReturn, Operation, OperationKind, PollState};
+use channel_calls::ask::{ChannelAsk, lent};
+use channel_calls::several::Limit;
+use channel_calls::stage::{Line, Side};
+use channel_world_model::call::Call;
+use channel_world_model::name::{Handle, HandleId, HandleKind, OpId, Waiter};
+use event_listener::key::Key;
+use std::alloc::Global;
+
+/// What a call that begins asks of the channel, and what it will have to write back.
+#[derive(Drop)]
+pub(crate) struct Begun<T> {
+    pub(crate) ask: ChannelAsk<T, Waiter>,
+    pub(crate) on_return: OnReturn<T>,
+}
+
+/// The weak kind beside a strong one.
+fn weak_of(kind: HandleKind) -> HandleKind
+    ensures { result ≡ weak_of kind }
+{
+    match kind {
+        HandleKind::Sender | HandleKind::WeakSender => HandleKind::WeakSender,
+        HandleKind::Receiver | HandleKind::WeakReceiver => HandleKind::WeakReceiver,
+    }
+}
+
+/// The strong kind beside a weak one.
+fn strong_of(kind: HandleKind) -> HandleKind
+    ensures { result ≡ strong_of kind }
+{
+    match kind {
+        HandleKind::Sender | HandleKind::WeakSender => HandleKind::Sender,
+        HandleKind::Receiver | HandleKind::WeakReceiver => HandleKind::Receiver,
+    }
+}
+
+/// What a clone of a handle asks: a weak one is not counted.
+fn clone_ask<T>(handle: Handle) -> ChannelAsk<T, Waiter>
+    ensures { result ≡ clone_asked (Some handle) }
+{
+    match handle.kind {
+        HandleKind::Sender => ChannelAsk::CloneHandle(Side::Senders),
+        HandleKind::Receiver => ChannelAsk::CloneHandle(Side::Receivers),
+        HandleKind::WeakSender | HandleKind::WeakReceiver => ChannelAsk::Make,
+    }
+}
+
+/// What an upgrade of a handle asks.
+fn upgrade_ask<T>(handle: Handle) -> ChannelAsk<T, Waiter>
+    ensures { result ≡ upgrade_asked (Some handle) }
+{
+    match handle.kind {
+        HandleKind::Sender | HandleKind::WeakSender => ChannelAsk::Upgrade(Side::Senders),
+        HandleKind::Receiver | HandleKind::WeakReceiver => ChannelAsk::Upgrade(Side::Receivers),
+    }
+}
+
+/// What the drop of a handle of this kind asks.
+fn drop_ask<T>(kind: HandleKind, key: Option<Key>) -> ChannelAsk<T, Waiter>
+    ensures { result ≡ drop_ask_of kind key }
+{
+    match kind {
+        HandleKind::Sender => ChannelAsk::DropSender,
+        HandleKind::Receiver => ChannelAsk::DropReceiver(key),
+        HandleKind::WeakSender | HandleKind::WeakReceiver => ChannelAsk::DropWeak,
+    }
+}
+
+/// What a poll of an operation of this kind asks.
+fn poll_ask<T: Drop>(
+    kind: OperationKind,
+    message: Option<T>,
+    key: Option<Key>,
+    op: OpId,
+) -> ChannelAsk<T, Waiter>
+    ensures { result ≡ polled_ask kind message key op }
+{
+    match (kind, message) {
+        (OperationKind::Send, Some(message)) => {
+            ChannelAsk::PollSend(message, lent(key), Waiter::Op(op))
+        }
+        (OperationKind::Send, None) => ChannelAsk::PollFinishedSend,
+        (OperationKind::Receive, _) => ChannelAsk::PollRecv(lent(key), Waiter::Op(op)),
+        (OperationKind::Closing, _) => ChannelAsk::PollClosed(key, Waiter::Op(op)),
+    }
+}
+
+/// The message of a send; any other operation has none.
+fn own_message<T: Drop>(kind: OperationKind, message: Option<T>) -> Option<T>
+    ensures { result ≡ own_message kind message }
+{
+    match kind {
+        OperationKind::Send => message,
+        OperationKind::Receive | OperationKind::Closing => None,
+    }
+}
+
+impl<T: Drop> NameTable<T> {
+    ghost use Rattle.std.specs.Prelude.{◌≡◌, None, Some, List, false, is_some, IfOk, OnErr, IfErr, IfSome, IfNone};
+    ghost use Rattle.std.specs.Bool.{OnTrue, OnFalse};
+    ghost use Rattle.std.specs.Option.{option_map};
+    ghost use Rattle.channel_world_model.specs.Names.{at, is_taken};
+    ghost use Rattle.channel_world_model.specs.declared.name.Waiter.{Waiter};
+    ghost use Rattle.channel_world_runs.specs.Order.{order_begun};
+    ghost use Rattle.channel_world_runs.specs.Refusal.{takes_again};
+    ghost use Rattle.channel_world_runs.specs.NameTable.{key_of, with_lent, with_borrowed};
+    ghost use Rattle.channel_world_runs.specs.Bookkeeping.{BeginsByName, Starts, IsLent, unpolled, operation_named, handle_named};
+
+    /// A call through a handle asks this.
+    fn through(&mut self, handle: HandleId, ask: ChannelAsk<T, Waiter>) -> Begun<T>
+        ensures { Starts ask (OnReturn.Leave handle) (with_lent handle self.old) result self.new }
+    {
+        self.lend(handle);
+        Begun {
+            ask,
+            on_return: OnReturn::Leave { handle },
+        }
+    }
+
+    /// A new name is taken for an operation, which borrows the handle. False where there was no room.
+    fn name_operation(&mut self, op: OpId, handle: HandleId) -> bool
+        requires { is_taken op.0 self.old.operations ≡ false }
+        ensures ok { OnTrue result (self.new ≡ with_borrowed handle (operation_named op self.old)) }
+        ensures err { OnFalse result (self.new ≡ self.old) }
+    {
+        let Some(handle_entry) = self.handles.get(handle.0) else {
+            return self.operations.spend(op.0);
+        };
+        let Some(borrowed) = (*handle_entry).borrowed_more() else {
+            return false;
+        };
+        if !self.operations.spend(op.0) {
+            return false;
+        }
+        self.handles.set(handle.0, borrowed);
+        true
+    }
+
+    /// An operation is being made; it comes back where its name found no room.
+    fn make_operation(
+        &mut self,
+        op: OpId,
+        handle: HandleId,
+        kind: OperationKind,
+        message: Option<T>,
+    ) -> Result<Begun<T>, Option<T>>
+        requires { is_taken op.0 self.old.operations ≡ false }
+        ensures ok { IfOk result
+            (λ b. Starts ChannelAsk.Make (OnReturn.Make op (unpolled kind handle message))
+            (with_borrowed handle (operation_named op self.old)) b self.new) }
+        ensures err { OnErr result (self.new ≡ self.old) }
+        ensures back { IfErr result (λ m. m ≡ message) }
+    {
+        if !self.name_operation(op, handle) {
+            return Err(message);
+        }
+        let operation = Operation {
+            kind,
+            handle,
+            message,
+            poll_state: PollState::Rests,
+        };
+        Ok(Begun {
+            ask: ChannelAsk::Make,
+            on_return: OnReturn::Make { op, operation },
+        })
+    }
+
+    /// A poll takes what the operation has; refused its waker or not.
+    fn lend_operation(&mut self, op: OpId) -> Option<(OperationKind, Option<T>, Option<Key>)>
+        ensures { IsLent op (at op.0 self.old.operations) self.old result self.new }
+    {
+        let Some(operation) = self.operations.take(op.0) else {
+            return None;
+        };
+        let Operation {
+            kind,
+            handle,
+            message,
+            poll_state,
+        } = operation;
+        let lent = Operation {
+            kind,
+            handle,
+            message: None,
+            poll_state: PollState::IsPolled {
+                brings: message.is_some(),
+            },
+        };
+        self.operations.set(op.0, lent);
+        Some((kind, message, poll_state.key()))
+    }
+
+    pub(crate) fn poll(&mut self, op: OpId) -> Begun<T>
+        ensures { BeginsByName self.old (Call.Poll op) result self.new }
+    {
+        let ask = match self.lend_operation(op) {
+            Some((kind, message, key)) => poll_ask(kind, message, key, op),
+            None => ChannelAsk::Make,
+        };
+        Begun {
+            ask,
+            on_return: OnReturn::Poll { op },
+        }
+    }
+
+    fn poll_refused(&mut self, op: OpId) -> Begun<T>
+        ensures { BeginsByName self.old (Call.PollRefused op) result self.new }
+    {
+        let ask = match self.lend_operation(op) {
+            Some((kind, message, key)) => {
+                ChannelAsk::RefusePoll(kind.line(), own_message(kind, message), key)
+            }
+            None => ChannelAsk::Make,
+        };
+        Begun {
+            ask,
+            on_return: OnReturn::Poll { op },
+        }
+    }
+
+    fn give_up(&mut self, op: OpId) -> Begun<T>
+        ensures { BeginsByName self.old (Call.GiveUp op) result self.new }
+    {
+        let Some(operation) = self.operations.take(op.0) else {
+            return Begun {
+                ask: ChannelAsk::Make,
+                on_return: OnReturn::Nothing,
+            };
+        };
+        let Operation {
+            kind,
+            handle,
+            message,
+            poll_state,
+        } = operation;
+        self.hand_over(handle);
+        Begun {
+            ask: ChannelAsk::GiveUp(kind.line(), own_message(kind, message), poll_state.key()),
+            on_return: OnReturn::Leave { handle },
+        }
+    }
+
+    /// Whether a poll has finished the send, and the handle that it borrows.
+    fn send_is_terminated(&mut self, op: OpId) -> Begun<T>
+        ensures { BeginsByName self.old (Call.SendIsTerminated op) result self.new }
+    {
+        let Some(operation) = self.operations.get(op.0) else {
+            return Begun {
+                ask: ChannelAsk::SendIsTerminated(false),
+                on_return: OnReturn::Nothing,
+            };
+        };
+        let handle = operation.handle;
+        let is_finished = operation.is_finished();
+        self.through(handle, ChannelAsk::SendIsTerminated(is_finished))
+    }
+
+    pub(crate) fn poll_next(&mut self, receiver: HandleId) -> Begun<T>
+        ensures { BeginsByName self.old (Call.PollNext receiver) result self.new }
+    {
+        let key = self.lend_stream(receiver);
+        self.lend(receiver);
+        Begun {
+            ask: ChannelAsk::PollNext(key, Waiter::Stream(receiver)),
+            on_return: OnReturn::PollNext { receiver },
+        }
+    }
+
+    fn drop_handle(&mut self, handle: HandleId) -> Begun<T>
+        ensures { BeginsByName self.old (Call.Drop handle) result self.new }
+    {
+        let ask = match self.handles.take(handle.0) {
+            Some(handle_entry) => drop_ask(handle_entry.handle.kind, handle_entry.poll_state.key()),
+            None => ChannelAsk::Make,
+        };
+        Begun {
+            ask,
+            on_return: OnReturn::Nothing,
+        }
+    }
+
+    /// A handle of this kind is being made from another. None where its name found no room.
+    fn make_handle(
+        &mut self,
+        from: HandleId,
+        new: HandleId,
+        kind: HandleKind,
+        ask: ChannelAsk<T, Waiter>,
+    ) -> Option<Begun<T>>
+        requires { is_taken new.0 self.old.handles ≡ false }
+        ensures some { IfSome result
+            (λ b. Starts ask (OnReturn.New from new kind) (with_lent from (handle_named new self.old)) b self.new) }
+        ensures none { IfNone result (self.new ≡ self.old) }
+    {
+        if !self.handles.spend(new.0) {
+            return None;
+        }
+        self.lend(from);
+        Some(Begun {
+            ask,
+            on_return: OnReturn::New { from, new, kind },
+        })
+    }
+
+    fn try_clone(&mut self, handle: HandleId, new: HandleId) -> Option<Begun<T>>
+        requires { is_taken new.0 self.old.handles ≡ false }
+        ensures some { IfSome result (λ b. BeginsByName self.old (Call.TryClone handle new) b self.new) }
+        ensures none { IfNone result (self.new ≡ self.old) }
+    {
+        let seen = self.seen(handle)?;
+        self.make_handle(handle, new, seen.kind, clone_ask(seen))
+    }
+
+    fn downgrade(&mut self, handle: HandleId, new: HandleId) -> Option<Begun<T>>
+        requires { is_taken new.0 self.old.handles ≡ false }
+        ensures some { IfSome result (λ b. BeginsByName self.old (Call.Downgrade handle new) b self.new) }
+        ensures none { IfNone result (self.new ≡ self.old) }
+    {
+        let seen = self.seen(handle)?;
+        self.make_handle(handle, new, weak_of(seen.kind), ChannelAsk::Make)
+    }
+
+    fn upgrade(&mut self, weak: HandleId, new: HandleId) -> Option<Begun<T>>
+        requires { is_taken new.0 self.old.handles ≡ false }
+        ensures some { IfSome result (λ b. BeginsByName self.old (Call.Upgrade weak new) b self.new) }
+        ensures none { IfNone result (self.new ≡ self.old) }
+    {
+        let seen = self.seen(weak)?;
+        self.make_handle(weak, new, strong_of(seen.kind), upgrade_ask(seen))
+    }
+
+    fn same_channel(&mut self, a: HandleId, b: HandleId) -> Begun<T>
+        ensures { BeginsByName self.old (Call.SameChannel a b) result self.new }
+    {
+        self.lend(a);
+        self.lend(b);
+        Begun {
+            ask: ChannelAsk::SameChannel(true),
+            on_return: OnReturn::LeaveBoth { a, b },
+        }
+    }
+
+    /// A call that is not refused begins; or it comes back where its new name found no room, with nothing changed. One that
+    /// comes back gives and takes no place. A receive of several messages takes its room from `alloc`, at its first step.
+    pub(crate) fn begin(&mut self, call: Call<T>, alloc: Global) -> Result<Begun<T>, Call<T>>
+        requires { takes_again self.old call ≡ false }
+        ensures ok { IfOk result (λ b. BeginsByName self.old call b self.new) }
+        ensures err { OnErr result (self.new ≡ self.old) }
+        ensures back { IfErr result (λ c. c ≡ call) }
+        ensures places { OnErr result ((ws : List Waiter) → order_begun call ws ≡ ws) }
+    {
+        match call {
+            Call::NewSend { op, sender, msg } => {
+                match self.make_operation(op, sender, OperationKind::Send, Some(msg)) {
+                    Ok(begun) => Ok(begun),
+                    Err(Some(msg)) => Err(Call::NewSend { op, sender, msg }),
+                    Err(None) => unreachable!(),
+                }
+            }
+            Call::NewRecv { op, receiver } => {
+                match self.make_operation(op, receiver, OperationKind::Receive, None) {
+                    Ok(begun) => Ok(begun),
+                    Err(_) => Err(Call::NewRecv { op, receiver }),
+                }
+            }
+            Call::NewClosed { op, sender } => {
+                match self.make_operation(op, sender, OperationKind::Closing, None) {
+                    Ok(begun) => Ok(begun),
+                    Err(_) => Err(Call::NewClosed { op, sender }),
+                }
+            }
+            Call::TryClone { handle, new } => match self.try_clone(handle, new) {
+                Some(begun) => Ok(begun),
+                None => Err(Call::TryClone { handle, new }),
+            },
+            Call::Downgrade { handle, new } => match self.downgrade(handle, new) {
+                Some(begun) => Ok(begun),
+                None => Err(Call::Downgrade { handle, new }),
+            },
+            Call::Upgrade { weak, new } => match self.upgrade(weak, new) {
+                Some(begun) => Ok(begun),
+                None => Err(Call::Upgrade { weak, new }),
+            },
+            Call::Poll { op } => Ok(self.poll(op)),
+            Call::PollRefused { op } => Ok(self.poll_refused(op)),
+            Call::GiveUp { op } => Ok(self.give_up(op)),
+            Call::SendIsTerminated { op } => Ok(self.send_is_terminated(op)),
+            Call::PollNext { receiver } => Ok(self.poll_next(receiver)),
+            Call::Drop { handle } => Ok(self.drop_handle(handle)),
+            Call::SameChannel { a, b } => Ok(self.same_channel(a, b)),
+            Call::TrySend { sender, msg } => Ok(self.through(sender, ChannelAsk::TrySend(msg))),
+            Call::ForceSend { sender, msg } => {
+                Ok(self.through(sender, ChannelAsk::ForceSend(msg)))
+            }
+            Call::TryRecv { receiver } => Ok(self.through(receiver, ChannelAsk::TryRecv)),
+            Call::RecvMany { receiver, limit } => {
+                Ok(self.through(receiver, ChannelAsk::RecvMany(Limit::new(limit, alloc))))
+            }
+            Call::StreamIsTerminated { receiver } => {
+                Ok(self.through(receiver, ChannelAsk::IsTerminated))
+            }
+            Call::Close { handle } => Ok(self.through(handle, ChannelAsk::Close)),
+            Call::IsClosed { handle } => Ok(self.through(handle, ChannelAsk::IsClosed)),
+            Call::IsEmpty { handle } => Ok(self.through(handle, ChannelAsk::IsEmpty)),
+            Call::IsFull { handle } => Ok(self.through(handle, ChannelAsk::IsFull)),
+            Call::Len { handle } => Ok(self.through(handle, ChannelAsk::Len)),
+            Call::Capacity { handle } => Ok(self.through(handle, ChannelAsk::Capacity)),
+            Call::SenderCount { handle } => {
+                Ok(self.through(handle, ChannelAsk::HandleCount(Side::Senders)))
+            }
+            Call::ReceiverCount { handle } => {
+                Ok(self.through(handle, ChannelAsk::HandleCount(Side::Receivers)))
+            }
+        }
+    }
+}

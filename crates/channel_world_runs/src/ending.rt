@@ -1,0 +1,139 @@
+//! What calls write back as they end, and whom they wake.
+
+use crate::name_table::NameTable;
+use crate::names::{Agent, HandleEntry, OnReturn, Operation, PollState};
+use crate::order::Order;
+use channel_calls::reply::Reply;
+use channel_calls::stage::Kept;
+use channel_world_model::name::{HandleId, HandleKind, OpId, Waiter};
+
+impl<T: Drop> NameTable<T> {
+    ghost use Rattle.std.specs.Prelude.{◌≡◌, Option};
+    ghost use Rattle.channel_world_runs.specs.Bookkeeping.{with_operation, restored, installed, written_back, with_one_woken, all_woken};
+    ghost use Rattle.channel_world_runs.specs.declared.names.Operation.{Operation};
+
+    /// The operation gets back what its poll left to it.
+    fn restore(&mut self, op: OpId, kept: Kept<T>)
+        ensures { self.new ≡ with_operation (restored kept) op self.old }
+    {
+        if let Some(operation) = self.operations.take(op.0) {
+            let Operation {
+                kind,
+                handle,
+                message: _,
+                poll_state: _,
+            } = operation;
+            let restored = Operation {
+                kind,
+                handle,
+                message: kept.message,
+                poll_state: PollState::with(kept.key),
+            };
+            self.operations.set(op.0, restored);
+        }
+    }
+
+    /// The handle lives from now on, if it was made.
+    fn install(&mut self, new: HandleId, kind: HandleKind, reply: &Reply<T>)
+        ensures { self.new ≡ installed new kind reply.now self.old }
+    {
+        if let Reply::Made = reply {
+            self.handles.set(new.0, HandleEntry::unused(kind));
+        }
+    }
+
+    /// A call that has given this reply, and has left this, writes back what it has to.
+    pub(crate) fn settle(&mut self, on_return: OnReturn<T>, reply: &Reply<T>, kept: Kept<T>)
+        ensures { self.new ≡ written_back on_return reply.now kept self.old }
+    {
+        match on_return {
+            OnReturn::Nothing => {}
+            OnReturn::Leave { handle } => self.give_back(handle),
+            OnReturn::LeaveBoth { a, b } => {
+                self.give_back(a);
+                self.give_back(b);
+            }
+            OnReturn::Make { op, operation } => self.operations.set(op.0, operation),
+            OnReturn::Poll { op } => self.restore(op, kept),
+            OnReturn::PollNext { receiver } => {
+                self.restand(receiver, PollState::with(kept.key));
+                self.give_back(receiver);
+            }
+            OnReturn::New { from, new, kind } => {
+                self.give_back(from);
+                self.install(new, kind, reply);
+            }
+        }
+    }
+
+    /// One that is pending is woken.
+    pub(crate) fn wake(&mut self, name: Waiter)
+        ensures { self.new ≡ with_one_woken name self.old }
+    {
+        match name {
+            Waiter::Op(op) => {
+                if let Some(operation) = self.operations.take(op.0) {
+                    let Operation {
+                        kind,
+                        handle,
+                        message,
+                        poll_state,
+                    } = operation;
+                    let told = Operation {
+                        kind,
+                        handle,
+                        message,
+                        poll_state: poll_state.told(),
+                    };
+                    self.operations.set(op.0, told);
+                }
+            }
+            Waiter::Stream(receiver) => {
+                if let Some(poll_state) = self.poll_state(receiver) {
+                    self.restand(receiver, poll_state.told());
+                }
+            }
+        }
+    }
+
+    /// These are woken, in order.
+    pub(crate) fn wake_all(&mut self, names: &Vec<Waiter>)
+        ensures { self.new ≡ all_woken names.now.items self.old }
+    {
+        for k in 0..names.len() {
+            self.wake(names[k]);
+        }
+    }
+}
+
+ghost use Rattle.std.specs.Prelude.{◌≡◌, ◌<◌, vec_len, slice_get, Some};
+ghost use Rattle.channel_world_runs.specs.Run.{name_state_ended};
+ghost use Rattle.channel_world_runs.specs.declared.names.Agent.{Agent};
+
+/// The k-th call writes back what it has to, if it has answered, and its party is at work no more then.
+pub(crate) fn write_back<T: Drop>(
+    name_table: &mut NameTable<T>,
+    order: &mut Order,
+    agents: &mut Vec<Agent<T>>,
+    k: usize,
+    reply: &Option<Reply<T>>,
+    kept: Option<Kept<T>>,
+)
+    requires { k < vec_len agents.old }
+    ensures { (a : Agent T) → slice_get agents.old.items k ≡ Some a
+        → record { name_table = name_table.new; order = order.new; agents = agents.new.items }
+        ≡ name_state_ended k a reply.now kept (record { name_table = name_table.old; order = order.old; agents = agents.old.items }) }
+{
+    if let Some(reply) = reply {
+        let Agent {
+            party: _,
+            on_return,
+        } = agents.remove(k);
+        let kept = kept.unwrap_or(Kept {
+            key: None,
+            message: None,
+        });
+        order.settle(&on_return, kept.key);
+        name_table.settle(on_return, reply, kept);
+    }
+}

@@ -1,0 +1,49 @@
+//! A part of `channel_world`: a channel with its handles and operations by name, and the calls of several parties under way, in any
+//! interleaving. Where no call is under way, a call may also be made alone, from its beginning to its end.
+//!
+//! What is said of it is in the contracts, and what they mean in `specs/`: `NameTable` (what lives under which name), `Apart` (no name
+//! stands twice), `Pending` (how many are pending or woken), `Refusal` (which steps are refused), `Bookkeeping` (what a call asks as it
+//! begins, and what it writes back at its end), `Order` (who may be woken, in the order of waking), `Run` (one step), `Runs` (steps one
+//! after another, and what holds at each moment of them), `Lone` (calls made alone), `Owners` (who holds each listener), `OwnerWoken` (who
+//! was woken is told), `OwnerOrder` (in which order), `OwnerPolled` (who is polled, by whom), `Kept` (all that every step keeps of those
+//! who wait), `Doing` (what each call under way is to those who wait, and has done), `Owed` (the wake-ups owed to those who are pending, by
+//! what a channel shows as it is), `WorldState` (the configurations in which a channel by names stands, and how what is done leads from one
+//! to another).
+//!
+//! A call that goes through a receiver whose stream is being polled is refused as under way, its drop too. The positions of a
+//! queue end with the 2^61st message: a send that might bring it is refused for want of memory as it begins. Nothing else is
+//! refused for a number, neither of steps nor of calls.
+//!
+//! Proved, for every message type and every list of steps: the opening of a channel and what it refuses; that no step is made that one of
+//! the seven reasons refuses; that each step of a run is a step of the channel, with that step's mark, woken names and reply; that each
+//! call asks what it asks given the names and the listeners held as it begins; that the names and the order of waking after it are what the
+//! bookkeeping makes of it; why and where a run stops, and that a refused step is left in front with nothing of it done; that what left the
+//! channel, followed by what it holds, is what it held followed by what came; that at every moment of a run each listener on a list is held
+//! by one alone, a pending operation or stream or a call under way, whoever is pending and was woken is told, on each list in the order of
+//! waking, and nobody pending stays unwoken beside a message, free place or closing that no woken one or call under way answers for.
+//! However it came about, the channel stands in such a configuration, and whatever is done next leads on from each configuration in which
+//! it stands. The number of messages, the number of calls under way and whether there is any are the channel's. The numbers `pending` and
+//! `woken` are those of the operations and streams that stand so.
+//!
+//! Of a call made alone: that it asks so too, that its steps, its answer, those whom it wakes, in order, and the channel after
+//! it are those of a call with nobody else at work, that the names and the order of waking after it are what the bookkeeping
+//! makes of it, that it leaves no call under way and all that every step keeps of those who wait, and that a call that found no
+//! room is handed back with nothing changed.
+#![tactic(auto)]
+
+mod beginning;
+pub mod doing;
+mod ending;
+mod lone;
+pub mod name_table;
+pub mod names;
+pub mod order;
+mod position;
+pub mod refinement_laws;
+mod refusal;
+pub mod rest_laws;
+mod run;
+pub mod settle;
+pub mod step;
+mod woken;
+pub mod world_state;

@@ -1,0 +1,63 @@
+//! Calls made alone, from their beginning to their end.
+
+use crate::beginning::Begun;
+use crate::position::accepted_by;
+use crate::woken::Woken;
+use crate::world_state::WorldState;
+use channel_steps::alone::{Done as Ended, run_alone};
+use channel_world_model::call::Call;
+use channel_world_model::run::Done;
+
+impl<T: Drop> WorldState<T> {
+    ghost use Rattle.std.specs.Prelude.{◌≡◌, None, IfOk, IfErr, OnErr};
+    ghost use Rattle.channel_world_runs.specs.Refusal.{begin_refusal};
+    ghost use Rattle.channel_world_runs.specs.WorldState.{AreAtWork, AreOwned, IsQuiet, IsSame};
+    ghost use Rattle.channel_world_runs.specs.Lone.{CallsAlone, WakesAtMost};
+
+    /// Makes a call that is not refused, where no call is under way, from its beginning to its end; or hands it back where
+    /// there was no room, with nothing changed.
+    ///
+    /// Its steps are those of a party that nobody stands beside, and what it answers, whom it wakes, in order, and the channel
+    /// after it are what a call does that is made alone. `room` is no less than the number of names that it may wake; room for
+    /// these, and for the listener of a poll, is taken before it begins. Nothing waits. Own to this project.
+    pub fn call_alone(&mut self, call: Call<T>, room: usize) -> Result<Done<T>, Call<T>>
+        requires owned { AreOwned self.old }
+        requires at_work { AreAtWork self.old }
+        requires quiet { IsQuiet self.old }
+        requires accepted { begin_refusal self.old.name_table call ≡ None }
+        requires room { WakesAtMost room call self.old }
+        ensures ok { IfOk result (λ d. CallsAlone call self.old d.reply d.woken.items self.new) }
+        ensures at_work { AreAtWork self.new }
+        ensures quiet { IsQuiet self.new }
+        ensures err { OnErr result (IsSame self.old self.new) }
+        ensures back { IfErr result (λ c. c ≡ call) }
+    {
+        let brings = self.name_table.brings(&call);
+        if !self.has_position(&call) {
+            return Err(call);
+        }
+        let Ok(mut sink) = Woken::with_room(room, self.alloc) else {
+            return Err(call);
+        };
+        let Ok(()) = self.order.begin(&call) else {
+            return Err(call);
+        };
+        let Begun { ask, on_return } = self.name_table.begin(call, self.alloc)?;
+        let Ended { reply, kept } = run_alone(
+            ask,
+            &mut self.channel,
+            &mut self.messages,
+            &mut sink,
+        );
+        self.accepted = self.accepted.saturating_add(accepted_by(brings, &reply));
+        let Woken { names } = sink;
+        self.name_table.wake_all(&names);
+        self.order.wake_all(&names);
+        self.order.settle(&on_return, kept.key);
+        self.name_table.settle(on_return, &reply, kept);
+        Ok(Done {
+            reply,
+            woken: names,
+        })
+    }
+}

@@ -1,0 +1,303 @@
+//! What lives under which name, and what a call under way has to write back.
+
+use channel_calls::stage::Line;
+use channel_world_model::name::{Handle, HandleId, HandleKind, OpId};
+use channel_world_model::refusal::WorldRefusal;
+use event_listener::key::Key;
+
+/// How an operation, or a receiver as a stream, stands.
+#[derive(Clone, Copy, Debug, PartialEq, Eq)]
+pub enum PollState {
+    /// It isn't pending.
+    Rests,
+    /// Its last poll ended pending: it holds this listener, and may have been woken since.
+    Waits {
+        /// The listener.
+        key: Key,
+        /// Whether it was woken.
+        is_woken: bool,
+    },
+    /// A poll of it is under way, which has its listener and, where it brings one, its message.
+    IsPolled {
+        /// Whether the poll has a message of the operation.
+        brings: bool,
+    },
+}
+
+impl PollState {
+    ghost use Rattle.std.specs.Prelude.{◌≡◌};
+    ghost use Rattle.channel_world_runs.specs.NameTable.{key_of, poll_state_with, is_polled, polled_refusal, is_woken, told};
+
+    /// The listener of one that is pending.
+    pub(crate) fn key(self) -> Option<Key>
+        ensures { result ≡ key_of self }
+    {
+        match self {
+            PollState::Waits { key, is_woken: _ } => Some(key),
+            PollState::Rests | PollState::IsPolled { brings: _ } => None,
+        }
+    }
+
+    /// The standing after a poll that left this listener, or none.
+    pub(crate) fn with(key: Option<Key>) -> PollState
+        ensures { result ≡ poll_state_with key }
+    {
+        match key {
+            Some(key) => PollState::Waits {
+                key,
+                is_woken: false,
+            },
+            None => PollState::Rests,
+        }
+    }
+
+    /// Whether a poll is under way.
+    pub(crate) fn is_polled(self) -> bool
+        ensures { result ≡ is_polled self }
+    {
+        match self {
+            PollState::IsPolled { brings: _ } => true,
+            PollState::Rests | PollState::Waits { .. } => false,
+        }
+    }
+
+    /// Why nothing is begun that a poll under way stands against.
+    pub(crate) fn refusal(self) -> Option<WorldRefusal>
+        ensures { result ≡ polled_refusal self }
+    {
+        if self.is_polled() {
+            Some(WorldRefusal::OpUnderWay)
+        } else {
+            None
+        }
+    }
+
+    /// Whether it is pending and was woken.
+    pub(crate) fn is_woken(self) -> bool
+        ensures { result ≡ is_woken self }
+    {
+        match self {
+            PollState::Waits { key: _, is_woken } => is_woken,
+            PollState::Rests | PollState::IsPolled { brings: _ } => false,
+        }
+    }
+
+    /// The same, woken where it is pending.
+    pub(crate) fn told(self) -> PollState
+        ensures { result ≡ told self }
+    {
+        match self {
+            PollState::Waits { key, is_woken: _ } => PollState::Waits {
+                key,
+                is_woken: true,
+            },
+            other => other,
+        }
+    }
+}
+
+/// What an operation is.
+#[derive(Clone, Copy, Debug, PartialEq, Eq)]
+pub enum OperationKind {
+    /// A send.
+    Send,
+    /// A receive.
+    Receive,
+    /// A wait for the closing.
+    Closing,
+}
+
+impl OperationKind {
+    ghost use Rattle.std.specs.Prelude.{◌≡◌};
+    ghost use Rattle.channel_world_runs.specs.NameTable.{line_of_kind};
+
+    /// The line in which it waits.
+    pub(crate) fn line(self) -> Line
+        ensures { result ≡ line_of_kind self }
+    {
+        match self {
+            OperationKind::Send => Line::Sends,
+            OperationKind::Receive => Line::Receives,
+            OperationKind::Closing => Line::Closings,
+        }
+    }
+}
+
+/// A live operation.
+#[derive(Drop)]
+pub struct Operation<T> {
+    /// What it is.
+    pub kind: OperationKind,
+    /// The handle that it borrows.
+    pub handle: HandleId,
+    /// The message of an unfinished send that no poll has.
+    pub message: Option<T>,
+    /// How it stands.
+    pub poll_state: PollState,
+}
+
+impl<T> Operation<T> {
+    ghost use Rattle.std.specs.Prelude.{◌≡◌};
+    ghost use Rattle.channel_world_runs.specs.NameTable.{is_done};
+
+    /// Whether a poll has finished a send: its message is gone, and no poll under way has it.
+    pub(crate) fn is_finished(&self) -> bool
+        ensures { result ≡ is_done self.now }
+    {
+        match (self.kind, &self.message, self.poll_state) {
+            (OperationKind::Send, None, PollState::IsPolled { brings }) => !brings,
+            (OperationKind::Send, None, _) => true,
+            _ => false,
+        }
+    }
+}
+
+/// A live handle.
+#[derive(Clone, Copy, Debug, PartialEq, Eq)]
+pub struct HandleEntry {
+    /// What it is, and how many operations borrow it.
+    pub handle: Handle,
+    /// How many calls under way use it.
+    pub users: usize,
+    /// How it stands as a stream.
+    pub poll_state: PollState,
+}
+
+impl HandleEntry {
+    ghost use Rattle.std.specs.Prelude.{◌≡◌, IfSome};
+    ghost use Rattle.channel_world_runs.specs.NameTable.{unused, used_more, used_less, borrowed_more, handed_over};
+
+    /// A handle that nobody uses.
+    pub(crate) fn unused(kind: HandleKind) -> HandleEntry
+        ensures { result ≡ unused kind }
+    {
+        HandleEntry {
+            handle: Handle { kind, borrowers: 0 },
+            users: 0,
+            poll_state: PollState::Rests,
+        }
+    }
+
+    /// The same, used by one more call.
+    pub(crate) fn used_more(self) -> HandleEntry
+        ensures { result ≡ used_more self }
+    {
+        HandleEntry {
+            users: self.users.saturating_add(1),
+            ..self
+        }
+    }
+
+    /// The same, used by one fewer.
+    pub(crate) fn used_less(self) -> HandleEntry
+        ensures { result ≡ used_less self }
+    {
+        HandleEntry {
+            users: self.users.saturating_sub(1),
+            ..self
+        }
+    }
+
+    /// The same, borrowed by one more operation. None where as many borrow it as can be counted.
+    pub(crate) fn borrowed_more(self) -> Option<HandleEntry>
+        ensures { IfSome result (λ h. h ≡ borrowed_more self) }
+    {
+        let Handle { kind, borrowers } = self.handle;
+        if borrowers == usize::MAX {
+            return None;
+        }
+        let borrowers = borrowers + 1;
+        Some(HandleEntry {
+            handle: Handle { kind, borrowers },
+            ..self
+        })
+    }
+
+    /// The same, once the call that gives up an operation uses it, and the operation borrows it no more.
+    pub(crate) fn handed_over(self) -> HandleEntry
+        ensures { result ≡ handed_over self }
+    {
+        let Handle { kind, borrowers } = self.handle;
+        let borrowers = borrowers.saturating_sub(1);
+        HandleEntry {
+            handle: Handle { kind, borrowers },
+            ..self.used_more()
+        }
+    }
+}
+
+/// What a call under way has to write back at its end.
+#[derive(Drop)]
+pub enum OnReturn<T> {
+    /// Nothing.
+    Nothing,
+    /// A handle is used no more.
+    Leave {
+        /// Which one.
+        handle: HandleId,
+    },
+    /// Two handles are used no more.
+    LeaveBoth {
+        /// The first.
+        a: HandleId,
+        /// The second.
+        b: HandleId,
+    },
+    /// This operation lives from now on.
+    Make {
+        /// Its name.
+        op: OpId,
+        /// What it is.
+        operation: Operation<T>,
+    },
+    /// The operation gets its listener and its message back.
+    Poll {
+        /// Its name.
+        op: OpId,
+    },
+    /// The receiver gets its stream's listener back, and is used no more.
+    PollNext {
+        /// Its name.
+        receiver: HandleId,
+    },
+    /// A handle is used no more; a new one of this kind lives from now on, if it was made.
+    New {
+        /// The handle that was used.
+        from: HandleId,
+        /// The new one's name.
+        new: HandleId,
+        /// What it is.
+        kind: HandleKind,
+    },
+}
+
+/// A party with a call under way, and what that has to write back.
+#[derive(Drop)]
+pub struct Agent<T> {
+    /// The party.
+    pub party: u32,
+    /// What its call has to write back.
+    pub on_return: OnReturn<T>,
+}
+
+ghost use Rattle.std.specs.Prelude.{◌≡◌, IfSome};
+ghost use Rattle.channel_world_runs.specs.NameTable.{is_at_work, IsAgent};
+
+/// Whether a party has a call under way.
+pub(crate) fn is_at_work<T>(agents: &Vec<Agent<T>>, party: u32) -> bool
+    ensures { result ≡ is_at_work party agents.now.items }
+{
+    agents.iter().any(|agent| agent.party == party)
+}
+
+/// The place of a party's call among those under way.
+pub(crate) fn find_agent<T>(agents: &Vec<Agent<T>>, party: u32) -> Option<usize>
+    ensures { IfSome result (λ k. IsAgent party agents.now.items k) }
+{
+    for k in 0..agents.len() {
+        if agents[k].party == party {
+            return Some(k);
+        }
+    }
+    None
+}

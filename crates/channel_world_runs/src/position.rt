@@ -1,0 +1,119 @@
+//! Messages that are accepted, and the positions of the queue that are left for them.
+
+use crate::name_table::NameTable;
+use crate::names::OperationKind;
+use crate::world_state::WorldState;
+use channel_calls::mark::Mark;
+use channel_calls::reply::Reply;
+use channel_world_model::call::Call;
+use channel_world_model::name::{OpId, Waiter};
+use concurrent_queue::cells::QueueForm;
+use futures::task::Poll;
+
+/// How many messages a channel accepts at most: the positions of a queue end there.
+pub(crate) const MOST_MESSAGES: u64 = (1 << 61) - 1;
+
+ghost use Rattle.std.specs.Prelude.{◌≡◌};
+ghost use Rattle.concurrent_queue.specs.Capacity.{capacity_of};
+ghost use Rattle.channel_steps.specs.Count.{brought_in};
+ghost use Rattle.channel_world_runs.specs.Positions.{is_one_place, came_in, accepted_by};
+
+/// Whether a queue of this form has one place alone: it counts no positions.
+pub(crate) fn is_one_place(form: QueueForm) -> bool
+    ensures { result ≡ is_one_place (capacity_of form) }
+{
+    match form {
+        QueueForm::Bounded(capacity) => capacity == 1,
+        QueueForm::Unbounded => false,
+    }
+}
+
+/// How many messages a step with this mark brings in.
+pub(crate) fn brought_in(mark: Mark) -> u64
+    ensures { result ≡ brought_in mark }
+{
+    match mark {
+        Mark::Append | Mark::Replace => 1,
+        _ => 0,
+    }
+}
+
+/// How many messages a call that may bring one has brought in, by its reply.
+fn came_in<T>(reply: &Reply<T>) -> u64
+    ensures { result ≡ came_in reply.now }
+{
+    match reply {
+        Reply::TrySend(Ok(())) | Reply::ForceSend(Ok(_)) | Reply::SendPoll(Poll::Ready(Ok(()))) =>
+            1,
+        _ => 0,
+    }
+}
+
+/// How many messages a call made alone has brought in, by its reply: none where it had none.
+pub(crate) fn accepted_by<T>(brings: bool, reply: &Reply<T>) -> u64
+    ensures { result ≡ accepted_by brings reply.now }
+{
+    if brings { came_in(reply) } else { 0 }
+}
+
+impl<T> NameTable<T> {
+    ghost use Rattle.std.specs.Prelude.{◌≡◌};
+    ghost use Rattle.channel_world_model.specs.Settling.{poll_of};
+    ghost use Rattle.channel_world_runs.specs.Positions.{brings};
+
+    /// Whether a poll of the operation may bring a message: that of an unfinished send.
+    fn has_message(&self, op: OpId) -> bool
+        ensures { result ≡ brings self.now (Call.Poll op) }
+    {
+        match self.operations.get(op.0) {
+            Some(operation) => match operation.kind {
+                OperationKind::Send => operation.message.is_some(),
+                OperationKind::Receive | OperationKind::Closing => false,
+            },
+            None => false,
+        }
+    }
+
+    /// Whether a poll of what has this name may bring a message.
+    pub(crate) fn brings_polled(&self, name: Waiter) -> bool
+        ensures { result ≡ brings self.now (poll_of name) }
+    {
+        match name {
+            Waiter::Op(op) => self.has_message(op),
+            Waiter::Stream(_) => false,
+        }
+    }
+
+    /// Whether the call may bring a message.
+    pub(crate) fn brings(&self, call: &Call<T>) -> bool
+        ensures { result ≡ brings self.now call.now }
+    {
+        match call {
+            Call::TrySend { .. } | Call::ForceSend { .. } => true,
+            Call::Poll { op } => self.has_message(*op),
+            _ => false,
+        }
+    }
+}
+
+impl<T> WorldState<T> {
+    ghost use Rattle.std.specs.Prelude.{IsTrue};
+    ghost use Rattle.channel_world_runs.specs.WorldState.{HasPosition, HasPositions};
+
+    /// Whether there are positions of the queue for so many more messages. One place alone needs none. Own to this project.
+    pub fn has_positions(&self, count: usize) -> bool
+        ensures enough { IsTrue result → HasPositions count self.now }
+        ensures all { HasPositions count self.now → IsTrue result }
+    {
+        self.has_one_place || self.accepted.saturating_add(count as u64) <= MOST_MESSAGES
+    }
+
+    /// Whether there is a position of the queue for a message that the call may bring, beside those that the calls under way
+    /// may yet bring.
+    pub(crate) fn has_position(&self, call: &Call<T>) -> bool
+        ensures enough { IsTrue result → HasPosition call.now self.now }
+        ensures all { HasPosition call.now self.now → IsTrue result }
+    {
+        !self.name_table.brings(call) || self.has_positions(self.parties.len().saturating_add(1))
+    }
+}

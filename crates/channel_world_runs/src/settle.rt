@@ -1,0 +1,135 @@
+//! Polls of those who are pending and were woken, made alone, one after another, as settling makes them.
+
+use crate::beginning::Begun;
+use crate::name_table::NameTable;
+use crate::order::Order;
+use crate::position::accepted_by;
+use crate::woken::Woken;
+use crate::world_state::WorldState;
+use channel_calls::reply::Reply;
+use channel_steps::alone::{Done as Ended, run_alone};
+use channel_world_model::name::{HandleKind, Waiter};
+
+/// What a poll left.
+#[derive(Drop)]
+pub struct Polled<T> {
+    /// What it answers.
+    pub reply: Reply<T>,
+    /// The names that it was given, and after them those whom it woke, in order.
+    pub names: Vec<Waiter>,
+}
+
+impl<T: Drop> NameTable<T> {
+    ghost use Rattle.std.specs.Prelude.{◌≡◌, ◌≤◌, drop, vec_len};
+    ghost use Rattle.channel_world_model.specs.Settling.{poll_of};
+    ghost use Rattle.channel_world_runs.specs.Bookkeeping.{BeginsByName, all_woken};
+    ghost use Rattle.channel_world_runs.specs.OwnerOrder.{was_woken};
+    ghost use Rattle.channel_world_runs.specs.Owners.{status};
+
+    /// Whether something pending has this name, and was woken.
+    pub(crate) fn was_woken(&self, name: Waiter) -> bool
+        ensures { result ≡ was_woken (status self.now name) }
+    {
+        match name {
+            Waiter::Op(op) => match self.operations.get(op.0) {
+                Some(operation) => operation.poll_state.is_woken() && !operation.is_finished(),
+                None => false,
+            },
+            Waiter::Stream(receiver) => match self.handles.get(receiver.0) {
+                Some(handle_entry) => match handle_entry.handle.kind {
+                    HandleKind::Receiver => handle_entry.poll_state.is_woken(),
+                    HandleKind::Sender | HandleKind::WeakSender | HandleKind::WeakReceiver => {
+                        false
+                    }
+                },
+                None => false,
+            },
+        }
+    }
+
+    /// A poll of this name begins.
+    fn begin_poll(&mut self, name: Waiter) -> Begun<T>
+        ensures { BeginsByName self.old (poll_of name) result self.new }
+    {
+        match name {
+            Waiter::Op(op) => self.poll(op),
+            Waiter::Stream(receiver) => self.poll_next(receiver),
+        }
+    }
+
+    /// The names from this place on are woken, in order.
+    fn wake_from(&mut self, names: &Vec<Waiter>, from: usize)
+        requires { from ≤ vec_len names.now }
+        ensures { self.new ≡ all_woken (drop from names.now.items) self.old }
+    {
+        for k in from..names.len() {
+            self.wake(names[k]);
+        }
+    }
+}
+
+impl Order {
+    ghost use Rattle.std.specs.Prelude.{◌≡◌, ◌≤◌, drop, vec_len};
+    ghost use Rattle.channel_world_runs.specs.Order.{all_moved_last};
+
+    /// The names from this place on are woken, in order.
+    fn wake_from(&mut self, names: &Vec<Waiter>, from: usize)
+        requires { from ≤ vec_len names.now }
+        ensures { self.new ≡ all_moved_last (drop from names.now.items) self.old }
+    {
+        for k in from..names.len() {
+            self.wake(names[k]);
+        }
+    }
+}
+
+impl<T: Drop> WorldState<T> {
+    ghost use Rattle.std.specs.Prelude.{◌≡◌, ◌≤◌, ◌+◌, ◌-◌, false, vec_len, vec_capacity};
+    ghost use Rattle.channel_steps.specs.solo.Ample.{lacks_memory};
+    ghost use Rattle.channel_world_model.specs.Settling.{poll_of};
+    ghost use Rattle.channel_world_runs.specs.WorldState.{AreAtWork, AreOwned, IsQuiet};
+    ghost use Rattle.channel_world_runs.specs.Lone.{BringsWithin, WakesAtMost};
+    ghost use Rattle.channel_world_runs.specs.Positions.{accepted_by, brings};
+    ghost use Rattle.channel_world_runs.specs.Settle.{IsWoken, PollsAlone};
+
+    /// Polls one that is pending and was woken, where no call is under way, from the poll's beginning to its end.
+    ///
+    /// A stream is polled even while a live operation borrows its receiver. The poll takes nothing: its name has its place in the
+    /// order of waking, and those whom it wakes go after the given names, where there is room for them. It isn't refused memory: where
+    /// it goes on waiting, the node of the listener that was told serves the next one. Once all serial numbers of a list were given,
+    /// the reply says that none was left. Only a send that is accepted brings a message, so only there is a position of the queue
+    /// asked for. Nothing waits. Own to this project.
+    pub fn poll_alone(&mut self, name: Waiter, names: Vec<Waiter>) -> Polled<T>
+        requires owned { AreOwned self.old }
+        requires at_work { AreAtWork self.old }
+        requires quiet { IsQuiet self.old }
+        requires woken { IsWoken name self.old }
+        requires limit { BringsWithin (poll_of name) self.old }
+        requires room { WakesAtMost (vec_capacity names - vec_len names) (poll_of name) self.old }
+        ensures polled { PollsAlone name self.old names.items result.reply result.names.items self.new }
+        ensures at_work { AreAtWork self.new }
+        ensures quiet { IsQuiet self.new }
+        ensures place { self.new.has_one_place ≡ self.old.has_one_place }
+        ensures accepted { self.new.accepted ≤ self.old.accepted + accepted_by (brings self.old.name_table (poll_of name)) result.reply }
+        ensures capacity { vec_capacity names ≤ vec_capacity result.names }
+        ensures ample { lacks_memory result.reply ≡ false }
+    {
+        let from = names.len();
+        let brings = self.name_table.brings_polled(name);
+        let mut sink = Woken { names };
+        let Begun { ask, on_return } = self.name_table.begin_poll(name);
+        let Ended { reply, kept } = run_alone(
+            ask,
+            &mut self.channel,
+            &mut self.messages,
+            &mut sink,
+        );
+        self.accepted = self.accepted.saturating_add(accepted_by(brings, &reply));
+        let Woken { names } = sink;
+        self.name_table.wake_from(&names, from);
+        self.order.wake_from(&names, from);
+        self.order.settle(&on_return, kept.key);
+        self.name_table.settle(on_return, &reply, kept);
+        Polled { reply, names }
+    }
+}
