@@ -25,7 +25,7 @@
 //!
 //! Of a step of the queue's call a trace is shown the queue's own operations. Not bound is that a handle's line makes its call once, since
 //! no clause says what was not done. That threads together do what such steps do one after another is no contract here: a law of
-//! `handle_laws` ties it to one of `channel_laws`. Since other threads may step in between, a handle's own contract says what holds
+//! `handle_laws` ties it to one of `channel_steps`. Since other threads may step in between, a handle's own contract says what holds
 //! whatever they do: a refused message is the one that was handed in, a pending poll has armed its context and kept its message, the
 //! capacity is as given.
 //!

@@ -1,4 +1,4 @@
-//! Tests of `channel_steps` and `channel_alone`, and of the calls of `channel_calls` beside others: what no contract says, and what
+//! Tests of `channel_steps`, and of the calls of `channel_calls` beside others: what no contract says, and what
 //! they say in concrete values. A crate of their own, so that what they prove is proved once. Besides a caller over the cells of
 //! one owner, that proves what it says by the contracts of `channel_calls` alone.
 #![tactic(auto)]

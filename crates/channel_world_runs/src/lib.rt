@@ -29,6 +29,9 @@
 //! it are those of a call with nobody else at work, that the names and the order of waking after it are what the bookkeeping
 //! makes of it, that it leaves no call under way and all that every step keeps of those who wait, and that a call that found no
 //! room is handed back with nothing changed.
+//!
+//! A channel that has come to rest is as a world of the model, however it came about (`rest_laws`). Calls made alone do what the model of
+//! one call at a time says of them (`refinement_laws`).
 #![tactic(auto)]
 
 mod beginning;

@@ -6,7 +6,7 @@ ghost use Rattle.handle_laws.specs.Events.{WalksAct, CallsAct, PollsAct, SendPol
 use async_channel::Trace;
 
 /// What a public call of a handle or an operation says it showed the trace that its channel is watched by, or a caller's, is what
-/// `merges_are_runs` of `channel_laws` asks of its party: operations of the queue, and deeds on the lists and the counts, that are the
+/// `merges_are_runs` of `channel_steps` asks of its party: operations of the queue, and deeds on the lists and the counts, that are the
 /// party's next events, with the answer that came out. So where the events of many such calls come in one order in which each answer
 /// is what the channel then held, the whole is a run, and the headline holds of it. Nothing is known of the trace but that it is one.
 /// Before these the trace saw the call begin on the handle's own channel, by its seal, and on no other.
