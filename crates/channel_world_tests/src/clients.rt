@@ -5,17 +5,17 @@ ghost use Rattle.channel_calls.specs.declared.reply.Reply.{Reply};
 ghost use Rattle.channel_calls.specs.declared.stage.Line.{Line};
 ghost use Rattle.channel_world_runs.specs.Pending.{how_many, stands_pending};
 ghost use Rattle.channel_world_runs.specs.Runs.{accepted_in, left_in};
-ghost use Rattle.channel_world_runs.specs.Way.{replies_in};
+ghost use Rattle.channel_world_runs.specs.Reaches.{replies_in};
 ghost use Rattle.channel_world_model.specs.Handles.{HandlesAreCounted};
 ghost use Rattle.channel_world_model.specs.declared.name.Waiter.{Waiter};
-ghost use Rattle.channel_steps.specs.Scene.{Scene};
+ghost use Rattle.channel_steps.specs.Configuration.{Configuration};
 ghost use Rattle.channel_world.specs.Asleep.{NobodySleeps};
 ghost use Rattle.channel_world.specs.Carried.{replied_if, LeadsTo};
 ghost use Rattle.channel_world.specs.InTurn.{accepted_on, left_on};
 ghost use Rattle.channel_world.specs.Since.{ClosesOnceWith, IsNeverFullWith};
 ghost use Rattle.channel_world.specs.StepsLeft.{EndsInFront};
 ghost use Rattle.channel_world.specs.TheEnd.{NothingComesAfter};
-ghost use Rattle.channel_world.specs.View.{sight_of, names_in, is_closed, at_rest, IsQuiet, Led};
+ghost use Rattle.channel_world.specs.View.{observation_of, names_in, is_closed, at_rest, IsQuiet, Led};
 
 use channel_world::account::Account;
 use channel_world::call::{Call, CallRun};
@@ -111,8 +111,8 @@ pub struct Parts<T> {
     pub after: Option<CallRun<T>>,
 }
 
-/// Makes calls, then steps, then calls again, in whatever world: what left since a scene that it came from, followed by what it
-/// holds at the end, is what it held in that scene, followed by what came, in order; and the replies that were given since are
+/// Makes calls, then steps, then calls again, in whatever world: what left since a configuration that it came from, followed by what it
+/// holds at the end, is what it held in that configuration, followed by what came, in order; and the replies that were given since are
 /// those before, and then just those of the three parts.
 pub fn carry<T: Drop>(
     world: &mut World<T>,
@@ -201,9 +201,9 @@ pub fn is_idle<T: Drop>(world: &World<T>) -> bool
     world.under_way() == 0
 }
 
-/// Looks at whatever world: what has left since a scene that it came from, as the n-th, was held there or came as the n-th.
+/// Looks at whatever world: what has left since a configuration that it came from, as the n-th, was held there or came as the n-th.
 pub fn leaves_in_turn<T: Drop>(world: &World<T>)
-    ensures { (s : Scene T Waiter) (replies : List (Reply T)) (led : Led s replies world.now) (n : ℕ)
+    ensures { (s : Configuration T Waiter) (replies : List (Reply T)) (led : Led s replies world.now) (n : ℕ)
         → n < length (left_on led.way.run)
         → slice_get (left_on led.way.run) n ≡ slice_get (accepted_on led.way.run) n }
 {
@@ -224,7 +224,7 @@ pub struct Seen {
 
 /// Looks at whatever world: the number of its messages, its names, and its flag, and nothing of what it is made of.
 pub fn look<T: Drop>(world: &World<T>) -> Seen
-    ensures messages { result.messages ≡ (sight_of world.now).messages }
+    ensures messages { result.messages ≡ (observation_of world.now).messages }
     ensures names { result.pending ≡ how_many stands_pending (names_in world.now) }
     ensures flag { result.is_awake ≡ true → is_closed world.now ≡ true → (line : Line) → NobodySleeps line world.now }
 {

@@ -15,7 +15,7 @@ ghost use Rattle.channel_calls.specs.declared.stage.Line.{Line};
 ghost use Rattle.channel_calls.specs.declared.stage.Line.TheVariants.{Receives, Sends, Streams};
 ghost use Rattle.channel_world_runs.specs.Owed.{Owed};
 ghost use Rattle.channel_world.specs.Asleep.{woken_among, ClosingIsAnswered, NobodySleeps, ReceivesAreAnswered, SendsAreAnswered, StreamsAreAnswered};
-ghost use Rattle.channel_world.specs.View.{at_rest, calls_in, messages_in, sight_of, IsQuiet};
+ghost use Rattle.channel_world.specs.View.{at_rest, calls_in, messages_in, observation_of, IsQuiet};
 
 use crate::clients::Settling;
 use channel_calls::stage::Line;
@@ -95,10 +95,10 @@ pub fn step_and_look<T: Drop>(world: &mut World<T>, steps: &mut VecDeque<Step<T>
 
 /// Looks at whatever world, calls under way or not: who sleeps is answered for by kind, and how many calls of each kind are under way.
 pub fn look_by_kind<T: Drop>(world: &World<T>) -> UnderWay
-    ensures sending { result.sending ≡ (sight_of world.now).sending }
-    ensures receiving { result.receiving ≡ (sight_of world.now).receiving }
-    ensures closers { result.closers ≡ (sight_of world.now).closers }
-    ensures owed { Owed (sight_of world.now) }
+    ensures sending { result.sending ≡ (observation_of world.now).sending }
+    ensures receiving { result.receiving ≡ (observation_of world.now).receiving }
+    ensures closers { result.closers ≡ (observation_of world.now).closers }
+    ensures owed { Owed (observation_of world.now) }
 {
     who_sleeps_is_answered_for(world);
     world.calls_by_kind()
