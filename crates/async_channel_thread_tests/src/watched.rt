@@ -8,7 +8,6 @@ use concurrent_queue::cells::{Slot, Word};
 use concurrent_queue::error::NoMemory;
 use concurrent_queue::seen as queue;
 use futures::task::Source;
-use std::alloc::Global;
 use std::sync::Wait;
 use std::sync::atomic::{AtomicUsize, Ordering};
 use std::thread;
@@ -147,29 +146,15 @@ impl Trace<u64> for Watcher<'_> {
     fn sleeps(&mut self, _sight: &Sight<Self>) {}
 }
 
-/// What the calls answered: whether a message was sent, how many senders were counted, what was received, and whether the closing found the
-/// channel open.
-type Answers = (bool, usize, Option<u64>, bool);
-
-/// A send and a question at once, then a receive and a closing.
-fn calls<R, S>(rt: &R, s: &Sender<u64, R, S>, r: &Receiver<u64, R, S>) -> Answers
-where
-    R: Threads + Wait + Copy + Send + Sync,
-    S: Trace<u64> + Copy + Send + Sync,
-{
+/// A send and a question at once, then a receive and a closing: what was sent was received, one sender was counted, and it was
+/// open.
+fn calls<R: Threads + Wait + Copy + Send + Sync>(
+    rt: &R,
+    s: &Sender<u64, R, Watcher<'_>>,
+    r: &Receiver<u64, R, Watcher<'_>>,
+) -> (bool, usize, Option<u64>, bool) {
     let (sent, senders) = thread::join(rt, || s.try_send(7).is_ok(), || r.sender_count());
     (sent, senders, r.try_recv().ok(), s.close())
-}
-
-/// The calls of a channel of one place that is watched by this, and is let go then; none where it was refused memory. It is written for
-/// any trace: a call that is handed one with all its methods is dear to prove, and so there is one.
-fn watched_calls<R, S>(rt: R, alloc: Global, watch: S) -> Option<Answers>
-where
-    R: Threads + Wait + Copy + Send + Sync,
-    S: Trace<u64> + Copy + Send + Sync,
-{
-    let (s, r) = bounded_watched(rt, alloc, 1, &mut EventIds::new(), watch).ok()?;
-    Some(calls(&rt, &s, &r))
 }
 
 #[test]
@@ -180,7 +165,11 @@ fn one_log_of_all_calls(rt: HostRuntime) {
         sections: AtomicUsize::new(0),
         counts: AtomicUsize::new(0),
     };
-    let answers = watched_calls(rt, rt.alloc(), Watcher { tallies: &tallies });
+    let mut ids = EventIds::new();
+    let watch = Watcher { tallies: &tallies };
+    let (s, r) = bounded_watched(rt, rt.alloc(), 1, &mut ids, watch).expect(&rt, "memory");
+    let answers = calls(&rt, &s, &r);
+    drop((s, r));
     let Tallies {
         beginnings,
         operations,
@@ -193,7 +182,7 @@ fn one_log_of_all_calls(rt: HostRuntime) {
         sections.into_inner(),
         counts.into_inner(),
     ];
-    expect_equal(&rt, &answers, &Some((true, 1, Some(7), true)));
+    expect_equal(&rt, &answers, &(true, 1, Some(7), true));
     // Six calls, of which two are the drops. Three operations put the message, three take it, and each of the three closings is one.
     expect_equal(&rt, &told, &[6, 9, 7, 3]);
 }
