@@ -2,7 +2,9 @@
 
 ghost use Rattle.std.specs.Prelude.{◌≡◌, ◌<◌};
 
-use channel_wakeups::{Blocked, Opened, Pass, Room, Sleeper, SlotChannel};
+use channel_wakeups::{
+    Blocked, Channel, Form, Opened, OpenedRing, Pass, Room, Sleeper, SlotChannel,
+};
 use std::alloc::Global;
 use std::marker::Brand;
 use std::sync::Wait;
@@ -13,9 +15,9 @@ use std::thread::Threads;
 type Own<B> = Pass<u64, Sleeper, B>;
 
 /// Sends the numbers from 0 up to this one by sends that block, and closes the channel. Answers how many were accepted.
-fn send_each<B: Room, R: Wait>(
+fn send_each<B: Room, F: Form, R: Wait>(
     rt: &R,
-    channel: &SlotChannel<u64, Sleeper, B>,
+    channel: &Channel<u64, Sleeper, B, F>,
     mut pass: Own<B>,
     me: Sleeper,
     count: u64,
@@ -34,9 +36,9 @@ fn send_each<B: Room, R: Wait>(
 }
 
 /// Receives by receives that block, until the channel is closed and nothing is left. Answers the sum of what came.
-fn receive_each<B: Room, R: Wait>(
+fn receive_each<B: Room, F: Form, R: Wait>(
     rt: &R,
-    channel: &SlotChannel<u64, Sleeper, B>,
+    channel: &Channel<u64, Sleeper, B, F>,
     mut pass: Own<B>,
     me: Sleeper,
 ) -> (u64, Own<B>)
@@ -167,4 +169,105 @@ pub fn close_beside_a_blocked_send<R: Threads + Wait + Sync>(
     let me = Sleeper::new(alloc).ok()?;
     let opened = Opened::new(alloc).ok()?;
     Some(close_beside_a_blocked_send_in::<Brand, R>(rt, opened, me))
+}
+
+/// Receives so many messages by receives that block, or fewer where the channel is closed and empty before. Then it closes the channel, and
+/// receives what is left. Answers the sum of what came.
+fn receive_and_close<B: Room, F: Form, R: Wait>(
+    rt: &R,
+    channel: &Channel<u64, Sleeper, B, F>,
+    mut pass: Own<B>,
+    me: Sleeper,
+    count: u64,
+) -> (u64, Own<B>)
+    requires { 1 < pass.parts }
+    ensures { result.1.parts ≡ pass.parts }
+{
+    let mut sum = 0u64;
+    for _ in 0..count {
+        let Ok(message) = channel.recv_blocking(rt, &mut pass, &me) else {
+            break;
+        };
+        sum = sum.wrapping_add(message);
+    }
+    let _ = channel.close(rt, &mut pass);
+    let (rest, pass) = receive_each(rt, channel, pass, me);
+    (sum.wrapping_add(rest), pass)
+}
+
+/// How many numbers a thread is to send before it closes the channel, and how many messages another is to receive before it does.
+#[derive(Clone, Copy)]
+struct Wanted {
+    sent: u64,
+    received: u64,
+}
+
+fn block_in_ring_in<B: Room + Send + Sync, R: Threads + Wait + Sync>(
+    rt: &R,
+    opened: OpenedRing<u64, Sleeper>,
+    threads: (Sleeper, Sleeper),
+    wanted: Wanted,
+) -> (u64, u64)
+    requires { opened ≡ B.table }
+{
+    let (me, you) = threads;
+    let (channel, mut all, _handles) = opened.enter::<B>();
+    let one = channel.another(&mut all);
+    let shared = &channel;
+    let ((accepted, _), (sum, _)) = thread::join(
+        rt,
+        move ||
+            requires { 1 < all.parts }
+        { send_each(rt, shared, all, me, wanted.sent) },
+        move ||
+            requires { 1 < one.parts }
+        { receive_and_close(rt, shared, one, you, wanted.received) },
+    );
+    (accepted, sum)
+}
+
+/// From nothing: `None` where there is no memory, or no such ring.
+fn block_in_new_ring<R: Threads + Wait + Sync>(
+    rt: &R,
+    alloc: Global,
+    capacity: usize,
+    wanted: Wanted,
+) -> Option<(u64, u64)> {
+    let threads = (Sleeper::new(alloc).ok()?, Sleeper::new(alloc).ok()?);
+    let opened = OpenedRing::with_capacity(alloc, capacity).ok()?;
+    Some(block_in_ring_in::<Brand, R>(rt, opened, threads, wanted))
+}
+
+/// One thread sends so many numbers through a ring by sends that block, and closes it. Another receives by receives that block, until the
+/// close ends the one that waits. Answers how many were accepted, and the sum of what came. `None` where there is no memory, or no such ring.
+pub fn block_in_ring<R: Threads + Wait + Sync>(
+    rt: &R,
+    alloc: Global,
+    capacity: usize,
+    count: u64,
+) -> Option<(u64, u64)> {
+    let wanted = Wanted {
+        sent: count,
+        received: u64::MAX,
+    };
+    block_in_new_ring(rt, alloc, capacity, wanted)
+}
+
+/// One thread sends by sends that block, and another receives so many messages, closes the ring and receives what is left. Answers whether
+/// between as many, and as many more as there are places, were accepted, and whether all that was accepted came. `None` where there is no
+/// memory, or no such ring.
+pub fn close_a_blocked_ring<R: Threads + Wait + Sync>(
+    rt: &R,
+    alloc: Global,
+    capacity: usize,
+    count: u64,
+) -> Option<(bool, bool)> {
+    let wanted = Wanted {
+        sent: count.saturating_mul(100),
+        received: count,
+    };
+    let (accepted, sum) = block_in_new_ring(rt, alloc, capacity, wanted)?;
+    let in_time = count <= accepted && accepted <= count.saturating_add(capacity as u64);
+    let sent = accepted.wrapping_mul(accepted.wrapping_sub(1)) / 2;
+    Some((in_time, sent == sum))
 }

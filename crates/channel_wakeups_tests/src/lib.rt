@@ -6,16 +6,20 @@ ghost use Rattle.std.specs.Prelude.{◌≡◌, ◌<◌, IfSome, true, false};
 mod blocked;
 mod counted;
 mod ring;
+mod ring_among;
+mod rung;
 mod several;
 
-pub use blocked::{block_among, close_beside_a_blocked_send};
+pub use blocked::{block_among, block_in_ring, close_a_blocked_ring, close_beside_a_blocked_send};
 use channel_wakeups::{
-    Closing, Offered, Opened, Pass, Polled, Receive, Rest, Room, Sending, SlotChannel, Streaming,
-    Watched,
+    Channel, Closing, Form, Offered, Opened, Pass, Polled, Receive, Rest, Room, Sending,
+    SlotChannel, Streaming, Watched,
 };
 use concurrent_queue::{ForcePushError, PushError};
 pub use counted::{let_all_go, let_two_go};
 pub use ring::{Turned, turn};
+pub use ring_among::{Ended, close_ring_among, pass_on};
+pub use rung::{Rung, Tolled, Tolls, toll};
 pub use several::{Taken, take_several};
 use std::alloc::Global;
 use std::marker::Brand;
@@ -24,9 +28,9 @@ use std::thread;
 use std::thread::Threads;
 
 /// Sends the numbers from 0 up to this one, each as soon as there is room.
-fn send_all<B: Room, R: Wait>(
+fn send_all<B: Room, F: Form, R: Wait>(
     rt: &R,
-    channel: &SlotChannel<u64, (), B>,
+    channel: &Channel<u64, (), B, F>,
     mut pass: Pass<u64, (), B>,
     count: u64,
 ) -> Pass<u64, (), B>
@@ -44,9 +48,9 @@ fn send_all<B: Room, R: Wait>(
 }
 
 /// Sends the same numbers by sends that wait, and gives up each send whose patience is at an end.
-fn offer_all<B: Room, R: Wait>(
+fn offer_all<B: Room, F: Form, R: Wait>(
     rt: &R,
-    channel: &SlotChannel<u64, (), B>,
+    channel: &Channel<u64, (), B, F>,
     mut pass: Pass<u64, (), B>,
     count: u64,
 ) -> Pass<u64, (), B>
@@ -71,10 +75,35 @@ fn offer_all<B: Room, R: Wait>(
     pass
 }
 
-/// Receives so many messages, and gives up each receive whose patience is at an end. Answers their sum.
-fn receive_all<B: Room, R: Wait>(
+/// Receives the next message, and gives up each receive whose patience is at an end.
+fn receive_next<B: Room, F: Form, R: Wait>(
     rt: &R,
-    channel: &SlotChannel<u64, (), B>,
+    channel: &Channel<u64, (), B, F>,
+    pass: &mut Pass<u64, (), B>,
+) -> u64
+    requires { 1 < pass.old.parts }
+    ensures { pass.new.parts ≡ pass.old.parts }
+{
+    let mut receive = Receive::new();
+    let mut patience = 0u64;
+    for _ in rt.forever() {
+        if let Polled::Ready(message) = channel.poll_recv(rt, pass, &mut receive, ()) {
+            return message;
+        }
+        patience = patience.wrapping_add(1);
+        if patience % 64 == 0 {
+            channel.give_up_recv(rt, pass, receive);
+            receive = Receive::new();
+        }
+        thread::yield_now();
+    }
+    unreachable!()
+}
+
+/// Receives so many messages, each as soon as there is one. Answers their sum.
+fn receive_all<B: Room, F: Form, R: Wait>(
+    rt: &R,
+    channel: &Channel<u64, (), B, F>,
     mut pass: Pass<u64, (), B>,
     count: u64,
 ) -> (u64, Pass<u64, (), B>)
@@ -83,20 +112,7 @@ fn receive_all<B: Room, R: Wait>(
 {
     let mut sum = 0u64;
     for _ in 0..count {
-        let mut receive = Receive::new();
-        let mut patience = 0u64;
-        for _ in rt.forever() {
-            if let Polled::Ready(message) = channel.poll_recv(rt, &mut pass, &mut receive, ()) {
-                sum = sum.wrapping_add(message);
-                break;
-            }
-            patience = patience.wrapping_add(1);
-            if patience % 64 == 0 {
-                channel.give_up_recv(rt, &mut pass, receive);
-                receive = Receive::new();
-            }
-            thread::yield_now();
-        }
+        sum = sum.wrapping_add(receive_next(rt, channel, &mut pass));
     }
     (sum, pass)
 }
@@ -279,9 +295,9 @@ pub fn rush<R: Threads + Wait + Sync>(rt: &R, alloc: Global, count: u64) -> Opti
 }
 
 /// Sends numbers from 0 on by sends that wait, until the channel is closed. Answers how many were accepted.
-fn offer_until_closed<B: Room, R: Wait>(
+fn offer_until_closed<B: Room, F: Form, R: Wait>(
     rt: &R,
-    channel: &SlotChannel<u64, (), B>,
+    channel: &Channel<u64, (), B, F>,
     mut pass: Pass<u64, (), B>,
 ) -> (u64, Pass<u64, (), B>)
     requires { 1 < pass.parts }
@@ -301,9 +317,9 @@ fn offer_until_closed<B: Room, R: Wait>(
 }
 
 /// Receives until the channel is closed and nothing is left. Answers how many messages came.
-fn receive_until_closed<B: Room, R: Wait>(
+fn receive_until_closed<B: Room, F: Form, R: Wait>(
     rt: &R,
-    channel: &SlotChannel<u64, (), B>,
+    channel: &Channel<u64, (), B, F>,
     mut pass: Pass<u64, (), B>,
 ) -> (u64, Pass<u64, (), B>)
     requires { 1 < pass.parts }
@@ -323,9 +339,9 @@ fn receive_until_closed<B: Room, R: Wait>(
 }
 
 /// The same by a stream.
-fn stream_until_closed<B: Room, R: Wait>(
+fn stream_until_closed<B: Room, F: Form, R: Wait>(
     rt: &R,
-    channel: &SlotChannel<u64, (), B>,
+    channel: &Channel<u64, (), B, F>,
     mut pass: Pass<u64, (), B>,
 ) -> (u64, Pass<u64, (), B>)
     requires { 1 < pass.parts }
@@ -345,9 +361,9 @@ fn stream_until_closed<B: Room, R: Wait>(
 }
 
 /// Lets others go first so often, then closes the channel, closes it again, and asks whether it is closed.
-fn close_late<B: Room, R: Wait>(
+fn close_late<B: Room, F: Form, R: Wait>(
     rt: &R,
-    channel: &SlotChannel<u64, (), B>,
+    channel: &Channel<u64, (), B, F>,
     mut pass: Pass<u64, (), B>,
     patience: u64,
 ) -> ([bool; 3], Pass<u64, (), B>)
@@ -363,9 +379,9 @@ fn close_late<B: Room, R: Wait>(
 }
 
 /// Two threads send until the channel is closed. Answers how many messages were accepted.
-fn send_until_closed<B: Room + Send + Sync, R: Threads + Wait + Sync>(
+fn send_until_closed<B: Room + Send + Sync, F: Form + Send + Sync, R: Threads + Wait + Sync>(
     rt: &R,
-    channel: &SlotChannel<u64, (), B>,
+    channel: &Channel<u64, (), B, F>,
     one: Pass<u64, (), B>,
     two: Pass<u64, (), B>,
 ) -> ((u64, Pass<u64, (), B>), (u64, Pass<u64, (), B>))
@@ -386,9 +402,9 @@ fn send_until_closed<B: Room + Send + Sync, R: Threads + Wait + Sync>(
 }
 
 /// Two threads receive until the channel is closed and empty, one by receives and one by a stream. Answers how many messages came.
-fn receive_what_is_left<B: Room + Send + Sync, R: Threads + Wait + Sync>(
+fn receive_what_is_left<B: Room + Send + Sync, F: Form + Send + Sync, R: Threads + Wait + Sync>(
     rt: &R,
-    channel: &SlotChannel<u64, (), B>,
+    channel: &Channel<u64, (), B, F>,
     one: Pass<u64, (), B>,
     two: Pass<u64, (), B>,
 ) -> ((u64, Pass<u64, (), B>), (u64, Pass<u64, (), B>))
@@ -410,9 +426,9 @@ fn receive_what_is_left<B: Room + Send + Sync, R: Threads + Wait + Sync>(
 
 /// Two threads send and two receive, until a fifth closes the channel. Answers how many messages were accepted and did not come, and what
 /// the closing thread was told.
-fn end_all<B: Room + Send + Sync, R: Threads + Wait + Sync>(
+fn end_all<B: Room + Send + Sync, F: Form + Send + Sync, R: Threads + Wait + Sync>(
     rt: &R,
-    channel: &SlotChannel<u64, (), B>,
+    channel: &Channel<u64, (), B, F>,
     all: &mut Pass<u64, (), B>,
     patience: u64,
 ) -> (u64, [bool; 3])
@@ -447,9 +463,9 @@ fn end_all<B: Room + Send + Sync, R: Threads + Wait + Sync>(
 type Counted<B> = (u64, Pass<u64, (), B>);
 
 /// Both who send and both who receive.
-fn all_until_closed<B: Room + Send + Sync, R: Threads + Wait + Sync>(
+fn all_until_closed<B: Room + Send + Sync, F: Form + Send + Sync, R: Threads + Wait + Sync>(
     rt: &R,
-    channel: &SlotChannel<u64, (), B>,
+    channel: &Channel<u64, (), B, F>,
     senders: (Pass<u64, (), B>, Pass<u64, (), B>),
     receivers: (Pass<u64, (), B>, Pass<u64, (), B>),
 ) -> ((Counted<B>, Counted<B>), (Counted<B>, Counted<B>))

@@ -20,7 +20,7 @@ fn is_sent<B: Room, R: Wait>(
 }
 
 /// Polls a receive that ends or is given up: the message, if there is one.
-fn received<B: Room, R: Wait>(
+pub(crate) fn received<B: Room, R: Wait>(
     rt: &R,
     channel: &RingChannel<u64, (), B>,
     pass: &mut Pass<u64, (), B>,

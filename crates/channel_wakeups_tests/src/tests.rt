@@ -214,6 +214,71 @@ fn a_ring_has_two_places_at_least(rt: HostRuntime) {
     assert_eq!(rt; turn(&rt, rt.alloc(), usize::MAX), Err(Unopened::TooMany));
 }
 
+// From one thread to another through a ring: all that was sent came, in order, and nothing is left.
+#[test]
+fn a_ring_keeps_the_order_between_threads(rt: HostRuntime) {
+    assert_eq!(rt; pass_on(&rt, rt.alloc(), 2, 1000), Some((1000, None)));
+    assert_eq!(rt; pass_on(&rt, rt.alloc(), 3, 1000), Some((1000, None)));
+}
+
+// Five threads at a ring: all end after a close, late or at once, and what was accepted came.
+#[test]
+fn all_end_after_a_ring_is_closed(rt: HostRuntime) {
+    let expected = Ended {
+        lost: 0,
+        left: 0,
+        told: [true, false, true],
+    };
+    assert_eq!(rt; close_ring_among(&rt, rt.alloc(), 2, 1000), Some(expected));
+    assert_eq!(rt; close_ring_among(&rt, rt.alloc(), 3, 1000), Some(expected));
+    assert_eq!(rt; close_ring_among(&rt, rt.alloc(), 2, 0), Some(expected));
+    assert_eq!(rt; close_ring_among(&rt, rt.alloc(), 3, 0), Some(expected));
+}
+
+// Two threads, whose calls block at a ring: all that was sent came. A close ends the receive that blocks, and the send.
+#[test]
+fn a_ring_wakes_blocked_threads(rt: HostRuntime) {
+    assert_eq!(rt;
+        block_in_ring(&rt, rt.alloc(), 2, 1000),
+        Some((1000, 499_500))
+    );
+    assert_eq!(rt;
+        block_in_ring(&rt, rt.alloc(), 3, 1000),
+        Some((1000, 499_500))
+    );
+    assert_eq!(rt;
+        close_a_blocked_ring(&rt, rt.alloc(), 2, 10),
+        Some((true, true))
+    );
+    assert_eq!(rt;
+        close_a_blocked_ring(&rt, rt.alloc(), 3, 10),
+        Some((true, true))
+    );
+}
+
+// The task of a receive is woken by a message, that of a send by a place, and a close wakes all.
+#[test]
+fn a_ring_wakes_each_task_once(rt: HostRuntime) {
+    let rung = Rung {
+        waited: true,
+        woken: [0, 1],
+        ended: true,
+    };
+    let tolled = Tolled {
+        waited: true,
+        before: [0, 0, 0],
+        after: [1, 1, 1],
+    };
+    let expected = Tolls {
+        receive: rung,
+        send: rung,
+        full: tolled,
+        empty: tolled,
+    };
+    assert_eq!(rt; toll(&rt, rt.alloc(), 2), Some(expected));
+    assert_eq!(rt; toll(&rt, rt.alloc(), 3), Some(expected));
+}
+
 // Whoever lets the last sender go closes the channel, and a receive that waits is told and ends.
 #[test]
 fn the_last_sender_closes(rt: HostRuntime) {

@@ -1,8 +1,5 @@
-use Rattle.std.proofs.Common.{◌≡◌, ◌+◌}
+use Rattle.std.proofs.Common.{◌≡◌}
 use Rattle.channel_wakeups_tests.proofs.receive_all.Given as goal
 
 abbrev pub invariant-loop : goal.invariant-loop
 invariant-loop g l = l.pass.parts ≡ l.fn.pass.parts
-
-abbrev pub invariant-loop-2 : goal.invariant-loop-2
-invariant-loop-2 g l = l.pass.parts + l.receive ≡ l.fn.pass.parts
