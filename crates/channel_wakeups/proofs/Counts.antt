@@ -20,7 +20,7 @@ use Rattle.channel_wakeups.specs.declared.rule.Transfer.TheVariants.{Saw}
 use Rattle.channel_wakeups.specs.declared.rule.Turn.TheVariants.{Rest}
 use Rattle.channel_wakeups.specs.Counts.{word_for, most, more_hands, fewer_hands, owing_close, raises, lowers, measures, counts}
 use Rattle.channel_wakeups.specs.Lists.{total}
-use Rattle.channel_wakeups.specs.Log.{each_sight, of_closer, of_drained, same_kind, raised_of, lowered_of, last_of, gone_of, is_none}
+use Rattle.channel_wakeups.specs.Log.{each_sight, of_closer, of_ended, of_drained, same_kind, raised_of, lowered_of, last_of, gone_of, is_none}
 use Rattle.channel_wakeups.specs.Views.{count_of, with_count, handed, pass, only, handles_of, closes_of, sights_of, Picture, at_word, Law, Kept, Counted, Woken, Known}
 use Rattle.channel_wakeups.proofs.Hands.{none_of, Carries, counted_kept, carries_all, carries_more}
 use Rattle.channel_wakeups.proofs.Laws.{handed_turns, turned_kept, law_kept}
@@ -197,7 +197,7 @@ module _ {T W : Type 0} where
   )
 
   -- a pass that saw something of a count
-  module _ (p id : ℕ) (l : Lines) (m : Rolls W) (lg : List (Transfer T)) (some_part : 0 < p) (h : Handles) (e : Sight) (views : List (View T W)) (at : get_elem? views id ≡ some (pass p 0 l m lg)) (unseen : each_sight e ≡ 0) (unshut : of_closer e ≡ 0) (undrained : of_drained e ≡ 0) where
+  module _ (p id : ℕ) (l : Lines) (m : Rolls W) (lg : List (Transfer T)) (some_part : 0 < p) (h : Handles) (e : Sight) (views : List (View T W)) (at : get_elem? views id ≡ some (pass p 0 l m lg)) (unseen : each_sight e ≡ 0) (unshut : of_closer e ≡ 0) (unended : of_ended e ≡ 0) (undrained : of_drained e ≡ 0) where
     sights_so : (q : Picture) → Sights q q (pass {W = W} p 0 l m lg) (pass p 0 (handed h l) m (lg ++ Saw e ∷ []))
     sights_so q k (one, seen, drained) =
         let x = unshut in
@@ -209,7 +209,7 @@ module _ {T W : Type 0} where
         (omega arith, (λ more. seen (omega arith)), (λ more. drained (omega arith)))
 
     kept_so : Beside views (set views id (pass p 0 (handed h l) m (lg ++ Saw e ∷ [])))
-    kept_so = record { one = one_so; law = law_so; seats = λ cap r k. seats_saw cap r views id p 0 0 l (handed h l) m lg e Rest at k }
+    kept_so = record { one = one_so; law = law_so; seats = λ cap r k. seats_saw cap r views id p 0 0 l (handed h l) m lg e Rest unended at k }
       where
         one_so : (base : ℕ) (shut : Bool) (slot : home.Option (Option T)) → Kept base shut slot views → Kept base shut slot (set views id (pass p 0 (handed h l) m (lg ++ Saw e ∷ [])))
         one_so base shut slot k =
@@ -273,7 +273,7 @@ module _ {T W : Type 0} where
           pass p 0 (handed (more_hands k l.hands) l) m (lg ++ Saw (Raised k) ∷ []),
           subst (λ (x : ℕ). Counted x k (set views id (pass p 0 (handed (more_hands k l.hands) l) m (lg ++ Saw (Raised k) ∷ [])))) (sym next) (raised_counted n views positive at c),
           raised_beside,
-          kept_so p id l m lg some_part (more_hands k l.hands) (Raised k) views at refl refl refl,
+          kept_so p id l m lg some_part (more_hands k l.hands) (Raised k) views at refl refl refl refl,
           inl (same, refl),
         )
     raises_at n views c at false e =
@@ -336,7 +336,7 @@ module _ {T W : Type 0} where
           pass p 0 (handed h l) m (lg ++ Saw (Last k) ∷ []),
           subst (λ (x : ℕ). Counted x k (set views id (pass p 0 (handed h l) m (lg ++ Saw (Last k) ∷ [])))) (sym next) (last_counted n views is_one at c),
           carries_more (other k) p 0 0 l (handed h l) m lg some_part (Saw (Last k)) (count_owing (other k) (fewer_hands k l.hands) ∙ other_with k (count_of k l.hands - 1) l.hands) refl (weighs_none (not_same k)) (weighs_none (not_same k)) refl (inl (omega arith)),
-          kept_so p id l m lg some_part h (Last k) views at refl refl refl,
+          kept_so p id l m lg some_part h (Last k) views at refl refl refl refl,
           inl (is_one, refl),
         )
     lowers_at n views small c at false e =
@@ -346,7 +346,7 @@ module _ {T W : Type 0} where
           pass p 0 (handed (fewer_hands k l.hands) l) m (lg ++ Saw (Lowered k) ∷ []),
           subst (λ (x : ℕ). Counted x k (set views id (pass p 0 (handed (fewer_hands k l.hands) l) m (lg ++ Saw (Lowered k) ∷ [])))) (sym next) (lowered_counted n views (not_one n positive e) at c),
           carries_more (other k) p 0 0 l (handed (fewer_hands k l.hands) l) m lg some_part (Saw (Lowered k)) (other_with k (count_of k l.hands - 1) l.hands) refl (weighs_none (not_same k)) refl refl (inl (omega arith)),
-          kept_so p id l m lg some_part (fewer_hands k l.hands) (Lowered k) views at refl refl refl,
+          kept_so p id l m lg some_part (fewer_hands k l.hands) (Lowered k) views at refl refl refl refl,
           inr ((λ same. no_true (sym (eq-eqb n 1 same) ∙ e)), refl),
         )
 
@@ -379,7 +379,7 @@ module _ {T W : Type 0} where
           pass p 0 (handed l.hands l) m (lg ++ Saw (Crowded k) ∷ []),
           counted_kept n k views id (pass p 0 l m lg) (pass p 0 (handed l.hands l) m (lg ++ Saw (Crowded k) ∷ [])) at (crowds_for k) c,
           crowds_for (other k),
-          kept_so p id l m lg some_part l.hands (Crowded k) views at refl refl refl,
+          kept_so p id l m lg some_part l.hands (Crowded k) views at refl refl refl refl,
           tells (pass p 0 (handed l.hands l) m (lg ++ Saw (Crowded k) ∷ []), []) (inl (many, refl)),
         )) (at_most_or most n)
 
@@ -391,7 +391,7 @@ module _ {T W : Type 0} where
       pass p 0 (handed l.hands l) m (lg ++ Saw (Gone k) ∷ []),
       gone_counted 0 views refl at c,
       carries_more (other k) p 0 0 l (handed l.hands l) m lg some_part (Saw (Gone k)) refl refl refl refl (weighs_none (not_same k)) (inl (omega arith)),
-      kept_so p id l m lg some_part l.hands (Gone k) views at refl refl refl,
+      kept_so p id l m lg some_part l.hands (Gone k) views at refl refl refl refl,
       inl (refl, refl),
     )
     asks_at (suc n) views c at = crowded_at Ask (suc n) views c at (λ w so. inr (omega arith, so))

@@ -1,5 +1,6 @@
 -- What a step does to the balance of what was put in and taken out.
-use Rattle.std.proofs.Common.{◌≡◌, ℕ, zero, suc, ◌+◌, ◌-◌, ◌<◌, ◌≤◌, ◌==◌, Bool, true, false, List, [], ◌∷◌, ◌++◌, Option, Some, cond, true-eqb, eq-eqb, sym, refl, ap, ◌∙◌, arith}
+use Rattle.std.proofs.Common.{◌≡◌, ℕ, zero, suc, ◌+◌, ◌-◌, ◌<◌, ◌≤◌, ◌==◌, Bool, true, false, List, [], ◌∷◌, ◌++◌, Option, Some, cond, true-eqb, eq-eqb, sym, refl, ap, ◌∙◌, ⊎_elim, arith}
+use Rattle.std.proofs.lemmas.Bool.{cases_lt}
 use mathlib.Core.Option as home
 use mathlib.Core.Option.{some, none}
 use lib.ListN.{get_elem?}
@@ -11,7 +12,7 @@ use Rattle.channel_wakeups.specs.declared.rule.Transfer.TheVariants.{In, Out, Sa
 use Rattle.channel_wakeups.specs.declared.rule.Sight.{Sight}
 use Rattle.channel_wakeups.specs.declared.rule.Sight.TheVariants.{Shut, Seen, Drained}
 use Rattle.channel_wakeups.specs.Lists.{total, is_this}
-use Rattle.channel_wakeups.specs.Log.{Weight, puts, takes, sights, each, numbered, held, Once, Balanced, PutBefore, TookBefore, Closings, each_sight, of_closer, of_drained, NotSeen, NotDrained}
+use Rattle.channel_wakeups.specs.Log.{Weight, puts, takes, sights, each, numbered, held, Once, Balanced, PutBefore, TookBefore, Closings, each_sight, of_closer, of_ended, of_drained, NotSeen, NotDrained, EndsAt}
 use Rattle.channel_wakeups.specs.Views.{pass, only, puts_of, takes_of, sights_of, messages, at_word}
 use Rattle.channel_wakeups.proofs.Sums.{only_some, balanced_by, was, Logs, Sights}
 
@@ -226,6 +227,18 @@ module _ {T : Type 0} where
   -- an entry that is no sight
   pub moved : (lg : List (Transfer T)) (e : Transfer T) → ((f : Sight → ℕ) → sights f (e ∷ []) ≡ 0) → (f : Sight → ℕ) → sights f (lg ++ e ∷ []) ≡ sights f lg
   moved lg e zero_each f = let a = sights_append f lg (e ∷ []) in let z = zero_each f in omega arith
+
+  -- positions end at a tail still: it has grown; or the log has an entry more, of something else; or another log was put behind it
+  pub ends_later : (a b : ℕ) (lg : List (Transfer T)) → a ≤ b → EndsAt a lg → EndsAt b lg
+  ends_later a b lg more ends some_end = let late = ends some_end in omega arith
+
+  pub ends_more : (a : ℕ) (lg : List (Transfer T)) (e : Transfer T) → sights of_ended (e ∷ []) ≡ 0 → EndsAt a lg → EndsAt a (lg ++ e ∷ [])
+  ends_more a lg e other ends some_end = let x = sights_append of_ended lg (e ∷ []) in ends (omega arith)
+
+  pub ends_both : (a : ℕ) (lg mg : List (Transfer T)) → EndsAt a lg → EndsAt a mg → EndsAt a (lg ++ mg)
+  ends_both a lg mg first second some_end =
+      let x = sights_append of_ended lg mg in
+      ⊎_elim (λ (here : 0 < sights of_ended lg). first here) (λ (none : sights of_ended lg ≤ 0). second (omega arith)) (cases_lt 0 (sights of_ended lg))
 
 module _ {T W : Type 0} where
   -- the log's sights stay, and where the state has a message still, or nobody has seen that it had none

@@ -100,7 +100,7 @@ module _ {T W : Type 0} (cap : ℕ) (two : 2 ≤ cap) (limit : cap ≤ 2 ^ 58) w
             stamps = λ i small. let z = first_place cap i small in let s = stamps i small in omega arith;
             slots = λ i small. subst (λ (b : Bool). Rattle.channel_wakeups.specs.Views.IsHome b false (get_elem? (map some xs) i)) (sym (none_busy i)) (None, home_of xs i (slots i small), refl);
           };
-          seats = record { two = two; limit = limit; sound = new_sound cap; few = omega arith; owners = nothing_owed T W cap; knows = ((λ some_part. ((true, refl), (λ j more. refl), (λ j more. refl))), tt) };
+          seats = record { two = two; limit = limit; sound = new_sound cap; few = omega arith; owners = nothing_owed T W cap; knows = ((λ some_part. ((true, refl), (λ j more. refl), (λ j more. refl), (λ none. absurd (omega arith)))), tt) };
           law = new_law;
         });
         of_senders = one_each OfSenders refl;

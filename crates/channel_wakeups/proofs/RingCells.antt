@@ -25,6 +25,10 @@ same_or_other i j = by_case (j == i) refl
     by_case true e = inl (true-eqb j i (sym e))
     by_case false e = inr (λ same. no_true (sym (eq-eqb j i same) ∙ e))
 
+-- the tail's word of an open ring is its position
+pub open_tail : {T : Type 0} (cap : ℕ) (words : List ℕ) (homes : List (home.Option (Option T))) (r : Ring (Unit {0})) → RingCells cap words homes r → r.closed ≡ false → slice_index words 48 ≡ at_number cap r.tail
+open_tail cap words homes r c unshut = c.tail ∙ (λ i. at_number cap r.tail + (if unshut i then ring_mark cap else 0)) ∙ (omega arith)
+
 module _ {T : Type 0} (cap : ℕ) (words : List ℕ) (homes : List (home.Option (Option T))) (r : Ring (Unit {0})) (c : RingCells cap words homes r) (a : RingAction (Unit {0})) (o : Ring (Unit {0})) (b : RingAction (Unit {0})) (m : Moved cap r a o b) where
   -- the slots, where none is taken and none is given back
   pub slots_stay : ((i : ℕ) → owes cap a (ring.hold i) ≡ owes cap b (ring.hold i)) → ((i : ℕ) → o.at i ≡ r.at i) → (i : ℕ) → i < cap → IsHome (busy o i) (is_some (o.at i).slot) (get_elem? homes i)

@@ -23,40 +23,41 @@ use Rattle.channel_wakeups.specs.declared.rule.Rolls.{Rolls}
 use Rattle.channel_wakeups.specs.declared.rule.Sight.TheVariants.{Shut, Seen}
 use Rattle.channel_wakeups.specs.declared.rule.Transfer.{Transfer}
 use Rattle.channel_wakeups.specs.declared.rule.Transfer.TheVariants.{In, Out, Saw}
+use Rattle.channel_wakeups.specs.declared.rule.Turn.{Turn}
 use Rattle.channel_wakeups.specs.declared.rule.Turn.TheVariants.{Rest, Behind, Coming, Displacing}
 use Rattle.channel_wakeups.specs.declared.rule.View.{View}
 use Rattle.channel_wakeups.specs.Lists.{total}
-use Rattle.channel_wakeups.specs.Log.{PutBefore, TookBefore, Closings, of_closer, of_drained}
+use Rattle.channel_wakeups.specs.Log.{PutBefore, TookBefore, EndsAt, Closings, of_closer, of_drained}
 use Rattle.channel_wakeups.specs.RingSteps.{won_ring_place, making_room, mark_set, oldest_won, tail_passed, message_stored, moved_on}
-use Rattle.channel_wakeups.specs.Turns.{phase_of, owed_by_turn}
+use Rattle.channel_wakeups.specs.Turns.{action_of, phase_of, owed_by_turn}
 use Rattle.channel_wakeups.specs.Views.{Duty, count_of, settled, all_owing, only, sights_of, pass, turning, Picture, picture, at_number, of_ring, Law, RingCells, RingSeats, Ringed, Woken, Known}
 use Rattle.channel_wakeups.proofs.Hands.{carries_same, carries_more}
 use Rattle.channel_wakeups.proofs.Laws.{Turns, law_kept, same_turns, shuts_turns, settles}
-use Rattle.channel_wakeups.proofs.Logs.{not_seen, one_more, moved, sights_same}
+use Rattle.channel_wakeups.proofs.Logs.{not_seen, one_more, moved, sights_same, ends_later, ends_more}
 use Rattle.channel_wakeups.proofs.Rings.{know_at, put_saw, took_saw, seats_saw, seats_set}
 use Rattle.channel_wakeups.proofs.RingCells.{same_or_other, slots_stay, slots_took, slots_gave, was_home, tail_written, head_written, stamp_written}
 use Rattle.channel_wakeups.proofs.RingLaws.{displaces_turns, puts_turns, sights_rest, put_below, took_put, put_took, took_below}
-use Rattle.channel_wakeups.proofs.RingLooks.{rest_loose, behind_loose}
+use Rattle.channel_wakeups.proofs.RingLooks.{IsLoose, rest_loose, behind_loose}
 use Rattle.channel_wakeups.proofs.RingMoves.{RingOutcome, by_ring, same_words, if_here, if_other}
-use Rattle.channel_wakeups.proofs.RingSeats.{Moved, on_end, queue_of, is_shown, moved as as_moved, seats_moved, put_later, took_later, holds_it, holds_not, eq_other}
+use Rattle.channel_wakeups.proofs.RingSeats.{Moved, on_end, queue_of, is_shown, moved as as_moved, in_order, seats_moved, put_later, took_later, holds_it, holds_not, eq_other}
 use Rattle.channel_wakeups.proofs.Sums.{Sights}
 
 no_true : true ≡ false → ⊥
 no_true e = absurd (cc)
 
 -- who closes a ring has nothing of it
-pub resting : (cap : ℕ) (r o : Ring (Unit {0})) → Moved cap r act.Close o act.Finished → Moved cap r act.Capacity o act.Finished
-resting cap r o m =
+pub resting : (cap : ℕ) (r o : Ring (Unit {0})) (t : Turn) → IsLoose cap t → Moved cap r act.Close o act.Finished → Moved cap r (action_of t) o act.Finished
+resting cap r o t loose m =
     let l = m.later in
     record {
       sound = m.sound;
       owners = owners_so;
-      later = record { all = l.all; tail = l.tail; head = l.head; round = l.round; written = l.written; place = l.place; behind = l.behind; coming = l.coming };
+      later = record { all = l.all; tail = l.tail; head = l.head; round = l.round; written = l.written; place = λ i free. l.place i refl; behind = λ j free. l.behind j refl; coming = λ none. l.coming refl };
     }
   where
-    owners_so : (d : ring.Duty) → IsDuty cap d → owes {T = Unit {0}} cap act.Finished d + ring.owed r d ≡ owes {T = Unit {0}} cap act.Capacity d + ring.owed o d
-    owners_so (ring.hold i) is = m.owners (ring.hold i) is
-    owners_so ring.bring is = m.owners ring.bring is
+    owners_so : (d : ring.Duty) → IsDuty cap d → owes {T = Unit {0}} cap act.Finished d + ring.owed r d ≡ owed_by_turn cap d t + ring.owed o d
+    owners_so (ring.hold i) is = m.owners (ring.hold i) is ∙ ap (λ (k : ℕ). k + ring.owed o (ring.hold i)) (sym (loose (ring.hold i)))
+    owners_so ring.bring is = m.owners ring.bring is ∙ ap (λ (k : ℕ). k + ring.owed o ring.bring) (sym (loose ring.bring))
 
 pub none_owes : (cap : ℕ) (d : ring.Duty) → owed_by_turn cap d Rest ≡ owes {T = Unit {0}} cap act.Finished d
 none_owes cap (ring.hold i) = refl
@@ -94,7 +95,7 @@ module _ {T W : Type 0} (slots id p : ℕ) (l : Lines) (m : Rolls W) (lg : List 
     closes_first : r.closed ≡ false → RingOutcome 48 marks HasShut (resting_call, []) id words homes slots views
     closes_first unshut =
         let kept = keep.closes slots h.seats.two r (queue_of slots r) h.seats.sound (is_shown slots r) true unshut in
-        let go : Moved slots r act.Capacity shut_ring act.Finished = resting slots r shut_ring (as_moved kept) in
+        let go : Moved slots r act.Capacity shut_ring act.Finished = resting slots r shut_ring Rest (rest_loose slots) (as_moved kept) in
         let k = know_at slots r views id resting_call at h.seats.knows some_part in (
           turning Rest (pass p 0 (all_owing l) m (lg ++ Saw Shut ∷ [])),
           keeps,
@@ -103,7 +104,7 @@ module _ {T W : Type 0} (slots id p : ℕ) (l : Lines) (m : Rolls W) (lg : List 
           record {
             cells = tail_written slots words homes homes r shut_ring h.cells refl (slots_stay slots words homes r h.cells act.Capacity shut_ring act.Finished go (λ i. refl) (λ i. refl)) (marks (slice_index words 48)) refl (λ i. refl) now_marked;
             seats = seats_moved slots r shut_ring act.Finished views id resting_call (turning Rest (pass p 0 (all_owing l) m (lg ++ Saw Shut ∷ []))) at some_part some_part go (none_owes slots) h.seats.few
-                (λ parts. ((true, refl), put_saw r.tail lg Shut k.1, took_saw r.head lg Shut k.2)) h.seats;
+                (λ parts. ((true, refl), put_saw r.tail lg Shut k.1, took_saw r.head lg Shut k.2, ends_more (at_number slots r.tail) lg (Saw Shut) refl k.3)) h.seats;
             law = law_kept (of_ring slots r) (of_ring slots shut_ring) views id p 0 0 Rest Rest l (all_owing l) m lg (lg ++ Saw Shut ∷ []) some_part at (refl, refl, refl, refl)
                 (λ d s. subst (λ (b : Bool). Turns d s (picture (r.tail - r.head) (r.head + slots - r.tail) (reach r - r.head) b) (picture (r.tail - r.head) (r.head + slots - r.tail) (reach r - r.head) true) l (all_owing l)) (sym unshut)
                 (shuts_turns (r.tail - r.head) (r.head + slots - r.tail) (reach r - r.head) l d s))
@@ -130,7 +131,7 @@ module _ {T W : Type 0} (slots id p : ℕ) (l : Lines) (m : Rolls W) (lg : List 
           tt,
           record {
             cells = subst (λ (ws : List ℕ). RingCells slots ws homes r) (sym (same_words words 48 (marks (slice_index words 48)) same)) h.cells;
-            seats = seats_saw slots r views id p 0 0 l (settled l) m lg Seen Rest at h.seats;
+            seats = seats_saw slots r views id p 0 0 l (settled l) m lg Seen Rest refl at h.seats;
             law = law_kept (of_ring slots r) (of_ring slots r) views id p 0 0 Rest Rest l (settled l) m lg (lg ++ Saw Seen ∷ []) some_part at (refl, refl, refl, refl) (settles (of_ring slots r) l) seen_so h.law;
           },
           (λ j. carries_more j p 0 0 l (settled l) m lg some_part (Saw Seen) (still_held j) refl refl refl refl (inr (omega arith))),
@@ -197,7 +198,7 @@ module _ {T W : Type 0} (slots id p : ℕ) (l : Lines) (m : Rolls W) (lg : List 
                       (slots_took slots words homes r h.cells (act.ForceHead tt c) roomy (act.ForceAdd tt c) go (c % slots) (mod_below c slots (omega (arith, several))) refl (holds_it slots c) (λ j apart. (refl, holds_not slots c j apart)))
                       (move_head (slice_index words 0)) refl refl (λ i. refl) next;
                   seats = seats_moved slots r roomy (act.ForceAdd tt c) views id behind (turning (Coming c) (pass p 0 (making_room l) m (lg ++ Out c y ∷ []))) at some_part some_part go (λ d. refl) (few_so all)
-                      (λ parts. (there, put_took r.tail c lg y k.1, took_below (r.head + 1) c lg y (omega arith) (took_later r.head (r.head + 1) lg (omega arith) k.2))) h.seats;
+                      (λ parts. (there, put_took r.tail c lg y k.1, took_below (r.head + 1) c lg y (omega arith) (took_later r.head (r.head + 1) lg (omega arith) k.2), ends_more (at_number slots r.tail) lg (Out c y) refl k.3)) h.seats;
                   law = law_kept (of_ring slots r) (of_ring slots roomy) views id p 0 0 (Behind c) (Coming c) l (making_room l) m lg (lg ++ Out c y ∷ []) some_part at (refl, refl, refl, refl)
                       (λ d s. subst (λ (a : ℕ). Turns d s (of_ring slots r) (picture a (r.head + 1 + slots - r.tail) (reach roomy - (r.head + 1)) r.closed) l (making_room l)) (let e : r.tail - r.head - 1 ≡ r.tail - (r.head + 1) = omega arith in e)
                       (subst (λ (b : ℕ). Turns d s (of_ring slots r) (picture (r.tail - r.head - 1) b (reach roomy - (r.head + 1)) r.closed) l (making_room l)) (let e : r.head + slots - r.tail + 1 ≡ r.head + 1 + slots - r.tail = omega arith in e)
@@ -222,7 +223,7 @@ module _ {T W : Type 0} (slots id p : ℕ) (l : Lines) (m : Rolls W) (lg : List 
           (turning Rest (pass p 0 l m lg), keeps, r, tt, record { cells = subst (λ (ws : List ℕ). RingCells slots ws homes r) (sym (same_words words 0 (move_head (slice_index words 0)) same)) h.cells; seats = rest_seats; law = rest_law }, (λ j. carries_same j p 0 0 l l m lg refl), inr (other, refl))
         where
           rest_seats : RingSeats slots r (set views id (turning Rest (pass p 0 l m lg)))
-          rest_seats = seats_set slots r views id behind (turning Rest (pass p 0 l m lg)) at (λ d. ap (λ (k : ℕ). only p k) (rest_loose slots d ∙ sym (behind_loose slots c d))) (λ k parts. let z = k parts in ((true, refl), z.1, z.2)) h.seats
+          rest_seats = seats_set slots r views id behind (turning Rest (pass p 0 l m lg)) at (λ d. ap (λ (k : ℕ). only p k) (rest_loose slots d ∙ sym (behind_loose slots c d))) (λ k parts. let z = k parts in ((true, refl), z.1, z.2, z.3)) h.seats
 
           rest_law : Law (of_ring slots r) (set views id (turning Rest (pass p 0 l m lg)))
           rest_law = law_kept (of_ring slots r) (of_ring slots r) views id p 0 0 (Behind c) Rest l l m lg lg some_part at (refl, refl, refl, refl) (same_turns (of_ring slots r) l) (sights_rest (of_ring slots r) (of_ring slots r) behind (turning Rest (pass p 0 l m lg)) refl (λ shut z. z) (λ f. refl)) h.law
@@ -284,7 +285,7 @@ module _ {T W : Type 0} (slots id p : ℕ) (l : Lines) (m : Rolls W) (lg : List 
               record {
                 cells = tail_written slots words homes homes r come h.cells refl (slots_stay slots words homes r h.cells (act.ForceAdd tt c) come (act.ForceTake tt c) go (λ i. refl) (λ i. refl)) (adds_stride (slice_index words 48)) refl (λ i. refl) (next_tail t);
                 seats = seats_moved slots r come (act.ForceTake tt c) views id (turning (Coming c) (pass p 0 l m lg)) (turning (Displacing c) (pass p 0 (won_ring_place l) m lg)) at some_part some_part go (λ d. refl) (few_so r.coming way h.seats.few)
-                    (λ parts. ((tt, refl, there.2, there.3, there.4), put_later r.tail (r.tail + 1) lg (omega arith) k.1, k.2)) h.seats;
+                    (λ parts. ((tt, refl, there.2, there.3, there.4), put_later r.tail (r.tail + 1) lg (omega arith) k.1, k.2, ends_later (at_number slots r.tail) (at_number slots (r.tail + 1)) lg (in_order slots r.tail (r.tail + 1) (omega (arith, several)) h.seats.limit (omega arith)) k.3)) h.seats;
                 law = law_kept (of_ring slots r) (of_ring slots come) views id p 0 0 (Coming c) (Displacing c) l (won_ring_place l) m lg lg some_part at (refl, refl, refl, refl)
                     (λ d s. subst (λ (a : ℕ). Turns d s (of_ring slots r) (picture a (r.head + slots - (r.tail + 1)) (reach come - r.head) r.closed) l (won_ring_place l)) (let e : r.tail - r.head + 1 ≡ r.tail + 1 - r.head = omega arith in e)
                     (subst (λ (b : ℕ). Turns d s (of_ring slots r) (picture (r.tail - r.head + 1) b (reach come - r.head) r.closed) l (won_ring_place l)) (let e : r.head + slots - r.tail - 1 ≡ r.head + slots - (r.tail + 1) = omega arith in e)
@@ -329,7 +330,7 @@ module _ {T W : Type 0} (slots id p : ℕ) (l : Lines) (m : Rolls W) (lg : List 
             let r2 : Ring (Unit {0}) = with_place r1 i (record { round = (r1.at i).round; written = (r1.at i).written; slot = Some tt }) in
             let full = second.leaves.2 in
             let third = keep.force_stores slots h.seats.two r2 (queue_of slots r2) second.sound (is_shown slots r2) full.0 k.0.0 c full.2 full.3 full.4 in
-            by_ends r2 k.0.4.0 (k.1, k.2) (on_end slots r (act.ForceTake tt c) r2 (act.ForceStore c k.0.0) (with_place r2 i (record { round = c + slots; written = true; slot = (r2.at i).slot })) act.Finished (stored_place k.0.0)
+            by_ends r2 k.0.4.0 (k.1, k.2, k.3) (on_end slots r (act.ForceTake tt c) r2 (act.ForceStore c k.0.0) (with_place r2 i (record { round = c + slots; written = true; slot = (r2.at i).slot })) act.Finished (stored_place k.0.0)
             (on_end slots r (act.ForceTake tt c) r1 (act.ForcePut tt c k.0.0) r2 (act.ForceStore c k.0.0) (put_place k.0.0) (as_moved first) (as_moved second)) (as_moved third))
             (λ j apart. if_other r1 i j (record { round = (r1.at i).round; written = (r1.at i).written; slot = Some tt }) apart ∙ if_other r i j (record { round = (r.at i).round; written = (r.at i).written; slot = None }) apart)
             (ap (λ (s : SlotState (Unit {0})). is_some s.slot) (if_here r1 i (record { round = (r1.at i).round; written = (r1.at i).written; slot = Some tt })))
@@ -343,7 +344,7 @@ module _ {T W : Type 0} (slots id p : ℕ) (l : Lines) (m : Rolls W) (lg : List 
             put_place d (ring.hold j) = refl
             put_place d ring.bring = refl
 
-            by_ends : (r2 : Ring (Unit {0})) → c + slots < r.tail → PutBefore r.tail lg × TookBefore r.head lg → Moved slots r (act.ForceTake tt c) (with_place r2 (c % slots) (record { round = c + slots; written = true; slot = (r2.at (c % slots)).slot })) act.Finished
+            by_ends : (r2 : Ring (Unit {0})) → c + slots < r.tail → PutBefore r.tail lg × TookBefore r.head lg × EndsAt (at_number slots r.tail) lg → Moved slots r (act.ForceTake tt c) (with_place r2 (c % slots) (record { round = c + slots; written = true; slot = (r2.at (c % slots)).slot })) act.Finished
                 → ((j : ℕ) → (j ≡ c % slots → ⊥) → r2.at j ≡ r.at j) → is_some (r2.at (c % slots)).slot ≡ true
                 → r2.head ≡ r.head → r2.tail ≡ r.tail → r2.closed ≡ r.closed → r2.coming ≡ r.coming → RingOutcome (c % slots + 64) (λ y. at_number slots (c + slots) + 1) Brought holding id words homes slots views
             by_ends r2 low logs go others filled heads tails shuts ways =
@@ -363,7 +364,7 @@ module _ {T W : Type 0} (slots id p : ℕ) (l : Lines) (m : Rolls W) (lg : List 
                         (at_number slots (c + slots) + 1) (c % slots) inside heads tails shuts (λ j apart. if_other r2 (c % slots) j pl apart ∙ others j apart)
                         (λ i. at_number slots (sym is i).round + (if (sym is i).written then 1 else 0));
                     seats = seats_moved slots r r3 act.Finished views id (turning (Displacing c) (pass p 0 l m lg)) brought at some_part some_part go (none_owes slots) (let f = h.seats.few in subst (λ (q : ℕ). q ≤ 2 ^ 61) (λ i. sym tails i + (if sym ways i then 1 else 0)) f)
-                        (λ parts. ((true, refl), subst (λ (q : ℕ). PutBefore q (lg ++ In (c + slots) x ∷ [])) (sym tails) (put_below r.tail (c + slots) lg x low logs.0), subst (λ (q : ℕ). TookBefore q (lg ++ In (c + slots) x ∷ [])) (sym heads) (took_put r.head (c + slots) lg x logs.1))) h.seats;
+                        (λ parts. ((true, refl), subst (λ (q : ℕ). PutBefore q (lg ++ In (c + slots) x ∷ [])) (sym tails) (put_below r.tail (c + slots) lg x low logs.0), subst (λ (q : ℕ). TookBefore q (lg ++ In (c + slots) x ∷ [])) (sym heads) (took_put r.head (c + slots) lg x logs.1), subst (λ (q : ℕ). EndsAt (at_number slots q) (lg ++ In (c + slots) x ∷ [])) (sym tails) (ends_more (at_number slots r.tail) lg (In (c + slots) x) refl logs.2))) h.seats;
                     law = subst (λ (q : Picture). Law q (set views id brought)) (sym as_was)
                         (law_kept (of_ring slots r) (of_ring slots r) views id p 0 0 (Displacing c) Rest l l m lg (lg ++ In (c + slots) x ∷ []) some_part at (refl, refl, refl, refl) (same_turns (of_ring slots r) l)
                         (sights_rest (of_ring slots r) (of_ring slots r) (turning (Displacing c) (pass p 0 l m lg)) brought refl (λ shut z. z) (sights_same p 0 0 l l m lg (lg ++ In (c + slots) x ∷ []) (moved lg (In (c + slots) x) (λ f. refl)))) h.law);

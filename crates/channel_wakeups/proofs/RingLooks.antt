@@ -32,9 +32,9 @@ use Rattle.channel_wakeups.specs.Turns.{Knows, owed_by_turn}
 use Rattle.channel_wakeups.specs.Views.{Side, Duty, only, sights_of, pass, turning, no_place, picture, at_number, of_ring, RingCells, Ringed, Knowing, Woken, Known}
 use Rattle.channel_wakeups.proofs.Hands.{Carries, carries_same, carries_more}
 use Rattle.channel_wakeups.proofs.Laws.{Turns, SameTickets, law_kept, same_turns}
-use Rattle.channel_wakeups.proofs.Logs.{not_seen, one_more}
+use Rattle.channel_wakeups.proofs.Logs.{not_seen, one_more, ends_more}
 use Rattle.channel_wakeups.proofs.Rings.{know_at, seats_set, put_saw, took_saw}
-use Rattle.channel_wakeups.proofs.RingCells.{same_or_other}
+use Rattle.channel_wakeups.proofs.RingCells.{same_or_other, open_tail}
 use Rattle.channel_wakeups.proofs.RingLaws.{seen_turns, shut_again_turns, full_turns, sights_rest}
 use Rattle.channel_wakeups.proofs.RingMoves.{RingOutcome, by_ring}
 use Rattle.channel_wakeups.proofs.Sums.{Sights}
@@ -116,7 +116,7 @@ module _ {T W : Type 0} (slots id p : ℕ) (l : Lines) (m : Rolls W) (lg : List 
 
   pub sees_head : Allows Woken slots id (at_turn Rest, []) 0 (λ x. x) SawHead
   sees_head = by_ring 0 (λ x. x) SawHead slots id (at_turn Rest, []) (λ e. absurd (omega arith)) (λ e. absurd (omega arith)) several (λ words homes r views h at.
-      turns_only 0 SawHead Rest (Headed r.head) (rest_loose slots) (headed_loose slots r.head) words homes r views h at (λ k parts. let z = k parts in ((true, refl, omega arith), z.1, z.2)) (r.head, h.cells.head, (let a = h.seats.few in let b = h.seats.sound.order in let c : r.tail ≤ reach r = omega arith in omega arith), refl))
+      turns_only 0 SawHead Rest (Headed r.head) (rest_loose slots) (headed_loose slots r.head) words homes r views h at (λ k parts. let z = k parts in ((true, refl, omega arith), z.1, z.2, z.3)) (r.head, h.cells.head, (let a = h.seats.few in let b = h.seats.sound.order in let c : r.tail ≤ reach r = omega arith in omega arith), refl))
 
   -- ---- a pop reads the stamp there
 
@@ -145,12 +145,12 @@ module _ {T W : Type 0} (slots id p : ℕ) (l : Lines) (m : Rolls W) (lg : List 
       looks_stamp : get_elem? views id ≡ some (at_turn (Headed n)) → RingOutcome (n % slots + 64) (λ x. x) SawStamp (at_turn (Headed n), []) id words homes slots views
       looks_stamp at = ⊎_elim
           (λ (e : slice_index words (n % slots + 64) ≡ at_number slots n + 1). let q = is_in e in
-          turns_only (n % slots + 64) SawStamp (Headed n) (Written n) (headed_loose slots n) (written_loose slots n) words homes r views h at (λ k parts. let z = k parts in ((true, refl, (let a = q.0 in omega arith, λ f. q.1)), z.1, z.2)) (inl (e, refl)))
+          turns_only (n % slots + 64) SawStamp (Headed n) (Written n) (headed_loose slots n) (written_loose slots n) words homes r views h at (λ k parts. let z = k parts in ((true, refl, (let a = q.0 in omega arith, λ f. q.1)), z.1, z.2, z.3)) (inl (e, refl)))
           (λ (e : slice_index words (n % slots + 64) ≡ at_number slots n + 1 → ⊥). ⊎_elim
           (λ (f : slice_index words (n % slots + 64) ≡ at_number slots n). let q = is_free f in
-          turns_only (n % slots + 64) SawStamp (Headed n) (Vacant n) (headed_loose slots n) (vacant_loose slots n) words homes r views h at (λ k parts. let z = k parts in ((true, refl, z.0.2, (let a = q.0 in omega arith)), z.1, z.2)) (inr (inl (f, refl))))
+          turns_only (n % slots + 64) SawStamp (Headed n) (Vacant n) (headed_loose slots n) (vacant_loose slots n) words homes r views h at (λ k parts. let z = k parts in ((true, refl, z.0.2, (let a = q.0 in omega arith)), z.1, z.2, z.3)) (inr (inl (f, refl))))
           (λ (f : slice_index words (n % slots + 64) ≡ at_number slots n → ⊥).
-          turns_only (n % slots + 64) SawStamp (Headed n) Rest (headed_loose slots n) (rest_loose slots) words homes r views h at (λ k parts. let z = k parts in ((true, refl), z.1, z.2)) (inr (inr (e, f, refl))))
+          turns_only (n % slots + 64) SawStamp (Headed n) Rest (headed_loose slots n) (rest_loose slots) words homes r views h at (λ k parts. let z = k parts in ((true, refl), z.1, z.2, z.3)) (inr (inr (e, f, refl))))
           (same_or_other (at_number slots n) (slice_index words (n % slots + 64))))
           (same_or_other (at_number slots n + 1) (slice_index words (n % slots + 64)))
 
@@ -174,15 +174,15 @@ module _ {T W : Type 0} (slots id p : ℕ) (l : Lines) (m : Rolls W) (lg : List 
       looks_place : RingOutcome (n % slots + 64) (λ x. x) SawPlace (at_turn (Tailed n), []) id words homes slots views
       looks_place = ⊎_elim
           (λ (e : slice_index words (n % slots + 64) ≡ at_number slots n). let q = is_free words homes r views h e in
-          turns_only (n % slots + 64) SawPlace (Tailed n) (Ready n) (tailed_loose slots n) (ready_loose slots n) words homes r views h at (λ k parts. let z = k parts in ((true, refl, (let a = q.0 in omega arith)), z.1, z.2)) (inl (e, refl)))
+          turns_only (n % slots + 64) SawPlace (Tailed n) (Ready n) (tailed_loose slots n) (ready_loose slots n) words homes r views h at (λ k parts. let z = k parts in ((true, refl, (let a = q.0 in omega arith)), z.1, z.2, z.3)) (inl (e, refl)))
           (λ (e : slice_index words (n % slots + 64) ≡ at_number slots n → ⊥). ⊎_elim
-          (λ (early : n < slots). turns_only (n % slots + 64) SawPlace (Tailed n) Rest (tailed_loose slots n) (rest_loose slots) words homes r views h at (λ k parts. let z = k parts in ((true, refl), z.1, z.2)) (inr (inr (e, (λ (late : slots ≤ n) f. absurd (omega arith)), refl))))
+          (λ (early : n < slots). turns_only (n % slots + 64) SawPlace (Tailed n) Rest (tailed_loose slots n) (rest_loose slots) words homes r views h at (λ k parts. let z = k parts in ((true, refl), z.1, z.2, z.3)) (inr (inr (e, (λ (late : slots ≤ n) f. absurd (omega arith)), refl))))
           (λ (late : slots ≤ n). ⊎_elim
           (λ (f : slice_index words (n % slots + 64) ≡ at_number slots (n - slots) + 1). let q = is_behind late f in
           turns_only (n % slots + 64) SawPlace (Tailed n) (Behind (n - slots)) (tailed_loose slots n) (behind_loose slots (n - slots)) words homes r views h at
-          (λ k parts. let z = k parts in let low = z.0.2.0 in ((true, refl, (omega arith, inl refl), (let a = q.0 in omega arith, λ g. q.1)), z.1, z.2)) (inr (inl (e, late, f, refl))))
+          (λ k parts. let z = k parts in let low = z.0.2.0 in ((true, refl, (omega arith, inl refl), (let a = q.0 in omega arith, λ g. q.1)), z.1, z.2, z.3)) (inr (inl (e, late, f, refl))))
           (λ (f : slice_index words (n % slots + 64) ≡ at_number slots (n - slots) + 1 → ⊥).
-          turns_only (n % slots + 64) SawPlace (Tailed n) Rest (tailed_loose slots n) (rest_loose slots) words homes r views h at (λ k parts. let z = k parts in ((true, refl), z.1, z.2)) (inr (inr (e, (λ late g. f g), refl))))
+          turns_only (n % slots + 64) SawPlace (Tailed n) Rest (tailed_loose slots n) (rest_loose slots) words homes r views h at (λ k parts. let z = k parts in ((true, refl), z.1, z.2, z.3)) (inr (inr (e, (λ late g. f g), refl))))
           (same_or_other (at_number slots (n - slots) + 1) (slice_index words (n % slots + 64))))
           (cases_lt n slots))
           (same_or_other (at_number slots n) (slice_index words (n % slots + 64)))
@@ -199,18 +199,15 @@ module _ {T W : Type 0} (slots id p : ℕ) (l : Lines) (m : Rolls W) (lg : List 
     marked : is_marked (ring_mark slots) (slice_index words 48) ≡ r.closed
     marked = ap (is_marked (ring_mark slots)) h.cells.tail ∙ denote.marked_is slots (ring_mark slots) (omega (arith, several)) (mark_is slots (omega (arith, several)) h.seats.limit) r.tail r.closed
 
-    pub its_tail : r.closed ≡ false → slice_index words 48 ≡ at_number slots r.tail
-    its_tail unshut = h.cells.tail ∙ (λ i. at_number slots r.tail + (if unshut i then ring_mark slots else 0)) ∙ (omega arith)
-
     -- its number is not above it
     its_number : r.closed ≡ false → r.tail ≤ slice_index words 48
-    its_number unshut = let k = mark_is slots (omega (arith, several)) h.seats.limit in let a = number_below slots (ring_mark slots) (omega (arith, several)) k r.tail in let e = its_tail unshut in omega arith
+    its_number unshut = let k = mark_is slots (omega (arith, several)) h.seats.limit in let a = number_below slots (ring_mark slots) (omega (arith, several)) k r.tail in let e = open_tail slots words homes r h.cells unshut in omega arith
 
     by_turn : (b : Bool) → r.closed ≡ b → RingOutcome 48 (λ x. x) SawTail (at_turn Rest, []) id words homes slots views
     by_turn true shut = only_looks 48 SawTail Rest Rest (rest_loose slots) (rest_loose slots) words homes r views h at (no_send_again l) (lg ++ Saw Seen ∷ []) (refl, refl, refl, refl)
         (λ d s. subst (λ (b : Bool). Turns d s (picture (r.tail - r.head) (r.head + slots - r.tail) (reach r - r.head) b) (picture (r.tail - r.head) (r.head + slots - r.tail) (reach r - r.head) b) l (no_send_again l)) (sym shut)
         (shut_again_turns (r.tail - r.head) (r.head + slots - r.tail) (reach r - r.head) l kept_in_hand d s))
-        seen_so (λ k parts. let z = k parts in ((true, refl), put_saw r.tail lg Seen z.1, took_saw r.head lg Seen z.2)) (λ k. carries_more k p 0 0 l (no_send_again l) m lg some_part (Saw Seen) refl refl refl refl refl (inr (omega arith)))
+        seen_so (λ k parts. let z = k parts in ((true, refl), put_saw r.tail lg Seen z.1, took_saw r.head lg Seen z.2, ends_more (at_number slots r.tail) lg (Saw Seen) refl z.3)) (λ k. carries_more k p 0 0 l (no_send_again l) m lg some_part (Saw Seen) refl refl refl refl refl (inr (omega arith)))
         (inl (marked ∙ shut, refl))
       where
         seen_so : Sights (of_ring slots r) (of_ring slots r) (at_turn Rest) (turning Rest (pass p 0 (no_send_again l) m (lg ++ Saw Seen ∷ [])))
@@ -219,18 +216,22 @@ module _ {T W : Type 0} (slots id p : ℕ) (l : Lines) (m : Rolls W) (lg : List 
             let d = one_more p 0 0 l (no_send_again l) m lg some_part Seen of_drained in
             let e : k of_closer + sights_of of_closer (turning Rest (pass {W = W} p 0 (no_send_again l) m (lg ++ Saw Seen ∷ []))) ≡ k of_closer + sights_of of_closer (at_turn Rest) = omega arith in
             (e ∙ one, (λ more. shut), (λ more. gone (omega arith)))
-    by_turn false unshut = ⊎_elim (λ (late : 2 ^ 61 < slice_index words 48 + 2). open_at Rest (rest_loose slots) (λ z. z) (inr (inr (marked ∙ unshut, unseen, late, refl))))
-        (λ (early : slice_index words 48 + 2 ≤ 2 ^ 61). open_at (Tailed r.tail) (tailed_loose slots r.tail) (λ z. (true, refl, (omega arith, inl refl))) (inr (inl (marked ∙ unshut, unseen, early, (r.tail, its_tail unshut, its_number unshut, refl))))) (cases_lt (2 ^ 61) (slice_index words 48 + 2))
-      where
-        unseen : NotSeen lg
-        unseen = not_seen views id (at_turn Rest) at some_part (reach r - r.head) (subst (λ (b : Bool). Closings b (reach r - r.head) (λ f. total (sights_of f) views)) unshut h.law.closings)
-
-        open_at : (u : Turn) → IsLoose slots u → (Knows slots r Rest → Knows slots r u) → SawTail (slice_index words 48) (turning u (pass p 0 (seen_open_line l) m lg), []) → RingOutcome 48 (λ x. x) SawTail (at_turn Rest, []) id words homes slots views
-        open_at u free know told = only_looks 48 SawTail Rest u (rest_loose slots) free words homes r views h at (seen_open_line l) lg (refl, refl, refl, refl)
-            (λ d s. subst (λ (b : Bool). Turns d s (picture (r.tail - r.head) (r.head + slots - r.tail) (reach r - r.head) b) (picture (r.tail - r.head) (r.head + slots - r.tail) (reach r - r.head) b) l (seen_open_line l)) (sym unshut)
-            (seen_turns (r.tail - r.head) (r.head + slots - r.tail) (reach r - r.head) l d s))
-            (sights_rest (of_ring slots r) (of_ring slots r) (at_turn Rest) (turning u (pass p 0 (seen_open_line l) m lg)) refl (λ shut z. z) (λ f. refl))
-            (λ k parts. let z = k parts in (know z.0, z.1, z.2)) (λ k. carries_same k p 0 0 l (seen_open_line l) m lg refl) told
+    by_turn false unshut = only_looks 48 SawTail Rest (Tailed r.tail) (rest_loose slots) (tailed_loose slots r.tail) words homes r views h at (seen_open_line l) lg (refl, refl, refl, refl)
+        (λ d s. subst (λ (b : Bool). Turns d s (picture (r.tail - r.head) (r.head + slots - r.tail) (reach r - r.head) b) (picture (r.tail - r.head) (r.head + slots - r.tail) (reach r - r.head) b) l (seen_open_line l)) (sym unshut)
+        (seen_turns (r.tail - r.head) (r.head + slots - r.tail) (reach r - r.head) l d s))
+        (sights_rest (of_ring slots r) (of_ring slots r) (at_turn Rest) (turning (Tailed r.tail) (pass p 0 (seen_open_line l) m lg)) refl (λ shut z. z) (λ f. refl))
+        (λ k parts. let z = k parts in ((true, refl, (omega arith, inl refl)), z.1, z.2, z.3)) (λ k. carries_same k p 0 0 l (seen_open_line l) m lg refl)
+        (inr (
+          marked ∙ unshut,
+          not_seen views id (at_turn Rest) at some_part (reach r - r.head) (subst (λ (b : Bool). Closings b (reach r - r.head) (λ f. total (sights_of f) views)) unshut h.law.closings),
+          (
+            r.tail,
+            open_tail slots words homes r h.cells unshut,
+            its_number unshut,
+            (let a = h.seats.few in let c : r.tail ≤ reach r = omega arith in omega arith),
+            refl,
+          ),
+        ))
 
   pub sees_tail : (l.sends.holds ≡ l.sends.fresh) ⊎ (l.sends.fresh ≡ 0) → Allows Woken slots id (at_turn Rest, []) 48 (λ x. x) SawTail
   sees_tail kept_in_hand = by_ring 48 (λ x. x) SawTail slots id (at_turn Rest, []) (λ e. absurd (omega arith)) (λ e. absurd (omega arith)) several (λ words homes r views h at. by_turn words homes r views h at kept_in_hand r.closed refl)
@@ -252,9 +253,9 @@ module _ {T W : Type 0} (slots id p : ℕ) (l : Lines) (m : Rolls W) (lg : List 
         only_looks 0 SawFull (Behind c) Rest (behind_loose slots c) (rest_loose slots) words homes r views h at (no_place l) lg (refl, refl, refl, refl)
         (λ d s. full_turns (r.tail - r.head) (r.head + slots - r.tail) (reach r - r.head) r.closed l none_free seen d s)
         (sights_rest (of_ring slots r) (of_ring slots r) (at_turn (Behind c)) (turning Rest (pass p 0 (no_place l) m lg)) refl (λ shut z. z) (λ f. refl))
-        (λ q parts. let z = q parts in ((true, refl), z.1, z.2)) (λ q. carries_same q p 0 0 l (no_place l) m lg refl) (inl (e, refl)))
+        (λ q parts. let z = q parts in ((true, refl), z.1, z.2, z.3)) (λ q. carries_same q p 0 0 l (no_place l) m lg refl) (inl (e, refl)))
         (λ (e : slice_index words 0 ≡ at_number slots c → ⊥).
-        turns_only 0 SawFull (Behind c) Rest (behind_loose slots c) (rest_loose slots) words homes r views h at (λ q parts. let z = q parts in ((true, refl), z.1, z.2)) (inr (e, refl)))
+        turns_only 0 SawFull (Behind c) Rest (behind_loose slots c) (rest_loose slots) words homes r views h at (λ q parts. let z = q parts in ((true, refl), z.1, z.2, z.3)) (inr (e, refl)))
         (same_or_other (at_number slots c) (slice_index words 0))
 
     pub sees_full : l.sends.fresh ≡ 0 → Allows Woken slots id (at_turn (Behind c), []) 0 (λ x. x) SawFull

@@ -29,17 +29,17 @@ use Rattle.channel_wakeups.specs.declared.rule.Transfer.TheVariants.{In, Out, Sa
 use Rattle.channel_wakeups.specs.declared.rule.Turn.TheVariants.{Rest, Ready, Filling, Written, Vacant, Emptying}
 use Rattle.channel_wakeups.specs.declared.rule.View.{View}
 use Rattle.channel_wakeups.specs.Lists.{total}
-use Rattle.channel_wakeups.specs.Log.{PutBefore, TookBefore, Closings, of_closer}
+use Rattle.channel_wakeups.specs.Log.{PutBefore, TookBefore, EndsAt, Closings, of_closer}
 use Rattle.channel_wakeups.specs.RingSteps.{won_ring_place, tail_moved, end_read, head_moved, message_stored, moved_on}
 use Rattle.channel_wakeups.specs.Turns.{phase_of, owed_by_turn}
 use Rattle.channel_wakeups.specs.Views.{only, sights_of, pass, turning, won_message, no_message, no_more, Picture, picture, at_number, of_ring, Law, RingCells, RingSeats, Ringed, Shown, one_slot, a_ring, Knowing, Woken, Known}
 use Rattle.channel_wakeups.proofs.Hands.{Carries, counted_kept, carries_same, carries_more}
 use Rattle.channel_wakeups.proofs.Laws.{Turns, law_kept, same_turns, rests_turns, drains_turns}
-use Rattle.channel_wakeups.proofs.Logs.{not_seen, not_drained, one_more, moved, sights_same}
+use Rattle.channel_wakeups.proofs.Logs.{not_seen, not_drained, one_more, moved, sights_same, ends_later, ends_more}
 use Rattle.channel_wakeups.proofs.Rings.{know_at, seats_set, put_saw, took_saw}
 use Rattle.channel_wakeups.proofs.RingCells.{same_or_other, slots_took, slots_gave, was_home, tail_written, head_written, stamp_written}
 use Rattle.channel_wakeups.proofs.RingLaws.{puts_turns, takes_turns, sights_rest, put_below, took_put, put_took, took_below}
-use Rattle.channel_wakeups.proofs.RingSeats.{Moved, on_end, queue_of, is_shown, moved as as_moved, seats_moved, took_later, holds_it, holds_not, eq_other}
+use Rattle.channel_wakeups.proofs.RingSeats.{Moved, on_end, queue_of, is_shown, moved as as_moved, in_order, seats_moved, took_later, holds_it, holds_not, eq_other}
 use Rattle.channel_wakeups.proofs.Sums.{Sights}
 use Rattle.channel_wakeups.proofs.Words.{counts_stay, word_again}
 
@@ -159,7 +159,7 @@ module _ {T W : Type 0} (slots id p n : ℕ) (l : Lines) (m : Rolls W) (lg : Lis
                 (swap_tail (slice_index words 48)) refl (λ i. refl)
                 (next ∙ ap (at_number slots) (let e : n + 1 ≡ r.tail + 1 = omega (arith, t.0) in e) ∙ (let z : at_number slots (r.tail + 1) ≡ at_number slots (r.tail + 1) + 0 = omega arith in z) ∙ (λ i. at_number slots (r.tail + 1) + (if sym t.1 i then ring_mark slots else 0)));
             seats = seats_moved slots r o (act.PushPut Refuse tt n) views id ready filling at some_part some_part go (λ d. refl) (few_so r.coming t.0)
-                (λ parts. ((refl, knows_so.2.1, knows_so.2.2), (λ j more. k.1 j (omega arith)), k.2)) h.seats;
+                (λ parts. ((refl, knows_so.2.1, knows_so.2.2), (λ j more. k.1 j (omega arith)), k.2, ends_later (at_number slots r.tail) (at_number slots (r.tail + 1)) lg (in_order slots r.tail (r.tail + 1) positive h.seats.limit (omega arith)) k.3)) h.seats;
             law = law_so t.1 room order;
           },
           (λ j. carries_same j p 0 0 l (won_ring_place l) m lg refl),
@@ -187,7 +187,7 @@ module _ {T W : Type 0} (slots id p n : ℕ) (l : Lines) (m : Rolls W) (lg : Lis
       tt,
       record {
         cells = subst (λ (ws : List ℕ). RingCells slots ws homes r) (sym (same_words words 48 (swap_tail (slice_index words 48)) unchanged)) h.cells;
-        seats = seats_set slots r views id ready (turning Rest (pass p 0 l m lg)) at (λ d. ap (λ (k : ℕ). only p k) (rest_owes slots d ∙ sym (ready_owes slots n d))) (λ k parts. let z = k parts in ((true, refl), z.1, z.2)) h.seats;
+        seats = seats_set slots r views id ready (turning Rest (pass p 0 l m lg)) at (λ d. ap (λ (k : ℕ). only p k) (rest_owes slots d ∙ sym (ready_owes slots n d))) (λ k parts. let z = k parts in ((true, refl), z.1, z.2, z.3)) h.seats;
         law = law_kept (of_ring slots r) (of_ring slots r) views id p 0 0 (Ready n) Rest l l m lg lg some_part at (refl, refl, refl, refl) (same_turns (of_ring slots r) l) (sights_rest (of_ring slots r) (of_ring slots r) ready (turning Rest (pass p 0 l m lg)) refl (λ shut z. z) (λ f. refl)) h.law;
       },
       (λ j. carries_same j p 0 0 l l m lg refl),
@@ -248,7 +248,7 @@ module _ {T W : Type 0} (slots id p n : ℕ) (l : Lines) (m : Rolls W) (lg : Lis
 
     looks_on : (r.tail ≡ n → ⊥) → RingOutcome 48 (λ x. x) Looked (vacant, []) id words homes slots views
     looks_on other = quiet (turning Rest (pass p 0 l m lg))
-        (seats_set slots r views id vacant (turning Rest (pass p 0 l m lg)) at (λ d. ap (λ (k : ℕ). only p k) (rest_owes slots d ∙ sym (vacant_owes slots n d))) (λ k parts. let z = k parts in ((true, refl), z.1, z.2)) h.seats)
+        (seats_set slots r views id vacant (turning Rest (pass p 0 l m lg)) at (λ d. ap (λ (k : ℕ). only p k) (rest_owes slots d ∙ sym (vacant_owes slots n d))) (λ k parts. let z = k parts in ((true, refl), z.1, z.2, z.3)) h.seats)
         (law_kept (of_ring slots r) (of_ring slots r) views id p 0 0 (Vacant n) Rest l l m lg lg some_part at (refl, refl, refl, refl) (same_turns (of_ring slots r) l) (sights_rest (of_ring slots r) (of_ring slots r) vacant (turning Rest (pass p 0 l m lg)) refl (λ shut z. z) (λ f. refl)) h.law)
         (λ j. carries_same j p 0 0 l l m lg refl)
         (inr (inr ((λ e. other (denote.same_pos slots (ring_mark slots) some_slot its_mark r.tail n (sym now_tail ∙ e))), refl)))
@@ -256,7 +256,7 @@ module _ {T W : Type 0} (slots id p n : ℕ) (l : Lines) (m : Rolls W) (lg : Lis
     -- the ring is empty at this moment, and open
     finds_none : r.tail ≡ n → r.closed ≡ false → RingOutcome 48 (λ x. x) Looked (vacant, []) id words homes slots views
     finds_none there unshut = quiet (turning Rest (pass p 0 (no_message l) m lg))
-        (seats_set slots r views id vacant (turning Rest (pass p 0 (no_message l) m lg)) at (λ d. ap (λ (k : ℕ). only p k) (rest_owes slots d ∙ sym (vacant_owes slots n d))) (λ k parts. let z = k parts in ((true, refl), z.1, z.2)) h.seats)
+        (seats_set slots r views id vacant (turning Rest (pass p 0 (no_message l) m lg)) at (λ d. ap (λ (k : ℕ). only p k) (rest_owes slots d ∙ sym (vacant_owes slots n d))) (λ k parts. let z = k parts in ((true, refl), z.1, z.2, z.3)) h.seats)
         (law_kept (of_ring slots r) (of_ring slots r) views id p 0 0 (Vacant n) Rest l (no_message l) m lg lg some_part at (refl, refl, refl, refl)
         (λ d s. subst (λ (b : Bool). Turns d s (picture (r.tail - r.head) (r.head + slots - r.tail) (reach r - r.head) b) (picture (r.tail - r.head) (r.head + slots - r.tail) (reach r - r.head) b) l (no_message l)) (sym unshut)
         (rests_turns (r.tail - r.head) (r.head + slots - r.tail) (reach r - r.head) l (none_there there) d s))
@@ -268,7 +268,7 @@ module _ {T W : Type 0} (slots id p n : ℕ) (l : Lines) (m : Rolls W) (lg : Lis
     finds_no_more : r.tail ≡ n → r.closed ≡ true → RingOutcome 48 (λ x. x) Looked (vacant, []) id words homes slots views
     finds_no_more there shut = quiet (turning Rest (pass p 0 (no_more l) m (lg ++ Saw Drained ∷ [])))
         (seats_set slots r views id vacant (turning Rest (pass p 0 (no_more l) m (lg ++ Saw Drained ∷ []))) at (λ d. ap (λ (k : ℕ). only p k) (rest_owes slots d ∙ sym (vacant_owes slots n d)))
-        (λ k parts. let z = k parts in ((true, refl), put_saw r.tail lg Drained z.1, took_saw r.head lg Drained z.2)) h.seats)
+        (λ k parts. let z = k parts in ((true, refl), put_saw r.tail lg Drained z.1, took_saw r.head lg Drained z.2, ends_more (at_number slots r.tail) lg (Saw Drained) refl z.3)) h.seats)
         (law_kept (of_ring slots r) (of_ring slots r) views id p 0 0 (Vacant n) Rest l (no_more l) m lg (lg ++ Saw Drained ∷ []) some_part at (refl, refl, refl, refl)
         (λ d s. subst (λ (b : Bool). Turns d s (picture (r.tail - r.head) (r.head + slots - r.tail) (reach r - r.head) b) (picture (r.tail - r.head) (r.head + slots - r.tail) (reach r - r.head) b) l (no_more l)) (sym shut)
         (drains_turns (r.tail - r.head) (r.head + slots - r.tail) (reach r - r.head) l (none_there there) d s))
@@ -345,7 +345,7 @@ module _ {T W : Type 0} (slots id p n : ℕ) (l : Lines) (m : Rolls W) (lg : Lis
                     (slots_took slots words homes r h.cells (act.PopSwap n) next_ring (act.PopTake n) go (n % slots) inside refl (holds_it slots n) (λ j apart. (refl, holds_not slots n j apart)))
                     (swap_head (slice_index words 0)) refl refl (λ i. refl) (next found t);
                 seats = seats_moved slots r next_ring (act.PopTake n) views id written (turning (Emptying n) (pass p 0 (won_message l) m (lg ++ Out n y ∷ []))) at some_part some_part go (λ d. refl) h.seats.few
-                    (λ parts. (there, put_took r.tail n lg y k.1, took_below (r.head + 1) n lg y (omega arith) (took_later r.head (r.head + 1) lg (omega arith) k.2))) h.seats;
+                    (λ parts. (there, put_took r.tail n lg y k.1, took_below (r.head + 1) n lg y (omega arith) (took_later r.head (r.head + 1) lg (omega arith) k.2), ends_more (at_number slots r.tail) lg (Out n y) refl k.3)) h.seats;
                 law = law_kept (of_ring slots r) (of_ring slots next_ring) views id p 0 0 (Written n) (Emptying n) l (won_message l) m lg (lg ++ Out n y ∷ []) some_part at (refl, refl, refl, refl)
                     (λ d s. subst (λ (a : ℕ). Turns d s (of_ring slots r) (picture a (r.head + 1 + slots - r.tail) (reach r - (r.head + 1)) r.closed) l (won_message l)) (let e : r.tail - r.head - 1 ≡ r.tail - (r.head + 1) = omega arith in e)
                     (subst (λ (b : ℕ). Turns d s (of_ring slots r) (picture (r.tail - r.head - 1) b (reach r - (r.head + 1)) r.closed) l (won_message l)) (let e : r.head + slots - r.tail + 1 ≡ r.head + 1 + slots - r.tail = omega arith in e)
@@ -369,7 +369,7 @@ module _ {T W : Type 0} (slots id p n : ℕ) (l : Lines) (m : Rolls W) (lg : Lis
       tt,
       record {
         cells = subst (λ (ws : List ℕ). RingCells slots ws homes r) (sym (same_words words 0 (swap_head (slice_index words 0)) unchanged)) h.cells;
-        seats = seats_set slots r views id written (turning Rest (pass p 0 l m lg)) at (λ d. ap (λ (k : ℕ). only p k) (rest_owes slots d ∙ sym (written_owes slots n d))) (λ k parts. let z = k parts in ((true, refl), z.1, z.2)) h.seats;
+        seats = seats_set slots r views id written (turning Rest (pass p 0 l m lg)) at (λ d. ap (λ (k : ℕ). only p k) (rest_owes slots d ∙ sym (written_owes slots n d))) (λ k parts. let z = k parts in ((true, refl), z.1, z.2, z.3)) h.seats;
         law = law_kept (of_ring slots r) (of_ring slots r) views id p 0 0 (Written n) Rest l l m lg lg some_part at (refl, refl, refl, refl) (same_turns (of_ring slots r) l) (sights_rest (of_ring slots r) (of_ring slots r) written (turning Rest (pass p 0 l m lg)) refl (λ shut z. z) (λ f. refl)) h.law;
       },
       (λ j. carries_same j p 0 0 l l m lg refl),
@@ -404,7 +404,7 @@ module _ {T W : Type 0} (slots id p n : ℕ) (l : Lines) (m : Rolls W) (lg : Lis
           let after = first.leaves.2 in
           let r1 : Ring (Unit {0}) = with_place r (n % slots) (record { round = (r.at (n % slots)).round; written = (r.at (n % slots)).written; slot = Some tt }) in
           let second = keep.push_stores slots h.seats.two r1 (queue_of slots r1) first.sound (is_shown slots r1) Refuse tt n after.2 after.3 in
-          by_ends r1 k.0.2.0 (k.1, k.2) (on_end slots r (act.PushPut Refuse tt n) r1 (act.PushStore Refuse n) (with_place r1 (n % slots) (record { round = n; written = true; slot = (r1.at (n % slots)).slot })) act.Finished same_place (as_moved first) (as_moved second))
+          by_ends r1 k.0.2.0 (k.1, k.2, k.3) (on_end slots r (act.PushPut Refuse tt n) r1 (act.PushStore Refuse n) (with_place r1 (n % slots) (record { round = n; written = true; slot = (r1.at (n % slots)).slot })) act.Finished same_place (as_moved first) (as_moved second))
           (λ j apart. if_other r (n % slots) j (record { round = (r.at (n % slots)).round; written = (r.at (n % slots)).written; slot = Some tt }) apart) (if_here r (n % slots) (record { round = (r.at (n % slots)).round; written = (r.at (n % slots)).written; slot = Some tt }))
           refl refl refl refl
         where
@@ -416,7 +416,7 @@ module _ {T W : Type 0} (slots id p n : ℕ) (l : Lines) (m : Rolls W) (lg : Lis
           none_owes (ring.hold i) = refl
           none_owes ring.bring = refl
 
-          by_ends : (r1 : Ring (Unit {0})) → n < r.tail → PutBefore r.tail lg × TookBefore r.head lg → Moved slots r (act.PushPut Refuse tt n) (with_place r1 (n % slots) (record { round = n; written = true; slot = (r1.at (n % slots)).slot })) act.Finished
+          by_ends : (r1 : Ring (Unit {0})) → n < r.tail → PutBefore r.tail lg × TookBefore r.head lg × EndsAt (at_number slots r.tail) lg → Moved slots r (act.PushPut Refuse tt n) (with_place r1 (n % slots) (record { round = n; written = true; slot = (r1.at (n % slots)).slot })) act.Finished
               → ((j : ℕ) → (j ≡ n % slots → ⊥) → r1.at j ≡ r.at j) → r1.at (n % slots) ≡ record { round = (r.at (n % slots)).round; written = (r.at (n % slots)).written; slot = Some tt }
               → r1.head ≡ r.head → r1.tail ≡ r.tail → r1.closed ≡ r.closed → r1.coming ≡ r.coming → RingOutcome (n % slots + 64) (λ y. at_number slots n + 1) Stored full_slot id words homes slots views
           by_ends r1 low logs go others here heads tails shuts ways =
@@ -436,7 +436,7 @@ module _ {T W : Type 0} (slots id p n : ℕ) (l : Lines) (m : Rolls W) (lg : Lis
                       (at_number slots n + 1) (n % slots) inside heads tails shuts (λ j apart. if_other r1 (n % slots) j pl apart ∙ others j apart)
                       (λ i. at_number slots (sym is i).round + (if (sym is i).written then 1 else 0));
                   seats = seats_moved slots r r2 act.Finished views id (turning (Filling n) (pass p 0 l m lg)) stored at some_part some_part go none_owes (let f = h.seats.few in subst (λ (q : ℕ). q ≤ 2 ^ 61) (λ i. sym tails i + (if sym ways i then 1 else 0)) f)
-                      (λ parts. ((true, refl), subst (λ (q : ℕ). PutBefore q (lg ++ In n x ∷ [])) (sym tails) (put_below r.tail n lg x low logs.0), subst (λ (q : ℕ). TookBefore q (lg ++ In n x ∷ [])) (sym heads) (took_put r.head n lg x logs.1))) h.seats;
+                      (λ parts. ((true, refl), subst (λ (q : ℕ). PutBefore q (lg ++ In n x ∷ [])) (sym tails) (put_below r.tail n lg x low logs.0), subst (λ (q : ℕ). TookBefore q (lg ++ In n x ∷ [])) (sym heads) (took_put r.head n lg x logs.1), subst (λ (q : ℕ). EndsAt (at_number slots q) (lg ++ In n x ∷ [])) (sym tails) (ends_more (at_number slots r.tail) lg (In n x) refl logs.2))) h.seats;
                   law = subst (λ (q : Picture). Law q (set views id stored)) (sym as_was)
                       (law_kept (of_ring slots r) (of_ring slots r) views id p 0 0 (Filling n) Rest l l m lg (lg ++ In n x ∷ []) some_part at (refl, refl, refl, refl) (same_turns (of_ring slots r) l)
                       (sights_rest (of_ring slots r) (of_ring slots r) (turning (Filling n) (pass p 0 l m lg)) stored refl (λ shut z. z) (sights_same p 0 0 l l m lg (lg ++ In n x ∷ []) (moved lg (In n x) (λ f. refl)))) h.law);
@@ -467,7 +467,7 @@ module _ {T W : Type 0} (slots id p n : ℕ) (l : Lines) (m : Rolls W) (lg : Lis
         let after = first.leaves.2 in
         let r1 : Ring (Unit {0}) = with_place r (n % slots) (record { round = (r.at (n % slots)).round; written = (r.at (n % slots)).written; slot = None }) in
         let second = keep.pop_stores slots h.seats.two r1 (queue_of slots r1) first.sound (is_shown slots r1) tt n after.1 after.2 after.3 in
-        by_ends r1 (k.1, k.2) (on_end slots r (act.PopTake n) r1 (act.PopStore n tt) (with_place r1 (n % slots) (record { round = n + slots; written = false; slot = (r1.at (n % slots)).slot })) act.Finished same_place (as_moved first) (as_moved second))
+        by_ends r1 (k.1, k.2, k.3) (on_end slots r (act.PopTake n) r1 (act.PopStore n tt) (with_place r1 (n % slots) (record { round = n + slots; written = false; slot = (r1.at (n % slots)).slot })) act.Finished same_place (as_moved first) (as_moved second))
         (λ j apart. if_other r (n % slots) j (record { round = (r.at (n % slots)).round; written = (r.at (n % slots)).written; slot = None }) apart) (if_here r (n % slots) (record { round = (r.at (n % slots)).round; written = (r.at (n % slots)).written; slot = None }))
         refl refl refl refl
       where
@@ -479,7 +479,7 @@ module _ {T W : Type 0} (slots id p n : ℕ) (l : Lines) (m : Rolls W) (lg : Lis
         none_owes (ring.hold i) = refl
         none_owes ring.bring = refl
 
-        by_ends : (r1 : Ring (Unit {0})) → PutBefore r.tail lg × TookBefore r.head lg → Moved slots r (act.PopTake n) (with_place r1 (n % slots) (record { round = n + slots; written = false; slot = (r1.at (n % slots)).slot })) act.Finished
+        by_ends : (r1 : Ring (Unit {0})) → PutBefore r.tail lg × TookBefore r.head lg × EndsAt (at_number slots r.tail) lg → Moved slots r (act.PopTake n) (with_place r1 (n % slots) (record { round = n + slots; written = false; slot = (r1.at (n % slots)).slot })) act.Finished
             → ((j : ℕ) → (j ≡ n % slots → ⊥) → r1.at j ≡ r.at j) → r1.at (n % slots) ≡ record { round = (r.at (n % slots)).round; written = (r.at (n % slots)).written; slot = None }
             → r1.head ≡ r.head → r1.tail ≡ r.tail → r1.closed ≡ r.closed → r1.coming ≡ r.coming → RingOutcome (n % slots + 64) (λ y. at_number slots (n + slots)) Freed bare_slot id words homes slots views
         by_ends r1 logs go others here heads tails shuts ways =
@@ -500,7 +500,7 @@ module _ {T W : Type 0} (slots id p n : ℕ) (l : Lines) (m : Rolls W) (lg : Lis
                     (at_number slots (n + slots)) (n % slots) inside heads tails shuts (λ j apart. if_other r1 (n % slots) j pl apart ∙ others j apart)
                     (no_more_than ∙ (λ i. at_number slots (sym is i).round + (if (sym is i).written then 1 else 0)));
                 seats = seats_moved slots r r2 act.Finished views id (turning (Emptying n) (pass p 0 l m lg)) freed at some_part some_part go none_owes (let f = h.seats.few in subst (λ (q : ℕ). q ≤ 2 ^ 61) (λ i. sym tails i + (if sym ways i then 1 else 0)) f)
-                    (λ parts. ((true, refl), subst (λ (q : ℕ). PutBefore q lg) (sym tails) logs.0, subst (λ (q : ℕ). TookBefore q lg) (sym heads) logs.1)) h.seats;
+                    (λ parts. ((true, refl), subst (λ (q : ℕ). PutBefore q lg) (sym tails) logs.0, subst (λ (q : ℕ). TookBefore q lg) (sym heads) logs.1, subst (λ (q : ℕ). EndsAt (at_number slots q) lg) (sym tails) logs.2)) h.seats;
                 law = subst (λ (q : Picture). Law q (set views id freed)) (sym as_was)
                     (law_kept (of_ring slots r) (of_ring slots r) views id p 0 0 (Emptying n) Rest l l m lg lg some_part at (refl, refl, refl, refl) (same_turns (of_ring slots r) l)
                     (sights_rest (of_ring slots r) (of_ring slots r) (turning (Emptying n) (pass p 0 l m lg)) freed refl (λ shut z. z) (λ f. refl)) h.law);

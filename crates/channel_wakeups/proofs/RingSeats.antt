@@ -1,5 +1,6 @@
 -- What a step of a call on a ring leaves to all seats: what the queue's own proof says of it, for the views of all seats.
-use Rattle.std.proofs.Common.{◌≡◌, ℕ, zero, suc, ◌+◌, ◌-◌, ◌%◌, ◌^◌, ◌<◌, ◌≤◌, ◌==◌, Bool, true, false, if◌then◌else◌, List, [], ◌∷◌, drop, Option, Some, is_some, true-eqb, set, refl, sym, ap, ◌∙◌, subst, arith}
+use Rattle.std.proofs.Common.{◌≡◌, ℕ, zero, suc, ◌+◌, ◌-◌, ◌*◌, ◌%◌, ◌^◌, ◌<◌, ◌≤◌, ◌==◌, Bool, true, false, if◌then◌else◌, List, [], ◌∷◌, drop, Option, Some, is_some, true-eqb, set, refl, sym, ap, ◌∙◌, subst, ⊎_elim, arith}
+use Rattle.std.proofs.lemmas.Bool.{cases_lt}
 use mathlib.Core.Option as home
 use mathlib.Core.Option.{some, none}
 use lib.ListN.{get_elem?}
@@ -9,16 +10,20 @@ use Rattle.concurrent_queue.specs.machine.RingCalls.{IsDuty, holds, owes, owed}
 use Rattle.concurrent_queue.specs.machine.RingMeans as means
 use Rattle.concurrent_queue.specs.machine.RingMeans.{Later}
 use Rattle.concurrent_queue.specs.machine.RingState.{SlotState, Ring, SoundRing, IsShown, busy, reach}
+use Rattle.concurrent_queue.specs.machine.RingWords.{ring_mark}
 use Rattle.concurrent_queue.specs.declared.bounded.RingAction.{RingAction}
 use Rattle.concurrent_queue.specs.declared.call.QueueMark.{QueueMark}
 use Rattle.concurrent_queue.specs.declared.call.QueueReply.{QueueReply}
 use Rattle.concurrent_queue.proofs.RingLater.{eq_self, later_keeps}
+use Rattle.concurrent_queue.proofs.RingPlaces.{pos-less}
+use Rattle.concurrent_queue.proofs.RingShape.{mark_is}
 use Rattle.channel_wakeups.specs.declared.rule.Transfer.{Transfer}
 use Rattle.channel_wakeups.specs.declared.rule.View.{View}
 use Rattle.channel_wakeups.specs.Lists.{total}
 use Rattle.channel_wakeups.specs.Log.{PutBefore, TookBefore}
 use Rattle.channel_wakeups.specs.Turns.{action_of, phase_of, owed_by_turn}
-use Rattle.channel_wakeups.specs.Views.{nobody, IsHome, Knowing, AllKnow, owes_of, RingSeats}
+use Rattle.channel_wakeups.specs.Views.{at_number, nobody, IsHome, Knowing, AllKnow, owes_of, RingSeats}
+use Rattle.channel_wakeups.proofs.Logs.{ends_later}
 use Rattle.channel_wakeups.proofs.Sums.{only_some, total_set, was, others}
 
 -- what one step, or several on end, of a call do to a ring
@@ -63,13 +68,20 @@ put_later k n log more before j later = before j (omega arith)
 pub took_later : {T : Type 0} (k n : ℕ) (log : List (Transfer T)) → k ≤ n → TookBefore k log → TookBefore n log
 took_later k n log more before j later = before j (omega arith)
 
-module _ {T W : Type 0} (cap : ℕ) (some_slot : 0 < cap) (r o : Ring (Unit {0})) (a : RingAction (Unit {0})) (later : Later cap r a o) where
+-- positions come in the order of their numbers
+pub in_order : (cap a b : ℕ) → 0 < cap → cap ≤ 2 ^ 58 → a ≤ b → at_number cap a ≤ at_number cap b
+in_order cap a b some_slot limit more = ⊎_elim
+    (λ (less : a < b). let wide = (mark_is cap some_slot limit).wide in let z = pos-less cap some_slot (2 * ring_mark cap) (omega arith) a b less in omega arith)
+    (λ (least : b ≤ a). let e : a ≡ b = omega arith in let z = ap (at_number cap) e in omega arith) (cases_lt a b)
+
+module _ {T W : Type 0} (cap : ℕ) (some_slot : 0 < cap) (limit : cap ≤ 2 ^ 58) (r o : Ring (Unit {0})) (a : RingAction (Unit {0})) (later : Later cap r a o) where
   one_later : (u : View T W) → ((d : ring.Duty) → IsDuty cap d → owes_of cap d u + owes cap a d ≤ owed r d) → Knowing cap r u → Knowing cap o u
   one_later u apart known some_part =
       let k = known some_part in (
         later_keeps cap some_slot r a o later (action_of u.turn) (phase_of u.turn) (λ d is. let x = apart d is in let y = only_some u.parts (owed_by_turn cap d u.turn) some_part in omega arith) k.0,
         put_later r.tail o.tail u.log later.tail k.1,
         took_later r.head o.head u.log later.head k.2,
+        ends_later (at_number cap r.tail) (at_number cap o.tail) u.log (in_order cap r.tail o.tail some_slot limit later.tail) k.3,
       )
 
   all_later : (us : List (View T W)) → ((d : ring.Duty) → IsDuty cap d → total (owes_of cap d) us + owes cap a d ≤ owed r d) → AllKnow cap r us → AllKnow cap o us
@@ -103,7 +115,7 @@ module _ {T W : Type 0} (cap : ℕ) (r o : Ring (Unit {0})) (b : RingAction (Uni
             let e = m.owners d is in
             let q = s.owners d is in
             omega arith;
-        knows = set_later cap (omega arith) r o (action_of v.turn) m.later vs id w (λ d is. let x = sums d is in let q = s.owners d is in omega arith) knows s.knows;
+        knows = set_later cap (omega arith) s.limit r o (action_of v.turn) m.later vs id w (λ d is. let x = sums d is in let q = s.owners d is in omega arith) knows s.knows;
       }
 
 -- ---- the slots

@@ -17,7 +17,7 @@ use Rattle.channel_wakeups.specs.declared.ring_stage.RingStage.{RingStage}
 use Rattle.channel_wakeups.specs.declared.ring_stage.RingStage.TheVariants as stage
 use Rattle.channel_wakeups.specs.declared.rule.Line.{Line}
 use Rattle.channel_wakeups.specs.declared.rule.Lines.{Lines}
-use Rattle.channel_wakeups.specs.declared.rule.Sight.TheVariants.{Shut, Seen, Drained}
+use Rattle.channel_wakeups.specs.declared.rule.Sight.TheVariants.{Shut, Ended, Seen, Drained}
 use Rattle.channel_wakeups.specs.declared.rule.Transfer.{Transfer}
 use Rattle.channel_wakeups.specs.declared.rule.Transfer.TheVariants.{In, Out, Saw}
 use Rattle.channel_wakeups.specs.declared.rule.Turn.TheVariants as turn
@@ -66,7 +66,7 @@ module _ {T W : Type 0} (table : TableId) where
       (over of_sends false stage.Over p (only_on of_sends (calling 0 h 0)) (log ++ Saw Seen ∷ []) c some_part st, logged false stage.Over p (only_on of_sends (calling 0 h 0)) (log ++ Saw Seen ∷ []) c st)
   leaves_push p a h log x r c some_part (shut unseen st) =
       subst (λ (g : RingStage). RingPushLeaves table p h log x (has_shut g) (reply.Push (Err (push_error.Closed x))) c.seat) (sym st.2)
-      (over of_receives false stage.Shut p (all_owing (no_place (sending a h 0))) (log ++ Saw Shut ∷ []) c some_part st, unseen, logged false stage.Shut p (all_owing (no_place (sending a h 0))) (log ++ Saw Shut ∷ []) c st)
+      (over of_receives false stage.Shut p (all_owing (no_place (sending a h 0))) (log ++ Saw Ended ∷ []) c some_part st, unseen, logged false stage.Shut p (all_owing (no_place (sending a h 0))) (log ++ Saw Ended ∷ []) c st)
 
   leaves_force : (p : ℕ) (log : List (Transfer T)) (x : T) (r : QueueReply T) (c : RingCells T W) → 0 < p → PushSays table p 0 0 log x Displace r c → RingForceLeaves table p log x (has_shut c.stage) r c.seat
   leaves_force p log x r c some_part (put_in {n = n} unseen put taken st) =
@@ -84,7 +84,7 @@ module _ {T W : Type 0} (table : TableId) where
       (over of_receives true stage.Over p idle_lines (log ++ Saw Seen ∷ []) c some_part st, logged true stage.Over p idle_lines (log ++ Saw Seen ∷ []) c st)
   leaves_force p log x r c some_part (shut unseen st) =
       subst (λ (g : RingStage). RingForceLeaves table p log x (has_shut g) (reply.Force (Err (force_error.Closed x))) c.seat) (sym st.2)
-      (over of_receives true stage.Shut p (all_owing idle_lines) (log ++ Saw Shut ∷ []) c some_part st, unseen, logged true stage.Shut p (all_owing idle_lines) (log ++ Saw Shut ∷ []) c st)
+      (over of_receives true stage.Shut p (all_owing idle_lines) (log ++ Saw Ended ∷ []) c some_part st, unseen, logged true stage.Shut p (all_owing idle_lines) (log ++ Saw Ended ∷ []) c st)
 
   leaves_pop : (s : Side) → (s ≡ of_receives) ⊎ (s ≡ of_streams) → (p a h : ℕ) (log : List (Transfer T)) (r : QueueReply T) (c : RingCells T W) → 0 < p → PopSays table p (only_on s (calling a h 0)) log r c → PopLeaves s table p h log r c.seat
   leaves_pop s which p a h log r c some_part (took {n} {x} there before st) =

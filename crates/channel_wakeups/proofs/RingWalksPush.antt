@@ -25,7 +25,7 @@ use Rattle.concurrent_queue.proofs.RingLater.{eq_self}
 use Rattle.channel_wakeups.specs.declared.ring_cells.RingCells.{RingCells}
 use Rattle.channel_wakeups.specs.declared.ring_stage.RingStage.TheVariants as stage
 use Rattle.channel_wakeups.specs.declared.rule.Lines.{Lines}
-use Rattle.channel_wakeups.specs.declared.rule.Sight.TheVariants.{Shut, Seen}
+use Rattle.channel_wakeups.specs.declared.rule.Sight.TheVariants.{Ended, Seen}
 use Rattle.channel_wakeups.specs.declared.rule.Transfer.{Transfer}
 use Rattle.channel_wakeups.specs.declared.rule.Transfer.TheVariants.{In, Out, Saw}
 use Rattle.channel_wakeups.specs.declared.rule.Turn.TheVariants as turn
@@ -49,7 +49,7 @@ sending a h f = only_on of_sends (line_of a h f 0 0)
 pub data PushAt {T W : Type 0} (table : TableId) (p a h : ℕ) (log : List (Transfer T)) (x : T) : WhenFull → CallState T → RingCells T W → Type 0 where
   asked : {k : WhenFull} {f : ℕ} {c : RingCells T W} → Stands table (displaces k) stage.Pushing (on_way turn.Rest p (sending a h f) log, []) c → PushAt table p a h log x k (Asked (ask_of k x)) c
   begins : {k : WhenFull} {f : ℕ} {c : RingCells T W} → Stands table (displaces k) stage.Pushing (on_way turn.Rest p (sending a h f) log, []) c → PushAt table p a h log x k (Ring (act.Push k x)) c
-  ended : {k : WhenFull} {c : RingCells T W} → Stands table (displaces k) stage.Ended (on_way turn.Rest p (sending a h 0) log, []) c → PushAt table p a h log x k (Ring (act.PushShut k x)) c
+  ended : {k : WhenFull} {n : ℕ} {c : RingCells T W} → Stands table (displaces k) stage.Ended (on_way (turn.Tailed n) p (sending a h 0) log, []) c → PushAt table p a h log x k (Ring (act.PushShut k x)) c
   tailed : {k : WhenFull} {n t : ℕ} {c : RingCells T W} → NotSeen log → Stands table (displaces k) (stage.Tailed t) (on_way (turn.Tailed n) p (sending a h 0) log, []) c → PushAt table p a h log x k (Ring (act.PushStamp k x t)) c
   ready : {k : WhenFull} {n t : ℕ} {c : RingCells T W} → NotSeen log → Stands table (displaces k) (stage.Ready t) (on_way (turn.Ready n) p (sending a h 0) log, []) c → PushAt table p a h log x k (Ring (act.PushSwap k x t)) c
   filling : {k : WhenFull} {n t i : ℕ} {y : Option T} {c : RingCells T W} → NotSeen log → PutBefore n log → TookBefore n log
@@ -76,7 +76,7 @@ pub data PushSays {T W : Type 0} (table : TableId) (p a h : ℕ) (log : List (Tr
       → Stands table true stage.Over (on_way turn.Rest p (won_ring_place (sending a h 0)) ((log ++ Out n y ∷ []) ++ In m x ∷ []), []) c → PushSays table p a h log x Displace (reply.Force (Ok (Some y))) c
   full : {c : RingCells T W} → NotSeen log → Stands table false stage.Over (on_way turn.Rest p (no_place (sending a h 0)) log, []) c → PushSays table p a h log x Refuse (reply.Push (Err (push_error.Full x))) c
   closed : {k : WhenFull} {c : RingCells T W} → Stands table (displaces k) stage.Over (on_way turn.Rest p (sending 0 h h) (log ++ Saw Seen ∷ []), []) c → PushSays table p a h log x k (shut_reply k x) c
-  shut : {k : WhenFull} {c : RingCells T W} → NotSeen log → Stands table (displaces k) stage.Shut (on_way turn.Rest p (all_owing (no_place (sending a h 0))) (log ++ Saw Shut ∷ []), []) c → PushSays table p a h log x k (shut_reply k x) c
+  shut : {k : WhenFull} {c : RingCells T W} → NotSeen log → Stands table (displaces k) stage.Shut (on_way turn.Rest p (all_owing (no_place (sending a h 0))) (log ++ Saw Ended ∷ []), []) c → PushSays table p a h log x k (shut_reply k x) c
 
 -- whether a stamp is that of the message of the lap before
 lap_there : (l t w u : ℕ) → l ≤ t → w ≡ u → (nat_le l t && w == u) ≡ true
@@ -118,22 +118,22 @@ module _ {T W : Type 0} (table : TableId) (several : 1 < table.slots) (limit : t
   sees_tail k f w c b s y st i j (inr (inl (unmarked, before, unseen, (n, went)))) g e =
       ends k b s y _ g (e ∙ (λ m. tail_goes k x w (unmarked m) (before m)))
       (tailed (of_me table (displaces k) (λ m. NotSeen m.0.log) _ _ c st unseen) (comes table (displaces k) (λ m. (came (turn.Tailed n) (seen_open_line m.0.calls) m.0.log m.0, [])) _ _ _ c b st i j went))
-  sees_tail k f w c b s y st i j (inr (inr (unmarked, at_end, unseen, went))) g e =
-      ends k b s y _ g (e ∙ (λ m. tail_goes k x w (unmarked m) (at_end m))) (ended (comes table (displaces k) (λ m. (came turn.Rest (seen_open_line m.0.calls) m.0.log m.0, [])) _ _ _ c b st i j went))
+  sees_tail k f w c b s y st i j (inr (inr (unmarked, at_end, unseen, (n, went)))) g e =
+      ends k b s y _ g (e ∙ (λ m. tail_goes k x w (unmarked m) (at_end m))) (ended (comes table (displaces k) (λ m. (came (turn.Tailed n) (seen_open_line m.0.calls) m.0.log m.0, [])) _ _ _ c b st i j went))
 
   reads_tail : (k : WhenFull) (f : ℕ) (c b : RingCells T W) (s : CallAnswer T) → Stands table (displaces k) stage.Pushing (on_way turn.Rest p (sending a h f) log, []) c → MakesRing RingDid table.slots c (act.Push k x) b s → Next k b s
   reads_tail k f c b s st (y, (w, did, e), g) = sees_tail k f w c b s y st did.0 did.1 ((did_here table (displaces k) (loaded Tail w) _ _ c b st did).0 st.2) g e
 
-  shuts : (k : WhenFull) (w : ℕ) (c b : RingCells T W) (s : CallAnswer T) (y : RingAnswer T) → Stands table (displaces k) stage.Ended (on_way turn.Rest p (sending a h 0) log, []) c → b.seat.table_id ≡ c.seat.table_id → b.displaces ≡ c.displaces
+  shuts : (k : WhenFull) (w n : ℕ) (c b : RingCells T W) (s : CallAnswer T) (y : RingAnswer T) → Stands table (displaces k) stage.Ended (on_way (turn.Tailed n) p (sending a h 0) log, []) c → b.seat.table_id ≡ c.seat.table_id → b.displaces ≡ c.displaces
       → EndMarked table.slots w c b → s ≡ in_ring y → y ≡ shut_goes k x (is_marked (ring_mark table.slots) w) → Next k b s
-  shuts k w c b s y st i j (inl (unmarked, unseen, went)) g e =
+  shuts k w n c b s y st i j (inl (unmarked, unseen, went)) g e =
       ends k b s y _ g (e ∙ (λ m. shut_goes k x (unmarked m)))
-      (shut (of_me table (displaces k) (λ m. NotSeen m.0.log) _ _ c st unseen) (comes table (displaces k) (λ m. (came turn.Rest (all_owing (no_place m.0.calls)) (m.0.log ++ Saw Shut ∷ []) m.0, [])) _ _ _ c b st i j went))
-  shuts k w c b s y st i j (inr (marked, went)) g e =
+      (shut (of_me table (displaces k) (λ m. NotSeen m.0.log) _ _ c st unseen) (comes table (displaces k) (λ m. (came turn.Rest (all_owing (no_place m.0.calls)) (m.0.log ++ Saw Ended ∷ []) m.0, [])) _ _ _ c b st i j went))
+  shuts k w n c b s y st i j (inr (marked, went)) g e =
       ends k b s y _ g (e ∙ (λ m. shut_goes k x (marked m))) (closed (comes table (displaces k) (λ m. (came turn.Rest (no_send_again m.0.calls) (m.0.log ++ Saw Seen ∷ []) m.0, [])) _ _ _ c b st i j went))
 
-  sets_mark : (k : WhenFull) (c b : RingCells T W) (s : CallAnswer T) → Stands table (displaces k) stage.Ended (on_way turn.Rest p (sending a h 0) log, []) c → MakesRing RingDid table.slots c (act.PushShut k x) b s → Next k b s
-  sets_mark k c b s st (y, (w, did, e), g) = shuts k w c b s y st did.0 did.1 ((did_here table (displaces k) (bits_set Tail (ring_mark table.slots) w) _ _ c b st did).1 st.2 refl) g e
+  sets_mark : (k : WhenFull) (n : ℕ) (c b : RingCells T W) (s : CallAnswer T) → Stands table (displaces k) stage.Ended (on_way (turn.Tailed n) p (sending a h 0) log, []) c → MakesRing RingDid table.slots c (act.PushShut k x) b s → Next k b s
+  sets_mark k n c b s st (y, (w, did, e), g) = shuts k w n c b s y st did.0 did.1 ((did_here table (displaces k) (bits_set Tail (ring_mark table.slots) w) _ _ c b st did).1 st.2 refl) g e
 
   -- it found the message of the lap before, and looks whether that is the oldest, or tries to take it
   falls_behind : (k : WhenFull) (n o : ℕ) (b : RingCells T W) → NotSeen log → Stands table (displaces k) (stage.Behind o) (on_way (turn.Behind n) p (sending a h 0) log, []) b → PushAt table p a h log x k (Ring (behind k x o)) b
@@ -227,7 +227,7 @@ module _ {T W : Type 0} (table : TableId) (several : 1 < table.slots) (limit : t
   push_goes k at c b s (asked {f = f} st) made =
       reads_tail k f c b s st (subst (λ (m : RingAction T). MakesRing RingDid table.slots c m b s) (starts k x) (makes_first table (displaces k) (ask_of k x) c b s several limit made))
   push_goes k at c b s (begins {f = f} st) made = reads_tail k f c b s st (makes table (displaces k) (act.Push k x) c b s limit made)
-  push_goes k at c b s (ended st) made = sets_mark k c b s st (makes table (displaces k) (act.PushShut k x) c b s limit made)
+  push_goes k at c b s (ended {n = n} st) made = sets_mark k n c b s st (makes table (displaces k) (act.PushShut k x) c b s limit made)
   push_goes k at c b s (tailed {n = n} {t = t} unseen st) made = reads_place k t n c b s unseen st (makes table (displaces k) (act.PushStamp k x t) c b s limit made)
   push_goes k at c b s (ready {n = n} {t = t} unseen st) made = moves_tail k t n c b s unseen st (makes table (displaces k) (act.PushSwap k x t) c b s limit made)
   push_goes k at c b s (filling {n = n} {t = t} {i = i} {y = y} unseen put took st) made = puts k t n i y c b s unseen put took st (makes table (displaces k) (act.PushPut k x t) c b s limit made)

@@ -14,10 +14,10 @@ use Rattle.channel_wakeups.specs.declared.rule.Transfer.{Transfer}
 use Rattle.channel_wakeups.specs.declared.rule.Transfer.TheVariants.{Saw}
 use Rattle.channel_wakeups.specs.declared.rule.Turn.{Turn}
 use Rattle.channel_wakeups.specs.declared.rule.View.{View}
-use Rattle.channel_wakeups.specs.Log.{numbered, PutBefore, TookBefore}
+use Rattle.channel_wakeups.specs.Log.{of_ended, numbered, PutBefore, TookBefore}
 use Rattle.channel_wakeups.specs.Lists.{total}
-use Rattle.channel_wakeups.specs.Views.{pass, turning, Knowing, AllKnow, owes_of, RingCells, RingSeats}
-use Rattle.channel_wakeups.proofs.Logs.{puts_append, takes_append}
+use Rattle.channel_wakeups.specs.Views.{at_number, pass, turning, Knowing, AllKnow, owes_of, RingCells, RingSeats}
+use Rattle.channel_wakeups.proofs.Logs.{puts_append, takes_append, ends_more}
 use Rattle.channel_wakeups.proofs.Sums.{total_set}
 use Rattle.channel_wakeups.proofs.Words.{index_other}
 
@@ -63,11 +63,11 @@ module _ {T W : Type 0} where
       seats_so cap r vs (set vs id u) (λ d. let t = total_set (owes_of cap d) vs id v u at in let e = same d in omega arith) (λ k. know_set cap r vs id u (know (know_at cap r vs id v at k)) k) s
 
   -- something was seen
-  pub seats_saw : (cap : ℕ) (r : Ring (Unit {0})) (vs : List (View T W)) (id p n o : ℕ) (l i : Lines) (m : Rolls W) (lg : List (Transfer T)) (e : Sight) (t : Turn) → get_elem? vs id ≡ some (turning t (pass p n l m lg)) → RingSeats cap r vs
+  pub seats_saw : (cap : ℕ) (r : Ring (Unit {0})) (vs : List (View T W)) (id p n o : ℕ) (l i : Lines) (m : Rolls W) (lg : List (Transfer T)) (e : Sight) (t : Turn) → of_ended e ≡ 0 → get_elem? vs id ≡ some (turning t (pass p n l m lg)) → RingSeats cap r vs
       → RingSeats cap r (set vs id (turning t (pass p o i m (lg ++ Saw e ∷ []))))
-  seats_saw cap r vs id p n o l i m lg e t at s =
+  seats_saw cap r vs id p n o l i m lg e t other at s =
       seats_set cap r vs id (turning t (pass p n l m lg)) (turning t (pass p o i m (lg ++ Saw e ∷ []))) at (λ d. refl)
-      (λ k some_part. let a = k some_part in (a.0, put_saw r.tail lg e a.1, took_saw r.head lg e a.2)) s
+      (λ k some_part. let a = k some_part in (a.0, put_saw r.tail lg e a.1, took_saw r.head lg e a.2, ends_more (at_number cap r.tail) lg (Saw e) (omega arith) a.3)) s
 
 -- a word is written that is none of the ring's
 pub cells_beside : {T : Type 0} (cap : ℕ) (words : List ℕ) (homes : List (home.Option (Option T))) (r : Ring (Unit {0})) (i n : ℕ) → (0 ≡ i → ⊥) → (48 ≡ i → ⊥) → i < 64 → RingCells cap words homes r → RingCells cap (slice_set words i n) homes r

@@ -13,13 +13,13 @@ use Rattle.channel_wakeups.specs.declared.rule.Roll.{Roll}
 use Rattle.channel_wakeups.specs.declared.rule.Rolls.{Rolls}
 use Rattle.channel_wakeups.specs.declared.rule.View.{View}
 use Rattle.channel_wakeups.specs.Lists.{total, told, waits, listed}
-use Rattle.channel_wakeups.specs.Views.{in_hand, Picture, at_word, Law, one_slot, Knowing, AllKnow, owes_of, Side, of_receives, of_sends, of_streams, of_closings, Duty, to_one, to_all, of, roll, idle, idle_lines, no_roll, no_rolls, with_roll, calling, ticketed, nobody, pass, everything, entered, stays, comes_out, without, alone, absorbed, kept_half, given_half, one_ticket, ticket_is, no_ticket, ticket_of, with_ticket, only, is_key, parts_of, here_of, answered_of, holds_of, sights_of, locks_of, owns_of, waits_of, listed_of, tickets_of, puts_of, takes_of, word_of, messages, has_message, is_shut, due, wanted, Owed, IsSlot, empty, full, out, AllAgree, Ordered, Kept, Counted, handed, count_of, handles_of, closes_of, Woken, Known, HasAll, learns}
+use Rattle.channel_wakeups.specs.Views.{in_hand, at_number, Picture, at_word, Law, one_slot, Knowing, AllKnow, owes_of, Side, of_receives, of_sends, of_streams, of_closings, Duty, to_one, to_all, of, roll, idle, idle_lines, no_roll, no_rolls, with_roll, calling, ticketed, nobody, pass, everything, entered, stays, comes_out, without, alone, absorbed, kept_half, given_half, one_ticket, ticket_is, no_ticket, ticket_of, with_ticket, only, is_key, parts_of, here_of, answered_of, holds_of, sights_of, locks_of, owns_of, waits_of, listed_of, tickets_of, puts_of, takes_of, word_of, messages, has_message, is_shut, due, wanted, Owed, IsSlot, empty, full, out, AllAgree, Ordered, Kept, Counted, handed, count_of, handles_of, closes_of, Woken, Known, HasAll, learns}
 use Rattle.channel_wakeups.proofs.Sides.{of_with, roll_with, idle_ticket, none_there, which, Untouched}
 use Rattle.channel_wakeups.proofs.Sums.{at_nobody, balanced_by, closings_by, only_none, only_some, only_zero, owed_by, slot_by, none_here, none_both, none_waits, none_listed, none_tickets, none_answered, others, was, total_set, total_snoc, by_itself}
 use Rattle.channel_wakeups.specs.Counts.{one_hand, fewer_hands, lone_handle, coupled, uncoupled}
 use Rattle.channel_wakeups.specs.Log.{Weight, numbered, PutBefore, TookBefore, puts, takes, sights, each, each_sight, raised_of, lowered_of, last_of, gone_of, Leaves, Tallied, Agrees, IsHistory, Balanced, Accounts, Closings}
 use Rattle.channel_wakeups.specs.declared.rule.Sight.{Sight}
-use Rattle.channel_wakeups.proofs.Logs.{puts_append, takes_append, sights_append}
+use Rattle.channel_wakeups.proofs.Logs.{puts_append, takes_append, sights_append, ends_both}
 use Rattle.channel_wakeups.proofs.Hands.{none_of, hands_with}
 use Rattle.channel_wakeups.proofs.Laws.{of_handed}
 use Rattle.channel_wakeups.proofs.History.{agrees_append, agrees_at, agrees_beside, agrees_set, agrees_snoc}
@@ -317,7 +317,7 @@ module _ {T W : Type 0} where
 
   pub absorbs : (id p port q : ℕ) (lg mg : List (Transfer T)) → 0 < p → 0 < q → Joins {S = Option T} Woken id (idle_pass p lg) port (idle_pass q mg) (absorbed (idle_pass p lg) (idle_pass q mg)) nobody
   absorbs id p port q lg mg sp sq = joins id (idle_pass p lg) port (idle_pass q mg) (absorbed (idle_pass p lg) (idle_pass q mg)) adds (λ g b c. agrees_append g lg mg b c)
-      (λ cap r b c some_part. let x = b sp in let y = c sq in ((true, refl), put_both r.tail lg mg x.1 y.1, took_both r.head lg mg x.2 y.2))
+      (λ cap r b c some_part. let x = b sp in let y = c sq in ((true, refl), put_both r.tail lg mg x.1 y.1, took_both r.head lg mg x.2 y.2, ends_both (at_number cap r.tail) lg mg x.3 y.3))
     where
       adds : (k : Sum T) → sum_of k (absorbed (idle_pass p lg) (idle_pass q mg)) ≡ sum_of k (idle_pass p lg) + sum_of k (idle_pass q mg)
       adds parts = refl
@@ -332,7 +332,7 @@ module _ {T W : Type 0} where
       adds (on s x) = omega (arith, nowhere W s x (p + q), nowhere W s x p, nowhere W s x q)
 
   pub shares : (id p : ℕ) (lg : List (Transfer T)) → 1 < p → Splits {S = Option T} Woken id (idle_pass p lg) (kept_half (idle_pass p lg)) (given_half (idle_pass p lg))
-  shares id p lg more = splits id (idle_pass p lg) (kept_half (idle_pass p lg)) (given_half (idle_pass p lg)) adds (λ g b. (b, tt)) (λ cap r b. let x = b (omega arith) in ((λ some_part. x), (λ some_part. ((true, refl), (λ j m. refl), (λ j m. refl)))))
+  shares id p lg more = splits id (idle_pass p lg) (kept_half (idle_pass p lg)) (given_half (idle_pass p lg)) adds (λ g b. (b, tt)) (λ cap r b. let x = b (omega arith) in ((λ some_part. x), (λ some_part. ((true, refl), (λ j m. refl), (λ j m. refl), (λ none. absurd (omega arith))))))
     where
       adds : (k : Sum T) → sum_of k (kept_half (idle_pass p lg)) + sum_of k (given_half (idle_pass p lg)) ≡ sum_of k (idle_pass p lg)
       adds parts = omega arith
@@ -425,7 +425,7 @@ module _ {T W : Type 0} where
 
   pub gives_ticket : (s : Side) (id : ℕ) (v : View T W) → 1 < v.parts → Splits {S = Option T} Woken id v (no_ticket s v) (ticket_of s v)
   gives_ticket s id v more =
-      splits id v (no_ticket s v) (ticket_of s v) (λ k. ticket_adds s v (v.parts - 1) v.parts (of s v.calls).ticket (omega arith) (omega arith) (omega arith) k ∙ ap (λ (u : View T W). sum_of k u) (as_it_is s v)) (λ g b. (b, tt)) (λ cap r b. let x = b (omega arith) in ((λ some_part. x), (λ some_part. ((true, refl), (λ j m. refl), (λ j m. refl)))))
+      splits id v (no_ticket s v) (ticket_of s v) (λ k. ticket_adds s v (v.parts - 1) v.parts (of s v.calls).ticket (omega arith) (omega arith) (omega arith) k ∙ ap (λ (u : View T W). sum_of k u) (as_it_is s v)) (λ g b. (b, tt)) (λ cap r b. let x = b (omega arith) in ((λ some_part. x), (λ some_part. ((true, refl), (λ j m. refl), (λ j m. refl), (λ none. absurd (omega arith))))))
 
   pub takes_ticket : (s : Side) (id : ℕ) (v : View T W) (port t : ℕ) → 0 < v.parts → (of s v.calls).ticket ≡ 0 → Joins {S = Option T} Woken id v port (one_ticket s t) (with_ticket s v (one_ticket s t)) nobody
   takes_ticket s id v port t some_part untied =

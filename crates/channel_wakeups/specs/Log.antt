@@ -1,11 +1,11 @@
 -- What passes put in and took out: each message with its number, from 0 on, in the order in which messages were accepted.
-use Rattle.std.specs.Prelude.{◌≡◌, ◌⊎◌, ℕ, zero, suc, ◌+◌, ◌-◌, ◌<◌, ◌≤◌, List, [], ◌∷◌, ◌++◌, length, Bool, true, cond, Option, None, Some}
+use Rattle.std.specs.Prelude.{◌≡◌, ◌⊎◌, ℕ, zero, suc, ◌+◌, ◌-◌, ◌^◌, ◌<◌, ◌≤◌, List, [], ◌∷◌, ◌++◌, length, Bool, true, cond, Option, None, Some}
 use mathlib.Core.Option as home
 use lib.ListN.{get_elem?}
 use Rattle.channel_wakeups.specs.declared.rule.Transfer.{Transfer}
 use Rattle.channel_wakeups.specs.declared.rule.Transfer.TheVariants.{In, Out, Saw}
 use Rattle.channel_wakeups.specs.declared.rule.Sight.{Sight}
-use Rattle.channel_wakeups.specs.declared.rule.Sight.TheVariants.{Shut, Seen, Drained, Raised, Lowered, Last, Gone, Crowded}
+use Rattle.channel_wakeups.specs.declared.rule.Sight.TheVariants.{Shut, Ended, Seen, Drained, Raised, Lowered, Last, Gone}
 use Rattle.channel_wakeups.specs.declared.rule.Kind.{Kind}
 use Rattle.channel_wakeups.specs.declared.rule.Kind.TheVariants.{OfSenders, OfReceivers}
 use Rattle.channel_wakeups.specs.Lists.{is_this}
@@ -18,84 +18,51 @@ Weight T = ℕ → T → ℕ
 abbrev pub Once : ℕ → ℕ → ℕ → Type 0
 Once n k count = (k < n → count ≡ 1) × (n ≤ k → count ≡ 0)
 
--- each sight of the closing weighs 1; that of the call that closed the channel alone; those without a message alone
+-- each sight of the closing weighs 1; that of the call that closed the channel alone, since positions ended or not; that of one that closed it
+-- since they ended alone; those without a message alone
 abbrev pub each_sight : Sight → ℕ
 each_sight Shut = 1
+each_sight Ended = 1
 each_sight Seen = 1
 each_sight Drained = 1
-each_sight (Raised j) = 0
-each_sight (Lowered j) = 0
-each_sight (Last j) = 0
-each_sight (Gone j) = 0
-each_sight (Crowded j) = 0
+each_sight _ = 0
 
 abbrev pub of_closer : Sight → ℕ
 of_closer Shut = 1
-of_closer Seen = 0
-of_closer Drained = 0
-of_closer (Raised j) = 0
-of_closer (Lowered j) = 0
-of_closer (Last j) = 0
-of_closer (Gone j) = 0
-of_closer (Crowded j) = 0
+of_closer Ended = 1
+of_closer _ = 0
+
+abbrev pub of_ended : Sight → ℕ
+of_ended Ended = 1
+of_ended _ = 0
 
 abbrev pub of_drained : Sight → ℕ
-of_drained Shut = 0
-of_drained Seen = 0
 of_drained Drained = 1
-of_drained (Raised j) = 0
-of_drained (Lowered j) = 0
-of_drained (Last j) = 0
-of_drained (Gone j) = 0
-of_drained (Crowded j) = 0
+of_drained _ = 0
 
 -- 1 where it is the same kind of handles
 abbrev pub same_kind : Kind → Kind → ℕ
 same_kind OfSenders OfSenders = 1
-same_kind OfSenders OfReceivers = 0
-same_kind OfReceivers OfSenders = 0
 same_kind OfReceivers OfReceivers = 1
+same_kind _ _ = 0
 
 -- of a kind of handles: each raising of its count weighs 1; each lowering; the lowering to none alone; each finding that there was none
 abbrev pub raised_of : Kind → Sight → ℕ
-raised_of k Shut = 0
-raised_of k Seen = 0
-raised_of k Drained = 0
 raised_of k (Raised j) = same_kind k j
-raised_of k (Lowered j) = 0
-raised_of k (Last j) = 0
-raised_of k (Gone j) = 0
-raised_of k (Crowded j) = 0
+raised_of k _ = 0
 
 abbrev pub lowered_of : Kind → Sight → ℕ
-lowered_of k Shut = 0
-lowered_of k Seen = 0
-lowered_of k Drained = 0
-lowered_of k (Raised j) = 0
 lowered_of k (Lowered j) = same_kind k j
 lowered_of k (Last j) = same_kind k j
-lowered_of k (Gone j) = 0
-lowered_of k (Crowded j) = 0
+lowered_of k _ = 0
 
 abbrev pub last_of : Kind → Sight → ℕ
-last_of k Shut = 0
-last_of k Seen = 0
-last_of k Drained = 0
-last_of k (Raised j) = 0
-last_of k (Lowered j) = 0
 last_of k (Last j) = same_kind k j
-last_of k (Gone j) = 0
-last_of k (Crowded j) = 0
+last_of k _ = 0
 
 abbrev pub gone_of : Kind → Sight → ℕ
-gone_of k Shut = 0
-gone_of k Seen = 0
-gone_of k Drained = 0
-gone_of k (Raised j) = 0
-gone_of k (Lowered j) = 0
-gone_of k (Last j) = 0
 gone_of k (Gone j) = same_kind k j
-gone_of k (Crowded j) = 0
+gone_of k _ = 0
 
 -- 1 where there is none
 abbrev pub is_none : ℕ → ℕ
@@ -199,6 +166,10 @@ module _ {T : Type 0} where
 
   abbrev pub NotDrained : List (Transfer T) → Type 0
   NotDrained log = sights of_drained log ≡ 0
+
+  -- where a call of this pass closed a ring since positions ended, they end at this tail: it lies beyond the last one
+  abbrev pub EndsAt : ℕ → List (Transfer T) → Type 0
+  EndsAt tail log = 0 < sights of_ended log → 2 ^ 61 < tail + 2
 
   -- this was seen, and nothing else was done
   abbrev pub HasSeen : Sight → List (Transfer T) → List (Transfer T) → Type 0

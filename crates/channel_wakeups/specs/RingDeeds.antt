@@ -35,7 +35,7 @@ module _ {T W : Type 0} where
       ⊎ (((is_marked (ring_mark cap) w ≡ false) × (nat_le (2 ^ 64 - 2 * ring_mark cap) w ≡ false) × NotSeen a.seat.me.0.log
       × ((n : ℕ) × Became (Tailed w) (came (turn.Tailed n) (seen_open_line a.seat.me.0.calls) a.seat.me.0.log a.seat.me.0, []) b))
       ⊎ ((is_marked (ring_mark cap) w ≡ false) × (nat_le (2 ^ 64 - 2 * ring_mark cap) w ≡ true) × NotSeen a.seat.me.0.log
-      × Became Ended (came turn.Rest (seen_open_line a.seat.me.0.calls) a.seat.me.0.log a.seat.me.0, []) b))
+      × ((n : ℕ) × Became Ended (came (turn.Tailed n) (seen_open_line a.seat.me.0.calls) a.seat.me.0.log a.seat.me.0, []) b)))
 
   -- the place is free; or the message of the lap before is there; or the tail has moved
   abbrev pub PlaceRead : ℕ → ℕ → ℕ → RingCells T W → RingCells T W → Type 0
@@ -123,7 +123,7 @@ module _ {T W : Type 0} where
   abbrev pub EndMarked : ℕ → ℕ → RingCells T W → RingCells T W → Type 0
   EndMarked cap w a b =
       ((is_marked (ring_mark cap) w ≡ false) × NotSeen a.seat.me.0.log
-      × Became Shut (came turn.Rest (all_owing (no_place a.seat.me.0.calls)) (a.seat.me.0.log ++ Saw saw.Shut ∷ []) a.seat.me.0, []) b)
+      × Became Shut (came turn.Rest (all_owing (no_place a.seat.me.0.calls)) (a.seat.me.0.log ++ Saw saw.Ended ∷ []) a.seat.me.0, []) b)
       ⊎ ((is_marked (ring_mark cap) w ≡ true) × Became Over (came turn.Rest (no_send_again a.seat.me.0.calls) (a.seat.me.0.log ++ Saw saw.Seen ∷ []) a.seat.me.0, []) b)
 
   abbrev pub TailAsked : ℕ → ℕ → RingCells T W → RingCells T W → Type 0

@@ -8,7 +8,7 @@ use Rattle.concurrent_queue.specs.declared.call.QueueReply.TheVariants as reply
 use Rattle.concurrent_queue.specs.declared.error.PushError.TheVariants as push_error
 use Rattle.concurrent_queue.specs.declared.error.ForcePushError.TheVariants as force_error
 use Rattle.channel_wakeups.specs.declared.rule.Lines.{Lines}
-use Rattle.channel_wakeups.specs.declared.rule.Sight.TheVariants.{Shut, Seen}
+use Rattle.channel_wakeups.specs.declared.rule.Sight.TheVariants.{Ended, Seen}
 use Rattle.channel_wakeups.specs.declared.rule.Transfer.{Transfer}
 use Rattle.channel_wakeups.specs.declared.rule.View.{View}
 use Rattle.channel_wakeups.specs.Calls.{to_others, to_streams}
@@ -28,12 +28,12 @@ module _ {T W : Type 0} where
   RingPushLeaves table parts holds log x false (reply.Push (Ok u)) s = IsPass of_receives table s parts (calling 1 0 0) (to_streams_holding holds) × NotSeen log × HasPut x log s.me.0.log
   RingPushLeaves table parts holds log x false (reply.Push (Err (push_error.Full y))) s = IsIdle table s parts × NotSeen log × (s.me.0.log ≡ log)
   RingPushLeaves table parts holds log x false (reply.Push (Err (push_error.Closed y))) s = IsCall of_sends table s parts 0 holds 0 × HasSeen Seen log s.me.0.log
-  RingPushLeaves table parts holds log x true (reply.Push (Err (push_error.Closed y))) s = IsPass of_receives table s parts (telling 1) to_others × NotSeen log × HasSeen Shut log s.me.0.log
+  RingPushLeaves table parts holds log x true (reply.Push (Err (push_error.Closed y))) s = IsPass of_receives table s parts (telling 1) to_others × NotSeen log × HasSeen Ended log s.me.0.log
   RingPushLeaves table parts holds log x shut _ s = ⊥
 
   -- the same of one that displaces, from an idle pass
   abbrev pub RingForceLeaves : TableId → ℕ → List (Transfer T) → T → Bool → QueueReply T → Seat (Option T) (View T W) → Type 0
   RingForceLeaves table parts log x false (reply.Force (Ok old)) s = IsPass of_receives table s parts (calling 1 0 0) to_streams × NotSeen log × Replaces old x log s.me.0.log
   RingForceLeaves table parts log x false (reply.Force (Err (force_error.Closed y))) s = IsIdle table s parts × HasSeen Seen log s.me.0.log
-  RingForceLeaves table parts log x true (reply.Force (Err (force_error.Closed y))) s = IsPass of_receives table s parts (telling 1) to_others × NotSeen log × HasSeen Shut log s.me.0.log
+  RingForceLeaves table parts log x true (reply.Force (Err (force_error.Closed y))) s = IsPass of_receives table s parts (telling 1) to_others × NotSeen log × HasSeen Ended log s.me.0.log
   RingForceLeaves table parts log x shut _ s = ⊥

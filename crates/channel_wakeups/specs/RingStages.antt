@@ -29,10 +29,15 @@ abbrev pub has_shut : RingStage → Bool
 has_shut stage.Shut = true
 has_shut _ = false
 
+-- a position that lies beyond the last one, and one that it is where it lies there
+abbrev pub beyond_last : ℕ → ℕ
+beyond_last p = 2 ^ 61 - 1 + (p - (2 ^ 61 - 1))
+
 -- ---- what a call is about at each stage, by the number of its turn: its turn, the position that it knows, and how many numbers lie before
--- the end of those that it needs
+-- the end of those that it needs. A push that found the tail where positions end knows of its position that it lies there
 
 abbrev pub turn_at : RingStage → ℕ → Turn
+turn_at stage.Ended n = Tailed n
 turn_at (stage.Tailed t) n = Tailed n
 turn_at (stage.Ready t) n = Ready n
 turn_at (stage.Behind c) n = Behind n
@@ -50,6 +55,7 @@ turn_at (stage.Emptied h) n = Emptying n
 turn_at _ n = Rest
 
 abbrev pub position_at : RingStage → ℕ → ℕ
+position_at stage.Ended p = beyond_last p
 position_at (stage.Tailed t) p = t
 position_at (stage.Ready t) p = t
 position_at (stage.Behind c) p = c

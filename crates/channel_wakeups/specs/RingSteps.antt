@@ -6,7 +6,7 @@ use prog.Atomic.{either}
 use Rattle.atomic_table.specs.Table.{Allows, opening}
 use Rattle.concurrent_queue.specs.machine.RingWords.{ring_mark, is_marked, unmarked, stride}
 use Rattle.channel_wakeups.specs.declared.rule.Lines.{Lines}
-use Rattle.channel_wakeups.specs.declared.rule.Sight.TheVariants.{Shut, Seen, Drained}
+use Rattle.channel_wakeups.specs.declared.rule.Sight.TheVariants.{Shut, Ended, Seen, Drained}
 use Rattle.channel_wakeups.specs.declared.rule.Transfer.TheVariants.{In, Out, Saw}
 use Rattle.channel_wakeups.specs.declared.rule.Turn.{Turn}
 use Rattle.channel_wakeups.specs.declared.rule.Turn.TheVariants.{Rest, Tailed, Ready, Behind, Filling, Coming, Displacing, Headed, Written, Vacant, Emptying}
@@ -73,13 +73,12 @@ module _ {T W : Type 0} where
 
   -- ---- what the call learns, from what was found: a push
 
-  -- the ring is closed; or it is open, and the call knows the tail; or it is open, and positions end there
+  -- the ring is closed; or it is open, and the call knows the tail, whether positions end there or not
   abbrev pub tail_read : ℕ → View T W → ℕ → Known T W → Type 0
   tail_read slots v found m =
       ((is_marked (ring_mark slots) found ≡ true) × (m ≡ (came Rest (no_send_again v.calls) (v.log ++ Saw Seen ∷ []) v, [])))
-      ⊎ (((is_marked (ring_mark slots) found ≡ false) × NotSeen v.log × (found + 2 ≤ 2 ^ 61)
-      × ((c : ℕ) × (found ≡ at_number slots c) × (c ≤ found) × (m ≡ (came (Tailed c) (seen_open_line v.calls) v.log v, []))))
-      ⊎ ((is_marked (ring_mark slots) found ≡ false) × NotSeen v.log × (2 ^ 61 < found + 2) × (m ≡ (came Rest (seen_open_line v.calls) v.log v, []))))
+      ⊎ ((is_marked (ring_mark slots) found ≡ false) × NotSeen v.log
+      × ((c : ℕ) × (found ≡ at_number slots c) × (c ≤ found) × (c ≤ 2 ^ 61) × (m ≡ (came (Tailed c) (seen_open_line v.calls) v.log v, []))))
 
   -- the place is free; or the message of the lap before is there; or the tail has moved
   abbrev pub place_read : ℕ → ℕ → View T W → ℕ → Known T W → Type 0
@@ -147,11 +146,11 @@ module _ {T W : Type 0} where
       ((is_marked (ring_mark slots) found ≡ false) × NotSeen v.log × (m ≡ (came Rest (all_owing v.calls) (v.log ++ Saw Shut ∷ []) v, [])))
       ⊎ ((is_marked (ring_mark slots) found ≡ true) × (m ≡ (came Rest (settled v.calls) (v.log ++ Saw Seen ∷ []) v, [])))
 
-  -- the same of a push that found the tail where positions end: it has no listener in hand where it closed the ring, since it has to tell
-  -- all, and the one that it had first where it found it closed
+  -- the same of a push that found the tail where positions end, where it lies still: it has no listener in hand where it closed the ring,
+  -- since it has to tell all, and the one that it had first where it found it closed
   abbrev pub end_marked : ℕ → View T W → ℕ → Known T W → Type 0
   end_marked slots v found m =
-      ((is_marked (ring_mark slots) found ≡ false) × NotSeen v.log × (m ≡ (came Rest (all_owing (no_place v.calls)) (v.log ++ Saw Shut ∷ []) v, [])))
+      ((is_marked (ring_mark slots) found ≡ false) × (2 ^ 61 < found + 2) × NotSeen v.log × (m ≡ (came Rest (all_owing (no_place v.calls)) (v.log ++ Saw Ended ∷ []) v, [])))
       ⊎ ((is_marked (ring_mark slots) found ≡ true) × (m ≡ (came Rest (no_send_again v.calls) (v.log ++ Saw Seen ∷ []) v, [])))
 
   -- ---- a question whether the ring is closed: it is open, so the call leaves its listener behind; or it is closed
@@ -216,7 +215,8 @@ CloseSetsMark T W = (slots : ℕ) (v : View T W) → Keeps slots v Rest [] tail_
 
 -- of a push that found the tail where positions end
 abbrev pub EndSetsMark : Type 0 → Type 0 → Type 0
-EndSetsMark T W = (slots : ℕ) (v : View T W) → (v.calls.sends.holds ≡ v.calls.sends.fresh) ⊎ (v.calls.sends.fresh ≡ 0) → Keeps slots v Rest [] tail_word (λ found. bit_or found (ring_mark slots)) (end_marked slots v)
+EndSetsMark T W = (slots n : ℕ) (v : View T W) → (v.calls.sends.holds ≡ v.calls.sends.fresh) ⊎ (v.calls.sends.fresh ≡ 0) → 2 ^ 61 < at_number slots n + 2
+    → Keeps slots v (Tailed n) [] tail_word (λ found. bit_or found (ring_mark slots)) (end_marked slots v)
 
 -- ---- of a question whether the ring is closed
 

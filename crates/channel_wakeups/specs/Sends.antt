@@ -9,15 +9,15 @@ use Rattle.channel_wakeups.specs.declared.polled.Blocked.{Blocked}
 use Rattle.channel_wakeups.specs.declared.polled.Blocked.TheVariants as blocked
 use Rattle.channel_wakeups.specs.declared.polled.Offered.{Offered}
 use Rattle.channel_wakeups.specs.declared.polled.Offered.TheVariants as offered
-use Rattle.channel_wakeups.specs.declared.rule.Sight.TheVariants.{Shut, Seen}
+use Rattle.channel_wakeups.specs.declared.rule.Sight.TheVariants.{Ended, Seen}
 use Rattle.channel_wakeups.specs.declared.rule.Transfer.{Transfer}
 use Rattle.channel_wakeups.specs.Log.{HasPut, HasSeen, NotSeen, Replaces}
 
 module _ {T : Type 0} where
-  -- the channel was found closed; or, where positions may end, this call closed it, as the first
+  -- the channel was found closed; or, where positions may end, this call closed it, as the first, and since they ended
   abbrev pub FoundShut : Bool → List (Transfer T) → List (Transfer T) → Type 0
   FoundShut false log after = HasSeen Seen log after
-  FoundShut true log after = HasSeen Seen log after ⊎ (NotSeen log × HasSeen Shut log after)
+  FoundShut true log after = HasSeen Seen log after ⊎ (NotSeen log × HasSeen Ended log after)
 
   -- what is accepted was put in, and nothing else; what the full queue, or the closed channel, refused is handed back
   abbrev pub SentIn : Bool → T → Result Unit (PushError T) → List (Transfer T) → List (Transfer T) → Type 0

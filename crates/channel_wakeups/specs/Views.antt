@@ -27,7 +27,11 @@ use Rattle.concurrent_queue.specs.machine.RingWords.{ring_mark}
 use Rattle.channel_wakeups.specs.declared.rule.Turn.{Turn}
 use Rattle.channel_wakeups.specs.declared.rule.Turn.TheVariants.{Rest}
 use Rattle.channel_wakeups.specs.Turns.{Knows, owed_by_turn}
-use Rattle.channel_wakeups.specs.Log.{Weight, puts, takes, sights, each, each_sight, raised_of, lowered_of, last_of, gone_of, is_none, Tallied, Agrees, IsHistory, Balanced, Accounts, PutBefore, TookBefore, Closings, NotSeen, NotDrained}
+use Rattle.channel_wakeups.specs.Log.{Weight, puts, takes, sights, each, each_sight, raised_of, lowered_of, last_of, gone_of, is_none, Tallied, Agrees, IsHistory, Balanced, Accounts, PutBefore, TookBefore, Closings, NotSeen, NotDrained, EndsAt}
+
+-- where a number lies in a ring: its position, as the words have it
+abbrev pub at_number : ℕ → ℕ → ℕ
+at_number cap n = pos cap (2 * ring_mark cap) n
 
 abbrev pub no_table : TableId
 no_table = record { words = 0; slots = 0; views_name = 0; atom = 0; block = 0; offset = 0; slot_names = [] }
@@ -340,9 +344,9 @@ module _ {T W : Type 0} where
   abbrev pub owes_of : ℕ → ring.Duty → View T W → ℕ
   owes_of cap d v = only v.parts (owed_by_turn cap d v.turn)
 
-  -- what it knows of a ring, and that all it put in and took out came before
+  -- what it knows of a ring, that all it put in and took out came before, and that positions end at the tail, if it closed the ring for that
   abbrev pub Knowing : ℕ → Ring (Unit {0}) → View T W → Type 0
-  Knowing cap r v = 0 < v.parts → Knows cap r v.turn × PutBefore r.tail v.log × TookBefore r.head v.log
+  Knowing cap r v = 0 < v.parts → Knows cap r v.turn × PutBefore r.tail v.log × TookBefore r.head v.log × EndsAt (at_number cap r.tail) v.log
 
   abbrev pub AllKnow : ℕ → Ring (Unit {0}) → List (View T W) → Type 0
   AllKnow cap r [] = Unit {0}
@@ -477,9 +481,6 @@ HasAll s v = (v.parts ≡ 1024) × ((roll s v.rolls).here ≡ 1) × ((of s v.cal
 abbrev pub IsHome : {T : Type 0} → Bool → Bool → home.Option (home.Option (Option T)) → Type 0
 IsHome true has h = h ≡ home.some home.none
 IsHome {T = T} false has h = (x : Option T) × (h ≡ home.some (home.some x)) × (is_some x ≡ has)
-
-abbrev pub at_number : ℕ → ℕ → ℕ
-at_number cap n = pos cap (2 * ring_mark cap) n
 
 pub record RingCells {T : Type 0} (cap : ℕ) (words : List ℕ) (homes : List (home.Option (Option T))) (r : Ring (Unit {0})) : Type 0 where
   pub size : length homes ≡ cap

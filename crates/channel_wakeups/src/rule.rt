@@ -155,10 +155,12 @@ impl<W> Aim<W> for Brand {
     ghost listeners = { [] };
 }
 
-/// What a pass saw of the closing: its own call closed the channel, or found it closed, or found it closed and without a message. And what
-/// it did to a count of handles: it raised it, or lowered it, or lowered it to none; or it found none, or too many.
+/// What a pass saw of the closing: its own call closed the channel, or closed it since the positions of a ring ended, or found it closed, or
+/// found it closed and without a message. And what it did to a count of handles: it raised it, or lowered it, or lowered it to none; or it
+/// found none, or too many.
 pub enum Sight {
     Shut,
+    Ended,
     Seen,
     Drained,
     Raised(Kind),

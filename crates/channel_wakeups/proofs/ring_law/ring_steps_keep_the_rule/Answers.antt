@@ -22,7 +22,7 @@ returns g c = record {
   pop_moves_head = λ slots n v one several parts id. swaps_head slots id v.parts n v.calls v.rolls v.log parts several one;
   pop_stores_stamp = λ slots n v several parts id. stores_place slots id v.parts n v.calls v.rolls v.log parts several;
   close_sets_mark = λ slots v several parts id. shuts_ring slots id v.parts v.calls v.rolls v.log parts several;
-  end_sets_mark = λ slots v in_hand several parts id. ends_ring slots id v.parts v.calls v.rolls v.log parts several in_hand;
+  end_sets_mark = λ slots n v in_hand late several parts id. ends_ring slots id v.parts v.calls v.rolls v.log parts several n in_hand late;
   ask_reads_tail = λ slots v several parts id. asks_ring slots id v.parts v.calls v.rolls v.log parts several;
   new_ring_holds = λ cap words slots two limit new. begins_ring cap two limit words slots new.size new.wide new.head new.senders new.receivers new.tail new.stamps new.empty;
 }
