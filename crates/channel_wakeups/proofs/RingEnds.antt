@@ -22,7 +22,7 @@ use Rattle.channel_wakeups.specs.declared.rule.Turn.{Turn}
 use Rattle.channel_wakeups.specs.declared.rule.Turn.TheVariants.{Rest, Tailed}
 use Rattle.channel_wakeups.specs.declared.rule.View.{View}
 use Rattle.channel_wakeups.specs.Lists.{total}
-use Rattle.channel_wakeups.specs.Log.{Closings, NotSeen, of_closer, of_drained}
+use Rattle.channel_wakeups.specs.Log.{IsBeyond, Closings, NotSeen, of_closer, of_drained}
 use Rattle.channel_wakeups.specs.RingSteps.{end_marked, tail_asked, no_send_again}
 use Rattle.channel_wakeups.specs.Turns.{action_of}
 use Rattle.channel_wakeups.specs.Views.{Side, of_receives, of_sends, of_streams, of_closings, Duty, to_one, to_all, count_of, all_owing, no_place, still_open, found_closed, only, sights_of, pass, turning, picture, at_number, of_ring, RingCells, Ringed, Knowing, Woken, Known}
@@ -93,7 +93,7 @@ module _ {T W : Type 0} (slots id p : ℕ) (l : Lines) (m : Rolls W) (lg : List 
 
   -- ---- a push that found the tail where positions end closes the ring
 
-  module _ (n : ℕ) (late : 2 ^ 61 < at_number slots n + 2) (words : List ℕ) (homes : List (home.Option (Option T))) (r : Ring (Unit {0})) (views : List (View T W)) (h : Ringed slots words homes r views) (at : get_elem? views id ≡ some (call (Tailed n))) where
+  module _ (n : ℕ) (late : IsBeyond (at_number slots n)) (words : List ℕ) (homes : List (home.Option (Option T))) (r : Ring (Unit {0})) (views : List (View T W)) (h : Ringed slots words homes r views) (at : get_elem? views id ≡ some (call (Tailed n))) where
     abbrev shut_ring : Ring (Unit {0})
     shut_ring = record r { closed = true }
 
@@ -101,7 +101,7 @@ module _ {T W : Type 0} (slots id p : ℕ) (l : Lines) (m : Rolls W) (lg : List 
     ended = turning Rest (pass p 0 (all_owing (no_place l)) m (lg ++ Saw Ended ∷ []))
 
     -- the tail lies there still, since it only grows
-    ends_here : 2 ^ 61 < at_number slots r.tail + 2
+    ends_here : IsBeyond (at_number slots r.tail)
     ends_here = let k = know_at slots r views id (call (Tailed n)) at h.seats.knows some_part in let z = in_order slots n r.tail (omega (arith, several)) h.seats.limit k.0.2.0 in omega arith
 
     closes_first : r.closed ≡ false → RingOutcome 48 marks HasEnded (call (Tailed n), []) id words homes slots views
@@ -159,7 +159,7 @@ module _ {T W : Type 0} (slots id p : ℕ) (l : Lines) (m : Rolls W) (lg : List 
     ends_by in_hand_so true e = closed_before in_hand_so e
     ends_by in_hand_so false e = closes_first e
 
-  pub ends_ring : (n : ℕ) → (l.sends.holds ≡ l.sends.fresh) ⊎ (l.sends.fresh ≡ 0) → 2 ^ 61 < at_number slots n + 2 → Allows Woken slots id (call (Tailed n), []) 48 marks HasEnded
+  pub ends_ring : (n : ℕ) → (l.sends.holds ≡ l.sends.fresh) ⊎ (l.sends.fresh ≡ 0) → IsBeyond (at_number slots n) → Allows Woken slots id (call (Tailed n), []) 48 marks HasEnded
   ends_ring n in_hand_so late = by_ring 48 marks HasEnded slots id (call (Tailed n), []) (λ e. absurd (omega arith)) (λ e. absurd (omega arith)) several (λ words homes r views h at. ends_by n late words homes r views h at in_hand_so r.closed refl)
 
   -- ---- a question whether the ring is closed

@@ -16,6 +16,7 @@ use Rattle.channel_wakeups.specs.declared.ring_stage.RingStage.TheVariants as st
 use Rattle.channel_wakeups.specs.declared.rule.Turn.{Turn}
 use Rattle.channel_wakeups.specs.declared.rule.Turn.TheVariants.{Rest, Tailed, Ready, Behind, Filling, Coming, Displacing, Headed, Written, Vacant, Emptying}
 use Rattle.channel_wakeups.specs.declared.rule.View.{View}
+use Rattle.channel_wakeups.specs.Log.{IsBeyond}
 use Rattle.channel_wakeups.specs.RingStages.{number_of, beyond_last, position_at, one_slot, full_slot, held_first, IsRingAt, place_found, message_found, gave_back, passed}
 use Rattle.channel_wakeups.specs.RingSteps.{at_turn, tail_read, place_read, full_read, tail_moved, oldest_won, head_read, message_read, end_read, head_moved, mark_set, end_marked, tail_asked}
 use Rattle.channel_wakeups.specs.Views.{at_number, Known, Woken}
@@ -244,7 +245,7 @@ module _ {T W : Type 0} (slots id : ℕ) (several : 1 < slots) (low : slots ≤ 
     marks_end s k e i f =
         let h = stands s stage.Ended e i in
         let beyond : beyond_last (at_number slots (number_of m.0.turn)) ≡ at_number slots (number_of m.0.turn) = h.3 in
-        let late : 2 ^ 61 < at_number slots (number_of m.0.turn) + 2 = omega arith in
+        let late : IsBeyond (at_number slots (number_of m.0.turn)) = omega arith in
         subst (λ (v : ℕ). Allows Woken slots id m 48 (λ x. bit_or x v) (λ found after. end_marked slots m.0 found after)) (sym f)
         (subst (λ (y : Known T W). Allows Woken slots id y 48 (λ x. bit_or x (ring_mark slots)) (λ found after. end_marked slots y.0 found after)) (sym (is_so (Tailed (number_of m.0.turn)) [] h.1 h.2))
         (ends_ring slots id m.0.parts m.0.calls m.0.rolls m.0.log h.0 several (number_of m.0.turn) (in_hand_so m.0.calls.sends.holds m.0.calls.sends.fresh h.7) late))

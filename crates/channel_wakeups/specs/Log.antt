@@ -18,8 +18,8 @@ Weight T = ℕ → T → ℕ
 abbrev pub Once : ℕ → ℕ → ℕ → Type 0
 Once n k count = (k < n → count ≡ 1) × (n ≤ k → count ≡ 0)
 
--- each sight of the closing weighs 1; that of the call that closed the channel alone, since positions ended or not; that of one that closed it
--- since they ended alone; those without a message alone
+-- each sight of the closing weighs 1; that of the call that closed the channel alone, for whatever cause; that of one that closed it since
+-- positions ended alone; those without a message alone
 abbrev pub each_sight : Sight → ℕ
 each_sight Shut = 1
 each_sight Ended = 1
@@ -63,6 +63,10 @@ last_of k _ = 0
 abbrev pub gone_of : Kind → Sight → ℕ
 gone_of k (Gone j) = same_kind k j
 gone_of k _ = 0
+
+-- a position of a ring that lies beyond the last one
+abbrev pub IsBeyond : ℕ → Type 0
+IsBeyond position = 2 ^ 61 < position + 2
 
 -- 1 where there is none
 abbrev pub is_none : ℕ → ℕ
@@ -167,9 +171,9 @@ module _ {T : Type 0} where
   abbrev pub NotDrained : List (Transfer T) → Type 0
   NotDrained log = sights of_drained log ≡ 0
 
-  -- where a call of this pass closed a ring since positions ended, they end at this tail: it lies beyond the last one
+  -- where a call of this pass closed a ring since positions ended, they end at this tail
   abbrev pub EndsAt : ℕ → List (Transfer T) → Type 0
-  EndsAt tail log = 0 < sights of_ended log → 2 ^ 61 < tail + 2
+  EndsAt tail log = 0 < sights of_ended log → IsBeyond tail
 
   -- this was seen, and nothing else was done
   abbrev pub HasSeen : Sight → List (Transfer T) → List (Transfer T) → Type 0

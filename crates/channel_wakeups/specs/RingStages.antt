@@ -29,7 +29,7 @@ abbrev pub has_shut : RingStage → Bool
 has_shut stage.Shut = true
 has_shut _ = false
 
--- a position that lies beyond the last one, and one that it is where it lies there
+-- the position where it lies beyond the last one, else the first that does
 abbrev pub beyond_last : ℕ → ℕ
 beyond_last p = 2 ^ 61 - 1 + (p - (2 ^ 61 - 1))
 

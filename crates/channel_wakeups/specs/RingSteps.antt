@@ -11,7 +11,7 @@ use Rattle.channel_wakeups.specs.declared.rule.Transfer.TheVariants.{In, Out, Sa
 use Rattle.channel_wakeups.specs.declared.rule.Turn.{Turn}
 use Rattle.channel_wakeups.specs.declared.rule.Turn.TheVariants.{Rest, Tailed, Ready, Behind, Filling, Coming, Displacing, Headed, Written, Vacant, Emptying}
 use Rattle.channel_wakeups.specs.declared.rule.View.{View}
-use Rattle.channel_wakeups.specs.Log.{PutBefore, TookBefore, NotSeen, NotDrained}
+use Rattle.channel_wakeups.specs.Log.{IsBeyond, PutBefore, TookBefore, NotSeen, NotDrained}
 use Rattle.channel_wakeups.specs.Views.{of_sends, with_line, lines_with, answering, resolved, owing, call_line, seen_open, no_place, won_message, no_message, no_more, settled, all_owing, still_open, found_closed, everything, came, at_number, Known, Woken}
 
 -- ---- the words: the head, the tail, and the stamp of the place for a number
@@ -150,7 +150,7 @@ module _ {T W : Type 0} where
   -- since it has to tell all, and the one that it had first where it found it closed
   abbrev pub end_marked : ℕ → View T W → ℕ → Known T W → Type 0
   end_marked slots v found m =
-      ((is_marked (ring_mark slots) found ≡ false) × (2 ^ 61 < found + 2) × NotSeen v.log × (m ≡ (came Rest (all_owing (no_place v.calls)) (v.log ++ Saw Ended ∷ []) v, [])))
+      ((is_marked (ring_mark slots) found ≡ false) × IsBeyond found × NotSeen v.log × (m ≡ (came Rest (all_owing (no_place v.calls)) (v.log ++ Saw Ended ∷ []) v, [])))
       ⊎ ((is_marked (ring_mark slots) found ≡ true) × (m ≡ (came Rest (no_send_again v.calls) (v.log ++ Saw Seen ∷ []) v, [])))
 
   -- ---- a question whether the ring is closed: it is open, so the call leaves its listener behind; or it is closed
@@ -215,7 +215,7 @@ CloseSetsMark T W = (slots : ℕ) (v : View T W) → Keeps slots v Rest [] tail_
 
 -- of a push that found the tail where positions end
 abbrev pub EndSetsMark : Type 0 → Type 0 → Type 0
-EndSetsMark T W = (slots n : ℕ) (v : View T W) → (v.calls.sends.holds ≡ v.calls.sends.fresh) ⊎ (v.calls.sends.fresh ≡ 0) → 2 ^ 61 < at_number slots n + 2
+EndSetsMark T W = (slots n : ℕ) (v : View T W) → (v.calls.sends.holds ≡ v.calls.sends.fresh) ⊎ (v.calls.sends.fresh ≡ 0) → IsBeyond (at_number slots n)
     → Keeps slots v (Tailed n) [] tail_word (λ found. bit_or found (ring_mark slots)) (end_marked slots v)
 
 -- ---- of a question whether the ring is closed
