@@ -1,8 +1,11 @@
 //! Rings of two places and of three.
 
-ghost use Rattle.std.specs.Prelude.{◌≡◌, ◌<◌};
+ghost use Rattle.std.specs.Prelude.{◌≡◌, ◌⊎◌, ◌<◌, true};
+ghost use Rattle.channel_wakeups.specs.Log.{HasSeen};
+ghost use Rattle.channel_wakeups.specs.declared.rule.Sight.TheVariants.{Ended, Seen};
 
 use channel_wakeups::{OpenedRing, Pass, Polled, Receive, RingChannel, Room, Unopened};
+use concurrent_queue::PushError;
 use std::alloc::Global;
 use std::marker::Brand;
 use std::sync::Wait;
@@ -17,6 +20,22 @@ fn is_sent<B: Room, R: Wait>(
     ensures { pass.new.parts ≡ pass.old.parts }
 {
     channel.try_send(rt, pass, number).is_ok()
+}
+
+/// Sends this number: whether the ring is closed. Where it is, the log of the pass tells why: it was found so, or its positions ended.
+fn is_refused<B: Room, R: Wait>(
+    rt: &R,
+    channel: &RingChannel<u64, (), B>,
+    pass: &mut Pass<u64, (), B>,
+    number: u64,
+) -> bool
+    ensures parts { pass.new.parts ≡ pass.old.parts }
+    ensures why { result ≡ true → HasSeen Seen pass.old.log pass.new.log ⊎ HasSeen Ended pass.old.log pass.new.log }
+{
+    match channel.try_send(rt, pass, number) {
+        Err(PushError::Closed(_)) => true,
+        _ => false,
+    }
 }
 
 /// Polls a receive that ends or is given up: the message, if there is one.
@@ -48,7 +67,7 @@ pub struct Turned {
     pub displaced: Option<u64>,
     /// All that was left, oldest first.
     pub left: [Option<u64>; 4],
-    /// Whether the close was the first, and whether a send after it was accepted.
+    /// Whether the close was the first, and whether a send after it was refused since the ring is closed.
     pub closed: [bool; 2],
 }
 
@@ -69,7 +88,7 @@ fn turn_in<B: Room, R: Wait>(rt: &R, opened: OpenedRing<u64, ()>) -> Turned
         Err(_) => None,
     };
     let was_open = channel.close(rt, &mut pass);
-    let closed = [was_open, is_sent(rt, &channel, &mut pass, 7)];
+    let closed = [was_open, is_refused(rt, &channel, &mut pass, 7)];
     let left = [
         received(rt, &channel, &mut pass),
         received(rt, &channel, &mut pass),

@@ -189,7 +189,7 @@ fn a_ring_of_two_turns(rt: HostRuntime) {
         first: Some(1),
         displaced: Some(2),
         left: [Some(5), Some(6), None, None],
-        closed: [true, false],
+        closed: [true, true],
     };
     assert_eq!(rt; turn(&rt, rt.alloc(), 2), Ok(expected));
 }
@@ -202,7 +202,7 @@ fn a_ring_of_three_turns(rt: HostRuntime) {
         first: Some(1),
         displaced: Some(2),
         left: [Some(3), Some(5), Some(6), None],
-        closed: [true, false],
+        closed: [true, true],
     };
     assert_eq!(rt; turn(&rt, rt.alloc(), 3), Ok(expected));
 }
