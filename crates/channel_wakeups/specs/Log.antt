@@ -169,6 +169,22 @@ module _ {T : Type 0} where
   Accounts slot log =
       Balanced (home.some slot) (λ f. puts f log) (λ f. takes f log) × ((history : List T) × IsHistory (home.some slot) (puts each log) history × Agrees history log)
 
+  -- the same of a history that may have no message for a number yet
+  abbrev pub IsRecorded : (ℕ → home.Option T) → Transfer T → Type 0
+  IsRecorded history (In k x) = history k ≡ home.some x
+  IsRecorded history (Out k x) = history k ≡ home.some x
+  IsRecorded history (Saw s) = Unit {0}
+
+  abbrev pub AreRecorded : (ℕ → home.Option T) → List (Transfer T) → Type 0
+  AreRecorded history [] = Unit {0}
+  AreRecorded history (e ∷ l) = IsRecorded history e × AreRecorded history l
+
+  -- THE ACCOUNT: what was taken out, followed by what is held, is all that was put in, in order: each was put in once, under its number, and
+  -- each that left was taken out once
+  abbrev pub Accounted : List T → List (Transfer T) → Type 0
+  Accounted contents log =
+      (left : List T) × Agrees (left ++ contents) log × ((k : ℕ) → Once (length (left ++ contents)) k (puts (numbered k) log)) × ((k : ℕ) → Once (length left) k (takes (numbered k) log))
+
   -- the log has taken no message with this number or a later one
   abbrev pub TookBefore : ℕ → List (Transfer T) → Type 0
   TookBefore k log = (j : ℕ) → k ≤ j → takes (numbered j) log ≡ 0

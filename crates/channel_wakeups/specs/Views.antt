@@ -26,8 +26,8 @@ use Rattle.concurrent_queue.specs.machine.RingState.{Ring, SoundRing, busy, reac
 use Rattle.concurrent_queue.specs.machine.RingWords.{ring_mark}
 use Rattle.channel_wakeups.specs.declared.rule.Turn.{Turn}
 use Rattle.channel_wakeups.specs.declared.rule.Turn.TheVariants.{Rest}
-use Rattle.channel_wakeups.specs.Turns.{Knows, owed_by_turn}
-use Rattle.channel_wakeups.specs.Log.{Weight, puts, takes, sights, each, each_sight, raised_of, lowered_of, last_of, gone_of, is_none, Tallied, Agrees, IsHistory, Balanced, Accounts, PutBefore, TookBefore, Closings, NotSeen, NotDrained}
+use Rattle.channel_wakeups.specs.Turns.{Knows, owed_by_turn, bringing}
+use Rattle.channel_wakeups.specs.Log.{Weight, puts, takes, sights, each, numbered, Once, AreRecorded, each_sight, raised_of, lowered_of, last_of, gone_of, is_none, Tallied, Agrees, IsHistory, Balanced, Accounts, PutBefore, TookBefore, Closings, NotSeen, NotDrained}
 
 abbrev pub no_table : TableId
 no_table = record { words = 0; slots = 0; views_name = 0; atom = 0; block = 0; offset = 0; slot_names = [] }
@@ -353,6 +353,15 @@ module _ {T W : Type 0} where
   AllAgree history [] = Unit {0}
   AllAgree history (v ∷ vs) = Agrees history v.log × AllAgree history vs
 
+  -- the same of a history that may have no message for a number yet
+  abbrev pub AllRecorded : (ℕ → home.Option T) → List (View T W) → Type 0
+  AllRecorded history [] = Unit {0}
+  AllRecorded history (v ∷ vs) = AreRecorded history v.log × AllRecorded history vs
+
+  -- whether its call has the message of this number in a ring, or on its way in
+  abbrev pub brings_of : ℕ → ℕ → View T W → ℕ
+  brings_of cap k v = only v.parts (puts (numbered k) v.log + bringing cap k v.turn)
+
   -- THE ORDER: there is one history of all that was accepted, with which all logs agree
   abbrev pub Ordered : home.Option (Option T) → List (View T W) → Type 0
   Ordered slot views = (history : List T) × IsHistory slot (total (puts_of each) views) history × AllAgree history views
@@ -498,6 +507,16 @@ pub record RingSeats {T W : Type 0} (cap : ℕ) (r : Ring (Unit {0})) (views : L
   pub owners : (d : ring.Duty) → IsDuty cap d → total (owes_of cap d) views ≡ owed r d
   pub knows : AllKnow cap r views
 
+-- THE HISTORY OF A RING. It may have no message for a number yet, since some are on their way in. All logs agree with it, and so does each slot
+-- that is in place with a message, by the number of its round. Each number below the head was taken out once. Each below the tail was put in
+-- once, or is on its way in
+pub record RingHistory {T W : Type 0} (cap : ℕ) (homes : List (home.Option (Option T))) (r : Ring (Unit {0})) (views : List (View T W)) : Type 0 where
+  pub history : ℕ → home.Option T
+  pub logs : AllRecorded history views
+  pub held : (i : ℕ) → i < cap → (x : T) → get_elem? homes i ≡ home.some (home.some (Some x)) → history (r.at i).round ≡ home.some x
+  pub taken : (k : ℕ) → Once r.head k (total (takes_of (numbered k)) views)
+  pub put : (k : ℕ) → Once r.tail k (total (brings_of cap k) views)
+
 -- what it shows
 abbrev pub of_ring : ℕ → Ring (Unit {0}) → Picture
 of_ring cap r = picture (r.tail - r.head) (r.head + cap - r.tail) (reach r - r.head) r.closed
@@ -506,6 +525,7 @@ pub record Ringed {T W : Type 0} (cap : ℕ) (words : List ℕ) (homes : List (h
   pub cells : RingCells cap words homes r
   pub seats : RingSeats cap r views
   pub law : Law (of_ring cap r) views
+  pub history : RingHistory cap homes r views
 
 -- WHAT THE WORDS AND THE SLOTS SHOW, by the form of the queue: of one slot, whose word lies first; or of a ring
 pub data Shown {T W : Type 0} (words : List ℕ) (homes : List (home.Option (Option T))) (views : List (View T W)) : Type 0 where
