@@ -145,6 +145,11 @@ module _ {T : Type 0} where
   abbrev pub Balanced : home.Option (Option T) → (Weight T → ℕ) → (Weight T → ℕ) → Type 0
   Balanced slot put taken = ((k : ℕ) → Once (put each) k (put (numbered k))) × ((f : Weight T) → put f ≡ taken f + held (put each) f slot)
 
+  -- this is so of each entry
+  abbrev pub Every : (Transfer T → Type 0) → List (Transfer T) → Type 0
+  Every p [] = Unit {0}
+  Every p (e ∷ l) = p e × Every p l
+
   -- the message stands in the history under its number; so does each of a log
   abbrev pub InHistory : List T → Transfer T → Type 0
   InHistory history (In k x) = get_elem? history k ≡ home.some x
@@ -152,8 +157,7 @@ module _ {T : Type 0} where
   InHistory history (Saw s) = Unit {0}
 
   abbrev pub Agrees : List T → List (Transfer T) → Type 0
-  Agrees history [] = Unit {0}
-  Agrees history (e ∷ l) = InHistory history e × Agrees history l
+  Agrees history log = Every (InHistory history) log
 
   -- this is one of the log
   abbrev pub Has : Transfer T → List (Transfer T) → Type 0
@@ -176,8 +180,7 @@ module _ {T : Type 0} where
   IsRecorded history (Saw s) = Unit {0}
 
   abbrev pub AreRecorded : (ℕ → home.Option T) → List (Transfer T) → Type 0
-  AreRecorded history [] = Unit {0}
-  AreRecorded history (e ∷ l) = IsRecorded history e × AreRecorded history l
+  AreRecorded history log = Every (IsRecorded history) log
 
   -- THE ACCOUNT: what was taken out, followed by what is held, is all that was put in, in order: each was put in once, under its number, and
   -- each that left was taken out once
