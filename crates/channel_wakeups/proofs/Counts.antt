@@ -7,6 +7,7 @@ use lib.ListN.{get_elem?}
 use prog.Atomic.{either}
 use Rattle.atomic_table.specs.Table.{keeps, step, Allows}
 use Rattle.atomic_table.proofs.Lists.{set_again}
+use Rattle.concurrent_queue.specs.machine.RingState.{Ring}
 use Rattle.channel_wakeups.specs.declared.rule.Handles.{Handles}
 use Rattle.channel_wakeups.specs.declared.rule.Kind.{Kind}
 use Rattle.channel_wakeups.specs.declared.rule.Kind.TheVariants.{OfSenders, OfReceivers}
@@ -21,13 +22,14 @@ use Rattle.channel_wakeups.specs.declared.rule.Turn.TheVariants.{Rest}
 use Rattle.channel_wakeups.specs.Counts.{word_for, most, more_hands, fewer_hands, owing_close, raises, lowers, measures, counts}
 use Rattle.channel_wakeups.specs.Lists.{total}
 use Rattle.channel_wakeups.specs.Log.{each_sight, of_closer, of_ended, of_drained, same_kind, raised_of, lowered_of, last_of, gone_of, is_none}
-use Rattle.channel_wakeups.specs.Views.{count_of, with_count, handed, pass, only, handles_of, closes_of, sights_of, Picture, at_word, Law, Kept, Counted, Woken, Known}
+use Rattle.channel_wakeups.specs.Views.{count_of, with_count, handed, pass, only, handles_of, closes_of, sights_of, Picture, at_word, Law, Kept, Counted, Woken, Known, RingHistory}
 use Rattle.channel_wakeups.proofs.Hands.{none_of, Carries, counted_kept, carries_all, carries_more}
 use Rattle.channel_wakeups.proofs.Laws.{handed_turns, turned_kept, law_kept}
 use Rattle.channel_wakeups.proofs.Logs.{saw_logs, one_more}
 use Rattle.channel_wakeups.proofs.Moves.{order_saw}
 use Rattle.channel_wakeups.proofs.Sums.{only_some, others, was, becomes, Sights, put_else, took_else}
 use Rattle.channel_wakeups.proofs.Rings.{seats_saw}
+use Rattle.channel_wakeups.proofs.RingHistories.{saw_messages, history_kept}
 use Rattle.channel_wakeups.proofs.Beside.{Beside, beside_same, shown_beside}
 use Rattle.channel_wakeups.proofs.Words.{index_same, index_other, counts_wide}
 
@@ -209,7 +211,7 @@ module _ {T W : Type 0} where
         (omega arith, (λ more. seen (omega arith)), (λ more. drained (omega arith)))
 
     kept_so : Beside views (set views id (pass p 0 (handed h l) m (lg ++ Saw e ∷ [])))
-    kept_so = record { one = one_so; law = law_so; seats = λ cap r k. seats_saw cap r views id p 0 0 l (handed h l) m lg e Rest unended at k }
+    kept_so = record { one = one_so; law = law_so; seats = λ cap r k. seats_saw cap r views id p 0 0 l (handed h l) m lg e Rest unended at k; history = history_so }
       where
         one_so : (base : ℕ) (shut : Bool) (slot : home.Option (Option T)) → Kept base shut slot views → Kept base shut slot (set views id (pass p 0 (handed h l) m (lg ++ Saw e ∷ [])))
         one_so base shut slot k =
@@ -218,6 +220,9 @@ module _ {T W : Type 0} where
 
         law_so : (q : Picture) → Law q views → Law q (set views id (pass p 0 (handed h l) m (lg ++ Saw e ∷ [])))
         law_so q k = law_kept q q views id p 0 0 Rest Rest l (handed h l) m lg (lg ++ Saw e ∷ []) some_part at (refl, refl, refl, refl) (handed_turns q h l) (sights_so q) k
+
+        history_so : (cap : ℕ) (homes : List (home.Option (Option T))) (r : Ring (Unit {0})) → RingHistory cap homes r views → RingHistory cap homes r (set views id (pass p 0 (handed h l) m (lg ++ Saw e ∷ [])))
+        history_so cap homes r k = history_kept cap homes r views id (pass p 0 l m lg) (pass p 0 (handed h l) m (lg ++ Saw e ∷ [])) at some_part some_part (saw_messages lg e) (λ j. refl) k
 
   -- what the sums become, where a pass has these handles and this entry more
   module _ (p id : ℕ) (l : Lines) (m : Rolls W) (lg : List (Transfer T)) (some_part : 0 < p) (h : Handles) (e : Sight) (views : List (View T W)) (at : get_elem? views id ≡ some (pass p 0 l m lg)) where

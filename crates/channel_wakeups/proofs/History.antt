@@ -6,10 +6,9 @@ use lib.ListN.{get_elem?}
 use Rattle.channel_wakeups.specs.declared.rule.View.{View}
 use Rattle.channel_wakeups.specs.declared.rule.Transfer.{Transfer}
 use Rattle.channel_wakeups.specs.declared.rule.Transfer.TheVariants.{In, Out, Saw}
-use Rattle.channel_wakeups.specs.declared.rule.Sight.{Sight}
 use Rattle.channel_wakeups.specs.Lists.{total}
-use Rattle.channel_wakeups.specs.Log.{each, Agrees, IsHistory}
-use Rattle.channel_wakeups.specs.Views.{puts_of, AllAgree, Ordered}
+use Rattle.channel_wakeups.specs.Log.{each, Every, InHistory, Agrees, IsHistory}
+use Rattle.channel_wakeups.specs.Views.{puts_of, AllLogs, Ordered}
 use Rattle.channel_wakeups.proofs.Sums.{total_set}
 
 module _ {T : Type 0} where
@@ -19,7 +18,7 @@ module _ {T : Type 0} where
   slot_of (some None) d = d
   slot_of none d = d
 
-  only_message : (x y : T) → ◌≡◌ {A = home.Option (Option T)} (some (Some x)) (some (Some y)) → x ≡ y
+  pub only_message : (x y : T) → ◌≡◌ {A = home.Option (Option T)} (some (Some x)) (some (Some y)) → x ≡ y
   only_message x y e = ap (λ (c : home.Option (Option T)). slot_of c x) e
 
   longer : (h m : List T) (k : ℕ) (x : T) → get_elem? h k ≡ some x → get_elem? (h ++ m) k ≡ some x
@@ -37,45 +36,45 @@ module _ {T : Type 0} where
   one_longer [] x = refl
   one_longer (y ∷ h) x = let t = one_longer h x in omega arith
 
-  pub agrees_append : (h : List T) (l m : List (Transfer T)) → Agrees h l → Agrees h m → Agrees h (l ++ m)
-  agrees_append h [] m a b = b
-  agrees_append h (t ∷ l) m (e, a) b = (e, agrees_append h l m a b)
+  pub every_append : (p : Transfer T → Type 0) (l m : List (Transfer T)) → Every p l → Every p m → Every p (l ++ m)
+  every_append p [] m a b = b
+  every_append p (t ∷ l) m (e, a) b = (e, every_append p l m a b)
 
-  agrees_longer : (h m : List T) (l : List (Transfer T)) → Agrees h l → Agrees (h ++ m) l
-  agrees_longer h m [] a = tt
-  agrees_longer h m (In k x ∷ l) (e, a) = (longer h m k x e, agrees_longer h m l a)
-  agrees_longer h m (Out k x ∷ l) (e, a) = (longer h m k x e, agrees_longer h m l a)
-  agrees_longer h m (Saw s ∷ l) (e, a) = (tt, agrees_longer h m l a)
+  every_also : (p q : Transfer T → Type 0) → ((e : Transfer T) → p e → q e) → (l : List (Transfer T)) → Every p l → Every q l
+  every_also p q so [] a = tt
+  every_also p q so (t ∷ l) (e, a) = (so t e, every_also p q so l a)
 
-  pub agrees_saw : (h : List T) (l : List (Transfer T)) (s : Sight) → Agrees h l → Agrees h (l ++ Saw s ∷ [])
-  agrees_saw h l s a = agrees_append h l (Saw s ∷ []) a (tt, tt)
+  in_longer : (h m : List T) (e : Transfer T) → InHistory h e → InHistory (h ++ m) e
+  in_longer h m (In k x) e = longer h m k x e
+  in_longer h m (Out k x) e = longer h m k x e
+  in_longer h m (Saw s) e = tt
 
 module _ {T W : Type 0} where
-  pub agrees_at : (h : List T) (vs : List (View T W)) (id : ℕ) (v : View T W) → get_elem? vs id ≡ some v → AllAgree h vs → Agrees h v.log
-  agrees_at h [] id v e a = absurd (some-ne-none v (sym e))
-  agrees_at h (u ∷ vs) zero v e (a, b) = subst (λ (w : View T W). Agrees h w.log) (some-injective u v e) a
-  agrees_at h (u ∷ vs) (suc id) v e (a, b) = agrees_at h vs id v e b
+  pub logs_at : (p : Transfer T → Type 0) (vs : List (View T W)) (id : ℕ) (v : View T W) → get_elem? vs id ≡ some v → AllLogs p vs → Every p v.log
+  logs_at p [] id v e a = absurd (some-ne-none v (sym e))
+  logs_at p (u ∷ vs) zero v e (a, b) = subst (λ (w : View T W). Every p w.log) (some-injective u v e) a
+  logs_at p (u ∷ vs) (suc id) v e (a, b) = logs_at p vs id v e b
 
   -- another seat's log, while one was changed
-  pub agrees_beside : (h : List T) (vs : List (View T W)) (id other : ℕ) (u v : View T W) → (other ≡ id → ⊥) → get_elem? (set vs id u) other ≡ some v → AllAgree h vs → Agrees h v.log
-  agrees_beside h [] id other u v apart e a = absurd (some-ne-none v (sym e))
-  agrees_beside h (w ∷ vs) zero zero u v apart e a = absurd (apart refl)
-  agrees_beside h (w ∷ vs) zero (suc other) u v apart e (a, b) = agrees_at h vs other v e b
-  agrees_beside h (w ∷ vs) (suc id) zero u v apart e (a, b) = subst (λ (x : View T W). Agrees h x.log) (some-injective w v e) a
-  agrees_beside h (w ∷ vs) (suc id) (suc other) u v apart e (a, b) = agrees_beside h vs id other u v (λ same. apart (ap suc same)) e b
+  pub logs_beside : (p : Transfer T → Type 0) (vs : List (View T W)) (id other : ℕ) (u v : View T W) → (other ≡ id → ⊥) → get_elem? (set vs id u) other ≡ some v → AllLogs p vs → Every p v.log
+  logs_beside p [] id other u v apart e a = absurd (some-ne-none v (sym e))
+  logs_beside p (w ∷ vs) zero zero u v apart e a = absurd (apart refl)
+  logs_beside p (w ∷ vs) zero (suc other) u v apart e (a, b) = logs_at p vs other v e b
+  logs_beside p (w ∷ vs) (suc id) zero u v apart e (a, b) = subst (λ (x : View T W). Every p x.log) (some-injective w v e) a
+  logs_beside p (w ∷ vs) (suc id) (suc other) u v apart e (a, b) = logs_beside p vs id other u v (λ same. apart (ap suc same)) e b
 
-  pub agrees_set : (h : List T) (vs : List (View T W)) (id : ℕ) (u : View T W) → Agrees h u.log → AllAgree h vs → AllAgree h (set vs id u)
-  agrees_set h [] id u new a = tt
-  agrees_set h (w ∷ vs) zero u new (a, b) = (new, b)
-  agrees_set h (w ∷ vs) (suc id) u new (a, b) = (a, agrees_set h vs id u new b)
+  pub logs_set : (p : Transfer T → Type 0) (vs : List (View T W)) (id : ℕ) (u : View T W) → Every p u.log → AllLogs p vs → AllLogs p (set vs id u)
+  logs_set p [] id u new a = tt
+  logs_set p (w ∷ vs) zero u new (a, b) = (new, b)
+  logs_set p (w ∷ vs) (suc id) u new (a, b) = (a, logs_set p vs id u new b)
 
-  pub agrees_snoc : (h : List T) (vs : List (View T W)) (u : View T W) → Agrees h u.log → AllAgree h vs → AllAgree h (vs ++ u ∷ [])
-  agrees_snoc h [] u new a = (new, tt)
-  agrees_snoc h (w ∷ vs) u new (a, b) = (a, agrees_snoc h vs u new b)
+  pub logs_snoc : (p : Transfer T → Type 0) (vs : List (View T W)) (u : View T W) → Every p u.log → AllLogs p vs → AllLogs p (vs ++ u ∷ [])
+  logs_snoc p [] u new a = (new, tt)
+  logs_snoc p (w ∷ vs) u new (a, b) = (a, logs_snoc p vs u new b)
 
-  all_longer : (h m : List T) (vs : List (View T W)) → AllAgree h vs → AllAgree (h ++ m) vs
-  all_longer h m [] a = tt
-  all_longer h m (v ∷ vs) (a, b) = (agrees_longer h m v.log a, all_longer h m vs b)
+  pub logs_also : (p q : Transfer T → Type 0) → ((e : Transfer T) → p e → q e) → (vs : List (View T W)) → AllLogs p vs → AllLogs q vs
+  logs_also p q so [] a = tt
+  logs_also p q so (v ∷ vs) (a, b) = (every_also p q so v.log a, logs_also p q so vs b)
 
   module _ (vs : List (View T W)) (id : ℕ) (v u : View T W) (at : get_elem? vs id ≡ some v) where
     -- nothing was put in, and what the log has more stands in the history
@@ -84,7 +83,7 @@ module _ {T W : Type 0} where
     order_stays s r same more slot (h, (counted, last), agree) =
         let t = total_set (puts_of each) vs id v u at in
         let n : total (puts_of each) vs ≡ total (puts_of each) (set vs id u) = omega arith in
-        (h, (counted ∙ n, λ x e. subst (λ (k : ℕ). get_elem? h (k - 1) ≡ some x) n (last x (slot x e))), agrees_set h vs id u (more h (counted, last) (agrees_at h vs id v at agree)) agree)
+        (h, (counted ∙ n, λ x e. subst (λ (k : ℕ). get_elem? h (k - 1) ≡ some x) n (last x (slot x e))), logs_set (InHistory h) vs id u (more h (counted, last) (logs_at (InHistory h) vs id v at agree)) agree)
 
     -- a message was put in, as the last
     pub order_grows : (s : home.Option (Option T)) (n : ℕ) (x : T) → n ≡ total (puts_of each) vs → puts_of each u ≡ puts_of each v + 1 → u.log ≡ v.log ++ In n x ∷ [] → Ordered s vs → Ordered (some (Some x)) (set vs id u)
@@ -92,14 +91,14 @@ module _ {T W : Type 0} where
         let t = total_set (puts_of each) vs id v u at in
         let m : total (puts_of each) (set vs id u) ≡ total (puts_of each) vs + 1 = omega arith in
         let here : get_elem? (h ++ x ∷ []) n ≡ some x = at_end h n x (counted ∙ sym is) in
-        let longer_all = all_longer h (x ∷ []) vs agree in (
+        let longer_all = logs_also (InHistory h) (InHistory (h ++ x ∷ [])) (in_longer h (x ∷ [])) vs agree in (
           h ++ x ∷ [],
           (
             one_longer h x ∙ ap (λ (k : ℕ). k + 1) counted ∙ sym m,
             λ y e. subst (λ (k : ℕ). get_elem? (h ++ x ∷ []) k ≡ some y) (before_last n m is) (here ∙ ap some (only_message x y e)),
           ),
-          agrees_set (h ++ x ∷ []) vs id u
-              (subst (λ (l : List (Transfer T)). Agrees (h ++ x ∷ []) l) (sym log) (agrees_append (h ++ x ∷ []) v.log (In n x ∷ []) (agrees_at (h ++ x ∷ []) vs id v at longer_all) (here, tt)))
+          logs_set (InHistory (h ++ x ∷ [])) vs id u
+              (subst (λ (l : List (Transfer T)). Agrees (h ++ x ∷ []) l) (sym log) (every_append (InHistory (h ++ x ∷ [])) v.log (In n x ∷ []) (logs_at (InHistory (h ++ x ∷ [])) vs id v at longer_all) (here, tt)))
               longer_all,
         )
       where

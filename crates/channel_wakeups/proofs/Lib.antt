@@ -21,6 +21,7 @@ pub mod RingWalksPush
 pub mod RingWalksPop
 pub mod RingWalksClose
 pub mod RingWalksLeft
+pub mod RingHistories
 pub mod RingBegins
 pub mod Moves
 pub mod Seats

@@ -51,7 +51,7 @@ this_other n k ne = by_case (n == k) refl
     by_case false e = ap (λ (b : Bool). cond b 1 0) e
 
 -- one number more was given
-more_once : (n k c : ℕ) → Once n k c → Once (n + 1) k (c + is_this n k)
+pub more_once : (n k c : ℕ) → Once n k c → Once (n + 1) k (c + is_this n k)
 more_once n k c (here, later) =
     ((λ less. by_case (n == k) refl less), (λ more. let none = later (omega arith) in let other = this_other n k (λ e. omega arith) in omega arith))
   where

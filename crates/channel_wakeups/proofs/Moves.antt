@@ -20,15 +20,16 @@ use Rattle.channel_wakeups.specs.declared.rule.Transfer.TheVariants.{In, Out, Sa
 use Rattle.channel_wakeups.specs.declared.rule.Sight.{Sight}
 use Rattle.channel_wakeups.specs.declared.rule.Sight.TheVariants.{Shut, Seen, Drained}
 use Rattle.channel_wakeups.specs.Lists.{total, listed}
-use Rattle.channel_wakeups.specs.Log.{Weight, puts, each, held}
+use Rattle.channel_wakeups.specs.Log.{Weight, puts, each, held, InHistory}
 use Rattle.channel_wakeups.specs.Sections.{Fair}
 use Rattle.channel_wakeups.specs.Views.{Picture, at_word, Law, Shown, one_slot, a_ring, Side, Duty, to_one, to_all, count_of, of, roll, listing, with_line, with_roll, pass, changed, won_place, no_place, no_send, won_message, no_message, no_more, settled, all_owing, still_open, found_closed, closer, saw_open, only, is_key, here_of, listed_of, tickets_of, locks_of, owns_of, puts_of, word_of, wanted, messages, places, IsSlot, empty, full, out, Ordered, Kept, Counted, Woken, Known, MissesPlace, AtHome, fills, displaces, wins, unlocks, shuts, sees}
 use Rattle.channel_wakeups.proofs.Beside.{Beside, shown_so}
 use Rattle.channel_wakeups.proofs.Rings.{seats_set}
+use Rattle.channel_wakeups.proofs.RingHistories.{same_messages, history_kept}
 use Rattle.channel_wakeups.proofs.Words.{index_same, counts_stay, word_again}
 use Rattle.channel_wakeups.proofs.Sums.{only_some, others, others_free, was, turned, law_turned, Goes, Tickets, Logs, put_else, took_else}
 use Rattle.channel_wakeups.proofs.Logs.{puts_append, same_logs, saw_logs, put_logs, take_logs, comes_next, goes_next, not_seen, not_drained, sights_stay, sights_same, moved, sights_seen, sights_drained, sights_shut}
-use Rattle.channel_wakeups.proofs.History.{agrees_append, agrees_saw, order_stays, order_grows}
+use Rattle.channel_wakeups.proofs.History.{every_append, order_stays, order_grows}
 use Rattle.channel_wakeups.proofs.Hands.{hands_with, Carries, counted_kept, carries_all, carries_same, carries_more}
 use Rattle.channel_wakeups.proofs.Sides.{of_with, roll_with, which, Untouched}
 use Rattle.channel_wakeups.proofs.Laws.{no_home, no_true, no_empty, fills_place, displaced_place, wins_place, filled_place, emptied_place, fills_turns, displaces_turns, refused_turns, shut_out_turns, wins_turns, rests_turns, drains_turns, shuts_turns, open_turns, closed_turns, gives_turns, settles, Turns, SameTickets, turned_kept, lasts_by, fair_lasts, fair_tickets}
@@ -106,7 +107,7 @@ module _ {T W : Type 0} where
       let y = only_some p (puts each lg) some_part in
       let z = only_some p (puts each (lg ++ Out (total (puts_of each) views - 1) x ∷ [])) some_part in
       order_stays views id (pass p 0 l m lg) (pass p o i m (lg ++ Out (total (puts_of each) views - 1) x ∷ [])) at (some (Some x)) none (omega arith)
-      (λ h i b. agrees_append h lg (Out (total (puts_of each) views - 1) x ∷ []) b (i.1 x refl, tt)) (λ y e. absurd (no_home (Some y) (sym e)))
+      (λ h i b. every_append (InHistory h) lg (Out (total (puts_of each) views - 1) x ∷ []) b (i.1 x refl, tt)) (λ y e. absurd (no_home (Some y) (sym e)))
 
   gives_order : (p o : ℕ) (l i : Lines) (m : Rolls W) (lg : List (Transfer T)) (x : T) (id : ℕ) (views : List (View T W)) → 0 < p → get_elem? views id ≡ some (pass p o l m lg)
       → Ordered none views → Ordered (some (Some x)) (set views id (pass p 0 i m (lg ++ In (total (puts_of each) views) x ∷ [])))
@@ -128,7 +129,7 @@ module _ {T W : Type 0} where
   pub order_saw : (p o n : ℕ) (l i : Lines) (m : Rolls W) (lg : List (Transfer T)) (e : Sight) (s : home.Option (Option T)) (id : ℕ) (views : List (View T W)) → get_elem? views id ≡ some (pass p o l m lg) → Ordered s views → Ordered s (set views id (pass p n i m (lg ++ Saw e ∷ [])))
   order_saw p o n l i m lg e s id views at =
       order_stays views id (pass p o l m lg) (pass p n i m (lg ++ Saw e ∷ [])) at s s (let a = puts_append each lg (Saw e ∷ []) in let b : puts each (lg ++ Saw e ∷ []) ≡ puts each lg = omega arith in (λ k. only p (b k)))
-      (λ h i a. agrees_saw h lg e a) (λ x e. e)
+      (λ h i a. every_append (InHistory h) lg (Saw e ∷ []) a (tt, tt)) (λ x e. e)
 
   -- ---- a push wins the empty slot, or finds none
 
@@ -640,6 +641,7 @@ module _ {T W : Type 0} where
       one = λ base shut slot k. changes base shut views id at slot k;
       law = λ p k. changes_law p views id at k;
       seats = λ cap r k. seats_set cap r views id v (changed side v m ms) at (λ d. refl) (λ a. a) k;
+      history = λ cap homes r k. history_kept cap homes r views id v (changed side v m ms) at some_part some_part (same_messages v.log) (λ j. refl) k;
     }
 
   carries_changed : (k : Kind) (v : View T W) (side : Side) (m : Line) (ms : List (Listener W)) → Carries k v (changed side v m ms)

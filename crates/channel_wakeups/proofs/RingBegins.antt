@@ -1,9 +1,9 @@
 -- The rule holds of a ring that was just made: it is open and empty, and each of its slots waits for its first message.
-use Rattle.std.proofs.Common.{◌≡◌, ℕ, zero, suc, ◌+◌, ◌-◌, ◌*◌, ◌/◌, ◌^◌, ◌<◌, ◌≤◌, List, [], ◌∷◌, Bool, true, false, nat_lt, if◌then◌else◌, length, map, Option, None, mod-eq_of_lt, refl, sym, ap, ◌∙◌, subst, arith}
+use Rattle.std.proofs.Common.{◌≡◌, ℕ, zero, suc, ◌+◌, ◌-◌, ◌*◌, ◌/◌, ◌^◌, ◌<◌, ◌≤◌, List, [], ◌∷◌, Bool, true, false, nat_lt, if◌then◌else◌, length, map, Option, None, Some, mod-eq_of_lt, refl, sym, ap, ◌∙◌, subst, arith}
 use Rattle.std.specs.Prelude.{slice_index}
 use Rattle.std.proofs.lemmas.Nat.{div-mul-add}
 use Rattle.std.proofs.lemmas.Bool.Decides.{nat_tests}
-use mathlib.Core.Option.{some}
+use mathlib.Core.Option.{some, none, some-injective}
 use lib.ListN.{get_elem?}
 use Rattle.atomic_table.specs.Table.{opening}
 use Rattle.concurrent_queue.specs.machine.Positions.{pos}
@@ -14,6 +14,7 @@ use Rattle.channel_wakeups.specs.declared.rule.Kind.{Kind}
 use Rattle.channel_wakeups.specs.declared.rule.Kind.TheVariants.{OfSenders, OfReceivers}
 use Rattle.channel_wakeups.specs.Lists.{total}
 use Rattle.channel_wakeups.specs.Views.{Side, of_receives, of_sends, of_streams, of_closings, Duty, everything, at_number, of_ring, wanted, Owed, here_of, waits_of, answered_of, holds_of, tickets_of, listed_of, handles_of, owes_of, Law, a_ring, Counted, Woken}
+use Rattle.channel_wakeups.proofs.Laws.{no_empty}
 
 -- how it is at first
 abbrev pub new_ring : Ring (Unit {0})
@@ -102,6 +103,14 @@ module _ {T W : Type 0} (cap : ℕ) (two : 2 ≤ cap) (limit : cap ≤ 2 ^ 58) w
           };
           seats = record { two = two; limit = limit; sound = new_sound cap; few = omega arith; owners = nothing_owed T W cap; knows = ((λ some_part. ((true, refl), (λ j more. refl), (λ j more. refl), (λ none. absurd (omega arith)))), tt) };
           law = new_law;
+          history = record {
+            history = λ k. none;
+            logs = (tt, tt);
+            held = λ i small x e. absurd (no_empty x (some-injective (some None) (some (Some x)) (sym (home_of xs i (slots i small)) ∙ e)));
+            taken = λ k. ((λ less. absurd (omega arith)), (λ more. refl));
+            put = λ k. ((λ less. absurd (omega arith)), (λ more. refl));
+            absent = λ k none_in. refl;
+          };
         });
         of_senders = one_each OfSenders refl;
         of_receivers = one_each OfReceivers refl;

@@ -32,6 +32,7 @@ use Rattle.channel_wakeups.proofs.Logs.{not_seen, one_more, ends_more}
 use Rattle.channel_wakeups.proofs.Rings.{know_at, put_saw, took_saw, seats_set}
 use Rattle.channel_wakeups.proofs.RingCells.{open_tail, slots_stay, tail_written}
 use Rattle.channel_wakeups.proofs.RingForces.{resting, none_owes}
+use Rattle.channel_wakeups.proofs.RingHistories.{same_messages, saw_messages, history_stays, history_kept}
 use Rattle.channel_wakeups.proofs.RingLaws.{shut_again_turns, sights_rest}
 use Rattle.channel_wakeups.proofs.RingLooks.{only_looks, rest_loose, tailed_loose}
 use Rattle.channel_wakeups.proofs.RingMoves.{RingOutcome, by_ring, same_words}
@@ -123,6 +124,7 @@ module _ {T W : Type 0} (slots id p : ℕ) (l : Lines) (m : Rolls W) (lg : List 
                 (λ d s. subst (λ (b : Bool). Turns d s (picture (r.tail - r.head) (r.head + slots - r.tail) (reach r - r.head) b) (picture (r.tail - r.head) (r.head + slots - r.tail) (reach r - r.head) true) l (all_owing (no_place l))) (sym unshut)
                 (ends_turns (r.tail - r.head) (r.head + slots - r.tail) (reach r - r.head) l d s))
                 shut_so h.law;
+            history = history_stays slots homes homes r shut_ring views id (call (Tailed n)) ended at some_part some_part refl refl (λ i less x e. (e, refl)) (saw_messages lg Ended) (λ j. refl) h.history;
           },
           (λ j. carries_more j p 0 0 l (all_owing (no_place l)) m lg some_part (Saw Ended) (still_held j) refl refl refl refl (inr (omega arith))),
           inl (marked (Tailed n) words homes r views h at ∙ unshut, omega arith, unseen (Tailed n) words homes r views h at unshut, refl),
@@ -150,6 +152,7 @@ module _ {T W : Type 0} (slots id p : ℕ) (l : Lines) (m : Rolls W) (lg : List 
                 (λ d s. subst (λ (b : Bool). Turns d s (picture (r.tail - r.head) (r.head + slots - r.tail) (reach r - r.head) b) (picture (r.tail - r.head) (r.head + slots - r.tail) (reach r - r.head) b) l (no_send_again l)) (sym shut)
                 (shut_again_turns (r.tail - r.head) (r.head + slots - r.tail) (reach r - r.head) l in_hand_so d s))
                 (seen_so (Tailed n) words homes r views h at shut (no_send_again l)) h.law;
+            history = history_kept slots homes r views id (call (Tailed n)) (turning Rest (pass p 0 (no_send_again l) m (lg ++ Saw Seen ∷ []))) at some_part some_part (saw_messages lg Seen) (λ j. refl) h.history;
           },
           (λ j. carries_more j p 0 0 l (no_send_again l) m lg some_part (Saw Seen) refl refl refl refl refl (inr (omega arith))),
           inr (marked (Tailed n) words homes r views h at ∙ shut, refl),
@@ -166,12 +169,12 @@ module _ {T W : Type 0} (slots id p : ℕ) (l : Lines) (m : Rolls W) (lg : List 
 
   module _ (words : List ℕ) (homes : List (home.Option (Option T))) (r : Ring (Unit {0})) (views : List (View T W)) (h : Ringed slots words homes r views) (at : get_elem? views id ≡ some (call Rest)) where
     asks_by : (b : Bool) → r.closed ≡ b → RingOutcome 48 (λ x. x) HasAsked (call Rest, []) id words homes slots views
-    asks_by true shut = only_looks slots id p l m lg some_part several 48 HasAsked Rest Rest (rest_loose slots) (rest_loose slots) words homes r views h at (found_closed l) (lg ++ Saw Seen ∷ []) (refl, refl, refl, refl)
+    asks_by true shut = only_looks slots id p l m lg some_part several 48 HasAsked Rest Rest (rest_loose slots) (rest_loose slots) words homes r views h at (found_closed l) (lg ++ Saw Seen ∷ []) (saw_messages lg Seen) (refl, refl, refl, refl)
         (λ d s. subst (λ (b : Bool). Turns d s (picture (r.tail - r.head) (r.head + slots - r.tail) (reach r - r.head) b) (picture (r.tail - r.head) (r.head + slots - r.tail) (reach r - r.head) b) l (found_closed l)) (sym shut)
         (closed_turns (r.tail - r.head) (r.head + slots - r.tail) (reach r - r.head) l d s))
         (seen_so Rest words homes r views h at shut (found_closed l)) (knows_so Rest words homes r views h at (found_closed l)) (λ j. carries_more j p 0 0 l (found_closed l) m lg some_part (Saw Seen) refl refl refl refl refl (inr (omega arith)))
         (inr (marked Rest words homes r views h at ∙ shut, refl))
-    asks_by false unshut = only_looks slots id p l m lg some_part several 48 HasAsked Rest Rest (rest_loose slots) (rest_loose slots) words homes r views h at (still_open l) lg (refl, refl, refl, refl)
+    asks_by false unshut = only_looks slots id p l m lg some_part several 48 HasAsked Rest Rest (rest_loose slots) (rest_loose slots) words homes r views h at (still_open l) lg (same_messages lg) (refl, refl, refl, refl)
         (λ d s. subst (λ (b : Bool). Turns d s (picture (r.tail - r.head) (r.head + slots - r.tail) (reach r - r.head) b) (picture (r.tail - r.head) (r.head + slots - r.tail) (reach r - r.head) b) l (still_open l)) (sym unshut)
         (open_turns (r.tail - r.head) (r.head + slots - r.tail) (reach r - r.head) l d s))
         (sights_rest (of_ring slots r) (of_ring slots r) (call Rest) (turning Rest (pass p 0 (still_open l) m lg)) refl (λ shut z. z) (λ f. refl)) (λ q. q) (λ j. carries_same j p 0 0 l (still_open l) m lg refl)

@@ -14,6 +14,7 @@ use Rattle.concurrent_queue.specs.machine.RingState.{SlotState, Ring, reach, wit
 use Rattle.concurrent_queue.specs.machine.RingWords.{ring_mark, is_marked, stride}
 use Rattle.concurrent_queue.specs.declared.bounded.RingAction.TheVariants as act
 use Rattle.concurrent_queue.proofs.RingShape.{mark_is, IsMark}
+use Rattle.concurrent_queue.proofs.RingPlaces.{turn-index}
 use Rattle.concurrent_queue.proofs.RingDenotes as denote
 use Rattle.concurrent_queue.proofs.RingKeeps as keep
 use Rattle.channel_wakeups.specs.declared.rule.Kind.{Kind}
@@ -30,12 +31,13 @@ use Rattle.channel_wakeups.specs.Lists.{total}
 use Rattle.channel_wakeups.specs.Log.{PutBefore, TookBefore, EndsAt, Closings, of_closer, of_drained}
 use Rattle.channel_wakeups.specs.RingSteps.{won_ring_place, making_room, mark_set, oldest_won, tail_passed, message_stored, moved_on}
 use Rattle.channel_wakeups.specs.Turns.{action_of, phase_of, owed_by_turn}
-use Rattle.channel_wakeups.specs.Views.{Duty, count_of, settled, all_owing, only, sights_of, pass, turning, Picture, picture, at_number, of_ring, Law, RingCells, RingSeats, Ringed, Woken, Known}
+use Rattle.channel_wakeups.specs.Views.{Duty, count_of, settled, all_owing, only, sights_of, pass, turning, Picture, picture, at_number, of_ring, Law, RingCells, RingSeats, Ringed, Woken, Known, RingHistory}
 use Rattle.channel_wakeups.proofs.Hands.{carries_same, carries_more}
 use Rattle.channel_wakeups.proofs.Laws.{Turns, law_kept, same_turns, shuts_turns, settles}
 use Rattle.channel_wakeups.proofs.Logs.{not_seen, one_more, moved, sights_same, ends_later, ends_more}
 use Rattle.channel_wakeups.proofs.Rings.{know_at, put_saw, took_saw, seats_saw, seats_set}
 use Rattle.channel_wakeups.proofs.RingCells.{same_or_other, slots_stay, slots_took, slots_gave, was_home, tail_written, head_written, stamp_written}
+use Rattle.channel_wakeups.proofs.RingHistories.{same_messages, saw_messages, history_stays, history_kept, history_awaits, history_leaves, history_gains, still_in_place, none_out}
 use Rattle.channel_wakeups.proofs.RingLaws.{displaces_turns, puts_turns, sights_rest, put_below, took_put, put_took, took_below}
 use Rattle.channel_wakeups.proofs.RingLooks.{IsLoose, rest_loose, behind_loose}
 use Rattle.channel_wakeups.proofs.RingMoves.{RingOutcome, by_ring, same_words, if_here, if_other}
@@ -109,6 +111,7 @@ module _ {T W : Type 0} (slots id p : ℕ) (l : Lines) (m : Rolls W) (lg : List 
                 (λ d s. subst (λ (b : Bool). Turns d s (picture (r.tail - r.head) (r.head + slots - r.tail) (reach r - r.head) b) (picture (r.tail - r.head) (r.head + slots - r.tail) (reach r - r.head) true) l (all_owing l)) (sym unshut)
                 (shuts_turns (r.tail - r.head) (r.head + slots - r.tail) (reach r - r.head) l d s))
                 shut_so h.law;
+            history = history_stays slots homes homes r shut_ring views id resting_call (turning Rest (pass p 0 (all_owing l) m (lg ++ Saw Shut ∷ []))) at some_part some_part refl refl (λ i less x e. (e, refl)) (saw_messages lg Shut) (λ j. refl) h.history;
           },
           (λ j. carries_more j p 0 0 l (all_owing l) m lg some_part (Saw Shut) (still_held j) refl refl refl refl (inr (omega arith))),
           inl (marked ∙ unshut, not_seen views id resting_call at some_part (reach r - r.head) (subst (λ (b : Bool). Closings b (reach r - r.head) (λ f. total (sights_of f) views)) unshut h.law.closings), refl),
@@ -133,6 +136,7 @@ module _ {T W : Type 0} (slots id p : ℕ) (l : Lines) (m : Rolls W) (lg : List 
             cells = subst (λ (ws : List ℕ). RingCells slots ws homes r) (sym (same_words words 48 (marks (slice_index words 48)) same)) h.cells;
             seats = seats_saw slots r views id p 0 0 l (settled l) m lg Seen Rest refl at h.seats;
             law = law_kept (of_ring slots r) (of_ring slots r) views id p 0 0 Rest Rest l (settled l) m lg (lg ++ Saw Seen ∷ []) some_part at (refl, refl, refl, refl) (settles (of_ring slots r) l) seen_so h.law;
+            history = history_kept slots homes r views id resting_call (turning Rest (pass p 0 (settled l) m (lg ++ Saw Seen ∷ []))) at some_part some_part (saw_messages lg Seen) (λ j. refl) h.history;
           },
           (λ j. carries_more j p 0 0 l (settled l) m lg some_part (Saw Seen) (still_held j) refl refl refl refl (inr (omega arith))),
           inr (marked ∙ shut, refl),
@@ -205,6 +209,8 @@ module _ {T W : Type 0} (slots id p : ℕ) (l : Lines) (m : Rolls W) (lg : List 
                       (displaces_turns (r.tail - r.head) (r.head + slots - r.tail) (reach r - r.head) (reach roomy - (r.head + 1)) r.closed l d s)))
                       (sights_rest (of_ring slots r) (of_ring slots roomy) behind (turning (Coming c) (pass p 0 (making_room l) m (lg ++ Out c y ∷ []))) refl (λ shut z. absurd (not_none r.coming z))
                       (sights_same p 0 0 l (making_room l) m lg (lg ++ Out c y ∷ []) (moved lg (Out c y) (λ f. refl)))) h.law;
+                  history = history_leaves slots homes (set homes (c % slots) none) r roomy views id behind (turning (Coming c) (pass p 0 (making_room l) m (lg ++ Out c y ∷ []))) at some_part some_part c (c % slots) y t refl refl
+                      (still_in_place slots homes (set homes (c % slots) none) r roomy (c % slots) none none_out refl (λ j apart. refl)) (mod_below c slots (omega (arith, several))) here there.2.0 refl (λ j. refl) h.history;
                 },
                 (λ j. carries_more j p 0 0 l (making_room l) m lg some_part (Out c y) refl refl refl refl refl (inl (omega arith))),
                 inl (found, took_later r.head c lg (omega arith) k.2, (y, refl)),
@@ -220,13 +226,16 @@ module _ {T W : Type 0} (slots id p : ℕ) (l : Lines) (m : Rolls W) (lg : List 
       misses_oldest : (slice_index words 0 ≡ at_number slots c → ⊥) → RingOutcome 0 move_head Displaced (behind, []) id words homes slots views
       misses_oldest other =
           let same : move_head (slice_index words 0) ≡ slice_index words 0 = ap (λ (b : Bool). either b (at_number slots (c + 1)) (slice_index words 0)) (eq_other (slice_index words 0) (at_number slots c) other) in
-          (turning Rest (pass p 0 l m lg), keeps, r, tt, record { cells = subst (λ (ws : List ℕ). RingCells slots ws homes r) (sym (same_words words 0 (move_head (slice_index words 0)) same)) h.cells; seats = rest_seats; law = rest_law }, (λ j. carries_same j p 0 0 l l m lg refl), inr (other, refl))
+          (turning Rest (pass p 0 l m lg), keeps, r, tt, record { cells = subst (λ (ws : List ℕ). RingCells slots ws homes r) (sym (same_words words 0 (move_head (slice_index words 0)) same)) h.cells; seats = rest_seats; law = rest_law; history = rest_history }, (λ j. carries_same j p 0 0 l l m lg refl), inr (other, refl))
         where
           rest_seats : RingSeats slots r (set views id (turning Rest (pass p 0 l m lg)))
           rest_seats = seats_set slots r views id behind (turning Rest (pass p 0 l m lg)) at (λ d. ap (λ (k : ℕ). only p k) (rest_loose slots d ∙ sym (behind_loose slots c d))) (λ k parts. let z = k parts in ((true, refl), z.1, z.2, z.3)) h.seats
 
           rest_law : Law (of_ring slots r) (set views id (turning Rest (pass p 0 l m lg)))
           rest_law = law_kept (of_ring slots r) (of_ring slots r) views id p 0 0 (Behind c) Rest l l m lg lg some_part at (refl, refl, refl, refl) (same_turns (of_ring slots r) l) (sights_rest (of_ring slots r) (of_ring slots r) behind (turning Rest (pass p 0 l m lg)) refl (λ shut z. z) (λ f. refl)) h.law
+
+          rest_history : RingHistory slots homes r (set views id (turning Rest (pass p 0 l m lg)))
+          rest_history = history_kept slots homes r views id behind (turning Rest (pass p 0 l m lg)) at some_part some_part (same_messages lg) (λ j. refl) h.history
 
     pub displaces_oldest : c + slots + 1 ≤ 2 ^ 61 → Allows Woken slots id (behind, []) 0 move_head Displaced
     displaces_oldest low = by_ring 0 move_head Displaced slots id (behind, []) (λ e. absurd (omega arith)) (λ e. absurd (omega arith)) several
@@ -291,6 +300,7 @@ module _ {T W : Type 0} (slots id p : ℕ) (l : Lines) (m : Rolls W) (lg : List 
                     (subst (λ (b : ℕ). Turns d s (of_ring slots r) (picture (r.tail - r.head + 1) b (reach come - r.head) r.closed) l (won_ring_place l)) (let e : r.head + slots - r.tail - 1 ≡ r.head + slots - (r.tail + 1) = omega arith in e)
                     (puts_turns (r.tail - r.head) (r.head + slots - r.tail) (reach r - r.head) (reach come - r.head) r.closed l (omega arith) one d s)))
                     (sights_rest (of_ring slots r) (of_ring slots come) (turning (Coming c) (pass p 0 l m lg)) (turning (Displacing c) (pass p 0 (won_ring_place l) m lg)) refl (λ shut z. near_so r.coming way z) (λ f. refl)) h.law;
+                history = history_awaits slots homes homes r come views id (turning (Coming c) (pass p 0 l m lg)) (turning (Displacing c) (pass p 0 (won_ring_place l) m lg)) at some_part some_part (c + slots) t refl refl (λ i less y e. (e, refl)) (same_messages lg) (λ j. omega arith) h.history;
               },
               (λ j. carries_same j p 0 0 l (won_ring_place l) m lg refl),
               ((λ j more. k.1 j (omega arith)), took_later r.head (c + slots) lg (omega arith) k.2, refl),
@@ -368,6 +378,8 @@ module _ {T W : Type 0} (slots id p : ℕ) (l : Lines) (m : Rolls W) (lg : List 
                     law = subst (λ (q : Picture). Law q (set views id brought)) (sym as_was)
                         (law_kept (of_ring slots r) (of_ring slots r) views id p 0 0 (Displacing c) Rest l l m lg (lg ++ In (c + slots) x ∷ []) some_part at (refl, refl, refl, refl) (same_turns (of_ring slots r) l)
                         (sights_rest (of_ring slots r) (of_ring slots r) (turning (Displacing c) (pass p 0 l m lg)) brought refl (λ shut z. z) (sights_same p 0 0 l l m lg (lg ++ In (c + slots) x ∷ []) (moved lg (In (c + slots) x) (λ f. refl)))) h.law);
+                    history = history_gains slots homes (set homes (c % slots) (some (Some x))) r r3 views id (turning (Displacing c) (pass p 0 l m lg)) brought at some_part some_part (c + slots) (c % slots) x h.seats.sound low heads tails refl
+                        (turn-index slots (omega (arith, several)) c) (ap (λ (s : SlotState (Unit {0})). s.round) is) (λ j apart. ap (λ (s : SlotState (Unit {0})). s.round) (if_other r2 (c % slots) j pl apart ∙ others j apart)) refl (λ j. omega arith) h.history;
                   },
                   (λ j. carries_more j p 0 0 l l m lg some_part (In (c + slots) x) refl refl refl refl refl (inl (omega arith))),
                   refl,

@@ -35,6 +35,7 @@ use Rattle.channel_wakeups.proofs.Laws.{Turns, SameTickets, law_kept, same_turns
 use Rattle.channel_wakeups.proofs.Logs.{not_seen, one_more, ends_more}
 use Rattle.channel_wakeups.proofs.Rings.{know_at, seats_set, put_saw, took_saw}
 use Rattle.channel_wakeups.proofs.RingCells.{same_or_other, open_tail}
+use Rattle.channel_wakeups.proofs.RingHistories.{SameMessages, same_messages, saw_messages, loose_brings, history_kept}
 use Rattle.channel_wakeups.proofs.RingLaws.{seen_turns, shut_again_turns, full_turns, sights_rest}
 use Rattle.channel_wakeups.proofs.RingMoves.{RingOutcome, by_ring}
 use Rattle.channel_wakeups.proofs.Sums.{Sights}
@@ -88,10 +89,10 @@ module _ {T W : Type 0} (slots id p : ℕ) (l : Lines) (m : Rolls W) (lg : List 
 
   module _ (j : ℕ) (says : ℕ → Known T W → Type 0) (t u : Turn) (loose : IsLoose slots t) (free : IsLoose slots u) (words : List ℕ) (homes : List (home.Option (Option T))) (r : Ring (Unit {0})) (views : List (View T W)) (h : Ringed slots words homes r views) (at : get_elem? views id ≡ some (at_turn t)) where
     -- a load changes the call's own turn, lines and log alone
-    pub only_looks : (i : Lines) (mg : List (Transfer T)) → SameTickets l i → ((d : Duty) (s : Side) → Turns d s (of_ring slots r) (of_ring slots r) l i) → Sights (of_ring slots r) (of_ring slots r) (at_turn t) (turning u (pass p 0 i m mg))
+    pub only_looks : (i : Lines) (mg : List (Transfer T)) → SameMessages lg mg → SameTickets l i → ((d : Duty) (s : Side) → Turns d s (of_ring slots r) (of_ring slots r) l i) → Sights (of_ring slots r) (of_ring slots r) (at_turn t) (turning u (pass p 0 i m mg))
         → (Knowing slots r (at_turn t) → Knowing slots r (turning u (pass p 0 i m mg))) → ((k : Kind) → Carries k (at_turn t) (turning u (pass p 0 i m mg))) → says (slice_index words j) (turning u (pass p 0 i m mg), [])
         → RingOutcome j (λ x. x) says (at_turn t, []) id words homes slots views
-    only_looks i mg tickets turns sights know carried told = (
+    only_looks i mg messages tickets turns sights know carried told = (
       turning u (pass p 0 i m mg),
       keeps,
       r,
@@ -100,6 +101,7 @@ module _ {T W : Type 0} (slots id p : ℕ) (l : Lines) (m : Rolls W) (lg : List 
         cells = subst (λ (ws : List ℕ). RingCells slots ws homes r) (sym (word_again words j)) h.cells;
         seats = seats_set slots r views id (at_turn t) (turning u (pass p 0 i m mg)) at (λ d. ap (λ (k : ℕ). only p k) (free d ∙ sym (loose d))) know h.seats;
         law = law_kept (of_ring slots r) (of_ring slots r) views id p 0 0 t u l i m lg mg some_part at tickets turns sights h.law;
+        history = history_kept slots homes r views id (at_turn t) (turning u (pass p 0 i m mg)) at some_part some_part messages (λ k. loose_brings slots u free k ∙ sym (loose_brings slots t loose k)) h.history;
       },
       carried,
       told,
@@ -107,7 +109,7 @@ module _ {T W : Type 0} (slots id p : ℕ) (l : Lines) (m : Rolls W) (lg : List 
 
     -- or its turn alone
     pub turns_only : (Knowing slots r (at_turn t) → Knowing slots r (at_turn u)) → says (slice_index words j) (at_turn u, []) → RingOutcome j (λ x. x) says (at_turn t, []) id words homes slots views
-    turns_only know told = only_looks l lg (refl, refl, refl, refl) (same_turns (of_ring slots r) l) (sights_rest (of_ring slots r) (of_ring slots r) (at_turn t) (at_turn u) refl (λ shut z. z) (λ f. refl)) know (λ k. carries_same k p 0 0 l l m lg refl) told
+    turns_only know told = only_looks l lg (same_messages lg) (refl, refl, refl, refl) (same_turns (of_ring slots r) l) (sights_rest (of_ring slots r) (of_ring slots r) (at_turn t) (at_turn u) refl (λ shut z. z) (λ f. refl)) know (λ k. carries_same k p 0 0 l l m lg refl) told
 
   -- ---- a pop reads the head
 
@@ -204,7 +206,7 @@ module _ {T W : Type 0} (slots id p : ℕ) (l : Lines) (m : Rolls W) (lg : List 
     its_number unshut = let k = mark_is slots (omega (arith, several)) h.seats.limit in let a = number_below slots (ring_mark slots) (omega (arith, several)) k r.tail in let e = open_tail slots words homes r h.cells unshut in omega arith
 
     by_turn : (b : Bool) → r.closed ≡ b → RingOutcome 48 (λ x. x) SawTail (at_turn Rest, []) id words homes slots views
-    by_turn true shut = only_looks 48 SawTail Rest Rest (rest_loose slots) (rest_loose slots) words homes r views h at (no_send_again l) (lg ++ Saw Seen ∷ []) (refl, refl, refl, refl)
+    by_turn true shut = only_looks 48 SawTail Rest Rest (rest_loose slots) (rest_loose slots) words homes r views h at (no_send_again l) (lg ++ Saw Seen ∷ []) (saw_messages lg Seen) (refl, refl, refl, refl)
         (λ d s. subst (λ (b : Bool). Turns d s (picture (r.tail - r.head) (r.head + slots - r.tail) (reach r - r.head) b) (picture (r.tail - r.head) (r.head + slots - r.tail) (reach r - r.head) b) l (no_send_again l)) (sym shut)
         (shut_again_turns (r.tail - r.head) (r.head + slots - r.tail) (reach r - r.head) l kept_in_hand d s))
         seen_so (λ k parts. let z = k parts in ((true, refl), put_saw r.tail lg Seen z.1, took_saw r.head lg Seen z.2, ends_more (at_number slots r.tail) lg (Saw Seen) refl z.3)) (λ k. carries_more k p 0 0 l (no_send_again l) m lg some_part (Saw Seen) refl refl refl refl refl (inr (omega arith)))
@@ -216,7 +218,7 @@ module _ {T W : Type 0} (slots id p : ℕ) (l : Lines) (m : Rolls W) (lg : List 
             let d = one_more p 0 0 l (no_send_again l) m lg some_part Seen of_drained in
             let e : k of_closer + sights_of of_closer (turning Rest (pass {W = W} p 0 (no_send_again l) m (lg ++ Saw Seen ∷ []))) ≡ k of_closer + sights_of of_closer (at_turn Rest) = omega arith in
             (e ∙ one, (λ more. shut), (λ more. gone (omega arith)))
-    by_turn false unshut = only_looks 48 SawTail Rest (Tailed r.tail) (rest_loose slots) (tailed_loose slots r.tail) words homes r views h at (seen_open_line l) lg (refl, refl, refl, refl)
+    by_turn false unshut = only_looks 48 SawTail Rest (Tailed r.tail) (rest_loose slots) (tailed_loose slots r.tail) words homes r views h at (seen_open_line l) lg (same_messages lg) (refl, refl, refl, refl)
         (λ d s. subst (λ (b : Bool). Turns d s (picture (r.tail - r.head) (r.head + slots - r.tail) (reach r - r.head) b) (picture (r.tail - r.head) (r.head + slots - r.tail) (reach r - r.head) b) l (seen_open_line l)) (sym unshut)
         (seen_turns (r.tail - r.head) (r.head + slots - r.tail) (reach r - r.head) l d s))
         (sights_rest (of_ring slots r) (of_ring slots r) (at_turn Rest) (turning (Tailed r.tail) (pass p 0 (seen_open_line l) m lg)) refl (λ shut z. z) (λ f. refl))
@@ -250,7 +252,7 @@ module _ {T W : Type 0} (slots id p : ℕ) (l : Lines) (m : Rolls W) (lg : List 
         let t = denote.same_pos slots (ring_mark slots) (omega (arith, several)) (mark_is slots (omega (arith, several)) h.seats.limit) r.head c (sym h.cells.head ∙ e) in
         let late : c + slots ≤ r.tail = k.0.2.0 in
         let none_free : r.head + slots - r.tail ≡ 0 = omega arith in
-        only_looks 0 SawFull (Behind c) Rest (behind_loose slots c) (rest_loose slots) words homes r views h at (no_place l) lg (refl, refl, refl, refl)
+        only_looks 0 SawFull (Behind c) Rest (behind_loose slots c) (rest_loose slots) words homes r views h at (no_place l) lg (same_messages lg) (refl, refl, refl, refl)
         (λ d s. full_turns (r.tail - r.head) (r.head + slots - r.tail) (reach r - r.head) r.closed l none_free seen d s)
         (sights_rest (of_ring slots r) (of_ring slots r) (at_turn (Behind c)) (turning Rest (pass p 0 (no_place l) m lg)) refl (λ shut z. z) (λ f. refl))
         (λ q parts. let z = q parts in ((true, refl), z.1, z.2, z.3)) (λ q. carries_same q p 0 0 l (no_place l) m lg refl) (inl (e, refl)))

@@ -32,12 +32,13 @@ use Rattle.channel_wakeups.specs.Lists.{total}
 use Rattle.channel_wakeups.specs.Log.{PutBefore, TookBefore, EndsAt, Closings, of_closer}
 use Rattle.channel_wakeups.specs.RingSteps.{won_ring_place, tail_moved, end_read, head_moved, message_stored, moved_on}
 use Rattle.channel_wakeups.specs.Turns.{phase_of, owed_by_turn}
-use Rattle.channel_wakeups.specs.Views.{only, sights_of, pass, turning, won_message, no_message, no_more, Picture, picture, at_number, of_ring, Law, RingCells, RingSeats, Ringed, Shown, one_slot, a_ring, Knowing, Woken, Known}
+use Rattle.channel_wakeups.specs.Views.{only, sights_of, pass, turning, won_message, no_message, no_more, Picture, picture, at_number, of_ring, Law, RingCells, RingSeats, RingHistory, Ringed, Shown, one_slot, a_ring, Knowing, Woken, Known}
 use Rattle.channel_wakeups.proofs.Hands.{Carries, counted_kept, carries_same, carries_more}
-use Rattle.channel_wakeups.proofs.Laws.{Turns, law_kept, same_turns, rests_turns, drains_turns}
+use Rattle.channel_wakeups.proofs.Laws.{Turns, law_kept, same_turns, rests_turns, drains_turns, no_empty}
 use Rattle.channel_wakeups.proofs.Logs.{not_seen, not_drained, one_more, moved, sights_same, ends_later, ends_more}
 use Rattle.channel_wakeups.proofs.Rings.{know_at, seats_set, put_saw, took_saw}
 use Rattle.channel_wakeups.proofs.RingCells.{same_or_other, slots_took, slots_gave, was_home, tail_written, head_written, stamp_written}
+use Rattle.channel_wakeups.proofs.RingHistories.{same_messages, saw_messages, history_stays, history_kept, history_awaits, history_leaves, history_gains, still_in_place, none_out}
 use Rattle.channel_wakeups.proofs.RingLaws.{puts_turns, takes_turns, sights_rest, put_below, took_put, put_took, took_below}
 use Rattle.channel_wakeups.proofs.RingSeats.{Moved, on_end, queue_of, is_shown, moved as as_moved, in_order, seats_moved, took_later, holds_it, holds_not, eq_other}
 use Rattle.channel_wakeups.proofs.Sums.{Sights}
@@ -161,6 +162,8 @@ module _ {T W : Type 0} (slots id p n : ℕ) (l : Lines) (m : Rolls W) (lg : Lis
             seats = seats_moved slots r o (act.PushPut Refuse tt n) views id ready filling at some_part some_part go (λ d. refl) (few_so r.coming t.0)
                 (λ parts. ((refl, knows_so.2.1, knows_so.2.2), (λ j more. k.1 j (omega arith)), k.2, ends_later (at_number slots r.tail) (at_number slots (r.tail + 1)) lg (in_order slots r.tail (r.tail + 1) positive h.seats.limit (omega arith)) k.3)) h.seats;
             law = law_so t.1 room order;
+            history = history_awaits slots homes (set homes (n % slots) none) r o views id ready filling at some_part some_part n t.0 refl refl
+                (still_in_place slots homes (set homes (n % slots) none) r o (n % slots) none none_out refl (λ j apart. refl)) (same_messages lg) (λ k. omega arith) h.history;
           },
           (λ j. carries_same j p 0 0 l (won_ring_place l) m lg refl),
           inl (found, (λ j more. k.1 j (omega (arith, t.0))), took_later r.head n lg (omega (arith, t.0)) k.2, (x.0, refl)),
@@ -189,6 +192,7 @@ module _ {T W : Type 0} (slots id p n : ℕ) (l : Lines) (m : Rolls W) (lg : Lis
         cells = subst (λ (ws : List ℕ). RingCells slots ws homes r) (sym (same_words words 48 (swap_tail (slice_index words 48)) unchanged)) h.cells;
         seats = seats_set slots r views id ready (turning Rest (pass p 0 l m lg)) at (λ d. ap (λ (k : ℕ). only p k) (rest_owes slots d ∙ sym (ready_owes slots n d))) (λ k parts. let z = k parts in ((true, refl), z.1, z.2, z.3)) h.seats;
         law = law_kept (of_ring slots r) (of_ring slots r) views id p 0 0 (Ready n) Rest l l m lg lg some_part at (refl, refl, refl, refl) (same_turns (of_ring slots r) l) (sights_rest (of_ring slots r) (of_ring slots r) ready (turning Rest (pass p 0 l m lg)) refl (λ shut z. z) (λ f. refl)) h.law;
+        history = history_kept slots homes r views id ready (turning Rest (pass p 0 l m lg)) at some_part some_part (same_messages lg) (λ k. refl) h.history;
       },
       (λ j. carries_same j p 0 0 l l m lg refl),
       inr (other, refl),
@@ -243,13 +247,14 @@ module _ {T W : Type 0} (slots id p n : ℕ) (l : Lines) (m : Rolls W) (lg : Lis
             absurd (omega (arith, several))
         by_way false c = let k = (knew some_part).0.2 in omega arith
 
-    quiet : (u : View T W) → RingSeats slots r (set views id u) → Law (of_ring slots r) (set views id u) → ((k : Kind) → Carries k vacant u) → Looked (slice_index words 48) (u, []) → RingOutcome 48 (λ x. x) Looked (vacant, []) id words homes slots views
-    quiet u seats law carried says = (u, keeps, r, tt, record { cells = subst (λ (ws : List ℕ). RingCells slots ws homes r) (sym (word_again words 48)) h.cells; seats = seats; law = law }, carried, says)
+    quiet : (u : View T W) → RingSeats slots r (set views id u) → Law (of_ring slots r) (set views id u) → RingHistory slots homes r (set views id u) → ((k : Kind) → Carries k vacant u) → Looked (slice_index words 48) (u, []) → RingOutcome 48 (λ x. x) Looked (vacant, []) id words homes slots views
+    quiet u seats law history carried says = (u, keeps, r, tt, record { cells = subst (λ (ws : List ℕ). RingCells slots ws homes r) (sym (word_again words 48)) h.cells; seats = seats; law = law; history = history }, carried, says)
 
     looks_on : (r.tail ≡ n → ⊥) → RingOutcome 48 (λ x. x) Looked (vacant, []) id words homes slots views
     looks_on other = quiet (turning Rest (pass p 0 l m lg))
         (seats_set slots r views id vacant (turning Rest (pass p 0 l m lg)) at (λ d. ap (λ (k : ℕ). only p k) (rest_owes slots d ∙ sym (vacant_owes slots n d))) (λ k parts. let z = k parts in ((true, refl), z.1, z.2, z.3)) h.seats)
         (law_kept (of_ring slots r) (of_ring slots r) views id p 0 0 (Vacant n) Rest l l m lg lg some_part at (refl, refl, refl, refl) (same_turns (of_ring slots r) l) (sights_rest (of_ring slots r) (of_ring slots r) vacant (turning Rest (pass p 0 l m lg)) refl (λ shut z. z) (λ f. refl)) h.law)
+        (history_kept slots homes r views id vacant (turning Rest (pass p 0 l m lg)) at some_part some_part (same_messages lg) (λ k. refl) h.history)
         (λ j. carries_same j p 0 0 l l m lg refl)
         (inr (inr ((λ e. other (denote.same_pos slots (ring_mark slots) some_slot its_mark r.tail n (sym now_tail ∙ e))), refl)))
 
@@ -261,6 +266,7 @@ module _ {T W : Type 0} (slots id p n : ℕ) (l : Lines) (m : Rolls W) (lg : Lis
         (λ d s. subst (λ (b : Bool). Turns d s (picture (r.tail - r.head) (r.head + slots - r.tail) (reach r - r.head) b) (picture (r.tail - r.head) (r.head + slots - r.tail) (reach r - r.head) b) l (no_message l)) (sym unshut)
         (rests_turns (r.tail - r.head) (r.head + slots - r.tail) (reach r - r.head) l (none_there there) d s))
         (sights_rest (of_ring slots r) (of_ring slots r) vacant (turning Rest (pass p 0 (no_message l) m lg)) refl (λ shut z. z) (λ f. refl)) h.law)
+        (history_kept slots homes r views id vacant (turning Rest (pass p 0 (no_message l) m lg)) at some_part some_part (same_messages lg) (λ k. refl) h.history)
         (λ j. carries_same j p 0 0 l (no_message l) m lg refl)
         (inl (now_tail ∙ ap (at_number slots) there, now_shut ∙ unshut, not_seen views id vacant at some_part (reach r - r.head) (subst (λ (b : Bool). Closings b (reach r - r.head) (λ f. total (sights_of f) views)) unshut h.law.closings), refl))
 
@@ -273,6 +279,7 @@ module _ {T W : Type 0} (slots id p n : ℕ) (l : Lines) (m : Rolls W) (lg : Lis
         (λ d s. subst (λ (b : Bool). Turns d s (picture (r.tail - r.head) (r.head + slots - r.tail) (reach r - r.head) b) (picture (r.tail - r.head) (r.head + slots - r.tail) (reach r - r.head) b) l (no_more l)) (sym shut)
         (drains_turns (r.tail - r.head) (r.head + slots - r.tail) (reach r - r.head) l (none_there there) d s))
         drained h.law)
+        (history_kept slots homes r views id vacant (turning Rest (pass p 0 (no_more l) m (lg ++ Saw Drained ∷ []))) at some_part some_part (saw_messages lg Drained) (λ k. refl) h.history)
         (λ j. carries_more j p 0 0 l (no_more l) m lg some_part (Saw Drained) refl refl refl refl refl (inr (omega arith)))
         (inr (inl (now_tail ∙ ap (at_number slots) there, now_shut ∙ shut, refl)))
       where
@@ -352,6 +359,8 @@ module _ {T W : Type 0} (slots id p n : ℕ) (l : Lines) (m : Rolls W) (lg : Lis
                     (takes_turns (r.tail - r.head) (r.head + slots - r.tail) (reach r - r.head) (reach r - (r.head + 1)) r.closed l (omega arith) one d s)))
                     (sights_rest (of_ring slots r) (of_ring slots next_ring) written (turning (Emptying n) (pass p 0 (won_message l) m (lg ++ Out n y ∷ []))) refl (λ shut z. (let q : reach r - r.head ≡ 0 = z in omega arith))
                     (sights_same p 0 0 l (won_message l) m lg (lg ++ Out n y ∷ []) (moved lg (Out n y) (λ f. refl)))) h.law;
+                history = history_leaves slots homes (set homes (n % slots) none) r next_ring views id written (turning (Emptying n) (pass p 0 (won_message l) m (lg ++ Out n y ∷ []))) at some_part some_part n (n % slots) y t refl refl
+                    (still_in_place slots homes (set homes (n % slots) none) r next_ring (n % slots) none none_out refl (λ j apart. refl)) inside here there.2.0 refl (λ k. refl) h.history;
               },
               (λ j. carries_more j p 0 0 l (won_message l) m lg some_part (Out n y) refl refl refl refl refl (inl (omega arith))),
               inl (found, not_drained views id written at some_part r.closed (reach r - r.head) (some_near r.coming) h.law.closings, took_later r.head n lg (omega arith) k.2, (y, refl)),
@@ -371,6 +380,7 @@ module _ {T W : Type 0} (slots id p n : ℕ) (l : Lines) (m : Rolls W) (lg : Lis
         cells = subst (λ (ws : List ℕ). RingCells slots ws homes r) (sym (same_words words 0 (swap_head (slice_index words 0)) unchanged)) h.cells;
         seats = seats_set slots r views id written (turning Rest (pass p 0 l m lg)) at (λ d. ap (λ (k : ℕ). only p k) (rest_owes slots d ∙ sym (written_owes slots n d))) (λ k parts. let z = k parts in ((true, refl), z.1, z.2, z.3)) h.seats;
         law = law_kept (of_ring slots r) (of_ring slots r) views id p 0 0 (Written n) Rest l l m lg lg some_part at (refl, refl, refl, refl) (same_turns (of_ring slots r) l) (sights_rest (of_ring slots r) (of_ring slots r) written (turning Rest (pass p 0 l m lg)) refl (λ shut z. z) (λ f. refl)) h.law;
+        history = history_kept slots homes r views id written (turning Rest (pass p 0 l m lg)) at some_part some_part (same_messages lg) (λ k. refl) h.history;
       },
       (λ j. carries_same j p 0 0 l l m lg refl),
       inr (other, refl),
@@ -440,6 +450,8 @@ module _ {T W : Type 0} (slots id p n : ℕ) (l : Lines) (m : Rolls W) (lg : Lis
                   law = subst (λ (q : Picture). Law q (set views id stored)) (sym as_was)
                       (law_kept (of_ring slots r) (of_ring slots r) views id p 0 0 (Filling n) Rest l l m lg (lg ++ In n x ∷ []) some_part at (refl, refl, refl, refl) (same_turns (of_ring slots r) l)
                       (sights_rest (of_ring slots r) (of_ring slots r) (turning (Filling n) (pass p 0 l m lg)) stored refl (λ shut z. z) (sights_same p 0 0 l l m lg (lg ++ In n x ∷ []) (moved lg (In n x) (λ f. refl)))) h.law);
+                  history = history_gains slots homes (set homes (n % slots) (some (Some x))) r r2 views id (turning (Filling n) (pass p 0 l m lg)) stored at some_part some_part n (n % slots) x h.seats.sound low heads tails refl refl
+                      (ap (λ (s : SlotState (Unit {0})). s.round) is) (λ j apart. ap (λ (s : SlotState (Unit {0})). s.round) (if_other r1 (n % slots) j pl apart ∙ others j apart)) refl (λ k. omega arith) h.history;
                 },
                 (λ j. carries_more j p 0 0 l l m lg some_part (In n x) refl refl refl refl refl (inl (omega arith))),
                 refl,
@@ -504,6 +516,9 @@ module _ {T W : Type 0} (slots id p n : ℕ) (l : Lines) (m : Rolls W) (lg : Lis
                 law = subst (λ (q : Picture). Law q (set views id freed)) (sym as_was)
                     (law_kept (of_ring slots r) (of_ring slots r) views id p 0 0 (Emptying n) Rest l l m lg lg some_part at (refl, refl, refl, refl) (same_turns (of_ring slots r) l)
                     (sights_rest (of_ring slots r) (of_ring slots r) (turning (Emptying n) (pass p 0 l m lg)) freed refl (λ shut z. z) (λ f. refl)) h.law);
+                history = history_stays slots homes (set homes (n % slots) (some None)) r r2 views id (turning (Emptying n) (pass p 0 l m lg)) freed at some_part some_part heads tails
+                    (still_in_place slots homes (set homes (n % slots) (some None)) r r2 (n % slots) (some None) no_empty refl (λ j apart. ap (λ (s : SlotState (Unit {0})). s.round) (if_other r1 (n % slots) j pl apart ∙ others j apart)))
+                    (same_messages lg) (λ k. refl) h.history;
               },
               (λ j. carries_same j p 0 0 l l m lg refl),
               refl,

@@ -13,24 +13,25 @@ use Rattle.channel_wakeups.specs.declared.rule.Roll.{Roll}
 use Rattle.channel_wakeups.specs.declared.rule.Rolls.{Rolls}
 use Rattle.channel_wakeups.specs.declared.rule.View.{View}
 use Rattle.channel_wakeups.specs.Lists.{total, told, waits, listed}
-use Rattle.channel_wakeups.specs.Views.{in_hand, at_number, Picture, at_word, Law, one_slot, Knowing, AllKnow, owes_of, Side, of_receives, of_sends, of_streams, of_closings, Duty, to_one, to_all, of, roll, idle, idle_lines, no_roll, no_rolls, with_roll, calling, ticketed, nobody, pass, everything, entered, stays, comes_out, without, alone, absorbed, kept_half, given_half, one_ticket, ticket_is, no_ticket, ticket_of, with_ticket, only, is_key, parts_of, here_of, answered_of, holds_of, sights_of, locks_of, owns_of, waits_of, listed_of, tickets_of, puts_of, takes_of, word_of, messages, has_message, is_shut, due, wanted, Owed, IsSlot, empty, full, out, AllAgree, Ordered, Kept, Counted, handed, count_of, handles_of, closes_of, Woken, Known, HasAll, learns}
+use Rattle.channel_wakeups.specs.Views.{in_hand, at_number, Picture, at_word, Law, one_slot, Knowing, AllKnow, owes_of, Side, of_receives, of_sends, of_streams, of_closings, Duty, to_one, to_all, of, roll, idle, idle_lines, no_roll, no_rolls, with_roll, calling, ticketed, nobody, pass, everything, entered, stays, comes_out, without, alone, absorbed, kept_half, given_half, one_ticket, ticket_is, no_ticket, ticket_of, with_ticket, only, is_key, parts_of, here_of, answered_of, holds_of, sights_of, locks_of, owns_of, waits_of, listed_of, tickets_of, puts_of, takes_of, word_of, messages, has_message, is_shut, due, wanted, Owed, IsSlot, empty, full, out, AllAgree, Ordered, Kept, Counted, handed, count_of, handles_of, closes_of, Woken, Known, HasAll, learns, AllLogs, brings_of}
 use Rattle.channel_wakeups.proofs.Sides.{of_with, roll_with, idle_ticket, none_there, which, Untouched}
 use Rattle.channel_wakeups.proofs.Sums.{at_nobody, balanced_by, closings_by, only_none, only_some, only_zero, owed_by, slot_by, none_here, none_both, none_waits, none_listed, none_tickets, none_answered, others, was, total_set, total_snoc, by_itself}
 use Rattle.channel_wakeups.specs.Counts.{one_hand, fewer_hands, lone_handle, coupled, uncoupled}
-use Rattle.channel_wakeups.specs.Log.{Weight, numbered, PutBefore, TookBefore, puts, takes, sights, each, each_sight, raised_of, lowered_of, last_of, gone_of, Leaves, Tallied, Agrees, IsHistory, Balanced, Accounts, Closings}
+use Rattle.channel_wakeups.specs.Log.{Weight, numbered, PutBefore, TookBefore, puts, takes, sights, each, each_sight, raised_of, lowered_of, last_of, gone_of, Leaves, Tallied, Every, InHistory, Agrees, IsHistory, Balanced, Accounts, Closings}
 use Rattle.channel_wakeups.specs.declared.rule.Sight.{Sight}
 use Rattle.channel_wakeups.proofs.Logs.{puts_append, takes_append, sights_append, ends_both}
 use Rattle.channel_wakeups.proofs.Hands.{none_of, hands_with}
 use Rattle.channel_wakeups.proofs.Laws.{of_handed}
-use Rattle.channel_wakeups.proofs.History.{agrees_append, agrees_at, agrees_beside, agrees_set, agrees_snoc}
+use Rattle.channel_wakeups.proofs.History.{every_append, logs_at, logs_beside, logs_set, logs_snoc}
 use Rattle.channel_wakeups.proofs.Laws.{no_empty}
 use Rattle.channel_wakeups.proofs.Moves.{by_all, unchanged}
 use Rattle.channel_wakeups.proofs.Rings.{know_at, know_beside, know_set, know_snoc, seats_so}
 use Rattle.channel_wakeups.proofs.Beside.{Beside, shown_so}
+use Rattle.channel_wakeups.proofs.RingHistories.{history_so}
 use Rattle.concurrent_queue.specs.machine.RingCalls as ring
 use Rattle.concurrent_queue.specs.machine.RingState.{Ring}
 use Rattle.channel_wakeups.specs.declared.rule.Turn.TheVariants.{Rest}
-use Rattle.channel_wakeups.specs.Turns.{owed_by_turn}
+use Rattle.channel_wakeups.specs.Turns.{owed_by_turn, bringing}
 use Rattle.channel_wakeups.specs.declared.rule.Transfer.{Transfer}
 
 -- all that is counted of a side
@@ -45,6 +46,7 @@ data Sum (T : Type 0) : Type 0 where
   parts locks owns closing : Sum T
   handing : Kind → Sum T
   going : ℕ → ring.Duty → Sum T
+  bringing_in : ℕ → ℕ → Sum T
   putting taking : Weight T → Sum T
   seeing : (Sight → ℕ) → Sum T
   on : Side → LineSum → Sum T
@@ -67,6 +69,7 @@ module _ {T W : Type 0} where
   sum_of closing v = closes_of v
   sum_of (handing k) v = handles_of k v
   sum_of (going cap d) v = owes_of cap d v
+  sum_of (bringing_in cap j) v = brings_of cap j v
   sum_of (putting f) v = puts_of f v
   sum_of (taking f) v = takes_of f v
   sum_of (seeing f) v = sights_of f v
@@ -102,6 +105,7 @@ nothing T W owns = refl
 nothing T W closing = refl
 nothing T W (handing k) = none_of k
 nothing T W (going cap d) = refl
+nothing T W (bringing_in cap j) = refl
 nothing T W (putting f) = refl
 nothing T W (taking f) = refl
 nothing T W (seeing f) = refl
@@ -131,7 +135,7 @@ module _ {T W : Type 0} where
       as_many to_all side = sym (each (on side (answering to_all)))
 
   -- so does what holds besides of one slot, but for the history
-  same : (w : ℕ) (c : Bool) (s : home.Option (Option T)) (vs ws : List (View T W)) → ((k : Sum T) → total (sum_of k) ws ≡ total (sum_of k) vs) → ((h : List T) → AllAgree h vs → AllAgree h ws) → Kept w c s vs → Kept w c s ws
+  same : (w : ℕ) (c : Bool) (s : home.Option (Option T)) (vs ws : List (View T W)) → ((k : Sum T) → total (sum_of k) ws ≡ total (sum_of k) vs) → ((p : Transfer T → Type 0) → AllLogs p vs → AllLogs p ws) → Kept w c s vs → Kept w c s ws
   same w c s vs ws each agree k =
       record {
         law = same_law (at_word w c) vs ws each k.law;
@@ -143,14 +147,15 @@ module _ {T W : Type 0} where
       of_history : Ordered s vs → Ordered s ws
       of_history (h, (counted, last), agrees) =
           let n = sym (each (putting Rattle.channel_wakeups.specs.Log.each)) in
-          (h, (counted ∙ n, λ x e. subst (λ (m : ℕ). get_elem? h (m - 1) ≡ some x) n (last x e)), agree h agrees)
+          (h, (counted ∙ n, λ x e. subst (λ (m : ℕ). get_elem? h (m - 1) ≡ some x) n (last x e)), agree (InHistory h) agrees)
 
   -- so the seats may stand so instead
-  same_beside : (vs ws : List (View T W)) → ((k : Sum T) → total (sum_of k) ws ≡ total (sum_of k) vs) → ((h : List T) → AllAgree h vs → AllAgree h ws) → ((cap : ℕ) (r : Ring (Unit {0})) → AllKnow cap r vs → AllKnow cap r ws) → Beside vs ws
+  same_beside : (vs ws : List (View T W)) → ((k : Sum T) → total (sum_of k) ws ≡ total (sum_of k) vs) → ((p : Transfer T → Type 0) → AllLogs p vs → AllLogs p ws) → ((cap : ℕ) (r : Ring (Unit {0})) → AllKnow cap r vs → AllKnow cap r ws) → Beside vs ws
   same_beside vs ws each agree know = record {
     one = λ base shut slot kept. same base shut slot vs ws each agree kept;
     law = λ p kept. same_law p vs ws each kept;
     seats = λ cap r kept. seats_so cap r vs ws (λ d. each (going cap d)) (know cap r) kept;
+    history = λ cap homes r kept. history_so cap homes r vs ws (λ k. each (taking (numbered k))) (λ k. each (putting (numbered k))) (λ k. each (bringing_in cap k)) agree kept;
   }
 
   -- and so do the counts
@@ -175,7 +180,7 @@ module _ {T W : Type 0} where
       }
 
   -- the whole rule
-  same_rule : (words : List ℕ) (homes : List (home.Option (Option T))) (vs ws : List (View T W)) → ((k : Sum T) → total (sum_of k) ws ≡ total (sum_of k) vs) → ((h : List T) → AllAgree h vs → AllAgree h ws)
+  same_rule : (words : List ℕ) (homes : List (home.Option (Option T))) (vs ws : List (View T W)) → ((k : Sum T) → total (sum_of k) ws ≡ total (sum_of k) vs) → ((p : Transfer T → Type 0) → AllLogs p vs → AllLogs p ws)
       → ((cap : ℕ) (r : Ring (Unit {0})) → AllKnow cap r vs → AllKnow cap r ws) → Woken (record { words = words; homes = homes; views = vs }) → Woken (record { words = words; homes = homes; views = ws })
   same_rule words homes vs ws each agree know h =
       record {
@@ -187,7 +192,7 @@ module _ {T W : Type 0} where
         of_receivers = same_counts h.receivers OfReceivers vs ws each h.of_receivers;
       }
 
-  joins : (id : ℕ) (v : View T W) (other : ℕ) (w both : View T W) → ((k : Sum T) → sum_of k both ≡ sum_of k v + sum_of k w) → ((h : List T) → Agrees h v.log → Agrees h w.log → Agrees h both.log)
+  joins : (id : ℕ) (v : View T W) (other : ℕ) (w both : View T W) → ((k : Sum T) → sum_of k both ≡ sum_of k v + sum_of k w) → ((p : Transfer T → Type 0) → Every p v.log → Every p w.log → Every p both.log)
       → ((cap : ℕ) (r : Ring (Unit {0})) → Knowing cap r v → Knowing cap r w → Knowing cap r both) → Joins {S = Option T} Woken id v other w both nobody
   joins id v other w both adds merges knows s h at apart there =
       let e : (k : Sum T) → total (sum_of k) (set (set s.views id both) other nobody) ≡ total (sum_of k) s.views = (λ k.
@@ -195,14 +200,14 @@ module _ {T W : Type 0} where
       let a = adds k in
       omega (arith, total_set (sum_of k) s.views id v both at, total_set (sum_of k) (set s.views id both) other w nobody there)) in
       same_rule s.words s.homes s.views (set (set s.views id both) other nobody) e
-      (λ g a. agrees_set g (set s.views id both) other nobody tt (agrees_set g s.views id both (merges g (agrees_at g s.views id v at a) (agrees_beside g s.views id other both w apart there a)) a))
+      (λ g a. logs_set g (set s.views id both) other nobody tt (logs_set g s.views id both (merges g (logs_at g s.views id v at a) (logs_beside g s.views id other both w apart there a)) a))
       (λ cap r a. know_set cap r (set s.views id both) other nobody (λ none. absurd (omega arith)) (know_set cap r s.views id both (knows cap r (know_at cap r s.views id v at a) (know_beside cap r s.views id other both w apart there a)) a)) h
 
-  splits : (id : ℕ) (v l r : View T W) → ((k : Sum T) → sum_of k l + sum_of k r ≡ sum_of k v) → ((h : List T) → Agrees h v.log → Agrees h l.log × Agrees h r.log)
+  splits : (id : ℕ) (v l r : View T W) → ((k : Sum T) → sum_of k l + sum_of k r ≡ sum_of k v) → ((p : Transfer T → Type 0) → Every p v.log → Every p l.log × Every p r.log)
       → ((cap : ℕ) (o : Ring (Unit {0})) → Knowing cap o v → Knowing cap o l × Knowing cap o r) → Splits {S = Option T} Woken id v l r
   splits id v l r adds parts_of_log knows s h at =
       let e : (k : Sum T) → total (sum_of k) (set s.views id l ++ r ∷ []) ≡ total (sum_of k) s.views = (λ k. let a = adds k in omega (arith, total_set (sum_of k) s.views id v l at, total_snoc (sum_of k) (set s.views id l) r)) in
-      same_rule s.words s.homes s.views (set s.views id l ++ r ∷ []) e (λ g a. let b = parts_of_log g (agrees_at g s.views id v at a) in agrees_snoc g (set s.views id l) r b.1 (agrees_set g s.views id l b.0 a))
+      same_rule s.words s.homes s.views (set s.views id l ++ r ∷ []) e (λ g a. let b = parts_of_log g (logs_at g s.views id v at a) in logs_snoc g (set s.views id l) r b.1 (logs_set g s.views id l b.0 a))
       (λ cap o a. let b = knows cap o (know_at cap o s.views id v at a) in know_snoc cap o (set s.views id l) r b.1 (know_set cap o s.views id l b.0 a)) h
 
 -- ---- a pass goes into a list's seat, and comes out of it
@@ -228,6 +233,7 @@ module _ {T W : Type 0} where
       adds closing = let z = only_none v.parts v.calls.hands.closes no_part in omega arith
       adds (handing k) = let z : count_of k v.calls.hands ≡ 0 = (λ j. count_of k (no_call j).hands) ∙ none_of k in omega arith
       adds (going cap d) = let z = only_none v.parts (owed_by_turn cap d v.turn) no_part in omega arith
+      adds (bringing_in cap j) = let z = only_none v.parts (bringing cap j v.turn) no_part in omega arith
       adds (putting f) = let z = only_none v.parts (puts f v.log) no_part in omega arith
       adds (taking f) = let z = only_none v.parts (takes f v.log) no_part in omega arith
       adds (seeing f) = let z = only_none v.parts (sights f v.log) no_part in omega arith
@@ -255,6 +261,7 @@ module _ {T W : Type 0} where
       adds closing = omega arith
       adds (handing k) = let z = none_of k in omega arith
       adds (going cap d) = omega arith
+      adds (bringing_in cap j) = omega arith
       adds (putting f) = omega arith
       adds (taking f) = omega arith
       adds (seeing f) = omega arith
@@ -305,6 +312,7 @@ module _ {T W : Type 0} where
       adds closing = let z = only_none v.parts v.calls.hands.closes no_part in omega arith
       adds (handing k) = let y = none_of k in let z : count_of k v.calls.hands ≡ 0 = (λ j. count_of k (no_call j).hands) ∙ none_of k in omega arith
       adds (going cap d) = let z = only_none v.parts (owed_by_turn cap d v.turn) no_part in omega arith
+      adds (bringing_in cap j) = let z = only_none v.parts (bringing cap j v.turn) no_part in omega arith
       adds (putting f) = let z = only_none v.parts (puts f v.log) no_part in omega arith
       adds (taking f) = let z = only_none v.parts (takes f v.log) no_part in omega arith
       adds (seeing f) = let z = only_none v.parts (sights f v.log) no_part in omega arith
@@ -316,7 +324,7 @@ module _ {T W : Type 0} where
   idle_pass p lg = pass p 0 idle_lines no_rolls lg
 
   pub absorbs : (id p port q : ℕ) (lg mg : List (Transfer T)) → 0 < p → 0 < q → Joins {S = Option T} Woken id (idle_pass p lg) port (idle_pass q mg) (absorbed (idle_pass p lg) (idle_pass q mg)) nobody
-  absorbs id p port q lg mg sp sq = joins id (idle_pass p lg) port (idle_pass q mg) (absorbed (idle_pass p lg) (idle_pass q mg)) adds (λ g b c. agrees_append g lg mg b c)
+  absorbs id p port q lg mg sp sq = joins id (idle_pass p lg) port (idle_pass q mg) (absorbed (idle_pass p lg) (idle_pass q mg)) adds (λ g b c. every_append g lg mg b c)
       (λ cap r b c some_part. let x = b sp in let y = c sq in ((true, refl), put_both r.tail lg mg x.1 y.1, took_both r.head lg mg x.2 y.2, ends_both (at_number cap r.tail) lg mg x.3 y.3))
     where
       adds : (k : Sum T) → sum_of k (absorbed (idle_pass p lg) (idle_pass q mg)) ≡ sum_of k (idle_pass p lg) + sum_of k (idle_pass q mg)
@@ -326,6 +334,7 @@ module _ {T W : Type 0} where
       adds closing = omega (arith, only_zero (p + q), only_zero p, only_zero q)
       adds (handing k) = let z = none_of k in omega arith
       adds (going cap d) = let o = none_owed cap d in omega (arith, only_by (p + q) o, only_by p o, only_by q o)
+      adds (bringing_in cap j) = omega (arith, only_zero (p + q), only_zero p, only_zero q)
       adds (putting f) = omega (arith, puts_append f lg mg, only_some (p + q) (puts f (lg ++ mg)) (omega arith), only_some p (puts f lg) sp, only_some q (puts f mg) sq)
       adds (taking f) = omega (arith, takes_append f lg mg, only_some (p + q) (takes f (lg ++ mg)) (omega arith), only_some p (takes f lg) sp, only_some q (takes f mg) sq)
       adds (seeing f) = omega (arith, sights_append f lg mg, only_some (p + q) (sights f (lg ++ mg)) (omega arith), only_some p (sights f lg) sp, only_some q (sights f mg) sq)
@@ -341,6 +350,7 @@ module _ {T W : Type 0} where
       adds closing = omega (arith, only_zero (p - p / 2), only_zero (p / 2), only_zero p)
       adds (handing k) = let z = none_of k in omega arith
       adds (going cap d) = let o = none_owed cap d in omega (arith, only_by (p - p / 2) o, only_by (p / 2) o, only_by p o)
+      adds (bringing_in cap j) = omega (arith, only_zero (p - p / 2), only_zero (p / 2), only_zero p)
       adds (putting f) = omega (arith, only_some (p - p / 2) (puts f lg) (omega arith), only_zero (p / 2), only_some p (puts f lg) (omega arith))
       adds (taking f) = omega (arith, only_some (p - p / 2) (takes f lg) (omega arith), only_zero (p / 2), only_some p (takes f lg) (omega arith))
       adds (seeing f) = omega (arith, only_some (p - p / 2) (sights f lg) (omega arith), only_zero (p / 2), only_some p (sights f lg) (omega arith))
@@ -411,6 +421,7 @@ module _ {T W : Type 0} where
         let c : handles_of k (ticket_is side q t v) ≡ count_of k v.calls.hands = (λ j. count_of k (hands_with side (ticketed t (of side v.calls)) v.calls j)) in
         omega arith
     ticket_adds e (going cap d) = omega (arith, only_some p (owed_by_turn cap d v.turn) some_part, only_some q (owed_by_turn cap d v.turn) more, none_owed cap d)
+    ticket_adds e (bringing_in cap j) = omega (arith, only_some p (bringing cap j v.turn) some_part, only_some q (bringing cap j v.turn) more)
     ticket_adds e (putting f) = omega (arith, only_some p (puts f v.log) some_part, only_some q (puts f v.log) more)
     ticket_adds e (taking f) = omega (arith, only_some p (takes f v.log) some_part, only_some q (takes f v.log) more)
     ticket_adds e (seeing f) = omega (arith, only_some p (sights f v.log) some_part, only_some q (sights f v.log) more)
@@ -469,6 +480,7 @@ module _ {T W : Type 0} where
       adds closing = let e : closes_of (uncoupled k v) ≡ closes_of v = (λ j. only v.parts (fewer_closes k v.calls.hands j)) in omega arith
       adds (handing j) = fewer_and_one k j v.calls.hands positive
       adds (going cap d) = omega arith
+      adds (bringing_in cap j) = omega arith
       adds (putting f) = omega arith
       adds (taking f) = omega arith
       adds (seeing f) = omega arith
@@ -485,6 +497,7 @@ module _ {T W : Type 0} where
       adds (handing OfSenders) = refl
       adds (handing OfReceivers) = refl
       adds (going cap d) = omega arith
+      adds (bringing_in cap j) = omega arith
       adds (putting f) = omega arith
       adds (taking f) = omega arith
       adds (seeing f) = omega arith
@@ -501,7 +514,7 @@ module _ {T W : Type 0} where
   pub blank : (slots : ℕ) → Enters {S = Option T} {V = View T W} Woken slots 0 (λ n w. w ≡ nobody)
   blank slots s h wide small =
       let e : (k : Sum T) → total (sum_of k) (s.views ++ nobody ∷ []) ≡ total (sum_of k) s.views = (λ k. let z = nothing T W k in omega (arith, total_snoc (sum_of k) s.views nobody)) in
-      (nobody, same_rule s.words s.homes s.views (s.views ++ nobody ∷ []) e (λ g a. agrees_snoc g s.views nobody tt a) (λ cap r a. know_snoc cap r s.views nobody (λ none. absurd (omega arith)) a) h, refl)
+      (nobody, same_rule s.words s.homes s.views (s.views ++ nobody ∷ []) e (λ g a. logs_snoc g s.views nobody tt a) (λ cap r a. know_snoc cap r s.views nobody (λ none. absurd (omega arith)) a) h, refl)
 
   -- the start: there is no message, and nobody waits
   pub begins : Woken {T = T} {W = W} (opening (0 ∷ (spare ++ 1 ∷ (spare ++ 1 ∷ []))) (None ∷ []) everything)
@@ -652,7 +665,7 @@ module _ {T W : Type 0} where
         of_order : (held : Option T) → slot ≡ some held → Ordered slot vs → (history : List T) × IsHistory (some held) (puts each v.log) history × Agrees history v.log
         of_order held e (h, (counted, last), agree) =
             let n = all_puts each in
-            (h, (counted ∙ n, λ x d. subst (λ (m : ℕ). get_elem? h (m - 1) ≡ some x) n (last x (e ∙ d))), agrees_at h vs id v at agree)
+            (h, (counted ∙ n, λ x d. subst (λ (m : ℕ). get_elem? h (m - 1) ≡ some x) n (last x (e ∙ d))), logs_at (InHistory h) vs id v at agree)
 
         balances : (held : Option T) → slot ≡ some held → Balanced slot (λ f. total (puts_of f) vs) (λ f. total (takes_of f) vs) → Balanced (some held) (λ f. puts f v.log) (λ f. takes f v.log)
         balances held e b = balanced_by (some held) _ _ _ _ all_puts all_takes (subst (λ (s : home.Option (Option T)). Balanced s (λ f. total (puts_of f) vs) (λ f. total (takes_of f) vs)) e b)

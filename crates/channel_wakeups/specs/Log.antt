@@ -116,6 +116,11 @@ module _ {T : Type 0} where
   abbrev pub Balanced : home.Option (Option T) → (Weight T → ℕ) → (Weight T → ℕ) → Type 0
   Balanced slot put taken = ((k : ℕ) → Once (put each) k (put (numbered k))) × ((f : Weight T) → put f ≡ taken f + held (put each) f slot)
 
+  -- this is so of each entry
+  abbrev pub Every : (Transfer T → Type 0) → List (Transfer T) → Type 0
+  Every p [] = Unit {0}
+  Every p (e ∷ l) = p e × Every p l
+
   -- the message stands in the history under its number; so does each of a log
   abbrev pub InHistory : List T → Transfer T → Type 0
   InHistory history (In k x) = get_elem? history k ≡ home.some x
@@ -123,8 +128,7 @@ module _ {T : Type 0} where
   InHistory history (Saw s) = Unit {0}
 
   abbrev pub Agrees : List T → List (Transfer T) → Type 0
-  Agrees history [] = Unit {0}
-  Agrees history (e ∷ l) = InHistory history e × Agrees history l
+  Agrees history log = Every (InHistory history) log
 
   -- this is one of the log
   abbrev pub Has : Transfer T → List (Transfer T) → Type 0
@@ -139,6 +143,21 @@ module _ {T : Type 0} where
   abbrev pub Accounts : Option T → List (Transfer T) → Type 0
   Accounts slot log =
       Balanced (home.some slot) (λ f. puts f log) (λ f. takes f log) × ((history : List T) × IsHistory (home.some slot) (puts each log) history × Agrees history log)
+
+  -- the same of a history that may have no message for a number yet
+  abbrev pub IsRecorded : (ℕ → home.Option T) → Transfer T → Type 0
+  IsRecorded history (In k x) = history k ≡ home.some x
+  IsRecorded history (Out k x) = history k ≡ home.some x
+  IsRecorded history (Saw s) = Unit {0}
+
+  abbrev pub AreRecorded : (ℕ → home.Option T) → List (Transfer T) → Type 0
+  AreRecorded history log = Every (IsRecorded history) log
+
+  -- THE ACCOUNT: what was taken out, followed by what is held, is all that was put in, in order: each was put in once, under its number, and
+  -- each that left was taken out once
+  abbrev pub Accounted : List T → List (Transfer T) → Type 0
+  Accounted contents log =
+      (left : List T) × Agrees (left ++ contents) log × ((k : ℕ) → Once (length (left ++ contents)) k (puts (numbered k) log)) × ((k : ℕ) → Once (length left) k (takes (numbered k) log))
 
   -- the log has taken no message with this number or a later one
   abbrev pub TookBefore : ℕ → List (Transfer T) → Type 0

@@ -1,5 +1,5 @@
 -- How far a call has come with the ring, as the ring's own machine says it. What the messages are is not said: a ring of these has units.
-use Rattle.std.specs.Prelude.{ℕ, true, None, Some}
+use Rattle.std.specs.Prelude.{ℕ, ◌+◌, true, None, Some}
 use Rattle.concurrent_queue.specs.Queue.{Phase, trying, displaced, appended, taken}
 use Rattle.concurrent_queue.specs.machine.RingCalls.{at_stage, KnowsRing, owes}
 use Rattle.concurrent_queue.specs.machine.RingCalls as calls
@@ -8,6 +8,7 @@ use Rattle.concurrent_queue.specs.declared.bounded.RingAction.{RingAction}
 use Rattle.concurrent_queue.specs.declared.bounded.RingAction.TheVariants as act
 use Rattle.concurrent_queue.specs.declared.bounded.WhenFull.TheVariants.{Refuse}
 use Rattle.concurrent_queue.specs.declared.call.QueueAsk.TheVariants as ask
+use Rattle.channel_wakeups.specs.Lists.{is_this}
 use Rattle.channel_wakeups.specs.declared.rule.Turn.{Turn}
 use Rattle.channel_wakeups.specs.declared.rule.Turn.TheVariants.{Rest, Tailed, Ready, Behind, Filling, Coming, Displacing, Headed, Written, Vacant, Emptying}
 
@@ -44,3 +45,17 @@ Knows cap r t = KnowsRing cap r (action_of t) (phase_of t)
 
 abbrev pub owed_by_turn : ℕ → calls.Duty → Turn → ℕ
 owed_by_turn cap d t = owes cap (action_of t) d
+
+-- whether the message of this number is on its way in: the tail is past it, and its slot is out
+abbrev pub bringing : ℕ → ℕ → Turn → ℕ
+bringing cap k Rest = 0
+bringing cap k (Tailed n) = 0
+bringing cap k (Ready n) = 0
+bringing cap k (Behind n) = 0
+bringing cap k (Filling n) = is_this n k
+bringing cap k (Coming n) = 0
+bringing cap k (Displacing n) = is_this (n + cap) k
+bringing cap k (Headed n) = 0
+bringing cap k (Written n) = 0
+bringing cap k (Vacant n) = 0
+bringing cap k (Emptying n) = 0

@@ -26,8 +26,8 @@ use Rattle.concurrent_queue.specs.machine.RingState.{Ring, SoundRing, busy, reac
 use Rattle.concurrent_queue.specs.machine.RingWords.{ring_mark}
 use Rattle.channel_wakeups.specs.declared.rule.Turn.{Turn}
 use Rattle.channel_wakeups.specs.declared.rule.Turn.TheVariants.{Rest}
-use Rattle.channel_wakeups.specs.Turns.{Knows, owed_by_turn}
-use Rattle.channel_wakeups.specs.Log.{Weight, puts, takes, sights, each, each_sight, raised_of, lowered_of, last_of, gone_of, is_none, Tallied, Agrees, IsHistory, Balanced, Accounts, PutBefore, TookBefore, Closings, NotSeen, NotDrained, EndsAt}
+use Rattle.channel_wakeups.specs.Turns.{Knows, owed_by_turn, bringing}
+use Rattle.channel_wakeups.specs.Log.{Weight, puts, takes, sights, each, each_sight, raised_of, lowered_of, last_of, gone_of, is_none, Tallied, Agrees, IsHistory, Balanced, Accounts, PutBefore, TookBefore, Closings, NotSeen, NotDrained, EndsAt, numbered, Once, Every, InHistory, IsRecorded}
 
 -- where a number lies in a ring: its position, as the words have it
 abbrev pub at_number : ℕ → ℕ → ℕ
@@ -352,10 +352,22 @@ module _ {T W : Type 0} where
   AllKnow cap r [] = Unit {0}
   AllKnow cap r (v ∷ vs) = Knowing cap r v × AllKnow cap r vs
 
+  -- this is so of each entry of each log
+  abbrev pub AllLogs : (Transfer T → Type 0) → List (View T W) → Type 0
+  AllLogs p [] = Unit {0}
+  AllLogs p (v ∷ vs) = Every p v.log × AllLogs p vs
+
   -- each message of each log stands in the history under its number
   abbrev pub AllAgree : List T → List (View T W) → Type 0
-  AllAgree history [] = Unit {0}
-  AllAgree history (v ∷ vs) = Agrees history v.log × AllAgree history vs
+  AllAgree history views = AllLogs (InHistory history) views
+
+  -- the same of a history that may have no message for a number yet
+  abbrev pub AllRecorded : (ℕ → home.Option T) → List (View T W) → Type 0
+  AllRecorded history views = AllLogs (IsRecorded history) views
+
+  -- whether its call has the message of this number on its way into a ring
+  abbrev pub brings_of : ℕ → ℕ → View T W → ℕ
+  brings_of cap k v = only v.parts (bringing cap k v.turn)
 
   -- THE ORDER: there is one history of all that was accepted, with which all logs agree
   abbrev pub Ordered : home.Option (Option T) → List (View T W) → Type 0
@@ -499,6 +511,17 @@ pub record RingSeats {T W : Type 0} (cap : ℕ) (r : Ring (Unit {0})) (views : L
   pub owners : (d : ring.Duty) → IsDuty cap d → total (owes_of cap d) views ≡ owed r d
   pub knows : AllKnow cap r views
 
+-- THE HISTORY OF A RING. All logs agree with it, and so does each slot that is in place with a message, by the number of its round. Each number
+-- below the head was taken out once. Each below the tail was put in once, or its message is on its way in. For a number under which none was
+-- put in the history has no message
+pub record RingHistory {T W : Type 0} (cap : ℕ) (homes : List (home.Option (Option T))) (r : Ring (Unit {0})) (views : List (View T W)) : Type 0 where
+  pub history : ℕ → home.Option T
+  pub logs : AllRecorded history views
+  pub held : (i : ℕ) → i < cap → (x : T) → get_elem? homes i ≡ home.some (home.some (Some x)) → history (r.at i).round ≡ home.some x
+  pub taken : (k : ℕ) → Once r.head k (total (takes_of (numbered k)) views)
+  pub put : (k : ℕ) → Once r.tail k (total (puts_of (numbered k)) views + total (brings_of cap k) views)
+  pub absent : (k : ℕ) → total (puts_of (numbered k)) views ≡ 0 → history k ≡ home.none
+
 -- what it shows
 abbrev pub of_ring : ℕ → Ring (Unit {0}) → Picture
 of_ring cap r = picture (r.tail - r.head) (r.head + cap - r.tail) (reach r - r.head) r.closed
@@ -507,6 +530,7 @@ pub record Ringed {T W : Type 0} (cap : ℕ) (words : List ℕ) (homes : List (h
   pub cells : RingCells cap words homes r
   pub seats : RingSeats cap r views
   pub law : Law (of_ring cap r) views
+  pub history : RingHistory cap homes r views
 
 -- WHAT THE WORDS AND THE SLOTS SHOW, by the form of the queue: of one slot, whose word lies first; or of a ring
 pub data Shown {T W : Type 0} (words : List ℕ) (homes : List (home.Option (Option T))) (views : List (View T W)) : Type 0 where
