@@ -142,10 +142,6 @@ module _ {T : Type 0} where
   IsClosed true log after = HasSeen Seen log after
   IsClosed false log after = NotSeen log × (after ≡ log)
 
--- whether a message is there, and whether the channel is closed, beside the logs of all passes, put together; and what they say of handles
-abbrev pub Looked : {T : Type 0} → Bool → Bool → List (Transfer T) → Type 0
-Looked {T = T} found shut log = ((held : Option T) × (is_some held ≡ found) × Accounts held log) × Closings shut (cond found 1 0) (λ f. sights f log) × Tallied shut log
-
 -- a pass, as contracts see it: its parts, and what was done with it
 pub record Hand (T : Type 0) : Type 0 where
   pub parts : ℕ

@@ -229,3 +229,8 @@ module _ {T : Type 0} where
 -- what a log says of the handles of each kind
 pub record Tallied {T : Type 0} (shut : Bool) (log : List (Transfer T)) : Type 0 where
   pub left : (k : Kind) → (n : ℕ) × Leaves shut k n log
+
+-- WHAT IS FOUND AT REST, beside the logs of all passes, put together: so many messages are held, for which the logs account; the channel is closed
+-- or not, as they saw; and so many handles are left as they say
+abbrev pub Looked : {T : Type 0} → ℕ → Bool → List (Transfer T) → Type 0
+Looked {T = T} messages shut log = ((contents : List T) × (length contents ≡ messages) × Accounted contents log) × Closings shut messages (λ f. sights f log) × Tallied shut log
