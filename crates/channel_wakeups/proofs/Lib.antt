@@ -22,6 +22,10 @@ pub mod RingWalksPop
 pub mod RingWalksClose
 pub mod RingWalksLeft
 pub mod RingBegins
+pub mod Accounts
+pub mod Weights
+pub mod AtRest
+pub mod RingRest
 pub mod Moves
 pub mod Seats
 pub mod Stages

@@ -185,6 +185,11 @@ module _ {T : Type 0} where
   Accounted contents log =
       (left : List T) × Agrees (left ++ contents) log × ((k : ℕ) → Once (length (left ++ contents)) k (puts (numbered k) log)) × ((k : ℕ) → Once (length left) k (takes (numbered k) log))
 
+  -- what messages weigh that have the numbers from this one on
+  abbrev pub weigh : Weight T → ℕ → List T → ℕ
+  weigh f n [] = 0
+  weigh f n (x ∷ l) = f n x + weigh f (n + 1) l
+
   -- the log has taken no message with this number or a later one
   abbrev pub TookBefore : ℕ → List (Transfer T) → Type 0
   TookBefore k log = (j : ℕ) → k ≤ j → takes (numbered j) log ≡ 0
@@ -234,3 +239,7 @@ pub record Tallied {T : Type 0} (shut : Bool) (log : List (Transfer T)) : Type 0
 -- or not, as they saw; and so many handles are left as they say
 abbrev pub Looked : {T : Type 0} → ℕ → Bool → List (Transfer T) → Type 0
 Looked {T = T} messages shut log = ((contents : List T) × (length contents ≡ messages) × Accounted contents log) × Closings shut messages (λ f. sights f log) × Tallied shut log
+
+-- THE BALANCE OF AN ACCOUNT: by every weight, what was put in weighs what was taken out and what is held, under the numbers that follow
+abbrev pub AccountsBalance : Type 0 → Type 0
+AccountsBalance T = (contents : List T) (log : List (Transfer T)) → Accounted contents log → (f : Weight T) → puts f log ≡ takes f log + weigh f (takes each log) contents

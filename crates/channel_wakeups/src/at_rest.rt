@@ -2,7 +2,7 @@
 
 ghost use Rattle.std.specs.Prelude.{◌≡◌, ◌⊎◌, ◌+◌, ◌-◌, ◌<◌, true, is_some};
 ghost use Rattle.channel_wakeups.specs.Calls.{held, key_next};
-ghost use Rattle.channel_wakeups.specs.Log.{Looked};
+ghost use Rattle.channel_wakeups.specs.Log.{each, puts, takes, AccountsBalance, Looked};
 ghost use Rattle.channel_wakeups.specs.Seats.{IsIdle, IsPass, IsWhole};
 ghost use Rattle.channel_wakeups.specs.Views.{besides, calling};
 
@@ -86,7 +86,7 @@ fn give_out<T: Drop, W: Drop, B: Room, S: Waiting>(
 
 /// With every part in hand, and with the ticket of one of each side that may be pending, no call is under way. What the channel is then: at
 /// each look the same, since its log is.
-#[tactic(auto, using(crate::proofs::AtRest::same_stock))]
+#[tactic(auto, using(crate::proofs::Accounts::same_stock, crate::proofs::Weights::held_count))]
 fn see_all<T: Drop, W: Wake, B: Room, F: Form, R: Wait>(
     rt: &R,
     form: F,
@@ -104,6 +104,7 @@ fn see_all<T: Drop, W: Wake, B: Room, F: Form, R: Wait>(
     ensures closings { 0 < call.me.0.calls.closings.ticket → result.0.closed ≡ true → result.0.closing_told ≡ true }
     ensures whole { result.0.messages + result.0.places ≡ B.table.slots }
     ensures accounts { Looked result.0.messages result.0.closed call.me.0.log }
+    ensures balance { puts each call.me.0.log ≡ takes each call.me.0.log + result.0.messages }
 {
     let (_, receive_told, call) = desks.receives.lock(rt).look(form, table, call);
     let (_, send_told, call) = desks.sends.lock(rt).look(form, table, call);
@@ -146,6 +147,7 @@ pub(crate) fn look<T: Drop, W: Wake, B: Room, F: Form, R: Wait>(
     ensures log { pass.new.me.0.log ≡ pass.old.me.0.log }
     ensures whole { result.0.messages + result.0.places ≡ B.table.slots }
     ensures accounts { Looked result.0.messages result.0.closed pass.old.me.0.log }
+    ensures balance { puts each pass.old.me.0.log ≡ takes each pass.old.me.0.log + result.0.messages }
 {
     let Tickets {
         receive,
@@ -168,3 +170,11 @@ pub(crate) fn look<T: Drop, W: Wake, B: Room, F: Form, R: Wait>(
     *pass = call;
     (rest, tickets)
 }
+
+/// A law of the account that a look gives: by every weight of messages and their numbers, what was put in weighs what was taken out and what
+/// is held.
+///
+/// Own to this project.
+pub fn accounts_balance<T>()
+    ensures { AccountsBalance T }
+{}

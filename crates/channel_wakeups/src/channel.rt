@@ -4,7 +4,7 @@ ghost use Rattle.std.specs.Prelude.{◌≡◌, ◌⊎◌, ℕ, ◌+◌, ◌-◌,
 ghost use Rattle.atomic_table.specs.Seated.{TableId};
 ghost use Rattle.channel_wakeups.specs.Calls.{held, is_pending, is_waiting, is_watching, Closes, Hand, IsClosed, Received, Watches};
 ghost use Rattle.channel_wakeups.specs.Counts.{IsHandle};
-ghost use Rattle.channel_wakeups.specs.Log.{Looked};
+ghost use Rattle.channel_wakeups.specs.Log.{each, puts, takes, Looked};
 ghost use Rattle.channel_wakeups.specs.Seats.{IsIdle, IsTicket};
 ghost use Rattle.channel_wakeups.specs.Sends.{DisplacedIn, OffersIn, SentIn};
 ghost use Rattle.channel_wakeups.specs.Several.{Gathered, NoneGathered};
@@ -533,6 +533,7 @@ impl<T: Drop, W: Wake, B: Room, F: Form> Channel<T, W, B, F> {
         ensures closings { 0 < closing.old → result.closed ≡ true → result.closing_told ≡ true }
         ensures whole { result.messages + result.places ≡ B.table.slots }
         ensures accounts { Looked result.messages result.closed pass.old.log }
+        ensures balance { puts each pass.old.log ≡ takes each pass.old.log + result.messages }
     {
         let waiting = Tickets {
             receive: receive.waiting.take(),
