@@ -131,10 +131,10 @@ words_say slots m n o c shut count head tail several limit mark left again few l
     )
 
 -- what who has all learns by both loads
-pub both_learned : {T W : Type 0} (s : Side) (slots cap mark : ℕ) (me after last : Known T W) (head tail left open came : ℕ) (shut : Bool) → cap ≡ slots → mark ≡ ring_mark cap → 1 < slots → slots ≤ 2 ^ 58 → HasAll s me.0
-    → head_learned s slots me head after → tail_learned s slots after tail last → left ≡ count_of cap mark head → open ≡ unmarked mark tail → came ≡ count_of cap mark open → shut ≡ is_marked mark tail
+pub both_learned : {T W : Type 0} (s : Side) (slots cap mark : ℕ) (me after last : Known T W) (head tail left position came : ℕ) (shut : Bool) → cap ≡ slots → mark ≡ ring_mark cap → 1 < slots → slots ≤ 2 ^ 58 → HasAll s me.0
+    → head_learned s slots me head after → tail_learned s slots after tail last → left ≡ count_of cap mark head → position ≡ unmarked mark tail → came ≡ count_of cap mark position → shut ≡ is_marked mark tail
     → (left ≤ came) × (came - left ≤ cap) × AtRest s (came - left) (cap - (came - left)) shut me.0
-both_learned {T = T} {W = W} s slots cap mark me after last head tail left open came shut same marks several limit all by_head by_tail el eo ec es =
+both_learned {T = T} {W = W} s slots cap mark me after last head tail left position came shut same marks several limit all by_head by_tail el eo ec es =
     let h = by_head.1 all in
     let again : tail_learned s slots me tail last = subst (λ (x : Known T W). tail_learned s slots x tail last) by_head.0 by_tail in
     let t = again.1 all in
