@@ -1,5 +1,5 @@
 -- What the log of all passes accounts for: the messages that left, and those that are held.
-use Rattle.std.proofs.Common.{◌⊎◌, inl, inr, ◌≡◌, ℕ, zero, suc, ◌+◌, ◌<◌, ◌≤◌, List, [], ◌∷◌, ◌++◌, length, Bool, true, false, sym, refl, ap, ◌∙◌, subst, ⊎_elim, arith}
+use Rattle.std.proofs.Common.{◌⊎◌, ◌≡◌, ℕ, zero, suc, ◌+◌, ◌<◌, ◌≤◌, List, [], ◌∷◌, ◌++◌, length, Bool, true, false, sym, refl, ap, ◌∙◌, subst, ⊎_elim, arith}
 use Rattle.std.proofs.lemmas.Bool.{cases_lt}
 use mathlib.Core.Option as home
 use mathlib.Core.Option.{some}
@@ -90,7 +90,7 @@ module _ {T : Type 0} where
         ),
       )
 
-  both_long : (a b : List T) → length (a ++ b) ≡ length a + length b
+  pub both_long : (a b : List T) → length (a ++ b) ≡ length a + length b
   both_long [] b = omega arith
   both_long (x ∷ a) b = let t = both_long a b in omega arith
 

@@ -1,5 +1,5 @@
 -- Who has every part and a list learns what the queue holds: what is common to both forms, and what one slot says.
-use Rattle.std.proofs.Common.{◌⊎◌, inl, inr, ◌≡◌, ℕ, ◌+◌, ◌-◌, ◌<◌, ◌≤◌, List, [], ◌∷◌, ◌++◌, Bool, true, false, Option, None, Some, cond, is_some, length, set, sym, refl, ap, ◌∙◌, subst, ⊎_elim, arith}
+use Rattle.std.proofs.Common.{◌⊎◌, ◌≡◌, ℕ, ◌+◌, ◌-◌, ◌<◌, ◌≤◌, List, [], ◌∷◌, Bool, true, false, Option, None, Some, cond, is_some, length, set, sym, refl, ap, ◌∙◌, subst, ⊎_elim, arith}
 use Rattle.std.specs.Prelude.{slice_index}
 use mathlib.Core.Option as home
 use mathlib.Core.Option.{some, none}
@@ -13,11 +13,10 @@ use Rattle.channel_wakeups.specs.declared.rule.Transfer.{Transfer}
 use Rattle.channel_wakeups.specs.declared.rule.Transfer.TheVariants.{In, Out, Saw}
 use Rattle.channel_wakeups.specs.declared.rule.View.{View}
 use Rattle.channel_wakeups.specs.Lists.{total, told, waits, listed, is_this}
-use Rattle.channel_wakeups.specs.Log.{Weight, puts, takes, sights, each, numbered, held, Once, each_sight, raised_of, lowered_of, last_of, gone_of, Leaves, Tallied, Agrees, AreRecorded, IsHistory, Balanced, Accounted, Closings, Looked}
-use Rattle.channel_wakeups.specs.Views.{Picture, picture, at_word, Law, Shown, one_slot, a_ring, Side, of_receives, of_sends, of_streams, of_closings, to_one, to_all, of, roll, nobody, only, is_key, parts_of, here_of, answered_of, holds_of, sights_of, locks_of, owns_of, waits_of, listed_of, tickets_of, puts_of, takes_of, closes_of, word_of, messages, places, has_message, is_shut, due, wanted, IsSlot, empty, full, out, Ordered, Kept, Counted, Woken, Known, HasAll, AtRest, learns}
+use Rattle.channel_wakeups.specs.Log.{Weight, puts, takes, sights, each, numbered, held, Once, each_sight, raised_of, lowered_of, last_of, gone_of, Leaves, Tallied, Agrees, AreRecorded, Balanced, Accounted, Closings}
+use Rattle.channel_wakeups.specs.Views.{Picture, picture, at_word, Law, Shown, one_slot, a_ring, Side, of_receives, of_sends, of_streams, of_closings, to_one, to_all, of, roll, nobody, only, is_key, parts_of, here_of, answered_of, holds_of, sights_of, locks_of, owns_of, waits_of, listed_of, tickets_of, puts_of, takes_of, closes_of, word_of, has_message, is_shut, due, wanted, IsSlot, empty, full, out, Kept, Counted, Woken, Known, HasAll, AtRest, learns}
 use Rattle.channel_wakeups.proofs.Accounts.{account, less_once}
 use Rattle.channel_wakeups.proofs.History.{agrees_at}
-use Rattle.channel_wakeups.proofs.Logs.{this_same}
 use Rattle.channel_wakeups.proofs.Sums.{closings_by, only_none, only_some, only_zero, none_here, none_both, none_waits, none_listed, none_tickets, none_answered, balanced_by, others, was, by_itself}
 use Rattle.channel_wakeups.proofs.Words.{word_again}
 

@@ -8,7 +8,6 @@ pub mod RingSeats
 pub mod RingCells
 pub mod Hands
 pub mod History
-pub mod Received
 pub mod Laws
 pub mod RingLaws
 pub mod RingMoves
@@ -24,6 +23,7 @@ pub mod RingWalksLeft
 pub mod RingBegins
 pub mod Accounts
 pub mod Weights
+pub mod Received
 pub mod AtRest
 pub mod RingRest
 pub mod Moves

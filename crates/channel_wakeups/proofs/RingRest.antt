@@ -1,11 +1,11 @@
 -- Who has every part and a list learns what a ring holds: no call is under way, so each message below the tail is in, and each below the head
 -- was taken out.
-use Rattle.std.proofs.Common.{◌≡◌, ℕ, zero, suc, ◌+◌, ◌-◌, ◌*◌, ◌^◌, ◌<◌, ◌≤◌, List, [], ◌∷◌, Bool, true, false, if◌then◌else◌, Option, length, sym, refl, ap, ◌∙◌, subst, arith}
+use Rattle.std.proofs.Common.{◌≡◌, ℕ, zero, suc, ◌+◌, ◌-◌, ◌^◌, ◌<◌, ◌≤◌, List, [], ◌∷◌, Bool, true, false, if◌then◌else◌, Option, length, sym, refl, ap, ◌∙◌, subst, arith}
 use Rattle.std.specs.Prelude.{slice_index}
 use mathlib.Core.Option as home
 use mathlib.Core.Option.{some, none, some-injective, some-ne-none}
 use lib.ListN.{get_elem?}
-use Rattle.atomic_table.specs.Table.{State, step, Allows}
+use Rattle.atomic_table.specs.Table.{State, Allows}
 use Rattle.concurrent_queue.specs.machine.RingCalls as ring
 use Rattle.concurrent_queue.specs.machine.RingState.{Ring, reach}
 use Rattle.concurrent_queue.specs.machine.RingWords.{ring_mark, is_marked, unmarked, count_of}
@@ -13,10 +13,10 @@ use Rattle.concurrent_queue.proofs.RingShape.{mark_is}
 use Rattle.concurrent_queue.proofs.RingDenotes as denote
 use Rattle.channel_wakeups.specs.declared.rule.View.{View}
 use Rattle.channel_wakeups.specs.Lists.{total}
-use Rattle.channel_wakeups.specs.Log.{puts, takes, numbered, Once, AreRecorded, Accounted}
+use Rattle.channel_wakeups.specs.Log.{puts, takes, numbered, Once, AreRecorded}
 use Rattle.channel_wakeups.specs.RingSteps.{head_learned, tail_learned}
 use Rattle.channel_wakeups.specs.Turns.{owed_by_turn, bringing}
-use Rattle.channel_wakeups.specs.Views.{Picture, picture, Law, Shown, one_slot, a_ring, Side, only, takes_of, brings_of, owes_of, at_number, of_ring, AllRecorded, Ringed, Counted, Woken, Known, HasAll, AtRest}
+use Rattle.channel_wakeups.specs.Views.{Picture, picture, Law, Shown, one_slot, a_ring, Side, only, brings_of, owes_of, at_number, of_ring, AllRecorded, Ringed, Counted, Woken, Known, HasAll, AtRest}
 use Rattle.channel_wakeups.specs.declared.rule.Kind.TheVariants.{OfSenders, OfReceivers}
 use Rattle.channel_wakeups.proofs.Accounts.{account, same_once}
 use Rattle.channel_wakeups.proofs.AtRest.{only_learns, rests, some_part, whole_sum, whole_takes}

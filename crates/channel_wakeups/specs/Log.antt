@@ -164,11 +164,6 @@ module _ {T : Type 0} where
   abbrev pub IsHistory : home.Option (Option T) → ℕ → List T → Type 0
   IsHistory slot n history = (length history ≡ n) × ((x : T) → slot ≡ home.some (Some x) → get_elem? history (n - 1) ≡ home.some x)
 
-  -- the same of the logs of all passes, put together: there is one history of all that was accepted
-  abbrev pub Accounts : Option T → List (Transfer T) → Type 0
-  Accounts slot log =
-      Balanced (home.some slot) (λ f. puts f log) (λ f. takes f log) × ((history : List T) × IsHistory (home.some slot) (puts each log) history × Agrees history log)
-
   -- the same of a history that may have no message for a number yet
   abbrev pub IsRecorded : (ℕ → home.Option T) → Transfer T → Type 0
   IsRecorded history (In k x) = history k ≡ home.some x
@@ -243,3 +238,7 @@ Looked {T = T} messages shut log = ((contents : List T) × (length contents ≡ 
 -- THE BALANCE OF AN ACCOUNT: by every weight, what was put in weighs what was taken out and what is held, under the numbers that follow
 abbrev pub AccountsBalance : Type 0 → Type 0
 AccountsBalance T = (contents : List T) (log : List (Transfer T)) → Accounted contents log → (f : Weight T) → puts f log ≡ takes f log + weigh f (takes each log) contents
+
+-- what was taken out was put in, under the same number
+abbrev pub ReceivedWasSent : Type 0 → Type 0
+ReceivedWasSent T = (contents : List T) (log : List (Transfer T)) → Accounted contents log → (k : ℕ) (x : T) → Has (Out k x) log → Has (In k x) log

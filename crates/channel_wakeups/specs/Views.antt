@@ -27,7 +27,7 @@ use Rattle.concurrent_queue.specs.machine.RingWords.{ring_mark}
 use Rattle.channel_wakeups.specs.declared.rule.Turn.{Turn}
 use Rattle.channel_wakeups.specs.declared.rule.Turn.TheVariants.{Rest}
 use Rattle.channel_wakeups.specs.Turns.{Knows, owed_by_turn, bringing}
-use Rattle.channel_wakeups.specs.Log.{Weight, puts, takes, sights, each, numbered, Once, AreRecorded, each_sight, raised_of, lowered_of, last_of, gone_of, is_none, Tallied, Agrees, IsHistory, Balanced, Looked, PutBefore, TookBefore, Closings, NotSeen, NotDrained}
+use Rattle.channel_wakeups.specs.Log.{Weight, puts, takes, sights, each, numbered, Once, AreRecorded, each_sight, raised_of, lowered_of, last_of, gone_of, is_none, Agrees, IsHistory, Balanced, Looked, PutBefore, TookBefore, Closings, NotSeen, NotDrained}
 
 abbrev pub no_table : TableId
 no_table = record { words = 0; slots = 0; views_name = 0; atom = 0; block = 0; offset = 0; slot_names = [] }

@@ -2,7 +2,7 @@
 
 ghost use Rattle.std.specs.Prelude.{◌≡◌, ◌⊎◌, ◌+◌, ◌-◌, ◌<◌, true, is_some};
 ghost use Rattle.channel_wakeups.specs.Calls.{held, key_next};
-ghost use Rattle.channel_wakeups.specs.Log.{each, puts, takes, AccountsBalance, Looked};
+ghost use Rattle.channel_wakeups.specs.Log.{each, puts, takes, AccountsBalance, Looked, ReceivedWasSent};
 ghost use Rattle.channel_wakeups.specs.Seats.{IsIdle, IsPass, IsWhole};
 ghost use Rattle.channel_wakeups.specs.Views.{besides, calling};
 
@@ -171,10 +171,11 @@ pub(crate) fn look<T: Drop, W: Wake, B: Room, F: Form, R: Wait>(
     (rest, tickets)
 }
 
-/// A law of the account that a look gives: by every weight of messages and their numbers, what was put in weighs what was taken out and what
-/// is held.
+/// A law of the account that a look gives. By every weight of messages and their numbers, what was put in weighs what was taken out and what
+/// is held. And what was taken out was put in, under the same number.
 ///
 /// Own to this project.
-pub fn accounts_balance<T>()
-    ensures { AccountsBalance T }
+pub fn what_an_account_says<T>()
+    ensures balance { AccountsBalance T }
+    ensures received { ReceivedWasSent T }
 {}
