@@ -8,7 +8,6 @@ pub mod RingSeats
 pub mod RingCells
 pub mod Hands
 pub mod History
-pub mod Received
 pub mod Laws
 pub mod RingLaws
 pub mod RingMoves
@@ -23,6 +22,11 @@ pub mod RingWalksClose
 pub mod RingWalksLeft
 pub mod RingHistories
 pub mod RingBegins
+pub mod Accounts
+pub mod Weights
+pub mod Received
+pub mod AtRest
+pub mod RingRest
 pub mod Moves
 pub mod Seats
 pub mod Stages

@@ -1,10 +1,12 @@
 -- What the logs of all passes say together, in words that a client can use: what was received was sent, under the same number.
-use Rattle.std.proofs.Common.{inl, inr, ◌≡◌, ℕ, ◌<◌, ◌==◌, Bool, true, false, List, [], ◌∷◌, Option, cond, true-eqb, sym, refl, ap, ◌∙◌, subst, arith}
+use Rattle.std.proofs.Common.{◌⊎◌, inl, inr, ◌≡◌, ℕ, ◌+◌, ◌<◌, ◌≤◌, ◌==◌, Bool, true, false, List, [], ◌∷◌, ◌++◌, length, cond, true-eqb, sym, refl, ap, ◌∙◌, subst, ⊎_elim, arith}
+use Rattle.std.proofs.lemmas.Bool.{cases_lt}
 use mathlib.Core.Option.{some-injective}
 use Rattle.channel_wakeups.specs.declared.rule.Transfer.{Transfer}
 use Rattle.channel_wakeups.specs.declared.rule.Transfer.TheVariants.{In, Out, Saw}
 use Rattle.channel_wakeups.specs.Lists.{is_this}
-use Rattle.channel_wakeups.specs.Log.{puts, takes, numbered, InHistory, Agrees, Has, Accounts}
+use Rattle.channel_wakeups.specs.Log.{puts, takes, numbered, InHistory, Agrees, Has, ReceivedWasSent}
+use Rattle.channel_wakeups.proofs.Accounts.{both_long}
 use Rattle.channel_wakeups.proofs.Logs.{this_same}
 
 module _ {T : Type 0} where
@@ -43,10 +45,12 @@ module _ {T : Type 0} where
   some_put k (Out j y ∷ l) some_there = let more = some_put k l some_there in (more.0, inr more.1)
 
   -- what was taken out was put in, under the same number
-  pub received_was_sent : (slot : Option T) (log : List (Transfer T)) → Accounts slot log → (k : ℕ) (x : T) → Has (Out k x) log → Has (In k x) log
-  received_was_sent slot log ((once, weighs), (h, is, agree)) k x has =
-      let taken = took_one k x log has in
-      let all = weighs (numbered k) in
+  pub received_was_sent : ReceivedWasSent T
+  received_was_sent contents log (left, agree, put, taken) k x has =
+      let some_taken = took_one k x log has in
+      let low : k < length left = ⊎_elim (λ (less : k < length left). less) (λ (more : length left ≤ k). let none = (taken k).1 more in absurd (omega arith)) (cases_lt k (length left)) in
+      let long = both_long left contents in
+      let once = (put k).0 (omega arith) in
       let sent = some_put k log (omega arith) in
-      let same : x ≡ sent.0 = some-injective x sent.0 (sym (stands h (Out k x) log agree has) ∙ stands h (In k sent.0) log agree sent.1) in
+      let same : x ≡ sent.0 = some-injective x sent.0 (sym (stands (left ++ contents) (Out k x) log agree has) ∙ stands (left ++ contents) (In k sent.0) log agree sent.1) in
       subst (λ (y : T). Has (In k y) log) (sym same) sent.1

@@ -1,9 +1,9 @@
--- Seats are joined and split, and one that has every part learns the rule.
-use Rattle.std.proofs.Common.{◌⊎◌, inl, inr, ◌≡◌, ℕ, ◌+◌, ◌-◌, ◌/◌, ◌<◌, ◌≤◌, List, [], ◌∷◌, ◌++◌, Bool, true, false, Option, None, Some, cond, is_some, set, sym, refl, ap, ◌∙◌, subst, ⊎_elim, arith}
+-- Seats are joined and split.
+use Rattle.std.proofs.Common.{◌⊎◌, inl, inr, ◌≡◌, ℕ, ◌+◌, ◌-◌, ◌/◌, ◌<◌, ◌≤◌, List, [], ◌∷◌, ◌++◌, Bool, true, false, Option, None, set, sym, refl, ap, ◌∙◌, subst, ⊎_elim, arith}
 use mathlib.Core.Option as home
 use mathlib.Core.Option.{some, none}
 use lib.ListN.{get_elem?}
-use Rattle.atomic_table.specs.Table.{step, Allows, Splits, Joins, Enters, opening}
+use Rattle.atomic_table.specs.Table.{Splits, Joins, Enters, opening}
 use Rattle.channel_wakeups.specs.declared.rule.Handles.{Handles}
 use Rattle.channel_wakeups.specs.declared.rule.Kind.{Kind}
 use Rattle.channel_wakeups.specs.declared.rule.Kind.TheVariants.{OfSenders, OfReceivers}
@@ -15,7 +15,7 @@ use Rattle.channel_wakeups.specs.declared.rule.View.{View}
 use Rattle.channel_wakeups.specs.Lists.{total, told, waits, listed}
 use Rattle.channel_wakeups.specs.Views.{in_hand, at_number, Picture, at_word, Law, one_slot, Knowing, AllKnow, owes_of, Side, of_receives, of_sends, of_streams, of_closings, Duty, to_one, to_all, of, roll, idle, idle_lines, no_roll, no_rolls, with_roll, calling, ticketed, nobody, pass, everything, entered, stays, comes_out, without, alone, absorbed, kept_half, given_half, one_ticket, ticket_is, no_ticket, ticket_of, with_ticket, only, is_key, parts_of, here_of, answered_of, holds_of, sights_of, locks_of, owns_of, waits_of, listed_of, tickets_of, puts_of, takes_of, word_of, messages, has_message, is_shut, due, wanted, Owed, IsSlot, empty, full, out, AllAgree, Ordered, Kept, Counted, handed, count_of, handles_of, closes_of, Woken, Known, HasAll, learns, AllLogs, brings_of}
 use Rattle.channel_wakeups.proofs.Sides.{of_with, roll_with, idle_ticket, none_there, which, Untouched}
-use Rattle.channel_wakeups.proofs.Sums.{at_nobody, balanced_by, closings_by, only_none, only_some, only_zero, owed_by, slot_by, none_here, none_both, none_waits, none_listed, none_tickets, none_answered, others, was, total_set, total_snoc, by_itself}
+use Rattle.channel_wakeups.proofs.Sums.{at_nobody, balanced_by, closings_by, only_none, only_some, only_zero, owed_by, slot_by, others, total_set, total_snoc}
 use Rattle.channel_wakeups.specs.Counts.{one_hand, fewer_hands, lone_handle, coupled, uncoupled}
 use Rattle.channel_wakeups.specs.Log.{Weight, numbered, PutBefore, TookBefore, puts, takes, sights, each, each_sight, raised_of, lowered_of, last_of, gone_of, Leaves, Tallied, Every, InHistory, Agrees, IsHistory, Balanced, Accounts, Closings}
 use Rattle.channel_wakeups.specs.declared.rule.Sight.{Sight}
@@ -24,7 +24,6 @@ use Rattle.channel_wakeups.proofs.Hands.{none_of, hands_with}
 use Rattle.channel_wakeups.proofs.Laws.{of_handed}
 use Rattle.channel_wakeups.proofs.History.{every_append, logs_at, logs_beside, logs_set, logs_snoc}
 use Rattle.channel_wakeups.proofs.Laws.{no_empty}
-use Rattle.channel_wakeups.proofs.Moves.{by_all, unchanged}
 use Rattle.channel_wakeups.proofs.Rings.{know_at, know_beside, know_set, know_snoc, seats_so}
 use Rattle.channel_wakeups.proofs.Beside.{Beside, shown_so}
 use Rattle.channel_wakeups.proofs.RingHistories.{history_so}
@@ -554,194 +553,3 @@ module _ {T W : Type 0} where
 
       lawful : Law (at_word 0 false) (everything {T = T} {W = W} ∷ [])
       lawful = record { whole = refl; one = one_list; owed = nobody_waits; tickets = no_tickets; closings = (refl, (λ more. absurd (omega arith)), λ more. absurd (omega arith)) }
-
-  -- ---- who has every part learns the rule
-
-  module _ (s : Side) (p : Picture) (vs : List (View T W)) (id : ℕ) (v : View T W) (k : Law p vs) (at : get_elem? vs id ≡ some v) (all : HasAll s v) where
-    no_others : others parts_of vs id ≡ 0
-    no_others = let whole = k.whole in let p = was parts_of refl vs id v at in let mine = all.0 in omega arith
-
-    whole_law : (key : ℕ) → 0 < waits key (roll s v.rolls).listeners → (wanted to_one s p ≤ told (roll s v.rolls).listeners) × (wanted to_all s p ≡ 0)
-    whole_law key some_waiting =
-        let lists = all.1 in
-        let mine = all.0 in
-        let answers = all.2 in
-        let none_owed = all.5 in
-        let z = by_itself s key vs id v at (k.one s) lists in
-        let no_b = z.0 in
-        let no_a = none_both (answered_of to_one s) (here_of s) parts_of (set vs id nobody)
-        (λ x e d. let n = only_none (roll s x.rolls).here (told (roll s x.rolls).listeners) e in let m = only_none x.parts (of s x.calls).answers d in omega arith) z.2 no_others in
-        let no_c = none_here (answered_of to_all s) parts_of (set vs id nobody) (λ x e. only_none x.parts (of s x.calls).tells e) no_others in
-        let no_h = none_here (holds_of to_one s key) parts_of (set vs id nobody) (λ x e. only_none x.parts (is_key key (of s x.calls).holds) e) no_others in
-        let no_f = none_here (holds_of to_all s key) parts_of (set vs id nobody) (λ x e. only_none x.parts (is_key key (of s x.calls).fresh) e) no_others in
-        let wv = only_some (roll s v.rolls).here (waits key (roll s v.rolls).listeners) (omega arith) in
-        let tv = only_some (roll s v.rolls).here (told (roll s v.rolls).listeners) (omega arith) in
-        let av = only_some v.parts (of s v.calls).answers (omega arith) in
-        let cv = only_some v.parts (of s v.calls).tells (omega arith) in
-        let hv = only_some v.parts (is_key key (of s v.calls).holds) (omega arith) in
-        let fv = only_some v.parts (is_key key (of s v.calls).fresh) (omega arith) in
-        let none_held : is_key key (of s v.calls).holds ≡ 0 = ap (is_key key) all.3.0 in
-        let none_fresh : is_key key (of s v.calls).fresh ≡ 0 = ap (is_key key) all.3.1 in
-        let ws = was (waits_of s key) (none_waits T W s key) vs id v at in
-        let ts = was (answered_of to_one s) (none_answered T W to_one s) vs id v at in
-        let cs = was (answered_of to_all s) (none_answered T W to_all s) vs id v at in
-        let hs = was (holds_of to_one s key) refl vs id v at in
-        let fs = was (holds_of to_all s key) refl vs id v at in (
-          ⊎_elim (λ (c : wanted to_one s p ≤ total (answered_of to_one s) vs). omega arith) (λ (c : 0 < total (holds_of to_one s key) vs). absurd (omega arith)) (k.owed to_one s key (omega arith)),
-          ⊎_elim (λ (c : wanted to_all s p ≤ total (answered_of to_all s) vs). omega arith) (λ (c : 0 < total (holds_of to_all s key) vs). absurd (omega arith)) (k.owed to_all s key (omega arith)),
-        )
-
-    -- what all saw is what this one did
-    whole_sights : (f : Sight → ℕ) → total (sights_of f) vs ≡ sights f v.log
-    whole_sights f =
-        let o = none_here (sights_of f) parts_of (set vs id nobody) (λ x e. only_none x.parts (sights f x.log) e) no_others in
-        let w = was (sights_of f) refl vs id v at in
-        let mine = all.0 in
-        let y = only_some v.parts (sights f v.log) (omega arith) in
-        omega arith
-
-    -- how many handles of a kind are left, and that the channel is closed where none is
-    whole_tally : (n : ℕ) (j : Kind) → Counted n j vs → Leaves p.shut j n v.log
-    whole_tally n j c =
-        let ever = c.ever in
-        let last_so = c.last in
-        let lo = whole_sights (lowered_of j) in
-        let ra = whole_sights (raised_of j) in
-        let la = whole_sights (last_of j) in
-        let go = whole_sights (gone_of j) in
-        let o = none_here closes_of parts_of (set vs id nobody) (λ x e. only_none x.parts x.calls.hands.closes e) no_others in
-        let w = was closes_of refl vs id v at in
-        let none_owed : closes_of v ≡ 0 = (λ i. only v.parts (all.6 i)) ∙ only_zero v.parts in (
-          omega arith,
-          omega arith,
-          (λ some_gone. c.gone (omega arith)),
-          λ none_left. ⊎_elim (λ (x : 0 < total (sights_of each_sight) vs). k.closings.1 x) (λ (x : 0 < total closes_of vs). absurd (omega arith)) (c.ends none_left),
-        )
-
-    -- what is known of the closing
-    whole_closings : Closings p.shut p.near (λ f. sights f v.log)
-    whole_closings = closings_by p.shut p.near (λ f. total (sights_of f) vs) (λ f. sights f v.log) whole_sights k.closings
-
-    whole_ticket : (key : ℕ) → is_key key (of s v.calls).ticket ≤ listed key (roll s v.rolls).listeners
-    whole_ticket key =
-        let lists = all.1 in
-        let z = by_itself s key vs id v at (k.one s) lists in
-        let no_l = z.1 in
-        let lv = only_some (roll s v.rolls).here (listed key (roll s v.rolls).listeners) (omega arith) in
-        let ls = was (listed_of s key) (none_listed T W s key) vs id v at in
-        let ts = was (tickets_of s key) (none_tickets T W s key) vs id v at in
-        let kept = k.tickets s key in
-        omega arith
-
-  -- of one slot
-  module _ (s : Side) (base : ℕ) (shut : Bool) (slot : home.Option (Option T)) (vs : List (View T W)) (id : ℕ) (v : View T W) (k : Kept base shut slot vs) (at : get_elem? vs id ≡ some v) (all : HasAll s v) where
-    -- what the slot holds, and that it makes up for what is not taken out
-    whole_log : (held : Option T) × (base ≡ cond (is_some held) 2 0) × Accounts held v.log
-    whole_log = by_place k.place k.balance
-      where
-        all_puts : (f : Weight T) → total (puts_of f) vs ≡ puts f v.log
-        all_puts f =
-            let o = none_here (puts_of f) parts_of (set vs id nobody) (λ x e. only_none x.parts (puts f x.log) e) (no_others s (at_word base shut) vs id v k.law at all) in
-            let w = was (puts_of f) refl vs id v at in
-            let mine = all.0 in
-            let y = only_some v.parts (puts f v.log) (omega arith) in
-            omega arith
-
-        all_takes : (f : Weight T) → total (takes_of f) vs ≡ takes f v.log
-        all_takes f =
-            let o = none_here (takes_of f) parts_of (set vs id nobody) (λ x e. only_none x.parts (takes f x.log) e) (no_others s (at_word base shut) vs id v k.law at all) in
-            let w = was (takes_of f) refl vs id v at in
-            let mine = all.0 in
-            let y = only_some v.parts (takes f v.log) (omega arith) in
-            omega arith
-
-        no_locks : total locks_of vs ≡ 0
-        no_locks =
-            let l = none_here locks_of parts_of (set vs id nobody) (λ x e. only_none x.parts (only x.owns 1) e) (no_others s (at_word base shut) vs id v k.law at all) in
-            let lw = was locks_of refl vs id v at in
-            let mine : locks_of v ≡ 0 = ap (λ (n : ℕ). only v.parts (only n 1)) all.4 ∙ only_zero v.parts in
-            omega arith
-
-        of_order : (held : Option T) → slot ≡ some held → Ordered slot vs → (history : List T) × IsHistory (some held) (puts each v.log) history × Agrees history v.log
-        of_order held e (h, (counted, last), agree) =
-            let n = all_puts each in
-            (h, (counted ∙ n, λ x d. subst (λ (m : ℕ). get_elem? h (m - 1) ≡ some x) n (last x (e ∙ d))), logs_at (InHistory h) vs id v at agree)
-
-        balances : (held : Option T) → slot ≡ some held → Balanced slot (λ f. total (puts_of f) vs) (λ f. total (takes_of f) vs) → Balanced (some held) (λ f. puts f v.log) (λ f. takes f v.log)
-        balances held e b = balanced_by (some held) _ _ _ _ all_puts all_takes (subst (λ (s : home.Option (Option T)). Balanced s (λ f. total (puts_of f) vs) (λ f. total (takes_of f) vs)) e b)
-
-        of_slot : (held : Option T) → slot ≡ some held → Balanced slot (λ f. total (puts_of f) vs) (λ f. total (takes_of f) vs) → Accounts held v.log
-        of_slot held e b = (balances held e b, of_order held e k.order)
-
-        by_place : IsSlot base slot (total locks_of vs) (total owns_of vs) → Balanced slot (λ f. total (puts_of f) vs) (λ f. total (takes_of f) vs) → (held : Option T) × (base ≡ cond (is_some held) 2 0) × Accounts held v.log
-        by_place (empty e d c) b = (None, e, of_slot None d b)
-        by_place (full x e d c) b = (Some x, e, of_slot (Some x) d b)
-        by_place (out d c e w) b = let none_out = no_locks in absurd (omega arith)
-
-  -- at rest the word is that of a slot at home
-  abbrev Rests : Side → View T W → ℕ → Type 0
-  Rests s v word =
-      ((key : ℕ) → 0 < waits key (roll s v.rolls).listeners → due s (has_message word) (is_shut word) ≤ told (roll s v.rolls).listeners) × ((key : ℕ) → is_key key (of s v.calls).ticket ≤ listed key (roll s v.rolls).listeners)
-      × ((slot : Option T) × (is_some slot ≡ has_message word) × Accounts slot v.log) × Closings (is_shut word) (cond (has_message word) 1 0) (λ f. sights f v.log) × Tallied (is_shut word) v.log
-
--- the word of a slot at home says whether a message is there, and whether the channel is closed
-says : (message shut : Bool) → (has_message (word_of (cond message 2 0) shut) ≡ message) × (is_shut (word_of (cond message 2 0) shut) ≡ shut)
-says true true = (refl, refl)
-says true false = (refl, refl)
-says false true = (refl, refl)
-says false false = (refl, refl)
-
-counts : (message : Bool) → messages (cond message 2 0) ≡ cond message 1 0
-counts true = refl
-counts false = refl
-
--- what is owed while nobody is under way
-due_by : (s : Side) (message shut : Bool) (t : ℕ) → wanted to_one s (at_word (cond message 2 0) shut) ≤ t → wanted to_all s (at_word (cond message 2 0) shut) ≡ 0 → due s message shut ≤ t
-due_by of_receives true false t one all = omega arith
-due_by of_receives false false t one all = omega arith
-due_by of_receives message true t one all = absurd (omega arith)
-due_by of_sends true false t one all = omega arith
-due_by of_sends false false t one all = omega arith
-due_by of_sends message true t one all = absurd (omega arith)
-due_by of_streams true false t one all = absurd (omega arith)
-due_by of_streams false false t one all = omega arith
-due_by of_streams message true t one all = absurd (omega arith)
-due_by of_closings message false t one all = omega arith
-due_by of_closings message true t one all = absurd (omega arith)
-
-module _ {T W : Type 0} where
-  -- what is known of the state says the same of the word
-  rests : (s : Side) (base : ℕ) (shut : Bool) (v : View T W) (held : Option T) → base ≡ cond (is_some held) 2 0 → ((key : ℕ) → 0 < waits key (roll s v.rolls).listeners → (wanted to_one s (at_word base shut) ≤ told (roll s v.rolls).listeners) × (wanted to_all s (at_word base shut) ≡ 0))
-      → ((key : ℕ) → is_key key (of s v.calls).ticket ≤ listed key (roll s v.rolls).listeners) → Accounts held v.log → Closings shut (messages base) (λ f. sights f v.log)
-      → Tallied shut v.log → Rests s v (word_of base shut)
-  rests s base shut v held is law tied accounts closings tally =
-      let m = says (is_some held) shut in
-      subst (λ (n : ℕ). Rests s v (word_of n shut)) (sym is) (
-        (λ key some_waiting. subst (λ (b : Bool). due s b (is_shut (word_of (cond (is_some held) 2 0) shut)) ≤ told (roll s v.rolls).listeners) (sym m.0)
-            (subst (λ (b : Bool). due s (is_some held) b ≤ told (roll s v.rolls).listeners) (sym m.1)
-            (let l = subst (λ (n : ℕ). (wanted to_one s (at_word n shut) ≤ told (roll s v.rolls).listeners) × (wanted to_all s (at_word n shut) ≡ 0)) is (law key some_waiting) in due_by s (is_some held) shut (told (roll s v.rolls).listeners) l.0 l.1))),
-        tied,
-        (held, sym m.0, accounts),
-        subst (λ (b : Bool). Closings b (cond (has_message (word_of (cond (is_some held) 2 0) shut)) 1 0) (λ f. sights f v.log)) (sym m.1)
-            (subst (λ (b : Bool). Closings shut (cond b 1 0) (λ f. sights f v.log)) (sym m.0)
-            (subst (λ (n : ℕ). Closings shut n (λ f. sights f v.log)) (ap messages is ∙ counts (is_some held)) closings)),
-        subst (λ (b : Bool). Tallied b v.log) (sym m.1) tally,
-      )
-
-  -- the seat is as it was, and knows this
-  learned : (s : Side) (base : ℕ) (shut : Bool) (slot : home.Option (Option T)) (views : List (View T W)) (id : ℕ) (v : View T W) → Kept base shut slot views → (senders receivers : ℕ) → Counted senders OfSenders views → Counted receivers OfReceivers views → get_elem? views id ≡ some v → HasAll s v → Rests s v (word_of base shut)
-  learned s base shut slot views id v k senders receivers cs cr at all =
-      let log = whole_log s base shut slot views id v k at all in
-      rests s base shut v log.0 log.1 (whole_law s (at_word base shut) views id v k.law at all) (whole_ticket s (at_word base shut) views id v k.law at all) log.2 (whole_closings s (at_word base shut) views id v k.law at all) tallied
-    where
-      left_of : (j : Kind) → (n : ℕ) × Leaves shut j n v.log
-      left_of OfSenders = (senders, whole_tally s (at_word base shut) views id v k.law at all senders OfSenders cs)
-      left_of OfReceivers = (receivers, whole_tally s (at_word base shut) views id v k.law at all receivers OfReceivers cr)
-
-      tallied : Tallied shut v.log
-      tallied = record { left = left_of }
-
-  pub learns_so : (s : Side) (slots id : ℕ) (me : Known T W) → slots ≡ 1 → Allows Woken slots id me 0 (λ n. n) (λ n m. learns s (step slots 0 0 0 none) me n m)
-  learns_so s slots id me =
-      by_all (λ n. n) (λ n m. learns s (step slots 0 0 0 none) me n m) slots id me (λ base shut slot senders receivers views k cs cr at.
-      unchanged (λ n m. learns s (step slots 0 0 0 none) me n m) (λ n. n) me id views base shut slot at refl (refl, λ all. learned s base shut slot views id me.0 k senders receivers cs cr at all) k)

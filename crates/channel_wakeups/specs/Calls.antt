@@ -1,5 +1,5 @@
 -- What a poll's answer says of its receive, and what a push and a pop leave of their pass.
-use Rattle.std.specs.Prelude.{◌≡◌, ℕ, ◌+◌, List, Bool, true, false, cond, Option, Some, None, is_some, Result, Ok, Err}
+use Rattle.std.specs.Prelude.{◌≡◌, ℕ, ◌+◌, List, Bool, true, false, cond, Option, Some, None, Result, Ok, Err}
 use Rattle.atomic_table.specs.declared.shared.Seat.{Seat}
 use Rattle.atomic_table.specs.Seated.{TableId}
 use Rattle.concurrent_queue.specs.declared.call.QueueReply.{QueueReply}
@@ -17,7 +17,7 @@ use Rattle.concurrent_queue.specs.declared.error.PushError.{PushError}
 use Rattle.concurrent_queue.specs.declared.error.PushError.TheVariants as push_error
 use Rattle.concurrent_queue.specs.declared.error.ForcePushError.{ForcePushError}
 use Rattle.concurrent_queue.specs.declared.error.ForcePushError.TheVariants as force_error
-use Rattle.channel_wakeups.specs.Log.{Accounts, Tallied, Closings, sights, HasPut, HasTaken, Replaces, HasSeen, NotSeen, NotDrained}
+use Rattle.channel_wakeups.specs.Log.{HasPut, HasTaken, Replaces, HasSeen, NotSeen, NotDrained}
 use Rattle.channel_wakeups.specs.Seats.{IsCall, IsPass, IsIdle}
 use Rattle.channel_wakeups.specs.Sends.{OffersIn, SentIn, DisplacedIn}
 use Rattle.channel_wakeups.specs.declared.polled.Watched.{Watched}
@@ -141,10 +141,6 @@ module _ {T : Type 0} where
   abbrev pub IsClosed : Bool → List (Transfer T) → List (Transfer T) → Type 0
   IsClosed true log after = HasSeen Seen log after
   IsClosed false log after = NotSeen log × (after ≡ log)
-
--- whether a message is there, and whether the channel is closed, beside the logs of all passes, put together; and what they say of handles
-abbrev pub Looked : {T : Type 0} → Bool → Bool → List (Transfer T) → Type 0
-Looked {T = T} found shut log = ((held : Option T) × (is_some held ≡ found) × Accounts held log) × Closings shut (cond found 1 0) (λ f. sights f log) × Tallied shut log
 
 -- a pass, as contracts see it: its parts, and what was done with it
 pub record Hand (T : Type 0) : Type 0 where

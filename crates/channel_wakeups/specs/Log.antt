@@ -139,11 +139,6 @@ module _ {T : Type 0} where
   abbrev pub IsHistory : home.Option (Option T) → ℕ → List T → Type 0
   IsHistory slot n history = (length history ≡ n) × ((x : T) → slot ≡ home.some (Some x) → get_elem? history (n - 1) ≡ home.some x)
 
-  -- the same of the logs of all passes, put together: there is one history of all that was accepted
-  abbrev pub Accounts : Option T → List (Transfer T) → Type 0
-  Accounts slot log =
-      Balanced (home.some slot) (λ f. puts f log) (λ f. takes f log) × ((history : List T) × IsHistory (home.some slot) (puts each log) history × Agrees history log)
-
   -- the same of a history that may have no message for a number yet
   abbrev pub IsRecorded : (ℕ → home.Option T) → Transfer T → Type 0
   IsRecorded history (In k x) = history k ≡ home.some x
@@ -158,6 +153,11 @@ module _ {T : Type 0} where
   abbrev pub Accounted : List T → List (Transfer T) → Type 0
   Accounted contents log =
       (left : List T) × Agrees (left ++ contents) log × ((k : ℕ) → Once (length (left ++ contents)) k (puts (numbered k) log)) × ((k : ℕ) → Once (length left) k (takes (numbered k) log))
+
+  -- what messages weigh that have the numbers from this one on
+  abbrev pub weigh : Weight T → ℕ → List T → ℕ
+  weigh f n [] = 0
+  weigh f n (x ∷ l) = f n x + weigh f (n + 1) l
 
   -- the log has taken no message with this number or a later one
   abbrev pub TookBefore : ℕ → List (Transfer T) → Type 0
@@ -207,3 +207,16 @@ module _ {T : Type 0} where
 -- what a log says of the handles of each kind
 pub record Tallied {T : Type 0} (shut : Bool) (log : List (Transfer T)) : Type 0 where
   pub left : (k : Kind) → (n : ℕ) × Leaves shut k n log
+
+-- WHAT IS FOUND AT REST, beside the logs of all passes, put together: so many messages are held, for which the logs account; the channel is closed
+-- or not, as they saw; and so many handles are left as they say
+abbrev pub Looked : {T : Type 0} → ℕ → Bool → List (Transfer T) → Type 0
+Looked {T = T} messages shut log = ((contents : List T) × (length contents ≡ messages) × Accounted contents log) × Closings shut messages (λ f. sights f log) × Tallied shut log
+
+-- THE BALANCE OF AN ACCOUNT: by every weight, what was put in weighs what was taken out and what is held, under the numbers that follow
+abbrev pub AccountsBalance : Type 0 → Type 0
+AccountsBalance T = (contents : List T) (log : List (Transfer T)) → Accounted contents log → (f : Weight T) → puts f log ≡ takes f log + weigh f (takes each log) contents
+
+-- what was taken out was put in, under the same number
+abbrev pub ReceivedWasSent : Type 0 → Type 0
+ReceivedWasSent T = (contents : List T) (log : List (Transfer T)) → Accounted contents log → (k : ℕ) (x : T) → Has (Out k x) log → Has (In k x) log

@@ -1,5 +1,5 @@
 -- What each step of a call on a ring keeps, and what the call learns by it. A step is one operation on one word.
-use Rattle.std.specs.Prelude.{◌≡◌, ◌⊎◌, ℕ, ◌+◌, ◌-◌, ◌%◌, ◌^◌, ◌<◌, ◌≤◌, ◌==◌, List, [], ◌∷◌, ◌++◌, Option, None, Some, true, false, length, slice_index, bit_or}
+use Rattle.std.specs.Prelude.{◌≡◌, ◌⊎◌, ℕ, ◌+◌, ◌-◌, ◌%◌, ◌^◌, ◌<◌, ◌≤◌, ◌==◌, List, [], ◌∷◌, ◌++◌, Option, None, Some, Bool, true, false, if◌then◌else◌, length, slice_index, bit_or}
 use mathlib.Core.Option as home
 use lib.ListN.{get_elem?}
 use prog.Atomic.{either}
@@ -11,8 +11,8 @@ use Rattle.channel_wakeups.specs.declared.rule.Transfer.TheVariants.{In, Out, Sa
 use Rattle.channel_wakeups.specs.declared.rule.Turn.{Turn}
 use Rattle.channel_wakeups.specs.declared.rule.Turn.TheVariants.{Rest, Tailed, Ready, Behind, Filling, Coming, Displacing, Headed, Written, Vacant, Emptying}
 use Rattle.channel_wakeups.specs.declared.rule.View.{View}
-use Rattle.channel_wakeups.specs.Log.{IsBeyond, PutBefore, TookBefore, NotSeen, NotDrained}
-use Rattle.channel_wakeups.specs.Views.{of_sends, with_line, lines_with, answering, resolved, owing, call_line, seen_open, no_place, won_message, no_message, no_more, settled, all_owing, still_open, found_closed, everything, came, at_number, Known, Woken}
+use Rattle.channel_wakeups.specs.Log.{IsBeyond, PutBefore, TookBefore, NotSeen, NotDrained, numbered, takes, Once}
+use Rattle.channel_wakeups.specs.Views.{of_sends, with_line, lines_with, answering, resolved, owing, call_line, seen_open, no_place, won_message, no_message, no_more, settled, all_owing, still_open, found_closed, everything, came, at_number, Known, Woken, Side, HasAll, AtRest}
 
 -- ---- the words: the head, the tail, and the stamp of the place for a number
 
@@ -159,6 +159,17 @@ module _ {T W : Type 0} where
   tail_asked slots v found m =
       ((is_marked (ring_mark slots) found ≡ false) × NotSeen v.log × (m ≡ (came Rest (still_open v.calls) v.log v, [])))
       ⊎ ((is_marked (ring_mark slots) found ≡ true) × (m ≡ (came Rest (found_closed v.calls) (v.log ++ Saw Seen ∷ []) v, [])))
+
+  -- ---- who has every part and the list of a side, with no call under way: the head says how many messages left, and the tail how many came
+
+  abbrev pub head_learned : Side → ℕ → Known T W → ℕ → Known T W → Type 0
+  head_learned s slots m found m' = (m' ≡ m) × (HasAll s m.0 → (n : ℕ) × (n ≤ 2 ^ 61) × (found ≡ at_number slots n) × ((k : ℕ) → Once n k (takes (numbered k) m.0.log)))
+
+  abbrev pub tail_learned : Side → ℕ → Known T W → ℕ → Known T W → Type 0
+  tail_learned s slots m found m' =
+      (m' ≡ m)
+      × (HasAll s m.0 → (n : ℕ) × (c : ℕ) × (shut : Bool) × (n + c ≤ 2 ^ 61) × (c ≤ slots) × (found ≡ at_number slots (n + c) + (if shut then ring_mark slots else 0)) × ((k : ℕ) → Once n k (takes (numbered k) m.0.log))
+      × AtRest s c (slots - c) shut m.0)
 
 -- ---- THE CLAUSES OF THE LAW: the steps of a push, whose listener is in hand for a place and beside a closing, or for a place alone
 

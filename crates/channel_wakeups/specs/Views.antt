@@ -27,7 +27,7 @@ use Rattle.concurrent_queue.specs.machine.RingWords.{ring_mark}
 use Rattle.channel_wakeups.specs.declared.rule.Turn.{Turn}
 use Rattle.channel_wakeups.specs.declared.rule.Turn.TheVariants.{Rest}
 use Rattle.channel_wakeups.specs.Turns.{Knows, owed_by_turn, bringing}
-use Rattle.channel_wakeups.specs.Log.{Weight, puts, takes, sights, each, each_sight, raised_of, lowered_of, last_of, gone_of, is_none, Tallied, Agrees, IsHistory, Balanced, Accounts, PutBefore, TookBefore, Closings, NotSeen, NotDrained, EndsAt, numbered, Once, Every, InHistory, IsRecorded}
+use Rattle.channel_wakeups.specs.Log.{Weight, puts, takes, sights, each, each_sight, raised_of, lowered_of, last_of, gone_of, is_none, Tallied, Agrees, IsHistory, Balanced, Accounts, PutBefore, TookBefore, Closings, NotSeen, NotDrained, EndsAt, numbered, Once, Every, InHistory, IsRecorded, AreRecorded, Looked}
 
 -- where a number lies in a ring: its position, as the words have it
 abbrev pub at_number : ℕ → ℕ → ℕ
@@ -423,12 +423,12 @@ wanted to_all of_sends p = shut_count p.shut
 wanted to_all of_streams p = cond p.shut 1 p.there
 wanted to_all of_closings p = shut_count p.shut
 
--- whether some of a side have to be told, where a message is there, or none, and no call is under way
-abbrev pub due : Side → Bool → Bool → ℕ
-due of_receives message shut = cond message 1 0 + shut_count shut
-due of_sends message shut = cond message 0 1 + shut_count shut
-due of_streams message shut = cond message 1 0 + shut_count shut
-due of_closings message shut = shut_count shut
+-- how much of it is owed to some of a side, beside so many messages and free places, where no call is under way
+abbrev pub due : Side → ℕ → ℕ → Bool → ℕ
+due of_receives messages places shut = messages + shut_count shut
+due of_sends messages places shut = places + shut_count shut
+due of_streams messages places shut = messages + shut_count shut
+due of_closings messages places shut = shut_count shut
 
 -- whether a word that was found has a message, and whether it is closed
 abbrev pub has_message : ℕ → Bool
@@ -487,7 +487,14 @@ Known T W = Me (Option T) (View T W)
 
 -- the seat has every part and the list of this side, and no call is under way
 abbrev pub HasAll : {T W : Type 0} → Side → View T W → Type 0
-HasAll s v = (v.parts ≡ 1024) × ((roll s v.rolls).here ≡ 1) × ((of s v.calls).answers ≡ 0) × (((of s v.calls).holds ≡ 0) × ((of s v.calls).fresh ≡ 0)) × (v.owns ≡ 0) × ((of s v.calls).tells ≡ 0) × (v.calls.hands.closes ≡ 0)
+HasAll s v =
+    (v.parts ≡ 1024) × ((roll s v.rolls).here ≡ 1) × ((of s v.calls).answers ≡ 0) × (((of s v.calls).holds ≡ 0) × ((of s v.calls).fresh ≡ 0)) × (v.owns ≡ 0) × ((of s v.calls).tells ≡ 0) × (v.calls.hands.closes ≡ 0) × (v.turn ≡ Rest)
+
+-- WHAT IS KNOWN AT REST of a side, beside so many messages and free places: where a listener waits untold, no more is owed than are told; whose
+-- ticket the seat has is in the list; and the log of all passes accounts for the messages, for the closing and for the handles
+abbrev pub AtRest : {T W : Type 0} → Side → ℕ → ℕ → Bool → View T W → Type 0
+AtRest s messages places shut v =
+    ((key : ℕ) → 0 < waits key (roll s v.rolls).listeners → due s messages places shut ≤ told (roll s v.rolls).listeners) × ((key : ℕ) → is_key key (of s v.calls).ticket ≤ listed key (roll s v.rolls).listeners) × Looked messages shut v.log
 
 -- THE CELLS OF A RING: the head lies first, the tail and the stamps behind the counts. A slot is out where a call has it
 abbrev pub IsHome : {T : Type 0} → Bool → Bool → home.Option (home.Option (Option T)) → Type 0
@@ -617,8 +624,4 @@ module _ {T W : Type 0} where
       (k : ℕ) × PutBefore k m.0.log × TookBefore k m.0.log × (m' ≡ (stepped 0 m.0.calls (given k m.1 m.0.log) m.0, []))
 
   abbrev pub learns : Side → Step (Option T) → Known T W → ℕ → Known T W → Type 0
-  learns s st m found m' =
-      (m' ≡ m)
-      × (HasAll s m.0 → ((key : ℕ) → 0 < waits key (roll s m.0.rolls).listeners → due s (has_message found) (is_shut found) ≤ told (roll s m.0.rolls).listeners)
-      × ((key : ℕ) → is_key key (of s m.0.calls).ticket ≤ listed key (roll s m.0.rolls).listeners) × ((slot : Option T) × (is_some slot ≡ has_message found) × Accounts slot m.0.log)
-      × Closings (is_shut found) (cond (has_message found) 1 0) (λ f. sights f m.0.log) × Tallied (is_shut found) m.0.log)
+  learns s st m found m' = (m' ≡ m) × (HasAll s m.0 → AtRest s (cond (has_message found) 1 0) (cond (has_message found) 0 1) (is_shut found) m.0)

@@ -1,12 +1,14 @@
 //! What a channel is found to be while no call is under way.
 
-ghost use Rattle.std.specs.Prelude.{◌≡◌, ◌⊎◌, ◌+◌, ◌-◌, ◌<◌, true, false, is_some};
-ghost use Rattle.channel_wakeups.specs.Calls.{held, key_next, Looked};
+ghost use Rattle.std.specs.Prelude.{◌≡◌, ◌⊎◌, ◌+◌, ◌-◌, ◌<◌, true, is_some};
+ghost use Rattle.channel_wakeups.specs.Calls.{held, key_next};
+ghost use Rattle.channel_wakeups.specs.Log.{each, puts, takes, AccountsBalance, Looked, ReceivedWasSent};
 ghost use Rattle.channel_wakeups.specs.Seats.{IsIdle, IsPass, IsWhole};
 ghost use Rattle.channel_wakeups.specs.Views.{besides, calling};
 
 use crate::cells::{Place, SlotTable};
 use crate::channel::Ticket;
+use crate::form::Form;
 use crate::place::{blank, give_ticket, take_ticket};
 use crate::rule::{Closings, Receives, Room, Sends, Streams, Waiting};
 use crate::telling::Desks;
@@ -18,8 +20,10 @@ use std::sync::Wait;
 /// What a channel is found to be while no call is under way.
 #[derive(Clone, Copy, Debug, PartialEq, Eq)]
 pub struct Rest {
-    /// Whether a message is there.
-    pub message: bool,
+    /// How many messages are held.
+    pub messages: u64,
+    /// How many places are free.
+    pub places: u64,
     /// Whether the channel is closed.
     pub closed: bool,
     /// Whether the listener of some receive was told.
@@ -80,30 +84,36 @@ fn give_out<T: Drop, W: Drop, B: Room, S: Waiting>(
     })
 }
 
-/// With every part in hand, and with the ticket of one of each side that may be pending, no call is under way. What the channel is then.
-fn see_all<T: Drop, W: Wake, B: Room, R: Wait>(
+/// With every part in hand, and with the ticket of one of each side that may be pending, no call is under way. What the channel is then: at
+/// each look the same, since its log is.
+#[tactic(auto, using(crate::proofs::Accounts::same_stock, crate::proofs::Weights::held_count))]
+fn see_all<T: Drop, W: Wake, B: Room, F: Form, R: Wait>(
     rt: &R,
+    form: F,
     table: &SlotTable<T, W>,
     desks: &Desks<T, W, B>,
     call: Place<T, W>,
 ) -> (Rest, Place<T, W>)
     requires table { (table.now.shared.table_id ≡ B.table) × (0 < B.table.words) }
-    requires single { B.table.slots ≡ 1 }
+    requires fits { F.fits form B.table }
     requires call { IsWhole B.table call }
     ensures same { (result.1.table_id ≡ B.table) × (result.1.me ≡ call.me) }
-    ensures receives { 0 < call.me.0.calls.receives.ticket → (result.0.message ≡ true) ⊎ (result.0.closed ≡ true) → result.0.receive_told ≡ true }
-    ensures sends { 0 < call.me.0.calls.sends.ticket → (result.0.message ≡ false) ⊎ (result.0.closed ≡ true) → result.0.send_told ≡ true }
-    ensures streams { 0 < call.me.0.calls.streams.ticket → (result.0.message ≡ true) ⊎ (result.0.closed ≡ true) → result.0.stream_told ≡ true }
+    ensures receives { 0 < call.me.0.calls.receives.ticket → (0 < result.0.messages) ⊎ (result.0.closed ≡ true) → result.0.receive_told ≡ true }
+    ensures sends { 0 < call.me.0.calls.sends.ticket → (0 < result.0.places) ⊎ (result.0.closed ≡ true) → result.0.send_told ≡ true }
+    ensures streams { 0 < call.me.0.calls.streams.ticket → (0 < result.0.messages) ⊎ (result.0.closed ≡ true) → result.0.stream_told ≡ true }
     ensures closings { 0 < call.me.0.calls.closings.ticket → result.0.closed ≡ true → result.0.closing_told ≡ true }
-    ensures accounts { Looked result.0.message result.0.closed call.me.0.log }
+    ensures whole { result.0.messages + result.0.places ≡ B.table.slots }
+    ensures accounts { Looked result.0.messages result.0.closed call.me.0.log }
+    ensures balance { puts each call.me.0.log ≡ takes each call.me.0.log + result.0.messages }
 {
-    let ((message, closed), receive_told, call) = desks.receives.lock(rt).look(table, call);
-    let (_, send_told, call) = desks.sends.lock(rt).look(table, call);
-    let (_, stream_told, call) = desks.streams.lock(rt).look(table, call);
-    let (_, closing_told, call) = desks.closings.lock(rt).look(table, call);
+    let (_, receive_told, call) = desks.receives.lock(rt).look(form, table, call);
+    let (_, send_told, call) = desks.sends.lock(rt).look(form, table, call);
+    let (_, stream_told, call) = desks.streams.lock(rt).look(form, table, call);
+    let (stock, closing_told, call) = desks.closings.lock(rt).look(form, table, call);
     let rest = Rest {
-        message,
-        closed,
+        messages: stock.messages,
+        places: stock.places,
+        closed: stock.closed,
         receive_told,
         send_told,
         stream_told,
@@ -113,15 +123,16 @@ fn see_all<T: Drop, W: Wake, B: Room, R: Wait>(
 }
 
 /// What the channel is, with every part in hand but those of one of each side that may be pending.
-pub(crate) fn look<T: Drop, W: Wake, B: Room, R: Wait>(
+pub(crate) fn look<T: Drop, W: Wake, B: Room, F: Form, R: Wait>(
     rt: &R,
+    form: F,
     table: &SlotTable<T, W>,
     desks: &Desks<T, W, B>,
     pass: &mut Place<T, W>,
     waiting: Tickets<T, W, B>,
 ) -> (Rest, Tickets<T, W, B>)
     requires table { (table.now.shared.table_id ≡ B.table) × (0 < B.table.words) }
-    requires single { B.table.slots ≡ 1 }
+    requires fits { F.fits form B.table }
     requires pass { IsIdle B.table pass.old pass.old.me.0.parts }
     requires parts { pass.old.me.0.parts + held (is_some waiting.receive) + held (is_some waiting.send) + held (is_some waiting.stream) + held (is_some waiting.closing) ≡ 1024 }
     ensures pass { IsIdle B.table pass.new pass.old.me.0.parts }
@@ -129,12 +140,14 @@ pub(crate) fn look<T: Drop, W: Wake, B: Room, R: Wait>(
     ensures send { is_some result.1.send ≡ is_some waiting.send }
     ensures stream { is_some result.1.stream ≡ is_some waiting.stream }
     ensures closing { is_some result.1.closing ≡ is_some waiting.closing }
-    ensures receives { is_some waiting.receive ≡ true → (result.0.message ≡ true) ⊎ (result.0.closed ≡ true) → result.0.receive_told ≡ true }
-    ensures sends { is_some waiting.send ≡ true → (result.0.message ≡ false) ⊎ (result.0.closed ≡ true) → result.0.send_told ≡ true }
-    ensures streams { is_some waiting.stream ≡ true → (result.0.message ≡ true) ⊎ (result.0.closed ≡ true) → result.0.stream_told ≡ true }
+    ensures receives { is_some waiting.receive ≡ true → (0 < result.0.messages) ⊎ (result.0.closed ≡ true) → result.0.receive_told ≡ true }
+    ensures sends { is_some waiting.send ≡ true → (0 < result.0.places) ⊎ (result.0.closed ≡ true) → result.0.send_told ≡ true }
+    ensures streams { is_some waiting.stream ≡ true → (0 < result.0.messages) ⊎ (result.0.closed ≡ true) → result.0.stream_told ≡ true }
     ensures closings { is_some waiting.closing ≡ true → result.0.closed ≡ true → result.0.closing_told ≡ true }
     ensures log { pass.new.me.0.log ≡ pass.old.me.0.log }
-    ensures accounts { Looked result.0.message result.0.closed pass.old.me.0.log }
+    ensures whole { result.0.messages + result.0.places ≡ B.table.slots }
+    ensures accounts { Looked result.0.messages result.0.closed pass.old.me.0.log }
+    ensures balance { puts each pass.old.me.0.log ≡ takes each pass.old.me.0.log + result.0.messages }
 {
     let Tickets {
         receive,
@@ -147,7 +160,7 @@ pub(crate) fn look<T: Drop, W: Wake, B: Room, R: Wait>(
     let send = take_in(table, &mut call, send);
     let stream = take_in(table, &mut call, stream);
     let closing = take_in(table, &mut call, closing);
-    let (rest, mut call) = see_all(rt, table, desks, call);
+    let (rest, mut call) = see_all(rt, form, table, desks, call);
     let tickets = Tickets {
         receive: give_out(table, &mut call, receive),
         send: give_out(table, &mut call, send),
@@ -157,3 +170,12 @@ pub(crate) fn look<T: Drop, W: Wake, B: Room, R: Wait>(
     *pass = call;
     (rest, tickets)
 }
+
+/// A law of the account that a look gives. By every weight of messages and their numbers, what was put in weighs what was taken out and what
+/// is held. And what was taken out was put in, under the same number.
+///
+/// Own to this project.
+pub fn what_an_account_says<T>()
+    ensures balance { AccountsBalance T }
+    ensures received { ReceivedWasSent T }
+{}

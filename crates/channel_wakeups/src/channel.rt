@@ -1,9 +1,10 @@
 //! The channel, its passes, its receives and its sends that wait.
 
-ghost use Rattle.std.specs.Prelude.{◌≡◌, ◌⊎◌, ℕ, ◌+◌, ◌-◌, ◌/◌, ◌<◌, [], ◌++◌, true, false, is_some, MatchResult};
+ghost use Rattle.std.specs.Prelude.{◌≡◌, ◌⊎◌, ℕ, ◌+◌, ◌-◌, ◌/◌, ◌<◌, [], ◌++◌, true, is_some, IfOk, MatchResult};
 ghost use Rattle.atomic_table.specs.Seated.{TableId};
-ghost use Rattle.channel_wakeups.specs.Calls.{held, is_pending, is_waiting, is_watching, Closes, Hand, IsClosed, Looked, Received, Watches};
+ghost use Rattle.channel_wakeups.specs.Calls.{held, is_pending, is_waiting, is_watching, Closes, Hand, IsClosed, Received, Watches};
 ghost use Rattle.channel_wakeups.specs.Counts.{IsHandle};
+ghost use Rattle.channel_wakeups.specs.Log.{each, puts, takes, Looked};
 ghost use Rattle.channel_wakeups.specs.Seats.{IsIdle, IsTicket};
 ghost use Rattle.channel_wakeups.specs.Sends.{DisplacedIn, OffersIn, SentIn};
 ghost use Rattle.channel_wakeups.specs.Several.{Gathered, NoneGathered};
@@ -150,7 +151,9 @@ pub type Closing<T, W, B> = Waiter<T, W, B, Closings>;
 
 impl<T: Drop, W: Drop> Opening<T, W, OneSlot> {
     /// A channel with no message. `Err` where there is no memory for its words and its slot.
-    pub fn new(alloc: Global) -> Result<Opened<T, W>, AllocError> {
+    pub fn new(alloc: Global) -> Result<Opened<T, W>, AllocError>
+        ensures { IfOk result (λ o. o.slots ≡ 1) }
+    {
         let mut words = [0; 2 * APART + 1];
         words[APART] = 1;
         words[2 * APART] = 1;
@@ -506,14 +509,12 @@ impl<T: Drop, W: Wake, B: Room, F: Form> Channel<T, W, B, F> {
     {
         shutting::is_closed(rt, self.form, &self.table, &mut pass.seat)
     }
-}
 
-impl<T: Drop, W: Wake, B: Room> Channel<T, W, B, OneSlot> {
-    /// All parts are back, so no call is under way, and at most one is pending of each side. Whether a message is there, whether the
-    /// channel is closed, and of each side whether some listener was woken. Beside a message there is one where a receive is pending, and
-    /// where a stream is. Beside a free place there is one where a send is pending, and in a closed channel wherever one is. The log of
-    /// all passes says that each message that was put in was taken out once, but for the last where one is there. It says too whether one
-    /// closed the channel, and that who found it closed, or without a message then, did so rightly.
+    /// All parts are back, so no call is under way, and at most one is pending of each side. How many messages are held, how many places
+    /// are free, whether the channel is closed, and of each side whether some listener was woken. Beside a message there is one where a
+    /// receive is pending, and where a stream is. Beside a free place there is one where a send is pending, and in a closed channel wherever
+    /// one is. The log of all passes accounts for the messages: what was taken out, followed by what is held, is all that was put in, in
+    /// order. It says too whether one closed the channel, and that who found it closed, or without a message then, did so rightly.
     pub fn look<R: Wait>(
         &self,
         rt: &R,
@@ -526,11 +527,13 @@ impl<T: Drop, W: Wake, B: Room> Channel<T, W, B, OneSlot> {
         requires { pass.old.parts + receive.old + send.old + stream.old + closing.old ≡ 1024 }
         ensures same { (pass.new.parts ≡ pass.old.parts) × (pass.new.log ≡ pass.old.log) }
         ensures waiting { (receive.new ≡ receive.old) × (send.new ≡ send.old) × (stream.new ≡ stream.old) × (closing.new ≡ closing.old) }
-        ensures receives { 0 < receive.old → (result.message ≡ true) ⊎ (result.closed ≡ true) → result.receive_told ≡ true }
-        ensures sends { 0 < send.old → (result.message ≡ false) ⊎ (result.closed ≡ true) → result.send_told ≡ true }
-        ensures streams { 0 < stream.old → (result.message ≡ true) ⊎ (result.closed ≡ true) → result.stream_told ≡ true }
+        ensures receives { 0 < receive.old → (0 < result.messages) ⊎ (result.closed ≡ true) → result.receive_told ≡ true }
+        ensures sends { 0 < send.old → (0 < result.places) ⊎ (result.closed ≡ true) → result.send_told ≡ true }
+        ensures streams { 0 < stream.old → (0 < result.messages) ⊎ (result.closed ≡ true) → result.stream_told ≡ true }
         ensures closings { 0 < closing.old → result.closed ≡ true → result.closing_told ≡ true }
-        ensures accounts { Looked result.message result.closed pass.old.log }
+        ensures whole { result.messages + result.places ≡ B.table.slots }
+        ensures accounts { Looked result.messages result.closed pass.old.log }
+        ensures balance { puts each pass.old.log ≡ takes each pass.old.log + result.messages }
     {
         let waiting = Tickets {
             receive: receive.waiting.take(),
@@ -540,6 +543,7 @@ impl<T: Drop, W: Wake, B: Room> Channel<T, W, B, OneSlot> {
         };
         let (rest, waiting) = at_rest::look(
             rt,
+            self.form,
             &self.table,
             &self.desks(),
             &mut pass.seat,

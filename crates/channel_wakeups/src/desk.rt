@@ -1,15 +1,17 @@
 //! A list of listeners as it lies behind its lock, with the seat that says what it holds.
 
 ghost use Rattle.std.specs.Prelude.{◌≡◌, ◌⊎◌, ℕ, ◌+◌, ◌-◌, ◌<◌, ◌≤◌, [], true, IfSome, IfNone, IfOk, IfErr};
-ghost use Rattle.channel_wakeups.specs.Calls.{Looked};
 ghost use Rattle.channel_wakeups.specs.Lists.{told, waits, listed};
+ghost use Rattle.channel_wakeups.specs.Log.{Looked};
 ghost use Rattle.channel_wakeups.specs.Seats.{IsCall, IsPass, IsTicket, IsList};
 ghost use Rattle.channel_wakeups.specs.Views.{of, besides, roll, calling, telling, due, idle_lines, line_of};
 
 use crate::cells::{Place, SlotTable};
+use crate::form::Form;
 use crate::listeners::{Listener, add, any_told, remove, renew, take_told, tell_one};
-use crate::place::{enter, give_ticket, learn, leave, section};
+use crate::place::{enter, give_ticket, leave, section};
 use crate::rule::{Room, Waiting};
+use crate::stock::Stock;
 use std::alloc::Global;
 use std::marker::{Brand, PhantomData};
 
@@ -208,24 +210,26 @@ impl<T: Drop, W: Drop, B: Room, S: Waiting> Desk<T, W, B, S> {
         (task, call)
     }
 
-    /// With every part in hand no call is under way: whether a message is there, whether the channel is closed, and whether a listener of
-    /// this side was told. The call has the ticket of one that is pending.
-    pub(crate) fn look(
+    /// With every part in hand no call is under way: what the queue holds then, and whether a listener of this side was told. The call has
+    /// the ticket of one that is pending.
+    pub(crate) fn look<F: Form>(
         &mut self,
+        form: F,
         table: &SlotTable<T, W>,
         call: Place<T, W>,
-    ) -> ((bool, bool), bool, Place<T, W>)
+    ) -> (Stock, bool, Place<T, W>)
         requires table { (table.now.shared.table_id ≡ B.table) × (0 < B.table.words) }
-        requires single { B.table.slots ≡ 1 }
+        requires fits { F.fits form B.table }
         requires call { IsPass S.side B.table call 1024 (calling 0 0 (of S.side call.me.0.calls).ticket) (besides S.side call.me.0.calls) }
         requires owes { call.me.0.calls.hands.closes ≡ 0 }
         ensures same { (result.2.table_id ≡ B.table) × (result.2.me ≡ call.me) }
-        ensures law { 0 < (of S.side call.me.0.calls).ticket → 0 < due S.side result.0.0 result.0.1 → result.1 ≡ true }
-        ensures accounts { Looked result.0.0 result.0.1 call.me.0.log }
+        ensures whole { result.0.messages + result.0.places ≡ B.table.slots }
+        ensures law { 0 < (of S.side call.me.0.calls).ticket → 0 < due S.side result.0.messages result.0.places result.0.closed → result.1 ≡ true }
+        ensures accounts { Looked result.0.messages result.0.closed call.me.0.log }
     {
         enter::<T, W, S>(table, &mut self.seat, call);
-        let found = learn::<T, W, S>(table, &mut self.seat);
+        let stock = form.see::<T, W, S>(table, &mut self.seat);
         let told = any_told(self.listeners.as_slice());
-        (found, told, leave(table, &mut self.seat))
+        (stock, told, leave(table, &mut self.seat))
     }
 }

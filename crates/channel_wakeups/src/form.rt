@@ -1,17 +1,21 @@
 //! The form of a channel's queue: one slot, or a ring of several places. What stands above it is one text for each form.
 
-ghost use Rattle.std.specs.Prelude.{◌≡◌, ◌⊎◌, ◌+◌, ◌<◌, ◌≤◌, true, false, IfErr, IfOk};
+ghost use Rattle.std.specs.Prelude.{◌≡◌, ◌⊎◌, ℕ, ◌+◌, ◌<◌, ◌≤◌, true, false, IfErr, IfOk};
 ghost use Rattle.channel_wakeups.specs.Calls.{Found, Closes, IsClosed, PopRefused, to_others};
 ghost use Rattle.channel_wakeups.specs.Counts.{IsHolding};
 ghost use Rattle.channel_wakeups.specs.Forms.{ClosedBy, RefusedBy};
+ghost use Rattle.channel_wakeups.specs.Lists.{told, waits, listed};
+ghost use Rattle.channel_wakeups.specs.Log.{Looked};
 ghost use Rattle.channel_wakeups.specs.Sends.{DisplacedIn, SentIn};
 ghost use Rattle.channel_wakeups.specs.RingLeaves.{to_streams_holding};
 ghost use Rattle.channel_wakeups.specs.Seats.{IsCall, IsPass, IsIdle};
-ghost use Rattle.channel_wakeups.specs.Views.{of, of_receives, of_sends, of_closings, hands, only_on, calling, telling};
+ghost use Rattle.channel_wakeups.specs.Views.{of, roll, is_key, due, of_receives, of_sends, of_closings, hands, only_on, calling, telling, HasAll};
 
 use crate::cells::{Place, SlotTable};
 use crate::made;
-use crate::rule::Taking;
+use crate::rule::{Taking, Waiting};
+use crate::stock;
+use crate::stock::Stock;
 use concurrent_queue::{ForcePushError, PopError, PushError};
 use std::sync::Wait;
 
@@ -119,6 +123,23 @@ pub trait Form: Copy {
         ensures closed { result.0 ≡ true → IsCall of_closings table.now.shared.table_id result.1 call.me.0.parts 0 call.me.0.calls.closings.holds 0 }
         ensures open { result.0 ≡ false → IsIdle table.now.shared.table_id result.1 call.me.0.parts }
         ensures log { IsClosed result.0 call.me.0.log result.1.me.0.log };
+
+    /// With every part and the list of a side in hand no call is under way: what the queue holds then. And where a listener of the side waits
+    /// untold, no more is owed to it than are told; whose ticket is in hand is in the list.
+    fn see<T: Drop, W: Drop, S: Waiting>(
+        self,
+        table: &SlotTable<T, W>,
+        seat: &mut Place<T, W>,
+    ) -> Stock
+        requires table { 0 < table.now.shared.table_id.words }
+        requires fits { Self.fits self table.now.shared.table_id }
+        requires seat { seat.old.table_id ≡ table.now.shared.table_id }
+        requires all { HasAll S.side seat.old.me.0 }
+        ensures same { (seat.new.table_id ≡ table.now.shared.table_id) × (seat.new.me ≡ seat.old.me) }
+        ensures whole { result.messages + result.places ≡ table.now.shared.table_id.slots }
+        ensures law { (key : ℕ) → 0 < waits key (roll S.side seat.old.me.0.rolls).listeners → due S.side result.messages result.places result.closed ≤ told (roll S.side seat.old.me.0.rolls).listeners }
+        ensures tickets { (key : ℕ) → is_key key (of S.side seat.old.me.0.calls).ticket ≤ listed key (roll S.side seat.old.me.0.rolls).listeners }
+        ensures accounts { Looked result.messages result.closed seat.old.me.0.log };
 }
 
 /// One slot. A push that is in has no listener of a send in hand any more, and positions do not end.
@@ -194,5 +215,14 @@ impl Form for OneSlot {
         call: Place<T, W>,
     ) -> (bool, Place<T, W>) {
         made::ask(rt, table, call)
+    }
+
+    #[inline(always)]
+    fn see<T: Drop, W: Drop, S: Waiting>(
+        self,
+        table: &SlotTable<T, W>,
+        seat: &mut Place<T, W>,
+    ) -> Stock {
+        stock::of_slot::<T, W, S>(table, seat)
     }
 }

@@ -28,6 +28,7 @@ pub mod rule;
 mod shutting;
 mod stage;
 mod steps;
+pub mod stock;
 mod takes;
 mod telling;
 mod waits;

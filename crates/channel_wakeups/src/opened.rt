@@ -58,7 +58,9 @@ fn first_words(alloc: Global, count: usize) -> Result<Vec<u64>, AllocError>
 impl<T: Drop, W: Drop> Opening<T, W, Ring> {
     /// A channel of so many places with no message. `TooFew` below two places, `TooMany` above 2^58; nothing is made then. `NoMemory` where
     /// there is none for its words and its places.
-    pub fn with_capacity(alloc: Global, capacity: usize) -> Result<Opening<T, W, Ring>, Unopened> {
+    pub fn with_capacity(alloc: Global, capacity: usize) -> Result<Opening<T, W, Ring>, Unopened>
+        ensures { IfOk result (λ o. o.slots ≡ capacity) }
+    {
         if capacity < 2 {
             return Err(Unopened::TooFew);
         }

@@ -1,21 +1,19 @@
 //! What is done to the seats of a channel's table besides the steps of the machine. Each function is one plain load, `begin` six and
 //! `section` three.
 
-ghost use Rattle.std.specs.Prelude.{◌≡◌, ℕ, ◌+◌, ◌-◌, ◌/◌, ◌<◌, ◌≤◌, [], ◌++◌, true, false};
-ghost use Rattle.channel_wakeups.specs.Calls.{Looked};
+ghost use Rattle.std.specs.Prelude.{◌≡◌, ◌+◌, ◌-◌, ◌/◌, ◌<◌, [], ◌++◌};
 ghost use Rattle.channel_wakeups.specs.Counts.{IsHandle};
 ghost use Rattle.channel_wakeups.specs.declared.rule.Kind.TheVariants.{OfReceivers, OfSenders};
-ghost use Rattle.channel_wakeups.specs.Lists.{told, waits, listed};
 ghost use Rattle.channel_wakeups.specs.Seats.{IsCall, IsIdle, IsPass, IsTicket, IsList, Calls, Lists};
 ghost use Rattle.channel_wakeups.specs.Sections.{Fair};
-ghost use Rattle.channel_wakeups.specs.Views.{of, besides, roll, call_line, calling, changed, line_of, comes_out, entered, stays, alone, without, is_key, everything, due, of_receives, of_sends, of_streams, of_closings, idle_lines, HasAll};
+ghost use Rattle.channel_wakeups.specs.Views.{of, besides, roll, call_line, calling, changed, line_of, comes_out, entered, stays, alone, without, everything, of_receives, of_sends, of_streams, of_closings, idle_lines};
 
 use crate::cells::{Place, SlotTable};
 use crate::handles::uncouple;
 use crate::listeners::Listener;
 use crate::rule::{
-    Absorbs, Aim, Becomes, Blank, Closings, Divides, Enters, GivesTicket, Learns, Leaves,
-    Receivers, Senders, Sends, Shares, Streams, TakesTicket, Waiting,
+    Absorbs, Aim, Becomes, Blank, Closings, Divides, Enters, GivesTicket, Leaves, Receivers,
+    Senders, Sends, Shares, Streams, TakesTicket, Waiting,
 };
 use std::marker::Brand;
 
@@ -206,23 +204,4 @@ pub(crate) fn take_ticket<T: Drop, W: Drop, S: Waiting>(
     ensures log { call.new.me.0.log ≡ call.old.me.0.log }
 {
     table.shared.join_seat::<TakesTicket<S>>(call, ticket);
-}
-
-/// Who has every part and a list learns the rule of its side: whether a message is there, whether the channel is closed, and of the
-/// listeners.
-pub(crate) fn learn<T: Drop, W: Drop, S: Waiting>(
-    table: &SlotTable<T, W>,
-    seat: &mut Place<T, W>,
-) -> (bool, bool)
-    requires table { 0 < table.now.shared.table_id.words }
-    requires single { table.now.shared.table_id.slots ≡ 1 }
-    requires seat { seat.old.table_id ≡ table.now.shared.table_id }
-    requires all { HasAll S.side seat.old.me.0 }
-    ensures same { (seat.new.table_id ≡ table.now.shared.table_id) × (seat.new.me ≡ seat.old.me) }
-    ensures law { (key : ℕ) → 0 < waits key (roll S.side seat.old.me.0.rolls).listeners → due S.side result.0 result.1 ≤ told (roll S.side seat.old.me.0.rolls).listeners }
-    ensures tickets { (key : ℕ) → is_key key (of S.side seat.old.me.0.calls).ticket ≤ listed key (roll S.side seat.old.me.0.rolls).listeners }
-    ensures accounts { Looked result.0 result.1 seat.old.me.0.log }
-{
-    let found = table.shared.load::<Learns<S>>(seat, 0);
-    (found & 2 != 0, found & 4 != 0)
 }

@@ -4,7 +4,9 @@ use crate::cells::{Place, SlotTable};
 use crate::form::Form;
 use crate::made_ring::{make_ask, make_close, make_force, make_pop, make_pop_more, make_push};
 use crate::ring_shape::RingShape;
-use crate::rule::Taking;
+use crate::rule::{Taking, Waiting};
+use crate::stock;
+use crate::stock::Stock;
 use concurrent_queue::{ForcePushError, PopError, PushError, QueueReply};
 use std::sync::Wait;
 
@@ -124,5 +126,14 @@ impl Form for Ring {
             QueueReply::Flag(false) => (false, call),
             _ => unreachable!(),
         }
+    }
+
+    #[inline(always)]
+    fn see<T: Drop, W: Drop, S: Waiting>(
+        self,
+        table: &SlotTable<T, W>,
+        seat: &mut Place<T, W>,
+    ) -> Stock {
+        stock::of_ring::<T, W, S>(table, self.shape, seat)
     }
 }

@@ -1,7 +1,7 @@
 //! The measures of a ring.
 
 ghost use Rattle.std.specs.Prelude.{◌≡◌, ℕ, ◌<◌, ◌≤◌, ◌^◌, ◌*◌, ◌+◌, ◌-◌, ◌%◌, true, false, nat_le, bit_and, IfNone, IfSome};
-ghost use Rattle.concurrent_queue.specs.machine.RingWords.{ring_mark, index, is_marked, unmarked, stride, next_word};
+ghost use Rattle.concurrent_queue.specs.machine.RingWords.{ring_mark, index, is_marked, unmarked, stride, next_word, count_of};
 
 /// The measures of a ring: its capacity, its mark, which is the least power of two above that, and a lap of two marks, less one.
 #[derive(Clone, Copy)]
@@ -88,6 +88,16 @@ impl RingShape {
         ensures { result ≡ next_word self.cap self.mark position }
     {
         position.wrapping_add(self.stride(position))
+    }
+
+    /// How many positions there are below this one.
+    #[inline(always)]
+    pub(crate) fn count(self, position: u64) -> u64
+        ensures { result ≡ count_of self.cap self.mark position }
+    {
+        (position / self.lap())
+            .wrapping_mul(self.cap)
+            .wrapping_add(self.index(position))
     }
 
     /// The position a lap before this one, where the stamp says that the message of that lap is in.

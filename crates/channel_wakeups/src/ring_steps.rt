@@ -19,9 +19,9 @@ use concurrent_queue::NoMemory;
 use concurrent_queue::cells::{Cells, QueueForm, Slot, Word};
 
 /// The words of a ring: the head lies first, the tail and the stamps behind the counts of handles.
-const HEAD: usize = 0;
+pub(crate) const HEAD: usize = 0;
 
-const TAIL: usize = 3 * APART;
+pub(crate) const TAIL: usize = 3 * APART;
 
 const STAMPS: usize = 4 * APART;
 

@@ -551,7 +551,7 @@ impl<T, W> Play<Option<T>, View<T, W>> for AsksTail {
     ghost then = { λ st m found after. tail_asked st.slots m.0 found after };
 }
 
-/// Who has every part and a list learns the rule of its side.
+/// Who has every part and a list learns the rule of its side. Of one slot its word says all.
 pub(crate) struct Learns<S> {
     of: PhantomData<S>,
 }
@@ -560,6 +560,28 @@ impl<T, W, S: Waiting> Play<Option<T>, View<T, W>> for Learns<S> {
     ghost use Rattle.channel_wakeups.specs.Views.{learns};
 
     ghost then = { learns S.side };
+}
+
+/// Of a ring, by the head: how many messages left.
+pub(crate) struct LearnsHead<S> {
+    of: PhantomData<S>,
+}
+
+impl<T, W, S: Waiting> Play<Option<T>, View<T, W>> for LearnsHead<S> {
+    ghost use Rattle.channel_wakeups.specs.RingSteps.{head_learned};
+
+    ghost then = { λ st m found after. head_learned S.side st.slots m found after };
+}
+
+/// And by the tail: how many came, and the rule of the side.
+pub(crate) struct LearnsTail<S> {
+    of: PhantomData<S>,
+}
+
+impl<T, W, S: Waiting> Play<Option<T>, View<T, W>> for LearnsTail<S> {
+    ghost use Rattle.channel_wakeups.specs.RingSteps.{tail_learned};
+
+    ghost then = { λ st m found after. tail_learned S.side st.slots m found after };
 }
 
 /// A pass takes a handle in.

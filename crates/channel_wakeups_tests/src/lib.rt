@@ -5,6 +5,7 @@ ghost use Rattle.std.specs.Prelude.{◌≡◌, ◌<◌, IfSome, true, false};
 
 mod blocked;
 mod counted;
+mod rest;
 mod ring;
 mod ring_among;
 mod rung;
@@ -17,6 +18,7 @@ use channel_wakeups::{
 };
 use concurrent_queue::{ForcePushError, PushError};
 pub use counted::{let_all_go, let_two_go};
+pub use rest::{Found, look_at_rings, three_are_held};
 pub use ring::{Turned, turn};
 pub use ring_among::{Ended, close_ring_among, pass_on};
 pub use rung::{Rung, Tolled, Tolls, toll};
@@ -125,7 +127,7 @@ fn beside_a_message<B: Room, R: Wait>(
 ) -> (bool, Rest)
     requires { pass.old.parts ≡ 1024 }
     ensures parts { pass.new.parts ≡ 1024 }
-    ensures told { result.0 ≡ true → result.1.message ≡ true → result.1.receive_told ≡ true }
+    ensures told { result.0 ≡ true → 0 < result.1.messages → result.1.receive_told ≡ true }
 {
     let mut receive = Receive::new();
     let mut send = Sending::new();
@@ -152,7 +154,7 @@ fn beside_a_place<B: Room, R: Wait>(
 ) -> (bool, Rest)
     requires { pass.old.parts ≡ 1024 }
     ensures parts { pass.new.parts ≡ 1024 }
-    ensures told { result.0 ≡ true → result.1.message ≡ false → result.1.send_told ≡ true }
+    ensures told { result.0 ≡ true → 0 < result.1.places → result.1.send_told ≡ true }
 {
     let mut receive = Receive::new();
     let mut send = Sending::new();
@@ -189,8 +191,8 @@ fn rush_in<B: Room + Send + Sync, R: Threads + Wait + Sync>(
     count: u64,
 ) -> Outcome
     requires { opened ≡ B.table }
-    ensures receive { result.receive_pending ≡ true → result.full.message ≡ true → result.full.receive_told ≡ true }
-    ensures send { result.send_pending ≡ true → result.empty.message ≡ false → result.empty.send_told ≡ true }
+    ensures receive { result.receive_pending ≡ true → 0 < result.full.messages → result.full.receive_told ≡ true }
+    ensures send { result.send_pending ≡ true → 0 < result.empty.places → result.empty.send_told ≡ true }
 {
     let (channel, mut all, _handles) = opened.enter::<B>();
     let sum = all_at_once(rt, &channel, &mut all, count);
@@ -287,8 +289,8 @@ fn receive_in_two<B: Room + Send + Sync, R: Threads + Wait + Sync>(
 
 /// The same, from nothing: `None` where there is no memory.
 pub fn rush<R: Threads + Wait + Sync>(rt: &R, alloc: Global, count: u64) -> Option<Outcome>
-    ensures receive { IfSome result (λ o. o.receive_pending ≡ true → o.full.message ≡ true → o.full.receive_told ≡ true) }
-    ensures send { IfSome result (λ o. o.send_pending ≡ true → o.empty.message ≡ false → o.empty.send_told ≡ true) }
+    ensures receive { IfSome result (λ o. o.receive_pending ≡ true → 0 < o.full.messages → o.full.receive_told ≡ true) }
+    ensures send { IfSome result (λ o. o.send_pending ≡ true → 0 < o.empty.places → o.empty.send_told ≡ true) }
 {
     let opened = Opened::new(alloc).ok()?;
     Some(rush_in::<Brand, R>(rt, opened, count))
@@ -627,7 +629,7 @@ pub struct Woken {
 /// A stream and a receive wait, and a message is sent. The stream takes it.
 fn message_beside_a_stream_in<B: Room, R: Wait>(rt: &R, opened: Opened<u64, ()>) -> Woken
     requires { opened ≡ B.table }
-    ensures told { result.waited ≡ true → result.rest.message ≡ true → (result.rest.stream_told ≡ true) × (result.rest.receive_told ≡ true) }
+    ensures told { result.waited ≡ true → 0 < result.rest.messages → (result.rest.stream_told ≡ true) × (result.rest.receive_told ≡ true) }
 {
     let (channel, mut all, _handles) = opened.enter::<B>();
     let mut receive = Receive::new();
@@ -665,7 +667,7 @@ fn message_beside_a_stream_in<B: Room, R: Wait>(rt: &R, opened: Opened<u64, ()>)
 
 /// The same, from nothing.
 pub fn message_beside_a_stream<R: Wait>(rt: &R, alloc: Global) -> Option<Woken>
-    ensures told { IfSome result (λ w. w.waited ≡ true → w.rest.message ≡ true → (w.rest.stream_told ≡ true) × (w.rest.receive_told ≡ true)) }
+    ensures told { IfSome result (λ w. w.waited ≡ true → 0 < w.rest.messages → (w.rest.stream_told ≡ true) × (w.rest.receive_told ≡ true)) }
 {
     let opened = Opened::new(alloc).ok()?;
     Some(message_beside_a_stream_in::<Brand, R>(rt, opened))

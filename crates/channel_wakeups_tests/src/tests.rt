@@ -10,7 +10,8 @@ fn all_come_and_the_last_are_told(rt: HostRuntime) {
         sum: 9_900,
         receive_pending: true,
         full: Rest {
-            message: true,
+            messages: 1,
+            places: 0,
             closed: false,
             receive_told: true,
             send_told: false,
@@ -19,7 +20,8 @@ fn all_come_and_the_last_are_told(rt: HostRuntime) {
         },
         send_pending: true,
         empty: Rest {
-            message: false,
+            messages: 0,
+            places: 1,
             closed: false,
             receive_told: false,
             send_told: true,
@@ -38,7 +40,8 @@ fn all_end_after_a_close(rt: HostRuntime) {
         lost: 0,
         told: [true, false, true],
         rest: Rest {
-            message: false,
+            messages: 0,
+            places: 1,
             closed: true,
             receive_told: false,
             send_told: false,
@@ -57,7 +60,8 @@ fn all_end_after_a_close_at_once(rt: HostRuntime) {
         lost: 0,
         told: [true, false, true],
         rest: Rest {
-            message: false,
+            messages: 0,
+            places: 1,
             closed: true,
             receive_told: false,
             send_told: false,
@@ -73,7 +77,8 @@ fn all_end_after_a_close_at_once(rt: HostRuntime) {
 fn a_close_ends_a_receive(rt: HostRuntime) {
     let found = close_beside_a_receive(&rt, rt.alloc());
     let rest = Rest {
-        message: false,
+        messages: 0,
+        places: 1,
         closed: true,
         receive_told: true,
         send_told: false,
@@ -88,7 +93,8 @@ fn a_close_ends_a_receive(rt: HostRuntime) {
 fn a_close_ends_a_send(rt: HostRuntime) {
     let found = close_beside_a_send(&rt, rt.alloc());
     let rest = Rest {
-        message: true,
+        messages: 1,
+        places: 0,
         closed: true,
         receive_told: false,
         send_told: true,
@@ -103,7 +109,8 @@ fn a_close_ends_a_send(rt: HostRuntime) {
 fn a_message_wakes_a_stream(rt: HostRuntime) {
     let woken = message_beside_a_stream(&rt, rt.alloc());
     let rest = Rest {
-        message: true,
+        messages: 1,
+        places: 0,
         closed: false,
         receive_told: true,
         send_told: false,
@@ -124,7 +131,8 @@ fn a_message_wakes_a_stream(rt: HostRuntime) {
 fn a_close_ends_a_stream(rt: HostRuntime) {
     let found = close_beside_a_stream(&rt, rt.alloc());
     let rest = Rest {
-        message: false,
+        messages: 0,
+        places: 1,
         closed: true,
         receive_told: false,
         send_told: false,
@@ -139,7 +147,8 @@ fn a_close_ends_a_stream(rt: HostRuntime) {
 fn a_displacing_send_wakes(rt: HostRuntime) {
     let found = displace(&rt, rt.alloc());
     let rest = Rest {
-        message: true,
+        messages: 1,
+        places: 0,
         closed: false,
         receive_told: true,
         send_told: false,
@@ -168,7 +177,8 @@ fn several_are_taken(rt: HostRuntime) {
     let expected = Taken {
         open: [Ok((0, 0)), Ok((1, 7)), Err(Untaken::Empty)],
         rest: Rest {
-            message: false,
+            messages: 0,
+            places: 1,
             closed: false,
             receive_told: false,
             send_told: true,
@@ -279,11 +289,39 @@ fn a_ring_wakes_each_task_once(rt: HostRuntime) {
     assert_eq!(rt; toll(&rt, rt.alloc(), 3), Some(expected));
 }
 
+// At rest those were told who wait in a ring beside messages, free places or a closing; and all are held that were sent and not received.
+#[test]
+fn a_ring_is_looked_at(rt: HostRuntime) {
+    let two = Found {
+        receive: (2, 0, true),
+        send: (0, 2, true),
+        stream: [true, true, true],
+    };
+    let three = Found {
+        receive: (3, 0, true),
+        send: (1, 2, false),
+        stream: [true, true, true],
+    };
+    assert_eq!(rt; look_at_rings(&rt, rt.alloc(), 2), Some(two));
+    assert_eq!(rt; look_at_rings(&rt, rt.alloc(), 3), Some(three));
+    let held = Rest {
+        messages: 3,
+        places: 1,
+        closed: false,
+        receive_told: false,
+        send_told: false,
+        stream_told: false,
+        closing_told: false,
+    };
+    assert_eq!(rt; three_are_held(&rt, rt.alloc()), Some(held));
+}
+
 // Whoever lets the last sender go closes the channel, and a receive that waits is told and ends.
 #[test]
 fn the_last_sender_closes(rt: HostRuntime) {
     let rest = Rest {
-        message: false,
+        messages: 0,
+        places: 1,
         closed: true,
         receive_told: true,
         send_told: false,

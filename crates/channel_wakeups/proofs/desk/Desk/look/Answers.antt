@@ -13,5 +13,5 @@ returns-clause-law g c some due =
     let same_ticket : line.ticket ≡ (of side c.args.call.me.0.calls).ticket = (λ k. (of side (entry k).0.calls).ticket) in
     let same_list : list.listeners ≡ c.args.self.now.listeners.items = (λ k. (roll side (entry k).0.rolls).listeners) ∙ c.args.self.now.tied in
     must c.any_told-told.result
-    (λ no. ticket_waits line.ticket list.listeners (subst (λ (n : ℕ). 0 < n) (sym same_ticket) some) c.learn-found.ensures.tickets (λ key waiting. let law = c.learn-found.ensures.law key waiting in omega arith)
+    (λ no. ticket_waits line.ticket list.listeners (subst (λ (n : ℕ). 0 < n) (sym same_ticket) some) c.see-stock.ensures.tickets (λ key waiting. let law = c.see-stock.ensures.law key waiting in omega arith)
     (ap told (same_list ∙ sym c.as_slice.ensures.value) ∙ c.any_told-told.ensures no))
