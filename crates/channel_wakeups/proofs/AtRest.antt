@@ -174,14 +174,14 @@ module _ {T : Type 0} where
   slot_account : (slot : Option T) (h : List T) (log : List (Transfer T)) → Agrees h log → Balanced (some slot) (λ f. puts f log) (λ f. takes f log) → (contents : List T) × (length contents ≡ cond (is_some slot) 1 0) × Accounted contents log
   slot_account None h log agree (once, balance) =
       account (λ k. get_elem? h k) (puts each log) 0 log (recorded h log agree)
-          (λ k. subst (λ (m : ℕ). Once m k (puts (numbered k) log)) (let e : puts each log ≡ puts each log + 0 = omega arith in e) (once k))
-          (λ k. subst (λ (c : ℕ). Once (puts each log) k c) (let e = balance (numbered k) in let d : puts (numbered k) log ≡ takes (numbered k) log = omega arith in d) (once k))
+      (λ k. subst (λ (m : ℕ). Once m k (puts (numbered k) log)) (let e : puts each log ≡ puts each log + 0 = omega arith in e) (once k))
+      (λ k. subst (λ (c : ℕ). Once (puts each log) k c) (let e = balance (numbered k) in let d : puts (numbered k) log ≡ takes (numbered k) log = omega arith in d) (once k))
   slot_account (Some x) h log agree (once, balance) =
       let more = balance each in
       let n : puts each log ≡ puts each log - 1 + 1 = omega arith in
       account (λ k. get_elem? h k) (puts each log - 1) 1 log (recorded h log agree) (λ k. subst (λ (m : ℕ). Once m k (puts (numbered k) log)) n (once k))
-          (λ k. less_once (puts each log - 1) k (takes (numbered k) log) (subst (λ (m : ℕ). Once m k (takes (numbered k) log + is_this (puts each log - 1) k)) n
-          (subst (λ (c : ℕ). Once (puts each log) k c) (balance (numbered k)) (once k))))
+      (λ k. less_once (puts each log - 1) k (takes (numbered k) log) (subst (λ (m : ℕ). Once m k (takes (numbered k) log + is_this (puts each log - 1) k)) n
+      (subst (λ (c : ℕ). Once (puts each log) k c) (balance (numbered k)) (once k))))
 
 module _ {T W : Type 0} (s : Side) (base : ℕ) (shut : Bool) (slot : home.Option (Option T)) (vs : List (View T W)) (id : ℕ) (v : View T W) (k : Kept base shut slot vs) (at : get_elem? vs id ≡ some v) (all : HasAll s v) where
   of_slot : (held : Option T) → slot ≡ some held → (contents : List T) × (length contents ≡ cond (is_some held) 1 0) × Accounted contents v.log

@@ -3,7 +3,7 @@
 use Rattle.std.proofs.Common.{◌≡◌, ℕ, zero, suc, ◌+◌, ◌-◌, ◌^◌, ◌<◌, ◌≤◌, List, [], ◌∷◌, Bool, true, false, if◌then◌else◌, Option, length, sym, refl, ap, ◌∙◌, subst, arith}
 use Rattle.std.specs.Prelude.{slice_index}
 use mathlib.Core.Option as home
-use mathlib.Core.Option.{some, none, some-injective, some-ne-none}
+use mathlib.Core.Option.{some, none}
 use lib.ListN.{get_elem?}
 use Rattle.atomic_table.specs.Table.{State, Allows}
 use Rattle.concurrent_queue.specs.machine.RingCalls as ring
@@ -13,22 +13,17 @@ use Rattle.concurrent_queue.proofs.RingShape.{mark_is}
 use Rattle.concurrent_queue.proofs.RingDenotes as denote
 use Rattle.channel_wakeups.specs.declared.rule.View.{View}
 use Rattle.channel_wakeups.specs.Lists.{total}
-use Rattle.channel_wakeups.specs.Log.{puts, takes, numbered, Once, AreRecorded}
+use Rattle.channel_wakeups.specs.Log.{puts, takes, numbered, Once, IsRecorded}
 use Rattle.channel_wakeups.specs.RingSteps.{head_learned, tail_learned}
 use Rattle.channel_wakeups.specs.Turns.{owed_by_turn, bringing}
 use Rattle.channel_wakeups.specs.Views.{Picture, picture, Law, Shown, one_slot, a_ring, Side, only, brings_of, owes_of, at_number, of_ring, AllRecorded, Ringed, Counted, Woken, Known, HasAll, AtRest}
 use Rattle.channel_wakeups.specs.declared.rule.Kind.TheVariants.{OfSenders, OfReceivers}
 use Rattle.channel_wakeups.proofs.Accounts.{account, same_once}
 use Rattle.channel_wakeups.proofs.AtRest.{only_learns, rests, some_part, whole_sum, whole_takes}
+use Rattle.channel_wakeups.proofs.History.{logs_at}
 use Rattle.channel_wakeups.proofs.Sums.{only_none, only_some, only_zero}
 
 module _ {T W : Type 0} where
-  -- a seat's log agrees with the history, if all do
-  recorded_at : (h : ℕ → home.Option T) (vs : List (View T W)) (id : ℕ) (v : View T W) → get_elem? vs id ≡ some v → AllRecorded h vs → AreRecorded h v.log
-  recorded_at h [] id v e a = absurd (some-ne-none v (sym e))
-  recorded_at h (u ∷ vs) zero v e (a, b) = subst (λ (w : View T W). AreRecorded h w.log) (some-injective u v e) a
-  recorded_at h (u ∷ vs) (suc id) v e (a, b) = recorded_at h vs id v e b
-
   module _ (s : Side) (cap : ℕ) (words : List ℕ) (homes : List (home.Option (Option T))) (r : Ring (Unit {0})) (views : List (View T W)) (id : ℕ) (v : View T W) (g : Ringed cap words homes r views) (at : get_elem? views id ≡ some v) (all : HasAll s v) where
     abbrev shows : Picture
     shows = of_ring cap r
@@ -82,7 +77,7 @@ module _ {T W : Type 0} where
     ring_rests : (senders receivers : ℕ) → Counted senders OfSenders views → Counted receivers OfReceivers views → AtRest s held (cap - held) r.closed v
     ring_rests senders receivers cs cr =
         rests s held (cap - held) r.closed views id v (subst (λ (p : Picture). Law p views) shows_so g.law) at all senders receivers cs cr
-        (account g.history.history r.head held v.log (recorded_at g.history.history views id v at g.history.logs) (λ k. subst (λ (m : ℕ). Once m k (puts (numbered k) v.log)) (sym held_so) (came_once k)) left_once)
+        (account g.history.history r.head held v.log (logs_at (IsRecorded g.history.history) views id v at g.history.logs) (λ k. subst (λ (m : ℕ). Once m k (puts (numbered k) v.log)) (sym held_so) (came_once k)) left_once)
 
 module _ {T W : Type 0} (s : Side) (slots id : ℕ) (me : Known T W) (several : 1 < slots) where
   pub learns_head : Allows Woken slots id me 0 (λ n. n) (head_learned s slots me)

@@ -12,10 +12,9 @@ ghost use Rattle.channel_wakeups.specs.Seats.{IsCall, IsPass, IsIdle};
 ghost use Rattle.channel_wakeups.specs.Views.{of, roll, is_key, due, of_receives, of_sends, of_closings, hands, only_on, calling, telling, HasAll};
 
 use crate::cells::{Place, SlotTable};
-use crate::made;
 use crate::rule::{Taking, Waiting};
-use crate::stock;
 use crate::stock::Stock;
+use crate::{made, stock};
 use concurrent_queue::{ForcePushError, PopError, PushError};
 use std::sync::Wait;
 

@@ -1,5 +1,5 @@
 //! Channels with a bound between threads, of which it is proved that no wake-up is lost: of one slot, and of a ring of two places or more.
-//! Of one slot it is proved too that what left, followed by what is held, is what was accepted, in order.
+//! It is proved too that what left, followed by what is held, is what was accepted, in order.
 #![tactic(auto)]
 
 pub mod at_rest;

@@ -10,7 +10,7 @@ ghost use Rattle.channel_wakeups.specs.RingSteps.{PushReadsTail, PushReadsStamp,
 /// clause is one step, and says what the call knows before it, and what it learns. A call that pushes answers for one place at most
 /// before its exchange, one that pops for one message at most, and positions end at 2^61.
 ///
-/// Beside a ring the rule speaks of wake-ups, of counts of handles and of closings. That what left is what was accepted is not in it there.
+/// Beside a ring the rule speaks of wake-ups, of counts of handles, of closings, and of the history of all that was accepted.
 ///
 /// The queue's machine makes these steps on cells of this crate, for the calls of a `RingChannel`. So at every moment of every schedule such a
 /// channel keeps the rule.

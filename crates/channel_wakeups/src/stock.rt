@@ -10,11 +10,14 @@ use crate::ring_shape::RingShape;
 use crate::ring_steps::{HEAD, TAIL};
 use crate::rule::{Learns, LearnsHead, LearnsTail, Waiting};
 
-/// How many messages a queue holds, how many places are free, and whether it is closed.
+/// What a queue holds while no call is under way.
 #[derive(Clone, Copy)]
 pub struct Stock {
+    /// How many messages are held.
     pub messages: u64,
+    /// How many places are free.
     pub places: u64,
+    /// Whether the queue is closed.
     pub closed: bool,
 }
 
