@@ -16,7 +16,7 @@ use Rattle.channel_wakeups.specs.Lists.{total}
 use Rattle.channel_wakeups.specs.Log.{puts, takes, numbered, Once, IsRecorded}
 use Rattle.channel_wakeups.specs.RingSteps.{head_learned, tail_learned}
 use Rattle.channel_wakeups.specs.Turns.{owed_by_turn, bringing}
-use Rattle.channel_wakeups.specs.Views.{Picture, picture, Law, Shown, one_slot, a_ring, Side, only, brings_of, owes_of, at_number, of_ring, AllRecorded, Ringed, Counted, Woken, Known, HasAll, AtRest}
+use Rattle.channel_wakeups.specs.Views.{Picture, picture, Law, Shown, one_slot, a_ring, Side, only, brings_of, owes_of, at_number, of_ring, Ringed, Counted, Woken, Known, HasAll, AtRest}
 use Rattle.channel_wakeups.specs.declared.rule.Kind.TheVariants.{OfSenders, OfReceivers}
 use Rattle.channel_wakeups.proofs.Accounts.{account, same_once}
 use Rattle.channel_wakeups.proofs.AtRest.{only_learns, rests, some_part, whole_sum, whole_takes}
