@@ -114,7 +114,7 @@ module _ {T W : Type 0} where
     pub whole_takes : (f : Weight T) → total (takes_of f) vs ≡ takes f v.log
     whole_takes f = whole_sum (takes_of f) refl (λ x e. only_none x.parts (takes f x.log) e) ∙ only_some v.parts (takes f v.log) some_part
 
-    whole_puts : (f : Weight T) → total (puts_of f) vs ≡ puts f v.log
+    pub whole_puts : (f : Weight T) → total (puts_of f) vs ≡ puts f v.log
     whole_puts f = whole_sum (puts_of f) refl (λ x e. only_none x.parts (puts f x.log) e) ∙ only_some v.parts (puts f v.log) some_part
 
     no_locks : total locks_of vs ≡ 0

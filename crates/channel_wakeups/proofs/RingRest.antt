@@ -16,10 +16,10 @@ use Rattle.channel_wakeups.specs.Lists.{total}
 use Rattle.channel_wakeups.specs.Log.{puts, takes, numbered, Once, IsRecorded}
 use Rattle.channel_wakeups.specs.RingSteps.{head_learned, tail_learned}
 use Rattle.channel_wakeups.specs.Turns.{owed_by_turn, bringing}
-use Rattle.channel_wakeups.specs.Views.{Picture, picture, Law, Shown, one_slot, a_ring, Side, only, brings_of, owes_of, at_number, of_ring, Ringed, Counted, Woken, Known, HasAll, AtRest}
+use Rattle.channel_wakeups.specs.Views.{Picture, picture, Law, Shown, one_slot, a_ring, Side, only, puts_of, brings_of, owes_of, at_number, of_ring, Ringed, Counted, Woken, Known, HasAll, AtRest}
 use Rattle.channel_wakeups.specs.declared.rule.Kind.TheVariants.{OfSenders, OfReceivers}
 use Rattle.channel_wakeups.proofs.Accounts.{account, same_once}
-use Rattle.channel_wakeups.proofs.AtRest.{only_learns, rests, some_part, whole_sum, whole_takes}
+use Rattle.channel_wakeups.proofs.AtRest.{only_learns, rests, some_part, whole_sum, whole_puts, whole_takes}
 use Rattle.channel_wakeups.proofs.History.{logs_at}
 use Rattle.channel_wakeups.proofs.Sums.{only_none, only_some, only_zero}
 
@@ -49,11 +49,12 @@ module _ {T W : Type 0} where
     came_once : (k : ℕ) → Once r.tail k (puts (numbered k) v.log)
     came_once k = subst (λ (c : ℕ). Once r.tail k c) whole_brings (g.history.put k)
       where
-        whole_brings : total (brings_of cap k) views ≡ puts (numbered k) v.log
+        whole_brings : total (puts_of (numbered k)) views + total (brings_of cap k) views ≡ puts (numbered k) v.log
         whole_brings =
             let none : bringing cap k v.turn ≡ 0 = ap (bringing cap k) all.7 in
-            let sum = whole_sum s shows views id v g.law at all (brings_of cap k) refl (λ x e. only_none x.parts (puts (numbered k) x.log + bringing cap k x.turn) e) in
-            let here = only_some v.parts (puts (numbered k) v.log + bringing cap k v.turn) parts in
+            let sum = whole_sum s shows views id v g.law at all (brings_of cap k) refl (λ x e. only_none x.parts (bringing cap k x.turn) e) in
+            let here = only_some v.parts (bringing cap k v.turn) parts in
+            let mine = whole_puts s shows views id v g.law at all (numbered k) in
             omega arith
 
     abbrev held : ℕ

@@ -27,7 +27,7 @@ use Rattle.concurrent_queue.specs.machine.RingWords.{ring_mark}
 use Rattle.channel_wakeups.specs.declared.rule.Turn.{Turn}
 use Rattle.channel_wakeups.specs.declared.rule.Turn.TheVariants.{Rest}
 use Rattle.channel_wakeups.specs.Turns.{Knows, owed_by_turn, bringing}
-use Rattle.channel_wakeups.specs.Log.{Weight, puts, takes, sights, each, each_sight, raised_of, lowered_of, last_of, gone_of, is_none, Tallied, Agrees, IsHistory, Balanced, Accounts, PutBefore, TookBefore, Closings, NotSeen, NotDrained, EndsAt, numbered, Once, Every, InHistory, IsRecorded, AreRecorded, Looked}
+use Rattle.channel_wakeups.specs.Log.{Weight, puts, takes, sights, each, each_sight, raised_of, lowered_of, last_of, gone_of, is_none, IsHistory, Balanced, PutBefore, TookBefore, Closings, NotSeen, NotDrained, EndsAt, numbered, Once, Every, InHistory, IsRecorded, Looked}
 
 -- where a number lies in a ring: its position, as the words have it
 abbrev pub at_number : ℕ → ℕ → ℕ

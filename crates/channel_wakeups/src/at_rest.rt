@@ -86,7 +86,6 @@ fn give_out<T: Drop, W: Drop, B: Room, S: Waiting>(
 
 /// With every part in hand, and with the ticket of one of each side that may be pending, no call is under way. What the channel is then: at
 /// each look the same, since its log is.
-#[tactic(auto, using(crate::proofs::Accounts::same_stock, crate::proofs::Weights::held_count))]
 fn see_all<T: Drop, W: Wake, B: Room, F: Form, R: Wait>(
     rt: &R,
     form: F,
