@@ -1,5 +1,5 @@
 -- A ring is closed, and a displacing push takes the oldest message out, and moves the tail on for its own.
-use Rattle.std.proofs.Common.{◌⊎◌, inl, inr, ◌≡◌, ℕ, ◌+◌, ◌-◌, ◌%◌, ◌^◌, ◌<◌, ◌≤◌, List, [], ◌∷◌, ◌++◌, Bool, true, false, if◌then◌else◌, Option, None, Some, is_some, eq-eqb, mod-eq_of_lt, cond, set, sym, refl, ap, ◌∙◌, subst, ⊎_elim, arith}
+use Rattle.std.proofs.Common.{inl, inr, ◌≡◌, ℕ, ◌+◌, ◌-◌, ◌%◌, ◌^◌, ◌<◌, ◌≤◌, List, [], ◌∷◌, ◌++◌, Bool, true, false, if◌then◌else◌, Option, None, Some, is_some, eq-eqb, mod-eq_of_lt, cond, set, sym, refl, ap, ◌∙◌, subst, ⊎_elim, arith}
 use Rattle.std.specs.Prelude.{slice_index, bit_or}
 use Rattle.std.proofs.lemmas.Nat.{mod_below}
 use Rattle.std.proofs.lemmas.List.{length-set}
@@ -30,7 +30,7 @@ use Rattle.channel_wakeups.specs.Lists.{total}
 use Rattle.channel_wakeups.specs.Log.{PutBefore, TookBefore, Closings, of_closer, of_drained}
 use Rattle.channel_wakeups.specs.RingSteps.{won_ring_place, making_room, mark_set, oldest_won, tail_passed, message_stored, moved_on}
 use Rattle.channel_wakeups.specs.Turns.{phase_of, owed_by_turn}
-use Rattle.channel_wakeups.specs.Views.{Duty, count_of, settled, all_owing, only, sights_of, pass, turning, Picture, picture, at_number, of_ring, Law, RingCells, RingSeats, RingHistory, Ringed, Woken, Known}
+use Rattle.channel_wakeups.specs.Views.{count_of, settled, all_owing, only, sights_of, pass, turning, Picture, picture, at_number, of_ring, Law, RingCells, RingSeats, RingHistory, Ringed, Woken, Known}
 use Rattle.channel_wakeups.proofs.Hands.{carries_same, carries_more}
 use Rattle.channel_wakeups.proofs.Laws.{Turns, law_kept, same_turns, shuts_turns, settles}
 use Rattle.channel_wakeups.proofs.Logs.{not_seen, one_more, moved, sights_same}
