@@ -1,5 +1,5 @@
 -- What a step does to the history of a ring: it stays, a message is on its way in, one was put in, or one left.
-use Rattle.std.proofs.Common.{◌⊎◌, inl, inr, ◌≡◌, ℕ, ◌+◌, ◌%◌, ◌<◌, ◌≤◌, ◌==◌, Bool, List, [], ◌∷◌, ◌++◌, Option, None, Some, cond, set, sym, refl, ap, ◌∙◌, subst, ⊎_elim, arith}
+use Rattle.std.proofs.Common.{◌≡◌, ℕ, ◌+◌, ◌%◌, ◌<◌, ◌==◌, Bool, List, [], ◌∷◌, ◌++◌, Option, Some, cond, set, sym, refl, ap, ◌∙◌, subst, ⊎_elim, arith}
 use mathlib.Core.Option as home
 use mathlib.Core.Option.{some, none, some-ne-none}
 use lib.ListN.{get_elem?}
@@ -19,7 +19,7 @@ use Rattle.channel_wakeups.specs.Turns.{bringing, owed_by_turn}
 use Rattle.channel_wakeups.specs.Views.{puts_of, takes_of, brings_of, AllLogs, RingHistory}
 use Rattle.channel_wakeups.proofs.History.{every_append, logs_at, logs_set, logs_also, only_message}
 use Rattle.channel_wakeups.proofs.Laws.{no_home}
-use Rattle.channel_wakeups.proofs.Logs.{puts_append, takes_append, more_once, this_same, this_other}
+use Rattle.channel_wakeups.proofs.Logs.{puts_append, takes_append, more_once, this_same}
 use Rattle.channel_wakeups.proofs.RingCells.{same_or_other}
 use Rattle.channel_wakeups.proofs.RingSeats.{holds_it, eq_other}
 use Rattle.channel_wakeups.proofs.Sums.{only_some, total_set}

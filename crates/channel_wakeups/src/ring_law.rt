@@ -10,7 +10,9 @@ ghost use Rattle.channel_wakeups.specs.RingSteps.{PushReadsTail, PushReadsStamp,
 /// clause is one step, and says what the call knows before it, and what it learns. A call that pushes answers for one place at most
 /// before its exchange, one that pops for one message at most, and positions end at 2^61.
 ///
-/// Beside a ring the rule speaks of wake-ups, of counts of handles, of closings, and of the history of all that was accepted.
+/// Beside a ring the rule speaks of wake-ups, of counts of handles, of closings, and of what was accepted. There is one history of that, by
+/// numbers, in which each message of each log stands. Each number that the head has passed was taken out once, and no other. Each that the
+/// tail has passed was put in once, or its message is on its way in, and no other.
 ///
 /// The queue's machine makes these steps on cells of this crate, for the calls of a `RingChannel`. So at every moment of every schedule such a
 /// channel keeps the rule.

@@ -250,8 +250,9 @@ pub struct View<T, W> {
 /// The rule: where a receive's listener waits untold that no call has in hand, there are no more messages than told listeners of receives
 /// and calls that answer for one; so too of sends and free places. Where a stream's listener waits so beside a message, or any listener in
 /// a closed channel, a call has its line in hand to tell all. Where a count of handles is none, the channel was found closed, or a call
-/// owes its closing. Where a log says that a ring was closed since its positions ended, the tail lies beyond the last one. And of one slot,
-/// what was put in is what was taken out and what the slot holds, in one order.
+/// owes its closing. Where a log says that a ring was closed since its positions ended, the tail lies beyond the last one. Of one slot, what
+/// was put in is what was taken out and what the slot holds, in one order. Of a ring, all that was put in or taken out stands in one order, by
+/// numbers: each below the tail was put in once, or is on its way in, and each below the head was taken out once.
 pub struct Answered;
 
 impl<T, W> TableRule<Option<T>, View<T, W>, ()> for Answered {
