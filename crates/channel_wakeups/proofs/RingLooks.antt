@@ -1,6 +1,6 @@
 -- What calls on a ring learn of its words, each by one load: a pop of the head and of the stamp there, and a push of the tail and of the
 -- stamp there. And the closing of a ring.
-use Rattle.std.proofs.Common.{◌⊎◌, inl, inr, ◌≡◌, ℕ, ◌+◌, ◌-◌, ◌*◌, ◌/◌, ◌%◌, ◌^◌, ◌<◌, ◌≤◌, List, [], ◌∷◌, ◌++◌, Bool, true, false, if◌then◌else◌, Option, sym, refl, ap, ◌∙◌, subst, ⊎_elim, arith}
+use Rattle.std.proofs.Common.{◌⊎◌, inl, inr, ◌≡◌, ℕ, ◌+◌, ◌-◌, ◌*◌, ◌/◌, ◌%◌, ◌<◌, ◌≤◌, List, [], ◌∷◌, ◌++◌, Bool, true, false, Option, sym, refl, ap, ◌∙◌, subst, ⊎_elim, arith}
 use Rattle.std.specs.Prelude.{slice_index}
 use Rattle.std.proofs.lemmas.Nat.{mod_below, div-add-mod'}
 use Rattle.std.proofs.Math.Nat.{mul-le-mul_left}
@@ -26,9 +26,9 @@ use Rattle.channel_wakeups.specs.declared.rule.Turn.{Turn}
 use Rattle.channel_wakeups.specs.declared.rule.Turn.TheVariants.{Rest, Tailed, Ready, Behind, Headed, Written, Vacant}
 use Rattle.channel_wakeups.specs.declared.rule.View.{View}
 use Rattle.channel_wakeups.specs.Lists.{total}
-use Rattle.channel_wakeups.specs.Log.{Closings, NotSeen, of_closer, of_drained}
+use Rattle.channel_wakeups.specs.Log.{Closings, of_closer, of_drained}
 use Rattle.channel_wakeups.specs.RingSteps.{seen_open_line, no_send_again, tail_read, place_read, full_read, head_read, message_read}
-use Rattle.channel_wakeups.specs.Turns.{Knows, owed_by_turn}
+use Rattle.channel_wakeups.specs.Turns.{owed_by_turn}
 use Rattle.channel_wakeups.specs.Views.{Side, Duty, only, sights_of, pass, turning, no_place, picture, at_number, of_ring, RingCells, Ringed, Knowing, Woken, Known}
 use Rattle.channel_wakeups.proofs.Hands.{Carries, carries_same, carries_more}
 use Rattle.channel_wakeups.proofs.Laws.{Turns, SameTickets, law_kept, same_turns}

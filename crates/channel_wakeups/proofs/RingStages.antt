@@ -15,7 +15,6 @@ use Rattle.channel_wakeups.specs.declared.ring_stage.RingStage.{RingStage}
 use Rattle.channel_wakeups.specs.declared.ring_stage.RingStage.TheVariants as stage
 use Rattle.channel_wakeups.specs.declared.rule.Turn.{Turn}
 use Rattle.channel_wakeups.specs.declared.rule.Turn.TheVariants.{Rest, Tailed, Ready, Behind, Filling, Coming, Displacing, Headed, Written, Vacant, Emptying}
-use Rattle.channel_wakeups.specs.declared.rule.View.{View}
 use Rattle.channel_wakeups.specs.Log.{IsBeyond}
 use Rattle.channel_wakeups.specs.RingStages.{number_of, beyond_last, position_at, one_slot, full_slot, held_first, IsRingAt, place_found, message_found, gave_back, passed}
 use Rattle.channel_wakeups.specs.RingSteps.{at_turn, tail_read, place_read, full_read, tail_moved, oldest_won, head_read, message_read, end_read, head_moved, mark_set, end_marked, tail_asked}

@@ -1,6 +1,6 @@
 -- What a push, and one that displaces, made by the queue's machine on a ring's cells, do to what the call's seat knows: one lemma for
 -- each action. They go the same way up to where a push has found the message of the lap before.
-use Rattle.std.proofs.Common.{inl, inr, ◌≡◌, ◌⊎◌, ⊎_elim, ℕ, ◌+◌, ◌-◌, ◌*◌, ◌^◌, ◌%◌, ◌<◌, ◌≤◌, ◌==◌, ◌&&◌, List, [], ◌∷◌, ◌++◌, Bool, true, false, if◌then◌else◌, nat_le, Option, None, Some, Ok, Err, arith, sym, refl, ap, ◌∙◌, subst}
+use Rattle.std.proofs.Common.{inl, inr, ◌≡◌, ⊎_elim, ℕ, ◌+◌, ◌-◌, ◌*◌, ◌^◌, ◌%◌, ◌<◌, ◌≤◌, ◌==◌, ◌&&◌, List, [], ◌∷◌, ◌++◌, Bool, true, false, if◌then◌else◌, nat_le, Option, None, Some, Ok, Err, arith, sym, refl, ap, ◌∙◌, subst}
 use Rattle.std.proofs.lemmas.Bool.Decides.{leb_tells}
 use Rattle.atomic_table.specs.Seated.{TableId}
 use Rattle.concurrent_queue.specs.Deeds.{loaded, stored, exchanged, added, bits_set, did_put, did_take}

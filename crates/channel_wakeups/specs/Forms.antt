@@ -1,5 +1,5 @@
 -- What a push leaves that was refused, of one slot and of a ring alike.
-use Rattle.std.specs.Prelude.{◌≡◌, ℕ, Option, Bool, true, false}
+use Rattle.std.specs.Prelude.{ℕ, Option, Bool, true, false}
 use Rattle.atomic_table.specs.declared.shared.Seat.{Seat}
 use Rattle.atomic_table.specs.Seated.{TableId}
 use Rattle.concurrent_queue.specs.declared.error.PushError.{PushError}

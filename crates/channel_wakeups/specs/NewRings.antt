@@ -1,5 +1,5 @@
 -- The words of a ring that was just made: none but for the counts of handles and the stamps of its places.
-use Rattle.std.specs.Prelude.{◌≡◌, ℕ, ◌+◌, ◌-◌, ◌==◌, ◌<◌, List, length, slice_index, cond}
+use Rattle.std.specs.Prelude.{◌≡◌, ℕ, ◌-◌, ◌==◌, ◌<◌, List, length, slice_index, cond}
 
 -- the word at this index: one handle of each kind, and the stamp of each place is its number
 abbrev pub first_word : ℕ → ℕ

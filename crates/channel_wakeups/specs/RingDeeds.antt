@@ -1,5 +1,5 @@
 -- What an operation on a ring's cells does to how far the call has come, and to what its seat knows.
-use Rattle.std.specs.Prelude.{◌≡◌, ◌⊎◌, ℕ, ◌+◌, ◌-◌, ◌*◌, ◌%◌, ◌^◌, ◌≤◌, nat_le, List, [], ◌∷◌, ◌++◌, true, false, Option, None, Some, Result, Ok, Err}
+use Rattle.std.specs.Prelude.{◌≡◌, ◌⊎◌, ℕ, ◌+◌, ◌-◌, ◌*◌, ◌%◌, ◌^◌, ◌≤◌, nat_le, [], ◌∷◌, ◌++◌, true, false, Option, None, Some, Result, Ok, Err}
 use Rattle.concurrent_queue.specs.Deeds.{Deed, loaded, stored, exchanged, added, bits_set, did_put, did_take}
 use Rattle.concurrent_queue.specs.machine.RingWords.{ring_mark, index, is_marked, unmarked, stride, next_word}
 use Rattle.concurrent_queue.specs.declared.cells.Slot.TheVariants.{At}
@@ -8,9 +8,8 @@ use Rattle.channel_wakeups.specs.declared.ring_cells.RingCells.{RingCells}
 use Rattle.channel_wakeups.specs.declared.ring_stage.RingStage.{RingStage}
 use Rattle.channel_wakeups.specs.declared.ring_stage.RingStage.TheVariants.{Pushing, Popping, Closing, Asking, Ended, Tailed, Ready, Behind, Filling, Filled, Coming, Displacing, Cleared, Brought, Headed, Written, Vacant, Emptying, Emptied, Over, Shut}
 use Rattle.channel_wakeups.specs.declared.rule.Sight.TheVariants as saw
-use Rattle.channel_wakeups.specs.declared.rule.Transfer.TheVariants.{In, Out, Saw}
+use Rattle.channel_wakeups.specs.declared.rule.Transfer.TheVariants.{Out, Saw}
 use Rattle.channel_wakeups.specs.declared.rule.Turn.TheVariants as turn
-use Rattle.channel_wakeups.specs.declared.rule.View.{View}
 use Rattle.channel_wakeups.specs.Log.{PutBefore, TookBefore, NotSeen, NotDrained}
 use Rattle.channel_wakeups.specs.RingStages.{number_of, stored_log}
 use Rattle.channel_wakeups.specs.RingSteps.{at_turn, rests, seen_open_line, no_send_again, won_ring_place, making_room}

@@ -1,4 +1,4 @@
-use Rattle.std.proofs.Common.{rules, ◌≡◌, ◌+◌, ◌^◌, ◌<◌, ◌≤◌, ℕ, List, sym, subst}
+use Rattle.std.proofs.Common.{◌+◌, ◌^◌, ◌<◌, ◌≤◌, ℕ, List, sym, subst}
 use Rattle.channel_wakeups.specs.NewRings.{AreFirst}
 use Rattle.channel_wakeups.proofs.NewRings.{new_ring}
 use Rattle.channel_wakeups.proofs.opened.Opening+T+W+Ring.with_capacity.Goals as goal

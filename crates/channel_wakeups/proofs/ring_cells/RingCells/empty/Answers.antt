@@ -1,4 +1,4 @@
-use Rattle.std.proofs.Common.{◌∙◌, ap, refl}
+use Rattle.std.proofs.Common.{◌∙◌, ap}
 use Rattle.concurrent_queue.specs.machine.RingWords.{ring_mark}
 use Rattle.channel_wakeups.proofs.RingStages.{empties_slot}
 use Rattle.channel_wakeups.proofs.ring_cells.RingCells.empty.Goals as goal

@@ -1,5 +1,4 @@
-use Rattle.std.proofs.Common.{◌∙◌, ap, arith}
-use Rattle.concurrent_queue.specs.machine.RingWords.{ring_mark}
+use Rattle.std.proofs.Common.{arith}
 use Rattle.channel_wakeups.proofs.RingStages.{reads_full}
 use Rattle.channel_wakeups.proofs.ring_cells.RingCells.read_full.Goals as goal
 

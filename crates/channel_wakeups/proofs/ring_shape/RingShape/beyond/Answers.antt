@@ -1,5 +1,3 @@
-use Rattle.std.proofs.Common.{◌≡◌, ℕ, ◌-◌, ◌*◌, ◌^◌, ◌+◌, ◌%◌, ◌∙◌, ap, mod-eq_of_lt, sym, subst, arith}
-use Rattle.concurrent_queue.specs.machine.RingWords.{ring_mark}
 use Rattle.channel_wakeups.proofs.RingStages.{is_open, is_end}
 use Rattle.channel_wakeups.proofs.ring_shape.RingShape.beyond.Goals as goal
 
