@@ -1,5 +1,5 @@
 //! Calls made step by step: over cells that refuse a listener, and what each entry says of its step. Rows of many parties' steps
-//! are in `channel_interleaving_tests`, by names.
+//! are in `channel_world_tests`, by names.
 
 use crate::checks::{expect_equal, expect_true};
 use crate::names::Names;

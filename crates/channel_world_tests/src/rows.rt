@@ -1,12 +1,11 @@
 //! Plays the rows of [`call_rows`](crate::call_rows), [`many_rows`](crate::many_rows) and [`step_rows`](crate::step_rows).
 
-use crate::call_rows;
 use crate::call_rows::{BOTH, RECEIVES, SENDS, SETTLINGS, TOLD, WAITS};
 use crate::checks::expect_rows;
 use crate::many_rows::MANY;
-use crate::step_rows;
 use crate::step_rows::{ROWS, SEVERAL};
 use crate::worlds::Worlds;
+use crate::{call_rows, step_rows};
 
 #[test]
 fn calls(rt: HostRuntime) {
