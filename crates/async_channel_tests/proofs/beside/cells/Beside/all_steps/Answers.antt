@@ -1,6 +1,6 @@
 use Rattle.std.proofs.Common.{sym, ◌∙◌}
 use Rattle.channel_calls.specs.Plain.{form_of}
-use Rattle.channel_parts_tests.proofs.beside.cells.Beside.all_steps.Goals as goal
+use Rattle.async_channel_tests.proofs.beside.cells.Beside.all_steps.Goals as goal
 
 pub loop-preserved : goal.loop-preserved
 loop-preserved g c =

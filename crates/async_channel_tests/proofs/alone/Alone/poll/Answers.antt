@@ -1,5 +1,5 @@
 use Rattle.std.proofs.Common.{◌∙◌, inl}
-use Rattle.channel_parts_tests.proofs.alone.Alone.poll.Goals as goal
+use Rattle.async_channel_tests.proofs.alone.Alone.poll.Goals as goal
 
 -- src/alone.rt:38:5
 pub returns : goal.returns

@@ -1,7 +1,7 @@
 use Rattle.std.specs.Prelude.{◌≡◌}
 use Rattle.concurrent_queue.specs.SharedQueue.{IsStillOf}
 use Rattle.channel_calls.specs.Plain.{form_of}
-use Rattle.channel_parts_tests.proofs.beside.cells.Beside.all_steps.Given as goal
+use Rattle.async_channel_tests.proofs.beside.cells.Beside.all_steps.Given as goal
 
 -- what the call may still answer it might have answered at first
 abbrev pub invariant-loop : goal.invariant-loop
