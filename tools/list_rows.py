@@ -27,23 +27,23 @@ TEXTS = [
     ("async_channel_tests", "handle_rows", "OF_A_THOUSAND_PLACES", "the same, with the calls of `FIFTY` a hundred times behind it", "rows::handles"),
     ("async_channel_tests", "slot_rows", "STEPS", "`ChannelCall::step` over a channel with one owner (`slots`, `slot_calls`)", "rows::steps"),
     ("async_channel_thread_tests", "pair_rows", "PAIRS", "`Sender` on one thread and `Receiver` on another, which meet at gates (`pairs`; `calls` of `channel_test_helpers`)", "pairs::rows"),
-    ("channel_interleaving_tests", "step_rows", "ROWS", "`World::run_steps` (`channel_rows`)", "rows::steps_by_names"),
-    ("channel_interleaving_tests", "step_rows", "REFUSED", "lists of `World::run_steps` that stop (`channel_rows`)", "rows::steps_by_names"),
-    ("channel_interleaving_tests", "step_rows", "SEVERAL", "`World::run_steps` (`channel_rows`)", "rows::steps_by_names"),
-    ("channel_world_tests", "call_rows", "SENDS", "`World::run_calls` (`channel_rows`)", "rows::calls"),
-    ("channel_world_tests", "call_rows", "RECEIVES", "`World::run_calls` (`channel_rows`)", "rows::calls"),
-    ("channel_world_tests", "call_rows", "WAITS", "`World::run_calls` (`channel_rows`)", "rows::calls"),
-    ("channel_world_tests", "call_rows", "REFUSED", "`World::run_calls` that stops (`channel_rows`)", "rows::calls"),
-    ("channel_world_tests", "call_rows", "BOTH", "`World::run_calls` and `World::run_steps` in turn (`channel_rows`)", "rows::calls"),
-    ("channel_world_tests", "call_rows", "SETTLINGS", "`World::settle` (`channel_rows`)", "rows::calls"),
-    ("channel_world_tests", "call_rows", "TOLD", "what a world tells of its lines and positions, and `World::run_party` (`channel_rows`)", "rows::calls"),
-    ("channel_world_tests", "many_rows", "MANY", "`World::run_calls` (`channel_rows`)", "rows::calls"),
+    ("channel_world_tests", "step_rows", "ROWS", "`World::run_steps` (`worlds`)", "rows::steps_by_names"),
+    ("channel_world_tests", "step_rows", "REFUSED", "lists of `World::run_steps` that stop (`worlds`)", "rows::steps_by_names"),
+    ("channel_world_tests", "step_rows", "SEVERAL", "`World::run_steps` (`worlds`)", "rows::steps_by_names"),
+    ("channel_world_tests", "call_rows", "SENDS", "`World::run_calls` (`worlds`)", "rows::calls"),
+    ("channel_world_tests", "call_rows", "RECEIVES", "`World::run_calls` (`worlds`)", "rows::calls"),
+    ("channel_world_tests", "call_rows", "WAITS", "`World::run_calls` (`worlds`)", "rows::calls"),
+    ("channel_world_tests", "call_rows", "REFUSED", "`World::run_calls` that stops (`worlds`)", "rows::calls"),
+    ("channel_world_tests", "call_rows", "BOTH", "`World::run_calls` and `World::run_steps` in turn (`worlds`)", "rows::calls"),
+    ("channel_world_tests", "call_rows", "SETTLINGS", "`World::settle` (`worlds`)", "rows::calls"),
+    ("channel_world_tests", "call_rows", "TOLD", "what a world tells of its lines and positions, and `World::run_party` (`worlds`)", "rows::calls"),
+    ("channel_world_tests", "many_rows", "MANY", "`World::run_calls` (`worlds`)", "rows::calls"),
     ("channel_world_tests", "script_rows", "LINES", "`run_script`, a whole script of each row (`scripts::rows`)", "scripts::rows::scripts"),
     ("channel_world_tests", "script_rows", "POLLS", "`run_script`, a whole script of each row (`scripts::rows`)", "scripts::rows::scripts"),
     ("channel_world_tests", "script_rows", "OTHERS", "`run_script`, a whole script of each row (`scripts::rows`)", "scripts::rows::scripts"),
-    ("history_checker_tests", "history_rows", "ORDERS", "`judge` over logs of calls of one message each (`histories`)", "rows::orders"),
-    ("history_checker_tests", "history_rows", "SEVERAL", "`judge`, and `History::fault`, over logs with receives of several (`histories`)", "rows::several"),
-    ("history_checker_tests", "history_rows", "RESTS", "`Rest::is_right` (`histories`)", "rows::rests"),
+    ("history_tests", "history_rows", "ORDERS", "`judge` over logs of calls of one message each (`histories`)", "rows::orders"),
+    ("history_tests", "history_rows", "SEVERAL", "`judge`, and `History::fault`, over logs with receives of several (`histories`)", "rows::several"),
+    ("history_tests", "history_rows", "RESTS", "`Rest::is_right` (`histories`)", "rows::rests"),
 ]
 TEXT = re.compile(r'const (\w+): &str = "(\n[^"]*^row [^"]*)"', re.M)
 HEAD = """# Where the worked rows stand
@@ -57,10 +57,10 @@ brackets. One more row costs no proof.
 |---|---|---|---|
 """
 TAIL = """
-Two rows of `channel_world_tests` are texts that loops write, `crowds::a_message_for_a_crowd_of_streams_is_settled` and
-`crowds::a_closing_for_a_crowd_of_streams_is_settled`; one is of `channel_interleaving_tests`, `many::a_million_steps_are_made`. The five
-interleavings of `giving_up` of that crate are texts too, which a test plays up to each place. So is the table of `step_counts` of
-`channel_world_tests`, in which a line stands for each call.
+Three rows of `channel_world_tests` are texts that loops write, `crowds::a_message_for_a_crowd_of_streams_is_settled`,
+`crowds::a_closing_for_a_crowd_of_streams_is_settled` and `many::a_million_steps_are_made`. The five
+interleavings of `giving_up` of that crate are texts too, which a test plays up to each place. So is the table of `step_counts`, in which a
+line stands for each call.
 
 What needs more than two threads, clocks that pass, types of its own or proofs is code: the other tests of these crates. So is what
 takes all memory of its process. One stored run of a script is in `channel_script`.

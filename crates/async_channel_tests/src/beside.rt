@@ -1,205 +1,163 @@
-//! Cells of a channel of these tests' own: what other parties do meanwhile happens where a call asks for its parker, where it sleeps,
-//! and where it raises the count of handles.
+//! What a call of a channel answers, and whom it wakes, beside others whose steps come between its own, over cells of these tests'
+//! own. Nothing is left to chance: before a chosen operation of one call, which is made by the code that handles run, another call
+//! makes some of its steps, and a third one all of them. The others are made step by step, so it is known which step of theirs
+//! did what, and so what the channel held at each moment. A call that blocks its thread sleeps until its task is woken; the others
+//! have gone on to their ends then.
 
-use channel_calls::cells::ChannelCells;
-use channel_calls::notices;
-use channel_calls::sleeps::Sleeps;
-use channel_calls::stage::{Line, Side};
-use concurrent_queue::call::QueueReply;
-use concurrent_queue::queue_call::QueueCall;
-use concurrent_queue::shared::queue::ConcurrentQueue;
-use event_listener::error::ListenError;
+ghost use Rattle.std.specs.Prelude.{◌≡◌};
+ghost use Rattle.channel_calls.specs.Plain.{form_of};
+
+mod cases;
+mod cells;
+mod kind;
+mod made;
+mod outcome;
+mod pairs;
+mod plain;
+mod start;
+
+use crate::beside::kind::{Called, Kind};
+use crate::beside::plain::Event;
+use crate::said::{Said, answer_of};
+use crate::scarce::Scarce;
+use crate::woken::Woken;
+use channel_calls::call::ChannelCall;
+use channel_calls::mark::Mark;
+use channel_calls::questions::is_closed;
+use channel_calls::stage::Line;
 use event_listener::key::Key;
-use event_listener::list::List;
-use event_listener::wakes::Wakes;
-use std::alloc::{AllocError, Global};
+use std::alloc::Global;
 use std::mem;
-use std::sync::Wait;
 
-/// The name of a send that waits beside the call.
-pub(crate) const OTHER: u32 = 7;
+/// More steps than a call alone has.
+const ALL: u32 = 64;
 
-/// The name of the call's own task.
-pub(crate) const OWN: u32 = 9;
-
-/// A sink that keeps the name of the last one woken.
+/// A call that is made step by step between the operations of another one; or two of them, one after the other.
 #[derive(Drop)]
-pub(crate) struct Last {
-    pub(crate) woken: u32,
+struct Other {
+    called: Called,
+    call: ChannelCall<u64, u32>,
+    is_second: bool,
+    /// The messages that it handed out, in their order, as digits.
+    took: u64,
+    said: Option<Said>,
 }
 
-impl Wakes<u32> for Last {
-    ghost wakes = { λ s t u. Unit {0} };
+impl Other {
+    /// This call.
+    fn new(called: Called) -> Other {
+        Other {
+            called,
+            call: ChannelCall::new(called.ask()),
+            is_second: false,
+            took: 0,
+            said: None,
+        }
+    }
 
-    fn wake(&mut self, task: u32) {
-        self.woken = task;
+    /// Makes a step, and notes what it did.
+    fn go(&mut self, by: usize, cells: &mut Scarce, events: &mut Events)
+        ensures { form_of cells.new.channel ≡ form_of cells.old.channel }
+    {
+        let refused = mem::replace(&mut cells.refused, self.called.kind.is_refused() as u32);
+        let reply = self.call.step(cells, &mut Woken::new());
+        cells.refused = refused;
+        events.note(self.call.last_mark(), self.called, by);
+        if let Some(reply) = reply {
+            self.answers(answer_of(reply));
+        }
+    }
+
+    /// A call of it says this.
+    fn answers(&mut self, said: Said) {
+        self.took = said.after(self.took);
+        if !self.is_second && self.called.kind.goes_on(said) {
+            self.is_second = true;
+            drop(mem::replace(&mut self.call, ChannelCall::new(self.called.ask())));
+        } else {
+            self.said = Some(said);
+        }
+    }
+
+    /// Makes up to so many steps, until the call has answered.
+    fn go_on(&mut self, by: usize, steps: u32, cells: &mut Scarce, events: &mut Events)
+        ensures { form_of cells.new.channel ≡ form_of cells.old.channel }
+    {
+        'steps: for _ in 0..steps {
+            if self.said.is_some() {
+                break 'steps;
+            }
+            self.go(by, cells, events);
+        }
     }
 }
 
-/// How many handles of each kind a channel has, and how often that was raised or lowered. As often as `contended` says, another
-/// handle comes before one is raised.
+/// What a call says that is made alone, and the listener that it leaves to its operation.
+fn alone(called: Called, cells: &mut Scarce) -> (Said, Option<Key>)
+    ensures { form_of cells.new.channel ≡ form_of cells.old.channel }
+{
+    let mut events = Events::new();
+    let mut other = Other::new(called);
+    other.go_on(0, ALL, cells, &mut events);
+    let Other {
+        called: _,
+        call,
+        is_second: _,
+        took: _,
+        said,
+    } = other;
+    (said.unwrap_or(Said::GoesOn), call.into_kept().key)
+}
+
+/// What steps of others did to the list, in their order.
 #[derive(Clone, Copy)]
-pub(crate) struct Handles {
-    pub(crate) count: usize,
-    pub(crate) contended: u32,
-    pub(crate) raised: u32,
-    pub(crate) lowered: u32,
+struct Events {
+    events: [Option<Event>; 8],
+    count: usize,
 }
 
-/// A queue of one place and its lists of listeners, on which a thread may sleep. A receive of another party comes in where the parker
-/// is refused, or else where the thread sleeps.
-#[derive(Drop)]
-pub(crate) struct Beside<'a, R: Wait> {
-    rt: &'a R,
-    pub(crate) queue: ConcurrentQueue<u64>,
-    pub(crate) sends: List<(), u32>,
-    others: List<(), u32>,
-    pub(crate) refuses: bool,
-    pub(crate) asked: u32,
-    pub(crate) last: Last,
-    pub(crate) handles: Handles,
-}
-
-impl<'a, R: Wait> Beside<'a, R> {
-    ghost use Rattle.std.specs.Prelude.{◌≡◌};
-
-    /// The receive of another party: it takes the oldest message and tells a send.
-    fn receives(&mut self)
-        ensures { self.new.queue ≡ self.old.queue }
-    {
-        let _ = self.queue.pop(self.rt);
-        notices::tell_one(&mut self.sends, &mut self.last);
+impl Events {
+    fn new() -> Events {
+        Events {
+            events: [None; 8],
+            count: 0,
+        }
     }
 
-    /// A further send waits, which has its task.
-    fn waits_beside(&mut self)
-        ensures { self.new.queue ≡ self.old.queue }
-    {
-        if let Ok(key) = self.sends.insert() {
-            let _ = notices::register(&mut self.sends, key, OTHER);
+    fn note(&mut self, mark: Mark, called: Called, by: usize) {
+        if mark == Mark::Nothing {
+            return;
+        }
+        if let Some(place) = self.events.get_mut(self.count) {
+            *place = Some(Event {
+                mark,
+                kind: called.kind,
+                message: called.message,
+                by,
+            });
+            self.count = self.count.wrapping_add(1);
         }
     }
 }
 
-impl<'a, R: Wait> ChannelCells<u64, u32> for Beside<'a, R> {
-    ghost use Rattle.std.specs.Prelude.{◌≡◌};
-    ghost use Rattle.concurrent_queue.specs.Contents.{no_contents};
-    ghost use Rattle.channel_calls.specs.Parts.{new_roster};
-
-    ghost known = { ⊥ };
-
-    ghost parts = { λ c. record { cells = no_contents c.queue.form; roster = new_roster } };
-
-    ghost has_form = { λ c f. f ≡ c.queue.form };
-
-    ghost exact = { λ unknown. absurd unknown };
-
-    fn step_queue(&mut self, call: &mut QueueCall<u64>) -> Option<QueueReply<u64>> {
-        let whole = mem::replace(call, QueueCall::ended());
-        Some(self.queue.complete(self.rt, whole))
+/// Whether somebody sleeps on this list beside what nobody who was woken answers for: a message, a free place or the closing.
+fn is_owed(line: Line, bound: usize, alloc: Global, cells: &mut Scarce) -> bool
+    ensures { form_of cells.new.channel ≡ form_of cells.old.channel }
+{
+    if cells.channel.waiting(line) == 0 {
+        return false;
     }
-
-    fn insert(&mut self, line: Line) -> Result<Key, ListenError> {
-        match line {
-            Line::Sends => self.sends.insert(),
-            _ => self.others.insert(),
-        }
+    if is_closed(&mut cells.channel) {
+        return true;
     }
-
-    fn register(&mut self, line: Line, key: Key, task: u32) -> Option<u32> {
-        match line {
-            Line::Sends => notices::register(&mut self.sends, key, task),
-            _ => notices::register(&mut self.others, key, task),
-        }
-    }
-
-    fn remove<S: Wakes<u32>>(&mut self, line: Line, key: Key, sink: &mut S) {
-        let _ = match line {
-            Line::Sends => self.sends.remove(key, true, sink),
-            _ => self.others.remove(key, true, sink),
-        };
-    }
-
-    fn tell_one<S: Wakes<u32>>(&mut self, line: Line, sink: &mut S) {
-        match line {
-            Line::Sends => notices::tell_one(&mut self.sends, sink),
-            _ => notices::tell_one(&mut self.others, sink),
-        }
-    }
-
-    fn tell_more<S: Wakes<u32>>(&mut self, line: Line, count: usize, sink: &mut S) {
-        match line {
-            Line::Sends => notices::tell_more(&mut self.sends, count, sink),
-            _ => notices::tell_more(&mut self.others, count, sink),
-        }
-    }
-
-    fn tell_all<S: Wakes<u32>>(&mut self, line: Line, sink: &mut S) {
-        match line {
-            Line::Sends => notices::tell_all(&mut self.sends, sink),
-            _ => notices::tell_all(&mut self.others, sink),
-        }
-    }
-
-    fn count(&mut self, _side: Side) -> usize {
-        self.handles.count
-    }
-
-    fn lower(&mut self, _side: Side) -> usize {
-        self.handles.lowered = self.handles.lowered.wrapping_add(1);
-        self.handles.count
-    }
-
-    fn raise(&mut self, _side: Side, _from: usize) -> bool {
-        if self.handles.contended > 0 {
-            self.handles.contended = self.handles.contended.wrapping_sub(1);
-            return false;
-        }
-        self.handles.raised = self.handles.raised.wrapping_add(1);
-        true
-    }
-}
-
-impl<'a, R: Wait> Sleeps<u64, u32> for Beside<'a, R> {
-    fn park(&mut self) -> Option<u32> {
-        self.asked = self.asked.wrapping_add(1);
-        if self.refuses {
-            self.waits_beside();
-            self.receives();
-            return None;
-        }
-        Some(OWN)
-    }
-
-    fn sleep(&mut self) {
-        self.receives();
-    }
-}
-
-/// An empty channel of one place, with one handle of each kind.
-pub(crate) fn empty_cells<R: Wait>(
-    rt: &R,
-    alloc: Global,
-    refuses: bool,
-) -> Result<Beside<'_, R>, AllocError> {
-    let queue = match ConcurrentQueue::bounded(alloc, 1) {
-        Ok(queue) => queue,
-        Err(_) => return Err(AllocError),
+    let (held, _) = alone(Called::new(Kind::Len, 0, 0, alloc), cells);
+    let Said::Count(held) = held else {
+        return true;
     };
-    let handles = Handles {
-        count: 1,
-        contended: 0,
-        raised: 0,
-        lowered: 0,
-    };
-    Ok(Beside {
-        rt,
-        queue,
-        sends: List::new(alloc),
-        others: List::new(alloc),
-        refuses,
-        asked: 0,
-        last: Last { woken: 0 },
-        handles,
-    })
+    match line {
+        Line::Sends => cells.woken.count(line) < bound.saturating_sub(held),
+        Line::Receives => cells.woken.count(line) < held,
+        Line::Streams => held > 0,
+        Line::Closings => false,
+    }
 }

@@ -1,7 +1,7 @@
 //! What a call that blocks its thread does where its parker is refused, and where it is told while it sleeps.
 
-use crate::beside::{Last, OTHER, OWN, empty_cells};
 use crate::checks::expect_equal;
+use crate::meanwhile::{Last, OTHER, OWN, empty_cells};
 use channel_calls::blocking::send_blocking;
 use channel_calls::error::{Refused, SendError};
 use channel_calls::taking::next_blocking;

@@ -2,8 +2,8 @@
 
 ghost use Rattle.std.specs.Prelude.{◌≡◌, true};
 
-use crate::beside::{Last, empty_cells};
 use crate::checks::expect_equal;
+use crate::meanwhile::{Last, empty_cells};
 use async_channel::{ChannelAsk, ChannelCall, ChannelCells, Mark, Reply};
 use channel_calls::stage::Side;
 use event_listener::wakes::Wakes;

@@ -9,28 +9,14 @@
 //! | `go C N` | N more steps of call C | the same |
 //! | `woken` | the names of those who were woken so far, in order | `nobody` where there is none |
 
+use crate::names::Names;
 use crate::slot_calls::{Kept, ask_of, said_of};
 use channel_calls::ask::ChannelAsk;
 use channel_calls::call::ChannelCall;
 use channel_calls::plain::PlainChannel;
 use concurrent_queue::cells::QueueForm;
-use event_listener::wakes::Wakes;
 use std::alloc::{AllocError, Global};
 use worked_rows::{Player, Said, Words};
-
-/// A sink that keeps the names of those who were woken.
-#[derive(Drop)]
-struct Names {
-    woken: Vec<u32>,
-}
-
-impl Wakes<u32> for Names {
-    ghost wakes = { λ s t u. Unit {0} };
-
-    fn wake(&mut self, task: u32) {
-        let _ = self.woken.push(task);
-    }
-}
 
 /// A row's channel, those whom it woke, the calls that are begun, and what each operation keeps.
 #[derive(Drop)]

@@ -1,4 +1,4 @@
-//! Calls made alone, settlings, and calls beside steps of parties, row by row: the calls are those of `Worlds` of `channel_rows`.
+//! Calls made alone, settlings, and calls beside steps of parties, row by row: the calls are those of [`Worlds`](crate::worlds::Worlds).
 
 /// Sends.
 pub(crate) const SENDS: &str = "

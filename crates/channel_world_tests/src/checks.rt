@@ -1,6 +1,6 @@
 //! What tests compare by. Proved once each; a test has no exit of its own at such a call, so it is cheap to prove.
 
-use channel_rows::Worlds;
+use crate::worlds::Worlds;
 use std::alloc::AllocGlobal;
 use std::fmt::Debug;
 use std::process::Abort;

@@ -1,7 +1,7 @@
 //! Rows in which many streams are pending, written by loops.
 
 use crate::checks::expect_rows;
-use channel_rows::Worlds;
+use crate::worlds::Worlds;
 use std::alloc::AllocError;
 
 /// Writes that the streams up to this number are pending, those of clones of the receiver.

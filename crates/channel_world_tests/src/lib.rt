@@ -1,14 +1,21 @@
 //! Tests of `channel_world`, of what no contract says: that calls are answered while there is memory, what worked rows come to,
-//! and the texts of refusals. A crate of their own, so that what they prove is proved once.
+//! worked interleavings with the steps that each call takes, and the texts of refusals. A crate of their own, so that what they prove
+//! is proved once.
 #![tactic(auto)]
 
 #[cfg(test)]
 mod call_rows;
 #[cfg(test)]
+mod calls;
+#[cfg(test)]
 mod checks;
 pub mod clients;
 #[cfg(test)]
 mod crowds;
+#[cfg(test)]
+mod giving_up;
+#[cfg(test)]
+mod many;
 #[cfg(test)]
 mod many_rows;
 #[cfg(test)]
@@ -18,6 +25,8 @@ mod printed;
 #[cfg(test)]
 mod refusals;
 #[cfg(test)]
+mod replies;
+#[cfg(test)]
 mod rows;
 #[cfg(test)]
 mod script_rows;
@@ -25,4 +34,10 @@ mod script_rows;
 mod scripts;
 #[cfg(test)]
 mod step_counts;
+#[cfg(test)]
+mod step_rows;
+#[cfg(test)]
+mod steps;
 pub mod unaided;
+#[cfg(test)]
+mod worlds;

@@ -1,4 +1,4 @@
-//! Rows of many like calls: the calls are those of `Worlds` of `channel_rows`.
+//! Rows of many like calls: the calls are those of [`Worlds`](crate::worlds::Worlds).
 
 /// More messages than one block of an unbounded queue has places for; and twenty clones.
 pub(crate) const MANY: &str = "

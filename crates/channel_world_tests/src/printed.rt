@@ -1,7 +1,7 @@
 //! What runs of steps did, printed.
 
 use crate::checks::expect_equal;
-use channel_rows::write_steps;
+use crate::steps::write_steps;
 use channel_world::call::Call;
 use channel_world::name::{HandleId, OpId};
 use channel_world::step::{PartyId, Step};

@@ -1,9 +1,11 @@
-//! Plays the rows of [`call_rows`](crate::call_rows) and [`many_rows`](crate::many_rows).
+//! Plays the rows of [`call_rows`](crate::call_rows), [`many_rows`](crate::many_rows) and [`step_rows`](crate::step_rows).
 
-use crate::call_rows::{BOTH, RECEIVES, REFUSED, SENDS, SETTLINGS, TOLD, WAITS};
+use crate::call_rows::{BOTH, RECEIVES, SENDS, SETTLINGS, TOLD, WAITS};
 use crate::checks::expect_rows;
 use crate::many_rows::MANY;
-use channel_rows::Worlds;
+use crate::step_rows::{ROWS, SEVERAL};
+use crate::worlds::Worlds;
+use crate::{call_rows, step_rows};
 
 #[test]
 fn calls(rt: HostRuntime) {
@@ -12,12 +14,20 @@ fn calls(rt: HostRuntime) {
         (SENDS, 7),
         (RECEIVES, 4),
         (WAITS, 6),
-        (REFUSED, 2),
+        (call_rows::REFUSED, 2),
         (BOTH, 3),
         (SETTLINGS, 3),
         (TOLD, 3),
         (MANY, 2),
     ] {
+        expect_rows(&rt, text, &mut worlds, rows);
+    }
+}
+
+#[test]
+fn steps_by_names(rt: HostRuntime) {
+    let mut worlds = Worlds::new(rt.alloc());
+    for (text, rows) in [(ROWS, 9), (step_rows::REFUSED, 3), (SEVERAL, 1)] {
         expect_rows(&rt, text, &mut worlds, rows);
     }
 }

@@ -1,7 +1,7 @@
 //! How many steps each call takes where no other is under way, per form.
 
 use crate::checks::expect_equal;
-use channel_rows::Worlds;
+use crate::worlds::Worlds;
 use std::alloc::{AllocError, Global};
 use std::test::Fail;
 use worked_rows::answers_of;

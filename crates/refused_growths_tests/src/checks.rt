@@ -1,6 +1,6 @@
 //! What tests compare by. Proved once each; a test has no exit of its own at such a call, so it is cheap to prove.
 
-use scarcity::Seen;
+use crate::scarcity::Seen;
 use std::fmt::Debug;
 use std::process::Abort;
 

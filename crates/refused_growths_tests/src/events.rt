@@ -3,6 +3,7 @@
 ghost use Rattle.std.specs.Prelude.{◌≡◌, ◌<◌};
 
 use crate::checks::{expect_equal, expect_right, expect_seen, expect_true};
+use crate::scarcity::{Attempt, Scarcity, Seen, Tried, made, refused};
 use event_listener::calls::Registered;
 use event_listener::error::{ListenError, NoMemory, NotifyError};
 use event_listener::event::Event;
@@ -14,7 +15,6 @@ use event_listener::listener::{EventListener, Listener, WaitError};
 use event_listener::recorded::{RecordedEvent, RegisterError};
 use event_listener::stack::StackSlot;
 use event_listener::wakes::Wakes;
-use scarcity::{Attempt, Scarcity, Seen, Tried, made, refused};
 use std::alloc::{AllocError, Global};
 use std::marker::{Brand, Model};
 use std::process::Abort;

@@ -1,13 +1,13 @@
 //! A channel's handles and polled operations.
 
 use crate::checks::{expect_equal, expect_seen, expect_true};
+use crate::scarcity::{Attempt, Scarcity, Seen, Tried, made, refused};
 use async_channel::{Closed, OpenError, Receiver, Recv, Refused, Send, Sender, bounded, unbounded};
 use event_listener::error::ListenError;
 use event_listener::id::EventIds;
 use futures::Stream;
 use futures::task::Poll;
 use futures::test::MockTask;
-use scarcity::{Attempt, Scarcity, Seen, Tried, made, refused};
 use std::alloc::Global;
 use std::sync::Wait;
 

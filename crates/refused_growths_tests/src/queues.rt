@@ -3,10 +3,10 @@
 ghost use Rattle.std.specs.Prelude.{◌<◌};
 
 use crate::checks::{expect_right, expect_seen, expect_true};
+use crate::scarcity::{Attempt, Scarcity, Seen, Tried, made, refused};
 use concurrent_queue::error::{ForcePushError, NoMemory, PopError, PushError};
 use concurrent_queue::exclusive::Exclusive;
 use concurrent_queue::shared::queue::ConcurrentQueue;
-use scarcity::{Attempt, Scarcity, Seen, Tried, made, refused};
 use std::alloc::{AllocError, Global};
 use std::sync::Wait;
 

@@ -3,12 +3,12 @@
 //! send without a bound. Whatever is refused, the row answers as it always does.
 
 use crate::checks::{expect_equal, expect_true};
+use crate::scarcity::{Scarcity, Seen};
 use async_channel::{
     Closed, Receiver, Recv, RecvError, Refused, Send, SendError, Sender, TryRecvError, TrySendError,
 };
 use channel_test_helpers::{Said, closes, opened, receives, sends, streams};
 use futures::test::MockTask;
-use scarcity::{Scarcity, Seen};
 use std::alloc::{AllocError, Global};
 use std::mem;
 use std::sync::Wait;

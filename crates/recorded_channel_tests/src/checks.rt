@@ -1,9 +1,0 @@
-//! What tests compare by. Proved once each; a test has no exit of its own at such a call, so it is cheap to prove.
-
-use std::fmt::Debug;
-use std::process::Abort;
-
-/// Ends the test where these differ, and shows both.
-pub fn expect_equal<A: Abort, T: PartialEq + Debug>(rt: &A, found: &T, wanted: &T) {
-    assert_eq!(rt; found, wanted);
-}

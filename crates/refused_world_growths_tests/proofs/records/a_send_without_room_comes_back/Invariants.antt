@@ -1,4 +1,0 @@
-use Rattle.refused_world_growths_tests.proofs.records.a_send_without_room_comes_back.Given as goal
-
-abbrev pub ghosts-pass : goal.ghosts-pass
-ghosts-pass g a = record { name = a.blank.name; parts = a.blank.parts }
