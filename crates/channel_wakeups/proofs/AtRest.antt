@@ -14,7 +14,8 @@ use Rattle.channel_wakeups.specs.declared.rule.Transfer.TheVariants.{In, Out, Sa
 use Rattle.channel_wakeups.specs.declared.rule.View.{View}
 use Rattle.channel_wakeups.specs.Lists.{total, told, waits, listed, is_this}
 use Rattle.channel_wakeups.specs.Log.{InHistory, Weight, puts, takes, sights, each, numbered, held, Once, each_sight, raised_of, lowered_of, last_of, gone_of, Leaves, Tallied, Agrees, AreRecorded, Balanced, Accounted, Closings}
-use Rattle.channel_wakeups.specs.Views.{Picture, picture, at_word, Law, Shown, one_slot, a_ring, Side, of_receives, of_sends, of_streams, of_closings, to_one, to_all, of, roll, nobody, only, is_key, parts_of, here_of, answered_of, holds_of, sights_of, locks_of, owns_of, waits_of, listed_of, tickets_of, puts_of, takes_of, closes_of, word_of, has_message, is_shut, due, wanted, IsSlot, empty, full, out, Kept, Counted, Woken, Known, HasAll, AtRest, learns}
+use Rattle.channel_wakeups.specs.Views.{Picture, picture, at_word, Law, Shown, one_slot, a_ring, Side, of_receives, of_sends, of_streams, of_closings, to_one, to_all, of, roll, nobody, only, is_key, parts_of, here_of, answered_of, holds_of, sights_of, locks_of, owns_of, waits_of, listed_of, tickets_of, puts_of, takes_of, closes_of, word_of, has_message, is_shut, due, wanted, IsSlot, empty, full, out, Kept, Counted, Woken, Known, HasAll, AtRest}
+use Rattle.channel_wakeups.specs.SlotSteps.{learns}
 use Rattle.channel_wakeups.proofs.Accounts.{account, less_once}
 use Rattle.channel_wakeups.proofs.History.{logs_at}
 use Rattle.channel_wakeups.proofs.Sums.{closings_by, only_none, only_some, only_zero, none_here, none_both, none_waits, none_listed, none_tickets, none_answered, balanced_by, others, was, by_itself}

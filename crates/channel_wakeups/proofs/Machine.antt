@@ -32,7 +32,8 @@ use Rattle.concurrent_queue.specs.declared.error.PushError.TheVariants as push_e
 use Rattle.concurrent_queue.specs.declared.error.ForcePushError.TheVariants as force_error
 use Rattle.concurrent_queue.specs.declared.error.PopError.TheVariants as pop_error
 use Rattle.channel_wakeups.specs.Log.{PutBefore, TookBefore, MayTake, NotSeen, NotDrained}
-use Rattle.channel_wakeups.specs.Views.{AtHome, idle_lines, pass, no_rolls, won_place, no_send, won_message, noted, closer, saw_open, saw_closed}
+use Rattle.channel_wakeups.specs.Views.{AtHome, idle_lines, pass, no_rolls, won_place, no_send, won_message}
+use Rattle.channel_wakeups.specs.SlotSteps.{noted, closer, saw_open, saw_closed}
 use Rattle.channel_wakeups.specs.Stages.{filling, displacing, taken_from, refused, shut_out, taking, resting, draining, giving}
 use Rattle.channel_wakeups.specs.Cells.{IsLeft, IsSame, HasCaught, Did, PushMissed, PopMissed, ShutBy, SeenBy, Pushed, Popped, HasClosed, HasAsked, Forced}
 

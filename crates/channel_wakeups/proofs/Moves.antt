@@ -22,7 +22,8 @@ use Rattle.channel_wakeups.specs.declared.rule.Sight.TheVariants.{Shut, Seen, Dr
 use Rattle.channel_wakeups.specs.Lists.{total, listed}
 use Rattle.channel_wakeups.specs.Log.{Weight, puts, each, held, InHistory}
 use Rattle.channel_wakeups.specs.Sections.{Fair}
-use Rattle.channel_wakeups.specs.Views.{Picture, at_word, Law, Shown, one_slot, a_ring, Side, Duty, to_one, to_all, count_of, of, roll, listing, with_line, with_roll, pass, changed, won_place, no_place, no_send, won_message, no_message, no_more, settled, all_owing, still_open, found_closed, closer, saw_open, only, is_key, here_of, listed_of, tickets_of, locks_of, owns_of, puts_of, word_of, wanted, messages, places, IsSlot, empty, full, out, Ordered, Kept, Counted, Woken, Known, MissesPlace, AtHome, fills, displaces, wins, unlocks, shuts, sees}
+use Rattle.channel_wakeups.specs.Views.{Picture, at_word, Law, Shown, one_slot, a_ring, Side, Duty, to_one, to_all, count_of, of, roll, listing, with_line, with_roll, pass, changed, won_place, no_place, no_send, won_message, no_message, no_more, settled, all_owing, still_open, found_closed, only, is_key, here_of, listed_of, tickets_of, locks_of, owns_of, puts_of, word_of, wanted, messages, places, IsSlot, empty, full, out, Ordered, Kept, Counted, Woken, Known, AtHome}
+use Rattle.channel_wakeups.specs.SlotSteps.{closer, saw_open, MissesPlace, fills, displaces, wins, unlocks, shuts, sees}
 use Rattle.channel_wakeups.proofs.Beside.{Beside, shown_so}
 use Rattle.channel_wakeups.proofs.Rings.{seats_set}
 use Rattle.channel_wakeups.proofs.RingHistories.{same_messages, history_kept}

@@ -8,7 +8,8 @@ use Rattle.channel_wakeups.specs.declared.rule.View.{View}
 use Rattle.channel_wakeups.specs.declared.stage.Stage.{Stage}
 use Rattle.channel_wakeups.specs.declared.stage.Stage.TheVariants.{Free, Filled, Caught, Emptied, Seized}
 use Rattle.channel_wakeups.specs.Stages.{having, with_message, IsAt}
-use Rattle.channel_wakeups.specs.Views.{Woken, Known, fills, displaces, wins, unlocks, shuts, sees}
+use Rattle.channel_wakeups.specs.Views.{Woken, Known}
+use Rattle.channel_wakeups.specs.SlotSteps.{fills, displaces, wins, unlocks, shuts, sees}
 use Rattle.channel_wakeups.proofs.Moves.{fills_so, displaces_so, wins_so, last_so, shuts_so, sees_so, unlocks_filled, unlocks_emptied}
 
 -- the slot at hand has a message

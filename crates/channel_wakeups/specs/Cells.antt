@@ -18,7 +18,8 @@ use Rattle.concurrent_queue.specs.declared.error.PushError.TheVariants as push_e
 use Rattle.concurrent_queue.specs.declared.error.ForcePushError.TheVariants as force_error
 use Rattle.concurrent_queue.specs.declared.error.PopError.TheVariants as pop_error
 use Rattle.channel_wakeups.specs.Log.{PutBefore, TookBefore, MayTake, NotSeen, NotDrained}
-use Rattle.channel_wakeups.specs.Views.{pass, AtHome, idle_lines, no_rolls, won_place, no_place, no_send, won_message, no_message, no_more, settled, all_owing, still_open, found_closed, closer, noted, saw_open, saw_closed}
+use Rattle.channel_wakeups.specs.Views.{pass, AtHome, idle_lines, no_rolls, won_place, no_place, no_send, won_message, no_message, no_more, settled, all_owing, still_open, found_closed}
+use Rattle.channel_wakeups.specs.SlotSteps.{closer, noted, saw_open, saw_closed}
 use Rattle.channel_wakeups.specs.Stages.{filling, displacing, taken_from, refused, shut_out, taking, resting, draining, giving}
 
 module _ {T W : Type 0} where

@@ -2,6 +2,7 @@ pub mod Lists
 pub mod Log
 pub mod Turns
 pub mod Views
+pub mod SlotSteps
 pub mod Stages
 pub mod Cells
 pub mod Sections

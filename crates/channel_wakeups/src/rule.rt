@@ -362,7 +362,7 @@ impl<T, W, S: Waiting, I: Aim<W>> Play<Option<T>, View<T, W>> for Becomes<S, I> 
 pub(crate) struct Fills;
 
 impl<T, W> Play<Option<T>, View<T, W>> for Fills {
-    ghost use Rattle.channel_wakeups.specs.Views.{fills};
+    ghost use Rattle.channel_wakeups.specs.SlotSteps.{fills};
 
     ghost then = { fills };
 }
@@ -371,7 +371,7 @@ impl<T, W> Play<Option<T>, View<T, W>> for Fills {
 pub(crate) struct Displaces;
 
 impl<T, W> Play<Option<T>, View<T, W>> for Displaces {
-    ghost use Rattle.channel_wakeups.specs.Views.{displaces};
+    ghost use Rattle.channel_wakeups.specs.SlotSteps.{displaces};
 
     ghost then = { displaces };
 }
@@ -380,7 +380,7 @@ impl<T, W> Play<Option<T>, View<T, W>> for Displaces {
 pub(crate) struct Wins;
 
 impl<T, W> Play<Option<T>, View<T, W>> for Wins {
-    ghost use Rattle.channel_wakeups.specs.Views.{wins};
+    ghost use Rattle.channel_wakeups.specs.SlotSteps.{wins};
 
     ghost then = { wins 2 };
 }
@@ -389,7 +389,7 @@ impl<T, W> Play<Option<T>, View<T, W>> for Wins {
 pub(crate) struct WinsLast;
 
 impl<T, W> Play<Option<T>, View<T, W>> for WinsLast {
-    ghost use Rattle.channel_wakeups.specs.Views.{wins};
+    ghost use Rattle.channel_wakeups.specs.SlotSteps.{wins};
 
     ghost then = { wins 6 };
 }
@@ -398,7 +398,7 @@ impl<T, W> Play<Option<T>, View<T, W>> for WinsLast {
 pub(crate) struct Shuts;
 
 impl<T, W> Play<Option<T>, View<T, W>> for Shuts {
-    ghost use Rattle.channel_wakeups.specs.Views.{shuts};
+    ghost use Rattle.channel_wakeups.specs.SlotSteps.{shuts};
 
     ghost then = { shuts };
 }
@@ -407,7 +407,7 @@ impl<T, W> Play<Option<T>, View<T, W>> for Shuts {
 pub(crate) struct Sees;
 
 impl<T, W> Play<Option<T>, View<T, W>> for Sees {
-    ghost use Rattle.channel_wakeups.specs.Views.{sees};
+    ghost use Rattle.channel_wakeups.specs.SlotSteps.{sees};
 
     ghost then = { sees };
 }
@@ -416,7 +416,7 @@ impl<T, W> Play<Option<T>, View<T, W>> for Sees {
 pub(crate) struct Unlocks;
 
 impl<T, W> Play<Option<T>, View<T, W>> for Unlocks {
-    ghost use Rattle.channel_wakeups.specs.Views.{unlocks};
+    ghost use Rattle.channel_wakeups.specs.SlotSteps.{unlocks};
 
     ghost then = { unlocks };
 }
@@ -558,7 +558,7 @@ pub(crate) struct Learns<S> {
 }
 
 impl<T, W, S: Waiting> Play<Option<T>, View<T, W>> for Learns<S> {
-    ghost use Rattle.channel_wakeups.specs.Views.{learns};
+    ghost use Rattle.channel_wakeups.specs.SlotSteps.{learns};
 
     ghost then = { learns S.side };
 }
