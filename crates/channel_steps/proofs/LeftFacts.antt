@@ -203,7 +203,7 @@ module _ {T W : Type 0} (a : Roster W) where
 
 -- ---- after a step on a list or a count
 
-raised_now : (n : ℕ) → nat_lt most n ≡ false → ((n == n) && nat_lt n (2 ^ 64 - 1)) ≡ true
+pub raised_now : (n : ℕ) → nat_lt most n ≡ false → ((n == n) && nat_lt n (2 ^ 64 - 1)) ≡ true
 raised_now n e = grind (arith, nat_tests)
 
 module _ {T W : Type 0} where

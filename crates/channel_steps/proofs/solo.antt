@@ -1,6 +1,6 @@
 pub mod Words
 pub mod TryFacts
-pub mod Order
+pub mod BringFacts
 pub mod Rest
 pub mod AnswerFacts
 pub mod Counts

@@ -1,8 +1,9 @@
 -- Steps that a call makes on end, alone at work: how far it has come, and what one step of its machine makes of that.
-use Rattle.std.proofs.Common.{◌≡◌, ◌<◌, ℕ, List, Option, None, Some, refl, sym, subst}
+use Rattle.std.proofs.Common.{◌≡◌, ◌∙◌, ◌<◌, ℕ, List, Option, None, Some, refl, sym, ap, subst}
 use Rattle.concurrent_queue.specs.Step.{Starts, mark_of}
 use Rattle.concurrent_queue.specs.declared.queue_call.QueueCall.{QueueCall}
 use Rattle.concurrent_queue.specs.declared.call.QueueAsk.{QueueAsk}
+use Rattle.concurrent_queue.specs.declared.call.QueueMark.{QueueMark}
 use Rattle.concurrent_queue.specs.declared.call.QueueReply.{QueueReply}
 use Rattle.event_listener.specs.Notices.{Woken}
 use Rattle.channel_calls.specs.declared.ask.ChannelAsk.{ChannelAsk}
@@ -30,7 +31,7 @@ use Rattle.channel_steps.specs.solo.Run.{IsAtRest, AnswersAlone}
 use Rattle.channel_steps.specs.solo.Configurations.{RunsInConfigurations}
 use Rattle.channel_steps.specs.declared.alone.Done.{Done}
 use Rattle.channel_steps.proofs.solo.LoopFacts.{IsOnItsWay, plain_step, way_starts, way_nearer, way_more, way_ends}
-use Rattle.channel_steps.proofs.solo.Order.{measure}
+use Rattle.channel_steps.specs.Left.{steps_left}
 use Rattle.channel_steps.proofs.solo.ConfigurationLoop.{IsBetween, configurations_start, configurations_more, configurations_end}
 
 module _ {T W S : Type 0} (wakes : S → W → S → Type 0) (a : ChannelAsk T W) (c0 : PlainChannel T W) (sink0 : S) (messages0 : ℕ) where
@@ -71,7 +72,7 @@ module _ {T W S : Type 0} (wakes : S → W → S → Type 0) (a : ChannelAsk T W
           )
 
       comes_nearer : IsAtRest (parts_of c0)
-          → measure (parts_of d).cells (parts_of d).roster next < measure (parts_of c).cells (parts_of c).roster stage
+          → steps_left (parts_of d).cells (parts_of d).roster next < steps_left (parts_of c).cells (parts_of c).roster stage
       comes_nearer rest =
           way_nearer wakes a (parts_of c0) sink0 (parts_of c) stage k x.0 (parts_of d) next m l
           (plain_step wakes c d k l m next None stage made) rest
@@ -88,10 +89,13 @@ module _ {T W S : Type 0} (wakes : S → W → S → Type 0) (a : ChannelAsk T W
 
   -- a step of the queue's call
   module _ (aim : Aim T W) (c d : PlainChannel T W) (call after : QueueCall T) (k : S) (messages n : ℕ)
-      (x : HasCome c (Trying call aim) k messages) (count : n ≡ counted messages (mark_of_queue (mark_of after)))
+      (x : HasCome c (Trying call aim) k messages) (last : QueueMark) (last_is : last ≡ mark_of after) (now : n ≡ counted messages (mark_of_queue last))
       (o : Option (QueueReply T)) (deed : DoesPlain (stepped call after o) c d) where
     abbrev mark : Mark
     mark = mark_of_queue (mark_of after)
+
+    count : n ≡ counted messages mark
+    count = now ∙ ap (λ (m : QueueMark). counted messages (mark_of_queue m)) last_is
 
     abbrev silent : o ≡ None → DoesPlain (stepped call after None) c d
     silent e = subst (λ (p : Option (QueueReply T)). DoesPlain (stepped call after p) c d) e deed
@@ -103,7 +107,7 @@ module _ {T W S : Type 0} (wakes : S → W → S → Type 0) (a : ChannelAsk T W
     tries_on e = comes_on c d (Trying call aim) (Trying after aim) k k messages n mark x count (after, None, (silent e, refl), refl, (refl, refl))
 
     pub tries_nearer : o ≡ None → IsAtRest (parts_of c0)
-        → measure (parts_of d).cells (parts_of d).roster (Trying after aim) < measure (parts_of c).cells (parts_of c).roster (Trying call aim)
+        → steps_left (parts_of d).cells (parts_of d).roster (Trying after aim) < steps_left (parts_of c).cells (parts_of c).roster (Trying call aim)
     tries_nearer e rest =
         comes_nearer c d (Trying call aim) (Trying after aim) k k messages n mark x count (after, None, (silent e, refl), refl, (refl, refl)) rest
 

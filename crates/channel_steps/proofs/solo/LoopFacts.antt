@@ -1,8 +1,7 @@
 -- The steps of a call that is alone at work, one after another.
-use Rattle.channel_steps.proofs.solo.Words.{◌≡◌, ◌<◌, List, [], ◌++◌, append-nil, Option, None, Some, ◌⊎◌, inl, inr, refl, sym, ◌∙◌, subst, arith, Queue, Seat, Fits, QueueCall, Woken, ChannelAsk, ChannelCall, Mark, Reply, Kept, Stage, PlainChannel, Parts, first, kept_by, Done, Channel, channel, phase, IsNewCall, IsChannelStep, parts_of, DoesPlain, ChannelMakes, Outcome, after_waking, answers, HasNextPosition, IsAtRest, AnsweredAlone, AnswersAlone}
+use Rattle.channel_steps.proofs.solo.Words.{◌≡◌, ◌<◌, List, [], ◌++◌, append-nil, Option, None, Some, ◌⊎◌, inl, inr, refl, sym, ◌∙◌, subst, arith, Queue, Seat, Fits, QueueCall, Woken, ChannelAsk, ChannelCall, Mark, Reply, Kept, Stage, PlainChannel, Parts, first, kept_by, Done, Channel, channel, phase, IsNewCall, IsChannelStep, parts_of, DoesPlain, ChannelMakes, Outcome, after_waking, answers, HasNextPosition, IsAtRest, AnsweredAlone, AnswersAlone, steps_left}
 use Rattle.channel_calls.proofs.Interface.{exact_step}
 use Rattle.channel_steps.proofs.solo.TryFacts.{idle}
-use Rattle.channel_steps.proofs.solo.Order.{measure}
 use Rattle.channel_steps.proofs.solo.FirstFacts.{first_rest, first_goes_on, Begun, begun}
 use Rattle.channel_steps.proofs.solo.AloneFacts.{IsAlone, Advances, Answered, woken_on, answered, finished_kept, goes_on, goes_on_so, step_next, step_nearer}
 
@@ -58,7 +57,7 @@ module _ {T W S : Type 0} (wakes : S → W → S → Type 0) where
     module _ (parts : Parts T W) (stage : Stage (QueueCall T) T W) (sink : S) (way : IsOnItsWay a parts0 sink0 parts stage sink)
         (parts' : Parts T W) (stage' : Stage (QueueCall T) T W) (m : Mark) (sink' : S) where
       module _ (step : IsChannelStep wakes parts stage sink parts' stage' m None sink') where
-        pub way_nearer : IsAtRest parts0 → measure parts'.cells parts'.roster stage' < measure parts.cells parts.roster stage
+        pub way_nearer : IsAtRest parts0 → steps_left parts'.cells parts'.roster stage' < steps_left parts.cells parts.roster stage
         way_nearer (q, position, fits) =
             let x = way q position fits in
             step_nearer a (channel q parts0) parts x.so_far step.0 parts' stage' m None stage x.alone step.2
