@@ -30,9 +30,7 @@ few_or false n i j h k = k
 
 few_to_tell : (line : Line) → left_to_tell line ≤ 5
 few_to_tell Sends = omega arith
-few_to_tell Receives = omega arith
-few_to_tell Streams = omega arith
-few_to_tell Closings = omega arith
+few_to_tell line = omega arith
 
 -- how many more messages a call may take after the next one
 abbrev pub wanted_after : {T W : Type 0} → Aim T W → ℕ
@@ -103,22 +101,15 @@ module _ {T W : Type 0} (a : Roster W) where
       (register_or_try (waits key (listeners (line_of w) a)))
 
   sent_left : (x : QueueReply T) → left_to_turn a (let t : Turn T W = sent_next x in t) ≤ 3
-  sent_left (answer.Push (Ok u)) = omega arith
   sent_left (answer.Push (Err (push_error.Full m))) = omega arith
-  sent_left (answer.Push (Err (push_error.Closed m))) = omega arith
-  sent_left (answer.Push (Err (push_error.NoMemory m))) = omega arith
   sent_left x = omega arith
 
   forced_left : (x : QueueReply T) → left_to_turn a (let t : Turn T W = forced_next x in t) ≤ 3
-  forced_left (answer.Force (Ok d)) = omega arith
   forced_left (answer.Force (Err (force_error.Closed m))) = omega arith
-  forced_left (answer.Force (Err (force_error.NoMemory m))) = omega arith
   forced_left x = omega arith
 
   received_left : (x : QueueReply T) → left_to_turn a (let t : Turn T W = received_next x in t) ≤ 2
-  received_left (answer.Pop (Ok m)) = omega arith
   received_left (answer.Pop (Err pop_error.Empty)) = omega arith
-  received_left (answer.Pop (Err pop_error.Closed)) = omega arith
   received_left x = omega arith
 
   gathered_left : (vs : List T) (k : ℕ) → left_to_turn a (let t : Turn T W = gathered_next (with_last vs k) in t) ≤ 2 + one_try * k
@@ -176,18 +167,14 @@ module _ {T W : Type 0} (a : Roster W) where
 
   asked_left : (x : QueueReply T) → left_to_turn a (let t : Turn T W = asked_next x in t) ≤ 0
   asked_left (answer.Flag b) = omega arith
-  asked_left (answer.Count n) = omega arith
-  asked_left (answer.Cap c) = omega arith
   asked_left x = omega arith
 
   terminated_left : (x : QueueReply T) → left_to_turn a (let t : Turn T W = terminated_next x in t) ≤ one_try
   terminated_left (answer.Flag true) = omega arith
-  terminated_left (answer.Flag false) = omega arith
   terminated_left x = omega arith
 
   upgraded_left : (x : QueueReply T) (side : Side) → left_to_turn a (let t : Turn T W = upgraded_next x side in t) ≤ 2
   upgraded_left (answer.Flag true) side = omega arith
-  upgraded_left (answer.Flag false) side = omega arith
   upgraded_left x side = omega arith
 
   pub answered_left : (x : Aim T W) (y : QueueReply T) → left_to_turn a (answered_next x y) ≤ left_after_try a x

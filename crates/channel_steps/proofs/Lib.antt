@@ -1,4 +1,5 @@
 mod Words
+pub mod SuitFacts
 pub mod TryFacts
 pub mod TurnFacts
 pub mod AnswerFacts

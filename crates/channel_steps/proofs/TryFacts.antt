@@ -108,11 +108,6 @@ module _ {T : Type 0} where
     pub answer_progress : (a : QueueAsk T) (m : QueueMark) (r : QueueReply T) (s : queue.Stage T) → AnswersTo q a m r s → Progress q (marked a (is_displaced s) m q)
     answer_progress a m r s h = answered_by (λ z. Progress q (marked a (is_displaced s) z q)) (still q) (λ was. closes) a m r s h
 
-module _ {T : Type 0} where
-  abbrev pub IsClosing : QueueAsk T → Type 0
-  IsClosing ask.Close = Unit {0}
-  IsClosing a = ⊥
-
 module _ {T W : Type 0} where
   -- ---- moments
 
@@ -250,35 +245,6 @@ module _ {T W : Type 0} where
   goes_at c seen (aim.RecvMany r) a m s t ds g h ev =
       (with_marked ev.0 (mark_of_queue m) c seen, taken_on r.taken ds ev.0 (mark_of_queue m) c seen (next_channel a s m c) ev.1, goes c seen a m s t ev.0 g h ev.2)
   goes_at c seen y a m s t ds g h ev = goes c seen a m s t ds g h ev
-
-  -- ---- a new moment leaves the queue's call one of this call
-
-  last_left : (side : Side) (c : Channel T W) (ds es : List (MarkedMoment T W)) (seen : List (Channel T W)) → es ≡ ds → LeftLast side ds seen → LeftLast side es (c ∷ seen)
-  last_left side c (d ∷ []) es seen e h =
-      subst (λ (xs : List (MarkedMoment T W)). LeftLast side xs (c ∷ seen)) (sym e) (h.0, h.1, c ∷ h.2, ap (λ (cs : List (Channel T W)). c ∷ cs) h.3)
-  last_left side c x es seen e h = absurd h
-
-  pub tries_more : (c : Channel T W) (ds es : List (MarkedMoment T W)) (seen : List (Channel T W)) (x : ChannelAsk T W) (y : Aim T W) (a : QueueAsk T) → (IsClosing a → es ≡ ds) → TriesFor x y a ds seen → TriesFor x y a es (c ∷ seen)
-  tries_more c ds es seen (channel.TrySend m) aim.TrySend (ask.Push v) e h = h
-  tries_more c ds es seen (channel.ForceSend m) aim.ForceSend (ask.ForcePush v) e h = h
-  tries_more c ds es seen channel.TryRecv aim.TryRecv ask.Pop e h = h
-  tries_more c ds es seen (channel.RecvMany n) (aim.RecvMany g) ask.Pop e h = h
-  tries_more c ds es seen channel.Close (aim.Close closer.Call) ask.Close e h = e tt ∙ h
-  tries_more c ds es seen (channel.PollSend m k t) (aim.Poll Sends key task) (ask.Push v) e h = h
-  tries_more c ds es seen (channel.PollRecv k t) (aim.Poll Receives key task) ask.Pop e h = h
-  tries_more c ds es seen (channel.PollClosed k t) (aim.Poll Closings key task) ask.IsClosed e h = h
-  tries_more c ds es seen (channel.PollNext k t) (aim.Poll Streams key task) ask.Pop e h = h
-  tries_more c ds es seen channel.DropSender (aim.Close closer.Sender) ask.Close e h = last_left Senders c ds es seen (e tt) h
-  tries_more c ds es seen (channel.DropReceiver k) (aim.Close (closer.Receiver key)) ask.Close e h = last_left Receivers c ds es seen (e tt) h
-  tries_more c ds es seen (channel.Upgrade side) (aim.Upgrade s) ask.IsClosed e h = h
-  tries_more c ds es seen channel.IsClosed aim.Ask ask.IsClosed e h = h
-  tries_more c ds es seen channel.IsEmpty aim.Ask ask.IsEmpty e h = h
-  tries_more c ds es seen channel.IsFull aim.Ask ask.IsFull e h = h
-  tries_more c ds es seen channel.Len aim.Ask ask.Len e h = h
-  tries_more c ds es seen channel.Capacity aim.Ask ask.Capacity e h = h
-  tries_more c ds es seen channel.IsTerminated aim.IsTerminated ask.IsClosed e h = h
-  tries_more c ds es seen channel.IsTerminated aim.Ask ask.IsEmpty e h = inr h
-  tries_more c ds es seen x y a e h = absurd h
 
   -- ---- another call's step leaves what is known of the queue's call
 

@@ -132,11 +132,7 @@ module _ {T W : Type 0} where
 
     by : (n : QueueMark) → (let e : Effect T W = queued f n c in FlagOf e.mark c e.channel)
     by Nothing = refl
-    by Append = refl
-    by Take = refl
-    by TakeDisplaced = refl
-    by Replace = refl
-    by Close = refl
+    by w = refl
 
   still_bounded : (c d : Channel T W) (m : Mark) → d.queue ≡ c.queue → IsStill m → Bounded c d m
   still_bounded c d m e still = record {

@@ -7,7 +7,7 @@ use Rattle.concurrent_queue.specs.declared.call.QueueMark.TheVariants.{Append, T
 use Rattle.channel_calls.specs.declared.stage.Aim.TheVariants as aim
 use Rattle.channel_steps.proofs.Interface.{answered_by}
 use Rattle.channel_steps.proofs.every_run.Closed.{one_fewer}
-use Rattle.channel_steps.proofs.every_run.AskFacts.{IsPush, MayTake}
+use Rattle.channel_steps.proofs.SuitFacts.{IsPush, MayTake}
 use Rattle.channel_steps.proofs.every_run.TotalFacts.{left_over}
 
 module _ {T : Type 0} where

@@ -79,15 +79,11 @@ module _ {T W : Type 0} where
 
     no_refusal_gives : (line : Line) → GivesMessage (let r : Reply T = refused_reply line listen_error.NoMemory in r) → ⊥
     no_refusal_gives Sends g = g
-    no_refusal_gives Receives g = g
-    no_refusal_gives Streams g = g
-    no_refusal_gives Closings g = g
+    no_refusal_gives line g = g
 
     no_refusal_ends : (line : Line) → SaysTheEnd (let r : Reply T = refused_reply line listen_error.NoMemory in r) → ⊥
     no_refusal_ends Sends g = g
-    no_refusal_ends Receives g = g
-    no_refusal_ends Streams g = g
-    no_refusal_ends Closings g = g
+    no_refusal_ends line g = g
 
     -- a reply with a message needs a mark that takes one
     abbrev Moved : (Reply T → Type 0) → Reply T → Type 0

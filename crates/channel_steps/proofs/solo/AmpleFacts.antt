@@ -61,15 +61,11 @@ HasBound cap line = Unit {0}
 
 pending_ample : (T : Type 0) (line : Line) → lacks_memory (pending_reply {T = T} line) ≡ false
 pending_ample T Sends = refl
-pending_ample T Receives = refl
-pending_ample T Streams = refl
-pending_ample T Closings = refl
+pending_ample T line = refl
 
 serials_ample : (T : Type 0) (line : Line) → lacks_memory (refused_reply {T = T} line listen_error.SerialsUsedUp) ≡ false
 serials_ample T Sends = refl
-serials_ample T Receives = refl
-serials_ample T Streams = refl
-serials_ample T Closings = refl
+serials_ample T line = refl
 
 module _ {T : Type 0} where
   abbrev pub NoneLacks : Option (Reply T) → Type 0
