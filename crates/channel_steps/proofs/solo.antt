@@ -7,7 +7,6 @@ pub mod Counts
 pub mod WorkFacts
 pub mod FirstFacts
 pub mod AloneFacts
-pub mod LoopFacts
 pub mod ConfigurationLoop
 pub mod AmpleFacts
 pub mod AheadFacts

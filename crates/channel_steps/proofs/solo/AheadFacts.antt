@@ -27,34 +27,27 @@ use Rattle.channel_calls.specs.Plain.{parts_of, DoesPlain}
 use Rattle.channel_calls.specs.Turns.{nothing_kept, says}
 use Rattle.channel_calls.specs.Walks.{ChannelMakes}
 use Rattle.channel_steps.specs.Count.{counted}
-use Rattle.channel_steps.specs.solo.Run.{IsAtRest, AnswersAlone}
+use Rattle.channel_steps.specs.solo.Run.{IsAtRest}
 use Rattle.channel_steps.specs.solo.Configurations.{RunsInConfigurations}
 use Rattle.channel_steps.specs.declared.alone.Done.{Done}
-use Rattle.channel_steps.proofs.solo.LoopFacts.{IsOnItsWay, plain_step, way_starts, way_nearer, way_more, way_ends}
 use Rattle.channel_steps.specs.Left.{steps_left}
-use Rattle.channel_steps.proofs.solo.ConfigurationLoop.{IsBetween, configurations_start, configurations_more, configurations_end}
+use Rattle.channel_steps.proofs.solo.ConfigurationLoop.{IsBetween, plain_step, configurations_start, configurations_more, configurations_nearer, configurations_end}
 
 module _ {T W S : Type 0} (wakes : S → W → S → Type 0) (a : ChannelAsk T W) (c0 : PlainChannel T W) (sink0 : S) (messages0 : ℕ) where
   -- how far the call has come, with so many messages counted
   abbrev pub HasCome : PlainChannel T W → Stage (QueueCall T) T W → S → ℕ → Type 0
-  HasCome c stage sink messages =
-      IsOnItsWay wakes a (parts_of c0) sink0 (parts_of c) stage sink
-      × IsBetween wakes a (parts_of c0) sink0 messages0 (parts_of c) stage sink messages
+  HasCome c stage sink messages = IsBetween wakes a (parts_of c0) sink0 messages0 (parts_of c) stage sink messages
 
   -- what a call left that answers this, with nothing kept
   abbrev pub IsOver : Done T → PlainChannel T W → S → ℕ → Type 0
-  IsOver done d l messages =
-      AnswersAlone wakes a (parts_of c0) sink0 done (parts_of d) l
-      × RunsInConfigurations wakes a (parts_of c0) sink0 messages0 done (parts_of d) l messages
+  IsOver done d l messages = RunsInConfigurations wakes a (parts_of c0) sink0 messages0 done (parts_of d) l messages
 
   -- one that tries first has asked the queue, and nothing more
   pub comes_in : (x : QueueAsk T) (aim : Aim T W) (call : QueueCall T) → first a ≡ Tries x aim → Starts call x
       → HasCome c0 (Trying call aim) sink0 messages0
   comes_in x aim call tries starts =
-      let begins : IsTaken (first a) None (Trying call aim) = rw tries (call, starts, refl, refl) in (
-        way_starts wakes a (parts_of c0) sink0 (record { stage = Trying call aim; mark = Nothing }) (None, begins),
-        configurations_start wakes a (parts_of c0) sink0 messages0 (record { stage = Trying call aim; mark = Nothing }) (None, begins),
-      )
+      let begins : IsTaken (first a) None (Trying call aim) = rw tries (call, starts, refl, refl) in
+      configurations_start wakes a (parts_of c0) sink0 messages0 (record { stage = Trying call aim; mark = Nothing }) (None, begins)
 
   over_as : (done : Done T) (y : Reply T) (d : PlainChannel T W) (l : S) (n : ℕ) → done ≡ record { reply = y; kept = nothing_kept }
       → IsOver (record { reply = y; kept = nothing_kept }) d l n → IsOver done d l n
@@ -66,26 +59,21 @@ module _ {T W S : Type 0} (wakes : S → W → S → Type 0) (a : ChannelAsk T W
     module _ (made : ChannelMakes (Did DoesPlain wakes) stage (c, k) (d, l) m next None) where
       comes_on : HasCome d next l n
       comes_on =
-          let step = plain_step wakes c d k l m next None stage made in (
-            way_more wakes a (parts_of c0) sink0 (parts_of c) stage k x.0 (parts_of d) next m l step,
-            configurations_more wakes a (parts_of c0) sink0 messages0 (parts_of c) stage k messages x.1 (parts_of d) next m l n m refl count step,
-          )
+          configurations_more wakes a (parts_of c0) sink0 messages0 (parts_of c) stage k messages x (parts_of d) next m l n m refl count
+          (plain_step wakes c d k l m next None stage made)
 
       comes_nearer : IsAtRest (parts_of c0)
           → steps_left (parts_of d).cells (parts_of d).roster next < steps_left (parts_of c).cells (parts_of c).roster stage
       comes_nearer rest =
-          way_nearer wakes a (parts_of c0) sink0 (parts_of c) stage k x.0 (parts_of d) next m l
+          configurations_nearer wakes a (parts_of c0) sink0 messages0 (parts_of c) stage k messages x (parts_of d) next m l n m refl count
           (plain_step wakes c d k l m next None stage made) rest
 
     -- and one that answers
     comes_to : (y : Reply T) → ChannelMakes (Did DoesPlain wakes) stage (c, k) (d, l) m next (Some y)
         → IsOver (record { reply = y; kept = kept_by next }) d l n
     comes_to y made =
-        let step = plain_step wakes c d k l m next (Some y) stage made in (
-          way_ends wakes a (parts_of c0) sink0 (parts_of c) stage k x.0 (parts_of d) next m l y step (kept_by next) refl,
-          configurations_end wakes a (parts_of c0) sink0 messages0 (parts_of c) stage k messages x.1 (parts_of d) next m l n m refl count
-              y step (kept_by next) refl,
-        )
+        configurations_end wakes a (parts_of c0) sink0 messages0 (parts_of c) stage k messages x (parts_of d) next m l n m refl count
+        y (plain_step wakes c d k l m next (Some y) stage made) (kept_by next) refl
 
   -- a step of the queue's call
   module _ (aim : Aim T W) (c d : PlainChannel T W) (call after : QueueCall T) (k : S) (messages n : ℕ)

@@ -291,9 +291,6 @@ module _ {T W : Type 0} where
     same_try f g y (Working w) e = absurd (let no : (let s : Stage (Phase T) T W = Working w in s) ≡ Trying g y = e in cc)
     same_try f g y (Finished kept) e = absurd (let no : (let s : Stage (Phase T) T W = Finished kept in s) ≡ Trying g y = e in cc)
 
-    abbrev Next : Type 0
-    Next = (IsAlone a c0 parts' stage' (so_far ++ names) × (r ≡ None)) ⊎ Advances a c0 parts' stage' (so_far ++ names) r
-
     by_how : (call : QueueCall T) (y : Aim T W) (x : IsAlone a c0 parts (Trying call y) so_far)
         (made : Made parts (Trying call y) names parts' stage' m r x.fits.0 x.now x.at [] []) (mark : QueueMark)
         → mark ≡ (tried call y x made).mark
@@ -334,14 +331,6 @@ module _ {T W : Type 0} where
     pub made_by : (stage : Stage (QueueCall T) T W) (x : IsAlone a c0 parts stage so_far)
         → IsStepOver parts stage names parts' stage' m r → Made parts stage names parts' stage' m r x.fits.0 x.now x.at [] []
     made_by stage x step = step x.fits.0 x.now x.at [] [] (in_range stage x) x.fits.1
-
-    pub step_next : (stage : Stage (QueueCall T) T W) → IsAlone a c0 parts stage so_far
-        → IsStepOver parts stage names parts' stage' m r → Next
-    step_next stage x step = let made = made_by stage x step in forget made.queue made.phase_now (next stage x made)
-      where
-        forget : (q : Queue T) (f : Phase T) → StepsTo q f → Next
-        forget q f (inl h) = inl (h.0.0, h.1)
-        forget q f (inr h) = inr h.0
 
     -- ---- the end is nearer
 

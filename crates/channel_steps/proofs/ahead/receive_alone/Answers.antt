@@ -6,6 +6,8 @@ use Rattle.channel_calls.specs.declared.ask.ChannelAsk.TheVariants as ask
 use Rattle.channel_calls.specs.declared.reply.Reply.TheVariants as reply
 use Rattle.channel_calls.specs.declared.stage.Aim.TheVariants as aim
 use Rattle.channel_calls.specs.declared.stage.Work.TheVariants as work
+use Rattle.channel_calls.specs.Plain.{parts_of}
+use Rattle.channel_steps.proofs.solo.ConfigurationLoop.{answers_alone}
 use Rattle.channel_steps.proofs.solo.AheadFacts.{comes_in, tries_on, tries_nearer, tries_over, tries_well, tells_one_over}
 use Rattle.channel_steps.proofs.ahead.receive_alone.Goals as goal
 
@@ -36,7 +38,11 @@ returns-in-Err g c =
     c.step_queue-answer.new.self l.call c.step_queue-answer.new.call l.sink l.messages c.counted.result l.invariant c.last_mark.result
     c.last_mark.ensures c.counted.ensures c.step_queue-answer.result c.step_queue-answer.ensures.deed
     c.in-Some.answer c.in-Err.reply c.answers.result c.in-Some.is c.in-Err.ensures c.answers.ensures in
-    record { alone = over.0; configurations = over.1 }
+    record {
+      alone = answers_alone g.S.Wakes.wakes ask.TryRecv (parts_of c.args.channel.now) c.args.sink.now c.args.messages.now c.answers.result
+          (parts_of c.step_queue-answer.new.self) l.sink c.counted.result over;
+      configurations = over;
+    }
 
 pub returns-in-Some : goal.returns-in-Some
 returns-in-Some g c =
@@ -50,4 +56,8 @@ returns-in-Some g c =
     c.last_mark.ensures c.counted.ensures c.step_queue-answer.result c.step_queue-answer.ensures.deed
     c.in-Some.answer (work.TellSend (says (reply.TryRecv (Ok c.in-Ok.message)))) c.in-Some.is (rw c.in-Ok.ensures refl))
     one.0 one.1 one.2 c.answers-in-Some.ensures in
-    record { alone = over.0; configurations = over.1 }
+    record {
+      alone = answers_alone g.S.Wakes.wakes ask.TryRecv (parts_of c.args.channel.now) c.args.sink.now c.args.messages.now c.answers-in-Some.result
+          (parts_of c.tell_one.new.self) c.tell_one.new.sink c.counted.result over;
+      configurations = over;
+    }
