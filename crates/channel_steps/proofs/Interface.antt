@@ -5,7 +5,7 @@ use Rattle.std.proofs.Common.{◌≡◌, ℕ, suc, ◌+◌, ◌^◌, ◌≤◌, 
 use Rattle.channel_steps.proofs.Words.{Phase, Queue, Contents, Seat, chain_after, QueueForm, kind_of, listened, Key, Channel, Effect, Moves, Parts, Roster, Listeners, listeners, with_listeners, waits, Line, Mark, Reply, Kept, Stage, Finished, counted, brought_in, taken_out, all_left, most_left, ActiveCall, Configuration, sees, does, unless_ended, Known, AllKnown, IsBalanced, OthersQuiet, wanted_at, Steps, Represents, MayHave, blocks_after, EachStep, IsRun, end_of, Next, call_begun, Entry, Party, Step}
 use Rattle.concurrent_queue.specs.Step.{FitsAt}
 use Rattle.channel_steps.specs.declared.run.Step.TheVariants as step
-pub use Rattle.channel_steps.proofs.TryFacts.{answer_marks, answered_by}
+pub use Rattle.channel_steps.proofs.QueueFacts.{answer_marks, answered_by}
 use Rattle.channel_steps.proofs.OwnFacts.{moves_on, all_see, own_known, begins_known}
 use Rattle.channel_steps.proofs.ConfigurationFacts.{known_left, known_right, known_both}
 use Rattle.channel_steps.proofs.CountFacts as count_facts

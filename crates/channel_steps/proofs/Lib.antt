@@ -1,5 +1,6 @@
 mod Words
 pub mod SuitFacts
+pub mod QueueFacts
 pub mod TryFacts
 pub mod TurnFacts
 pub mod AnswerFacts

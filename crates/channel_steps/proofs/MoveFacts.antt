@@ -1,50 +1,36 @@
 -- What every step of a call leaves as it is, and where it ends.
-use Rattle.std.proofs.Common.{◌≡◌, ℕ, suc, ◌+◌, ◌≤◌, [], Bool, true, false, if◌then◌else◌, Option, None, Some, ◌⊎◌, inl, inr, refl, sym, ap, ◌∙◌, subst, arith}
-use Rattle.channel_steps.proofs.Words.{Queue, Phase, after, IsInRange, QueueMark, Nothing, QueueCall, Reply, Held, Kept, Side, Senders, Receivers, Mark, Stage, Trying, Working, Finished, Turn, Tries, Works, Ends, Work, TellReceive, TellStreams, TellSend, TellSends, TakeRoom, TellAll, Insert, Register, Leave, Lower, Count, Load, Raise, kept_by, up, down, listeners, count, is_raised, waits, line_of, leaving, nothing_kept, ends_by, again, pends_by, unlistened, told_all_next, room_next, roomless, lowered_next, loaded_next, raised_next, Channel, Effect, untouched, on_count, leaves, Turned, Worked, Moves, seats, phase, HasRange}
+use Rattle.std.proofs.Common.{◌≡◌, List, ℕ, suc, ◌+◌, ◌≤◌, [], Bool, true, false, if◌then◌else◌, Option, None, Some, ◌⊎◌, inl, inr, refl, sym, ap, ◌∙◌, subst, arith}
+use Rattle.channel_steps.proofs.Words.{Queue, Phase, after, IsInRange, QueueMark, Nothing, QueueCall, Reply, Held, Kept, Side, Senders, Receivers, Mark, Stage, Trying, Working, Finished, Turn, Tries, Works, Ends, Work, TellReceive, TellStreams, TellSend, TellSends, TakeRoom, TellAll, Insert, Register, Leave, Lower, Count, Load, Raise, kept_by, up, down, listeners, count, is_raised, waits, line_of, leaving, nothing_kept, ends_by, again, pends_by, unlistened, told_all_next, room_next, roomless, lowered_next, loaded_next, raised_next, Channel, Effect, untouched, on_count, leaves, Turned, Worked, Moves, seats, phase, HasRange, ChannelAsk, gone_by, came_by}
 use Rattle.channel_calls.specs.declared.mark.Mark.TheVariants as mark
 use Rattle.channel_calls.specs.declared.reply.Reply.TheVariants as reply
+use Rattle.channel_steps.specs.every_run.Ends.{IsStill}
 
--- a mark of no queue
-abbrev pub IsOther : Mark → Type 0
-IsOther mark.Nothing = Unit {0}
-IsOther mark.SenderUp = Unit {0}
-IsOther mark.SenderDown = Unit {0}
-IsOther mark.ReceiverUp = Unit {0}
-IsOther mark.ReceiverDown = Unit {0}
-IsOther m = ⊥
-
-other_up : (side : Side) → IsOther (up side)
+other_up : (side : Side) → IsStill (up side)
 other_up Senders = tt
 other_up Receivers = tt
 
-other_down : (side : Side) → IsOther (down side)
+other_down : (side : Side) → IsStill (down side)
 other_down Senders = tt
 other_down Receivers = tt
 
+-- ---- marks that leave the queue as it is
+
 module _ {T : Type 0} where
-  -- ---- the queue's bounds
-
-  abbrev pub Grows : Queue T → Queue T → Type 0
-  Grows q q' = (q'.capacity ≡ q.capacity) × (q'.accepted ≤ q.accepted + 1) × (q.removed ≤ q'.removed)
-
-  stays : (q q' : Queue T) → q' ≡ q → Grows q q'
-  stays q q' e = (
-    ap (λ (x : Queue T). x.capacity) e,
-    (let a : q'.accepted ≡ q.accepted = ap (λ (x : Queue T). x.accepted) e in omega arith),
-    (let r : q'.removed ≡ q.removed = ap (λ (x : Queue T). x.removed) e in omega arith),
-  )
-
-  marked_grows : (f : Phase T) (m : QueueMark) (q : Queue T) → Grows q (after f m q)
-  marked_grows f Nothing q = (refl, omega arith, omega arith)
-  marked_grows f m q = (refl, omega arith, omega arith)
+  pub nothing_gone : (m : Mark) (items : List T) → IsStill m → gone_by m items ≡ []
+  nothing_gone mark.Take items h = absurd h
+  nothing_gone mark.TakeDisplaced items h = absurd h
+  nothing_gone mark.Replace items h = absurd h
+  nothing_gone m items h = refl
 
 module _ {T W : Type 0} where
-  queue_of : (e e' : Effect T W) → e ≡ e' → e.channel.queue ≡ e'.channel.queue
-  queue_of e e' same = ap (λ (x : Effect T W). x.channel.queue) same
+  pub nothing_came : (m : Mark) (x : ChannelAsk T W) → IsStill m → came_by m x ≡ []
+  nothing_came mark.Append x h = absurd h
+  nothing_came mark.Replace x h = absurd h
+  nothing_came m x h = refl
 
   -- a step on a list or a count leaves the queue as it is, and has no mark but of a count
   abbrev pub Spares : Channel T W → Effect T W → Type 0
-  Spares c e = (e.channel.queue ≡ c.queue) × IsOther e.mark
+  Spares c e = (e.channel.queue ≡ c.queue) × IsStill e.mark
 
   spares_as : (c : Channel T W) (e e' : Effect T W) → e ≡ e' → Spares c e' → Spares c e
   spares_as c e e' same h = subst (λ (x : Effect T W). Spares c x) (sym same) h
@@ -64,12 +50,6 @@ module _ {T W : Type 0} where
   worked_spares c (Lower side key) e r s h = spares_as c e _ h.0 (refl, other_down side)
   worked_spares c (Raise side n making) e r s h = spares_as c e _ h.0 (raises_spares (is_raised side n c.roster) side n c)
   worked_spares c w e r s h = spares_as c e _ h.0 (refl, tt)
-
-  pub grows : (c : Channel T W) (at : Stage (Phase T) T W) (e : Effect T W) (r : Option (Reply T)) (s : Stage (Phase T) T W) → Moves c at e r s → Grows c.queue e.channel.queue
-  grows c (Trying f aim) e r s h =
-      subst (λ (q : Queue T). Grows c.queue q) (sym (queue_of e _ h.effect)) (marked_grows f h.mark c.queue)
-  grows c (Working w) e r s h = (let k = worked_spares c w e r s h in stays c.queue e.channel.queue k.0)
-  grows c (Finished kept) e r s h = stays c.queue e.channel.queue (queue_of e _ h.0)
 
   -- ---- where a call ends
 

@@ -9,8 +9,10 @@ use Rattle.channel_calls.specs.declared.mark.Mark.TheVariants as mark
 use Rattle.channel_calls.specs.declared.stage.Aim.TheVariants as aim
 use Rattle.channel_calls.specs.declared.stage.Closer.TheVariants as closer
 use Rattle.channel_calls.specs.declared.stage.Waiting.TheVariants as waiting
-use Rattle.channel_steps.proofs.MoveFacts.{IsOther, worked_spares}
-use Rattle.channel_steps.proofs.TryFacts.{Progress, still, progress, answer_progress, next_channel, goes_at, tries_stay}
+use Rattle.channel_steps.specs.every_run.Ends.{IsStill}
+use Rattle.channel_steps.proofs.MoveFacts.{nothing_gone, nothing_came, worked_spares}
+use Rattle.channel_steps.proofs.QueueFacts.{moves_by}
+use Rattle.channel_steps.proofs.TryFacts.{Progress, still, progress, next_channel, goes_at, tries_stay}
 use Rattle.channel_steps.proofs.SuitFacts.{IsClosing, brings_own, tries_more}
 use Rattle.channel_steps.proofs.TurnFacts.{TurnAt, After, turned_at}
 use Rattle.channel_steps.proofs.AnswerFacts.{answered}
@@ -67,19 +69,9 @@ module _ {T W : Type 0} where
 
   -- ---- how it changes the queue
 
-  tried_on : (c : Channel T W) (f : Phase T) (m : QueueMark) (y : Aim T W) (r : Option (Reply T)) (s : Stage (Phase T) T W)
-      → ((f' : Phase T) × Continues c.queue f m f' × (r ≡ None) × (s ≡ Trying f' y)) ⊎ ((z : QueueReply T) × Answers c.queue f m z × Turned (answered_next y z) r s)
-      → Progress c.queue (after f m c.queue)
-  tried_on c f m y r s (inl h) = progress c.queue f.ask m f.stage h.0.stage h.1.1
-  tried_on c f m y r s (inr h) = answer_progress c.queue f.ask m h.0 f.stage h.1
-
-  same_queue : (c d : Channel T W) → d.queue ≡ c.queue → Progress c.queue d.queue
-  same_queue c d e = subst (λ (q : Queue T). Progress c.queue q) (sym e) (still c.queue)
-
   pub moves_on : (c : Channel T W) (at : Stage (Phase T) T W) (e : Effect T W) (r : Option (Reply T)) (s : Stage (Phase T) T W) → Moves c at e r s → Progress c.queue e.channel.queue
-  moves_on c (Trying f y) e r s h = subst (λ (z : Effect T W). Progress c.queue z.channel.queue) (sym h.effect) (tried_on c f h.mark y r s h.how)
-  moves_on c (Working w) e r s h = (let spares = worked_spares c w e r s h in same_queue c e.channel spares.0)
-  moves_on c (Finished kept) e r s h = same_queue c e.channel (ap (λ (z : Effect T W). z.channel.queue) h.0)
+  moves_on c at e r s h =
+      moves_by c at (λ m q. Progress c.queue q) (λ f y m is says. progress c.queue f.ask f.stage m says) (λ m s. still c.queue) e r s h
 
   -- ---- whom it wakes
 
@@ -120,13 +112,10 @@ module _ {T W : Type 0} where
       sym (append_assoc (take 1 q.items) (drop 1 q.items) (message f.ask)) ∙ (ap (λ (vs : List T). vs ++ message f.ask) (split_first q.items) ∙ ap (λ (vs : List T). q.items ++ vs) e)
   queue_held x f queue_mark.Close q e = sym (append-nil q.items)
 
-  other_held : (m : Mark) (x : ChannelAsk T W) (items items' : List T) → IsOther m → items' ≡ items → Held_by m x items items'
-  other_held mark.Nothing x items items' h e = e ∙ sym (append-nil items)
-  other_held mark.SenderUp x items items' h e = e ∙ sym (append-nil items)
-  other_held mark.SenderDown x items items' h e = e ∙ sym (append-nil items)
-  other_held mark.ReceiverUp x items items' h e = e ∙ sym (append-nil items)
-  other_held mark.ReceiverDown x items items' h e = e ∙ sym (append-nil items)
-  other_held m x items items' h e = absurd h
+  other_held : (m : Mark) (x : ChannelAsk T W) (items items' : List T) → IsStill m → items' ≡ items → Held_by m x items items'
+  other_held m x items items' h e =
+      ap (λ (vs : List T). vs ++ items') (nothing_gone m items h)
+      ∙ (e ∙ (sym (append-nil items) ∙ ap (λ (vs : List T). items ++ vs) (sym (nothing_came m x h))))
 
   pub moves_held : (c : Channel T W) (x : ChannelAsk T W) (at : Stage (Phase T) T W) (ds : List (MarkedMoment T W)) (seen : List (Channel T W)) (e : Effect T W) (r : Option (Reply T)) (s : Stage (Phase T) T W) → StageAt c x at ds seen → Moves c at e r s
       → Held_by e.mark x c.queue.items e.channel.queue.items

@@ -12,7 +12,7 @@ use Rattle.channel_steps.proofs.Interface.{answer_marks}
 use Rattle.channel_steps.proofs.every_run.AllOwed.{FreeOrTold}
 use Rattle.channel_steps.proofs.SuitFacts.{IsClose, closes_by}
 use Rattle.channel_steps.proofs.every_run.AskFacts.{How, poll_asks, held_by, leaves_next, has_left}
-use Rattle.channel_steps.proofs.every_run.ClosedMoves.{worked_spares}
+use Rattle.channel_steps.proofs.MoveFacts.{worked_spares}
 use Rattle.channel_steps.proofs.every_run.ListMoves.{Tries}
 use Rattle.channel_steps.proofs.every_run.NumberMoves.{weigh_turn, turned_weighs}
 use Rattle.channel_steps.proofs.every_run.Owed.{Pays, GoesOnOr, Ledger}

@@ -69,10 +69,6 @@ module _ {T W : Type 0} where
   displacing_moves ds v (inr h) k = displaced_moves ds v h k
 
   module _ (ds : List (MarkedMoment T W)) (seen : List (Channel T W)) where
-    -- a call that may answer no such reply
-    abbrev Never : (Reply T → Type 0) → Type 0
-    Never R = ((r : Reply T) → GivesMessage r → R r → ⊥) × ((r : Reply T) → SaysTheEnd r → R r → ⊥)
-
     -- one that answers only this
     only : (said r : Reply T) (P : Reply T → Type 0) → (P said → ⊥) → P r → r ≡ said → ⊥
     only said r P never g e = never (subst P e g)
@@ -114,9 +110,6 @@ module _ {T W : Type 0} where
     -- one that says the end needs a moment at which the channel was over
     abbrev Over : (Reply T → Type 0) → Reply T → Type 0
     Over R r = R r → Once Spent seen
-
-    abbrev Seen : Type 0
-    Seen = Once Spent seen
 
     row_ends : (ask : ChannelAsk T W) (r : Reply T) → SaysTheEnd r → Over (λ x. Row ask ds seen x) r
     row_ends (TrySend m) r g = ended (Over (TrySendRow m ds seen)) (λ h. absurd h) (λ e h. absurd h) (λ h. absurd h) (λ h. absurd h) r g

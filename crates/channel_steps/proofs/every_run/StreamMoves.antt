@@ -11,7 +11,7 @@ use Rattle.channel_calls.specs.declared.stage.Waiting.TheVariants as waiting
 use Rattle.channel_steps.proofs.every_run.AllOwed.{FreeOrTold}
 use Rattle.channel_steps.proofs.SuitFacts.{push_sends}
 use Rattle.channel_steps.proofs.every_run.AskFacts.{How, poll_asks, held_by, leaves_next, has_left}
-use Rattle.channel_steps.proofs.every_run.ClosedMoves.{worked_spares}
+use Rattle.channel_steps.proofs.MoveFacts.{worked_spares}
 use Rattle.channel_steps.proofs.every_run.ListMoves.{Tries as ComesIn}
 use Rattle.channel_steps.proofs.every_run.NumberMoves.{number, push_brings, force_brings, goes_no_more, answers_same_number, weigh_turn, turned_weighs}
 use Rattle.channel_steps.proofs.every_run.Owed.{Pays, GoesOn, GoesOnOr, Ledger}
