@@ -29,13 +29,6 @@ module _ {T W : Type 0} where
       moves_by c at (λ m q. Moved c.queue m q) (λ f y m is says. marked f m c.queue) (λ m still. still_moved c.queue m still) e r s h
 
 module _ {T : Type 0} where
-  pub accepts_one : (q : Queue T) (m : Mark) (q' : Queue T) → Moved q m q' → q'.accepted ≤ q.accepted + 1
-  accepts_one q m q' h = omega (arith, h.accepted, most m) where
-    most : (m : Mark) → brought_in m ≤ 1
-    most mark.Append = omega arith
-    most mark.Replace = omega arith
-    most m = omega arith
-
   -- those that were there and came in are those that are there and went out
   pub balance_moved : (q : Queue T) (m : Mark) (q' : Queue T) → Moved q m q' → IsBalanced q → IsBalanced q'
       → length q'.items + taken_out m ≡ length q.items + brought_in m
