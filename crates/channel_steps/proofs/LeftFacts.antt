@@ -14,6 +14,7 @@ use Rattle.channel_calls.specs.declared.stage.Aim.TheVariants as aim
 use Rattle.channel_calls.specs.declared.stage.Making.TheVariants as making
 use Rattle.channel_calls.specs.declared.stage.Waiting.TheVariants as waiting
 use Rattle.channel_steps.proofs.LineFacts.{fresh_waits, same_line}
+use Rattle.channel_steps.proofs.StageFacts.{phase_try, phase_work, phase_end}
 
 -- ---- the steps that are left
 
@@ -288,41 +289,22 @@ module _ {T W : Type 0} where
   -- ---- a step of a call, beside others that are quiet
 
   -- a turn that was taken leaves no more than it says
-  taken_left : (c : Contents T) (a : Roster W) (q : Queue T) (f : Phase T) (l r : List (Seat T)) (turn : Turn T W) (x : Option (Reply T)) (s : Stage (QueueCall T) T W)
-      → Fits c q (l ++ (seats f s ++ r)) → IsTaken turn x s → steps_left c a s ≤ left_to_turn a turn
-  taken_left c a q f l r (Tries y aim) x (Trying call z) fits (call', starts, none, same) =
-      let aims : left_after_try a z ≡ left_after_try a aim = ap (λ (w : Aim T W). left_after_try a w) (same_aim call call' z aim same) in
-      let h = ranks c q f call l r fits in
-      omega (arith, h, aims)
-    where
-      same_aim : (u v : QueueCall T) (y z : Aim T W) → (let s : Stage (QueueCall T) T W = Trying u y in s) ≡ Trying v z → y ≡ z
-      same_aim u v y z e = cc e
-  taken_left c a q f l r (Tries y aim) x (Working w) fits (call', starts, none, same) =
-      absurd (let no : (let s : Stage (QueueCall T) T W = Working w in s) ≡ Trying call' aim = same in cc)
-  taken_left c a q f l r (Tries y aim) x (Finished kept) fits taken = omega arith
-  taken_left c a q f l r (Works w) x s fits (none, same) = subst (λ (z : Stage (QueueCall T) T W). steps_left c a z ≤ left_to_work a w) (sym same) (omega arith)
-  taken_left c a q f l r (Ends y kept) x s fits (some, same) = subst (λ (z : Stage (QueueCall T) T W). steps_left c a z ≤ 0) (sym same) (omega arith)
+  module _ (c : Contents T) (a : Roster W) (q : Queue T) (f : Phase T) (l r : List (Seat T)) where
+    tries_left : (call : QueueCall T) (aim : Aim T W) (s : Stage (QueueCall T) T W) → s ≡ Trying call aim → Fits c q (l ++ (seats f s ++ r))
+        → steps_left c a s ≤ one_try + left_after_try a aim
+    tries_left call aim s same =
+        subst (λ (z : Stage (QueueCall T) T W). Fits c q (l ++ (seats f z ++ r)) → steps_left c a z ≤ one_try + left_after_try a aim) (sym same)
+        (λ fits. let h = ranks c q f call l r fits in omega (arith, h))
 
-  turned_left : (c : Contents T) (a : Roster W) (q : Queue T) (f : Phase T) (l r : List (Seat T)) (turn : Turn T W) (x : Option (Reply T)) (s : Stage (QueueCall T) T W)
-      → Fits c q (l ++ (seats f s ++ r)) → Turned turn x (phase f s) → steps_left c a s ≤ left_to_turn a turn
-  turned_left c a q f l r (Tries y aim) x (Trying call z) fits (none, same) =
-      let aims : left_after_try a z ≡ left_after_try a aim = ap (λ (w : Aim T W). left_after_try a w) (same_aim f (asked y) z aim same) in
-      let h = ranks c q f call l r fits in
-      omega (arith, h, aims)
-    where
-      same_aim : (u v : Phase T) (y z : Aim T W) → (let s : Stage (Phase T) T W = Trying u y in s) ≡ Trying v z → y ≡ z
-      same_aim u v y z e = cc e
-  turned_left c a q f l r (Tries y aim) x (Working w) fits (none, same) =
-      absurd (let no : (let s : Stage (Phase T) T W = Working w in s) ≡ Trying (asked y) aim = same in cc)
-  turned_left c a q f l r (Works w) x (Trying call z) fits (none, same) =
-      absurd (let no : (let s : Stage (Phase T) T W = Trying f z in s) ≡ Working w = same in cc)
-  turned_left c a q f l r (Works w) x (Working v) fits (none, same) =
-      let e : v ≡ w = cc same in subst (λ (z : Work T W). left_to_work a z ≤ left_to_work a w) (sym e) (omega arith)
-  turned_left c a q f l r (Ends y kept) x (Trying call z) fits (some, same) =
-      absurd (let no : (let s : Stage (Phase T) T W = Trying f z in s) ≡ Finished kept = same in cc)
-  turned_left c a q f l r (Ends y kept) x (Working v) fits (some, same) =
-      absurd (let no : (let s : Stage (Phase T) T W = Working v in s) ≡ Finished kept = same in cc)
-  turned_left c a q f l r w x y fits turned = omega arith
+    taken_left : (turn : Turn T W) (x : Option (Reply T)) (s : Stage (QueueCall T) T W) → Fits c q (l ++ (seats f s ++ r)) → IsTaken turn x s → steps_left c a s ≤ left_to_turn a turn
+    taken_left (Tries y aim) x s fits (call, starts, none, same) = tries_left call aim s same fits
+    taken_left (Works w) x s fits (none, same) = subst (λ (z : Stage (QueueCall T) T W). steps_left c a z ≤ left_to_work a w) (sym same) (omega arith)
+    taken_left (Ends y kept) x s fits (some, same) = subst (λ (z : Stage (QueueCall T) T W). steps_left c a z ≤ 0) (sym same) (omega arith)
+
+    turned_left : (turn : Turn T W) (x : Option (Reply T)) (s : Stage (QueueCall T) T W) → Fits c q (l ++ (seats f s ++ r)) → Turned turn x (phase f s) → steps_left c a s ≤ left_to_turn a turn
+    turned_left (Tries y aim) x s fits (none, same) = let t = phase_try f (asked y) aim s same in tries_left t.0 aim s t.1 fits
+    turned_left (Works w) x s fits (none, same) = subst (λ (z : Stage (QueueCall T) T W). steps_left c a z ≤ left_to_work a w) (sym (phase_work f w s same)) (omega arith)
+    turned_left (Ends y kept) x s fits (some, same) = subst (λ (z : Stage (QueueCall T) T W). steps_left c a z ≤ 0) (sym (phase_end f kept s same)) (omega arith)
 
   -- one that has not answered
   abbrev pub IsAtWork : Stage (QueueCall T) T W → Type 0

@@ -1,4 +1,5 @@
 mod Words
+pub mod StageFacts
 pub mod SuitFacts
 pub mod QueueFacts
 pub mod TryFacts

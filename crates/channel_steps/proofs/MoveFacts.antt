@@ -4,6 +4,8 @@ use Rattle.channel_steps.proofs.Words.{Queue, Phase, after, IsInRange, QueueMark
 use Rattle.channel_calls.specs.declared.mark.Mark.TheVariants as mark
 use Rattle.channel_calls.specs.declared.reply.Reply.TheVariants as reply
 use Rattle.channel_steps.specs.every_run.Ends.{IsStill}
+use Rattle.channel_steps.proofs.LeftFacts.{work_lessens}
+use Rattle.channel_steps.proofs.StageFacts.{phase_end}
 
 other_up : (side : Side) → IsStill (up side)
 other_up Senders = tt
@@ -59,21 +61,7 @@ module _ {T W : Type 0} where
   turned_ends (Ends x kept) y s h = (kept, h.1)
 
   worked_ends : (c : Channel T W) (w : Work T W) (e : Effect T W) (y : Reply T) (s : Stage (Phase T) T W) → Worked c w e (Some y) s → (kept : Kept T) × (s ≡ Finished kept)
-  worked_ends c (TellReceive x) e y s h = turned_ends (Works (TellStreams x)) y s h.1
-  worked_ends c (TellStreams x) e y s h = turned_ends (ends_by x) y s h.1
-  worked_ends c (TellSend x) e y s h = turned_ends (ends_by x) y s h.1
-  worked_ends c (TellSends n x) e y s h = turned_ends (ends_by x) y s h.1
-  worked_ends c (TakeRoom n) e y s (h, inl t) = turned_ends (room_next n) y s t
-  worked_ends c (TakeRoom n) e y s (h, inr t) = turned_ends roomless y s t.1
-  worked_ends c (TellAll line closer) e y s h = turned_ends (told_all_next line closer) y s h.1
-  worked_ends c (Insert w task) e y s (inl h) = turned_ends (again w (Some h.0) task) y s h.3
-  worked_ends c (Insert w task) e y s (inr h) = turned_ends (unlistened w h.0) y s h.2
-  worked_ends c (Register w key task) e y s h = turned_ends (if waits key (listeners (line_of w) c.roster) then pends_by w key else again w None task) y s h.1
-  worked_ends c (Leave x) e y s h = turned_ends (Ends x.reply (leaving None x.message)) y s h.1
-  worked_ends c (Lower side key) e y s h = turned_ends (lowered_next side key (count side c.roster)) y s h.1
-  worked_ends c (Count side) e y s h = turned_ends (Ends (reply.Count (count side c.roster)) nothing_kept) y s h.1
-  worked_ends c (Load side making) e y s h = turned_ends (loaded_next side making (count side c.roster)) y s h.1
-  worked_ends c (Raise side n making) e y s h = turned_ends (raised_next side making (is_raised side n c.roster)) y s h.1
+  worked_ends c w e y s h = let b = work_lessens c e (Some y) s w h in turned_ends b.turn y s b.turned
 
   tried_ends : (a b : Type 0) (y : Reply T) (s : Stage (Phase T) T W) → (a → (kept : Kept T) × (s ≡ Finished kept)) → (b → (kept : Kept T) × (s ≡ Finished kept)) → a ⊎ b → (kept : Kept T) × (s ≡ Finished kept)
   tried_ends a b y s f g (inl h) = f h
@@ -85,19 +73,12 @@ module _ {T W : Type 0} where
   moves_end c (Working w) e y s h = worked_ends c w e y s h
   moves_end c (Finished kept) e y s h = absurd (let no : Some y ≡ None = h.1 in cc)
 
-  no_seats : (f : Phase T) (s : Stage (QueueCall T) T W) (kept : Kept T) → phase f s ≡ Finished kept → seats f s ≡ []
-  no_seats f (Trying call aim) kept e = absurd (let no : (let x : Stage (Phase T) T W = Trying f aim in x) ≡ Finished kept = e in cc)
-  no_seats f (Working w) kept e = refl
-  no_seats f (Finished k) kept e = refl
-
   pub kept_at : (f : Phase T) (s : Stage (QueueCall T) T W) (kept : Kept T) → phase f s ≡ Finished kept → kept_by s ≡ kept
-  kept_at f (Trying call aim) kept e = absurd (let no : (let x : Stage (Phase T) T W = Trying f aim in x) ≡ Finished kept = e in cc)
-  kept_at f (Working w) kept e = absurd (let no : (let x : Stage (Phase T) T W = Working w in x) ≡ Finished kept = e in cc)
-  kept_at f (Finished k) kept e = (let same : (let x : Stage (Phase T) T W = Finished k in x) ≡ Finished kept = e in cc)
+  kept_at f s kept e = ap (λ (z : Stage (QueueCall T) T W). kept_by z) (phase_end f kept s e)
 
   -- a call that has answered has no call of the queue under way
   pub answered_alone : (c : Channel T W) (at : Stage (Phase T) T W) (e : Effect T W) (y : Reply T) (f : Phase T) (s : Stage (QueueCall T) T W) → Moves c at e (Some y) (phase f s) → seats f s ≡ []
-  answered_alone c at e y f s h = let k = moves_end c at e y (phase f s) h in no_seats f s k.0 k.1
+  answered_alone c at e y f s h = let k = moves_end c at e y (phase f s) h in ap (λ (z : Stage (QueueCall T) T W). seats f z) (phase_end f k.0 s k.1)
 
 module _ {T : Type 0} where
   pub in_range : (n : ℕ) (q : Queue T) → HasRange n q → IsInRange q

@@ -2,6 +2,7 @@
 use Rattle.channel_steps.proofs.solo.Words.{◌≡◌, ℕ, ◌+◌, ◌*◌, ◌<◌, ◌≤◌, List, [], ◌∷◌, ◌++◌, append_assoc, Option, None, Some, ◌⊎◌, inl, inr, refl, sym, ap, ◌∙◌, subst, arith, Queue, Phase, asked, after, Continues, Answers, IsInRange, Fits, rank, QueueCall, QueueAsk, QueueMark, QueueReply, shows, IsIdle, Comes, Does, does, Woken, ChannelAsk, Mark, Reply, Aim, Kept, Stage, Trying, Working, Finished, Turn, Tries, Works, Ends, Work, Parts, Roster, answered_next, kept_by, Channel, Effect, channel, Turned, Tried, seats, phase, IsTaken, Hastens, Made, IsStepOver, Outcome, Alone, after_waking, answers, HasNextPosition, steps_left}
 use Rattle.channel_steps.proofs.solo.TryFacts.{brought_by, brought_by_is, left_by, Found, tries_start, tries_on, tries_end}
 use Rattle.channel_steps.proofs.LeftFacts.{IsAtWork, step_lessens}
+use Rattle.channel_steps.proofs.StageFacts.{phase_try, phase_work, phase_end}
 use Rattle.channel_steps.proofs.solo.BringFacts.{MayBring, worked_brings, brings_once}
 use Rattle.channel_steps.proofs.solo.Rest.{RestTry, RestWork, RestTurn, RestStage, turn_rests}
 use Rattle.channel_steps.proofs.solo.AnswerFacts.{answered_rest}
@@ -34,22 +35,12 @@ module _ {T W : Type 0} where
   At from f (Working w) now = now ≡ from
   At from f (Finished kept) now = ⊥
 
-  same_asked : (f g : Phase T) (x y : Aim T W) → (let s : Stage (Phase T) T W = Trying f x in s) ≡ Trying g y → f ≡ g
-  same_asked f g x y e = cc
-
   -- the stage after a turn that does not answer
   at_turn : (turn : Turn T W) (f : Phase T) (s : Stage (QueueCall T) T W) (q : Queue T)
       → Turned turn None (phase f s) → At q f s q
-  at_turn (Tries a x) f (Trying call y) q h = at_asked q f a (same_asked f (asked a) y x h.1)
-  at_turn (Tries a x) f (Working w) q h =
-      absurd (let no : (let s : Stage (Phase T) T W = Working w in s) ≡ Trying (asked a) x = h.1 in cc)
-  at_turn (Tries a x) f (Finished kept) q h =
-      absurd (let no : (let s : Stage (Phase T) T W = Finished kept in s) ≡ Trying (asked a) x = h.1 in cc)
-  at_turn (Works v) f (Trying call y) q h =
-      absurd (let no : (let s : Stage (Phase T) T W = Trying f y in s) ≡ Working v = h.1 in cc)
-  at_turn (Works v) f (Working w) q h = refl
-  at_turn (Works v) f (Finished kept) q h =
-      absurd (let no : (let s : Stage (Phase T) T W = Finished kept in s) ≡ Working v = h.1 in cc)
+  at_turn (Tries a x) f s q h =
+      let t = phase_try f (asked a) x s h.1 in subst (λ (z : Stage (QueueCall T) T W). At q f z q) (sym t.1) (at_asked q f a t.2)
+  at_turn (Works v) f s q h = subst (λ (z : Stage (QueueCall T) T W). At q f z q) (sym (phase_work f v s h.1)) refl
   at_turn (Ends x kept) f s q h = absurd (let no : (let y : Option (Reply T) = None in y) ≡ Some x = h.0 in cc)
 
   -- where a turn answers
@@ -67,11 +58,8 @@ module _ {T W : Type 0} where
 
   pub finished_kept : (f : Phase T) (s : Stage (QueueCall T) T W) (kept : Kept T) → phase f s ≡ Finished kept
       → (kept_by s ≡ kept) × (seats f s ≡ [])
-  finished_kept f (Trying call x) kept e =
-      absurd (let no : (let s : Stage (Phase T) T W = Trying f x in s) ≡ Finished kept = e in cc)
-  finished_kept f (Working w) kept e = absurd (let no : (let s : Stage (Phase T) T W = Working w in s) ≡ Finished kept = e in cc)
-  finished_kept f (Finished k) kept e =
-      ((let same : (let s : Stage (Phase T) T W = Finished k in s) ≡ Finished kept = e in cc), refl)
+  finished_kept f s kept e =
+      let same = phase_end f kept s e in (ap (λ (z : Stage (QueueCall T) T W). kept_by z) same, ap (λ (z : Stage (QueueCall T) T W). seats f z) same)
 
   -- ---- how far a call has come
 
@@ -283,14 +271,6 @@ module _ {T W : Type 0} where
 
     -- ---- a step
 
-    same_try : (f g : Phase T) (y : Aim T W) (s : Stage (QueueCall T) T W) → phase f s ≡ Trying g y
-        → (call : QueueCall T) × (s ≡ Trying call y) × (f ≡ g)
-    same_try f g y (Trying call z) e =
-        let same : z ≡ y = (let e' : (let s : Stage (Phase T) T W = Trying f z in s) ≡ Trying g y = e in cc) in
-        (call, ap (λ (w : Aim T W). let s : Stage (QueueCall T) T W = Trying call w in s) same, same_asked f g z y e)
-    same_try f g y (Working w) e = absurd (let no : (let s : Stage (Phase T) T W = Working w in s) ≡ Trying g y = e in cc)
-    same_try f g y (Finished kept) e = absurd (let no : (let s : Stage (Phase T) T W = Finished kept in s) ≡ Trying g y = e in cc)
-
     by_how : (call : QueueCall T) (y : Aim T W) (x : IsAlone a c0 parts (Trying call y) so_far)
         (made : Made parts (Trying call y) names parts' stage' m r x.fits.0 x.now x.at [] []) (mark : QueueMark)
         → mark ≡ (tried call y x made).mark
@@ -298,7 +278,7 @@ module _ {T W : Type 0} where
         ⊎ ((z : QueueReply T) × Answers x.now x.at mark z × Turned (answered_next y z) r (phase made.phase_now stage'))
         → StepsTo made.queue made.phase_now
     by_how call y x made mark e (inl (f', goes, none, on)) =
-        let t = same_try made.phase_now f' y stage' on in
+        let t = phase_try made.phase_now f' y stage' on in
         inl (on_try call y x made f' (subst (λ (k : QueueMark). Continues x.now x.at k f') e goes) t.0 t.1 t.2, none)
     by_how call y x made mark e (inr (z, ans, turned)) =
         inr (at_answer call y x made z (subst (λ (k : QueueMark). Answers x.now x.at k z) e ans) turned)
