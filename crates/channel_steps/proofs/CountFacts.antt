@@ -3,19 +3,8 @@ use Rattle.std.proofs.Common.{arith, ◌≡◌, ◌+◌, ◌^◌, ◌≤◌, ◌
 use Rattle.channel_steps.proofs.Words.{Queue, Phase, after, QueueMark, mark_of_queue, Channel, Effect, Worked, Moves, Mark, Reply, Stage, Trying, Working, Finished, Work, IsBalanced, counted, brought_in, taken_out}
 use Rattle.concurrent_queue.specs.declared.call.QueueMark.TheVariants as queue
 use Rattle.channel_calls.specs.declared.mark.Mark.TheVariants as mark
-use Rattle.channel_steps.proofs.MoveFacts.{IsOther, worked_spares}
-
--- a mark of no message
-abbrev IsPlain : Mark → Type 0
-IsPlain m = (brought_in m ≡ 0) × (taken_out m ≡ 0)
-
--- a mark of no queue is none of a message
-other_plain : (m : Mark) → IsOther m → IsPlain m
-other_plain mark.Append h = absurd h
-other_plain mark.Take h = absurd h
-other_plain mark.TakeDisplaced h = absurd h
-other_plain mark.Replace h = absurd h
-other_plain m h = (refl, refl)
+use Rattle.channel_steps.specs.every_run.Ends.{IsStill}
+use Rattle.channel_steps.proofs.QueueFacts.{moves_by}
 
 module _ {T : Type 0} where
   pub record Moved (q : Queue T) (m : Mark) (q' : Queue T) : Type 0 where
@@ -26,35 +15,20 @@ module _ {T : Type 0} where
   marked f queue.Nothing q = record { accepted = omega arith; removed = omega arith }
   marked f m q = record { accepted = omega arith; removed = omega arith }
 
-  plain : (q : Queue T) (m : Mark) → IsPlain m → Moved q m q
-  plain q m h = record { accepted = omega (arith, h.0); removed = omega (arith, h.1) }
+  still_moved : (q : Queue T) (m : Mark) → IsStill m → Moved q m q
+  still_moved q mark.Append h = absurd h
+  still_moved q mark.Take h = absurd h
+  still_moved q mark.TakeDisplaced h = absurd h
+  still_moved q mark.Replace h = absurd h
+  still_moved q m h = record { accepted = omega arith; removed = omega arith }
 
 module _ {T W : Type 0} where
-  abbrev EffectMoved : Channel T W → Effect T W → Type 0
-  EffectMoved c e = Moved c.queue e.mark e.channel.queue
-
-  as_it : (c : Channel T W) (e e' : Effect T W) → e ≡ e' → EffectMoved c e' → EffectMoved c e
-  as_it c e e' same h = subst (λ (x : Effect T W). EffectMoved c x) (sym same) h
-
-  worked : (c : Channel T W) (w : Work T W) (e : Effect T W) (r : Option (Reply T)) (s : Stage (Phase T) T W) → Worked c w e r s → EffectMoved c e
-  worked c w e r s h =
-      let k = worked_spares c w e r s h in
-      subst (λ (q : Queue T). Moved c.queue e.mark q) (sym k.0) (plain c.queue e.mark (other_plain e.mark k.1))
-
   pub moved_by : (c : Channel T W) (at : Stage (Phase T) T W) (e : Effect T W) (r : Option (Reply T)) (s : Stage (Phase T) T W)
-      → Moves c at e r s → EffectMoved c e
-  moved_by c (Trying f aim) e r s h = as_it c e _ h.effect (marked f h.mark c.queue)
-  moved_by c (Working w) e r s h = worked c w e r s h
-  moved_by c (Finished kept) e r s h = as_it c e _ h.0 (plain c.queue mark.Nothing (refl, refl))
+      → Moves c at e r s → Moved c.queue e.mark e.channel.queue
+  moved_by c at e r s h =
+      moves_by c at (λ m q. Moved c.queue m q) (λ f y m is says. marked f m c.queue) (λ m still. still_moved c.queue m still) e r s h
 
 module _ {T : Type 0} where
-  pub accepts_one : (q : Queue T) (m : Mark) (q' : Queue T) → Moved q m q' → q'.accepted ≤ q.accepted + 1
-  accepts_one q m q' h = omega (arith, h.accepted, most m) where
-    most : (m : Mark) → brought_in m ≤ 1
-    most mark.Append = omega arith
-    most mark.Replace = omega arith
-    most m = omega arith
-
   -- those that were there and came in are those that are there and went out
   pub balance_moved : (q : Queue T) (m : Mark) (q' : Queue T) → Moved q m q' → IsBalanced q → IsBalanced q'
       → length q'.items + taken_out m ≡ length q.items + brought_in m

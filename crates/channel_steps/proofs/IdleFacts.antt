@@ -4,7 +4,7 @@ use Rattle.channel_steps.proofs.Words.{Phase, trying, displaced, appended, taken
 use Rattle.concurrent_queue.specs.Queue as queue
 use Rattle.concurrent_queue.specs.declared.call.QueueAsk.TheVariants as ask
 use Rattle.channel_calls.specs.declared.stage.Aim.TheVariants as aim
-use Rattle.channel_steps.proofs.MoveFacts.{grows}
+use Rattle.channel_steps.proofs.QueueFacts.{grows}
 
 quiet_append : {T : Type 0} → (xs ys : List (Seat T)) → AllQuiet (phases xs) → AllQuiet (phases ys) → AllQuiet (phases (xs ++ ys))
 quiet_append [] ys h k = k

@@ -5,16 +5,15 @@ use Rattle.std.proofs.Common.{◌≡◌, ℕ, suc, ◌+◌, ◌^◌, ◌≤◌, 
 use Rattle.channel_steps.proofs.Words.{Phase, Queue, Contents, Seat, chain_after, QueueForm, kind_of, listened, Key, Channel, Effect, Moves, Parts, Roster, Listeners, listeners, with_listeners, waits, Line, Mark, Reply, Kept, Stage, Finished, counted, brought_in, taken_out, all_left, most_left, ActiveCall, Configuration, sees, does, unless_ended, Known, AllKnown, IsBalanced, OthersQuiet, wanted_at, Steps, Represents, MayHave, blocks_after, EachStep, IsRun, end_of, Next, call_begun, Entry, Party, Step}
 use Rattle.concurrent_queue.specs.Step.{FitsAt}
 use Rattle.channel_steps.specs.declared.run.Step.TheVariants as step
-pub use Rattle.channel_steps.proofs.TryFacts.{answer_marks, answered_by}
+pub use Rattle.channel_steps.proofs.QueueFacts.{answer_marks, answered_by}
 use Rattle.channel_steps.proofs.OwnFacts.{moves_on, all_see, own_known, begins_known}
 use Rattle.channel_steps.proofs.ConfigurationFacts.{known_left, known_right, known_both}
 use Rattle.channel_steps.proofs.CountFacts as count_facts
-use Rattle.channel_steps.proofs.FewFacts as few_facts
-use Rattle.channel_steps.proofs.IdleFacts as idle_facts
-use Rattle.channel_steps.proofs.LineFacts as line_facts
-use Rattle.channel_steps.proofs.LoneFacts as lone_facts
-use Rattle.channel_steps.proofs.ConfigurationFacts as configuration_facts
-use Rattle.channel_steps.proofs.LoneFacts.{lone_after}
+pub use Rattle.channel_steps.proofs.FewFacts.{few_left}
+pub use Rattle.channel_steps.proofs.IdleFacts.{hold_still}
+pub use Rattle.channel_steps.proofs.LineFacts.{fresh_waits, same_line}
+pub use Rattle.channel_steps.proofs.LoneFacts.{after_lone, lone_goes, lone_ends}
+pub use Rattle.channel_steps.proofs.ConfigurationFacts.{fits_after, none_after, blocks_begun}
 
 -- ---- runs
 
@@ -86,15 +85,6 @@ module _ {M X E : Type 0} (P : M → X → E → M → Type 0) where
 
 -- ---- configurations
 
-module _ {T : Type 0} where
-  -- the cells that a step leaves, and the calls under way, mean a queue with the blocks after it
-  pub fits_after : (blocks : List ℕ) (c d : Contents T) (q : Queue T) (ss : List (Seat T)) → FitsAt (chain_after blocks c d) d q ss
-      → FitsAt (blocks_after d.form blocks c d) d q ss
-  fits_after blocks c d q ss fits = configuration_facts.fits_after blocks c d q ss fits
-
-  pub none_after : (form : QueueForm) (blocks : List ℕ) (c d : Contents T) → MayHave form (blocks_after form blocks c d)
-  none_after form blocks c d = configuration_facts.none_after form blocks c d
-
 module _ {T W : Type 0} where
   own : (c : Channel T W) (u : ActiveCall T W) (m : Mark) (d : Channel T W) (names : List W) (at : Stage (Phase T) T W)
       → IsBalanced c.queue → Known c u
@@ -127,77 +117,21 @@ module _ {T W : Type 0} where
       let whole = known_both t.now (map (sees t.now) n.before) (now ++ map (sees t.now) n.behind) before behind in
       (subst (λ (us : List (ActiveCall T W)). AllKnown t.now us) (sym n.left) whole, on.balanced bal)
 
-  -- where a call begins, they are those before
-  pub blocks_begun : (parts : Parts T W) (parties : List (Party T W)) (s t : Configuration T W) → Represents parts parties s → t.blocks ≡ s.blocks
-      → t.blocks ≡ blocks_after parts.cells.form s.blocks parts.cells parts.cells
-  blocks_begun parts parties s t sh same = configuration_facts.blocks_begun parts parties s t sh same
-
-  -- ---- the only call under way
-
-  -- the configuration after a step of its own: the channel d, these blocks, and the call with this step, or gone where it has answered
-  abbrev pub after_lone : Configuration T W → ActiveCall T W → Stage (Phase T) T W → Mark → Option (Reply T) → List ℕ → Channel T W → Configuration T W
-  after_lone s u at m r blocks d = lone_after s u at m r blocks d
-
-  module _ (s : Configuration T W) (u : ActiveCall T W) (only : s.under_way ≡ u ∷ []) (known : Known s.now u) (bal : IsBalanced s.now.queue)
-      (m : Mark) (names : List W) (blocks : List ℕ) (d : Channel T W) (at : Stage (Phase T) T W) where
-    -- a step that does not answer, which wakes these
-    pub lone_goes : Moves s.now u.at (record { channel = d; mark = m; woken = names }) None at
-        → Steps s u.party (record { mark = m; reply = None; kept = None }) names (after_lone s u at m None blocks d)
-    lone_goes moves = lone_facts.lone_goes s u only known bal m names blocks d at moves
-
-    -- one that answers, and leaves this to its operation
-    pub lone_ends : (y : Reply T) (left : Kept T) → ((kept : Kept T) → at ≡ Finished kept → left ≡ kept)
-        → Moves s.now u.at (record { channel = d; mark = m; woken = names }) (Some y) at
-        → Steps s u.party (record { mark = m; reply = Some y; kept = Some left }) names (after_lone s u at m (Some y) blocks d)
-    lone_ends y left same moves = lone_facts.lone_ends s u only known bal m names blocks d at y left same moves
-
   -- ---- the number of messages
 
-  -- a step accepts one at most
-  pub accepts_one : (s : Configuration T W) (p : ℕ) (e : Entry T) (names : List W) (t : Configuration T W) → Steps s p e names t
-      → t.now.queue.accepted ≤ s.now.queue.accepted + 1
-  accepts_one s p e names t n =
-      count_facts.accepts_one s.now.queue e.mark t.now.queue
-      (count_facts.moved_by s.now n.mine.at (record { channel = t.now; mark = e.mark; woken = names }) e.reply
-      n.at_now n.moves)
+  moved_by : (s : Configuration T W) (p : ℕ) (e : Entry T) (names : List W) (t : Configuration T W) → Steps s p e names t → count_facts.Moved s.now.queue e.mark t.now.queue
+  moved_by s p e names t n = count_facts.moved_by s.now n.mine.at (record { channel = t.now; mark = e.mark; woken = names }) e.reply n.at_now n.moves
 
   -- those after a step are counted by its mark
   pub messages_counted : (s : Configuration T W) (p : ℕ) (e : Entry T) (names : List W) (t : Configuration T W) → Steps s p e names t
       → IsBalanced s.now.queue → IsBalanced t.now.queue → s.now.queue.accepted < 2 ^ 62
       → counted (length s.now.queue.items) e.mark ≡ length t.now.queue.items
   messages_counted s p e names t n a b low =
-      count_facts.messages_counted s.now.queue e.mark t.now.queue
-      (count_facts.moved_by s.now n.mine.at (record { channel = t.now; mark = e.mark; woken = names }) e.reply n.at_now
-      n.moves) a b low
+      count_facts.messages_counted s.now.queue e.mark t.now.queue (moved_by s p e names t n) a b low
 
   -- and those that were there and came in are those that are there and went out
   pub messages_moved : (s : Configuration T W) (p : ℕ) (e : Entry T) (names : List W) (t : Configuration T W) → Steps s p e names t
       → IsBalanced s.now.queue → IsBalanced t.now.queue
       → length t.now.queue.items + taken_out e.mark ≡ length s.now.queue.items + brought_in e.mark
   messages_moved s p e names t n a b =
-      count_facts.balance_moved s.now.queue e.mark t.now.queue
-      (count_facts.moved_by s.now n.mine.at (record { channel = t.now; mark = e.mark; woken = names }) e.reply n.at_now
-      n.moves) a b
-
-  -- ---- how many steps are left
-
-  -- no call under way has more than these where the others are quiet
-  pub few_left : (parts : Parts T W) (parties : List (Party T W)) (s : Configuration T W) → Represents parts parties s
-      → (k n : ℕ) → slice_get (all_left parts parties) k ≡ Some n → n ≤ most_left (wanted_at k s.under_way)
-  few_left parts parties s sh k n there = few_facts.few_left parts parties s sh k n there
-
-  -- where the others of a call are quiet, they are still so after a step of its own
-  pub hold_still : (s : Configuration T W) (p : ℕ) (e : Entry T) (names : List W) (t : Configuration T W) (n : Steps s p e names t)
-      → OthersQuiet s.now (n.before ++ n.behind) → OthersQuiet t.now (map (sees t.now) n.before ++ map (sees t.now) n.behind)
-  hold_still s p e names t n hold = idle_facts.hold_still s p e names t n hold
-
-module _ {W : Type 0} where
-  -- ---- lines
-
-  -- a listener under a key that was not listed waits
-  pub fresh_waits : (key : Key) (l : Listeners W) → kind_of l key ≡ None → waits key (listened key l) ≡ true
-  fresh_waits key l none = line_facts.fresh_waits key l none
-
-  -- a line is as it was set
-  pub same_line : (line : Line) (l : Listeners W) (a : Roster W) → listeners line (with_listeners line l a) ≡ l
-  same_line line l a = line_facts.same_line line l a
+      count_facts.balance_moved s.now.queue e.mark t.now.queue (moved_by s p e names t n) a b

@@ -14,6 +14,7 @@ use Rattle.channel_calls.specs.declared.stage.Aim.TheVariants as aim
 use Rattle.channel_calls.specs.declared.stage.Making.TheVariants as making
 use Rattle.channel_calls.specs.declared.stage.Waiting.TheVariants as waiting
 use Rattle.channel_steps.proofs.LineFacts.{fresh_waits, same_line}
+use Rattle.channel_steps.proofs.StageFacts.{phase_try, phase_work, phase_end}
 
 -- ---- the steps that are left
 
@@ -30,9 +31,7 @@ few_or false n i j h k = k
 
 few_to_tell : (line : Line) → left_to_tell line ≤ 5
 few_to_tell Sends = omega arith
-few_to_tell Receives = omega arith
-few_to_tell Streams = omega arith
-few_to_tell Closings = omega arith
+few_to_tell line = omega arith
 
 -- how many more messages a call may take after the next one
 abbrev pub wanted_after : {T W : Type 0} → Aim T W → ℕ
@@ -103,22 +102,15 @@ module _ {T W : Type 0} (a : Roster W) where
       (register_or_try (waits key (listeners (line_of w) a)))
 
   sent_left : (x : QueueReply T) → left_to_turn a (let t : Turn T W = sent_next x in t) ≤ 3
-  sent_left (answer.Push (Ok u)) = omega arith
   sent_left (answer.Push (Err (push_error.Full m))) = omega arith
-  sent_left (answer.Push (Err (push_error.Closed m))) = omega arith
-  sent_left (answer.Push (Err (push_error.NoMemory m))) = omega arith
   sent_left x = omega arith
 
   forced_left : (x : QueueReply T) → left_to_turn a (let t : Turn T W = forced_next x in t) ≤ 3
-  forced_left (answer.Force (Ok d)) = omega arith
   forced_left (answer.Force (Err (force_error.Closed m))) = omega arith
-  forced_left (answer.Force (Err (force_error.NoMemory m))) = omega arith
   forced_left x = omega arith
 
   received_left : (x : QueueReply T) → left_to_turn a (let t : Turn T W = received_next x in t) ≤ 2
-  received_left (answer.Pop (Ok m)) = omega arith
   received_left (answer.Pop (Err pop_error.Empty)) = omega arith
-  received_left (answer.Pop (Err pop_error.Closed)) = omega arith
   received_left x = omega arith
 
   gathered_left : (vs : List T) (k : ℕ) → left_to_turn a (let t : Turn T W = gathered_next (with_last vs k) in t) ≤ 2 + one_try * k
@@ -176,18 +168,14 @@ module _ {T W : Type 0} (a : Roster W) where
 
   asked_left : (x : QueueReply T) → left_to_turn a (let t : Turn T W = asked_next x in t) ≤ 0
   asked_left (answer.Flag b) = omega arith
-  asked_left (answer.Count n) = omega arith
-  asked_left (answer.Cap c) = omega arith
   asked_left x = omega arith
 
   terminated_left : (x : QueueReply T) → left_to_turn a (let t : Turn T W = terminated_next x in t) ≤ one_try
   terminated_left (answer.Flag true) = omega arith
-  terminated_left (answer.Flag false) = omega arith
   terminated_left x = omega arith
 
   upgraded_left : (x : QueueReply T) (side : Side) → left_to_turn a (let t : Turn T W = upgraded_next x side in t) ≤ 2
   upgraded_left (answer.Flag true) side = omega arith
-  upgraded_left (answer.Flag false) side = omega arith
   upgraded_left x side = omega arith
 
   pub answered_left : (x : Aim T W) (y : QueueReply T) → left_to_turn a (answered_next x y) ≤ left_after_try a x
@@ -203,7 +191,7 @@ module _ {T W : Type 0} (a : Roster W) where
 
 -- ---- after a step on a list or a count
 
-raised_now : (n : ℕ) → nat_lt most n ≡ false → ((n == n) && nat_lt n (2 ^ 64 - 1)) ≡ true
+pub raised_now : (n : ℕ) → nat_lt most n ≡ false → ((n == n) && nat_lt n (2 ^ 64 - 1)) ≡ true
 raised_now n e = grind (arith, nat_tests)
 
 module _ {T W : Type 0} where
@@ -301,41 +289,22 @@ module _ {T W : Type 0} where
   -- ---- a step of a call, beside others that are quiet
 
   -- a turn that was taken leaves no more than it says
-  taken_left : (c : Contents T) (a : Roster W) (q : Queue T) (f : Phase T) (l r : List (Seat T)) (turn : Turn T W) (x : Option (Reply T)) (s : Stage (QueueCall T) T W)
-      → Fits c q (l ++ (seats f s ++ r)) → IsTaken turn x s → steps_left c a s ≤ left_to_turn a turn
-  taken_left c a q f l r (Tries y aim) x (Trying call z) fits (call', starts, none, same) =
-      let aims : left_after_try a z ≡ left_after_try a aim = ap (λ (w : Aim T W). left_after_try a w) (same_aim call call' z aim same) in
-      let h = ranks c q f call l r fits in
-      omega (arith, h, aims)
-    where
-      same_aim : (u v : QueueCall T) (y z : Aim T W) → (let s : Stage (QueueCall T) T W = Trying u y in s) ≡ Trying v z → y ≡ z
-      same_aim u v y z e = cc e
-  taken_left c a q f l r (Tries y aim) x (Working w) fits (call', starts, none, same) =
-      absurd (let no : (let s : Stage (QueueCall T) T W = Working w in s) ≡ Trying call' aim = same in cc)
-  taken_left c a q f l r (Tries y aim) x (Finished kept) fits taken = omega arith
-  taken_left c a q f l r (Works w) x s fits (none, same) = subst (λ (z : Stage (QueueCall T) T W). steps_left c a z ≤ left_to_work a w) (sym same) (omega arith)
-  taken_left c a q f l r (Ends y kept) x s fits (some, same) = subst (λ (z : Stage (QueueCall T) T W). steps_left c a z ≤ 0) (sym same) (omega arith)
+  module _ (c : Contents T) (a : Roster W) (q : Queue T) (f : Phase T) (l r : List (Seat T)) where
+    tries_left : (call : QueueCall T) (aim : Aim T W) (s : Stage (QueueCall T) T W) → s ≡ Trying call aim → Fits c q (l ++ (seats f s ++ r))
+        → steps_left c a s ≤ one_try + left_after_try a aim
+    tries_left call aim s same =
+        subst (λ (z : Stage (QueueCall T) T W). Fits c q (l ++ (seats f z ++ r)) → steps_left c a z ≤ one_try + left_after_try a aim) (sym same)
+        (λ fits. let h = ranks c q f call l r fits in omega (arith, h))
 
-  turned_left : (c : Contents T) (a : Roster W) (q : Queue T) (f : Phase T) (l r : List (Seat T)) (turn : Turn T W) (x : Option (Reply T)) (s : Stage (QueueCall T) T W)
-      → Fits c q (l ++ (seats f s ++ r)) → Turned turn x (phase f s) → steps_left c a s ≤ left_to_turn a turn
-  turned_left c a q f l r (Tries y aim) x (Trying call z) fits (none, same) =
-      let aims : left_after_try a z ≡ left_after_try a aim = ap (λ (w : Aim T W). left_after_try a w) (same_aim f (asked y) z aim same) in
-      let h = ranks c q f call l r fits in
-      omega (arith, h, aims)
-    where
-      same_aim : (u v : Phase T) (y z : Aim T W) → (let s : Stage (Phase T) T W = Trying u y in s) ≡ Trying v z → y ≡ z
-      same_aim u v y z e = cc e
-  turned_left c a q f l r (Tries y aim) x (Working w) fits (none, same) =
-      absurd (let no : (let s : Stage (Phase T) T W = Working w in s) ≡ Trying (asked y) aim = same in cc)
-  turned_left c a q f l r (Works w) x (Trying call z) fits (none, same) =
-      absurd (let no : (let s : Stage (Phase T) T W = Trying f z in s) ≡ Working w = same in cc)
-  turned_left c a q f l r (Works w) x (Working v) fits (none, same) =
-      let e : v ≡ w = cc same in subst (λ (z : Work T W). left_to_work a z ≤ left_to_work a w) (sym e) (omega arith)
-  turned_left c a q f l r (Ends y kept) x (Trying call z) fits (some, same) =
-      absurd (let no : (let s : Stage (Phase T) T W = Trying f z in s) ≡ Finished kept = same in cc)
-  turned_left c a q f l r (Ends y kept) x (Working v) fits (some, same) =
-      absurd (let no : (let s : Stage (Phase T) T W = Working v in s) ≡ Finished kept = same in cc)
-  turned_left c a q f l r w x y fits turned = omega arith
+    taken_left : (turn : Turn T W) (x : Option (Reply T)) (s : Stage (QueueCall T) T W) → Fits c q (l ++ (seats f s ++ r)) → IsTaken turn x s → steps_left c a s ≤ left_to_turn a turn
+    taken_left (Tries y aim) x s fits (call, starts, none, same) = tries_left call aim s same fits
+    taken_left (Works w) x s fits (none, same) = subst (λ (z : Stage (QueueCall T) T W). steps_left c a z ≤ left_to_work a w) (sym same) (omega arith)
+    taken_left (Ends y kept) x s fits (some, same) = subst (λ (z : Stage (QueueCall T) T W). steps_left c a z ≤ 0) (sym same) (omega arith)
+
+    turned_left : (turn : Turn T W) (x : Option (Reply T)) (s : Stage (QueueCall T) T W) → Fits c q (l ++ (seats f s ++ r)) → Turned turn x (phase f s) → steps_left c a s ≤ left_to_turn a turn
+    turned_left (Tries y aim) x s fits (none, same) = let t = phase_try f (asked y) aim s same in tries_left t.0 aim s t.1 fits
+    turned_left (Works w) x s fits (none, same) = subst (λ (z : Stage (QueueCall T) T W). steps_left c a z ≤ left_to_work a w) (sym (phase_work f w s same)) (omega arith)
+    turned_left (Ends y kept) x s fits (some, same) = subst (λ (z : Stage (QueueCall T) T W). steps_left c a z ≤ 0) (sym (phase_end f kept s same)) (omega arith)
 
   -- one that has not answered
   abbrev pub IsAtWork : Stage (QueueCall T) T W → Type 0

@@ -1,4 +1,7 @@
 mod Words
+pub mod StageFacts
+pub mod SuitFacts
+pub mod QueueFacts
 pub mod TryFacts
 pub mod TurnFacts
 pub mod AnswerFacts

@@ -34,6 +34,4 @@ module _ {W : Type 0} where
 
   pub same_line : (line : Line) (l : Listeners W) (a : Roster W) → listeners line (with_listeners line l a) ≡ l
   same_line Sends l a = refl
-  same_line Receives l a = refl
-  same_line Streams l a = refl
-  same_line Closings l a = refl
+  same_line line l a = refl

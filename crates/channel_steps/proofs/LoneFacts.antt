@@ -5,8 +5,8 @@ use Rattle.channel_steps.proofs.OwnFacts.{names_of, moves_held, own_finishes, ow
 
 module _ {T W : Type 0} where
   -- the configuration after a step of the call u, which leaves these blocks, where no other is under way
-  abbrev pub lone_after : Configuration T W → ActiveCall T W → Stage (Phase T) T W → Mark → Option (Reply T) → List ℕ → Channel T W → Configuration T W
-  lone_after s u at m r blocks d =
+  abbrev pub after_lone : Configuration T W → ActiveCall T W → Stage (Phase T) T W → Mark → Option (Reply T) → List ℕ → Channel T W → Configuration T W
+  after_lone s u at m r blocks d =
       record {
         now = d;
         blocks = blocks;
@@ -21,7 +21,7 @@ module _ {T W : Type 0} where
     effect = record { channel = d; mark = m; woken = names }
 
     lone : (r : Option (Reply T)) (left : Option (Kept T)) → MayFinish (does u at m s.now d) r left → Moves s.now u.at effect r at
-        → Steps s u.party (record { mark = m; reply = r; kept = left }) names (lone_after s u at m r blocks d)
+        → Steps s u.party (record { mark = m; reply = r; kept = left }) names (after_lone s u at m r blocks d)
     lone r left ends moves =
         record {
           before = [];
@@ -42,11 +42,11 @@ module _ {T W : Type 0} where
 
     -- one that does not answer
     pub lone_goes : Moves s.now u.at effect None at
-        → Steps s u.party (record { mark = m; reply = None; kept = None }) names (lone_after s u at m None blocks d)
+        → Steps s u.party (record { mark = m; reply = None; kept = None }) names (after_lone s u at m None blocks d)
     lone_goes moves = lone None None refl moves
 
     -- one that answers, and leaves this to its operation
     pub lone_ends : (y : Reply T) (left : Kept T) → ((kept : Kept T) → at ≡ Finished kept → left ≡ kept)
         → Moves s.now u.at effect (Some y) at
-        → Steps s u.party (record { mark = m; reply = Some y; kept = Some left }) names (lone_after s u at m (Some y) blocks d)
+        → Steps s u.party (record { mark = m; reply = Some y; kept = Some left }) names (after_lone s u at m (Some y) blocks d)
     lone_ends y left same moves = lone (Some y) (Some left) (own_finishes s.now u bal known m d names at y left same moves) moves

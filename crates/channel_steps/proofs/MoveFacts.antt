@@ -1,50 +1,38 @@
 -- What every step of a call leaves as it is, and where it ends.
-use Rattle.std.proofs.Common.{◌≡◌, ℕ, suc, ◌+◌, ◌≤◌, [], Bool, true, false, if◌then◌else◌, Option, None, Some, ◌⊎◌, inl, inr, refl, sym, ap, ◌∙◌, subst, arith}
-use Rattle.channel_steps.proofs.Words.{Queue, Phase, after, IsInRange, QueueMark, Nothing, QueueCall, Reply, Held, Kept, Side, Senders, Receivers, Mark, Stage, Trying, Working, Finished, Turn, Tries, Works, Ends, Work, TellReceive, TellStreams, TellSend, TellSends, TakeRoom, TellAll, Insert, Register, Leave, Lower, Count, Load, Raise, kept_by, up, down, listeners, count, is_raised, waits, line_of, leaving, nothing_kept, ends_by, again, pends_by, unlistened, told_all_next, room_next, roomless, lowered_next, loaded_next, raised_next, Channel, Effect, untouched, on_count, leaves, Turned, Worked, Moves, seats, phase, HasRange}
+use Rattle.std.proofs.Common.{◌≡◌, List, ℕ, suc, ◌+◌, ◌≤◌, [], Bool, true, false, if◌then◌else◌, Option, None, Some, ◌⊎◌, inl, inr, refl, sym, ap, ◌∙◌, subst, arith}
+use Rattle.channel_steps.proofs.Words.{Queue, Phase, after, IsInRange, QueueMark, Nothing, QueueCall, Reply, Held, Kept, Side, Senders, Receivers, Mark, Stage, Trying, Working, Finished, Turn, Tries, Works, Ends, Work, TellReceive, TellStreams, TellSend, TellSends, TakeRoom, TellAll, Insert, Register, Leave, Lower, Count, Load, Raise, kept_by, up, down, listeners, count, is_raised, waits, line_of, leaving, nothing_kept, ends_by, again, pends_by, unlistened, told_all_next, room_next, roomless, lowered_next, loaded_next, raised_next, Channel, Effect, untouched, on_count, leaves, Turned, Worked, Moves, seats, phase, HasRange, ChannelAsk, gone_by, came_by}
 use Rattle.channel_calls.specs.declared.mark.Mark.TheVariants as mark
 use Rattle.channel_calls.specs.declared.reply.Reply.TheVariants as reply
+use Rattle.channel_steps.specs.every_run.Ends.{IsStill}
+use Rattle.channel_steps.proofs.LeftFacts.{work_lessens}
+use Rattle.channel_steps.proofs.StageFacts.{phase_end}
 
--- a mark of no queue
-abbrev pub IsOther : Mark → Type 0
-IsOther mark.Nothing = Unit {0}
-IsOther mark.SenderUp = Unit {0}
-IsOther mark.SenderDown = Unit {0}
-IsOther mark.ReceiverUp = Unit {0}
-IsOther mark.ReceiverDown = Unit {0}
-IsOther m = ⊥
-
-other_up : (side : Side) → IsOther (up side)
+other_up : (side : Side) → IsStill (up side)
 other_up Senders = tt
 other_up Receivers = tt
 
-other_down : (side : Side) → IsOther (down side)
+other_down : (side : Side) → IsStill (down side)
 other_down Senders = tt
 other_down Receivers = tt
 
+-- ---- marks that leave the queue as it is
+
 module _ {T : Type 0} where
-  -- ---- the queue's bounds
-
-  abbrev pub Grows : Queue T → Queue T → Type 0
-  Grows q q' = (q'.capacity ≡ q.capacity) × (q'.accepted ≤ q.accepted + 1) × (q.removed ≤ q'.removed)
-
-  stays : (q q' : Queue T) → q' ≡ q → Grows q q'
-  stays q q' e = (
-    ap (λ (x : Queue T). x.capacity) e,
-    (let a : q'.accepted ≡ q.accepted = ap (λ (x : Queue T). x.accepted) e in omega arith),
-    (let r : q'.removed ≡ q.removed = ap (λ (x : Queue T). x.removed) e in omega arith),
-  )
-
-  marked_grows : (f : Phase T) (m : QueueMark) (q : Queue T) → Grows q (after f m q)
-  marked_grows f Nothing q = (refl, omega arith, omega arith)
-  marked_grows f m q = (refl, omega arith, omega arith)
+  pub nothing_gone : (m : Mark) (items : List T) → IsStill m → gone_by m items ≡ []
+  nothing_gone mark.Take items h = absurd h
+  nothing_gone mark.TakeDisplaced items h = absurd h
+  nothing_gone mark.Replace items h = absurd h
+  nothing_gone m items h = refl
 
 module _ {T W : Type 0} where
-  queue_of : (e e' : Effect T W) → e ≡ e' → e.channel.queue ≡ e'.channel.queue
-  queue_of e e' same = ap (λ (x : Effect T W). x.channel.queue) same
+  pub nothing_came : (m : Mark) (x : ChannelAsk T W) → IsStill m → came_by m x ≡ []
+  nothing_came mark.Append x h = absurd h
+  nothing_came mark.Replace x h = absurd h
+  nothing_came m x h = refl
 
   -- a step on a list or a count leaves the queue as it is, and has no mark but of a count
   abbrev pub Spares : Channel T W → Effect T W → Type 0
-  Spares c e = (e.channel.queue ≡ c.queue) × IsOther e.mark
+  Spares c e = (e.channel.queue ≡ c.queue) × IsStill e.mark
 
   spares_as : (c : Channel T W) (e e' : Effect T W) → e ≡ e' → Spares c e' → Spares c e
   spares_as c e e' same h = subst (λ (x : Effect T W). Spares c x) (sym same) h
@@ -65,12 +53,6 @@ module _ {T W : Type 0} where
   worked_spares c (Raise side n making) e r s h = spares_as c e _ h.0 (raises_spares (is_raised side n c.roster) side n c)
   worked_spares c w e r s h = spares_as c e _ h.0 (refl, tt)
 
-  pub grows : (c : Channel T W) (at : Stage (Phase T) T W) (e : Effect T W) (r : Option (Reply T)) (s : Stage (Phase T) T W) → Moves c at e r s → Grows c.queue e.channel.queue
-  grows c (Trying f aim) e r s h =
-      subst (λ (q : Queue T). Grows c.queue q) (sym (queue_of e _ h.effect)) (marked_grows f h.mark c.queue)
-  grows c (Working w) e r s h = (let k = worked_spares c w e r s h in stays c.queue e.channel.queue k.0)
-  grows c (Finished kept) e r s h = stays c.queue e.channel.queue (queue_of e _ h.0)
-
   -- ---- where a call ends
 
   turned_ends : (turn : Turn T W) (y : Reply T) (s : Stage (Phase T) T W) → Turned turn (Some y) s → (kept : Kept T) × (s ≡ Finished kept)
@@ -79,21 +61,7 @@ module _ {T W : Type 0} where
   turned_ends (Ends x kept) y s h = (kept, h.1)
 
   worked_ends : (c : Channel T W) (w : Work T W) (e : Effect T W) (y : Reply T) (s : Stage (Phase T) T W) → Worked c w e (Some y) s → (kept : Kept T) × (s ≡ Finished kept)
-  worked_ends c (TellReceive x) e y s h = turned_ends (Works (TellStreams x)) y s h.1
-  worked_ends c (TellStreams x) e y s h = turned_ends (ends_by x) y s h.1
-  worked_ends c (TellSend x) e y s h = turned_ends (ends_by x) y s h.1
-  worked_ends c (TellSends n x) e y s h = turned_ends (ends_by x) y s h.1
-  worked_ends c (TakeRoom n) e y s (h, inl t) = turned_ends (room_next n) y s t
-  worked_ends c (TakeRoom n) e y s (h, inr t) = turned_ends roomless y s t.1
-  worked_ends c (TellAll line closer) e y s h = turned_ends (told_all_next line closer) y s h.1
-  worked_ends c (Insert w task) e y s (inl h) = turned_ends (again w (Some h.0) task) y s h.3
-  worked_ends c (Insert w task) e y s (inr h) = turned_ends (unlistened w h.0) y s h.2
-  worked_ends c (Register w key task) e y s h = turned_ends (if waits key (listeners (line_of w) c.roster) then pends_by w key else again w None task) y s h.1
-  worked_ends c (Leave x) e y s h = turned_ends (Ends x.reply (leaving None x.message)) y s h.1
-  worked_ends c (Lower side key) e y s h = turned_ends (lowered_next side key (count side c.roster)) y s h.1
-  worked_ends c (Count side) e y s h = turned_ends (Ends (reply.Count (count side c.roster)) nothing_kept) y s h.1
-  worked_ends c (Load side making) e y s h = turned_ends (loaded_next side making (count side c.roster)) y s h.1
-  worked_ends c (Raise side n making) e y s h = turned_ends (raised_next side making (is_raised side n c.roster)) y s h.1
+  worked_ends c w e y s h = let b = work_lessens c e (Some y) s w h in turned_ends b.turn y s b.turned
 
   tried_ends : (a b : Type 0) (y : Reply T) (s : Stage (Phase T) T W) → (a → (kept : Kept T) × (s ≡ Finished kept)) → (b → (kept : Kept T) × (s ≡ Finished kept)) → a ⊎ b → (kept : Kept T) × (s ≡ Finished kept)
   tried_ends a b y s f g (inl h) = f h
@@ -105,19 +73,12 @@ module _ {T W : Type 0} where
   moves_end c (Working w) e y s h = worked_ends c w e y s h
   moves_end c (Finished kept) e y s h = absurd (let no : Some y ≡ None = h.1 in cc)
 
-  no_seats : (f : Phase T) (s : Stage (QueueCall T) T W) (kept : Kept T) → phase f s ≡ Finished kept → seats f s ≡ []
-  no_seats f (Trying call aim) kept e = absurd (let no : (let x : Stage (Phase T) T W = Trying f aim in x) ≡ Finished kept = e in cc)
-  no_seats f (Working w) kept e = refl
-  no_seats f (Finished k) kept e = refl
-
   pub kept_at : (f : Phase T) (s : Stage (QueueCall T) T W) (kept : Kept T) → phase f s ≡ Finished kept → kept_by s ≡ kept
-  kept_at f (Trying call aim) kept e = absurd (let no : (let x : Stage (Phase T) T W = Trying f aim in x) ≡ Finished kept = e in cc)
-  kept_at f (Working w) kept e = absurd (let no : (let x : Stage (Phase T) T W = Working w in x) ≡ Finished kept = e in cc)
-  kept_at f (Finished k) kept e = (let same : (let x : Stage (Phase T) T W = Finished k in x) ≡ Finished kept = e in cc)
+  kept_at f s kept e = ap (λ (z : Stage (QueueCall T) T W). kept_by z) (phase_end f kept s e)
 
   -- a call that has answered has no call of the queue under way
   pub answered_alone : (c : Channel T W) (at : Stage (Phase T) T W) (e : Effect T W) (y : Reply T) (f : Phase T) (s : Stage (QueueCall T) T W) → Moves c at e (Some y) (phase f s) → seats f s ≡ []
-  answered_alone c at e y f s h = let k = moves_end c at e y (phase f s) h in no_seats f s k.0 k.1
+  answered_alone c at e y f s h = let k = moves_end c at e y (phase f s) h in ap (λ (z : Stage (QueueCall T) T W). seats f z) (phase_end f k.0 s k.1)
 
 module _ {T : Type 0} where
   pub in_range : (n : ℕ) (q : Queue T) → HasRange n q → IsInRange q

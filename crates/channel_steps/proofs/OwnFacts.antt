@@ -9,8 +9,11 @@ use Rattle.channel_calls.specs.declared.mark.Mark.TheVariants as mark
 use Rattle.channel_calls.specs.declared.stage.Aim.TheVariants as aim
 use Rattle.channel_calls.specs.declared.stage.Closer.TheVariants as closer
 use Rattle.channel_calls.specs.declared.stage.Waiting.TheVariants as waiting
-use Rattle.channel_steps.proofs.MoveFacts.{IsOther, worked_spares}
-use Rattle.channel_steps.proofs.TryFacts.{Progress, still, progress, answer_progress, next_channel, goes_at, IsClosing, tries_more, tries_stay}
+use Rattle.channel_steps.specs.every_run.Ends.{IsStill}
+use Rattle.channel_steps.proofs.MoveFacts.{nothing_gone, nothing_came, worked_spares}
+use Rattle.channel_steps.proofs.QueueFacts.{moves_by}
+use Rattle.channel_steps.proofs.TryFacts.{Progress, still, progress, next_channel, goes_at, tries_stay}
+use Rattle.channel_steps.proofs.SuitFacts.{IsClosing, brings_own, tries_more}
 use Rattle.channel_steps.proofs.TurnFacts.{TurnAt, After, turned_at}
 use Rattle.channel_steps.proofs.AnswerFacts.{answered}
 use Rattle.channel_steps.proofs.WorkFacts.{work_more, worked}
@@ -35,7 +38,7 @@ module _ {T W : Type 0} where
         let d : Channel T W = next_channel f.ask f.stage m c in
         let es : List (MarkedMoment T W) = with_marked ds (mark_of_queue m) c seen in (
           subst (λ (a : QueueAsk T). TriesFor x y a es (d ∷ seen) × TriesAt d y a f'.stage es (d ∷ seen)) (sym g.0)
-              (tries_more d ds es seen x y f.ask (λ h. absurd (never_closes c.queue f.ask m f.stage f'.stage g.1 h)) tf, goes_at c seen y f.ask m f.stage f'.stage ds g.1 bal ta),
+              (tries_more x y ds seen f.ask d es (λ h. absurd (never_closes c.queue f.ask m f.stage f'.stage g.1 h)) tf, goes_at c seen y f.ask m f.stage f'.stage ds g.1 bal ta),
           refl,
         )
 
@@ -66,19 +69,9 @@ module _ {T W : Type 0} where
 
   -- ---- how it changes the queue
 
-  tried_on : (c : Channel T W) (f : Phase T) (m : QueueMark) (y : Aim T W) (r : Option (Reply T)) (s : Stage (Phase T) T W)
-      → ((f' : Phase T) × Continues c.queue f m f' × (r ≡ None) × (s ≡ Trying f' y)) ⊎ ((z : QueueReply T) × Answers c.queue f m z × Turned (answered_next y z) r s)
-      → Progress c.queue (after f m c.queue)
-  tried_on c f m y r s (inl h) = progress c.queue f.ask m f.stage h.0.stage h.1.1
-  tried_on c f m y r s (inr h) = answer_progress c.queue f.ask m h.0 f.stage h.1
-
-  same_queue : (c d : Channel T W) → d.queue ≡ c.queue → Progress c.queue d.queue
-  same_queue c d e = subst (λ (q : Queue T). Progress c.queue q) (sym e) (still c.queue)
-
   pub moves_on : (c : Channel T W) (at : Stage (Phase T) T W) (e : Effect T W) (r : Option (Reply T)) (s : Stage (Phase T) T W) → Moves c at e r s → Progress c.queue e.channel.queue
-  moves_on c (Trying f y) e r s h = subst (λ (z : Effect T W). Progress c.queue z.channel.queue) (sym h.effect) (tried_on c f h.mark y r s h.how)
-  moves_on c (Working w) e r s h = (let spares = worked_spares c w e r s h in same_queue c e.channel spares.0)
-  moves_on c (Finished kept) e r s h = same_queue c e.channel (ap (λ (z : Effect T W). z.channel.queue) h.0)
+  moves_on c at e r s h =
+      moves_by c at (λ m q. Progress c.queue q) (λ f y m is says. progress c.queue f.ask f.stage m says) (λ m s. still c.queue) e r s h
 
   -- ---- whom it wakes
 
@@ -106,28 +99,6 @@ module _ {T W : Type 0} where
 
   -- ---- what it takes and brings
 
-  brings_own : (x : ChannelAsk T W) (y : Aim T W) (a : QueueAsk T) (ds : List (MarkedMoment T W)) (seen : List (Channel T W)) → TriesFor x y a ds seen → message a ≡ brought x
-  brings_own (channel.TrySend m) aim.TrySend (ask.Push v) ds seen h = ap (λ (z : T). z ∷ []) h
-  brings_own (channel.ForceSend m) aim.ForceSend (ask.ForcePush v) ds seen h = ap (λ (z : T). z ∷ []) h
-  brings_own (channel.PollSend m k t) (aim.Poll Sends key task) (ask.Push v) ds seen h = ap (λ (z : T). z ∷ []) h
-  brings_own channel.TryRecv aim.TryRecv ask.Pop ds seen h = refl
-  brings_own (channel.RecvMany n) (aim.RecvMany g) ask.Pop ds seen h = refl
-  brings_own channel.Close (aim.Close closer.Call) ask.Close ds seen h = refl
-  brings_own (channel.PollRecv k t) (aim.Poll Receives key task) ask.Pop ds seen h = refl
-  brings_own (channel.PollClosed k t) (aim.Poll Closings key task) ask.IsClosed ds seen h = refl
-  brings_own (channel.PollNext k t) (aim.Poll Streams key task) ask.Pop ds seen h = refl
-  brings_own channel.DropSender (aim.Close closer.Sender) ask.Close ds seen h = refl
-  brings_own (channel.DropReceiver k) (aim.Close (closer.Receiver key)) ask.Close ds seen h = refl
-  brings_own (channel.Upgrade side) (aim.Upgrade s) ask.IsClosed ds seen h = refl
-  brings_own channel.IsClosed aim.Ask ask.IsClosed ds seen h = refl
-  brings_own channel.IsEmpty aim.Ask ask.IsEmpty ds seen h = refl
-  brings_own channel.IsFull aim.Ask ask.IsFull ds seen h = refl
-  brings_own channel.Len aim.Ask ask.Len ds seen h = refl
-  brings_own channel.Capacity aim.Ask ask.Capacity ds seen h = refl
-  brings_own channel.IsTerminated aim.IsTerminated ask.IsClosed ds seen h = refl
-  brings_own channel.IsTerminated aim.Ask ask.IsEmpty ds seen h = refl
-  brings_own x y a ds seen h = absurd h
-
   -- what leaves and what stays is what was there and what came
   abbrev pub Held_by : Mark → ChannelAsk T W → List T → List T → Type 0
   Held_by m x items items' = gone_by m items ++ items' ≡ items ++ came_by m x
@@ -141,18 +112,15 @@ module _ {T W : Type 0} where
       sym (append_assoc (take 1 q.items) (drop 1 q.items) (message f.ask)) ∙ (ap (λ (vs : List T). vs ++ message f.ask) (split_first q.items) ∙ ap (λ (vs : List T). q.items ++ vs) e)
   queue_held x f queue_mark.Close q e = sym (append-nil q.items)
 
-  other_held : (m : Mark) (x : ChannelAsk T W) (items items' : List T) → IsOther m → items' ≡ items → Held_by m x items items'
-  other_held mark.Nothing x items items' h e = e ∙ sym (append-nil items)
-  other_held mark.SenderUp x items items' h e = e ∙ sym (append-nil items)
-  other_held mark.SenderDown x items items' h e = e ∙ sym (append-nil items)
-  other_held mark.ReceiverUp x items items' h e = e ∙ sym (append-nil items)
-  other_held mark.ReceiverDown x items items' h e = e ∙ sym (append-nil items)
-  other_held m x items items' h e = absurd h
+  other_held : (m : Mark) (x : ChannelAsk T W) (items items' : List T) → IsStill m → items' ≡ items → Held_by m x items items'
+  other_held m x items items' h e =
+      ap (λ (vs : List T). vs ++ items') (nothing_gone m items h)
+      ∙ (e ∙ (sym (append-nil items) ∙ ap (λ (vs : List T). items ++ vs) (sym (nothing_came m x h))))
 
   pub moves_held : (c : Channel T W) (x : ChannelAsk T W) (at : Stage (Phase T) T W) (ds : List (MarkedMoment T W)) (seen : List (Channel T W)) (e : Effect T W) (r : Option (Reply T)) (s : Stage (Phase T) T W) → StageAt c x at ds seen → Moves c at e r s
       → Held_by e.mark x c.queue.items e.channel.queue.items
   moves_held c x (Trying f y) ds seen e r s k h =
-      subst (λ (z : Effect T W). Held_by z.mark x c.queue.items z.channel.queue.items) (sym h.effect) (queue_held x f h.mark c.queue (brings_own x y f.ask ds seen k.0))
+      subst (λ (z : Effect T W). Held_by z.mark x c.queue.items z.channel.queue.items) (sym h.effect) (queue_held x f h.mark c.queue (brings_own x y ds seen f.ask k.0))
   moves_held c x (Working w) ds seen e r s k h =
       let spares = worked_spares c w e r s h in other_held e.mark x c.queue.items e.channel.queue.items spares.1 (ap (λ (q : Queue T). q.items) spares.0)
   moves_held c x (Finished kept) ds seen e r s k h = absurd k
@@ -165,7 +133,7 @@ module _ {T W : Type 0} where
       record { older = u.seen; latest = refl; stands = stays u.at k.stands; tells = k.tells; quick = k.quick }
     where
       stays : (at : Stage (Phase T) T W) → StageAt c u.ask at u.marks u.seen → StageAt d u.ask at u.marks (d ∷ u.seen)
-      stays (Trying f y) h = (tries_more d u.marks u.marks u.seen u.ask y f.ask (λ z. refl) h.0, tries_stay c d p k.older u.seen k.latest y f.ask f.stage u.marks h.1)
+      stays (Trying f y) h = (tries_more u.ask y u.marks u.seen f.ask d u.marks (λ z. refl) h.0, tries_stay c d p k.older u.seen k.latest y f.ask f.stage u.marks h.1)
       stays (Working w) h = work_more u.ask w d u.marks u.seen h
       stays (Finished kept) h = h
 

@@ -6,18 +6,10 @@ use Rattle.concurrent_queue.specs.declared.call.QueueAsk.TheVariants as ask
 use Rattle.concurrent_queue.specs.declared.call.QueueReply.TheVariants as answer
 use Rattle.channel_calls.specs.declared.ask.ChannelAsk.TheVariants as channel
 use Rattle.channel_calls.specs.declared.stage.Aim.TheVariants as aim
+use Rattle.channel_steps.proofs.SuitFacts.{IsQuickTry, IsQuickAim, quick_try}
 use Rattle.channel_calls.specs.declared.stage.Closer.TheVariants as closer
 
 module _ {T : Type 0} where
-  -- what a quick call asks of the queue
-  abbrev pub IsQuickTry : QueueAsk T → Type 0
-  IsQuickTry ask.Close = Unit {0}
-  IsQuickTry ask.IsClosed = Unit {0}
-  IsQuickTry ask.IsEmpty = Unit {0}
-  IsQuickTry ask.IsFull = Unit {0}
-  IsQuickTry ask.Capacity = Unit {0}
-  IsQuickTry a = ⊥
-
   some_to_try : (a : QueueAsk T) (s : queue.Stage T) → 0 < left_to_try a s
   some_to_try ask.IsEmpty (read n) = omega arith
   some_to_try ask.IsFull (read n) = omega arith
@@ -61,8 +53,6 @@ module _ {T : Type 0} (W : Type 0) where
 
   asked_left : (r : QueueReply T) → left_after (let t : Turn T W = asked_next r in t) ≡ 0
   asked_left (answer.Flag b) = refl
-  asked_left (answer.Count n) = refl
-  asked_left (answer.Cap n) = refl
   asked_left r = refl
 
   closed_left : (r : QueueReply T) (y : Closer) → left_after (let t : Turn T W = closed_next r y in t) < 6
@@ -72,7 +62,6 @@ module _ {T : Type 0} (W : Type 0) where
 
   terminated_left : (r : QueueReply T) → left_after (let t : Turn T W = terminated_next r in t) < 3
   terminated_left (answer.Flag true) = omega arith
-  terminated_left (answer.Flag false) = omega arith
   terminated_left r = omega arith
 
   asked_less : (a : QueueAsk T) (s : queue.Stage T) (r : QueueReply T) → left_after (let t : Turn T W = asked_next r in t) < left_to_try a s
@@ -89,61 +78,18 @@ module _ (T W : Type 0) where
 
 some_to_tell : (line : Line) → 0 < left_to_tell line
 some_to_tell Sends = omega arith
-some_to_tell Receives = omega arith
-some_to_tell Streams = omega arith
-some_to_tell Closings = omega arith
+some_to_tell line = omega arith
 
 few_to_tell : (line : Line) → left_to_tell line ≤ 7
 few_to_tell Sends = omega arith
-few_to_tell Receives = omega arith
-few_to_tell Streams = omega arith
-few_to_tell Closings = omega arith
+few_to_tell line = omega arith
 
 module _ {T W : Type 0} where
-  quick_try : (x : ChannelAsk T W) (y : Aim T W) (a : QueueAsk T) (ds : List (MarkedMoment T W)) (seen : List (Channel T W)) → TriesFor x y a ds seen → IsQuick x → IsQuickTry a
-  quick_try channel.Close (aim.Close closer.Call) ask.Close ds seen h q = tt
-  quick_try channel.DropSender (aim.Close closer.Sender) ask.Close ds seen h q = tt
-  quick_try (channel.DropReceiver k) (aim.Close (closer.Receiver key)) ask.Close ds seen h q = tt
-  quick_try channel.IsClosed aim.Ask ask.IsClosed ds seen h q = tt
-  quick_try channel.IsEmpty aim.Ask ask.IsEmpty ds seen h q = tt
-  quick_try channel.IsFull aim.Ask ask.IsFull ds seen h q = tt
-  quick_try channel.Capacity aim.Ask ask.Capacity ds seen h q = tt
-  quick_try channel.IsTerminated aim.IsTerminated ask.IsClosed ds seen h q = tt
-  quick_try channel.IsTerminated aim.Ask ask.IsEmpty ds seen h q = tt
-  quick_try (channel.TrySend m) y a ds seen h q = absurd q
-  quick_try (channel.ForceSend m) y a ds seen h q = absurd q
-  quick_try channel.TryRecv y a ds seen h q = absurd q
-  quick_try (channel.RecvMany n) y a ds seen h q = absurd q
-  quick_try (channel.PollSend m k t) y a ds seen h q = absurd q
-  quick_try (channel.PollRecv k t) y a ds seen h q = absurd q
-  quick_try (channel.PollClosed k t) y a ds seen h q = absurd q
-  quick_try (channel.PollNext k t) y a ds seen h q = absurd q
-  quick_try (channel.Upgrade side) y a ds seen h q = absurd q
-  quick_try channel.Len y a ds seen h q = absurd q
-  quick_try x y a ds seen h q = absurd h
-
-  quick_answers : (x : ChannelAsk T W) (y : Aim T W) (a : QueueAsk T) (s : queue.Stage T) (r : QueueReply T) (ds : List (MarkedMoment T W)) (seen : List (Channel T W)) → TriesFor x y a ds seen → IsQuick x
-      → left_after (answered_next y r) < left_to_try a s
-  quick_answers channel.Close (aim.Close closer.Call) ask.Close s r ds seen h q = closed_left W r closer.Call
-  quick_answers channel.DropSender (aim.Close closer.Sender) ask.Close s r ds seen h q = closed_left W r closer.Sender
-  quick_answers (channel.DropReceiver k) (aim.Close (closer.Receiver key)) ask.Close s r ds seen h q = closed_left W r (closer.Receiver key)
-  quick_answers channel.IsClosed aim.Ask ask.IsClosed s r ds seen h q = asked_less W ask.IsClosed s r
-  quick_answers channel.IsEmpty aim.Ask ask.IsEmpty s r ds seen h q = asked_less W ask.IsEmpty s r
-  quick_answers channel.IsFull aim.Ask ask.IsFull s r ds seen h q = asked_less W ask.IsFull s r
-  quick_answers channel.Capacity aim.Ask ask.Capacity s r ds seen h q = asked_less W ask.Capacity s r
-  quick_answers channel.IsTerminated aim.IsTerminated ask.IsClosed s r ds seen h q = terminated_left W r
-  quick_answers channel.IsTerminated aim.Ask ask.IsEmpty s r ds seen h q = asked_less W ask.IsEmpty s r
-  quick_answers (channel.TrySend m) y a s r ds seen h q = absurd q
-  quick_answers (channel.ForceSend m) y a s r ds seen h q = absurd q
-  quick_answers channel.TryRecv y a s r ds seen h q = absurd q
-  quick_answers (channel.RecvMany n) y a s r ds seen h q = absurd q
-  quick_answers (channel.PollSend m k t) y a s r ds seen h q = absurd q
-  quick_answers (channel.PollRecv k t) y a s r ds seen h q = absurd q
-  quick_answers (channel.PollClosed k t) y a s r ds seen h q = absurd q
-  quick_answers (channel.PollNext k t) y a s r ds seen h q = absurd q
-  quick_answers (channel.Upgrade side) y a s r ds seen h q = absurd q
-  quick_answers channel.Len y a s r ds seen h q = absurd q
-  quick_answers x y a s r ds seen h q = absurd h
+  quick_answers : (y : Aim T W) (a : QueueAsk T) (s : queue.Stage T) (r : QueueReply T) → IsQuickAim y a → left_after (answered_next y r) < left_to_try a s
+  quick_answers (aim.Close c) ask.Close s r h = closed_left W r c
+  quick_answers aim.IsTerminated ask.IsClosed s r h = terminated_left W r
+  quick_answers aim.Ask a s r h = asked_less W a s r
+  quick_answers y a s r h = absurd h
 
   never_for : (x : ChannelAsk T W) (w : Waiting T) → IsFor x w → IsQuick x → ⊥
   never_for (channel.PollSend m k t) w h q = q
@@ -189,9 +135,9 @@ module _ {T W : Type 0} where
       by_how : ((f' : Phase T) × queue.Continues c.queue f g.mark f' × (let r : Option (Reply T) = None in r ≡ None) × (s ≡ Trying f' y)) ⊎ ((r : QueueReply T) × queue.Answers c.queue f g.mark r × Turned (answered_next y r) None s) → quick_steps_left s < left_to_try f.ask f.stage
       by_how (inl (f', goes, none, there)) =
           subst (λ (z : Stage (Phase T) T W). quick_steps_left z < left_to_try f.ask f.stage) (sym there)
-          (subst (λ (a : QueueAsk T). left_to_try a f'.stage < left_to_try f.ask f.stage) (sym goes.0) (quick_goes c.queue f.ask g.mark f.stage f'.stage (quick_try x y f.ask ds seen h.0 q) goes.1))
+          (subst (λ (a : QueueAsk T). left_to_try a f'.stage < left_to_try f.ask f.stage) (sym goes.0) (quick_goes c.queue f.ask g.mark f.stage f'.stage (quick_try x y ds seen f.ask h.0 q).0 goes.1))
       by_how (inr (r, answers, turned)) =
-          subst (λ n. n < left_to_try f.ask f.stage) (sym (turned_left (answered_next y r) s turned)) (quick_answers x y f.ask f.stage r ds seen h.0 q)
+          subst (λ n. n < left_to_try f.ask f.stage) (sym (turned_left (answered_next y r) s turned)) (quick_answers y f.ask f.stage r (quick_try x y ds seen f.ask h.0 q).1)
   quick_moves c x (Working w) e s ds seen h q g = quick_works c x w e s ds seen h q g
   quick_moves c x (Finished kept) e s ds seen h q g = absurd h
 

@@ -4,7 +4,8 @@ use Rattle.channel_steps.proofs.Words.{Queue, Phase, asked, Seat, QueueCall, Par
 use Rattle.concurrent_queue.specs.Step.{FitsAt}
 use Rattle.channel_calls.specs.declared.mark.Mark.TheVariants.{Nothing}
 use Rattle.channel_steps.specs.declared.run.Step.TheVariants as step
-use Rattle.channel_steps.proofs.MoveFacts.{grows, range_grows}
+use Rattle.channel_steps.proofs.MoveFacts.{range_grows}
+use Rattle.channel_steps.proofs.QueueFacts.{grows}
 use Rattle.channel_steps.proofs.OwnFacts.{begins_known}
 use Rattle.channel_steps.proofs.ConfigurationFacts.{map-round, seats_append, party_of, known_both}
 

@@ -9,6 +9,7 @@ use Rattle.channel_calls.specs.declared.ask.ChannelAsk.TheVariants as channel
 use Rattle.channel_calls.specs.declared.stage.Aim.TheVariants as aim
 use Rattle.channel_calls.specs.declared.stage.Closer.TheVariants as closer
 use Rattle.channel_steps.specs.Moments.{Unbounded}
+use Rattle.channel_steps.proofs.QueueFacts.{Says, one_fewer}
 use Rattle.channel_calls.specs.declared.mark.Mark.TheVariants as mark
 
 pub eq_of : (m n : ℕ) → (m == n) ≡ true → m ≡ n
@@ -45,8 +46,7 @@ module _ {T : Type 0} where
         record {
           capacity = refl;
           grew = inl refl;
-          balanced = λ h. (let n : length q.items ≡ length (v ∷ oldest.0) = ap length oldest.1 in let k : length (drop 1 q.items) ≡ length oldest.0 = ap (λ (xs : List T). length (drop 1 xs)) oldest.1 in
-              let h' : length q.items + q.removed ≡ q.accepted = h in omega arith);
+          balanced = λ h. (let n = one_fewer q v oldest in let h' : length q.items + q.removed ≡ q.accepted = h in omega (arith, n));
         }
 
     replaces : (a : QueueAsk T) (v w : T) → message a ≡ v ∷ [] → IsOldest w q → q.capacity ≡ Some 1 → Progress q (marked a false Replace q)
@@ -56,62 +56,19 @@ module _ {T : Type 0} where
         record {
           capacity = refl;
           grew = inr (ne_of (length (drop 1 q.items ++ message a)) 0 (λ e. absurd (omega (arith, i, j, e))), inr cap);
-          balanced = λ h. (let n : length q.items ≡ length (w ∷ oldest.0) = ap length oldest.1 in let k : length (drop 1 q.items) ≡ length oldest.0 = ap (λ (xs : List T). length (drop 1 xs)) oldest.1 in
-              let h' : length q.items + q.removed ≡ q.accepted = h in omega (arith, i, j));
+          balanced = λ h. (let n = one_fewer q w oldest in let h' : length q.items + q.removed ≡ q.accepted = h in omega (arith, i, j, n));
         }
-
-    progress_push : (v : T) (m : QueueMark) (s t : queue.Stage T) → ContinuesPush q m s t → Progress q (marked (ask.Push v) (is_displaced s) m q)
-    progress_push v Nothing s t g = still q
-    progress_push v Append (trying b) t g = brings (ask.Push v) v refl false g.1
-    progress_push v m s t g = absurd g
-
-    progress_force : (v : T) (m : QueueMark) (s t : queue.Stage T) → ContinuesForce q m s t → Progress q (marked (ask.ForcePush v) (is_displaced s) m q)
-    progress_force v Nothing s t g = still q
-    progress_force v Append (trying b) t g = brings (ask.ForcePush v) v refl false g.1
-    progress_force v Append (displaced d) t g = brings (ask.ForcePush v) v refl true g.1
-    progress_force v Replace (trying b) t g = replaces (ask.ForcePush v) v g.0 refl g.1 g.4
-    progress_force v TakeDisplaced (trying b) t g = takes (ask.ForcePush v) g.0 g.1 true
-    progress_force v m s t g = absurd g
-
-    progress_pop : (m : QueueMark) (s t : queue.Stage T) → ContinuesPop q m s t → Progress q (marked ask.Pop (is_displaced s) m q)
-    progress_pop Nothing s t g = still q
-    progress_pop Take (trying b) t g = takes ask.Pop g.0 g.1 q.coming
-    progress_pop m s t g = absurd g
-
-    pub progress : (a : QueueAsk T) (m : QueueMark) (s t : queue.Stage T) → ContinuesBy q a m s t → Progress q (marked a (is_displaced s) m q)
-    progress (ask.Push v) m s t g = progress_push v m s t g
-    progress (ask.ForcePush v) m s t g = progress_force v m s t g
-    progress ask.Pop m s t g = progress_pop m s t g
-    progress ask.IsEmpty Nothing s t g = still q
-    progress ask.IsFull Nothing s t g = still q
-    progress ask.Len Nothing s t g = still q
-    progress x m s t g = absurd g
 
     closes : Progress q (record q { closed = true })
     closes = record { capacity = refl; grew = inl refl; balanced = λ h. h }
 
-    -- an answer comes by a step with no mark, or it is that of a call that has closed
-    pub answer_marks : (a : QueueAsk T) (m : QueueMark) (r : QueueReply T) (s : queue.Stage T) → AnswersTo q a m r s
-        → (m ≡ Nothing) ⊎ ((m ≡ Close) × (a ≡ ask.Close) × (r ≡ answer.Close true) × IsOpen q)
-    answer_marks a Nothing r s h = inl refl
-    answer_marks ask.Close Close (answer.Close true) (trying b) h = inr (refl, refl, refl, h)
-    answer_marks (ask.Push v) m r s h = absurd h
-    answer_marks a m r s h = absurd h
-
-    -- so what holds of both holds of it
-    pub answered_by : (P : QueueMark → Type 0) → P Nothing → (IsOpen q → P Close) → (a : QueueAsk T) (m : QueueMark) (r : QueueReply T) (s : queue.Stage T) → AnswersTo q a m r s → P m
-    answered_by P f g a m r s h = by (answer_marks a m r s h) where
-      by : (m ≡ Nothing) ⊎ ((m ≡ Close) × (a ≡ ask.Close) × (r ≡ answer.Close true) × IsOpen q) → P m
-      by (inl e) = subst P (sym e) f
-      by (inr (e, asks, says, was)) = subst P (sym e) (g was)
-
-    pub answer_progress : (a : QueueAsk T) (m : QueueMark) (r : QueueReply T) (s : queue.Stage T) → AnswersTo q a m r s → Progress q (marked a (is_displaced s) m q)
-    answer_progress a m r s h = answered_by (λ z. Progress q (marked a (is_displaced s) z q)) (still q) (λ was. closes) a m r s h
-
-module _ {T : Type 0} where
-  abbrev pub IsClosing : QueueAsk T → Type 0
-  IsClosing ask.Close = Unit {0}
-  IsClosing a = ⊥
+    pub progress : (a : QueueAsk T) (s : queue.Stage T) (m : QueueMark) → Says a s m q → Progress q (marked a (is_displaced s) m q)
+    progress a s Nothing h = still q
+    progress a s Append h = brings a h.0.0 h.0.1 (is_displaced s) h.1
+    progress a s Take h = takes a h.0 h.1 q.coming
+    progress a s TakeDisplaced h = takes a h.0.0 h.0.1 true
+    progress a s Replace h = replaces a h.0.0 h.1.0 h.0.1 h.1.1 h.4
+    progress a s Close h = closes
 
 module _ {T W : Type 0} where
   -- ---- moments
@@ -250,35 +207,6 @@ module _ {T W : Type 0} where
   goes_at c seen (aim.RecvMany r) a m s t ds g h ev =
       (with_marked ev.0 (mark_of_queue m) c seen, taken_on r.taken ds ev.0 (mark_of_queue m) c seen (next_channel a s m c) ev.1, goes c seen a m s t ev.0 g h ev.2)
   goes_at c seen y a m s t ds g h ev = goes c seen a m s t ds g h ev
-
-  -- ---- a new moment leaves the queue's call one of this call
-
-  last_left : (side : Side) (c : Channel T W) (ds es : List (MarkedMoment T W)) (seen : List (Channel T W)) → es ≡ ds → LeftLast side ds seen → LeftLast side es (c ∷ seen)
-  last_left side c (d ∷ []) es seen e h =
-      subst (λ (xs : List (MarkedMoment T W)). LeftLast side xs (c ∷ seen)) (sym e) (h.0, h.1, c ∷ h.2, ap (λ (cs : List (Channel T W)). c ∷ cs) h.3)
-  last_left side c x es seen e h = absurd h
-
-  pub tries_more : (c : Channel T W) (ds es : List (MarkedMoment T W)) (seen : List (Channel T W)) (x : ChannelAsk T W) (y : Aim T W) (a : QueueAsk T) → (IsClosing a → es ≡ ds) → TriesFor x y a ds seen → TriesFor x y a es (c ∷ seen)
-  tries_more c ds es seen (channel.TrySend m) aim.TrySend (ask.Push v) e h = h
-  tries_more c ds es seen (channel.ForceSend m) aim.ForceSend (ask.ForcePush v) e h = h
-  tries_more c ds es seen channel.TryRecv aim.TryRecv ask.Pop e h = h
-  tries_more c ds es seen (channel.RecvMany n) (aim.RecvMany g) ask.Pop e h = h
-  tries_more c ds es seen channel.Close (aim.Close closer.Call) ask.Close e h = e tt ∙ h
-  tries_more c ds es seen (channel.PollSend m k t) (aim.Poll Sends key task) (ask.Push v) e h = h
-  tries_more c ds es seen (channel.PollRecv k t) (aim.Poll Receives key task) ask.Pop e h = h
-  tries_more c ds es seen (channel.PollClosed k t) (aim.Poll Closings key task) ask.IsClosed e h = h
-  tries_more c ds es seen (channel.PollNext k t) (aim.Poll Streams key task) ask.Pop e h = h
-  tries_more c ds es seen channel.DropSender (aim.Close closer.Sender) ask.Close e h = last_left Senders c ds es seen (e tt) h
-  tries_more c ds es seen (channel.DropReceiver k) (aim.Close (closer.Receiver key)) ask.Close e h = last_left Receivers c ds es seen (e tt) h
-  tries_more c ds es seen (channel.Upgrade side) (aim.Upgrade s) ask.IsClosed e h = h
-  tries_more c ds es seen channel.IsClosed aim.Ask ask.IsClosed e h = h
-  tries_more c ds es seen channel.IsEmpty aim.Ask ask.IsEmpty e h = h
-  tries_more c ds es seen channel.IsFull aim.Ask ask.IsFull e h = h
-  tries_more c ds es seen channel.Len aim.Ask ask.Len e h = h
-  tries_more c ds es seen channel.Capacity aim.Ask ask.Capacity e h = h
-  tries_more c ds es seen channel.IsTerminated aim.IsTerminated ask.IsClosed e h = h
-  tries_more c ds es seen channel.IsTerminated aim.Ask ask.IsEmpty e h = inr h
-  tries_more c ds es seen x y a e h = absurd h
 
   -- ---- another call's step leaves what is known of the queue's call
 

@@ -1,13 +1,12 @@
 pub mod Words
 pub mod TryFacts
-pub mod Order
+pub mod BringFacts
 pub mod Rest
 pub mod AnswerFacts
 pub mod Counts
 pub mod WorkFacts
 pub mod FirstFacts
 pub mod AloneFacts
-pub mod LoopFacts
 pub mod ConfigurationLoop
 pub mod AmpleFacts
 pub mod AheadFacts

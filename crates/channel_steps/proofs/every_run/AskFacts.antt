@@ -8,18 +8,6 @@ use Rattle.channel_calls.specs.declared.stage.Closer.TheVariants as closer
 use Rattle.channel_steps.proofs.every_run.ListFacts.{removed_leaves}
 
 module _ {T : Type 0} where
-  -- a push, of either kind
-  abbrev pub IsPush : QueueAsk T → Type 0
-  IsPush (ask.Push v) = Unit {0}
-  IsPush (ask.ForcePush v) = Unit {0}
-  IsPush a = ⊥
-
-  -- a call that may take a message
-  abbrev pub MayTake : QueueAsk T → Type 0
-  MayTake (ask.ForcePush v) = Unit {0}
-  MayTake ask.Pop = Unit {0}
-  MayTake a = ⊥
-
   -- what the poll of one who waits on this list asks
   abbrev Polls : Line → QueueAsk T → Type 0
   Polls Sends a = (v : T) × (a ≡ ask.Push v)
@@ -35,66 +23,6 @@ module _ {T W : Type 0} where
   abbrev pub How : Channel T W → Phase T → Aim T W → QueueMark → Option (Reply T) → Stage (Phase T) T W → Type 0
   How c f y m r s =
       ((f' : Phase T) × Continues c.queue f m f' × (r ≡ None) × (s ≡ Trying f' y)) ⊎ ((x : QueueReply T) × Answers c.queue f m x × Turned (answered_next y x) r s)
-
-  -- ---- which call asks what
-
-  -- a call that may take a message out
-  abbrev pub Takes : ChannelAsk T W → Type 0
-  Takes channel.TryRecv = Unit {0}
-  Takes (channel.RecvMany n) = Unit {0}
-  Takes (channel.PollRecv k t) = Unit {0}
-  Takes (channel.PollNext k t) = Unit {0}
-  Takes (channel.ForceSend m) = Unit {0}
-  Takes x = ⊥
-
-  -- a close, or what is left of a drop of the last handle
-  abbrev pub IsClose : Aim T W → Type 0
-  IsClose (aim.Close c) = Unit {0}
-  IsClose y = ⊥
-
-  -- a push is a sending call's, a pop one that takes, and a close a closing one's
-  abbrev Fits : ChannelAsk T W → Aim T W → QueueAsk T → Type 0
-  Fits x y (ask.Push v) = IsSending x
-  Fits x y (ask.ForcePush v) = IsSending x × Takes x
-  Fits x y ask.Pop = Takes x
-  Fits x y ask.Close = IsClose y
-  Fits x y a = Unit {0}
-
-  fits : (x : ChannelAsk T W) (y : Aim T W) (a : QueueAsk T) (ds : List (MarkedMoment T W)) (seen : List (Channel T W)) → TriesFor x y a ds seen → Fits x y a
-  fits (channel.TrySend m) aim.TrySend (ask.Push v) ds seen h = tt
-  fits (channel.ForceSend m) aim.ForceSend (ask.ForcePush v) ds seen h = (tt, tt)
-  fits channel.TryRecv aim.TryRecv ask.Pop ds seen h = tt
-  fits (channel.RecvMany n) (aim.RecvMany g) ask.Pop ds seen h = tt
-  fits channel.Close (aim.Close closer.Call) ask.Close ds seen h = tt
-  fits (channel.PollSend m k t) (aim.Poll Sends key task) (ask.Push v) ds seen h = tt
-  fits (channel.PollRecv k t) (aim.Poll Receives key task) ask.Pop ds seen h = tt
-  fits (channel.PollClosed k t) (aim.Poll Closings key task) ask.IsClosed ds seen h = tt
-  fits (channel.PollNext k t) (aim.Poll Streams key task) ask.Pop ds seen h = tt
-  fits channel.DropSender (aim.Close closer.Sender) ask.Close ds seen h = tt
-  fits (channel.DropReceiver k) (aim.Close (closer.Receiver key)) ask.Close ds seen h = tt
-  fits (channel.Upgrade side) (aim.Upgrade other) ask.IsClosed ds seen h = tt
-  fits channel.IsClosed aim.Ask ask.IsClosed ds seen h = tt
-  fits channel.IsEmpty aim.Ask ask.IsEmpty ds seen h = tt
-  fits channel.IsFull aim.Ask ask.IsFull ds seen h = tt
-  fits channel.Len aim.Ask ask.Len ds seen h = tt
-  fits channel.Capacity aim.Ask ask.Capacity ds seen h = tt
-  fits channel.IsTerminated aim.IsTerminated ask.IsClosed ds seen h = tt
-  fits channel.IsTerminated aim.Ask ask.IsEmpty ds seen h = tt
-  fits x y a ds seen h = absurd h
-
-  module _ (x : ChannelAsk T W) (y : Aim T W) (ds : List (MarkedMoment T W)) (seen : List (Channel T W)) where
-    pub push_sends : (a : QueueAsk T) → TriesFor x y a ds seen → IsPush a → IsSending x
-    push_sends (ask.Push v) h p = fits x y (ask.Push v) ds seen h
-    push_sends (ask.ForcePush v) h p = let k = fits x y (ask.ForcePush v) ds seen h in k.0
-    push_sends a h p = absurd p
-
-    pub takes_as : (a : QueueAsk T) → TriesFor x y a ds seen → MayTake a → Takes x
-    takes_as (ask.ForcePush v) h p = let k = fits x y (ask.ForcePush v) ds seen h in k.1
-    takes_as ask.Pop h p = fits x y ask.Pop ds seen h
-    takes_as a h p = absurd p
-
-    pub closes_by : TriesFor x y ask.Close ds seen → IsClose y
-    closes_by h = fits x y ask.Close ds seen h
 
   -- ---- what a poll asks
 

@@ -10,6 +10,7 @@ use Rattle.channel_steps.specs.declared.run.Step.TheVariants as step
 use Rattle.channel_steps.proofs.every_run.BoundMoves.{Bounded, SaysOf, moves_bounded}
 use Rattle.channel_steps.proofs.every_run.EachFacts.{of_mine, each_steps, each_begins}
 use Rattle.channel_steps.proofs.Interface.{run_so}
+use Rattle.channel_steps.proofs.every_run.ReplyFacts.{Spoken, spoken}
 use Rattle.channel_steps.proofs.every_run.RunFacts.{kept_long}
 
 module _ {T W : Type 0} where
@@ -57,20 +58,8 @@ module _ {T W : Type 0} where
   older_all capacity (c ∷ newer) older all = older_all capacity newer older all.1
 
   row_full : (a : ChannelAsk T W) (ds : List (MarkedMoment T W)) (seen : List (Channel T W)) (m : T)
-      → Row a ds seen (reply.TrySend (Err (refused.Plain (try_send_error.Full m)))) → Once Crowded seen
+      → Spoken ds seen a (reply.TrySend (Err (refused.Plain (try_send_error.Full m)))) → Once Crowded seen
   row_full (ask.TrySend v) ds seen m h = h.2
-  row_full ask.PollFinishedSend ds seen m h = absurd (cc h.1)
-  row_full (ask.RefusePoll Sends message key) ds seen m h = absurd (cc h.1)
-  row_full (ask.RefusePoll Receives message key) ds seen m h = absurd (cc h.1)
-  row_full (ask.RefusePoll Streams message key) ds seen m h = absurd (cc h.1)
-  row_full (ask.RefusePoll Closings message key) ds seen m h = absurd (cc h.1)
-  row_full (ask.GiveUp line message key) ds seen m h = absurd (cc h.1)
-  row_full ask.DropSender ds seen m h = absurd (cc h.1)
-  row_full (ask.DropReceiver key) ds seen m h = absurd (cc h.1)
-  row_full (ask.SendIsTerminated b) ds seen m h = absurd (cc h.1)
-  row_full (ask.SameChannel b) ds seen m h = absurd (cc h.1)
-  row_full ask.Make ds seen m h = absurd (cc h.1)
-  row_full ask.DropWeak ds seen m h = absurd (cc h.1)
   row_full a ds seen m h = absurd h
 
   finish_full : (u : ActiveCall T W) (r : Option (Reply T)) (left : Option (Kept T)) → MayFinish u r left → AllOf None u.seen → Replies SaysFull r → ⊥
@@ -78,7 +67,7 @@ module _ {T W : Type 0} where
   finish_full u (Some (reply.TrySend (Err (refused.Plain (try_send_error.Full m))))) left h all full =
       let met = h.met in
       let seen = subst (λ (cs : List (Channel T W)). AllOf None cs) met.2 all in
-      never_crowded met.1 (older_all None met.0 met.1 seen) (row_full u.ask u.marks met.1 m met.3)
+      never_crowded met.1 (older_all None met.0 met.1 seen) (row_full u.ask u.marks met.1 m (spoken u.marks met.1 u.ask _ met.3))
   finish_full u (Some r) left h all full = absurd full
 
   displaces_full : (m : Mark) (c : Channel T W) → SaysOf m c → IsDisplacing m → is_filled c.queue ≡ true

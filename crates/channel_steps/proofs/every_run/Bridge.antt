@@ -102,13 +102,13 @@ module _ {T W : Type 0} where
   abbrev party : ℕ → Stage (QueueCall T) T W → Mark → Party T W
   party p at m = record { id = p; call = record { stage = at; mark = m } }
 
-  abbrev happens : ℕ → Event T W → Happening T W
+  abbrev pub happens : ℕ → Event T W → Happening T W
   happens p x = record { party = p; event = x }
 
-  own_mine : (p : ℕ) (x : Event T W) (xs : List (Happening T W)) → own p (happens p x ∷ xs) ≡ x ∷ own p xs
+  pub own_mine : (p : ℕ) (x : Event T W) (xs : List (Happening T W)) → own p (happens p x ∷ xs) ≡ x ∷ own p xs
   own_mine p x xs = rw (itself p) refl
 
-  own_other : (p q : ℕ) (x : Event T W) (xs : List (Happening T W)) → (p == q) ≡ false → own q (happens p x ∷ xs) ≡ own q xs
+  pub own_other : (p q : ℕ) (x : Event T W) (xs : List (Happening T W)) → (p == q) ≡ false → own q (happens p x ∷ xs) ≡ own q xs
   own_other p q x xs e = rw e refl
 
 module _ {T W S : Type 0} (wakes : S → W → S → Type 0) (form : QueueForm) where

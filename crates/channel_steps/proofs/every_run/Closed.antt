@@ -1,31 +1,21 @@
 -- A closed channel over runs.
 use Rattle.std.proofs.Common.{◌≡◌, ℕ, ◌+◌, ◌≤◌, Bool, false, if◌then◌else◌, List, ◌∷◌, length, drop, Option, refl, sym, ap, subst, arith, length-append}
-use Rattle.channel_steps.proofs.every_run.Words.{Queue, Phase, IsShut, IsOldest, message, is_displaced, QueueAsk, QueueMark, Channel, Effect, queued, Moves, Mark, Append, Take, TakeDisplaced, Replace, Close, Reply, Aim, Stage, Trying, Working, Finished, Shut, Configuration, Steps, Next, IsRun, NextConfiguration, Entry, Step, after, IsStill, within, MayStillDo, ClosingIsForGood}
+use Rattle.channel_steps.proofs.every_run.Words.{Queue, Phase, IsShut, IsOldest, message, is_displaced, QueueAsk, QueueMark, Channel, Effect, queued, Moves, Mark, Append, Take, TakeDisplaced, Replace, Close, Reply, Aim, Stage, Trying, Working, Finished, Shut, Configuration, Steps, Next, IsRun, NextConfiguration, Entry, Step, after, IsStill, within, MayStillDo, ClosingIsForGood, mark_of_queue}
 use Rattle.concurrent_queue.specs.declared.call.QueueAsk.TheVariants as ask
 use Rattle.concurrent_queue.specs.declared.call.QueueMark.TheVariants as queue
 use Rattle.channel_steps.specs.declared.run.Step.TheVariants as step
 use Rattle.channel_steps.specs.every_run.Closed.{one_if}
 use Rattle.channel_steps.proofs.Interface.{run_so}
-use Rattle.channel_steps.proofs.every_run.ClosedMoves.{MayMark, tried_may, worked_spares}
+use Rattle.channel_steps.proofs.QueueFacts.{moves_by, one_fewer, one_message}
+use Rattle.channel_steps.proofs.every_run.ClosedMoves.{MayMark, may}
 
 module _ {T : Type 0} where
-  one_message : (a : QueueAsk T) → length (message a) ≤ 1
-  one_message (ask.Push v) = omega arith
-  one_message (ask.ForcePush v) = omega arith
-  one_message a = omega arith
-
   -- the queue keeps its flag, and holds no more
   abbrev pub Keeps : Queue T → Queue T → Type 0
   Keeps q q' = IsShut q' × (within q' ≤ within q)
 
   keeps_same : (q q' : Queue T) → q' ≡ q → IsShut q → Keeps q q'
   keeps_same q q' e shut = subst (λ (x : Queue T). Keeps q x) (sym e) (shut, omega arith)
-
-  pub one_fewer : (q : Queue T) (v : T) → IsOldest v q → length (drop 1 q.items) + 1 ≡ length q.items
-  one_fewer q v (rest, e) =
-      let n : length q.items ≡ length (v ∷ rest) = ap length e in
-      let k : length (drop 1 q.items) ≡ length rest = ap (λ (xs : List T). length (drop 1 xs)) e in
-      omega (arith, n, k)
 
   keeps_marked : (q : Queue T) (f : Phase T) (m : QueueMark) → IsShut q → MayMark m f.stage q → Keeps q (after f m q)
   keeps_marked q f queue.Nothing shut h = (shut, omega arith)
@@ -47,7 +37,7 @@ module _ {T W : Type 0} where
   abbrev pub Does : Channel T W → Stage (Phase T) T W → Effect T W → Type 0
   Does c at e = Keeps c.queue e.channel.queue × MayStillDo e.mark c at
 
-  may_mark : (c : Channel T W) (f : Phase T) (aim : Aim T W) (m : QueueMark) → MayMark m f.stage c.queue → MayStillDo (let e : Effect T W = queued f m c in e.mark) c (Trying f aim)
+  may_mark : (c : Channel T W) (f : Phase T) (aim : Aim T W) (m : QueueMark) → MayMark m f.stage c.queue → MayStillDo (mark_of_queue m) c (Trying f aim)
   may_mark c f aim queue.Append h = h
   may_mark c f aim queue.Replace h = h
   may_mark c f aim queue.Close h = h
@@ -55,21 +45,16 @@ module _ {T W : Type 0} where
 
   still_may : (c : Channel T W) (at : Stage (Phase T) T W) (m : Mark) → IsStill m → MayStillDo m c at
   still_may c at Append h = absurd h
-  still_may c at Take h = absurd h
-  still_may c at TakeDisplaced h = absurd h
   still_may c at Replace h = absurd h
   still_may c at Close h = absurd h
   still_may c at m h = tt
 
   pub shut_does : (c : Channel T W) (at : Stage (Phase T) T W) (e : Effect T W) (r : Option (Reply T)) (s : Stage (Phase T) T W) → Shut c → Moves c at e r s → Does c at e
-  shut_does c (Trying f aim) e r s shut h =
-      let may = tried_may c f h.mark _ _ shut (λ k. (k.0, k.1)) (λ k. (k.0, k.1)) h.how in
-      subst (λ (x : Effect T W). Does c (Trying f aim) x) (sym h.effect) (keeps_marked c.queue f h.mark shut may, may_mark c f aim h.mark may)
-  shut_does c (Working w) e r s shut h =
-      let k = worked_spares c w e r s h in
-      (keeps_same c.queue e.channel.queue k.0 shut, still_may c (Working w) e.mark k.1)
-  shut_does c (Finished kept) e r s shut h =
-      subst (λ (x : Effect T W). Does c (Finished kept) x) (sym h.0) (keeps_same c.queue c.queue refl shut, tt)
+  shut_does c at e r s shut h =
+      moves_by c at (λ m q. Keeps c.queue q × MayStillDo m c at)
+      (λ f y m is says. let k = may c.queue shut f.ask f.stage m says in
+      (keeps_marked c.queue f m shut k, subst (λ (z : Stage (Phase T) T W). MayStillDo (mark_of_queue m) c z) (sym is) (may_mark c f y m k)))
+      (λ m still. (keeps_same c.queue c.queue refl shut, still_may c at m still)) e r s h
 
   steps_does : (s : Configuration T W) (p : ℕ) (e : Entry T) (names : List W) (t : Configuration T W) (st : Steps s p e names t) → Shut s.now → Keeps s.now.queue t.now.queue × MayStillDo e.mark s.now st.mine.at
   steps_does s p e names t st shut =

@@ -6,6 +6,7 @@ use Rattle.channel_calls.specs.declared.mark.Mark.TheVariants.{Nothing}
 use Rattle.channel_calls.specs.declared.reply.Reply.TheVariants as reply
 use Rattle.channel_steps.specs.declared.run.Step.TheVariants as step
 use Rattle.channel_steps.proofs.Interface.{run_so}
+use Rattle.channel_steps.proofs.every_run.ReplyFacts.{Spoken, spoken}
 use Rattle.channel_steps.proofs.every_run.BoundMoves.{SaysOf, FlagOf}
 use Rattle.channel_steps.proofs.every_run.Bounds.{step_bounded}
 
@@ -53,21 +54,12 @@ module _ {T W : Type 0} where
   closed_marks (d ∷ []) h = let one : one_if_close d.mark ≡ 1 = ap one_if_close h.0 in omega (arith, one)
   closed_marks x h = absurd h
 
+  closes_itself : (a : ChannelAsk T W) (ds : List (MarkedMoment T W)) (seen : List (Channel T W)) → Spoken ds seen a (reply.Closed true) → ClosedIt ds
+  closes_itself ask.Close ds seen h = h
+  closes_itself a ds seen h = absurd h
+
   pub row_closed : (a : ChannelAsk T W) (ds : List (MarkedMoment T W)) (seen : List (Channel T W)) → Row a ds seen (reply.Closed true) → ClosedIt ds
-  row_closed ask.Close ds seen h = h
-  row_closed ask.PollFinishedSend ds seen h = absurd (cc h.1)
-  row_closed (ask.RefusePoll Sends message key) ds seen h = absurd (cc h.1)
-  row_closed (ask.RefusePoll Receives message key) ds seen h = absurd (cc h.1)
-  row_closed (ask.RefusePoll Streams message key) ds seen h = absurd (cc h.1)
-  row_closed (ask.RefusePoll Closings message key) ds seen h = absurd (cc h.1)
-  row_closed (ask.GiveUp line message key) ds seen h = absurd (cc h.1)
-  row_closed ask.DropSender ds seen h = absurd (cc h.1)
-  row_closed (ask.DropReceiver key) ds seen h = absurd (cc h.1)
-  row_closed (ask.SendIsTerminated b) ds seen h = absurd (cc h.1)
-  row_closed (ask.SameChannel b) ds seen h = absurd (cc h.1)
-  row_closed ask.Make ds seen h = absurd (cc h.1)
-  row_closed ask.DropWeak ds seen h = absurd (cc h.1)
-  row_closed a ds seen h = absurd h
+  row_closed a ds seen h = closes_itself a ds seen (spoken ds seen a (reply.Closed true) h)
 
   ended : (u : ActiveCall T W) (r : Option (Reply T)) (left : Option (Kept T)) → MayFinish u r left → one_if_closed r + closers (unless_ended u r) ≤ marks_in u.marks
   ended u None left h = omega arith

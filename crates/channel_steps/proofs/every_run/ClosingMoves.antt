@@ -10,8 +10,9 @@ use Rattle.concurrent_queue.specs.declared.error.PushError.TheVariants as push_e
 use Rattle.channel_calls.specs.declared.stage.Aim.TheVariants as aim
 use Rattle.channel_steps.proofs.Interface.{answer_marks}
 use Rattle.channel_steps.proofs.every_run.AllOwed.{FreeOrTold}
-use Rattle.channel_steps.proofs.every_run.AskFacts.{How, IsClose, closes_by, poll_asks, held_by, leaves_next, has_left}
-use Rattle.channel_steps.proofs.every_run.ClosedMoves.{worked_spares}
+use Rattle.channel_steps.proofs.SuitFacts.{IsClose, closes_by}
+use Rattle.channel_steps.proofs.every_run.AskFacts.{How, poll_asks, held_by, leaves_next, has_left}
+use Rattle.channel_steps.proofs.MoveFacts.{worked_spares}
 use Rattle.channel_steps.proofs.every_run.ListMoves.{Tries}
 use Rattle.channel_steps.proofs.every_run.NumberMoves.{weigh_turn, turned_weighs}
 use Rattle.channel_steps.proofs.every_run.Owed.{Pays, GoesOnOr, Ledger}
@@ -142,9 +143,7 @@ module _ {T W : Type 0} where
 
   pub nobody_left : (line : Line) (key : Key) (c : Channel T W) → Waits line key (let e : Effect T W = tells_all line c in e.channel) → ⊥
   nobody_left Sends key c w = w
-  nobody_left Receives key c w = w
-  nobody_left Streams key c w = w
-  nobody_left Closings key c w = w
+  nobody_left line key c w = w
 
 module _ {T W : Type 0} (line : Line) where
   -- 1 for a closing that has this list to tell

@@ -47,9 +47,7 @@ module _ {T W : Type 0} where
 module _ (T W : Type 0) where
   pub new_apart : (cap : Option ℕ) (line : Line) → WaitApart line (let s : Configuration T W = new_configuration cap in s.now)
   new_apart cap Sends = tt
-  new_apart cap Receives = tt
-  new_apart cap Streams = tt
-  new_apart cap Closings = tt
+  new_apart cap line = tt
 
 module _ {T W : Type 0} where
   pub new_sound : (cap : Option ℕ) → ClosingSound (new_configuration {T = T} {W = W} cap)

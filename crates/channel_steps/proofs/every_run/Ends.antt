@@ -6,30 +6,15 @@ use Rattle.channel_steps.specs.every_run.Ends.{Each}
 use Rattle.channel_steps.proofs.Interface.{run_so}
 use Rattle.channel_steps.proofs.every_run.EachFacts.{of_mine, each_steps, each_begins}
 use Rattle.channel_steps.proofs.every_run.RunFacts.{kept_long}
+use Rattle.channel_steps.proofs.MoveFacts.{nothing_gone, nothing_came}
 use Rattle.channel_steps.proofs.every_run.ClosedMoves.{over_spares}
 use Rattle.channel_steps.proofs.every_run.ReplyFacts.{with_still, finish_gives, finish_ends}
 
 module _ {T : Type 0} where
-  nothing_gone : (m : Mark) (items : List T) → IsStill m → gone_by m items ≡ []
-  nothing_gone Append items h = absurd h
-  nothing_gone Take items h = absurd h
-  nothing_gone TakeDisplaced items h = absurd h
-  nothing_gone Replace items h = absurd h
-  nothing_gone Close items h = absurd h
-  nothing_gone m items h = refl
-
   same_over : (q q' : Queue T) → q' ≡ q → IsShut q × IsDrained q → IsShut q' × IsDrained q'
   same_over q q' e h = subst (λ (x : Queue T). IsShut x × IsDrained x) (sym e) h
 
 module _ {T W : Type 0} where
-  nothing_came : (m : Mark) (ask : ChannelAsk T W) → IsStill m → came_by m ask ≡ []
-  nothing_came Append ask h = absurd h
-  nothing_came Take ask h = absurd h
-  nothing_came TakeDisplaced ask h = absurd h
-  nothing_came Replace ask h = absurd h
-  nothing_came Close ask h = absurd h
-  nothing_came m ask h = refl
-
   -- ---- one entry
 
   pub record Rests (s : Configuration T W) (e : Entry T) (t : Configuration T W) : Type 0 where

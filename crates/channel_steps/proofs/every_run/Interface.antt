@@ -8,6 +8,7 @@ use Rattle.channel_steps.proofs.every_run.Notices.{tellings_new}
 use Rattle.channel_steps.proofs.every_run.Receives.{receives_next, receives_new}
 use Rattle.channel_steps.proofs.every_run.Sends.{sends_next, sends_new}
 use Rattle.channel_steps.proofs.every_run.Over as over
+pub use Rattle.channel_steps.proofs.every_run.Over.{stays_over}
 use Rattle.channel_steps.proofs.every_run.Streams as streams
 use Rattle.channel_steps.proofs.every_run.Unlisted.{unlisted_new, unlisted_next}
 
@@ -37,11 +38,6 @@ module _ {T W : Type 0} where
         ends = over.end_next s x e names t n sound.streams.known sound.ends;
         unlisted = unlisted_next s x e names t n sound.streams.known sound.unlisted;
       }
-
-  -- what is over stays so, and nothing comes or leaves
-  pub stays_over : (s : Configuration T W) (x : Step T W) (e : Entry T) (names : List W) (t : Configuration T W) → Next s x e names t → Spent s.now
-      → Spent t.now × IsStill e.mark
-  stays_over s x e names t n h = over.stays_over s x e names t n h
 
   -- what is closed stays closed
   pub stays_closed : (s : Configuration T W) (x : Step T W) (e : Entry T) (names : List W) (t : Configuration T W) → Next s x e names t → Shut s.now

@@ -24,9 +24,7 @@ module _ {T W : Type 0} where
 
   by_line : (line : Line) (l : Listeners W) (names : List W) (c : moves.Channel T W) → Does c (on_line line l names c)
   by_line Sends l names c = ([], refl)
-  by_line Receives l names c = ([], refl)
-  by_line Streams l names c = ([], refl)
-  by_line Closings l names c = ([], refl)
+  by_line line l names c = ([], refl)
 
   by_one : (line : Line) (c : moves.Channel T W) → Does c (tells_one line c)
   by_one line c = by_line line (told_one (listeners line c.roster)) (told_one_wakes (listeners line c.roster)) c
@@ -100,15 +98,7 @@ module _ {T : Type 0} where
   -- the message of the call says what else the message says, but which messages there are
   other_message : (m : Mark) (a b : List T) (c : ModelChannel T) → marked m b c ≡ record (marked m a c) { messages = (marked m b c).messages }
   other_message Nothing a b c = refl
-  other_message Append a b c = refl
-  other_message Take a b c = refl
-  other_message TakeDisplaced a b c = refl
-  other_message Replace a b c = refl
-  other_message Close a b c = refl
-  other_message SenderUp a b c = refl
-  other_message SenderDown a b c = refl
-  other_message ReceiverUp a b c = refl
-  other_message ReceiverDown a b c = refl
+  other_message m a b c = refl
 
   without_first : (xs ys zs : List T) → take 1 xs ++ ys ≡ xs ++ zs → ys ≡ drop 1 xs ++ zs
   without_first [] ys zs e = e
@@ -140,15 +130,7 @@ module _ {T W : Type 0} where
   -- what comes in is what the call brings, by its mark
   pub came_is : (m : Mark) (a : ChannelAsk T W) → came_by m a ≡ brought_by m (brought a)
   came_is Nothing a = refl
-  came_is Append a = refl
-  came_is Take a = refl
-  came_is TakeDisplaced a = refl
-  came_is Replace a = refl
-  came_is Close a = refl
-  came_is SenderUp a = refl
-  came_is SenderDown a = refl
-  came_is ReceiverUp a = refl
-  came_is ReceiverDown a = refl
+  came_is m a = refl
 
   -- ---- accounts
 

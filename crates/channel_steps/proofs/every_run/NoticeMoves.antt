@@ -1,10 +1,10 @@
 -- Who tells all of a list has closed the channel, and it is closed.
 use Rattle.std.proofs.Common.{◌≡◌, ℕ, zero, suc, List, [], ◌∷◌, ◌++◌, Option, ◌⊎◌, inl, inr, refl, sym, ap, ◌∙◌, subst}
-use Rattle.channel_steps.proofs.every_run.Words.{Phase, QueueMark, mark_of_queue, Channel, Effect, queued, Moves, Mark, Append, Replace, Close, Reply, Closer, Line, Sends, Receives, Streams, Closings, Stage, Trying, Working, Finished, TellAll, ToldAt, MarkedMoment, with_marked, Shut, Telling, all_from, one_of, more_of, all_of, owed_for, owed_takings, takings, owed_besides, HasClosed, HasToTell, IsStill}
+use Rattle.channel_steps.proofs.every_run.Words.{Phase, QueueMark, mark_of_queue, Channel, Effect, queued, Moves, Mark, Append, Replace, Close, Reply, Closer, Line, Sends, Receives, Streams, Closings, Stage, Trying, Working, Finished, TellAll, ToldAt, MarkedMoment, with_marked, Shut, Telling, all_from, one_of, more_of, all_of, owed_for, owed_takings, takings, owed_besides, HasClosed, HasToTell, IsStill, Queue, after, IsShut}
 use Rattle.concurrent_queue.specs.declared.call.QueueMark.TheVariants as queue
 use Rattle.channel_calls.specs.declared.mark.Mark.TheVariants.{Nothing}
 use Rattle.channel_steps.specs.Tellings.{owed}
-use Rattle.channel_steps.proofs.every_run.ClosedMoves.{worked_spares}
+use Rattle.channel_steps.proofs.QueueFacts.{moves_by}
 
 -- ---- tellings
 
@@ -49,6 +49,12 @@ closing_owes Replace (inr (inl e)) = absurd (let never : all_of Streams ≡ all_
 closing_owes Replace (inr (inr h)) = absurd h
 closing_owes Close h = refl
 closing_owes m h = absurd h
+
+module _ {T : Type 0} where
+  queue_closes : (q : Queue T) (f : Phase T) (m : QueueMark) → mark_of_queue m ≡ Close → IsShut (after f m q)
+  queue_closes q f queue.Close h = refl
+  queue_closes q f queue.Nothing h = absurd (let never : Nothing ≡ Close = h in cc)
+  queue_closes q f w h = absurd cc
 
 module _ {T W : Type 0} where
   by_mark : (d : MarkedMoment T W) (ds : List (MarkedMoment T W)) → (IsAmong (all_of Closings) (owed_besides ds) → HasClosed ds)
@@ -95,18 +101,8 @@ module _ {T W : Type 0} where
   closed_before ds Nothing c seen h = inl h
   closed_before ds m c seen h = had_or_last ds (record { mark = m; before = c; seen = seen }) h
 
-  queue_closes : (f : Phase T) (m : QueueMark) (c : Channel T W) → mark_of_queue m ≡ Close
-      → Shut (let e : Effect T W = queued f m c in e.channel)
-  queue_closes f queue.Close c h = refl
-  queue_closes f queue.Nothing c h = absurd (let never : Nothing ≡ Close = h in cc)
-  queue_closes f w c h = absurd cc
-
   -- where a step closes the channel it is closed
   pub close_shuts : (c : Channel T W) (at : Stage (Phase T) T W) (e : Effect T W) (r : Option (Reply T))
       (s : Stage (Phase T) T W) → Moves c at e r s → e.mark ≡ Close → Shut e.channel
-  close_shuts c (Trying f aim) e r s g closes =
-      subst (λ (z : Effect T W). Shut z.channel) (sym g.effect)
-      (queue_closes f g.mark c (sym (ap (λ (z : Effect T W). z.mark) g.effect) ∙ closes))
-  close_shuts c (Working w) e r s g closes = let k = worked_spares c w e r s g in absurd (subst IsStill closes k.1)
-  close_shuts c (Finished kept) e r s g closes =
-      absurd (let never : Nothing ≡ Close = sym (ap (λ (z : Effect T W). z.mark) g.0) ∙ closes in cc)
+  close_shuts c at e r s g closes =
+      moves_by c at (λ m q. m ≡ Close → IsShut q) (λ f y m is says. queue_closes c.queue f m) (λ m still is. absurd (subst IsStill is still)) e r s g closes

@@ -187,15 +187,11 @@ module _ (T W : Type 0) where
   new_open : (cap : Option ℕ) (line : Line)
       → EachTold (MayBeTold line) (told_of line (let s : Configuration T W = new_configuration cap in s.now))
   new_open cap Sends = tt
-  new_open cap Receives = tt
-  new_open cap Streams = tt
-  new_open cap Closings = tt
+  new_open cap line = tt
 
   new_default : (cap : Option ℕ) (line : Line) → AnyTold false (told_of line (let s : Configuration T W = new_configuration cap in s.now)) → ⊥
   new_default cap Sends h = h
-  new_default cap Receives h = h
-  new_default cap Streams h = h
-  new_default cap Closings h = h
+  new_default cap line h = h
 
 module _ {T W : Type 0} where
   pub tellings_new : (cap : Option ℕ) → TellingsSound (new_configuration {T = T} {W = W} cap)

@@ -6,8 +6,8 @@ use Rattle.concurrent_queue.specs.declared.call.QueueAsk.TheVariants as ask
 use Rattle.concurrent_queue.specs.declared.call.QueueMark.TheVariants.{Append, Take, TakeDisplaced, Replace}
 use Rattle.channel_calls.specs.declared.stage.Aim.TheVariants as aim
 use Rattle.channel_steps.proofs.Interface.{answered_by}
-use Rattle.channel_steps.proofs.every_run.Closed.{one_fewer}
-use Rattle.channel_steps.proofs.every_run.AskFacts.{IsPush, MayTake}
+use Rattle.channel_steps.proofs.QueueFacts.{one_fewer}
+use Rattle.channel_steps.proofs.SuitFacts.{IsPush, MayTake}
 use Rattle.channel_steps.proofs.every_run.TotalFacts.{left_over}
 
 module _ {T : Type 0} where
@@ -114,10 +114,6 @@ module _ {T : Type 0} where
     -- no answer brings or takes one
     pub answers_same_number : (a : QueueAsk T) (m : QueueMark) (r : QueueReply T) (s : queue.Stage T) → AnswersTo q a m r s → number a s m q ≡ length q.items
     answers_same_number a m r s h = answered_by q (λ z. number a s z q ≡ length q.items) refl (λ was. refl) a m r s h
-
-    pub capacity_same : (a : QueueAsk T) (b : Bool) (m : QueueMark) → (marked a b m q).capacity ≡ q.capacity
-    capacity_same a b Nothing = refl
-    capacity_same a b m = refl
 
 module _ {T W : Type 0} where
   -- a poll's try counts for one at most

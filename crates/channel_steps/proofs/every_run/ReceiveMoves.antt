@@ -10,8 +10,9 @@ use Rattle.concurrent_queue.specs.declared.error.ForcePushError.TheVariants as f
 use Rattle.channel_calls.specs.declared.ask.ChannelAsk.TheVariants as channel
 use Rattle.channel_calls.specs.declared.stage.Aim.TheVariants as aim
 use Rattle.channel_calls.specs.declared.stage.Waiting.TheVariants as waiting
-use Rattle.channel_steps.proofs.every_run.AskFacts.{How, push_sends}
-use Rattle.channel_steps.proofs.every_run.ClosedMoves.{worked_spares}
+use Rattle.channel_steps.proofs.SuitFacts.{push_sends}
+use Rattle.channel_steps.proofs.every_run.AskFacts.{How}
+use Rattle.channel_steps.proofs.MoveFacts.{worked_spares}
 use Rattle.channel_steps.proofs.every_run.HandMoves.{HasCause}
 use Rattle.channel_steps.proofs.every_run.NumberMoves.{number, push_brings, force_brings, pop_takes, goes_no_more, answers_same_number, anew_at_most, weigh_turn, turned_weighs}
 use Rattle.channel_steps.proofs.every_run.Owed.{Ledger}

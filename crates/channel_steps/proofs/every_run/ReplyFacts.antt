@@ -1,10 +1,11 @@
 -- What a reply that says the end, and one that gives a message, say of their call.
 use Rattle.std.proofs.Common.{◌≡◌, List, [], ◌∷◌, ◌++◌, length, Option, None, Some, Ok, Err, ◌⊎◌, inl, inr, sym, subst}
-use Rattle.channel_steps.proofs.every_run.Words.{is_filled, Ready, Channel, count, ChannelAsk, Mark, Append, Take, Replace, SenderUp, SenderDown, ReceiverUp, ReceiverDown, Reply, Kept, Line, Sends, Receives, Streams, Closings, MarkedMoment, with_marked, Spent, Once, Took, TookAll, Replaced, Displaced, Row, ActiveCall, MayFinish, refused_reply, TrySend, ForceSend, TryRecv, RecvMany, PollSend, PollRecv, PollClosed, PollNext, RefusePoll, CloneHandle, Upgrade, HandleCount, IsClosed, IsEmpty, IsFull, Len, Capacity, IsTerminated, RecvError, TrySendRow, ForceSendRow, TryRecvRow, SeveralRow, SendPollRow, RecvPollRow, ClosedPollRow, NextRow, CloseRow, CloneRow, UpgradeRow, FlagRow, CountRow, CapacityRow, TerminatedRow, is_empty, StillDeeds, IsStill, SaysTheEnd, GivesMessage, Replies}
+use Rattle.channel_steps.proofs.every_run.Words.{is_filled, Ready, Channel, count, ChannelAsk, Mark, Append, Take, Replace, SenderUp, SenderDown, ReceiverUp, ReceiverDown, Reply, Kept, Line, Sends, Receives, Streams, Closings, MarkedMoment, with_marked, Spent, Once, Took, TookAll, Replaced, Displaced, Row, ActiveCall, MayFinish, refused_reply, TrySend, ForceSend, TryRecv, RecvMany, PollSend, PollRecv, PollClosed, PollNext, RefusePoll, CloneHandle, Upgrade, HandleCount, IsClosed, IsEmpty, IsFull, Len, Capacity, IsTerminated, RecvError, TrySendRow, ForceSendRow, TryRecvRow, SeveralRow, SendPollRow, RecvPollRow, ClosedPollRow, NextRow, CloseRow, CloneRow, UpgradeRow, FlagRow, CountRow, CapacityRow, TerminatedRow, is_empty, StillDeeds, IsStill, SaysTheEnd, GivesMessage, Replies, DropSender, DropReceiver, PollFinishedSend, GiveUp, SendIsTerminated, SameChannel, Make, DropWeak}
 use Rattle.event_listener.specs.declared.error.ListenError.TheVariants as listen_error
 use Rattle.channel_calls.specs.declared.ask.ChannelAsk.TheVariants.{Close}
 use Rattle.channel_calls.specs.declared.error.Refused.TheVariants as refused
 use Rattle.channel_calls.specs.declared.error.TryRecvError.TheVariants as try_recv_error
+use Rattle.channel_calls.specs.declared.error.TrySendError.TheVariants as try_send_error
 use Rattle.channel_calls.specs.declared.mark.Mark.TheVariants.{Nothing}
 use Rattle.channel_calls.specs.declared.reply.Reply.TheVariants as reply
 
@@ -12,26 +13,20 @@ moved : (m n : Mark) → m ≡ n → IsStill m → IsStill n
 moved m n e h = subst (λ (x : Mark). IsStill x) e h
 
 module _ {T : Type 0} where
-  -- ---- replies that give a message
-
-  -- five shapes
-  given : (P : Reply T → Type 0) → ((v : T) → P (reply.TryRecv (Ok v))) → ((v : T) → P (reply.RecvPoll (Ready (Ok v)))) → ((v : T) → P (reply.Next (Ready (Some (Ok v))))) → ((v : T) → P (reply.ForceSend (Ok (Some v))))
-      → ((v : T) (vs : List T) → P (reply.RecvMany (Ok (v ∷ vs)))) → (r : Reply T) → GivesMessage r → P r
-  given P a b c d e (reply.TryRecv (Ok v)) g = a v
-  given P a b c d e (reply.RecvPoll (Ready (Ok v))) g = b v
-  given P a b c d e (reply.Next (Ready (Some (Ok v)))) g = c v
-  given P a b c d e (reply.ForceSend (Ok (Some v))) g = d v
-  given P a b c d e (reply.RecvMany (Ok (v ∷ vs))) g = e v vs
-  given P a b c d e r g = absurd g
-
-  -- four shapes
-  ended : (P : Reply T → Type 0) → P (reply.TryRecv (Err try_recv_error.Closed)) → ((e : RecvError) → P (reply.RecvPoll (Ready (Err (refused.Plain e))))) → P (reply.Next (Ready None))
-      → P (reply.RecvMany (Err (refused.Plain try_recv_error.Closed))) → (r : Reply T) → SaysTheEnd r → P r
-  ended P a b c d (reply.TryRecv (Err try_recv_error.Closed)) g = a
-  ended P a b c d (reply.RecvPoll (Ready (Err (refused.Plain e)))) g = b e
-  ended P a b c d (reply.Next (Ready None)) g = c
-  ended P a b c d (reply.RecvMany (Err (refused.Plain try_recv_error.Closed))) g = d
-  ended P a b c d r g = absurd g
+  -- a reply that says neither a message nor the end, nor that the channel is full or that the call closed it
+  abbrev pub Silent : Reply T → Type 0
+  Silent (reply.TryRecv (Ok v)) = ⊥
+  Silent (reply.RecvPoll (Ready (Ok v))) = ⊥
+  Silent (reply.Next (Ready (Some (Ok v)))) = ⊥
+  Silent (reply.ForceSend (Ok (Some v))) = ⊥
+  Silent (reply.RecvMany (Ok (v ∷ vs))) = ⊥
+  Silent (reply.TryRecv (Err try_recv_error.Closed)) = ⊥
+  Silent (reply.RecvPoll (Ready (Err (refused.Plain e)))) = ⊥
+  Silent (reply.Next (Ready None)) = ⊥
+  Silent (reply.RecvMany (Err (refused.Plain try_recv_error.Closed))) = ⊥
+  Silent (reply.TrySend (Err (refused.Plain (try_send_error.Full v)))) = ⊥
+  Silent (reply.Closed true) = ⊥
+  Silent r = Unit {0}
 
 module _ {T W : Type 0} where
   -- ---- the marks of a call to which nothing moved
@@ -69,80 +64,57 @@ module _ {T W : Type 0} where
   displacing_moves ds v (inr h) k = displaced_moves ds v h k
 
   module _ (ds : List (MarkedMoment T W)) (seen : List (Channel T W)) where
-    -- a call that may answer no such reply
-    abbrev Never : (Reply T → Type 0) → Type 0
-    Never R = ((r : Reply T) → GivesMessage r → R r → ⊥) × ((r : Reply T) → SaysTheEnd r → R r → ⊥)
+    -- what its row says of a reply, and of a call that has one answer alone, that this one is silent
+    abbrev pub Spoken : ChannelAsk T W → Reply T → Type 0
+    Spoken PollFinishedSend r = Silent r
+    Spoken (RefusePoll line message key) r = Silent r
+    Spoken (GiveUp line message key) r = Silent r
+    Spoken DropSender r = Silent r
+    Spoken (DropReceiver key) r = Silent r
+    Spoken (SendIsTerminated b) r = Silent r
+    Spoken (SameChannel b) r = Silent r
+    Spoken Make r = Silent r
+    Spoken DropWeak r = Silent r
+    Spoken ask r = Row ask ds seen r
 
-    -- one that answers only this
-    only : (said r : Reply T) (P : Reply T → Type 0) → (P said → ⊥) → P r → r ≡ said → ⊥
-    only said r P never g e = never (subst P e g)
-
-    no_refusal_gives : (line : Line) → GivesMessage (let r : Reply T = refused_reply line listen_error.NoMemory in r) → ⊥
-    no_refusal_gives Sends g = g
-    no_refusal_gives Receives g = g
-    no_refusal_gives Streams g = g
-    no_refusal_gives Closings g = g
-
-    no_refusal_ends : (line : Line) → SaysTheEnd (let r : Reply T = refused_reply line listen_error.NoMemory in r) → ⊥
-    no_refusal_ends Sends g = g
-    no_refusal_ends Receives g = g
-    no_refusal_ends Streams g = g
-    no_refusal_ends Closings g = g
+    pub spoken : (ask : ChannelAsk T W) (r : Reply T) → Row ask ds seen r → Spoken ask r
+    spoken PollFinishedSend r h = subst Silent (sym h.1) tt
+    spoken (RefusePoll Sends message key) r h = subst Silent (sym h.1) tt
+    spoken (RefusePoll line message key) r h = subst Silent (sym h.1) tt
+    spoken (GiveUp line message key) r h = subst Silent (sym h.1) tt
+    spoken DropSender r h = subst Silent (sym h.1) tt
+    spoken (DropReceiver key) r h = subst Silent (sym h.1) tt
+    spoken (SendIsTerminated b) r h = subst Silent (sym h.1) tt
+    spoken (SameChannel b) r h = subst Silent (sym h.1) tt
+    spoken Make r h = subst Silent (sym h.1) tt
+    spoken DropWeak r h = subst Silent (sym h.1) tt
+    spoken ask r h = h
 
     -- a reply with a message needs a mark that takes one
-    abbrev Moved : (Reply T → Type 0) → Reply T → Type 0
-    Moved R r = R r → StillDeeds ds → ⊥
-
-    row_gives : (ask : ChannelAsk T W) (r : Reply T) → GivesMessage r → Moved (λ x. Row ask ds seen x) r
-    row_gives (TrySend m) r g = given (Moved (TrySendRow m ds seen)) (λ v h k. h) (λ v h k. h) (λ v h k. h) (λ v h k. h) (λ v vs h k. h) r g
-    row_gives (ForceSend m) r g = given (Moved (ForceSendRow m ds seen)) (λ v h k. h) (λ v h k. h) (λ v h k. h) (λ v h k. displacing_moves ds v h k) (λ v vs h k. h) r g
-    row_gives TryRecv r g = given (Moved (TryRecvRow ds seen)) (λ v h k. took_moves ds v h k) (λ v h k. h) (λ v h k. h) (λ v h k. h) (λ v vs h k. h) r g
-    row_gives (RecvMany n) r g = given (Moved (SeveralRow n ds seen)) (λ v h k. h) (λ v h k. h) (λ v h k. h) (λ v h k. h) (λ v vs h k. several_moves ds v vs h.0 k) r g
-    row_gives Close r g = given (Moved (CloseRow ds seen)) (λ v h k. h) (λ v h k. h) (λ v h k. h) (λ v h k. h) (λ v vs h k. h) r g
-    row_gives (PollSend m key task) r g = given (Moved (SendPollRow m key ds seen)) (λ v h k. h) (λ v h k. h) (λ v h k. h) (λ v h k. h) (λ v vs h k. h) r g
-    row_gives (PollRecv key task) r g = given (Moved (RecvPollRow key ds seen)) (λ v h k. h) (λ v h k. took_moves ds v h k) (λ v h k. h) (λ v h k. h) (λ v vs h k. h) r g
-    row_gives (PollClosed key task) r g = given (Moved (ClosedPollRow ds seen)) (λ v h k. h) (λ v h k. h) (λ v h k. h) (λ v h k. h) (λ v vs h k. h) r g
-    row_gives (PollNext key task) r g = given (Moved (NextRow ds seen)) (λ v h k. h) (λ v h k. h) (λ v h k. took_moves ds v h k) (λ v h k. h) (λ v vs h k. h) r g
-    row_gives (RefusePoll line message key) r g = λ h k. only _ r GivesMessage (no_refusal_gives line) g h.1
-    row_gives (CloneHandle side) r g = given (Moved (CloneRow side ds seen)) (λ v h k. h) (λ v h k. h) (λ v h k. h) (λ v h k. h) (λ v vs h k. h) r g
-    row_gives (Upgrade side) r g = given (Moved (UpgradeRow side ds seen)) (λ v h k. h) (λ v h k. h) (λ v h k. h) (λ v h k. h) (λ v vs h k. h) r g
-    row_gives (HandleCount side) r g = given (Moved (CountRow (λ c. count side c.roster) ds seen)) (λ v h k. h) (λ v h k. h) (λ v h k. h) (λ v h k. h) (λ v vs h k. h) r g
-    row_gives IsClosed r g = given (Moved (FlagRow (λ c. c.queue.closed) ds seen)) (λ v h k. h) (λ v h k. h) (λ v h k. h) (λ v h k. h) (λ v vs h k. h) r g
-    row_gives IsEmpty r g = given (Moved (FlagRow is_empty ds seen)) (λ v h k. h) (λ v h k. h) (λ v h k. h) (λ v h k. h) (λ v vs h k. h) r g
-    row_gives IsFull r g = given (Moved (FlagRow (λ c. is_filled c.queue) ds seen)) (λ v h k. h) (λ v h k. h) (λ v h k. h) (λ v h k. h) (λ v vs h k. h) r g
-    row_gives Len r g = given (Moved (CountRow (λ c. length c.queue.items) ds seen)) (λ v h k. h) (λ v h k. h) (λ v h k. h) (λ v h k. h) (λ v vs h k. h) r g
-    row_gives Capacity r g = given (Moved (CapacityRow ds seen)) (λ v h k. h) (λ v h k. h) (λ v h k. h) (λ v h k. h) (λ v vs h k. h) r g
-    row_gives IsTerminated r g = given (Moved (TerminatedRow ds seen)) (λ v h k. h) (λ v h k. h) (λ v h k. h) (λ v h k. h) (λ v vs h k. h) r g
-    row_gives w r g = λ h k. only _ r GivesMessage (λ x. x) g h.1
+    gives : (r : Reply T) (ask : ChannelAsk T W) → Spoken ask r → GivesMessage r → StillDeeds ds → ⊥
+    gives (reply.TryRecv (Ok v)) TryRecv h g k = took_moves ds v h k
+    gives (reply.TryRecv (Ok v)) ask h g k = h
+    gives (reply.RecvPoll (Ready (Ok v))) (PollRecv key task) h g k = took_moves ds v h k
+    gives (reply.RecvPoll (Ready (Ok v))) ask h g k = h
+    gives (reply.Next (Ready (Some (Ok v)))) (PollNext key task) h g k = took_moves ds v h k
+    gives (reply.Next (Ready (Some (Ok v)))) ask h g k = h
+    gives (reply.ForceSend (Ok (Some v))) (ForceSend m) h g k = displacing_moves ds v h k
+    gives (reply.ForceSend (Ok (Some v))) ask h g k = h
+    gives (reply.RecvMany (Ok (v ∷ vs))) (RecvMany n) h g k = several_moves ds v vs h.0 k
+    gives (reply.RecvMany (Ok (v ∷ vs))) ask h g k = h
+    gives r ask h g k = g
 
     -- one that says the end needs a moment at which the channel was over
-    abbrev Over : (Reply T → Type 0) → Reply T → Type 0
-    Over R r = R r → Once Spent seen
-
-    abbrev Seen : Type 0
-    Seen = Once Spent seen
-
-    row_ends : (ask : ChannelAsk T W) (r : Reply T) → SaysTheEnd r → Over (λ x. Row ask ds seen x) r
-    row_ends (TrySend m) r g = ended (Over (TrySendRow m ds seen)) (λ h. absurd h) (λ e h. absurd h) (λ h. absurd h) (λ h. absurd h) r g
-    row_ends (ForceSend m) r g = ended (Over (ForceSendRow m ds seen)) (λ h. absurd h) (λ e h. absurd h) (λ h. absurd h) (λ h. absurd h) r g
-    row_ends TryRecv r g = ended (Over (TryRecvRow ds seen)) (λ h. h.1) (λ e h. absurd h) (λ h. absurd h) (λ h. absurd h) r g
-    row_ends (RecvMany n) r g = ended (Over (SeveralRow n ds seen)) (λ h. absurd h) (λ e h. absurd h) (λ h. absurd h) (λ h. h.2) r g
-    row_ends Close r g = ended (Over (CloseRow ds seen)) (λ h. absurd h) (λ e h. absurd h) (λ h. absurd h) (λ h. absurd h) r g
-    row_ends (PollSend m key task) r g = ended (Over (SendPollRow m key ds seen)) (λ h. absurd h) (λ e h. absurd h) (λ h. absurd h) (λ h. absurd h) r g
-    row_ends (PollRecv key task) r g = ended (Over (RecvPollRow key ds seen)) (λ h. absurd h) (λ e h. h.1) (λ h. absurd h) (λ h. absurd h) r g
-    row_ends (PollClosed key task) r g = ended (Over (ClosedPollRow ds seen)) (λ h. absurd h) (λ e h. absurd h) (λ h. absurd h) (λ h. absurd h) r g
-    row_ends (PollNext key task) r g = ended (Over (NextRow ds seen)) (λ h. absurd h) (λ e h. absurd h) (λ h. h.1) (λ h. absurd h) r g
-    row_ends (RefusePoll line message key) r g = λ h. absurd (only _ r SaysTheEnd (no_refusal_ends line) g h.1)
-    row_ends (CloneHandle side) r g = ended (Over (CloneRow side ds seen)) (λ h. absurd h) (λ e h. absurd h) (λ h. absurd h) (λ h. absurd h) r g
-    row_ends (Upgrade side) r g = ended (Over (UpgradeRow side ds seen)) (λ h. absurd h) (λ e h. absurd h) (λ h. absurd h) (λ h. absurd h) r g
-    row_ends (HandleCount side) r g = ended (Over (CountRow (λ c. count side c.roster) ds seen)) (λ h. absurd h) (λ e h. absurd h) (λ h. absurd h) (λ h. absurd h) r g
-    row_ends IsClosed r g = ended (Over (FlagRow (λ c. c.queue.closed) ds seen)) (λ h. absurd h) (λ e h. absurd h) (λ h. absurd h) (λ h. absurd h) r g
-    row_ends IsEmpty r g = ended (Over (FlagRow is_empty ds seen)) (λ h. absurd h) (λ e h. absurd h) (λ h. absurd h) (λ h. absurd h) r g
-    row_ends IsFull r g = ended (Over (FlagRow (λ c. is_filled c.queue) ds seen)) (λ h. absurd h) (λ e h. absurd h) (λ h. absurd h) (λ h. absurd h) r g
-    row_ends Len r g = ended (Over (CountRow (λ c. length c.queue.items) ds seen)) (λ h. absurd h) (λ e h. absurd h) (λ h. absurd h) (λ h. absurd h) r g
-    row_ends Capacity r g = ended (Over (CapacityRow ds seen)) (λ h. absurd h) (λ e h. absurd h) (λ h. absurd h) (λ h. absurd h) r g
-    row_ends IsTerminated r g = ended (Over (TerminatedRow ds seen)) (λ h. absurd h) (λ e h. absurd h) (λ h. absurd h) (λ h. absurd h) r g
-    row_ends w r g = λ h. absurd (only _ r SaysTheEnd (λ x. x) g h.1)
+    ends : (r : Reply T) (ask : ChannelAsk T W) → Spoken ask r → SaysTheEnd r → Once Spent seen
+    ends (reply.TryRecv (Err try_recv_error.Closed)) TryRecv h g = h.1
+    ends (reply.TryRecv (Err try_recv_error.Closed)) ask h g = absurd h
+    ends (reply.RecvPoll (Ready (Err (refused.Plain e)))) (PollRecv key task) h g = h.1
+    ends (reply.RecvPoll (Ready (Err (refused.Plain e)))) ask h g = absurd h
+    ends (reply.Next (Ready None)) (PollNext key task) h g = h.1
+    ends (reply.Next (Ready None)) ask h g = absurd h
+    ends (reply.RecvMany (Err (refused.Plain try_recv_error.Closed))) (RecvMany n) h g = h.2
+    ends (reply.RecvMany (Err (refused.Plain try_recv_error.Closed))) ask h g = absurd h
+    ends r ask h g = absurd g
 
   once_behind : (P : Channel T W → Type 0) (newer older : List (Channel T W)) → Once P older → Once P (newer ++ older)
   once_behind P [] older h = h
@@ -152,9 +124,9 @@ module _ {T W : Type 0} where
 
   pub finish_gives : (u : ActiveCall T W) (r : Option (Reply T)) (left : Option (Kept T)) → MayFinish u r left → StillDeeds u.marks → Replies GivesMessage r → ⊥
   finish_gives u None left h k g = g
-  finish_gives u (Some r) left h k g = row_gives u.marks h.met.1 u.ask r g h.met.3 k
+  finish_gives u (Some r) left h k g = gives u.marks h.met.1 r u.ask (spoken u.marks h.met.1 u.ask r h.met.3) g k
 
   pub finish_ends : (u : ActiveCall T W) (r : Option (Reply T)) (left : Option (Kept T)) → MayFinish u r left → Replies SaysTheEnd r → Once Spent u.seen
   finish_ends u None left h g = absurd g
   finish_ends u (Some r) left h g =
-      subst (λ (cs : List (Channel T W)). Once Spent cs) (sym h.met.2) (once_behind Spent h.met.0 h.met.1 (row_ends u.marks h.met.1 u.ask r g h.met.3))
+      subst (λ (cs : List (Channel T W)). Once Spent cs) (sym h.met.2) (once_behind Spent h.met.0 h.met.1 (ends u.marks h.met.1 r u.ask (spoken u.marks h.met.1 u.ask r h.met.3) g))

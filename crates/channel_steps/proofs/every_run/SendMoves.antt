@@ -13,10 +13,12 @@ use Rattle.concurrent_queue.specs.declared.error.ForcePushError.TheVariants as f
 use Rattle.channel_calls.specs.declared.ask.ChannelAsk.TheVariants as channel
 use Rattle.channel_calls.specs.declared.stage.Aim.TheVariants as aim
 use Rattle.channel_calls.specs.declared.stage.Waiting.TheVariants as waiting
-use Rattle.channel_steps.proofs.every_run.AskFacts.{How, takes_as}
+use Rattle.channel_steps.proofs.SuitFacts.{takes_as}
+use Rattle.channel_steps.proofs.QueueFacts.{same_capacity}
+use Rattle.channel_steps.proofs.every_run.AskFacts.{How}
 use Rattle.channel_steps.proofs.every_run.Closed.{shut_does}
-use Rattle.channel_steps.proofs.every_run.ClosedMoves.{worked_spares}
-use Rattle.channel_steps.proofs.every_run.NumberMoves.{number, push_fills, force_fills, pop_frees, goes_no_fewer, answers_same_number, capacity_same, anew_at_most, weigh_turn, turned_weighs}
+use Rattle.channel_steps.proofs.MoveFacts.{worked_spares}
+use Rattle.channel_steps.proofs.every_run.NumberMoves.{number, push_fills, force_fills, pop_frees, goes_no_fewer, answers_same_number, anew_at_most, weigh_turn, turned_weighs}
 use Rattle.channel_steps.proofs.every_run.Owed.{Ledger}
 use Rattle.channel_steps.proofs.every_run.PayMoves.{OneByDefault, PaysOne, Counting, worked_pays, ledger_of}
 use Rattle.channel_steps.proofs.every_run.ToldMoves.{tells_now}
@@ -177,7 +179,7 @@ module _ {T W : Type 0} where
     now = let e : Effect T W = queued f m c in e.channel
 
     same_bound : now.queue.capacity ≡ c.queue.capacity
-    same_bound = capacity_same c.queue f.ask (is_displaced f.stage) m
+    same_bound = same_capacity c.queue f.ask (is_displaced f.stage) m
 
     tried_pays : TriesFor x y f.ask ds seen → How c f y m r s → Paid c x (Trying f y) (queued f m c) r s
     tried_pays h (inl (f', goes, none, there)) n enough =
@@ -203,7 +205,6 @@ module _ {T W : Type 0} where
 
   tells_at_most : (w : Work T W) → is_to_tell_send (let at : Stage (Phase T) T W = Working w in at) ≤ tells_now w Sends
   tells_at_most (TellSend x) = omega arith
-  tells_at_most (TellSends n x) = omega arith
   tells_at_most w = omega arith
 
   work_counts : (x : ChannelAsk T W) (w : Work T W) → counts_for_sends x (Working w) ≤ tells_now w Sends

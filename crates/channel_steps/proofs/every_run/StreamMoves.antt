@@ -9,8 +9,9 @@ use Rattle.channel_calls.specs.declared.ask.ChannelAsk.TheVariants as channel
 use Rattle.channel_calls.specs.declared.stage.Aim.TheVariants as aim
 use Rattle.channel_calls.specs.declared.stage.Waiting.TheVariants as waiting
 use Rattle.channel_steps.proofs.every_run.AllOwed.{FreeOrTold}
-use Rattle.channel_steps.proofs.every_run.AskFacts.{How, push_sends, poll_asks, held_by, leaves_next, has_left}
-use Rattle.channel_steps.proofs.every_run.ClosedMoves.{worked_spares}
+use Rattle.channel_steps.proofs.SuitFacts.{push_sends}
+use Rattle.channel_steps.proofs.every_run.AskFacts.{How, poll_asks, held_by, leaves_next, has_left}
+use Rattle.channel_steps.proofs.MoveFacts.{worked_spares}
 use Rattle.channel_steps.proofs.every_run.ListMoves.{Tries as ComesIn}
 use Rattle.channel_steps.proofs.every_run.NumberMoves.{number, push_brings, force_brings, goes_no_more, answers_same_number, weigh_turn, turned_weighs}
 use Rattle.channel_steps.proofs.every_run.Owed.{Pays, GoesOn, GoesOnOr, Ledger}
@@ -53,8 +54,6 @@ module _ {T W : Type 0} where
 
   if_none : (x : ChannelAsk T W) → if_sending x 0 ≡ 0
   if_none (channel.TrySend m) = refl
-  if_none (channel.ForceSend m) = refl
-  if_none (channel.PollSend m k t) = refl
   if_none x = refl
 
   bringing_counts : (at : Stage (Phase T) T W) → IsBringing at → 1 ≤ is_to_tell_streams at

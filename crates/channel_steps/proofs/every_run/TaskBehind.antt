@@ -3,18 +3,9 @@ use Rattle.std.proofs.Common.{◌≡◌, ℕ, ◌==◌, Bool, true, false, if◌
 use Rattle.channel_steps.proofs.every_run.Words.{QueueForm, QueueCall, first, kept_by, Parts, Takes, ChannelMakes, ChannelAsk, Mark, Reply, Kept, Stage, Turn, Act, on_nothing, Event, begins, Happening, Given, Notes, Acts, own, opened_parts, Changes, InOneOrder, WakesFor, with_asked, asks_of, TasksMayTellMore, ask_by, stage_by, event_by, all_by}
 use Rattle.concurrent_queue.proofs.Callers.{is_same, itself}
 use Rattle.channel_steps.specs.every_run.Bridge.{does}
+use Rattle.channel_steps.proofs.every_run.Bridge.{happens, own_mine, own_other}
 use Rattle.channel_steps.proofs.every_run.TaskSteps.{both_so, step_before}
 use Rattle.channel_steps.proofs.every_run.TaskTurns.{first_alike, kept_alike, taken}
-
-module _ {T W : Type 0} where
-  abbrev happens : ℕ → Event T W → Happening T W
-  happens p x = record { party = p; event = x }
-
-  own_mine : (p : ℕ) (x : Event T W) (xs : List (Happening T W)) → own p (happens p x ∷ xs) ≡ x ∷ own p xs
-  own_mine p x xs = rw (itself p) refl
-
-  own_other : (p q : ℕ) (x : Event T W) (xs : List (Happening T W)) → (p == q) ≡ false → own q (happens p x ∷ xs) ≡ own q xs
-  own_other p q x xs e = rw e refl
 
 -- at this number this, and else what was there
 module _ {A : Type 0} where

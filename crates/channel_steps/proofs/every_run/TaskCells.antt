@@ -46,15 +46,11 @@ module _ {W V : Type 0} (put : W → V) where
 
   pub list_of : (line : Line) (a : Roster W) → listeners line (roster_by put a) ≡ listeners_by put (listeners line a)
   list_of Sends a = refl
-  list_of Receives a = refl
-  list_of Streams a = refl
-  list_of Closings a = refl
+  list_of line a = refl
 
   with_list : (line : Line) (l : Listeners W) (a : Roster W) → with_listeners line (listeners_by put l) (roster_by put a) ≡ roster_by put (with_listeners line l a)
   with_list Sends l a = refl
-  with_list Receives l a = refl
-  with_list Streams l a = refl
-  with_list Closings l a = refl
+  with_list line l a = refl
 
   count_of : (side : Side) (a : Roster W) → count side (roster_by put a) ≡ count side a
   count_of Senders a = refl
@@ -147,9 +143,6 @@ module _ {T W V : Type 0} (put : W → V) where
 
   whom_woke : (d : Deed T W) → woken_by (deed_by put d) ≡ map put (woken_by d)
   whom_woke (taken_off line key names) = refl
-  whom_woke (one_told line names) = refl
-  whom_woke (more_told line n names) = refl
-  whom_woke (all_told line names) = refl
   whom_woke _ = refl
 
   module _ {S : Type 0} (wakes : S → W → S → Type 0) where

@@ -1,7 +1,7 @@
 -- A step of a merge, with other tasks for which its tasks were put.
 use Rattle.std.proofs.Common.{◌≡◌, ℕ, true, List, map, Option, None, Some, refl, sym, ap, subst, ◌∙◌}
 use Rattle.concurrent_queue.specs.Deeds as cell
-use Rattle.channel_steps.proofs.every_run.Words.{QueueReply, QueueForm, QueueCall, removed, removed_wakes, Woken, Key, answered_next, Deed, inserted, registered, taken_off, one_told, more_told, all_told, counted, lowered, raised, Done, Does, Parts, told_one, told_one_wakes, told_more, told_more_wakes, told_all, told_all_wakes, line_of, leaving, nothing_kept, registered_next, Takes, Heard, Leaves, WorkMakes, ChannelMakes, Marked, Mark, Reply, Aim, Held, Line, Stage, Trying, Working, Finished, Turn, Works, Ends, Work, TellReceive, TellStreams, TellSend, TellSends, TakeRoom, TellAll, Insert, Register, Leave, Lower, Count, Load, Raise, Act, on_queue, on_roster, on_nothing, Notes, Changes, WakesFor, parts_by, act_by, aim_by, work_by, stage_by}
+use Rattle.channel_steps.proofs.every_run.Words.{QueueReply, QueueForm, QueueCall, removed, removed_wakes, Woken, Key, answered_next, Deed, inserted, registered, taken_off, one_told, more_told, all_told, counted, lowered, raised, Done, Does, Parts, told_one, told_one_wakes, told_more, told_more_wakes, told_all, told_all_wakes, line_of, leaving, nothing_kept, registered_next, Takes, Heard, Leaves, WorkMakes, ChannelMakes, Marked, Mark, Reply, Aim, Held, Line, Stage, Trying, Working, Finished, Turn, Works, Ends, Work, TellReceive, TellStreams, TellSend, TellSends, TakeRoom, TellAll, Insert, Register, Leave, Lower, Count, Load, Raise, Act, on_queue, on_roster, on_nothing, Notes, Changes, WakesFor, parts_by, act_by, aim_by, work_by, stage_by, Listeners, turn_by, OnList, listeners, listeners_by, roster_by}
 use Rattle.channel_calls.specs.declared.mark.Mark.TheVariants.{Nothing}
 use Rattle.channel_calls.specs.declared.reply.Reply.TheVariants as reply
 use Rattle.channel_steps.specs.every_run.Bridge.{does}
@@ -49,76 +49,57 @@ module _ {T W V S : Type 0} (put : W → V) (wakes : S → V → S → Type 0) (
     woke : (names : List W) (others : List V) → map put names ≡ others → Woken wakes c.1 others d.1 → Woken (WakesFor put wakes) c.1 names d.1
     woke names others is h = wakes_for put wakes c.1 names d.1 (subst (λ (xs : List V). Woken wakes c.1 xs d.1) (sym is) h)
 
-    -- a telling
+    -- A telling, or a removal, which may pass a notice on: what it does to its list and whom it wakes are alike whatever the tasks are.
     abbrev Tells : (List W → Deed T W) → Type 0
     Tells deed = (names : List W) × ActBefore (on_roster (deed names))
+
+    module _ (line : Line) (here : Listeners W → Listeners W) (there : Listeners V → Listeners V) (alike : (l : Listeners W) → there (listeners_by put l) ≡ listeners_by put (here l))
+        (woken_here : Listeners W → List W) (woken_there : Listeners V → List V) (woken_alike : (l : Listeners W) → woken_there (listeners_by put l) ≡ map put (woken_here l)) where
+      tells : (deed : List W → Deed T W) (deed_there : List V → Deed T V) (names : List V) → ((ns : List W) → act_by put (on_roster (deed ns)) ≡ on_roster (deed_there (map put ns)))
+          → o ≡ on_roster (deed_there names)
+          → (names ≡ woken_there (listeners line (roster_by put c.0.roster))) × OnList line (there (listeners line (roster_by put c.0.roster))) (parts_by put c.0) d.0 × Woken wakes c.1 names d.1
+          → ((ns : List W) (x : Parts T W) → ns ≡ woken_here (listeners line c.0.roster) → OnList line (here (listeners line c.0.roster)) c.0 x → Woken (WakesFor put wakes) c.1 ns d.1
+          → Changes (WakesFor put wakes) (does (on_roster (deed ns))) c (x, d.1))
+          → Tells deed
+      tells deed deed_there names same is (told, left, woke_so) changes =
+          let t = told_before put line here there alike woken_here woken_there woken_alike c.0 names d.0 told left in (
+            t.names_before,
+            record {
+              acts = same t.names_before ∙ ap (λ (xs : List V). on_roster (deed_there xs)) t.were ∙ sym is;
+              left = (t.parts, d.1);
+              seen = ends_in t.parts d.1 t.left refl;
+              changes = changes t.names_before t.parts t.told t.on_it (woke t.names_before names t.were woke_so);
+            },
+          )
 
     one : (line : Line) (names : List V) → o ≡ on_roster (one_told line names) → Tells (λ ns. one_told line ns)
     one line names is =
         let h = on (one_told line names) is in
-        let t = told_before put line told_one told_one (one_alike put) told_one_wakes told_one_wakes (one_wakes put) c.0 names d.0 h.0.0 h.0.1 in (
-          t.names_before,
-          record {
-            acts = ap (λ (xs : List V). on_roster (one_told line xs)) t.were ∙ sym is;
-            left = (t.parts, d.1);
-            seen = ends_in t.parts d.1 t.left refl;
-            changes = ((t.told, t.on_it), woke t.names_before names t.were h.1);
-          },
-        )
+        tells line told_one told_one (one_alike put) told_one_wakes told_one_wakes (one_wakes put) (λ ns. one_told line ns) (λ ns. one_told line ns) names (λ ns. refl) is (h.0.0, h.0.1, h.1) (λ ns x e f k. ((e, f), k))
 
     more : (line : Line) (n : ℕ) (names : List V) → o ≡ on_roster (more_told line n names) → Tells (λ ns. more_told line n ns)
     more line n names is =
         let h = on (more_told line n names) is in
-        let t = told_before put line (told_more n) (told_more n) (more_alike put n) (told_more_wakes n) (told_more_wakes n) (more_wakes put n) c.0 names d.0 h.0.0 h.0.1 in (
-          t.names_before,
-          record {
-            acts = ap (λ (xs : List V). on_roster (more_told line n xs)) t.were ∙ sym is;
-            left = (t.parts, d.1);
-            seen = ends_in t.parts d.1 t.left refl;
-            changes = ((t.told, t.on_it), woke t.names_before names t.were h.1);
-          },
-        )
+        tells line (told_more n) (told_more n) (more_alike put n) (told_more_wakes n) (told_more_wakes n) (more_wakes put n) (λ ns. more_told line n ns) (λ ns. more_told line n ns) names (λ ns. refl) is (h.0.0, h.0.1, h.1) (λ ns x e f k. ((e, f), k))
 
     all : (line : Line) (names : List V) → o ≡ on_roster (all_told line names) → Tells (λ ns. all_told line ns)
     all line names is =
         let h = on (all_told line names) is in
-        let t = told_before put line told_all told_all (all_alike put) told_all_wakes told_all_wakes (all_wakes put) c.0 names d.0 h.0.0 h.0.1 in (
-          t.names_before,
-          record {
-            acts = ap (λ (xs : List V). on_roster (all_told line xs)) t.were ∙ sym is;
-            left = (t.parts, d.1);
-            seen = ends_in t.parts d.1 t.left refl;
-            changes = ((t.told, t.on_it), woke t.names_before names t.were h.1);
-          },
-        )
+        tells line told_all told_all (all_alike put) told_all_wakes told_all_wakes (all_wakes put) (λ ns. all_told line ns) (λ ns. all_told line ns) names (λ ns. refl) is (h.0.0, h.0.1, h.1) (λ ns x e f k. ((e, f), k))
 
-    -- a removal, which may pass a notice on
     off : (line : Line) (key : Key) (names : List V) → o ≡ on_roster (taken_off line key names) → Tells (λ ns. taken_off line key ns)
     off line key names is =
         let h = on (taken_off line key names) is in
-        let t =
-        told_before put line (removed key true) (removed key true) (removed_by put key) (removed_wakes key true) (removed_wakes key true) (removed_wakes_by put key) c.0 names d.0 h.0.0 h.0.1 in (
-          t.names_before,
-          record {
-            acts = ap (λ (xs : List V). on_roster (taken_off line key xs)) t.were ∙ sym is;
-            left = (t.parts, d.1);
-            seen = ends_in t.parts d.1 t.left refl;
-            changes = ((t.told, t.on_it), woke t.names_before names t.were h.1);
-          },
-        )
+        tells line (removed key true) (removed key true) (removed_by put key) (removed_wakes key true) (removed_wakes key true) (removed_wakes_by put key) (λ ns. taken_off line key ns) (λ ns. taken_off line key ns) names (λ ns. refl) is (h.0.0, h.0.1, h.1) (λ ns x e f k. ((e, f), k))
 
     leaves : (held : Option Held) → Leaves (Notes form) held on_nothing o → (act : Act T W) × ActBefore act × Leaves (Notes form) held on_nothing act
     leaves None is = (on_nothing, nothing is, refl)
     leaves (Some held) (names, is) = let t = off held.line held.key names is in (on_roster (taken_off held.line held.key t.0), t.1, (t.0, refl))
 
-    -- a deed that has no tasks, and wakes nobody
-    abbrev Quiet : Deed T V → Deed T W → Type 0
-    Quiet e b = (x : Parts T W) × (parts_by put x ≡ d.0) × Does b c.0 x
-
-    quiet : (e : Deed T V) (b : Deed T W) → o ≡ on_roster e → act_by put (on_roster b) ≡ on_roster e → Quiet e b → (d.1 ≡ c.1) → ((x : Parts T W) → Does b c.0 x → Changes (WakesFor put wakes) (does (on_roster b)) c (x, c.1))
-        → ActBefore (on_roster b)
-    quiet e b is same (x, left, h) sink changes =
-        record { acts = same ∙ sym is; left = (x, c.1); seen = ends_in x c.1 left (sym sink); changes = changes x h }
+    -- a deed that wakes nobody
+    quiet : (e : Deed T V) (b : Deed T W) → o ≡ on_roster e → act_by put (on_roster b) ≡ on_roster e → d.1 ≡ c.1 → (x : Parts T W) → parts_by put x ≡ d.0
+        → Changes (WakesFor put wakes) (does (on_roster b)) c (x, c.1) → ActBefore (on_roster b)
+    quiet e b is same sink x left changes = record { acts = same ∙ sym is; left = (x, c.1); seen = ends_in x c.1 left (sym sink); changes = changes }
 
     -- a step of the queue's call
     queue_before : (x : Option (cell.Deed T)) → o ≡ on_queue x → ActBefore (on_queue x)
@@ -144,107 +125,46 @@ module _ {T W V S : Type 0} (put : W → V) (wakes : S → V → S → Type 0) (
       heard a after None (is, e) = (Trying after a, (refl, e), sym is)
       heard a after (Some x) h = taken put (answered_next a x) next r (subst (λ (t : Turn T V). Takes t next r) (sym (answered_alike put a x)) h)
 
+      -- after an act for which that one was put, an alike turn is taken
+      then_turns : (w : Work T W) (act : Act T W) → ActBefore act → (m0 : Mark) (turn : Turn T W) (other : Turn T V) → turn_by put turn ≡ other → Marked m0 other m next r
+          → ((s : Stage (QueueCall T) T W) → Marked m0 turn m s r → WorkMakes (Notes form) w on_nothing act m s r) → StepBefore (Working w) m next r
+      then_turns w act before m0 turn other alike x makes =
+          let k = marked put m0 m r turn other alike next x in record { act = act; before = before; after = k.0; goes = k.2; makes = makes k.0 k.1 }
+
       worked : (w : Work T W) → WorkMakes (Notes form) (work_by put w) on_nothing o m next r → StepBefore (Working w) m next r
-      worked (TellReceive e) (names, is, x) =
-          let t = one _ names is in
-          let k = marked put _ m r (Works (TellStreams e)) _ refl next x in
-          record { act = _; before = t.1; after = k.0; goes = k.2; makes = (t.0, refl, k.1) }
-      worked (TellStreams e) (names, is, x) =
-          let t = all _ names is in
-          let k = marked put _ m r _ _ (ends_alike put e) next x in
-          record { act = _; before = t.1; after = k.0; goes = k.2; makes = (t.0, refl, k.1) }
-      worked (TellSend e) (names, is, x) =
-          let t = one _ names is in
-          let k = marked put _ m r _ _ (ends_alike put e) next x in
-          record { act = _; before = t.1; after = k.0; goes = k.2; makes = (t.0, refl, k.1) }
-      worked (TellSends n e) (names, is, x) =
-          let t = more _ n names is in
-          let k = marked put _ m r _ _ (ends_alike put e) next x in
-          record { act = _; before = t.1; after = k.0; goes = k.2; makes = (t.0, refl, k.1) }
+      worked (TellReceive e) (names, is, x) = let t = one _ names is in then_turns _ _ t.1 _ (Works (TellStreams e)) _ refl x (λ s k. (t.0, refl, k))
+      worked (TellStreams e) (names, is, x) = let t = all _ names is in then_turns _ _ t.1 _ _ _ (ends_alike put e) x (λ s k. (t.0, refl, k))
+      worked (TellSend e) (names, is, x) = let t = one _ names is in then_turns _ _ t.1 _ _ _ (ends_alike put e) x (λ s k. (t.0, refl, k))
+      worked (TellSends n e) (names, is, x) = let t = more _ n names is in then_turns _ _ t.1 _ _ _ (ends_alike put e) x (λ s k. (t.0, refl, k))
       worked (TakeRoom n) (turn, is, room, x) =
-          let y = room_taken put n turn room in
-          let k = marked put _ m r y.0 turn y.2 next x in
-          record { act = on_nothing; before = nothing is; after = k.0; goes = k.2; makes = (y.0, refl, y.1, k.1) }
-      worked (TellAll line e) (names, is, x) =
-          let t = all line names is in
-          let k = marked put _ m r _ _ (told_all_alike put line e) next x in
-          record { act = _; before = t.1; after = k.0; goes = k.2; makes = (t.0, refl, k.1) }
+          let y = room_taken put n turn room in then_turns _ _ (nothing is) _ y.0 turn y.2 x (λ s k. (y.0, refl, y.1, k))
+      worked (TellAll line e) (names, is, x) = let t = all line names is in then_turns _ _ t.1 _ _ _ (told_all_alike put line e) x (λ s k. (t.0, refl, k))
       worked (Insert w task) (answer, is, x) =
           let h = on _ is in
-          let k = marked put _ m r _ _ (inserted_alike put w task answer) next x in
           let b = inserted_before put _ answer c.0 d.0 h.0 in
-          record {
-            act = on_roster (inserted _ answer);
-            before = record { acts = sym is; left = (b.0, c.1); seen = ends_in b.0 c.1 b.1 (sym h.1); changes = (b.2, refl) };
-            after = k.0;
-            goes = k.2;
-            makes = (answer, refl, k.1);
-          }
+          then_turns _ _ (quiet _ (inserted (line_of w) answer) is refl h.1 b.0 b.1 (b.2, refl)) _ _ _ (inserted_alike put w task answer) x (λ s k. (answer, refl, k))
       worked (Register w key task) (answer, is, x) =
           let h = on (registered (line_of w) key (put task) answer) is in
           let b = registered_before put (line_of w) key task answer c.0 d.0 h.0 in
-          let k = marked put _ m r _ _ (registered_alike put w key b.0) next (subst (λ (y : Option V). Marked Nothing (registered_next w key y) m next r) (sym b.1) x) in
-          record {
-            act = on_roster (registered (line_of w) key task b.0);
-            before =
-                record {
-                  acts = ap (λ (y : Option V). on_roster (registered (line_of w) key (put task) y)) b.1 ∙ sym is;
-                  left = (b.2, c.1);
-                  seen = ends_in b.2 c.1 b.3 (sym h.1);
-                  changes = (b.4, refl);
-                };
-            after = k.0;
-            goes = k.2;
-            makes = (b.0, refl, k.1);
-          }
-      worked (Leave e) (l, x) =
-          let t = leaves e.held l in
-          let k = marked put _ m r (Ends e.reply (leaving None e.message)) _ refl next x in
-          record { act = t.0; before = t.1; after = k.0; goes = k.2; makes = (t.2, k.1) }
+          then_turns _ _ (quiet _ (registered (line_of w) key task b.0) is (ap (λ (y : Option V). on_roster (registered (line_of w) key (put task) y)) b.1) h.1 b.2 b.3 (b.4, refl)) _ _ _
+          (registered_alike put w key b.0) (subst (λ (y : Option V). Marked Nothing (registered_next w key y) m next r) (sym b.1) x) (λ s k. (b.0, refl, k))
+      worked (Leave e) (l, x) = let t = leaves e.held l in then_turns _ t.0 t.1 _ (Ends e.reply (leaving None e.message)) _ refl x (λ s k. (t.2, k))
       worked (Lower side key) (n, is, x) =
           let h = on _ is in
           let b = lowered_before put side n c.0 d.0 h.0 in
-          let k = marked put _ m r _ _ (lowered_alike put side key n) next x in
-          record {
-            act = on_roster (lowered side n);
-            before = record { acts = sym is; left = (b.0, c.1); seen = ends_in b.0 c.1 b.1 (sym h.1); changes = (b.2, refl) };
-            after = k.0;
-            goes = k.2;
-            makes = (n, refl, k.1);
-          }
+          then_turns _ _ (quiet _ (lowered side n) is refl h.1 b.0 b.1 (b.2, refl)) _ _ _ (lowered_alike put side key n) x (λ s k. (n, refl, k))
       worked (Count side) (n, is, x) =
           let h = on _ is in
           let b = counted_before put side n c.0 d.0 h.0 in
-          let k = marked put _ m r (Ends (reply.Count n) nothing_kept) _ refl next x in
-          record {
-            act = on_roster (counted side n);
-            before = record { acts = sym is; left = (b.0, c.1); seen = ends_in b.0 c.1 b.1 (sym h.1); changes = (b.2, refl) };
-            after = k.0;
-            goes = k.2;
-            makes = (n, refl, k.1);
-          }
+          then_turns _ _ (quiet _ (counted side n) is refl h.1 b.0 b.1 (b.2, refl)) _ (Ends (reply.Count n) nothing_kept) _ refl x (λ s k. (n, refl, k))
       worked (Load side making) (n, is, x) =
           let h = on _ is in
           let b = counted_before put side n c.0 d.0 h.0 in
-          let k = marked put _ m r _ _ (loaded_alike put side making n) next x in
-          record {
-            act = on_roster (counted side n);
-            before = record { acts = sym is; left = (b.0, c.1); seen = ends_in b.0 c.1 b.1 (sym h.1); changes = (b.2, refl) };
-            after = k.0;
-            goes = k.2;
-            makes = (n, refl, k.1);
-          }
+          then_turns _ _ (quiet _ (counted side n) is refl h.1 b.0 b.1 (b.2, refl)) _ _ _ (loaded_alike put side making n) x (λ s k. (n, refl, k))
       worked (Raise side n making) (answer, is, x) =
           let h = on _ is in
           let b = raised_before put side n answer c.0 d.0 h.0 in
-          let k = marked put _ m r _ _ (raised_alike put side making answer) next x in
-          record {
-            act = on_roster (raised side n answer);
-            before = record { acts = sym is; left = (b.0, c.1); seen = ends_in b.0 c.1 b.1 (sym h.1); changes = (b.2, refl) };
-            after = k.0;
-            goes = k.2;
-            makes = (answer, refl, k.1);
-          }
+          then_turns _ _ (quiet _ (raised side n answer) is refl h.1 b.0 b.1 (b.2, refl)) _ _ _ (raised_alike put side making answer) x (λ s k. (answer, refl, k))
 
       pub step_before : (at : Stage (QueueCall T) T W) → ChannelMakes (Notes form) (stage_by put at) on_nothing o m next r → StepBefore at m next r
       step_before (Trying call a) (after, answer, (x, makes, is), e, h) =

@@ -82,22 +82,15 @@ module _ {T W V : Type 0} (put : W → V) where
   refused_alike w (Some key) task = refl
 
   sent_alike : (x : QueueReply T) → Same (sent_next x) (sent_next x)
-  sent_alike (Push (Ok u)) = refl
   sent_alike (Push (Err (push_error.Full m))) = refl
-  sent_alike (Push (Err (push_error.Closed m))) = refl
-  sent_alike (Push (Err (push_error.NoMemory m))) = refl
   sent_alike _ = refl
 
   forced_alike : (x : QueueReply T) → Same (forced_next x) (forced_next x)
-  forced_alike (Force (Ok displaced)) = refl
   forced_alike (Force (Err (force_error.Closed m))) = refl
-  forced_alike (Force (Err (force_error.NoMemory m))) = refl
   forced_alike _ = refl
 
   received_alike : (x : QueueReply T) → Same (received_next x) (received_next x)
-  received_alike (Pop (Ok m)) = refl
   received_alike (Pop (Err pop_error.Empty)) = refl
-  received_alike (Pop (Err pop_error.Closed)) = refl
   received_alike _ = refl
 
   gathered_alike : (taken : List T) (more : ℕ) → Same (gathered_next (with_last taken more)) (gathered_next (with_last taken more))
@@ -151,18 +144,14 @@ module _ {T W V : Type 0} (put : W → V) where
 
   asked_alike : (x : QueueReply T) → Same (asked_next x) (asked_next x)
   asked_alike (Flag b) = refl
-  asked_alike (Count n) = refl
-  asked_alike (Cap c) = refl
   asked_alike _ = refl
 
   terminated_alike : (x : QueueReply T) → Same (terminated_next x) (terminated_next x)
   terminated_alike (Flag true) = refl
-  terminated_alike (Flag false) = refl
   terminated_alike _ = refl
 
   upgraded_alike : (x : QueueReply T) (side : Side) → Same (upgraded_next x side) (upgraded_next x side)
   upgraded_alike (Flag true) side = refl
-  upgraded_alike (Flag false) side = refl
   upgraded_alike _ side = refl
 
   pub answered_alike : (a : Aim T W) (x : QueueReply T) → Same (answered_next a x) (answered_next (aim_by put a) x)
@@ -199,8 +188,7 @@ module _ {T W V : Type 0} (put : W → V) where
 
   pub kept_alike : {Q : Type 0} (s : Stage Q T W) → kept_by (stage_by put s) ≡ kept_by s
   kept_alike (Trying q a) = refl
-  kept_alike (Working w) = refl
-  kept_alike (Finished kept) = refl
+  kept_alike s = refl
 
   abbrev stage_so : Stage (QueueCall T) T W → Stage (QueueCall T) T V
   stage_so s = stage_by put s

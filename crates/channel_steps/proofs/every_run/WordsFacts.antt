@@ -9,17 +9,12 @@ use Rattle.concurrent_queue.proofs.FitsFacts as fits_facts
 use Rattle.concurrent_queue.proofs.Interface.{shows}
 use Rattle.channel_calls.specs.declared.ask.ChannelAsk.TheVariants as ask
 use Rattle.channel_calls.specs.declared.stage.Aim.TheVariants as aim
-use Rattle.channel_calls.specs.declared.stage.Closer.TheVariants as closer
 use Rattle.channel_steps.specs.every_run.Ends.{Each}
 use Rattle.channel_steps.specs.every_run.Chained.{AreChained}
 use Rattle.channel_steps.specs.every_run.Put.{yet_to_put}
+use Rattle.channel_steps.proofs.SuitFacts.{brings_own}
 use Rattle.channel_steps.proofs.every_run.ChainedFacts.{SomeSeat, are_chained, by_others}
 use Rattle.channel_steps.proofs.every_run.PutFacts.{IsHeldFor, held}
-
-module _ {T : Type 0} where
-  -- the message that the queue's call brings is the one that the call was made with
-  same : (v w m : T) → w ≡ m → (w ∷ []) ≡ v ∷ [] → (m ∷ []) ≡ v ∷ []
-  same v w m e one = subst (λ (x : T). (x ∷ []) ≡ v ∷ []) e one
 
 module _ {T W : Type 0} where
   -- ---- the marks of a call that has let its message in
@@ -54,28 +49,17 @@ module _ {T W : Type 0} where
   abbrev Brings : T → ChannelAsk T W → List (MarkedMoment T W) → Type 0
   Brings v a ds = (brought a ≡ v ∷ []) × HasLetIn ds
 
+  let_in : (v : T) (now : Channel T W) (y : Aim T W) (a : ChannelAsk T W) (x : QueueAsk T) (s : queue.Stage T) (ds : List (MarkedMoment T W))
+      (seen : List (Channel T W)) → message x ≡ v ∷ [] → HasBrought s → TriesFor a y x ds seen → TriesAt now y x s ds seen → HasLetIn ds
+  let_in v now (aim.RecvMany g) (ask.RecvMany n) q.Pop s ds seen one b t h = absurd cc
+  let_in v now (aim.RecvMany g) a x s ds seen one b t h = absurd t
+  let_in v now y a (q.Push w) s ds seen one b t h = push_in now w s ds seen b h
+  let_in v now y a (q.ForcePush w) s ds seen one b t h = force_in now w s ds seen b h
+  let_in v now y a x s ds seen one b t h = absurd cc
+
   tries : (v : T) (now : Channel T W) (a : ChannelAsk T W) (y : Aim T W) (x : QueueAsk T) (s : queue.Stage T) (ds : List (MarkedMoment T W))
       (seen : List (Channel T W)) → message x ≡ v ∷ [] → HasBrought s → TriesFor a y x ds seen → TriesAt now y x s ds seen → Brings v a ds
-  tries v now (ask.TrySend m) aim.TrySend (q.Push w) s ds seen one b t h = (same v w m t one, push_in now w s ds seen b h)
-  tries v now (ask.ForceSend m) aim.ForceSend (q.ForcePush w) s ds seen one b t h = (same v w m t one, force_in now w s ds seen b h)
-  tries v now (ask.PollSend m k z) (aim.Poll Sends key task) (q.Push w) s ds seen one b t h = (same v w m t one, push_in now w s ds seen b h)
-  tries v now ask.TryRecv aim.TryRecv q.Pop s ds seen one b t h = absurd cc
-  tries v now (ask.RecvMany n) (aim.RecvMany g) q.Pop s ds seen one b t h = absurd cc
-  tries v now ask.Close (aim.Close closer.Call) q.Close s ds seen one b t h = absurd cc
-  tries v now (ask.PollRecv k z) (aim.Poll Receives key task) q.Pop s ds seen one b t h = absurd cc
-  tries v now (ask.PollClosed k z) (aim.Poll Closings key task) q.IsClosed s ds seen one b t h = absurd cc
-  tries v now (ask.PollNext k z) (aim.Poll Streams key task) q.Pop s ds seen one b t h = absurd cc
-  tries v now ask.DropSender (aim.Close closer.Sender) q.Close s ds seen one b t h = absurd cc
-  tries v now (ask.DropReceiver k) (aim.Close (closer.Receiver key)) q.Close s ds seen one b t h = absurd cc
-  tries v now (ask.Upgrade side) (aim.Upgrade z) q.IsClosed s ds seen one b t h = absurd cc
-  tries v now ask.IsClosed aim.Ask q.IsClosed s ds seen one b t h = absurd cc
-  tries v now ask.IsEmpty aim.Ask q.IsEmpty s ds seen one b t h = absurd cc
-  tries v now ask.IsFull aim.Ask q.IsFull s ds seen one b t h = absurd cc
-  tries v now ask.Len aim.Ask q.Len s ds seen one b t h = absurd cc
-  tries v now ask.Capacity aim.Ask q.Capacity s ds seen one b t h = absurd cc
-  tries v now ask.IsTerminated aim.IsTerminated q.IsClosed s ds seen one b t h = absurd cc
-  tries v now ask.IsTerminated aim.Ask q.IsEmpty s ds seen one b t h = absurd cc
-  tries v now a y x s ds seen one b t h = absurd t
+  tries v now a y x s ds seen one b t h = (sym (brings_own a y ds seen x t) ∙ one, let_in v now y a x s ds seen one b t h)
 
   -- the queue's call has brought the message at this stage
   abbrev Brought : T → Stage (Phase T) T W → Type 0

@@ -1,8 +1,9 @@
 -- Steps that a call makes on end, alone at work: how far it has come, and what one step of its machine makes of that.
-use Rattle.std.proofs.Common.{◌≡◌, ◌<◌, ℕ, List, Option, None, Some, refl, sym, subst}
+use Rattle.std.proofs.Common.{◌≡◌, ◌∙◌, ◌<◌, ℕ, List, Option, None, Some, refl, sym, ap, subst}
 use Rattle.concurrent_queue.specs.Step.{Starts, mark_of}
 use Rattle.concurrent_queue.specs.declared.queue_call.QueueCall.{QueueCall}
 use Rattle.concurrent_queue.specs.declared.call.QueueAsk.{QueueAsk}
+use Rattle.concurrent_queue.specs.declared.call.QueueMark.{QueueMark}
 use Rattle.concurrent_queue.specs.declared.call.QueueReply.{QueueReply}
 use Rattle.event_listener.specs.Notices.{Woken}
 use Rattle.channel_calls.specs.declared.ask.ChannelAsk.{ChannelAsk}
@@ -26,34 +27,27 @@ use Rattle.channel_calls.specs.Plain.{parts_of, DoesPlain}
 use Rattle.channel_calls.specs.Turns.{nothing_kept, says}
 use Rattle.channel_calls.specs.Walks.{ChannelMakes}
 use Rattle.channel_steps.specs.Count.{counted}
-use Rattle.channel_steps.specs.solo.Run.{IsAtRest, AnswersAlone}
+use Rattle.channel_steps.specs.solo.Run.{IsAtRest}
 use Rattle.channel_steps.specs.solo.Configurations.{RunsInConfigurations}
 use Rattle.channel_steps.specs.declared.alone.Done.{Done}
-use Rattle.channel_steps.proofs.solo.LoopFacts.{IsOnItsWay, plain_step, way_starts, way_nearer, way_more, way_ends}
-use Rattle.channel_steps.proofs.solo.Order.{measure}
-use Rattle.channel_steps.proofs.solo.ConfigurationLoop.{IsBetween, configurations_start, configurations_more, configurations_end}
+use Rattle.channel_steps.specs.Left.{steps_left}
+use Rattle.channel_steps.proofs.solo.ConfigurationLoop.{IsBetween, plain_step, configurations_start, configurations_more, configurations_nearer, configurations_end}
 
 module _ {T W S : Type 0} (wakes : S → W → S → Type 0) (a : ChannelAsk T W) (c0 : PlainChannel T W) (sink0 : S) (messages0 : ℕ) where
   -- how far the call has come, with so many messages counted
   abbrev pub HasCome : PlainChannel T W → Stage (QueueCall T) T W → S → ℕ → Type 0
-  HasCome c stage sink messages =
-      IsOnItsWay wakes a (parts_of c0) sink0 (parts_of c) stage sink
-      × IsBetween wakes a (parts_of c0) sink0 messages0 (parts_of c) stage sink messages
+  HasCome c stage sink messages = IsBetween wakes a (parts_of c0) sink0 messages0 (parts_of c) stage sink messages
 
   -- what a call left that answers this, with nothing kept
   abbrev pub IsOver : Done T → PlainChannel T W → S → ℕ → Type 0
-  IsOver done d l messages =
-      AnswersAlone wakes a (parts_of c0) sink0 done (parts_of d) l
-      × RunsInConfigurations wakes a (parts_of c0) sink0 messages0 done (parts_of d) l messages
+  IsOver done d l messages = RunsInConfigurations wakes a (parts_of c0) sink0 messages0 done (parts_of d) l messages
 
   -- one that tries first has asked the queue, and nothing more
   pub comes_in : (x : QueueAsk T) (aim : Aim T W) (call : QueueCall T) → first a ≡ Tries x aim → Starts call x
       → HasCome c0 (Trying call aim) sink0 messages0
   comes_in x aim call tries starts =
-      let begins : IsTaken (first a) None (Trying call aim) = rw tries (call, starts, refl, refl) in (
-        way_starts wakes a (parts_of c0) sink0 (record { stage = Trying call aim; mark = Nothing }) (None, begins),
-        configurations_start wakes a (parts_of c0) sink0 messages0 (record { stage = Trying call aim; mark = Nothing }) (None, begins),
-      )
+      let begins : IsTaken (first a) None (Trying call aim) = rw tries (call, starts, refl, refl) in
+      configurations_start wakes a (parts_of c0) sink0 messages0 (record { stage = Trying call aim; mark = Nothing }) (None, begins)
 
   over_as : (done : Done T) (y : Reply T) (d : PlainChannel T W) (l : S) (n : ℕ) → done ≡ record { reply = y; kept = nothing_kept }
       → IsOver (record { reply = y; kept = nothing_kept }) d l n → IsOver done d l n
@@ -65,33 +59,31 @@ module _ {T W S : Type 0} (wakes : S → W → S → Type 0) (a : ChannelAsk T W
     module _ (made : ChannelMakes (Did DoesPlain wakes) stage (c, k) (d, l) m next None) where
       comes_on : HasCome d next l n
       comes_on =
-          let step = plain_step wakes c d k l m next None stage made in (
-            way_more wakes a (parts_of c0) sink0 (parts_of c) stage k x.0 (parts_of d) next m l step,
-            configurations_more wakes a (parts_of c0) sink0 messages0 (parts_of c) stage k messages x.1 (parts_of d) next m l n m refl count step,
-          )
+          configurations_more wakes a (parts_of c0) sink0 messages0 (parts_of c) stage k messages x (parts_of d) next m l n m refl count
+          (plain_step wakes c d k l m next None stage made)
 
       comes_nearer : IsAtRest (parts_of c0)
-          → measure (parts_of d).cells (parts_of d).roster next < measure (parts_of c).cells (parts_of c).roster stage
+          → steps_left (parts_of d).cells (parts_of d).roster next < steps_left (parts_of c).cells (parts_of c).roster stage
       comes_nearer rest =
-          way_nearer wakes a (parts_of c0) sink0 (parts_of c) stage k x.0 (parts_of d) next m l
+          configurations_nearer wakes a (parts_of c0) sink0 messages0 (parts_of c) stage k messages x (parts_of d) next m l n m refl count
           (plain_step wakes c d k l m next None stage made) rest
 
     -- and one that answers
     comes_to : (y : Reply T) → ChannelMakes (Did DoesPlain wakes) stage (c, k) (d, l) m next (Some y)
         → IsOver (record { reply = y; kept = kept_by next }) d l n
     comes_to y made =
-        let step = plain_step wakes c d k l m next (Some y) stage made in (
-          way_ends wakes a (parts_of c0) sink0 (parts_of c) stage k x.0 (parts_of d) next m l y step (kept_by next) refl,
-          configurations_end wakes a (parts_of c0) sink0 messages0 (parts_of c) stage k messages x.1 (parts_of d) next m l n m refl count
-              y step (kept_by next) refl,
-        )
+        configurations_end wakes a (parts_of c0) sink0 messages0 (parts_of c) stage k messages x (parts_of d) next m l n m refl count
+        y (plain_step wakes c d k l m next (Some y) stage made) (kept_by next) refl
 
   -- a step of the queue's call
   module _ (aim : Aim T W) (c d : PlainChannel T W) (call after : QueueCall T) (k : S) (messages n : ℕ)
-      (x : HasCome c (Trying call aim) k messages) (count : n ≡ counted messages (mark_of_queue (mark_of after)))
+      (x : HasCome c (Trying call aim) k messages) (last : QueueMark) (last_is : last ≡ mark_of after) (now : n ≡ counted messages (mark_of_queue last))
       (o : Option (QueueReply T)) (deed : DoesPlain (stepped call after o) c d) where
     abbrev mark : Mark
     mark = mark_of_queue (mark_of after)
+
+    count : n ≡ counted messages mark
+    count = now ∙ ap (λ (m : QueueMark). counted messages (mark_of_queue m)) last_is
 
     abbrev silent : o ≡ None → DoesPlain (stepped call after None) c d
     silent e = subst (λ (p : Option (QueueReply T)). DoesPlain (stepped call after p) c d) e deed
@@ -103,7 +95,7 @@ module _ {T W S : Type 0} (wakes : S → W → S → Type 0) (a : ChannelAsk T W
     tries_on e = comes_on c d (Trying call aim) (Trying after aim) k k messages n mark x count (after, None, (silent e, refl), refl, (refl, refl))
 
     pub tries_nearer : o ≡ None → IsAtRest (parts_of c0)
-        → measure (parts_of d).cells (parts_of d).roster (Trying after aim) < measure (parts_of c).cells (parts_of c).roster (Trying call aim)
+        → steps_left (parts_of d).cells (parts_of d).roster (Trying after aim) < steps_left (parts_of c).cells (parts_of c).roster (Trying call aim)
     tries_nearer e rest =
         comes_nearer c d (Trying call aim) (Trying after aim) k k messages n mark x count (after, None, (silent e, refl), refl, (refl, refl)) rest
 

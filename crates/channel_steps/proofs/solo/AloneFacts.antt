@@ -1,7 +1,9 @@
 -- A call that is stepped to its end with nobody else at work, from the contract of a step alone.
-use Rattle.channel_steps.proofs.solo.Words.{◌≡◌, ℕ, ◌+◌, ◌*◌, ◌<◌, ◌≤◌, List, [], ◌∷◌, ◌++◌, append_assoc, Option, None, Some, ◌⊎◌, inl, inr, refl, sym, ap, ◌∙◌, subst, arith, Queue, Phase, asked, after, Continues, Answers, IsInRange, Fits, rank, QueueCall, QueueAsk, QueueMark, QueueReply, shows, IsIdle, Comes, Does, does, Woken, ChannelAsk, Mark, Reply, Aim, Kept, Stage, Trying, Working, Finished, Turn, Tries, Works, Ends, Work, Parts, Roster, answered_next, kept_by, Channel, Effect, channel, Turned, Tried, seats, phase, IsTaken, Hastens, Made, IsStepOver, Outcome, Alone, after_waking, answers, HasNextPosition}
+use Rattle.channel_steps.proofs.solo.Words.{◌≡◌, ℕ, ◌+◌, ◌*◌, ◌<◌, ◌≤◌, List, [], ◌∷◌, ◌++◌, append_assoc, Option, None, Some, ◌⊎◌, inl, inr, refl, sym, ap, ◌∙◌, subst, arith, Queue, Phase, asked, after, Continues, Answers, IsInRange, Fits, rank, QueueCall, QueueAsk, QueueMark, QueueReply, shows, IsIdle, Comes, Does, does, Woken, ChannelAsk, Mark, Reply, Aim, Kept, Stage, Trying, Working, Finished, Turn, Tries, Works, Ends, Work, Parts, Roster, answered_next, kept_by, Channel, Effect, channel, Turned, Tried, seats, phase, IsTaken, Hastens, Made, IsStepOver, Outcome, Alone, after_waking, answers, HasNextPosition, steps_left}
 use Rattle.channel_steps.proofs.solo.TryFacts.{brought_by, brought_by_is, left_by, Found, tries_start, tries_on, tries_end}
-use Rattle.channel_steps.proofs.solo.Order.{order, order_turn, order_try, near, measure, measure_falls, try_is_late, answered_order, telling_order}
+use Rattle.channel_steps.proofs.LeftFacts.{IsAtWork, step_lessens}
+use Rattle.channel_steps.proofs.StageFacts.{phase_try, phase_work, phase_end}
+use Rattle.channel_steps.proofs.solo.BringFacts.{MayBring, worked_brings, brings_once}
 use Rattle.channel_steps.proofs.solo.Rest.{RestTry, RestWork, RestTurn, RestStage, turn_rests}
 use Rattle.channel_steps.proofs.solo.AnswerFacts.{answered_rest}
 use Rattle.channel_steps.proofs.solo.WorkFacts.{Backs, work_backs}
@@ -33,37 +35,13 @@ module _ {T W : Type 0} where
   At from f (Working w) now = now ≡ from
   At from f (Finished kept) now = ⊥
 
-  same_asked : (f g : Phase T) (x y : Aim T W) → (let s : Stage (Phase T) T W = Trying f x in s) ≡ Trying g y → f ≡ g
-  same_asked f g x y e = cc
-
   -- the stage after a turn that does not answer
   at_turn : (turn : Turn T W) (f : Phase T) (s : Stage (QueueCall T) T W) (q : Queue T)
       → Turned turn None (phase f s) → At q f s q
-  at_turn (Tries a x) f (Trying call y) q h = at_asked q f a (same_asked f (asked a) y x h.1)
-  at_turn (Tries a x) f (Working w) q h =
-      absurd (let no : (let s : Stage (Phase T) T W = Working w in s) ≡ Trying (asked a) x = h.1 in cc)
-  at_turn (Tries a x) f (Finished kept) q h =
-      absurd (let no : (let s : Stage (Phase T) T W = Finished kept in s) ≡ Trying (asked a) x = h.1 in cc)
-  at_turn (Works v) f (Trying call y) q h =
-      absurd (let no : (let s : Stage (Phase T) T W = Trying f y in s) ≡ Working v = h.1 in cc)
-  at_turn (Works v) f (Working w) q h = refl
-  at_turn (Works v) f (Finished kept) q h =
-      absurd (let no : (let s : Stage (Phase T) T W = Finished kept in s) ≡ Working v = h.1 in cc)
+  at_turn (Tries a x) f s q h =
+      let t = phase_try f (asked a) x s h.1 in subst (λ (z : Stage (QueueCall T) T W). At q f z q) (sym t.1) (at_asked q f a t.2)
+  at_turn (Works v) f s q h = subst (λ (z : Stage (QueueCall T) T W). At q f z q) (sym (phase_work f v s h.1)) refl
   at_turn (Ends x kept) f s q h = absurd (let no : (let y : Option (Reply T) = None in y) ≡ Some x = h.0 in cc)
-
-  order_phase : (a : Roster W) (f : Phase T) (s : Stage (QueueCall T) T W) → order a (phase f s) ≡ order a s
-  order_phase a f (Trying call x) = refl
-  order_phase a f s = refl
-
-  order_turned : (a : Roster W) (turn : Turn T W) (r : Option (Reply T)) (s : Stage (Phase T) T W) → Turned turn r s
-      → order a s ≡ order_turn a turn
-  order_turned a (Tries x y) r s h = ap (λ (z : Stage (Phase T) T W). order a z) h.1
-  order_turned a turn r s h = ap (λ (z : Stage (Phase T) T W). order a z) h.1
-
-  order_taken : (a : Roster W) (turn : Turn T W) (r : Option (Reply T)) (s : Stage (QueueCall T) T W) → IsTaken turn r s
-      → order a s ≡ order_turn a turn
-  order_taken a (Tries x y) r s (call, starts, none, e) = ap (λ (z : Stage (QueueCall T) T W). order a z) e
-  order_taken a turn r s h = ap (λ (z : Stage (QueueCall T) T W). order a z) h.1
 
   -- where a turn answers
   pub record Answered (turn : Turn T W) (x : Reply T) (s : Stage (Phase T) T W) : Type 0 where
@@ -80,11 +58,8 @@ module _ {T W : Type 0} where
 
   pub finished_kept : (f : Phase T) (s : Stage (QueueCall T) T W) (kept : Kept T) → phase f s ≡ Finished kept
       → (kept_by s ≡ kept) × (seats f s ≡ [])
-  finished_kept f (Trying call x) kept e =
-      absurd (let no : (let s : Stage (Phase T) T W = Trying f x in s) ≡ Finished kept = e in cc)
-  finished_kept f (Working w) kept e = absurd (let no : (let s : Stage (Phase T) T W = Working w in s) ≡ Finished kept = e in cc)
-  finished_kept f (Finished k) kept e =
-      ((let same : (let s : Stage (Phase T) T W = Finished k in s) ≡ Finished kept = e in cc), refl)
+  finished_kept f s kept e =
+      let same = phase_end f kept s e in (ap (λ (z : Stage (QueueCall T) T W). kept_by z) same, ap (λ (z : Stage (QueueCall T) T W). seats f z) same)
 
   -- ---- how far a call has come
 
@@ -100,7 +75,7 @@ module _ {T W : Type 0} where
     pub place : HasNextPosition c0.queue
     pub capacity : from.capacity ≡ c0.queue.capacity
     pub accepted : from.accepted ≤ c0.queue.accepted + 1
-    pub unspent : 5 < order parts.roster stage → from.accepted ≡ c0.queue.accepted
+    pub unspent : MayBring (phase at stage) → from.accepted ≡ c0.queue.accepted
     pub on : (o : Outcome T W) → RestStage (phase at stage) (channel from parts) o → Alone a c0 (after_waking so_far o)
 
   -- a step after which a turn was taken
@@ -115,7 +90,7 @@ module _ {T W : Type 0} where
     pub place : HasNextPosition c0.queue
     pub capacity : queue.capacity ≡ c0.queue.capacity
     pub accepted : queue.accepted ≤ c0.queue.accepted + 1
-    pub unspent : 5 < order_turn parts'.roster turn → queue.accepted ≡ c0.queue.accepted
+    pub unspent : MayBring (phase at stage') → queue.accepted ≡ c0.queue.accepted
     pub on : (o : Outcome T W) → RestTurn turn (channel queue parts') o → Alone a c0 (after_waking woken o)
 
   pub goes_on : (a : ChannelAsk T W) (c0 : Channel T W) (parts' : Parts T W) (stage' : Stage (QueueCall T) T W) (woken : List W)
@@ -131,9 +106,7 @@ module _ {T W : Type 0} where
         place = x.place;
         capacity = x.capacity;
         accepted = x.accepted;
-        unspent = λ h. x.unspent
-            (let e = sym (order_phase parts'.roster x.at stage')
-            ∙ order_turned parts'.roster x.turn None (phase x.at stage') x.turned in subst (λ (n : ℕ). 5 < n) e h);
+        unspent = x.unspent;
         on = λ o k. x.on o (turn_rests x.turn (phase x.at stage') (channel x.queue parts') o x.turned k);
       }
 
@@ -192,7 +165,7 @@ module _ {T W : Type 0} where
           place = x.place;
           capacity = ap (λ (q : Queue T). q.capacity) same ∙ x.capacity;
           accepted = (let n = ap (λ (q : Queue T). q.accepted) same in let k = x.accepted in omega (arith, n, k));
-          unspent = λ h. ap (λ (q : Queue T). q.accepted) same ∙ x.unspent (let f = b.falls in omega (arith, h, f));
+          unspent = λ h. ap (λ (q : Queue T). q.accepted) same ∙ x.unspent (worked_brings r (phase made.phase_now stage') (channel x.now parts) w e made.moves h);
           on = λ o k. woken_more o
               (x.on (after_waking names o)
               (subst (λ (q : Queue T). RestWork w (channel q parts) (after_waking names o)) x.known (b.back o k)));
@@ -218,7 +191,7 @@ module _ {T W : Type 0} where
       queue_now = ap (λ (e : Effect T W). e.channel.queue) tried.effect
 
       unspent_yet : x.from.accepted ≡ c0.queue.accepted
-      unspent_yet = x.unspent (try_is_late parts.roster y)
+      unspent_yet = x.unspent tt
 
       -- it goes on
       on_try : (f' : Phase T) → Continues x.now x.at tried.mark f' → (call' : QueueCall T) → stage' ≡ Trying call' y
@@ -257,10 +230,6 @@ module _ {T W : Type 0} where
       at_answer : (z : QueueReply T) → Answers x.now x.at tried.mark z
           → Turned (answered_next y z) r (phase made.phase_now stage') → AdvancesTo made.queue made.phase_now
       at_answer z answers turned =
-          let found0 : Found x.from x.at.ask z (after x.at tried.mark x.now) =
-          tries_end x.from x.now x.at tried.mark z x.idle answers x.known in
-          let found : Found x.from x.at.ask z made.queue =
-          subst (λ (q : Queue T). Found x.from x.at.ask z q) (sym queue_now) found0 in
           let advances : Advances a c0 parts' stage' (so_far ++ names) r =
           record {
             queue = made.queue;
@@ -276,7 +245,7 @@ module _ {T W : Type 0} where
             capacity = found.capacity ∙ x.capacity;
             accepted = (let n = found.accepted in let k = most_one (brought_by z) (brought_by_is z) in let e = unspent_yet in
                 omega (arith, n, k, e));
-            unspent = λ h. unspent_still z found h (brought_by_is z);
+            unspent = λ h. unspent_still h (brought_by_is z);
             on = λ o k.
                 let k1 : RestTurn (answered_next y z) (record { queue = made.queue; roster = parts.roster }) o =
                 subst (λ (b : Roster W). RestTurn (answered_next y z) (record { queue = made.queue; roster = b }) o)
@@ -290,24 +259,17 @@ module _ {T W : Type 0} where
           in
           (advances, refl, refl)
         where
-          unspent_still : (z : QueueReply T) → Found x.from x.at.ask z made.queue
-              → 5 < order_turn parts'.roster (answered_next y z) → (brought_by z ≡ 0) ⊎ (brought_by z ≡ 1)
+          found : Found x.from x.at.ask z made.queue
+          found =
+              subst (λ (q : Queue T). Found x.from x.at.ask z q) (sym queue_now)
+              (tries_end x.from x.now x.at tried.mark z x.idle answers x.known)
+
+          unspent_still : MayBring (phase made.phase_now stage') → (brought_by z ≡ 0) ⊎ (brought_by z ≡ 1)
               → made.queue.accepted ≡ c0.queue.accepted
-          unspent_still z found h (inl none) = let n = found.accepted in let e = unspent_yet in omega (arith, n, e, none)
-          unspent_still z found h (inr one) = absurd (let k = telling_order parts'.roster y z one in omega (arith, h, k))
+          unspent_still h (inl none) = let n = found.accepted in let e = unspent_yet in omega (arith, n, e, none)
+          unspent_still h (inr one) = absurd (brings_once r (phase made.phase_now stage') y z one turned h)
 
     -- ---- a step
-
-    same_try : (f g : Phase T) (y : Aim T W) (s : Stage (QueueCall T) T W) → phase f s ≡ Trying g y
-        → (call : QueueCall T) × (s ≡ Trying call y) × (f ≡ g)
-    same_try f g y (Trying call z) e =
-        let same : z ≡ y = (let e' : (let s : Stage (Phase T) T W = Trying f z in s) ≡ Trying g y = e in cc) in
-        (call, ap (λ (w : Aim T W). let s : Stage (QueueCall T) T W = Trying call w in s) same, same_asked f g z y e)
-    same_try f g y (Working w) e = absurd (let no : (let s : Stage (Phase T) T W = Working w in s) ≡ Trying g y = e in cc)
-    same_try f g y (Finished kept) e = absurd (let no : (let s : Stage (Phase T) T W = Finished kept in s) ≡ Trying g y = e in cc)
-
-    abbrev Next : Type 0
-    Next = (IsAlone a c0 parts' stage' (so_far ++ names) × (r ≡ None)) ⊎ Advances a c0 parts' stage' (so_far ++ names) r
 
     by_how : (call : QueueCall T) (y : Aim T W) (x : IsAlone a c0 parts (Trying call y) so_far)
         (made : Made parts (Trying call y) names parts' stage' m r x.fits.0 x.now x.at [] []) (mark : QueueMark)
@@ -316,7 +278,7 @@ module _ {T W : Type 0} where
         ⊎ ((z : QueueReply T) × Answers x.now x.at mark z × Turned (answered_next y z) r (phase made.phase_now stage'))
         → StepsTo made.queue made.phase_now
     by_how call y x made mark e (inl (f', goes, none, on)) =
-        let t = same_try made.phase_now f' y stage' on in
+        let t = phase_try made.phase_now f' y stage' on in
         inl (on_try call y x made f' (subst (λ (k : QueueMark). Continues x.now x.at k f') e goes) t.0 t.1 t.2, none)
     by_how call y x made mark e (inr (z, ans, turned)) =
         inr (at_answer call y x made z (subst (λ (k : QueueMark). Answers x.now x.at k z) e ans) turned)
@@ -332,7 +294,7 @@ module _ {T W : Type 0} where
         → x.now.accepted ≤ c0.queue.accepted + 1
     accepts_one (Trying call y) x =
         let d : Does x.from x.now x.at = does x.from x.now x.at x.idle x.known in
-        let n = d.most in let e = x.unspent (try_is_late parts.roster y) in
+        let n = d.most in let e = x.unspent tt in
         omega (arith, n, e)
     accepts_one (Working w) x = (let n = ap (λ (q : Queue T). q.accepted) x.known in let k = x.accepted in omega (arith, n, k))
     accepts_one (Finished kept) x = absurd x.known
@@ -340,7 +302,7 @@ module _ {T W : Type 0} where
     pub in_range : (stage : Stage (QueueCall T) T W) (x : IsAlone a c0 parts stage so_far) → IsInRange x.now
     in_range (Trying call y) x =
         let d : Does x.from x.now x.at = does x.from x.now x.at x.idle x.known in
-        let n = d.most in let e = x.unspent (try_is_late parts.roster y) in
+        let n = d.most in let e = x.unspent tt in
         still_in_range c0.queue x.now x.place (d.capacity ∙ x.capacity) (omega (arith, n, e))
     in_range (Working w) x =
         subst (λ (q : Queue T). IsInRange q) (sym x.known) (still_in_range c0.queue x.from x.place x.capacity x.accepted)
@@ -350,51 +312,15 @@ module _ {T W : Type 0} where
         → IsStepOver parts stage names parts' stage' m r → Made parts stage names parts' stage' m r x.fits.0 x.now x.at [] []
     made_by stage x step = step x.fits.0 x.now x.at [] [] (in_range stage x) x.fits.1
 
-    pub step_next : (stage : Stage (QueueCall T) T W) → IsAlone a c0 parts stage so_far
-        → IsStepOver parts stage names parts' stage' m r → Next
-    step_next stage x step = let made = made_by stage x step in forget made.queue made.phase_now (next stage x made)
-      where
-        forget : (q : Queue T) (f : Phase T) → StepsTo q f → Next
-        forget q f (inl h) = inl (h.0.0, h.1)
-        forget q f (inr h) = inr h.0
-
     -- ---- the end is nearer
 
-    hastened : (call : QueueCall T) (y : Aim T W) (x : IsAlone a c0 parts (Trying call y) so_far)
-        (made : Made parts (Trying call y) names parts' stage' m r x.fits.0 x.now x.at [] [])
-        → Hastens parts.cells x.now x.at (Trying call y) parts'.cells r stage'
-        → measure parts'.cells parts'.roster stage' < measure parts.cells parts.roster (Trying call y)
-    hastened call y x made (inl (call', e, less)) =
-        let same : order_try parts'.roster y ≡ order_try parts.roster y =
-        ap (λ (b : Roster W). order_try b y) (same_roster call y x made) in
-        let now : order_try parts'.roster y * 64 + rank parts'.cells call' < order_try parts.roster y * 64 + rank parts.cells
-        call = omega (arith, same, less) in
-        subst (λ (z : Stage (QueueCall T) T W). measure parts'.cells parts'.roster z < measure parts.cells parts.roster
-        (Trying call y)) (sym e) now
-    hastened call y x made (inr (z, k, ans, taken)) =
-        let same : order_try parts'.roster y ≡ order_try parts.roster y =
-        ap (λ (b : Roster W). order_try b y) (same_roster call y x made) in
-        let turn = order_taken parts'.roster (answered_next y z) r stage' taken in
-        let falls = answered_order parts'.roster y z in
-        measure_falls parts.cells parts'.cells parts.roster parts'.roster (Trying call y) stage'
-        (near parts'.cells made.queue made.phase_now stage' (_, made.fits)) (omega (arith, same, turn, falls))
-
-    nearer_by : (stage : Stage (QueueCall T) T W) (x : IsAlone a c0 parts stage so_far)
-        → Made parts stage names parts' stage' m r x.fits.0 x.now x.at [] []
-        → measure parts'.cells parts'.roster stage' < measure parts.cells parts.roster stage
-    nearer_by (Trying call y) x made = hastened call y x made (made.ends (tt, λ e. inr refl))
-    nearer_by (Working w) x made =
-        let e : Effect T W = record { channel = channel made.queue parts'; mark = m; woken = names } in
-        let b : Backs (channel x.now parts) w e r (phase made.phase_now stage') =
-        work_backs (channel x.now parts) w e r (phase made.phase_now stage') made.moves in
-        let turn = sym (order_phase parts'.roster made.phase_now stage')
-        ∙ order_turned parts'.roster b.turn r (phase made.phase_now stage') b.turned in
-        let falls = b.falls in
-        measure_falls parts.cells parts'.cells parts.roster parts'.roster (Working w) stage'
-        (near parts'.cells made.queue made.phase_now stage' (_, made.fits)) (omega (arith, turn, falls))
-    nearer_by (Finished kept) x made = absurd x.known
+    at_work : (from now : Queue T) (f : Phase T) (stage : Stage (QueueCall T) T W) → At from f stage now → IsAtWork stage
+    at_work from now f (Finished kept) h = h
+    at_work from now f stage h = tt
 
     pub step_nearer : (stage : Stage (QueueCall T) T W) → IsAlone a c0 parts stage so_far
         → IsStepOver parts stage names parts' stage' m r
-        → measure parts'.cells parts'.roster stage' < measure parts.cells parts.roster stage
-    step_nearer stage x step = nearer_by stage x (made_by stage x step)
+        → steps_left parts'.cells parts'.roster stage' < steps_left parts.cells parts.roster stage
+    step_nearer stage x step =
+        step_lessens parts parts' names stage' m r x.fits.0 x.now x.at [] [] stage (at_work x.from x.now x.at stage x.known)
+        (made_by stage x step) (tt, λ e. inr refl)

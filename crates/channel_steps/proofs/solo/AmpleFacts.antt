@@ -13,7 +13,7 @@ use Rattle.event_listener.specs.declared.error.ListenError.TheVariants as listen
 use Rattle.channel_calls.specs.declared.stage.Aim.TheVariants as aim
 use Rattle.channel_calls.specs.declared.stage.Waiting.TheVariants as waiting
 use Rattle.channel_steps.proofs.solo.AloneFacts.{IsAlone, in_range}
-use Rattle.channel_steps.proofs.solo.LoopFacts.{IsOnItsWay}
+use Rattle.channel_steps.proofs.solo.ConfigurationLoop.{IsBetween, alone_there}
 use Rattle.channel_steps.proofs.solo.TryFacts.{tries_end}
 
 -- ---- lists and rooms
@@ -61,15 +61,11 @@ HasBound cap line = Unit {0}
 
 pending_ample : (T : Type 0) (line : Line) → lacks_memory (pending_reply {T = T} line) ≡ false
 pending_ample T Sends = refl
-pending_ample T Receives = refl
-pending_ample T Streams = refl
-pending_ample T Closings = refl
+pending_ample T line = refl
 
 serials_ample : (T : Type 0) (line : Line) → lacks_memory (refused_reply {T = T} line listen_error.SerialsUsedUp) ≡ false
 serials_ample T Sends = refl
-serials_ample T Receives = refl
-serials_ample T Streams = refl
-serials_ample T Closings = refl
+serials_ample T line = refl
 
 module _ {T : Type 0} where
   abbrev pub NoneLacks : Option (Reply T) → Type 0
@@ -298,16 +294,16 @@ module _ {T W : Type 0} where
       (taken (capacity_of (parts_of c).cells.form) (parts_of c).roster (rooms_of c) (first a) stage None takes
       (first_ready a (parts_of c) (rooms_of c) h)).0
 
-  module _ {S : Type 0} (wakes : S → W → S → Type 0) (a : ChannelAsk T W) (c0 : PlainChannel T W) (sink0 : S) (rest : IsAtRest (parts_of c0))
+  module _ {S : Type 0} (wakes : S → W → S → Type 0) (a : ChannelAsk T W) (c0 : PlainChannel T W) (sink0 : S) (messages0 messages : ℕ) (rest : IsAtRest (parts_of c0))
       (s t : PlainChannel T W × S) (m : Mark) (stage next : Stage (QueueCall T) T W) (r : Option (Reply T))
-      (way : IsOnItsWay wakes a (parts_of c0) sink0 (parts_of s.0) stage s.1) (made : ChannelMakes (Done DoesPlain wakes) stage s t m next r)
+      (way : IsBetween wakes a (parts_of c0) sink0 messages0 (parts_of s.0) stage s.1 messages) (made : ChannelMakes (Done DoesPlain wakes) stage s t m next r)
       (ample : StaysAmple a c0 s.0 stage) where
     pub ample_next : HasNode a (parts_of c0)
         → StaysReady (capacity_of (parts_of c0).cells.form) (parts_of t.0).roster (rooms_of t.0) next r
     ample_next h =
         let q = rest.0 in
-        let x = way q rest.1 rest.2 in
+        let x = alone_there wakes a (parts_of c0) sink0 messages0 (parts_of s.0) stage s.1 messages way q rest.1 rest.2 in
         let same : q.capacity ≡ capacity_of (parts_of c0).cells.form = (shows (parts_of c0).cells q [] rest.2).limit in
         subst (λ (cap : Option ℕ). StaysReady cap (parts_of t.0).roster (rooms_of t.0) next r) same
-        (step_ready wakes a (channel q (parts_of c0)) x.so_far s t m next r stage x.alone made
+        (step_ready wakes a (channel q (parts_of c0)) x.0 s t m next r stage x.1 made
         (subst (λ (cap : Option ℕ). ReadyStage cap (parts_of s.0).roster (rooms_of s.0) stage) (sym same) (ample h)))

@@ -1,17 +1,21 @@
 -- The steps of a call that is alone at work, one after another, from configuration to configuration.
-use Rattle.channel_steps.proofs.solo.Words.{◌≡◌, ℕ, ◌+◌, ◌≤◌, List, [], ◌∷◌, ◌++◌, map, length, append-nil, append_assoc, Option, None, Some, inl, inr, refl, sym, ap, ◌∙◌, subst, arith, Queue, Phase, Seat, Fits, FitsAt, QueueCall, shows, Woken, ChannelAsk, ChannelCall, Mark, Nothing, Reply, Kept, Stage, Parts, first, kept_by, Channel, Effect, channel, phase, seats, Moves, Made, IsNewCall, IsStepOver, IsChannelStep, counted, end_on, run_none, known_next, fits_after, none_after, after_lone, lone_goes, lone_ends, messages_counted, messages_moved, Outcome, Alone, after_waking, answers, HasNextPosition}
+use Rattle.channel_steps.proofs.solo.Words.{◌≡◌, ℕ, ◌+◌, ◌≤◌, List, [], ◌∷◌, ◌++◌, map, length, append-nil, append_assoc, Option, None, Some, inl, inr, refl, sym, ap, ◌∙◌, subst, arith, Queue, Phase, Seat, Fits, QueueCall, shows, Woken, ChannelAsk, ChannelCall, Mark, Nothing, Reply, Kept, Stage, Parts, first, kept_by, Channel, Effect, channel, phase, seats, Moves, Made, IsNewCall, IsStepOver, IsChannelStep, counted, end_on, run_none, known_next, fits_after, none_after, after_lone, lone_goes, lone_ends, messages_counted, messages_moved, Outcome, Alone, after_waking, answers, HasNextPosition, IsAtRest, AnswersAlone, PlainChannel, parts_of, DoesPlain, ChannelMakes, Done as Did, steps_left, ◌<◌}
+use Rattle.concurrent_queue.specs.Step.{FitsAt, FitsForm}
+use Rattle.concurrent_queue.specs.declared.cells.QueueForm.{QueueForm}
+use Rattle.concurrent_queue.specs.declared.cells.QueueForm.TheVariants.{Bounded, Unbounded}
+use Rattle.channel_calls.proofs.Interface.{exact_step}
 use Rattle.channel_steps.specs.declared.party.Entry.{Entry}
 use Rattle.channel_steps.specs.declared.party.Party.{Party}
 use Rattle.channel_steps.specs.Run.{Begins, EachStep, IsRun, NextConfiguration, end_of}
-use Rattle.channel_steps.specs.Configuration.{ActiveCall, Configuration, ActiveCallWitness, blocks_after, does, active_call_of, all_seats, Known, AllKnown, IsBalanced, Steps, Represents}
+use Rattle.channel_steps.specs.Configuration.{ActiveCall, Configuration, ActiveCallWitness, blocks_after, does, active_call_of, all_seats, Known, AllKnown, IsBalanced, MayHave, Steps, Represents}
 use Rattle.channel_steps.specs.solo.Configurations.{steps_by, woken_by_steps, EndsWith, RanInConfigurations, RunsInConfigurations}
 use Rattle.channel_steps.specs.declared.alone.Done.{Done}
 use Rattle.channel_steps.specs.declared.run.Step.TheVariants as step
 use Rattle.channel_steps.specs.Run as steps
-use Rattle.channel_steps.proofs.solo.FirstFacts.{first_goes_on, Begun, begun}
-use Rattle.channel_steps.proofs.solo.AloneFacts.{IsAlone, Advances, Answered, StepsTo, woken_on, answered, finished_kept, goes_on_so, capacity_now, accepts_one, made_by, next}
+use Rattle.channel_steps.proofs.solo.TryFacts.{idle}
+use Rattle.channel_steps.proofs.solo.FirstFacts.{first_rest, first_goes_on, Begun, begun}
+use Rattle.channel_steps.proofs.solo.AloneFacts.{IsAlone, Advances, Answered, StepsTo, woken_on, answered, finished_kept, goes_on_so, capacity_now, accepts_one, made_by, next, step_nearer}
 use Rattle.channel_steps.proofs.solo.Counts.{counted_few}
-use Rattle.channel_steps.proofs.solo.LoopFacts.{starts_over}
 
 module _ {T : Type 0} where
   -- none of these answers
@@ -28,6 +32,29 @@ module _ {T : Type 0} where
   silent_ends [] e x k h reply kept = (reply, kept)
   silent_ends (f ∷ []) e x k h reply kept = (h.0, h.1, (reply, kept))
   silent_ends (f ∷ g ∷ es) e x k h reply kept = (h.0, h.1, silent_ends (g ∷ es) e x k h.2 reply kept)
+
+module _ {T W : Type 0} (a : ChannelAsk T W) (parts0 : Parts T W) where
+  -- where a call begins, it has reached its first stage, over the queue that the cells mean
+  pub starts_over : (q : Queue T) → HasNextPosition q → (stage : Stage (QueueCall T) T W) (t : Begun (first a) parts0.cells q stage)
+      → Fits parts0.cells q []
+      → (y : IsAlone a (channel q parts0) parts0 stage []) × (y.now ≡ q) × (y.at ≡ t.at)
+  starts_over q position stage t fits =
+      let x : Advances a (channel q parts0) parts0 stage [] None =
+      record {
+        queue = q;
+        at = t.at;
+        turn = first a;
+        turned = t.turned;
+        idle = idle parts0.cells q fits;
+        fits = t.fits;
+        place = position;
+        capacity = refl;
+        accepted = omega arith;
+        unspent = λ h. refl;
+        on = λ o k. first_rest a (channel q parts0) o k;
+      }
+      in
+      goes_on_so a (channel q parts0) parts0 stage [] x
 
 module _ {T W : Type 0} where
   -- ---- steps, one after another
@@ -85,6 +112,35 @@ module _ {T W : Type 0} where
 
     none_under_way : s.under_way ≡ []
     none_under_way = sh.under_way ∙ ap (λ (xs : List (ActiveCallWitness T W)). map active_call_of xs) (nobody sh.witnesses sh.parties_are)
+
+  -- the configuration with nobody at work in which the queue is this one and has used these blocks
+  abbrev resting : List ℕ → Queue T → Parts T W → Configuration T W
+  resting blocks q parts = record { now = channel q parts; blocks = blocks; under_way = []; gone = []; came = [] }
+
+  -- the cells show it
+  shows_rest : (q : Queue T) (parts : Parts T W) → Fits parts.cells q [] → (blocks : List ℕ) × Represents parts [] (resting blocks q parts)
+  unfolding FitsAt
+  shows_rest q parts fits = by parts.cells.form refl fits.1
+    where
+      shown : (blocks : List ℕ) → MayHave parts.cells.form blocks → FitsAt blocks parts.cells q [] → Represents parts [] (resting blocks q parts)
+      shown blocks bare there =
+          record {
+            witnesses = [];
+            queue = q;
+            parties_are = refl;
+            under_way = refl;
+            now = refl;
+            fits = there;
+            bare = bare;
+            known = tt;
+            balanced = (shows parts.cells q [] fits).balance;
+          }
+
+      by : (form : QueueForm) → parts.cells.form ≡ form → FitsForm form fits.0 parts.cells q [] → (blocks : List ℕ) × Represents parts [] (resting blocks q parts)
+      by (Bounded capacity) is there =
+          ([], shown [] (subst (λ (f : QueueForm). MayHave f []) (sym is) refl) (subst (λ (f : QueueForm). FitsForm f [] parts.cells q []) (sym is) there))
+      by Unbounded is there =
+          (fits.0, shown fits.0 (subst (λ (f : QueueForm). MayHave f fits.0) (sym is) tt) (subst (λ (f : QueueForm). FitsForm f fits.0 parts.cells q []) (sym is) there))
 
   -- ---- how far a call has come
 
@@ -335,6 +391,11 @@ module _ {T W : Type 0} where
             answers_at made q f by (inr h) = by h
 
 module _ {T W S : Type 0} (wakes : S → W → S → Type 0) where
+  -- by its deed on the cells of one owner, whatever other calls are under way
+  pub plain_step : (a b : PlainChannel T W) (k l : S) (m : Mark) (next : Stage (QueueCall T) T W) (r : Option (Reply T)) (at : Stage (QueueCall T) T W)
+      → ChannelMakes (Did DoesPlain wakes) at (a, k) (b, l) m next r → IsChannelStep wakes (parts_of a) at k (parts_of b) next m r l
+  plain_step a b k l m next r at h = exact_step DoesPlain parts_of (λ d a b done. done.0) wakes a b k l m next r at h
+
   -- how far a call has come, with the sink
   pub record ReachedBetween (a : ChannelAsk T W) (s : Configuration T W) (p : ℕ) (c0 : Channel T W) (sink0 : S) (messages0 : ℕ)
       (parts : Parts T W) (stage : Stage (QueueCall T) T W) (sink : S) (messages : ℕ) : Type 0 where
@@ -353,6 +414,15 @@ module _ {T W S : Type 0} (wakes : S → W → S → Type 0) where
         → IsBetween a parts0 sink0 messages0 parts0 call.stage sink0 messages0
     configurations_start call begins s p position sh =
         record { so_far = []; woken = refl; between = begins_so a parts0 messages0 s p sh position call begins }
+
+    -- so it is in one that shows just what the cells mean
+    pub alone_there : (parts : Parts T W) (stage : Stage (QueueCall T) T W) (sink : S) (messages : ℕ) → IsBetween a parts0 sink0 messages0 parts stage sink messages
+        → (q : Queue T) → HasNextPosition q → Fits parts0.cells q [] → (so_far : List W) × IsAlone a (channel q parts0) parts stage so_far
+    alone_there parts stage sink messages way q position fits =
+        let rest = shows_rest q parts0 fits in
+        let x = way (resting rest.0 q parts0) 0 position rest.1 in
+        let start : channel rest.1.queue parts0 ≡ channel q parts0 = sym rest.1.now in
+        (x.so_far, subst (λ (c : Channel T W). IsAlone a c parts stage x.so_far) start x.between.alone)
 
     module _ (parts : Parts T W) (stage : Stage (QueueCall T) T W) (sink : S) (messages : ℕ)
         (way : IsBetween a parts0 sink0 messages0 parts stage sink messages)
@@ -373,6 +443,12 @@ module _ {T W S : Type 0} (wakes : S → W → S → Type 0) where
             between = subst (λ (n : ℕ). Between a s p (channel sh.queue parts0) messages0 parts' stage' so_far n) (sym counts) y;
           }
 
+      pub configurations_nearer : IsChannelStep wakes parts stage sink parts' stage' m None sink' → IsAtRest parts0
+          → steps_left parts'.cells parts'.roster stage' < steps_left parts.cells parts.roster stage
+      configurations_nearer step (q, position, fits) =
+          let x = alone_there parts stage sink messages way q position fits in
+          step_nearer a (channel q parts0) parts x.0 step.0 parts' stage' m None stage x.1 step.2
+
       pub configurations_end : (y : Reply T) → IsChannelStep wakes parts stage sink parts' stage' m (Some y) sink' → (kept : Kept T)
           → kept ≡ kept_by stage'
           → RunsInConfigurations wakes a parts0 sink0 messages0 (record { reply = y; kept = kept }) parts' sink' messages'
@@ -383,3 +459,22 @@ module _ {T W S : Type 0} (wakes : S → W → S → Type 0) where
           let over = ends_so a parts0 messages0 s p sh parts stage x.so_far messages x.between parts' stage' m step.0 wakes sink0
           sink' woken y kept left step.2 in
           subst (λ (n : ℕ). RanInConfigurations wakes a sink0 messages0 done parts' sink' n s p) (sym counts) over
+
+  -- what it answers in every configuration it answers over whatever queue the cells mean
+  pub answers_alone : (a : ChannelAsk T W) (parts0 : Parts T W) (sink0 : S) (messages0 : ℕ) (done : Done T) (parts' : Parts T W) (sink' : S) (messages' : ℕ)
+      → RunsInConfigurations wakes a parts0 sink0 messages0 done parts' sink' messages' → AnswersAlone wakes a parts0 sink0 done parts' sink'
+  answers_alone a parts0 sink0 messages0 done parts' sink' messages' runs q position fits =
+      let rest = shows_rest q parts0 fits in
+      let r = runs (resting rest.0 q parts0) 0 position rest.1 in
+      let same : channel r.shown.queue parts' ≡ r.outcome.channel = sym r.shown.now ∙ r.now in
+      record {
+        outcome = r.outcome;
+        does = r.does;
+        reply = r.reply;
+        kept = r.kept;
+        roster = ap (λ (c : Channel T W). c.roster) same;
+        at_rest = subst (λ (c : Channel T W). Fits parts'.cells c.queue []) same (at_rest parts' r.after r.shown);
+        capacity = r.capacity;
+        accepted = r.accepted;
+        woken = r.woken;
+      }

@@ -50,3 +50,4 @@ pub use Rattle.channel_calls.specs.declared.stage.Work.{Work}
 pub use Rattle.channel_calls.specs.declared.stage.Work.TheVariants.{TellReceive, TellStreams, TellSend, Insert, Register, Leave, TellSends, TakeRoom, TellAll, Lower, Count, Load, Raise}
 pub use Rattle.channel_steps.proofs.Interface.{fresh_waits, same_line, end_on, run_none, known_next, fits_after, none_after, after_lone, lone_goes, lone_ends, messages_counted, messages_moved}
 pub use Rattle.channel_steps.specs.Count.{counted, brought_in, taken_out}
+pub use Rattle.channel_steps.specs.Left.{steps_left}

@@ -5,12 +5,9 @@ use Rattle.concurrent_queue.specs.declared.call.QueueAsk.TheVariants as ask
 use Rattle.channel_calls.specs.declared.reply.Reply.TheVariants as reply
 use Rattle.channel_calls.specs.declared.stage.Aim.TheVariants as aim
 use Rattle.channel_calls.specs.declared.stage.Making.TheVariants as making
-use Rattle.channel_steps.proofs.solo.Order.{order_turn, order_work, ends_soon}
+use Rattle.channel_steps.proofs.LeftFacts.{raised_now}
 use Rattle.channel_steps.proofs.solo.Rest.{RestTry, RestWork, RestTurn, RestLoad, ends_rest, gathers_all}
 use Rattle.channel_steps.proofs.solo.AnswerFacts.{given_then}
-
-raised_now : (n : ℕ) → nat_lt most n ≡ false → ((n == n) && nat_lt n (2 ^ 64 - 1)) ≡ true
-raised_now n e = grind (arith, nat_tests)
 
 module _ {T W : Type 0} where
   -- what a step of this work leaves to be done, and what is made of the rest
@@ -19,7 +16,6 @@ module _ {T W : Type 0} where
     pub turned : Turned turn r s
     pub back : (o : Outcome T W) → RestTurn turn e.channel o → RestWork w c (after_waking e.woken o)
     pub queue : e.channel.queue ≡ c.queue
-    pub falls : order_turn e.channel.roster turn < order_work c.roster w
 
   at_effect : (c : Channel T W) (w : Work T W) (e e0 : Effect T W) (r : Option (Reply T)) (s : Stage (Phase T) T W) → e ≡ e0 → Backs c w e0 r s → Backs c w e r s
   at_effect c w e e0 r s h b = subst (λ (x : Effect T W). Backs c w x r s) (sym h) b
@@ -27,71 +23,47 @@ module _ {T W : Type 0} where
   module _ (c : Channel T W) (r : Option (Reply T)) (s : Stage (Phase T) T W) where
     tell_receive : (x : Ending T) → Turned (Works (TellStreams x)) r s → Backs c (TellReceive x) (tells_one Receives c) r s
     tell_receive x h =
-        record { turn = Works (TellStreams x); turned = h; back = λ o k. ap (λ (p : Outcome T W). after_waking (tells_one Receives c).woken p) k; queue = refl; falls = omega arith }
+        record { turn = Works (TellStreams x); turned = h; back = λ o k. ap (λ (p : Outcome T W). after_waking (tells_one Receives c).woken p) k; queue = refl }
 
     -- it tells, and then the call ends
     then_ends : (w : Work T W) (e : Effect T W) (x : Ending T) → Turned (ends_by x) r s → ((o : Outcome T W) → o ≡ ends [] x e.channel → RestWork w c (after_waking e.woken o))
-        → e.channel.queue ≡ c.queue → order_work c.roster w ≡ 2 → Backs c w e r s
-    then_ends w e x h back queue late =
-        let soon = ends_soon e.channel.roster x in
-        record { turn = ends_by x; turned = h; back = λ o k. back o (ends_rest e.channel o x k); queue = queue; falls = omega (arith, soon, late) }
+        → e.channel.queue ≡ c.queue → Backs c w e r s
+    then_ends w e x h back queue = record { turn = ends_by x; turned = h; back = λ o k. back o (ends_rest e.channel o x k); queue = queue }
 
     tell_streams : (x : Ending T) → Turned (ends_by x) r s → Backs c (TellStreams x) (tells_all Streams c) r s
-    tell_streams x h = then_ends (TellStreams x) (tells_all Streams c) x h (λ o k. ap (λ (p : Outcome T W). after_waking (tells_all Streams c).woken p) k) refl refl
+    tell_streams x h = then_ends (TellStreams x) (tells_all Streams c) x h (λ o k. ap (λ (p : Outcome T W). after_waking (tells_all Streams c).woken p) k) refl
 
     tell_send : (x : Ending T) → Turned (ends_by x) r s → Backs c (TellSend x) (tells_one Sends c) r s
-    tell_send x h = then_ends (TellSend x) (tells_one Sends c) x h (λ o k. ap (λ (p : Outcome T W). after_waking (tells_one Sends c).woken p) k) refl refl
+    tell_send x h = then_ends (TellSend x) (tells_one Sends c) x h (λ o k. ap (λ (p : Outcome T W). after_waking (tells_one Sends c).woken p) k) refl
 
     tell_sends : (n : ℕ) (x : Ending T) → Turned (ends_by x) r s → Backs c (TellSends n x) (tells_more n Sends c) r s
-    tell_sends n x h = then_ends (TellSends n x) (tells_more n Sends c) x h (λ o k. ap (λ (p : Outcome T W). after_waking (tells_more n Sends c).woken p) k) refl refl
+    tell_sends n x h = then_ends (TellSends n x) (tells_more n Sends c) x h (λ o k. ap (λ (p : Outcome T W). after_waking (tells_more n Sends c).woken p) k) refl
 
     room_back : (n : ℕ) (o : Outcome T W) → RestTurn (room_next n) c o → o ≡ receives_several n c
     room_back zero o k = k
     room_back (suc n) o k = k ∙ gathers_all n c
 
-    room_falls : (n : ℕ) → order_turn c.roster (let t : Turn T W = room_next n in t) < 7 + n
-    room_falls zero = omega arith
-    room_falls (suc n) = omega arith
-
     take_room : (n : ℕ) → TakesRoomFor n r s → Backs c (TakeRoom n) (untouched c) r s
-    take_room n (inl t) = record { turn = room_next n; turned = t; back = λ o k. inr (room_back n o k); queue = refl; falls = room_falls n }
-    take_room n (inr t) = record { turn = roomless; turned = t.1; back = λ o k. inl (t.0, k); queue = refl; falls = omega arith }
+    take_room n (inl t) = record { turn = room_next n; turned = t; back = λ o k. inr (room_back n o k); queue = refl }
+    take_room n (inr t) = record { turn = roomless; turned = t.1; back = λ o k. inl (t.0, k); queue = refl }
 
     tell_all : (line : Line) (by : Closer) → Turned (told_all_next line by) r s → Backs c (TellAll line by) (tells_all line c) r s
     tell_all Closings by h =
-        then_ends (TellAll Closings by) (tells_all Closings c) (closer_ending by true) h (λ o k. ap (λ (p : Outcome T W). after_waking (tells_all Closings c).woken p) k) refl refl
+        then_ends (TellAll Closings by) (tells_all Closings c) (closer_ending by true) h (λ o k. ap (λ (p : Outcome T W). after_waking (tells_all Closings c).woken p) k) refl
     tell_all line by h =
-        record { turn = told_all_next line by; turned = h; back = λ o k. ap (λ (p : Outcome T W). after_waking (tells_all line c).woken p) k; queue = refl; falls = omega arith }
-
-    try_falls : (b : Bool) → b ≡ true → (if b then 7 else 11) < 8
-    try_falls true e = omega arith
-    try_falls false e = absurd cc
+        record { turn = told_all_next line by; turned = h; back = λ o k. ap (λ (p : Outcome T W). after_waking (tells_all line c).woken p) k; queue = refl }
 
     inserted : (w : Waiting T) (task : W) (key : Key) → kind_of (listeners (line_of w) c.roster) key ≡ None → Turned (again w (Some key) task) r s → Backs c (Insert w task) (listens (line_of w) key c) r s
     inserted w task key none h =
-        let l = listeners (line_of w) c.roster in
-        let waiting : waits key (listeners (line_of w) (with_listeners (line_of w) (listened key l) c.roster)) ≡ true =
-        subst (λ (x : Listeners W). waits key x ≡ true) (sym (same_line (line_of w) (listened key l) c.roster)) (fresh_waits key l none)
-        in
-        record {
-          turn = again w (Some key) task;
-          turned = h;
-          back = λ o k. inl (key, none, k);
-          queue = refl;
-          falls = try_falls (waits key (listeners (line_of w) (with_listeners (line_of w) (listened key l) c.roster))) waiting;
-        }
+        record { turn = again w (Some key) task; turned = h; back = λ o k. inl (key, none, k); queue = refl }
 
     not_inserted : (w : Waiting T) (task : W) (error : ListenError) → Turned (unlistened w error) r s → Backs c (Insert w task) (untouched c) r s
-    not_inserted w task error h = record { turn = unlistened w error; turned = h; back = λ o k. inr (error, k); queue = refl; falls = omega arith }
+    not_inserted w task error h = record { turn = unlistened w error; turned = h; back = λ o k. inr (error, k); queue = refl }
 
     registered_back : (b : Bool) (w : Waiting T) (key : Key) (task : W) (d : Channel T W) (o : Outcome T W) → RestTurn (if b then pends_by w key else again w None task) d o
         → Where b (o ≡ answers (pending_reply (line_of w)) (leaving (Some key) (message_of w)) d) (RestTry (ask_of w) (aim.Poll (line_of w) None task) d o)
     registered_back true w key task d o k = k
     registered_back false w key task d o k = k
-
-    registered_falls : (b : Bool) (w : Waiting T) (key : Key) (task : W) (a : Roster W) → order_turn a (if b then pends_by w key else again w None task) < (if b then 6 else 10)
-    registered_falls true w key task a = omega arith
-    registered_falls false w key task a = omega arith
 
     registered : (w : Waiting T) (key : Key) (task : W) → Turned (if waits key (listeners (line_of w) c.roster) then pends_by w key else again w None task) r s
         → Backs c (Register w key task) (registers (line_of w) key task c) r s
@@ -103,7 +75,6 @@ module _ {T W : Type 0} where
           turned = h;
           back = λ o k. registered_back b w key task d o k;
           queue = refl;
-          falls = registered_falls b w key task d.roster;
         }
 
     left_queue : (held : Option Held) → (leaves held c).channel.queue ≡ c.queue
@@ -117,17 +88,12 @@ module _ {T W : Type 0} where
           turned = h;
           back = λ o k. ap (λ (p : Outcome T W). after_waking (leaves x.held c).woken p) k;
           queue = left_queue x.held;
-          falls = omega arith;
         }
 
     lowered_back : (b : Bool) (by : Closer) (d : Channel T W) (o : Outcome T W) → RestTurn (if b then Tries ask.Close (aim.Close by) else ends_by (closer_ending by false)) d o
         → o ≡ (if b then closes by d else ends [] (closer_ending by false) d)
     lowered_back true by d o k = k
     lowered_back false by d o k = ends_rest d o (closer_ending by false) k
-
-    lowered_falls : (b : Bool) (by : Closer) (a : Roster W) → order_turn a (let t : Turn T W = if b then Tries ask.Close (aim.Close by) else ends_by (closer_ending by false) in t) < 7
-    lowered_falls true by a = omega arith
-    lowered_falls false by a = let e : Ending T = closer_ending by false in let h = ends_soon a e in omega (arith, h)
 
     lowered : (side : Side) (key : Option Key) → Turned (lowered_next side key (count side c.roster)) r s → Backs c (Lower side key) (lowers side c) r s
     lowered side key h =
@@ -138,7 +104,6 @@ module _ {T W : Type 0} where
           turned = h;
           back = λ o k. lowered_back b (dropper side key) d o k;
           queue = refl;
-          falls = lowered_falls b (dropper side key) d.roster;
         }
 
     -- ---- a count that is raised
@@ -149,23 +114,11 @@ module _ {T W : Type 0} where
     counted_back true side m e o k = k
     counted_back false side m e o k = given_then (is_raised side (count side c.roster) c.roster) _ _ (raised_now (count side c.roster) (sym e)) k
 
-    counted_falls : (b : Bool) (side : Side) (m : Making) → b ≡ nat_lt most (count side c.roster) → order_turn c.roster (let t : Turn T W = if b then Ends reply.TooMany nothing_kept else Works (Raise side (count side c.roster) m) in t) < 7
-    counted_falls true side m e = omega arith
-    counted_falls false side m e = raised_soon (is_raised side (count side c.roster) c.roster) (raised_now (count side c.roster) (sym e))
-      where
-        raised_soon : (b : Bool) → b ≡ true → (if b then 6 else 8) < 7
-        raised_soon true e = omega arith
-        raised_soon false e = absurd cc
-
     upgraded_back : (b : Bool) (side : Side) (o : Outcome T W)
         → RestTurn (if b then Ends reply.NotMade nothing_kept else counted_next side making.Upgrade (count side c.roster)) c o
         → o ≡ (if b then answers reply.NotMade nothing_kept c else clones side c)
     upgraded_back true side o k = k
     upgraded_back false side o k = counted_back (nat_lt most (count side c.roster)) side making.Upgrade refl o k
-
-    upgraded_falls : (b : Bool) (side : Side) → order_turn c.roster (let t : Turn T W = if b then Ends reply.NotMade nothing_kept else counted_next side making.Upgrade (count side c.roster) in t) < 7
-    upgraded_falls true side = omega arith
-    upgraded_falls false side = counted_falls (nat_lt most (count side c.roster)) side making.Upgrade refl
 
     loaded : (side : Side) (m : Making) → Turned (loaded_next side m (count side c.roster)) r s → Backs c (Load side m) (untouched c) r s
     loaded side making.Clone h =
@@ -175,7 +128,6 @@ module _ {T W : Type 0} where
           turned = h;
           back = λ o k. counted_back (nat_lt most n) side making.Clone refl o k;
           queue = refl;
-          falls = counted_falls (nat_lt most n) side making.Clone refl;
         }
     loaded side making.Upgrade h =
         let n = count side c.roster in
@@ -184,7 +136,6 @@ module _ {T W : Type 0} where
           turned = h;
           back = λ o k. upgraded_back (n == 0) side o k;
           queue = refl;
-          falls = upgraded_falls (n == 0) side;
         }
 
     raised_as : (b : Bool) (side : Side) (n : ℕ) (m : Making) (o : Outcome T W) → RestTurn (raised_next side m b) (if b then on_count side (n + 1) (up side) c else untouched c).channel o
@@ -197,10 +148,6 @@ module _ {T W : Type 0} where
     raised_queue true side n = refl
     raised_queue false side n = refl
 
-    raised_falls : (b : Bool) (side : Side) (n : ℕ) (m : Making) (a : Roster W) → order_turn a (let t : Turn T W = raised_next side m b in t) < (if b then 6 else 8)
-    raised_falls true side n m a = omega arith
-    raised_falls false side n m a = omega arith
-
     raised : (side : Side) (n : ℕ) (m : Making) → Turned (raised_next side m (is_raised side n c.roster)) r s → Backs c (Raise side n m) (raises side n c) r s
     raised side n m h =
         let b = is_raised side n c.roster in
@@ -209,7 +156,6 @@ module _ {T W : Type 0} where
           turned = h;
           back = λ o k. raised_as b side n m o k;
           queue = raised_queue b side n;
-          falls = raised_falls b side n m (raises side n c).channel.roster;
         }
 
   pub work_backs : (c : Channel T W) (w : Work T W) (e : Effect T W) (r : Option (Reply T)) (s : Stage (Phase T) T W) → Worked c w e r s → Backs c w e r s
@@ -225,6 +171,6 @@ module _ {T W : Type 0} where
   work_backs c (Leave x) e r s h = at_effect c _ e _ r s h.0 (left c r s x h.1)
   work_backs c (Lower side key) e r s h = at_effect c _ e _ r s h.0 (lowered c r s side key h.1)
   work_backs c (Count side) e r s h =
-      at_effect c _ e _ r s h.0 (record { turn = Ends (reply.Count (count side c.roster)) nothing_kept; turned = h.1; back = λ o k. k; queue = refl; falls = omega arith })
+      at_effect c _ e _ r s h.0 (record { turn = Ends (reply.Count (count side c.roster)) nothing_kept; turned = h.1; back = λ o k. k; queue = refl })
   work_backs c (Load side m) e r s h = at_effect c _ e _ r s h.0 (loaded c r s side m h.1)
   work_backs c (Raise side n m) e r s h = at_effect c _ e _ r s h.0 (raised c r s side n m h.1)

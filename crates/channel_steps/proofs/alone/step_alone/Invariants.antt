@@ -1,7 +1,6 @@
 use Rattle.channel_calls.specs.Plain.{parts_of}
 use Rattle.channel_steps.proofs.solo.AmpleFacts.{StaysAmple}
-use Rattle.channel_steps.proofs.solo.Order.{measure}
-use Rattle.channel_steps.proofs.solo.LoopFacts.{IsOnItsWay}
+use Rattle.channel_steps.specs.Left.{steps_left}
 use Rattle.channel_steps.proofs.solo.ConfigurationLoop.{IsBetween}
 use Rattle.channel_steps.proofs.alone.step_alone.Given as goal
 
@@ -10,9 +9,8 @@ invariant-loop-reply g l =
     let a = l.fn.ask in
     let before = parts_of l.initial.channel in
     let now = parts_of l.channel in
-    IsOnItsWay g.S.Wakes.wakes a before l.initial.sink now l.call.stage l.sink
-    × IsBetween g.S.Wakes.wakes a before l.initial.sink l.initial.messages now l.call.stage l.sink l.messages
+    IsBetween g.S.Wakes.wakes a before l.initial.sink l.initial.messages now l.call.stage l.sink l.messages
     × StaysAmple a l.initial.channel l.channel l.call.stage
 
 abbrev pub decreases-loop-reply : goal.decreases-loop-reply
-decreases-loop-reply g l = let p = parts_of l.channel in measure p.cells p.roster l.call.stage
+decreases-loop-reply g l = let p = parts_of l.channel in steps_left p.cells p.roster l.call.stage
