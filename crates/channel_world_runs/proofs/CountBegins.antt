@@ -1,26 +1,12 @@
 -- What a call that begins is to do to the counts, and what it does to the names.
-use Rattle.std.proofs.Common.{arith, ◌≡◌, ℕ, ◌+◌, Bool, true, false, if◌then◌else◌, Option, None, Some, inl, inr, refl, sym, ap, ◌∙◌, subst}
+use Rattle.std.proofs.Common.{arith, ◌≡◌, ℕ, ◌+◌, false, Option, None, Some, refl, sym, ap, ◌∙◌}
 use Rattle.std.specs.Option.{option_map}
-use Rattle.concurrent_queue.specs.Queue.{Phase, asked}
-use Rattle.event_listener.specs.declared.key.Key.{Key}
-use Rattle.channel_calls.specs.Asks.{asks_listener, first}
-use Rattle.channel_calls.specs.Moves.{Turned}
-use Rattle.channel_calls.specs.Turns.{again}
 use Rattle.channel_calls.specs.declared.ask.ChannelAsk.{ChannelAsk}
-use Rattle.channel_calls.specs.declared.ask.ChannelAsk.TheVariants as ask
-use Rattle.channel_calls.specs.declared.reply.Reply.{Reply}
 use Rattle.channel_calls.specs.declared.stage.Side.{Side}
 use Rattle.channel_calls.specs.declared.stage.Side.TheVariants.{Senders, Receivers}
-use Rattle.channel_calls.specs.declared.stage.Stage.{Stage}
-use Rattle.channel_calls.specs.declared.stage.Stage.TheVariants.{Trying, Working}
-use Rattle.channel_calls.specs.declared.stage.Turn.{Turn}
-use Rattle.channel_calls.specs.declared.stage.Turn.TheVariants.{Tries, Works, Ends}
-use Rattle.channel_calls.specs.declared.stage.Waiting.{Waiting}
-use Rattle.channel_calls.specs.declared.stage.Waiting.TheVariants as waiting
 use Rattle.channel_world_model.specs.Answer.{weak_of, strong_of}
-use Rattle.channel_world_model.specs.Asked.{KeysHeld, poll_asked, refusal_asked, giving_up_asked, drop_asked, clone_asked, upgrade_asked}
+use Rattle.channel_world_model.specs.Asked.{KeysHeld, drop_asked, clone_asked, upgrade_asked}
 use Rattle.channel_world_model.specs.Names.{at, without_name}
-use Rattle.channel_world_model.specs.Names as model
 use Rattle.channel_world_model.specs.declared.call.Call.{Call}
 use Rattle.channel_world_model.specs.declared.call.Call.TheVariants as call
 use Rattle.channel_world_model.specs.declared.name.Handle.{Handle}
@@ -29,147 +15,37 @@ use Rattle.channel_world_model.specs.declared.name.HandleKind.{HandleKind}
 use Rattle.channel_world_model.specs.declared.name.HandleKind.TheVariants as handle_kind
 use Rattle.channel_world_model.specs.declared.name.OpId.{OpId}
 use Rattle.channel_world_model.specs.declared.name.Waiter.{Waiter}
-use Rattle.channel_world_runs.specs.AskedBy.{listening_first, IsOrListens}
 use Rattle.channel_world_runs.specs.Bookkeeping.{asks, on_return_of, names_begun, lent_by, leave_handle_of, new_from, operation_named, handle_named}
-use Rattle.channel_world_runs.specs.Counted.{is_strong, strong_lives, live_on, same_side, is_lowering, is_raising, makes_strong}
+use Rattle.channel_world_runs.specs.Counted.{is_strong, strong_lives, live_on, makes_strong}
 use Rattle.channel_world_runs.specs.NameTable.{operation_at, held_of, with_lent, with_borrowed, with_poll_state}
 use Rattle.channel_world_runs.specs.declared.names.OnReturn.{OnReturn}
 use Rattle.channel_world_runs.specs.declared.names.HandleEntry.{HandleEntry}
 use Rattle.channel_world_runs.specs.declared.names.Operation.{Operation}
 use Rattle.channel_world_runs.specs.declared.names.PollState.TheVariants.{IsPolled}
 use Rattle.channel_world_runs.specs.declared.name_table.NameTable.{NameTable}
+use Rattle.channel_world_runs.specs.Plan.{plan_of}
+use Rattle.channel_world_runs.proofs.AskStarts.{asks_lowering, asks_raising}
+use Rattle.channel_world_runs.proofs.AskFacts.{of_polls, of_refused, of_given_up}
 use Rattle.channel_world_runs.proofs.CountNames.{bit, without_live, spent_live, lent_live, borrowed_live, handed_over_live, poll_state_live}
-
--- ---- what is asked
-
-module _ {T W : Type 0} where
-  -- whether a call that asks this is to lower the count of this side
-  abbrev pub asks_lowering : Side → ChannelAsk T W → Bool
-  asks_lowering side ask.DropSender = same_side side Senders
-  asks_lowering side (ask.DropReceiver key) = same_side side Receivers
-  asks_lowering side a = false
-
-  -- or may raise it
-  abbrev pub asks_raising : Side → ChannelAsk T W → Bool
-  asks_raising side (ask.CloneHandle s) = same_side side s
-  asks_raising side (ask.Upgrade s) = same_side side s
-  asks_raising side a = false
-
-  -- with its listener asked first it is the same
-  listens_so : (side : Side) (x : ChannelAsk T W) → (asks_lowering side (listening_first x) ≡ asks_lowering side x) × (asks_raising side (listening_first x) ≡ asks_raising side x)
-  listens_so side (ask.PollSend m l task) = (refl, refl)
-  listens_so side (ask.PollRecv l task) = (refl, refl)
-  listens_so side x = (refl, refl)
-
-  pub lowering_same : (side : Side) (x a : ChannelAsk T W) → IsOrListens x a → asks_lowering side a ≡ asks_lowering side x
-  lowering_same side x a (inl same) = ap (λ (y : ChannelAsk T W). asks_lowering side y) same
-  lowering_same side x a (inr same) = ap (λ (y : ChannelAsk T W). asks_lowering side y) same ∙ (listens_so side x).0
-
-  pub raising_same : (side : Side) (x a : ChannelAsk T W) → IsOrListens x a → asks_raising side a ≡ asks_raising side x
-  raising_same side x a (inl same) = ap (λ (y : ChannelAsk T W). asks_raising side y) same
-  raising_same side x a (inr same) = ap (λ (y : ChannelAsk T W). asks_raising side y) same ∙ (listens_so side x).1
-
-  abbrev pub Starts : Side → ChannelAsk T W → Stage (Phase T) T W → Type 0
-  Starts side a s = (is_lowering side s ≡ asks_lowering side a) × (is_raising side s ≡ asks_raising side a)
-
-  abbrev TurnStarts : Side → ChannelAsk T W → Turn T W → Type 0
-  TurnStarts side a (Tries x aim) = (p : Phase T) → Starts side a (Trying p aim)
-  TurnStarts side a (Works w) = Starts side a (Working w)
-  TurnStarts side a (Ends x kept) = ⊥
-
-  taken : (side : Side) (a : ChannelAsk T W) (t : Turn T W) (r : Option (Reply T)) (s : Stage (Phase T) T W) → Turned t r s
-      → TurnStarts side a t → Starts side a s
-  taken side a (Tries x aim) r s h k = subst (λ (z : Stage (Phase T) T W). Starts side a z) (sym h.1) (k (asked x))
-  taken side a (Works w) r s h k = subst (λ (z : Stage (Phase T) T W). Starts side a z) (sym h.1) k
-  taken side a (Ends x kept) r s h k = absurd k
-
-  polled_turn : (side : Side) (a : ChannelAsk T W) (w : Waiting T) (b : Bool) (key : Option Key) (task : W) → asks_lowering side a ≡ false → asks_raising side a ≡ false
-      → TurnStarts side a (if b then asks_listener w key task else again w key task)
-  polled_turn side a w false key task e f = λ p. (sym e, sym f)
-  polled_turn side a w true None task e f = λ p. (sym e, sym f)
-  polled_turn side a w true (Some key) task e f = (sym e, sym f)
-
-  first_turn : (side : Side) (a : ChannelAsk T W) → TurnStarts side a (first a)
-  first_turn side (ask.TrySend m) = λ p. (refl, refl)
-  first_turn side (ask.ForceSend m) = λ p. (refl, refl)
-  first_turn side ask.TryRecv = λ p. (refl, refl)
-  first_turn side (ask.RecvMany n) = (refl, refl)
-  first_turn side ask.Close = λ p. (refl, refl)
-  first_turn side (ask.PollSend m l task) = polled_turn side (ask.PollSend m l task) (waiting.Send m) l.asks_first l.key task refl refl
-  first_turn side ask.PollFinishedSend = (refl, refl)
-  first_turn side (ask.PollRecv l task) = polled_turn side (ask.PollRecv l task) waiting.Receive l.asks_first l.key task refl refl
-  first_turn side (ask.PollClosed key task) = λ p. (refl, refl)
-  first_turn side (ask.PollNext key task) = polled_turn side (ask.PollNext key task) waiting.Stream true key task refl refl
-  first_turn side (ask.RefusePoll line message key) = (refl, refl)
-  first_turn side (ask.GiveUp line message key) = (refl, refl)
-  first_turn side ask.DropSender = (refl, refl)
-  first_turn side (ask.DropReceiver key) = (refl, refl)
-  first_turn side (ask.CloneHandle s) = (refl, refl)
-  first_turn side (ask.Upgrade s) = λ p. (refl, refl)
-  first_turn side (ask.HandleCount s) = (refl, refl)
-  first_turn side ask.IsClosed = λ p. (refl, refl)
-  first_turn side ask.IsEmpty = λ p. (refl, refl)
-  first_turn side ask.IsFull = λ p. (refl, refl)
-  first_turn side ask.Len = λ p. (refl, refl)
-  first_turn side ask.Capacity = λ p. (refl, refl)
-  first_turn side ask.IsTerminated = λ p. (refl, refl)
-  first_turn side (ask.SendIsTerminated b) = (refl, refl)
-  first_turn side (ask.SameChannel b) = (refl, refl)
-  first_turn side ask.Make = (refl, refl)
-  first_turn side ask.DropWeak = (refl, refl)
-
-  pub starts : (side : Side) (a : ChannelAsk T W) (r : Option (Reply T)) (s : Stage (Phase T) T W) → Turned (first a) r s
-      → Starts side a s
-  starts side a r s h = taken side a (first a) r s h (first_turn side a)
-
--- ---- handles
+use Rattle.channel_world_runs.proofs.RefusalLemmas.{handle_through}
 
 weak_strong : (side : Side) (k : HandleKind) → is_strong side (weak_of k) ≡ false
 weak_strong Senders handle_kind.Sender = refl
-weak_strong Senders handle_kind.Receiver = refl
-weak_strong Senders handle_kind.WeakSender = refl
-weak_strong Senders handle_kind.WeakReceiver = refl
 weak_strong Receivers handle_kind.Sender = refl
-weak_strong Receivers handle_kind.Receiver = refl
-weak_strong Receivers handle_kind.WeakSender = refl
-weak_strong Receivers handle_kind.WeakReceiver = refl
+weak_strong side k = refl
 
 module _ (T : Type 0) where
   -- neither the one nor the other
   abbrev Aside : Side → ChannelAsk T Waiter → Type 0
   Aside side a = (asks_lowering side a ≡ false) × (asks_raising side a ≡ false)
 
-  polls_aside : (side : Side) (held : KeysHeld) (op : OpId) (o : Option (model.ModelOperation T)) → Aside side (poll_asked held op o)
-  polls_aside side held op (Some (model.send handle (Some m))) = (refl, refl)
-  polls_aside side held op (Some (model.send handle None)) = (refl, refl)
-  polls_aside side held op (Some (model.recv handle)) = (refl, refl)
-  polls_aside side held op (Some (model.closing handle)) = (refl, refl)
-  polls_aside side held op None = (refl, refl)
-
-  refuses_aside : (side : Side) (held : KeysHeld) (op : OpId) (o : Option (model.ModelOperation T)) → Aside side (refusal_asked held op o)
-  refuses_aside side held op (Some (model.send handle m)) = (refl, refl)
-  refuses_aside side held op (Some (model.recv handle)) = (refl, refl)
-  refuses_aside side held op (Some (model.closing handle)) = (refl, refl)
-  refuses_aside side held op None = (refl, refl)
-
-  gives_up_aside : (side : Side) (held : KeysHeld) (op : OpId) (o : Option (model.ModelOperation T)) → Aside side (giving_up_asked held op o)
-  gives_up_aside side held op (Some (model.send handle m)) = (refl, refl)
-  gives_up_aside side held op (Some (model.recv handle)) = (refl, refl)
-  gives_up_aside side held op (Some (model.closing handle)) = (refl, refl)
-  gives_up_aside side held op None = (refl, refl)
-
   -- the drop of a strong handle is to lower the count of its side, and no other
   drop_kind : (side : Side) (held : KeysHeld) (handle : HandleId) (k : HandleKind) (n : ℕ)
       → (let a : ChannelAsk T Waiter = drop_asked held handle (Some (record { kind = k; borrowers = n })) in
       (asks_lowering side a ≡ is_strong side k) × (asks_raising side a ≡ false))
   drop_kind Senders held handle handle_kind.Sender n = (refl, refl)
-  drop_kind Senders held handle handle_kind.Receiver n = (refl, refl)
-  drop_kind Senders held handle handle_kind.WeakSender n = (refl, refl)
-  drop_kind Senders held handle handle_kind.WeakReceiver n = (refl, refl)
   drop_kind Receivers held handle handle_kind.Sender n = (refl, refl)
-  drop_kind Receivers held handle handle_kind.Receiver n = (refl, refl)
-  drop_kind Receivers held handle handle_kind.WeakSender n = (refl, refl)
-  drop_kind Receivers held handle handle_kind.WeakReceiver n = (refl, refl)
+  drop_kind side held handle k n = (refl, refl)
 
   drop_lowers : (side : Side) (held : KeysHeld) (handle : HandleId) (o : Option HandleEntry)
       → (let a : ChannelAsk T Waiter = drop_asked held handle (option_map (λ (h : HandleEntry). h.handle) o) in
@@ -182,26 +58,16 @@ module _ (T : Type 0) where
       → (let a : ChannelAsk T Waiter = clone_asked (Some (record { kind = k; borrowers = n })) in
       (asks_lowering side a ≡ false) × (is_strong side k ≡ asks_raising side a))
   clone_kind Senders handle_kind.Sender n = (refl, refl)
-  clone_kind Senders handle_kind.Receiver n = (refl, refl)
-  clone_kind Senders handle_kind.WeakSender n = (refl, refl)
-  clone_kind Senders handle_kind.WeakReceiver n = (refl, refl)
   clone_kind Receivers handle_kind.Sender n = (refl, refl)
-  clone_kind Receivers handle_kind.Receiver n = (refl, refl)
-  clone_kind Receivers handle_kind.WeakSender n = (refl, refl)
-  clone_kind Receivers handle_kind.WeakReceiver n = (refl, refl)
+  clone_kind side k n = (refl, refl)
 
   -- and an upgrade a strong one
   upgrade_kind : (side : Side) (k : HandleKind) (n : ℕ)
       → (let a : ChannelAsk T Waiter = upgrade_asked (Some (record { kind = k; borrowers = n })) in
       (asks_lowering side a ≡ false) × (is_strong side (strong_of k) ≡ asks_raising side a))
   upgrade_kind Senders handle_kind.Sender n = (refl, refl)
-  upgrade_kind Senders handle_kind.Receiver n = (refl, refl)
-  upgrade_kind Senders handle_kind.WeakSender n = (refl, refl)
-  upgrade_kind Senders handle_kind.WeakReceiver n = (refl, refl)
   upgrade_kind Receivers handle_kind.Sender n = (refl, refl)
-  upgrade_kind Receivers handle_kind.Receiver n = (refl, refl)
-  upgrade_kind Receivers handle_kind.WeakSender n = (refl, refl)
-  upgrade_kind Receivers handle_kind.WeakReceiver n = (refl, refl)
+  upgrade_kind side k n = (refl, refl)
 
   -- what a call that begins does, and what it is to do
   abbrev pub BeginsSo : Side → NameTable T → Call T → Type 0
@@ -258,13 +124,13 @@ module _ (T : Type 0) where
     begins_so (call.NewRecv op receiver) = (made op receiver, refl)
     begins_so (call.NewClosed op sender) = (made op sender, refl)
     begins_so (call.Poll op) =
-        let a = polls_aside side (held_of r) op (operation_at op r) in
+        let a = of_polls (Aside side) (refl, refl) (λ m key w. (refl, refl)) (refl, refl) (λ key w. (refl, refl)) (λ key w. (refl, refl)) (held_of r) op (operation_at op r) in
         (aside (live_on side r.handles) (asks r (call.Poll op)) a.0 refl, sym a.1)
     begins_so (call.PollRefused op) =
-        let a = refuses_aside side (held_of r) op (operation_at op r) in
+        let a = of_refused (Aside side) (refl, refl) (λ line m key. (refl, refl)) (held_of r) op (operation_at op r) in
         (aside (live_on side r.handles) (asks r (call.PollRefused op)) a.0 refl, sym a.1)
     begins_so (call.GiveUp op) =
-        let a = gives_up_aside side (held_of r) op (operation_at op r) in
+        let a = of_given_up (Aside side) (refl, refl) (λ line m key. (refl, refl)) (held_of r) op (operation_at op r) in
         let live = handed_over_live side (at op.0 r.operations) (record r { operations = without_name op.0 r.operations }) in
         (aside _ (asks r (call.GiveUp op)) a.0 live, leaves_aside (at op.0 r.operations) ∙ sym a.1)
     begins_so (call.SendIsTerminated op) =
@@ -274,12 +140,6 @@ module _ (T : Type 0) where
         let stands = poll_state_live side (IsPolled false) receiver r in
         let used = lent_live side receiver (with_poll_state (IsPolled false) receiver r) in
         (omega (arith, stands, used), refl)
-    begins_so (call.StreamIsTerminated receiver) = (lent receiver, refl)
-    begins_so (call.TrySend sender msg) = (lent sender, refl)
-    begins_so (call.ForceSend sender msg) = (lent sender, refl)
-    begins_so (call.TryRecv receiver) = (lent receiver, refl)
-    begins_so (call.RecvMany receiver limit) = (lent receiver, refl)
-    begins_so (call.Close handle) = (lent handle, refl)
     begins_so (call.Drop handle) =
         let a = drop_lowers side (held_of r) handle (at handle.0 r.handles) in
         let low : bit (asks_lowering side (asks r (call.Drop handle))) ≡ bit (strong_lives side (at handle.0 r.handles)) = ap bit a.0 in
@@ -297,10 +157,4 @@ module _ (T : Type 0) where
         let one = lent_live side a r in
         let two = lent_live side b (with_lent a r) in
         (omega (arith, one, two), refl)
-    begins_so (call.IsClosed handle) = (lent handle, refl)
-    begins_so (call.IsEmpty handle) = (lent handle, refl)
-    begins_so (call.IsFull handle) = (lent handle, refl)
-    begins_so (call.Len handle) = (lent handle, refl)
-    begins_so (call.Capacity handle) = (lent handle, refl)
-    begins_so (call.SenderCount handle) = (lent handle, refl)
-    begins_so (call.ReceiverCount handle) = (lent handle, refl)
+    begins_so c = (lent (handle_through (plan_of c)), refl)

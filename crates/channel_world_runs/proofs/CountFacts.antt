@@ -1,6 +1,5 @@
 -- What the counts count, from one step to the next.
-use Rattle.std.specs.List.{remove}
-use Rattle.std.proofs.Common.{arith, ◌≡◌, ℕ, ◌+◌, ◌≤◌, Bool, true, false, ◌&&◌, List, [], ◌∷◌, ◌++◌, map, slice_get, Option, None, Some, ◌⊎◌, inl, inr, refl, sym, ap, ◌∙◌, subst}
+use Rattle.std.proofs.Common.{arith, ◌≡◌, ℕ, ◌+◌, ◌≤◌, Bool, true, false, ◌&&◌, List, [], ◌∷◌, ◌++◌, map, Option, None, Some, ◌⊎◌, inl, inr, refl, sym, ap, ◌∙◌, subst}
 use Rattle.concurrent_queue.specs.Queue.{Phase}
 use Rattle.channel_calls.specs.Marks.{is_made}
 use Rattle.channel_calls.specs.Moves.{Channel, Effect}
@@ -22,17 +21,18 @@ use Rattle.channel_steps.specs.declared.party.Entry.{Entry}
 use Rattle.channel_world_runs.specs.AskedBy.{IsOrListens}
 use Rattle.channel_world_runs.specs.Bookkeeping.{asks, on_return_of, written_back, all_woken}
 use Rattle.channel_world_runs.specs.Counted.{tally, is_lowering, is_closing, is_raising, makes_strong, CountsSide, Counted}
-use Rattle.channel_world_runs.specs.Owners.{NameStatus, status, wait_of, Suits, Together, AllDiffer, Owned}
+use Rattle.channel_world_runs.specs.Owners.{NameStatus, status, wait_of, Suits, Together, Owned}
 use Rattle.channel_world_runs.specs.NameTable.{first_name_table}
-use Rattle.channel_world_runs.specs.Run.{NameState, name_state_begun, name_state_ended, with_woken}
+use Rattle.channel_world_runs.specs.Run.{NameState, name_state_begun, with_woken}
 use Rattle.channel_world_runs.specs.declared.names.Agent.{Agent}
 use Rattle.channel_world_runs.specs.declared.step.PartyId.{PartyId}
-use Rattle.channel_world_runs.proofs.CountBegins.{asks_lowering, lowering_same, raising_same, Starts, starts, BeginsSo, begins_so}
+use Rattle.channel_world_runs.proofs.AskStarts.{asks_lowering, asks_raising, lowering_same, raising_same, Starts, starts}
+use Rattle.channel_world_runs.proofs.CountBegins.{BeginsSo, begins_so}
 use Rattle.channel_world_runs.proofs.CountClosings.{closing_shuts, last_closes}
 use Rattle.channel_world_runs.proofs.CountNames.{bit, woken_live, settled_live}
 use Rattle.channel_world_runs.proofs.CountTurns.{Turns, turns}
-use Rattle.channel_world_runs.proofs.OwnerRuns.{mid_busy, parts, ended_is}
-use Rattle.channel_world_runs.proofs.OwnerTogether.{busy, suits_on, Parted, is_agent}
+use Rattle.channel_world_runs.proofs.OwnerRuns.{mid_busy, parts, IsAfter, ended_as}
+use Rattle.channel_world_runs.proofs.OwnerTogether.{busy, suits_on, Parted}
 
 -- ---- lists
 
@@ -75,11 +75,11 @@ module _ {T : Type 0} where
       was : CountsSide side b s
       was = counted side
 
-      starts_so : Starts side a n.at
-      starts_so = starts side a n.answer n.at n.turned
+      starts_so : Starts a n.at
+      starts_so = starts a n.answer n.at n.turned
 
-      first : Starts side (asks b.name_table c) n.at
-      first = (starts_so.0 ∙ lowering_same side (asks b.name_table c) a is, starts_so.1 ∙ raising_same side (asks b.name_table c) a is)
+      first : (is_lowering side n.at ≡ asks_lowering side (asks b.name_table c)) × (is_raising side n.at ≡ asks_raising side (asks b.name_table c))
+      first = (starts_so.2 side ∙ lowering_same side (asks b.name_table c) a is, starts_so.3 side ∙ raising_same side (asks b.name_table c) a is)
 
       begins : BeginsSo T side b.name_table c
       begins = begins_so T side b.name_table c
@@ -349,10 +349,6 @@ module _ {T : Type 0} where
 
   -- ---- any step
 
-  abbrev IsAfter : NameState T → PartyId → Option (Reply T) → Option (Kept T) → List Waiter → NameState T → Type 0
-  IsAfter b q r kp names c = (k : ℕ) × (a : Agent T) × (slice_get b.agents k ≡ Some a) × (a.party ≡ q.0)
-      × (c ≡ name_state_ended k a r kp (with_woken names b))
-
   pub counted_step : (b c : NameState T) (s t : Configuration T Waiter) (q : PartyId) (m : Mark) (r : Option (Reply T)) (kp : Option (Kept T))
       (names : List Waiter) → Owned b s → AllKnown s.now s.under_way
       → Steps s q.0 (record { mark = m; reply = r; kept = kp }) names t → IsAfter b q r kp names c
@@ -360,13 +356,6 @@ module _ {T : Type 0} where
   counted_step b c s t q m None kp names o known st after stays counted =
       subst (λ (d : NameState T). Counted d t) (sym after.4) (counted_goes b s t q.0 m kp names o known st stays counted)
   counted_step b c s t q m (Some y) kp names o known st after stays counted =
-      let pt = parts b s t q.0 m (Some y) kp names o known st in
       let f = st.finishes in
-      let his : pt.agent.party ≡ q.0 = pt.own.party ∙ st.whose in
-      let is = is_agent pt.front pt.agent pt.back after.0 after.1 (subst (λ (l : List (Agent T)). AllDiffer l) pt.are o.differ)
-      (ap (λ (l : List (Agent T)). slice_get l after.0) (sym pt.are) ∙ after.2) (after.3 ∙ sym his) in
-      let rest : remove b.agents after.0 ≡ pt.front ++ pt.back = ap (λ (l : List (Agent T)). remove l after.0) pt.are
-      ∙ is.without in
-      let same = after.4 ∙ ended_is after.0 after.1 pt.agent y kp f.kept (with_woken names b) (pt.front ++ pt.back) is.same
-      f.given rest in
-      subst (λ (d : NameState T). Counted d t) (sym same) (counted_ends b s t q.0 m y kp names o known st f.kept _ stays counted)
+      subst (λ (d : NameState T). Counted d t) (sym (ended_as b c s t q m y kp names o known st after))
+      (counted_ends b s t q.0 m y kp names o known st f.kept _ stays counted)

@@ -25,6 +25,7 @@ use Rattle.channel_world_runs.specs.declared.names.Operation.{Operation}
 use Rattle.channel_world_runs.specs.declared.names.PollState.{PollState}
 use Rattle.channel_world_runs.specs.declared.names.PollState.TheVariants.{Rests, Waits, IsPolled}
 use Rattle.channel_world_runs.specs.declared.name_table.NameTable.{NameTable}
+use Rattle.channel_world_runs.proofs.RefusalLemmas.{and_true}
 use Rattle.channel_world_runs.proofs.OwnerNames.{found, handle_entry_status, given_back_same}
 
 -- one where it passes
@@ -83,16 +84,13 @@ IsVacant x = ⊥
 
 none_vacant : (s : PollState) → IsVacant (no_stream_status s) → ⊥
 none_vacant Rests h = h
-none_vacant (Waits key is_woken) h = h
-none_vacant (IsPolled brings) h = h
+none_vacant x h = h
 
 not_vacant : (k : HandleKind) (s : PollState) → IsVacant (stream_status k s) → ⊥
 not_vacant handle_kind.Receiver Rests h = h
 not_vacant handle_kind.Receiver (Waits key is_woken) h = h
 not_vacant handle_kind.Receiver (IsPolled brings) h = h
-not_vacant handle_kind.Sender s h = none_vacant s h
-not_vacant handle_kind.WeakSender s h = none_vacant s h
-not_vacant handle_kind.WeakReceiver s h = none_vacant s h
+not_vacant x s h = none_vacant s h
 
 is_vacant : (x : NameStatus) → x ≡ retired → IsVacant x
 is_vacant x e = subst (λ (y : NameStatus). IsVacant y) (sym e) tt
@@ -103,10 +101,6 @@ vacant_is : (o : Option (Option HandleEntry)) → status_by handle_entry_status 
 vacant_is None e = absurd (is_vacant free e)
 vacant_is (Some None) e = (None, refl, λ side. refl)
 vacant_is (Some (Some h)) e = absurd (not_vacant h.handle.kind h.poll_state (is_vacant (handle_entry_status h) e))
-
-and_true : (b : Bool) → (b && true) ≡ b
-and_true true = refl
-and_true false = refl
 
 pub and_false : (b : Bool) → (b && false) ≡ false
 and_false true = refl
@@ -172,14 +166,11 @@ module _ {T : Type 0} where
   pub settled_live : (side : Side) (e : OnReturn T) (y : Reply T) (kept : Kept T) (wait : Option (Line × Waiter)) (r : NameTable T)
       → Suits (status r) e wait
       → live_on side (written_back e y kept r).handles ≡ live_on side r.handles + bit (makes_strong side e && is_made (Some y))
-  settled_live side on_return.Nothing y kept wait r f = omega arith
   settled_live side (on_return.Leave handle) y kept wait r f = let same = back_live side handle r in omega (arith, same)
   settled_live side (on_return.LeaveBoth a b) y kept wait r f =
       let first = back_live side a r in
       let second = back_live side b (with_given_back a r) in
       omega (arith, first, second)
-  settled_live side (on_return.Make op operation) y kept wait r f = omega arith
-  settled_live side (on_return.Poll op) y kept wait r f = omega arith
   settled_live side (on_return.PollNext receiver) y kept wait r f =
       let first = poll_state_live side (poll_state_with kept.key) receiver r in
       let second = back_live side receiver (with_poll_state (poll_state_with kept.key) receiver r) in
@@ -188,3 +179,4 @@ module _ {T : Type 0} where
       let back = back_live side from r in
       let made = installed_live side new kind y (with_given_back from r) (given_back_same r from (Stream new) ∙ f.0) in
       omega (arith, back, made)
+  settled_live side x y kept wait r f = omega arith

@@ -6,8 +6,8 @@ use Rattle.concurrent_queue.specs.declared.call.QueueAsk.{QueueAsk}
 use Rattle.concurrent_queue.specs.declared.call.QueueAsk.TheVariants as queue
 use Rattle.concurrent_queue.specs.declared.call.QueueReply.{QueueReply}
 use Rattle.concurrent_queue.specs.declared.call.QueueReply.TheVariants as answer
-use Rattle.concurrent_queue.specs.declared.error.PushError.TheVariants as push_error
 use Rattle.concurrent_queue.specs.declared.error.ForcePushError.TheVariants as force_error
+use Rattle.concurrent_queue.specs.declared.error.PushError.TheVariants as push_error
 use Rattle.concurrent_queue.specs.declared.error.PopError.TheVariants as pop_error
 use Rattle.event_listener.specs.Lists.{listened, registration, removed}
 use Rattle.event_listener.specs.declared.key.Key.{Key}
@@ -108,10 +108,8 @@ module _ (T W : Type 0) where
   refused_stay side w (Some key) task = (refl, refl)
 
   told_stay : (side : Side) (line : Line) (c : Closer) → Stays side false (told_all_next line c)
-  told_stay side Sends c = (refl, refl)
-  told_stay side Receives c = (refl, refl)
-  told_stay side Streams c = (refl, refl)
   told_stay side Closings c = ends_stay side (closer_ending c true)
+  told_stay side x c = (refl, refl)
 
   room_stay : (side : Side) (n : ℕ) → Stays side false (room_next n)
   room_stay side zero = refl
@@ -141,20 +139,16 @@ module _ (T W : Type 0) where
   sent_stay : (side : Side) (x : QueueReply T) → Stays side false (sent_next x)
   sent_stay side (answer.Push (Ok u)) = (refl, refl)
   sent_stay side (answer.Push (Err (push_error.Full m))) = refl
-  sent_stay side (answer.Push (Err (push_error.Closed m))) = refl
-  sent_stay side (answer.Push (Err (push_error.NoMemory m))) = refl
   sent_stay side x = refl
 
   forced_stay : (side : Side) (x : QueueReply T) → Stays side false (forced_next x)
   forced_stay side (answer.Force (Ok d)) = (refl, refl)
   forced_stay side (answer.Force (Err (force_error.Closed m))) = refl
-  forced_stay side (answer.Force (Err (force_error.NoMemory m))) = refl
   forced_stay side x = refl
 
   received_stay : (side : Side) (x : QueueReply T) → Stays side false (received_next x)
   received_stay side (answer.Pop (Ok m)) = (refl, refl)
   received_stay side (answer.Pop (Err pop_error.Empty)) = refl
-  received_stay side (answer.Pop (Err pop_error.Closed)) = refl
   received_stay side x = refl
 
   gathered_stay : (side : Side) (vs : List T) (n : ℕ) → Stays side false (gathered_next (with_last vs n))
@@ -209,17 +203,13 @@ module _ (T W : Type 0) where
 
   asked_stay : (side : Side) (x : QueueReply T) → Stays side false (asked_next x)
   asked_stay side (answer.Flag b) = refl
-  asked_stay side (answer.Count n) = refl
-  asked_stay side (answer.Cap n) = refl
   asked_stay side x = refl
 
   terminated_stay : (side : Side) (x : QueueReply T) → Stays side false (terminated_next x)
   terminated_stay side (answer.Flag true) = refl
-  terminated_stay side (answer.Flag false) = refl
   terminated_stay side x = refl
 
   upgraded_stay : (side s : Side) (x : QueueReply T) → Stays side (same_side side s) (upgraded_next x s)
-  upgraded_stay side s (answer.Flag true) = and_false (same_side side s)
   upgraded_stay side s (answer.Flag false) = (refl, refl)
   upgraded_stay side s x = and_false (same_side side s)
 
@@ -351,14 +341,7 @@ module _ (T W : Type 0) where
 
     goes_on : (f f' : Phase T) (a : Aim T W) → is_raising side (Trying f' a) ≡ is_raising side (Trying f a)
     goes_on f f' aim.TrySend = refl
-    goes_on f f' aim.ForceSend = refl
-    goes_on f f' aim.TryRecv = refl
-    goes_on f f' (aim.RecvMany g) = refl
-    goes_on f f' (aim.Poll line key task) = refl
-    goes_on f f' (aim.Close x) = refl
-    goes_on f f' aim.Ask = refl
-    goes_on f f' aim.IsTerminated = refl
-    goes_on f f' (aim.Upgrade s) = refl
+    goes_on f f' x = refl
 
     continues : (f f' : Phase T) (a : Aim T W) (r : Option (Reply T)) (s : Stage (Phase T) T W) → r ≡ None → s ≡ Trying f' a
         → Turns side (Trying f a) was r s was

@@ -12,6 +12,8 @@ pub mod OwnerBegins
 pub mod WokenPolls
 pub mod OwnerCalls
 pub mod OwnerTogether
+pub mod AskFacts
+pub mod AskStarts
 mod TriesFirst
 pub mod OwnerEnds
 pub mod OwnerSteps
@@ -43,7 +45,6 @@ pub mod PositionFacts
 pub mod PlaceFacts
 pub mod OwnerOrderWithin
 pub mod OwnerOrderLists
-pub mod OwnerOrderMoves
 pub mod OwnerOrderNames
 pub mod OwnerOrderWakes
 pub mod OwnerOrder

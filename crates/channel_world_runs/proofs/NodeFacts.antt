@@ -70,8 +70,7 @@ told_listed h a i =
 -- what is no receiver is pending as no stream
 no_stream : (s : PollState) (h : Held) → no_stream_status s ≡ waits h true → ⊥
 no_stream Rests h e = let no : rests Streams ≡ waits h true = e in cc
-no_stream (Waits key z) h e = let no : invalid ≡ waits h true = e in cc
-no_stream (IsPolled z) h e = let no : invalid ≡ waits h true = e in cc
+no_stream x h e = let no : invalid ≡ waits h true = e in cc
 
 -- who waits with this listener holds it, on its own line
 same_held : (line : Line) (key : Key) (z : Bool) (h : Held) → waits (record { line = line; key = key }) z ≡ waits h true
@@ -121,9 +120,7 @@ module _ {T : Type 0} where
     by_stream handle_kind.Receiver (IsPolled z) key e f = absurd (let no : polled Streams ≡ waits h true = f in cc)
     by_stream handle_kind.Receiver (Waits own z) key e f =
         rw e (subst (λ (x : Held). IsThere x p.roster) (sym (same_held Streams own z h f)) there)
-    by_stream handle_kind.Sender s key e f = absurd (no_stream s h f)
-    by_stream handle_kind.WeakSender s key e f = absurd (no_stream s h f)
-    by_stream handle_kind.WeakReceiver s key e f = absurd (no_stream s h f)
+    by_stream x s key e f = absurd (no_stream s h f)
 
     stream_node : (r : NameTable T) (receiver : HandleId) (o : Option (Option HandleEntry)) → lookup (nat_eq receiver.0) r.handles ≡ o
         → status_by (λ (x : HandleEntry). stream_status x.handle.kind x.poll_state) o ≡ waits h true → HasNode (asks r (call.PollNext receiver)) p

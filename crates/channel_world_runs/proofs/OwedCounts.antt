@@ -34,7 +34,7 @@ use Rattle.channel_steps.specs.every_run.Amounts.{is_trying, is_trying_anew, tot
 use Rattle.channel_steps.specs.every_run.Receives.{has_appended, is_to_tell_receive, counts_for_receives}
 use Rattle.channel_steps.specs.every_run.Sends.{has_taken, has_displaced, is_to_tell_send, is_on_its_way, counts_for_sends}
 use Rattle.channel_world_runs.specs.Owed.{is_woken_on, all_names, woken_on}
-use Rattle.channel_world_runs.specs.Owners.{IsAmong, NoneTwice, AnyOf, NameStatus, free, retired, invalid, rests, waits, polled, status_by, status, holding, line_asked, Together, HoldsIn, Holder, named, calling, Owned}
+use Rattle.channel_world_runs.specs.Owners.{IsAmong, NoneTwice, AnyOf, NameStatus, free, waits, status_by, status, holding, line_asked, Together, HoldsIn, Holder, named, calling, Owned}
 use Rattle.channel_world_runs.specs.OwnerOrder.{woken_key, woken_keys}
 use Rattle.channel_world_runs.specs.Run.{NameState}
 use Rattle.channel_world_runs.specs.declared.names.Agent.{Agent}
@@ -100,12 +100,7 @@ one_key false k = refl
 
 woken_key_length : (line : Line) (x : NameStatus) → length (woken_key line x) ≡ one_if (is_woken_on line x)
 woken_key_length line (waits h true) = one_key (same_line line h.line) h.key
-woken_key_length line (waits h false) = refl
-woken_key_length line free = refl
-woken_key_length line retired = refl
-woken_key_length line invalid = refl
-woken_key_length line (rests l) = refl
-woken_key_length line (polled l) = refl
+woken_key_length line x = refl
 
 hand_key_length : (line : Line) (o : Option Held) → length (hand_key line o) ≡ in_hand line o
 hand_key_length line None = refl

@@ -9,9 +9,9 @@ use Rattle.channel_calls.specs.declared.ask.ChannelAsk.TheVariants as ask
 use Rattle.channel_calls.specs.declared.stage.Held.{Held}
 use Rattle.channel_calls.specs.declared.stage.Line.{Line}
 use Rattle.channel_calls.specs.declared.stage.Line.TheVariants.{Sends, Receives, Streams, Closings}
-use Rattle.channel_calls.specs.declared.stage.Side.TheVariants.{Senders, Receivers}
 use Rattle.channel_world_model.specs.Answer.{weak_of, strong_of}
-use Rattle.channel_world_model.specs.Asked.{KeysHeld as HeldBy, refusal_asked, giving_up_asked, drop_asked, clone_asked, upgrade_asked}
+use Rattle.channel_world_model.specs.Asked.{KeysHeld as HeldBy, refusal_asked, giving_up_asked, drop_asked}
+use Rattle.channel_world_model.specs.Lines.{without_waiter}
 use Rattle.channel_world_model.specs.Names.{at, is_taken, without_name}
 use Rattle.channel_world_model.specs.Refusal.{handle_fits, a_receiver}
 use Rattle.channel_world_model.specs.declared.call.Call.{Call}
@@ -24,19 +24,25 @@ use Rattle.channel_world_model.specs.declared.name.OpId.{OpId}
 use Rattle.channel_world_model.specs.declared.name.Waiter.{Waiter}
 use Rattle.channel_world_model.specs.declared.name.Waiter.TheVariants.{Op, Stream}
 use Rattle.channel_world_runs.specs.Bookkeeping.{asks, on_return_of, names_begun, lent_by, handed_over_by, leave_handle_of, new_from, operation_named, handle_named}
+use Rattle.channel_world_runs.specs.Order.{placed, order_begun}
+use Rattle.channel_world_runs.specs.Plan.{plan_of}
 use Rattle.channel_world_runs.specs.Owners.{NameStatus, free, retired, invalid, polled, status_on, no_stream_status, stream_status, status_by, status, wait_of, subject, Suits}
 use Rattle.channel_world_runs.specs.Refusal.{is_stream_polled}
 use Rattle.channel_world_runs.specs.NameTable.{key_of, is_polled, line_of_kind, operation_of, names_of, handle_at, held_of, with_lent, with_borrowed, with_poll_state}
+use Rattle.channel_world_runs.specs.declared.names.OnReturn.{OnReturn}
 use Rattle.channel_world_runs.specs.declared.names.OnReturn.TheVariants as on_return
 use Rattle.channel_world_runs.specs.declared.names.HandleEntry.{HandleEntry}
 use Rattle.channel_world_runs.specs.declared.names.Operation.{Operation}
 use Rattle.channel_world_runs.specs.declared.names.OperationKind.{OperationKind}
 use Rattle.channel_world_runs.specs.declared.names.OperationKind.TheVariants as kind
 use Rattle.channel_world_runs.specs.declared.names.PollState.{PollState}
-use Rattle.channel_world_runs.specs.declared.names.PollState.TheVariants.{Rests, Waits, IsPolled}
+use Rattle.channel_world_runs.specs.declared.names.PollState.TheVariants.{Rests, IsPolled}
 use Rattle.channel_world_runs.specs.declared.name_table.NameTable.{NameTable}
-use Rattle.channel_world_runs.proofs.OwnerBegins.{IsLoose, held_in, ask_holds, Quiet, Touches, Admitted, handle_as, untaken, on_line, as_model, Sane, Found, find, key_is, held_is, loose_is, now_polled, polls}
+use Rattle.channel_world_runs.proofs.AskFacts.{of_cloned, of_upgraded}
+use Rattle.channel_world_runs.proofs.AskStarts.{ask_holds}
+use Rattle.channel_world_runs.proofs.OwnerBegins.{IsLoose, held_in, Quiet, Touches, Admitted, handle_as, untaken, on_line, as_model, Sane, Found, find, key_is, held_is, loose_is, polls_with, polls}
 use Rattle.channel_world_runs.proofs.OwnerNames.{Sets, Same, same_both, sets_same, op_status, handle_entry_status, found, op_set, op_spent, handle_set, handle_spent, handle_changed, lent_same, borrowed_same, handed_over_same}
+use Rattle.channel_world_runs.proofs.RefusalLemmas.{handle_through}
 use Rattle.channel_world_runs.proofs.RefusalLemmas as seen
 
 abbrev Idle : HandleKind → PollState → Type 0
@@ -45,14 +51,11 @@ Idle k s = (is_polled s ≡ false) × (stream_status k s ≡ invalid → ⊥)
 no_stream_held : (s : PollState) → (no_stream_status s ≡ invalid → ⊥)
     → (let none : Option Held = None in none ≡ held_in (no_stream_status s)) × IsLoose (no_stream_status s)
 no_stream_held Rests f = (refl, tt)
-no_stream_held (Waits key is_woken) f = absurd (f refl)
-no_stream_held (IsPolled b) f = absurd (f refl)
+no_stream_held s f = absurd (f refl)
 
 is_receiver : (k : HandleKind) → handle_fits a_receiver k ≡ true → k ≡ handle_kind.Receiver
 is_receiver handle_kind.Receiver e = refl
-is_receiver handle_kind.Sender e = absurd (let no : false ≡ true = e in cc)
-is_receiver handle_kind.WeakSender e = absurd (let no : false ≡ true = e in cc)
-is_receiver handle_kind.WeakReceiver e = absurd (let no : false ≡ true = e in cc)
+is_receiver k e = absurd (let no : false ≡ true = e in cc)
 
 module _ (T : Type 0) where
   abbrev drop_is : HandleKind → Option Key → ChannelAsk T Waiter
@@ -66,15 +69,11 @@ module _ (T : Type 0) where
   drop_held : (k : HandleKind) (s : PollState) → Idle k s → (ask_holds (drop_is k (key_of s)) ≡ held_in (stream_status k s))
       × IsLoose (stream_status k s)
   drop_held handle_kind.Receiver s f = on_line Streams s f.0
-  drop_held handle_kind.Sender s f = no_stream_held s f.1
-  drop_held handle_kind.WeakSender s f = no_stream_held s f.1
-  drop_held handle_kind.WeakReceiver s f = no_stream_held s f.1
+  drop_held k s f = no_stream_held s f.1
 
   drop_waits : (k : HandleKind) (key : Option Key) → wait_of (drop_is k key) ≡ None
   drop_waits handle_kind.Sender key = refl
-  drop_waits handle_kind.Receiver key = refl
-  drop_waits handle_kind.WeakSender key = refl
-  drop_waits handle_kind.WeakReceiver key = refl
+  drop_waits k key = refl
 
   new_whose : (from new : HandleId) (k : HandleKind → HandleKind) (o : Option Handle)
       → (subject {T = T} (new_from from new k o) ≡ None) ⊎ (subject {T = T} (new_from from new k o) ≡ Some (Stream new))
@@ -86,38 +85,9 @@ module _ (T : Type 0) where
   new_suits p from new k None wait v e = e
   new_suits p from new k (Some h) wait v e = (v, e)
 
-  clone_plain : (o : Option Handle)
-      → (wait_of {T = T} {W = Waiter} (clone_asked o) ≡ None) × (ask_holds {T = T} {W = Waiter} (clone_asked o) ≡ None)
-  clone_plain None = (refl, refl)
-  clone_plain (Some h) = by h.kind
-    where
-      by : (k : HandleKind) → let a : ChannelAsk T Waiter = elim k [
-        | handle_kind.Sender ↦ ask.CloneHandle Senders
-        | handle_kind.Receiver ↦ ask.CloneHandle Receivers
-        | handle_kind.WeakSender ↦ ask.Make
-        | handle_kind.WeakReceiver ↦ ask.Make
-      ] in (wait_of a ≡ None) × (ask_holds a ≡ None)
-      by handle_kind.Sender = (refl, refl)
-      by handle_kind.Receiver = (refl, refl)
-      by handle_kind.WeakSender = (refl, refl)
-      by handle_kind.WeakReceiver = (refl, refl)
-
-  upgrade_plain : (o : Option Handle) → (wait_of {T = T} {W = Waiter} (upgrade_asked o) ≡ None)
-      × (ask_holds {T = T} {W = Waiter} (upgrade_asked o) ≡ None)
-  upgrade_plain None = (refl, refl)
-  upgrade_plain (Some h) = by h.kind
-    where
-      by : (k : HandleKind) → let a : ChannelAsk T Waiter = elim k [
-        | handle_kind.Sender ↦ ask.Upgrade Senders
-        | handle_kind.Receiver ↦ ask.Upgrade Receivers
-        | handle_kind.WeakSender ↦ ask.Upgrade Senders
-        | handle_kind.WeakReceiver ↦ ask.Upgrade Receivers
-      ] in
-          (wait_of a ≡ None) × (ask_holds a ≡ None)
-      by handle_kind.Sender = (refl, refl)
-      by handle_kind.Receiver = (refl, refl)
-      by handle_kind.WeakSender = (refl, refl)
-      by handle_kind.WeakReceiver = (refl, refl)
+  -- it has no listener and waits for nobody
+  abbrev Plain : ChannelAsk T Waiter → Type 0
+  Plain a = (wait_of a ≡ None) × (ask_holds a ≡ None)
 
 module _ {T : Type 0} where
   refusal_is : (held : HeldBy) (op : OpId) (k : OperationKind) (h : HandleId) (m : Option T) (key : Option Key)
@@ -146,27 +116,16 @@ module _ {T : Type 0} where
   -- ---- operations
 
   refuses : (r : NameTable T) (op : OpId) → Found r op
-      → Touches (status r) (status (names_begun r (call.PollRefused op))) (on_return.Poll op) (asks r (call.PollRefused op))
+      → Touches (status r) (status (names_begun r (call.PollRefused op))) (on_return.Poll op) (asks r (call.PollRefused op)) (placed (Op op))
   refuses r op f =
       let o = f.operation in
       let is = refusal_is (held_of r) op o.kind o.handle o.message (key_of o.poll_state) (key_is r op o f.is) in
       let same : asks r (call.PollRefused op) ≡ ask.RefusePoll (line_of_kind o.kind) is.0 (key_of o.poll_state) =
       ap (λ x. refusal_asked (held_of r) op (option_map operation_of x)) f.is ∙ is.1 in
-      let s = now_polled r op f in
-      record {
-        name = Op op;
-        now = polled (line_of_kind o.kind);
-        sets = s;
-        busy = tt;
-        loose = loose_is r op f;
-        takes = ap ask_holds same ∙ held_is r op f;
-        suits = (line_of_kind o.kind, s.there, inl (ap wait_of same));
-        whose = inr refl;
-        works = λ line i. refl;
-      }
+      polls_with r op f (asks r (call.PollRefused op)) (ap ask_holds same) (inl (ap wait_of same))
 
   gives_up : (r : NameTable T) (op : OpId) → Found r op
-      → Touches (status r) (status (names_begun r (call.GiveUp op))) (on_return_of r (call.GiveUp op)) (asks r (call.GiveUp op))
+      → Touches (status r) (status (names_begun r (call.GiveUp op))) (on_return_of r (call.GiveUp op)) (asks r (call.GiveUp op)) (without_waiter (Op op))
   gives_up r op f =
       let o = f.operation in
       let is = giving_up_is (held_of r) op o.kind o.handle o.message (key_of o.poll_state) (key_is r op o f.is) in
@@ -186,27 +145,33 @@ module _ {T : Type 0} where
             (ap wait_of same);
         whose = inl (leaves_nobody (at op.0 r.operations));
         works = λ line i. absurd (let no : retired ≡ polled line = i in cc);
+        order = inr (inr (refl, λ ws. refl));
       }
 
-  -- a new operation has a new name
+  -- a new name, under which nothing lives yet
+  names_new : (p p' : Waiter → NameStatus) (w : Waiter) (e : OnReturn T) (a : ChannelAsk T Waiter) → Sets p p' w retired → p w ≡ free
+      → ask_holds a ≡ None → Suits p' e (wait_of a) → (subject e ≡ None) ⊎ (subject e ≡ Some w) → Touches p p' e a (λ ws. ws)
+  names_new p p' w e a sets is_free empty suits whose = record {
+    name = w;
+    now = retired;
+    sets = sets;
+    busy = tt;
+    loose = subst IsLoose (sym is_free) tt;
+    takes = empty ∙ ap held_in (sym is_free);
+    suits = suits;
+    whose = whose;
+    works = λ line i. absurd (let no : retired ≡ polled line = i in cc);
+    order = inl (refl, λ ws. refl);
+  }
+
   names_operation : (r : NameTable T) (op : OpId) (handle : HandleId) (o : Operation T) → o.poll_state ≡ Rests
       → is_taken op.0 r.operations ≡ false
-      → Touches (status r) (status (with_borrowed handle (operation_named op r))) (on_return.Make op o) ask.Make
+      → Touches (status r) (status (with_borrowed handle (operation_named op r))) (on_return.Make op o) ask.Make (λ ws. ws)
   names_operation r op handle o new untook =
       let s = sets_same (status r) (status (operation_named op r)) (status (with_borrowed handle (operation_named op r))) (Op op) retired
       (op_spent r op) (borrowed_same (operation_named op r) handle) in
-      let is_free : status r (Op op) ≡ free = untaken op_status op.0 r.operations untook in
-      record {
-        name = Op op;
-        now = retired;
-        sets = s;
-        busy = tt;
-        loose = subst IsLoose (sym is_free) tt;
-        takes = ap held_in (sym is_free);
-        suits = (s.there, new, refl);
-        whose = inr refl;
-        works = λ line i. refl;
-      }
+      names_new (status r) (status (with_borrowed handle (operation_named op r))) (Op op) (on_return.Make op o) ask.Make s
+      (untaken op_status op.0 r.operations untook) refl (s.there, new, refl) (inr refl)
 
   lent_by_same : (r : NameTable T) (o : Option (Operation T)) → Same (status r) (status (lent_by o r))
   lent_by_same r None v = refl
@@ -247,7 +212,7 @@ module _ {T : Type 0} where
   drop_asks held handle h key e = ap (λ x. drop_is T h.kind x) e
 
   drops : (r : NameTable T) (handle : HandleId) → Seen r handle
-      → Touches (status r) (status (names_begun r (call.Drop handle))) (on_return.Nothing) (asks r (call.Drop handle))
+      → Touches (status r) (status (names_begun r (call.Drop handle))) on_return.Nothing (asks r (call.Drop handle)) (without_waiter (Stream handle))
   drops r handle f =
       let h = f.handle_entry in
       let same : asks r (call.Drop handle) ≡ drop_is T h.handle.kind (key_of h.poll_state) =
@@ -265,6 +230,7 @@ module _ {T : Type 0} where
         suits = ap wait_of same ∙ drop_waits T h.handle.kind (key_of h.poll_state);
         whose = inl refl;
         works = λ line i. absurd (let no : retired ≡ polled line = i in cc);
+        order = inr (inr (refl, λ ws. refl));
       }
 
   receives : (r : NameTable T) (handle : HandleId) (h : HandleEntry) → at handle.0 r.handles ≡ Some h
@@ -279,7 +245,7 @@ module _ {T : Type 0} where
       )
 
   streams : (r : NameTable T) (handle : HandleId) (f : Seen r handle) → f.handle_entry.handle.kind ≡ handle_kind.Receiver
-      → Touches (status r) (status (names_begun r (call.PollNext handle))) (on_return.PollNext handle) (asks r (call.PollNext handle))
+      → Touches (status r) (status (names_begun r (call.PollNext handle))) (on_return.PollNext handle) (asks r (call.PollNext handle)) (placed (Stream handle))
   streams r handle f receiver =
       let h = f.handle_entry in
       let lent = with_poll_state (IsPolled false) handle r in
@@ -303,37 +269,31 @@ module _ {T : Type 0} where
         suits = (Streams, all.there, inr refl);
         whose = inr refl;
         works = λ line i. refl;
+        order = inr (inl (λ ws. refl));
       }
 
-  -- a new handle has a new name
   names_handle : (r : NameTable T) (from new : HandleId) (k : HandleKind → HandleKind) (o : Option Handle) (a : ChannelAsk T Waiter)
       → is_taken new.0 r.handles ≡ false → wait_of a ≡ None → ask_holds a ≡ None
-      → Touches (status r) (status (with_lent from (handle_named new r))) (new_from from new k o) a
+      → Touches (status r) (status (with_lent from (handle_named new r))) (new_from from new k o) a (λ ws. ws)
   names_handle r from new k o a untook patient empty =
-      let s = sets_same (status r) (status (handle_named new r)) (status (with_lent from (handle_named new r))) (Stream new) retired
+      let begun = with_lent from (handle_named new r) in
+      let s = sets_same (status r) (status (handle_named new r)) (status begun) (Stream new) retired
       (handle_spent r new) (lent_same (handle_named new r) from) in
-      let is_free : status r (Stream new) ≡ free = untaken handle_entry_status new.0 r.handles untook in
-      record {
-        name = Stream new;
-        now = retired;
-        sets = s;
-        busy = tt;
-        loose = subst IsLoose (sym is_free) tt;
-        takes = empty ∙ ap held_in (sym is_free);
-        suits = new_suits T (status (with_lent from (handle_named new r))) from new k o (wait_of a) s.there patient;
-        whose = new_whose T from new k o;
-        works = λ line i. absurd (let no : retired ≡ polled line = i in cc);
-      }
+      names_new (status r) (status begun) (Stream new) (new_from from new k o) a s (untaken handle_entry_status new.0 r.handles untook) empty
+      (new_suits T (status begun) from new k o (wait_of a) s.there patient) (new_whose T from new k o)
 
   -- ---- any call
 
   abbrev pub BeginsSo : NameTable T → Call T → Type 0
-  BeginsSo r c = Quiet (status r) (status (names_begun r c)) (on_return_of r c) (asks r c)
-      ⊎ Touches (status r) (status (names_begun r c)) (on_return_of r c) (asks r c)
+  BeginsSo r c =
+      Quiet (status r) (status (names_begun r c)) (on_return_of r c) (asks r c) (order_begun c)
+      ⊎ Touches (status r) (status (names_begun r c)) (on_return_of r c) (asks r c) (order_begun c)
 
-  through : (r : NameTable T) (handle : HandleId) (a : ChannelAsk T Waiter) → wait_of a ≡ None → ask_holds a ≡ None
-      → Quiet (status r) (status (with_lent handle r)) (on_return.Leave handle) a
-  through r handle a patient empty = record { same = lent_same r handle; nobody = refl; patient = patient; empty = empty }
+  -- a call that goes through handles alone, or through none
+  passes : (r new : NameTable T) (e : OnReturn T) (a : ChannelAsk T Waiter) → Same (status r) (status new) → subject e ≡ None → Plain T a
+      → Quiet (status r) (status new) e a (λ ws. ws)
+  passes r new e a same nobody plain =
+      record { same = same; nobody = nobody; patient = plain.0; empty = plain.1; order = λ ws. refl }
 
   pub begins_so : (r : NameTable T) (c : Call T) → Sane r → Admitted r c → BeginsSo r c
   begins_so r (call.NewSend op sender msg) sane a = inr (names_operation r op sender _ refl a.new)
@@ -343,40 +303,24 @@ module _ {T : Type 0} where
   begins_so r (call.PollRefused op) sane a = inr (refuses r op (find r op sane a.live a.free_of_polls))
   begins_so r (call.GiveUp op) sane a = inr (gives_up r op (find r op sane a.live a.free_of_polls))
   begins_so r (call.SendIsTerminated op) sane a = inl
-      (record {
-        same = lent_by_same r (at op.0 r.operations);
-        nobody = leaves_nobody (at op.0 r.operations);
-        patient = refl;
-        empty = refl;
-      })
+      (passes r (lent_by (at op.0 r.operations) r) (leave_handle_of (at op.0 r.operations)) _ (lent_by_same r (at op.0 r.operations))
+      (leaves_nobody (at op.0 r.operations)) (refl, refl))
   begins_so r (call.PollNext receiver) sane a =
       let f = see r receiver sane a.live a.free_of_polls in
       inr (streams r receiver f (receives r receiver f.handle_entry f.is a.fit))
   begins_so r (call.Drop handle) sane a = inr (drops r handle (see r handle sane a.live a.free_of_polls))
-  begins_so r (call.TryClone handle new) sane a = let p = clone_plain T (handle_at handle r) in
+  begins_so r (call.TryClone handle new) sane a =
+      let p = of_cloned (Plain T) (refl, refl) (λ side. (refl, refl)) (handle_at handle r) in
       inr (names_handle r handle new (λ k. k) (handle_at handle r) _ a.new p.0 p.1)
   begins_so r (call.Downgrade handle new) sane a =
       inr (names_handle r handle new weak_of (handle_at handle r) ask.Make a.new refl refl)
-  begins_so r (call.Upgrade weak new) sane a = let p = upgrade_plain T (handle_at weak r) in
+  begins_so r (call.Upgrade weak new) sane a =
+      let p = of_upgraded (Plain T) (refl, refl) (λ side. (refl, refl)) (handle_at weak r) in
       inr (names_handle r weak new strong_of (handle_at weak r) _ a.new p.0 p.1)
   begins_so r (call.SameChannel x y) sane a = inl
-      (record {
-        same = same_both (status r) (status (with_lent x r)) (status (with_lent y (with_lent x r))) (lent_same r x)
-            (lent_same (with_lent x r) y);
-        nobody = refl;
-        patient = refl;
-        empty = refl;
-      })
-  begins_so r (call.StreamIsTerminated receiver) sane a = inl (through r receiver _ refl refl)
-  begins_so r (call.TrySend sender msg) sane a = inl (through r sender _ refl refl)
-  begins_so r (call.ForceSend sender msg) sane a = inl (through r sender _ refl refl)
-  begins_so r (call.TryRecv receiver) sane a = inl (through r receiver _ refl refl)
-  begins_so r (call.RecvMany receiver limit) sane a = inl (through r receiver _ refl refl)
-  begins_so r (call.Close handle) sane a = inl (through r handle _ refl refl)
-  begins_so r (call.IsClosed handle) sane a = inl (through r handle _ refl refl)
-  begins_so r (call.IsEmpty handle) sane a = inl (through r handle _ refl refl)
-  begins_so r (call.IsFull handle) sane a = inl (through r handle _ refl refl)
-  begins_so r (call.Len handle) sane a = inl (through r handle _ refl refl)
-  begins_so r (call.Capacity handle) sane a = inl (through r handle _ refl refl)
-  begins_so r (call.SenderCount handle) sane a = inl (through r handle _ refl refl)
-  begins_so r (call.ReceiverCount handle) sane a = inl (through r handle _ refl refl)
+      (passes r (with_lent y (with_lent x r)) (on_return.LeaveBoth x y) _
+      (same_both (status r) (status (with_lent x r)) (status (with_lent y (with_lent x r))) (lent_same r x) (lent_same (with_lent x r) y))
+      refl (refl, refl))
+  begins_so r c sane a =
+      let handle = handle_through (plan_of c) in
+      inl (passes r (with_lent handle r) (on_return.Leave handle) _ (lent_same r handle) refl (refl, refl))

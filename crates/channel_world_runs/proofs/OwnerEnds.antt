@@ -37,12 +37,10 @@ use Rattle.channel_world_runs.proofs.OwnerNames.{Sets, Same, same_both, sets_sam
 
 -- neither pending nor amiss
 abbrev pub IsCalm : NameStatus → Type 0
-IsCalm free = Unit {0}
-IsCalm retired = Unit {0}
 IsCalm invalid = ⊥
-IsCalm (rests line) = Unit {0}
 IsCalm (waits h is_woken) = ⊥
 IsCalm (polled line) = ⊥
+IsCalm x = Unit {0}
 
 some_is : {X : Type 0} (x y : X) → Some x ≡ Some y → x ≡ y
 some_is x y e = ap (λ (o : Option _). elim o [ None ↦ x | Some z ↦ z ]) e
@@ -52,11 +50,7 @@ polled_is a b e = ap (λ (x : NameStatus). elim x [ polled l ↦ l | free ↦ a 
 
 abbrev IsPolledNow : NameStatus → Type 0
 IsPolledNow (polled line) = Unit {0}
-IsPolledNow free = ⊥
-IsPolledNow retired = ⊥
-IsPolledNow invalid = ⊥
-IsPolledNow (rests line) = ⊥
-IsPolledNow (waits h is_woken) = ⊥
+IsPolledNow x = ⊥
 
 no_busy : (x : NameStatus) (line : Line) → x ≡ polled line → IsPolledNow x
 no_busy x line e = subst IsPolledNow (sym e) tt
@@ -83,20 +77,15 @@ on_line line l (IsPolled b) e = polled_is line l e
 
 no_stream : (l : Line) (s : PollState) → no_stream_status s ≡ polled l → ⊥
 no_stream l Rests e = no_busy (rests Streams) l e
-no_stream l (Waits key w) e = no_busy invalid l e
-no_stream l (IsPolled b) e = no_busy invalid l e
+no_stream l x e = no_busy invalid l e
 
 stream_is : (k : HandleKind) (l : Line) (s : PollState) → stream_status k s ≡ polled l → (k ≡ handle_kind.Receiver) × (Streams ≡ l)
 stream_is handle_kind.Receiver l s e = (refl, on_line Streams l s e)
-stream_is handle_kind.Sender l s e = absurd (no_stream l s e)
-stream_is handle_kind.WeakSender l s e = absurd (no_stream l s e)
-stream_is handle_kind.WeakReceiver l s e = absurd (no_stream l s e)
+stream_is x l s e = absurd (no_stream l s e)
 
 calm_stream : (k : HandleKind) → IsCalm (stream_status k Rests)
 calm_stream handle_kind.Receiver = tt
-calm_stream handle_kind.Sender = tt
-calm_stream handle_kind.WeakSender = tt
-calm_stream handle_kind.WeakReceiver = tt
+calm_stream x = tt
 
 -- the wait is that of the name
 abbrev IsFor : Option (Line × Waiter) → Line → Waiter → Type 0

@@ -35,9 +35,8 @@ few (suc n) [] = omega arith
 few (suc n) (x ∷ xs) = let h = few n xs in omega (arith, h)
 
 pub one_tag : (m : ℕ) (u : Unit {0}) → m ≤ 1 → length (take m (u ∷ [])) ≡ m
-one_tag zero u h = refl
-one_tag (suc zero) u h = refl
 one_tag (suc (suc m)) u h = absurd (omega (arith, h))
+one_tag x u h = refl
 
 abbrev pub units : {A : Type 0} → List A → List (Unit {0})
 units xs = map (λ x. tt) xs
@@ -144,7 +143,7 @@ module _ {W : Type 0} where
       ∙ (append_assoc (keys_of l.told) (keys_of (told_with additional first tags)) (keys_of rest)
       ∙ (ap (λ (ks : List Key). keys_of l.told ++ (ks ++ keys_of rest)) told ∙ ap (λ (ks : List Key). keys_of l.told ++ ks) all))
 
-  at_most_one : (additional : Bool) (l : Listeners W) → moved additional 1 l ≤ 1
+  pub at_most_one : (additional : Bool) (l : Listeners W) → moved additional 1 l ≤ 1
   at_most_one true l = omega arith
   at_most_one false l = omega arith
 
@@ -275,11 +274,11 @@ module _ {W : Type 0} where
       by (inl i) = none_some key l.told e i
       by (inr i) = none_some key l.waiting f i
 
-  abbrev removed_as : Option (Notice Unit) → Bool → Key → Listeners W → Listeners W
+  abbrev pub removed_as : Option (Notice Unit) → Bool → Key → Listeners W → Listeners W
   removed_as o b key l = elim o
       [ Some notice ↦ (if true then passed notice (without key l) else without key l) | None ↦ (if b then without key l else l) ]
 
-  abbrev removed_names : Option (Notice Unit) → Key → Listeners W → List W
+  abbrev pub removed_names : Option (Notice Unit) → Key → Listeners W → List W
   removed_names o key l = elim o [ Some notice ↦ (if true then passed_wakes notice (without key l) else []) | None ↦ [] ]
 
   removing : (line : Line) (key : Key) (l : Listeners W) (o : Option (Notice Unit)) (b : Bool) → told_as l key ≡ o

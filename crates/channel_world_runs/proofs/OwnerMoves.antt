@@ -54,9 +54,7 @@ no_held h e = absurd (let never : None ≡ Some h = e in cc)
 module _ {W : Type 0} where
   pub same_list : (line : Line) (l : Listeners W) (r : Roster W) → listeners line (with_listeners line l r) ≡ l
   same_list Sends l r = refl
-  same_list Receives l r = refl
-  same_list Streams l r = refl
-  same_list Closings l r = refl
+  same_list x l r = refl
 
   pub other_list : (line at : Line) (l : Listeners W) (r : Roster W) → (line ≡ at → ⊥)
       → listeners line (with_listeners at l r) ≡ listeners line r
@@ -64,10 +62,7 @@ module _ {W : Type 0} where
   other_list Receives Receives l r f = absurd (f refl)
   other_list Streams Streams l r f = absurd (f refl)
   other_list Closings Closings l r f = absurd (f refl)
-  other_list Sends at l r f = refl
-  other_list Receives at l r f = refl
-  other_list Streams at l r f = refl
-  other_list Closings at l r f = refl
+  other_list x at l r f = refl
 
   pub counted_list : (line : Line) (side : Side) (n : ℕ) (r : Roster W) → listeners line (with_count side n r) ≡ listeners line r
   counted_list Sends Senders n r = refl

@@ -147,27 +147,19 @@ told_status (polled line) = polled line
 
 told_on : (line : Line) (s : PollState) → status_on line (told s) ≡ told_status (status_on line s)
 told_on line Rests = refl
-told_on line (Waits key is_woken) = refl
-told_on line (IsPolled brings) = refl
+told_on line x = refl
 
 told_no_stream : (s : PollState) → no_stream_status (told s) ≡ told_status (no_stream_status s)
 told_no_stream Rests = refl
-told_no_stream (Waits key is_woken) = refl
-told_no_stream (IsPolled brings) = refl
+told_no_stream x = refl
 
 told_stream : (k : HandleKind) (s : PollState) → stream_status k (told s) ≡ told_status (stream_status k s)
 told_stream handle_kind.Receiver s = told_on Streams s
-told_stream handle_kind.Sender s = told_no_stream s
-told_stream handle_kind.WeakSender s = told_no_stream s
-told_stream handle_kind.WeakReceiver s = told_no_stream s
+told_stream x s = told_no_stream s
 
 twice : (x : NameStatus) → told_status (told_status x) ≡ told_status x
 twice (waits h is_woken) = refl
-twice free = refl
-twice retired = refl
-twice invalid = refl
-twice (rests line) = refl
-twice (polled line) = refl
+twice x = refl
 
 not_there : {X : Type 0} (p : X → NameStatus) (n : ℕ) (d : Directory X) → at n d ≡ None → told_status (status_by p (lookup (nat_eq n) d)) ≡ status_by p (lookup (nat_eq n) d)
 not_there {X} p n d e = by (lookup (nat_eq n) d) e

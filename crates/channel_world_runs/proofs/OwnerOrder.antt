@@ -1,6 +1,5 @@
 -- The order of waking over steps of calls.
-use Rattle.std.proofs.Common.{◌≡◌, ℕ, Bool, true, false, List, [], ◌++◌, slice_get, Option, None, Some, ◌⊎◌, inl, inr, refl, sym, ap, ◌∙◌, subst}
-use Rattle.std.specs.List.{remove}
+use Rattle.std.proofs.Common.{◌≡◌, ℕ, Bool, true, false, List, [], ◌++◌, Option, None, Some, ◌⊎◌, inl, inr, refl, sym, ap, ◌∙◌, subst}
 use Rattle.std.specs.Map.{remove_entry, keys_of}
 use Rattle.event_listener.specs.Lists.{same_key}
 use Rattle.event_listener.specs.declared.key.Key.{Key}
@@ -15,11 +14,10 @@ use Rattle.channel_world_model.specs.declared.name.Waiter.TheVariants.{Op, Strea
 use Rattle.channel_steps.specs.Configuration.{Configuration, Steps, AllKnown}
 use Rattle.channel_world_runs.specs.Bookkeeping.{written_back, all_woken}
 use Rattle.channel_world_runs.specs.Order.{all_moved_last, order_settled}
-use Rattle.channel_world_runs.specs.Owners.{IsAmong, NoneTwice, NameStatus, free, retired, invalid, rests, waits, polled, status, holding, wait_of, subject, Suits, AllDiffer, named, calling, Owned}
+use Rattle.channel_world_runs.specs.Owners.{IsAmong, NoneTwice, NameStatus, waits, polled, status, holding, wait_of, subject, Suits, named, calling, Owned}
 use Rattle.channel_world_runs.specs.OwnerOrder.{woken_key, Within, NeedsPlace, InOrder}
 use Rattle.channel_world_runs.specs.OwnerWoken.{IsTold, WokenSound}
-use Rattle.channel_world_runs.specs.Run.{NameState, name_state_ended, with_woken}
-use Rattle.channel_world_runs.specs.declared.names.Agent.{Agent}
+use Rattle.channel_world_runs.specs.Run.{NameState, with_woken}
 use Rattle.channel_world_runs.specs.declared.names.OnReturn.{OnReturn}
 use Rattle.channel_world_runs.specs.declared.names.OnReturn.TheVariants as on_return
 use Rattle.channel_world_runs.specs.declared.name_table.NameTable.{NameTable}
@@ -30,25 +28,21 @@ use Rattle.channel_world_runs.proofs.OwnerKeys.{on}
 use Rattle.channel_world_runs.proofs.OwnerLists.{none_parts}
 use Rattle.channel_world_runs.proofs.OwnerMoves.{line_or}
 use Rattle.channel_world_runs.proofs.OwnerNames.{told_status, MayBeTold, all_told}
-use Rattle.channel_world_runs.proofs.OwnerOrderMoves.{Tells, tells}
 use Rattle.channel_world_runs.proofs.OwnerOrderNames.{stays_among, once_without, all_stay, once_moved}
 use Rattle.channel_world_runs.proofs.OwnerOrderWakes.{at_line, NotOn, keyless, key_on, keys_are, key_of_one, woken_elsewhere, AreOwn, HavePlaces, woken_here}
 use Rattle.channel_world_runs.proofs.OwnerOrderWithin.{within_both, within_self, within_cut, gathered, gathered_same, gathered_fewer}
-use Rattle.channel_world_runs.proofs.OwnerRuns.{mid_back, mid_busy, parts, was_mine, inner, subject_or, busy_own, set, ended_is}
+use Rattle.channel_world_runs.proofs.OwnerRuns.{mid_back, mid_busy, parts, was_mine, inner, subject_or, busy_own, set, IsAfter, ended_as}
 use Rattle.channel_world_runs.proofs.OwnerSteps.{calm_waits, busy_waits, apart}
-use Rattle.channel_world_runs.proofs.OwnerTogether.{Parted, is_agent}
+use Rattle.channel_world_runs.proofs.OwnerTogether.{Parted}
 use Rattle.channel_world_runs.proofs.OwnerWoken.{own_held}
+use Rattle.channel_world_runs.proofs.OwnerWokenMoves.{TellsInTurn, follows}
 use Rattle.channel_world_runs.proofs.OwnerWokenLists.{waited, key_of_entry}
 
 -- ---- statuses
 
 told_polled : (x : NameStatus) (line : Line) → told_status x ≡ polled line → x ≡ polled line
 told_polled (waits k c) line e = absurd (let no : waits k true ≡ polled line = e in cc)
-told_polled free line e = e
-told_polled retired line e = e
-told_polled invalid line e = e
-told_polled (rests l) line e = e
-told_polled (polled l) line e = e
+told_polled x line e = e
 
 pub busy_keyless : (line : Line) (x : NameStatus) → IsBusy x → woken_key line x ≡ []
 busy_keyless line x b = keyless line x (λ h c e same. busy_waits x h c b e)
@@ -71,50 +65,27 @@ module _ {T : Type 0} where
       → IsAmong v ws → IsAmong v (order_settled e key ws)
   stays_settled (on_return.Poll op) None v ws other i =
       stays_among (Op op) v ws (λ same. other (ap (λ (x : Waiter). let o : Option Waiter = Some x in o) (sym same))) i
-  stays_settled (on_return.Poll op) (Some key) v ws other i = i
   stays_settled (on_return.PollNext receiver) None v ws other i =
       stays_among (Stream receiver) v ws
       (λ same. other (ap (λ (x : Waiter). let o : Option Waiter = Some x in o) (sym same))) i
-  stays_settled (on_return.PollNext receiver) (Some key) v ws other i = i
-  stays_settled (on_return.Make op operation) key v ws other i = i
-  stays_settled (on_return.New from new kind) key v ws other i = i
-  stays_settled on_return.Nothing key v ws other i = i
-  stays_settled (on_return.Leave handle) key v ws other i = i
-  stays_settled (on_return.LeaveBoth x y) key v ws other i = i
+  stays_settled e key v ws other i = i
 
   -- with a listener left, whoever has a place keeps it
   kept_settled : (e : OnReturn T) (key : Key) (v : Waiter) (ws : List Waiter) → IsAmong v ws
       → IsAmong v (order_settled e (Some key) ws)
   kept_settled (on_return.Poll op) key v ws i = i
-  kept_settled (on_return.PollNext receiver) key v ws i = i
-  kept_settled (on_return.Make op operation) key v ws i = i
-  kept_settled (on_return.New from new kind) key v ws i = i
-  kept_settled on_return.Nothing key v ws i = i
-  kept_settled (on_return.Leave handle) key v ws i = i
-  kept_settled (on_return.LeaveBoth x y) key v ws i = i
+  kept_settled e key v ws i = i
 
   once_settled : (e : OnReturn T) (key : Option Key) (ws : List Waiter) → NoneTwice ws → NoneTwice (order_settled e key ws)
   once_settled (on_return.Poll op) None ws h = once_without (Op op) ws h
-  once_settled (on_return.Poll op) (Some key) ws h = h
   once_settled (on_return.PollNext receiver) None ws h = once_without (Stream receiver) ws h
-  once_settled (on_return.PollNext receiver) (Some key) ws h = h
-  once_settled (on_return.Make op operation) key ws h = h
-  once_settled (on_return.New from new kind) key ws h = h
-  once_settled on_return.Nothing key ws h = h
-  once_settled (on_return.Leave handle) key ws h = h
-  once_settled (on_return.LeaveBoth x y) key ws h = h
+  once_settled e key ws h = h
 
   fewer_settled : (f : Waiter → List Key) (e : OnReturn T) (key : Option Key) (ws : List Waiter)
       → Within (gathered f (order_settled e key ws)) (gathered f ws)
   fewer_settled f (on_return.Poll op) None ws = gathered_fewer f (Op op) ws
-  fewer_settled f (on_return.Poll op) (Some key) ws = within_self (gathered f ws)
   fewer_settled f (on_return.PollNext receiver) None ws = gathered_fewer f (Stream receiver) ws
-  fewer_settled f (on_return.PollNext receiver) (Some key) ws = within_self (gathered f ws)
-  fewer_settled f (on_return.Make op operation) key ws = within_self (gathered f ws)
-  fewer_settled f (on_return.New from new kind) key ws = within_self (gathered f ws)
-  fewer_settled f on_return.Nothing key ws = within_self (gathered f ws)
-  fewer_settled f (on_return.Leave handle) key ws = within_self (gathered f ws)
-  fewer_settled f (on_return.LeaveBoth x y) key ws = within_self (gathered f ws)
+  fewer_settled f e key ws = within_self (gathered f ws)
 
   -- what waits is polled
   suits_polled : (p : Waiter → NameStatus) (e : OnReturn T) (wait : Option (Line × Waiter)) (line : Line) (task v : Waiter)
@@ -125,17 +96,15 @@ module _ {T : Type 0} where
       absurd (let no : None ≡ Some (line, task) = sym s.2 ∙ w in cc)
   suits_polled p (on_return.New from new kind) wait line task v s w e =
       absurd (let no : None ≡ Some (line, task) = sym s.1 ∙ w in cc)
-  suits_polled p on_return.Nothing wait line task v s w e = absurd (let no : None ≡ Some v = e in cc)
-  suits_polled p (on_return.Leave handle) wait line task v s w e = absurd (let no : None ≡ Some v = e in cc)
-  suits_polled p (on_return.LeaveBoth x y) wait line task v s w e = absurd (let no : None ≡ Some v = e in cc)
+  suits_polled p z wait line task v s w e = absurd (let no : None ≡ Some v = e in cc)
 
   -- ---- a call makes a step
 
   module _ (b : NameState T) (s t : Configuration T Waiter) (p : ℕ) (m : Mark) (r : Option (Reply T)) (kp : Option (Kept T))
       (names : List Waiter) (o : Owned b s) (known : AllKnown s.now s.under_way)
       (st : Steps s p (record { mark = m; reply = r; kept = kp }) names t) (w : WokenSound b s) (i : InOrder b s) where
-    told : Tells s.now t.now names (holding st.mine.at)
-    told = tells s.now st.mine.at (record { channel = t.now; mark = m; woken = names }) r st.at_now st.moves
+    told : TellsInTurn s.now t.now names (holding st.mine.at)
+    told = let f = follows s.now st.mine.at (record { channel = t.now; mark = m; woken = names }) r st.at_now st.moves in f.turns
 
     abbrev mid_name_table : NameTable T
     mid_name_table = all_woken names b.name_table
@@ -335,10 +304,6 @@ module _ {T : Type 0} where
 
   -- ---- any step
 
-  abbrev IsAfter : NameState T → PartyId → Option (Reply T) → Option (Kept T) → List Waiter → NameState T → Type 0
-  IsAfter b q r kp names c =
-      (k : ℕ) × (a : Agent T) × (slice_get b.agents k ≡ Some a) × (a.party ≡ q.0) × (c ≡ name_state_ended k a r kp (with_woken names b))
-
   pub stepped_order : (b c : NameState T) (s t : Configuration T Waiter) (q : PartyId) (m : Mark) (r : Option (Reply T))
       (kp : Option (Kept T)) (names : List Waiter) → Owned b s → AllKnown s.now s.under_way
       → Steps s q.0 (record { mark = m; reply = r; kept = kp }) names t → IsAfter b q r kp names c → WokenSound b s → InOrder b s
@@ -346,14 +311,5 @@ module _ {T : Type 0} where
   stepped_order b c s t q m None kp names o known st after w i =
       subst (λ (d : NameState T). InOrder d t) (sym after.4) (goes_order b s t q.0 m kp names o known st w i)
   stepped_order b c s t q m (Some y) kp names o known st after w i =
-      let pt = parts b s t q.0 m (Some y) kp names o known st in
-      let f = st.finishes in
-      let his : pt.agent.party ≡ q.0 = pt.own.party ∙ st.whose in
-      let is = is_agent pt.front pt.agent pt.back after.0 after.1
-      (subst (λ (l : List (Agent T)). AllDiffer l) pt.are o.differ)
-      (ap (λ (l : List (Agent T)). slice_get l after.0) (sym pt.are) ∙ after.2) (after.3 ∙ sym his) in
-      let rest : remove b.agents after.0 ≡ pt.front ++ pt.back =
-      ap (λ (l : List (Agent T)). remove l after.0) pt.are ∙ is.without in
-      let same =
-      after.4 ∙ ended_is after.0 after.1 pt.agent y kp f.kept (with_woken names b) (pt.front ++ pt.back) is.same f.given rest in
-      subst (λ (d : NameState T). InOrder d t) (sym same) (ends_order b s t q.0 m y kp names o known st w i)
+      subst (λ (d : NameState T). InOrder d t) (sym (ended_as b c s t q m y kp names o known st after))
+      (ends_order b s t q.0 m y kp names o known st w i)

@@ -1,5 +1,5 @@
 -- Who is told on a list after a step there, in order.
-use Rattle.std.proofs.Common.{◌≡◌, ℕ, zero, suc, ◌≤◌, Bool, true, false, if◌then◌else◌, List, [], ◌∷◌, ◌++◌, length, take, Option, None, Some, is_some, ◌⊎◌, inl, inr, refl, ap, ◌∙◌, arith}
+use Rattle.std.proofs.Common.{◌≡◌, ℕ, zero, suc, Bool, true, false, if◌then◌else◌, List, [], ◌∷◌, ◌++◌, length, take, Option, None, Some, is_some, ◌⊎◌, inl, inr, refl, ap, ◌∙◌}
 use Rattle.std.specs.Map.{remove_entry, keys_of}
 use Rattle.event_listener.specs.Lists.{Notice, same_key, tasks_of, told_as, waits_as, told_with, without, with_task, moved, passed, passed_wakes, listened, registration, removed, removed_wakes}
 use Rattle.event_listener.specs.declared.key.Key.{Key}
@@ -8,7 +8,7 @@ use Rattle.channel_calls.specs.declared.stage.Held.{Held}
 use Rattle.channel_calls.specs.declared.stage.Line.{Line}
 use Rattle.channel_calls.proofs.Interface.{told_firsts, woken_firsts}
 use Rattle.channel_world_runs.specs.Owners.{IsAmong, NoneTwice}
-use Rattle.channel_world_runs.proofs.OwnerKeys.{on, told_both, few, one_tag, same_many, units, told_keys}
+use Rattle.channel_world_runs.proofs.OwnerKeys.{on, told_both, few, one_tag, same_many, units, told_keys, at_most_one, removed_as, removed_names}
 use Rattle.channel_world_runs.proofs.OwnerLists.{fewer_keys}
 use Rattle.channel_world_runs.proofs.OwnerWokenLists.{among_take, entry_back}
 
@@ -57,10 +57,6 @@ module _ {W : Type 0} where
 
   abbrev tags : Notice Unit → Listeners W → List (Unit {0})
   tags n l = take (moved n.additional 1 l) (n.tag ∷ [])
-
-  at_most_one : (additional : Bool) (l : Listeners W) → moved additional 1 l ≤ 1
-  at_most_one true l = omega arith
-  at_most_one false l = omega arith
 
   passed_told : (n : Notice Unit) (l : Listeners W)
       → keys_of (passed n l).told ≡ keys_of l.told ++ keys_of (take (moved n.additional 1 l) l.waiting)
@@ -139,16 +135,6 @@ module _ {W : Type 0} where
     told = nobody_more (keys_of (remove_entry (same_key key) l.told));
     woken = refl;
   }
-
-  abbrev removed_as : Option (Notice Unit) → Bool → Key → Listeners W → Listeners W
-  removed_as o b key l = elim o [
-    | Some notice ↦ (if true then passed notice (without key l) else without key l)
-    | None ↦
-        (if b then without key l else l)
-  ]
-
-  abbrev removed_names : Option (Notice Unit) → Key → Listeners W → List W
-  removed_names o key l = elim o [ Some notice ↦ (if true then passed_wakes notice (without key l) else []) | None ↦ [] ]
 
   removing : (line : Line) (key : Key) (l : Listeners W) (o : Option (Notice Unit)) (b : Bool)
       → InTurn line l (removed_as o b key l) (removed_names o key l) (on line key)

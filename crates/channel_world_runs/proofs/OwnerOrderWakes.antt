@@ -38,11 +38,7 @@ no_key line h true true e other = absurd (other (sym (line_sound line h.line e))
 
 pub keyless : (line : Line) (p : NameStatus) → NotOn line p → woken_key line p ≡ []
 keyless line (waits h c) other = no_key line h c (same_line line h.line) refl (other h c refl)
-keyless line free other = refl
-keyless line retired other = refl
-keyless line invalid other = refl
-keyless line (rests l) other = refl
-keyless line (polled l) other = refl
+keyless line x other = refl
 
 own_key : (line : Line) (key : Key) → woken_key line (waits (at_line line key) true) ≡ key ∷ []
 own_key line key = ap (λ (b : Bool). if b then key ∷ [] else []) (line_refl line)
@@ -59,11 +55,7 @@ key_held_at line h key false b e i = absurd i
 
 pub key_held : (line : Line) (key : Key) (p : NameStatus) → IsAmong key (woken_key line p) → p ≡ waits (at_line line key) true
 key_held line key (waits h c) i = key_held_at line h key c (same_line line h.line) refl i
-key_held line key free i = absurd i
-key_held line key retired i = absurd i
-key_held line key invalid i = absurd i
-key_held line key (rests l) i = absurd i
-key_held line key (polled l) i = absurd i
+key_held line key x i = absurd i
 
 -- it is pending, or not
 abbrev Waiting : NameStatus → Type 0

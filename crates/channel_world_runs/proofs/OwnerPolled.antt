@@ -1,7 +1,5 @@
 -- Where a poll of a name is under way, a party at work works there. So where nobody is at work, nobody is polled.
-use Rattle.std.specs.List.{remove}
-use Rattle.std.proofs.Common.{◌≡◌, ℕ, List, [], ◌∷◌, ◌++◌, slice_get, unwrap_or, Option, None, Some, ◌⊎◌, inl, inr, refl, sym, ap, ◌∙◌, subst}
-use Rattle.channel_calls.specs.Turns.{nothing_kept}
+use Rattle.std.proofs.Common.{◌≡◌, List, [], ◌∷◌, ◌++◌, Option, None, Some, ◌⊎◌, inl, inr, refl, sym, ap, ◌∙◌, subst}
 use Rattle.channel_calls.specs.declared.mark.Mark.{Mark}
 use Rattle.channel_calls.specs.declared.reply.Reply.{Reply}
 use Rattle.channel_calls.specs.declared.stage.Kept.{Kept}
@@ -9,21 +7,20 @@ use Rattle.channel_calls.specs.declared.stage.Line.{Line}
 use Rattle.channel_world_model.specs.declared.call.Call.{Call}
 use Rattle.channel_world_model.specs.declared.name.Waiter.{Waiter}
 use Rattle.channel_steps.specs.Configuration.{Configuration, Steps, AllKnown}
-use Rattle.channel_world_runs.specs.Bookkeeping.{names_begun, on_return_of, asks, written_back, all_woken}
+use Rattle.channel_world_runs.specs.Bookkeeping.{names_begun, on_return_of, written_back, all_woken}
 use Rattle.channel_world_runs.specs.OwnerPolled.{IsWorkedAt, PolledAtWork}
-use Rattle.channel_world_runs.specs.Owners.{IsAmong, NameStatus, free, retired, invalid, rests, waits, polled, status, subject, AllDiffer, Owned}
+use Rattle.channel_world_runs.specs.Owners.{IsAmong, NameStatus, waits, polled, status, subject, Owned}
 use Rattle.channel_world_runs.specs.NameTable.{first_name_table}
-use Rattle.channel_world_runs.specs.Run.{NameState, name_state_begun, name_state_ended, with_woken}
+use Rattle.channel_world_runs.specs.Run.{NameState, name_state_begun}
 use Rattle.channel_world_runs.specs.declared.names.Agent.{Agent}
 use Rattle.channel_world_runs.specs.declared.step.PartyId.{PartyId}
-use Rattle.channel_world_runs.proofs.OwnerBegins.{Quiet, Touches, Admitted}
-use Rattle.channel_world_runs.proofs.OwnerCalls.{begins_so}
+use Rattle.channel_world_runs.proofs.OwnerBegins.{Admitted}
+use Rattle.channel_world_runs.proofs.OwnerCalls.{BeginsSo, begins_so}
 use Rattle.channel_world_runs.proofs.OwnerEnds.{IsCalm, Comes}
 use Rattle.channel_world_runs.proofs.OwnerLists.{among_left, among_right, among_of}
 use Rattle.channel_world_runs.proofs.OwnerNames.{waiter_or, told_status, MayBeTold, all_told}
-use Rattle.channel_world_runs.proofs.OwnerRuns.{parts, set, inner}
+use Rattle.channel_world_runs.proofs.OwnerRuns.{IsAfter, ended_as, parts, set, inner}
 use Rattle.channel_world_runs.proofs.OwnerSteps.{first_calm}
-use Rattle.channel_world_runs.proofs.OwnerTogether.{is_agent}
 
 calm_polled : (x : NameStatus) (line : Line) → IsCalm x → x ≡ polled line → ⊥
 calm_polled x line h e = subst (λ (p : NameStatus). IsCalm p) e h
@@ -31,11 +28,7 @@ calm_polled x line h e = subst (λ (p : NameStatus). IsCalm p) e h
 -- a waking makes nobody polled
 told_polled : (x : NameStatus) (line : Line) → told_status x ≡ polled line → x ≡ polled line
 told_polled (waits h b) line e = absurd (let no : waits h _ ≡ polled line = e in cc)
-told_polled free line e = e
-told_polled retired line e = e
-told_polled invalid line e = e
-told_polled (rests l) line e = e
-told_polled (polled l) line e = e
+told_polled x line e = e
 
 module _ {T : Type 0} where
   pub polled_first : (b : NameState T) → b.name_table ≡ first_name_table → PolledAtWork b
@@ -55,8 +48,7 @@ module _ {T : Type 0} where
       was : status b.name_table w ≡ polled line → IsWorkedAt w (name_state_begun q c b)
       was f = let h = at w line f in (h.0, among_left h.0 b.agents (mine ∷ []) h.1, h.2)
 
-      by : Quiet (status b.name_table) (status (names_begun b.name_table c)) (on_return_of b.name_table c) (asks b.name_table c)
-          ⊎ Touches (status b.name_table) (status (names_begun b.name_table c)) (on_return_of b.name_table c) (asks b.name_table c) → IsWorkedAt w (name_state_begun q c b)
+      by : BeginsSo b.name_table c → IsWorkedAt w (name_state_begun q c b)
       by (inl k) = was (sym (k.same w) ∙ e)
       by (inr k) = now (waiter_or w k.name)
         where
@@ -90,24 +82,18 @@ module _ {T : Type 0} where
   pub polled_step : (b c : NameState T) (s t : Configuration T Waiter) (q : PartyId) (m : Mark) (r : Option (Reply T)) (kp : Option (Kept T))
       (names : List Waiter) → Owned b s → AllKnown s.now s.under_way
       → Steps s q.0 (record { mark = m; reply = r; kept = kp }) names t
-      → (k : ℕ) → (a : Agent T) → slice_get b.agents k ≡ Some a → a.party ≡ q.0 → c ≡ name_state_ended k a r kp (with_woken names b)
-      → PolledAtWork b → PolledAtWork c
-  polled_step b c s t q m None kp names o known st k a there his after at w line e =
-      let f : status (all_woken names b.name_table) w ≡ polled line = ap (λ (d : NameState T). status d.name_table w) (sym after) ∙ e in
+      → IsAfter b q r kp names c → PolledAtWork b → PolledAtWork c
+  polled_step b c s t q m None kp names o known st after at w line e =
+      let f : status (all_woken names b.name_table) w ≡ polled line = ap (λ (d : NameState T). status d.name_table w) (sym after.4) ∙ e in
       let h = at w line (mid_polled names b w line f) in
-      subst (λ (d : NameState T). IsWorkedAt w d) (sym after) (h.0, h.1, h.2)
-  polled_step b c s t q m (Some y) kp names o known st k a there his after at w line e =
+      subst (λ (d : NameState T). IsWorkedAt w d) (sym after.4) (h.0, h.1, h.2)
+  polled_step b c s t q m (Some y) kp names o known st after at w line e =
       let pt = parts b s t q.0 m (Some y) kp names o known st in
       let f = st.finishes in
-      let whose : pt.agent.party ≡ q.0 = pt.own.party ∙ st.whose in
-      let is = is_agent pt.front pt.agent pt.back k a (subst (λ (l : List (Agent T)). AllDiffer l) pt.are o.differ)
-      (ap (λ (l : List (Agent T)). slice_get l k) (sym pt.are) ∙ there) (his ∙ sym whose) in
-      let rest : remove b.agents k ≡ pt.front ++ pt.back = ap (λ (l : List (Agent T)). remove l k) pt.are ∙ is.without in
+      let same = ended_as b c s t q m y kp names o known st after in
       let name_table : c.name_table ≡ written_back pt.agent.on_return y f.kept (all_woken names b.name_table) =
-      ap (λ (d : NameState T). d.name_table) after
-      ∙ (ap (λ (x : Agent T). written_back x.on_return y (unwrap_or kp nothing_kept) (all_woken names b.name_table)) is.same
-      ∙ ap (λ (x : Option (Kept T)). written_back pt.agent.on_return y (unwrap_or x nothing_kept) (all_woken names b.name_table)) f.given) in
-      let agents : c.agents ≡ pt.front ++ pt.back = ap (λ (d : NameState T). d.agents) after ∙ rest in
+      ap (λ (d : NameState T). d.name_table) same in
+      let agents : c.agents ≡ pt.front ++ pt.back = ap (λ (d : NameState T). d.agents) same in
       let settle = set b s t q.0 m y kp names o known st in
       let now : status (written_back pt.agent.on_return y f.kept (all_woken names b.name_table)) w ≡ polled line =
       ap (λ x. status x w) (sym name_table) ∙ e in

@@ -25,7 +25,8 @@ use Rattle.channel_world_runs.specs.declared.names.Agent.{Agent}
 use Rattle.channel_world_runs.specs.declared.name_table.NameTable.{NameTable}
 use Rattle.channel_world_runs.specs.declared.step.PartyId.{PartyId}
 use Rattle.channel_world_runs.specs.declared.step.Step.TheVariants as step
-use Rattle.channel_world_runs.proofs.OwnerBegins.{line_waits, IsBusy}
+use Rattle.channel_world_runs.proofs.AskStarts.{line_waits}
+use Rattle.channel_world_runs.proofs.OwnerBegins.{IsBusy}
 use Rattle.channel_world_runs.proofs.OwnerEnds.{IsCalm, IsLeft, Comes, Settles, settles, carries}
 use Rattle.channel_world_runs.proofs.OwnerHolders.{Accounted, Passes, accounted}
 use Rattle.channel_world_runs.proofs.OwnerMoves.{LeavesIt, Turnout, turnout}
@@ -378,7 +379,7 @@ module _ {T : Type 0} where
     abbrev end_calls : List (ActiveCall T Waiter)
     end_calls = map (sees t.now) st.before ++ map (sees t.now) st.behind
 
-    abbrev end_name_state : NameState T
+    abbrev pub end_name_state : NameState T
     end_name_state = record {
       name_table = written_back pt.agent.on_return y kept (all_woken names b.name_table);
       order = order_settled pt.agent.on_return kept.key (all_moved_last names b.order);
@@ -539,7 +540,7 @@ module _ {T : Type 0} where
   -- ---- any step
 
   -- the name state after an end, given who ended and what it left
-  pub ended_is : (k : ℕ) (a a' : Agent T) (y : Reply T) (kp : Option (Kept T)) (kept : Kept T) (b : NameState T)
+  ended_is : (k : ℕ) (a a' : Agent T) (y : Reply T) (kp : Option (Kept T)) (kept : Kept T) (b : NameState T)
       (rest : List (Agent T)) → a ≡ a' → kp ≡ Some kept → remove b.agents k ≡ rest
       → name_state_ended k a (Some y) kp b
       ≡ record { name_table = written_back a'.on_return y kept b.name_table; order = order_settled a'.on_return kept.key b.order; agents = rest }
@@ -549,16 +550,17 @@ module _ {T : Type 0} where
       ∙ ap (λ (l : List (Agent T)).
       record { name_table = written_back a'.on_return y kept b.name_table; order = order_settled a'.on_return kept.key b.order; agents = l }) left)
 
-  abbrev IsAfter : NameState T → PartyId → Option (Reply T) → Option (Kept T) → List Waiter → NameState T → Type 0
-  IsAfter b q r kp names c = (k : ℕ) × (a : Agent T) × (slice_get b.agents k ≡ Some a) × (a.party ≡ q.0)
-      × (c ≡ name_state_ended k a r kp (with_woken names b))
+  -- the name state after a step of a party
+  abbrev pub IsAfter : NameState T → PartyId → Option (Reply T) → Option (Kept T) → List Waiter → NameState T → Type 0
+  IsAfter b q r kp names c =
+      (k : ℕ) × (a : Agent T) × (slice_get b.agents k ≡ Some a) × (a.party ≡ q.0) × (c ≡ name_state_ended k a r kp (with_woken names b))
 
-  pub stepped : (b c : NameState T) (s t : Configuration T Waiter) (q : PartyId) (m : Mark) (r : Option (Reply T)) (kp : Option (Kept T))
-      (names : List Waiter) → Owned b s → AllKnown s.now s.under_way
-      → Steps s q.0 (record { mark = m; reply = r; kept = kp }) names t → IsAfter b q r kp names c → Owned c t
-  stepped b c s t q m None kp names o known st after =
-      subst (λ (d : NameState T). Owned d t) (sym after.4) (goes_owned b s t q.0 m kp names o known st)
-  stepped b c s t q m (Some y) kp names o known st after =
+  -- where its call ends, that is without its agent, and what this has to write back is written
+  pub ended_as : (b c : NameState T) (s t : Configuration T Waiter) (q : PartyId) (m : Mark) (y : Reply T) (kp : Option (Kept T))
+      (names : List Waiter) (o : Owned b s) (known : AllKnown s.now s.under_way)
+      (st : Steps s q.0 (record { mark = m; reply = Some y; kept = kp }) names t) → IsAfter b q (Some y) kp names c
+      → c ≡ end_name_state b s t q.0 m y kp names o known st
+  ended_as b c s t q m y kp names o known st after =
       let pt = parts b s t q.0 m (Some y) kp names o known st in
       let f = st.finishes in
       let his : pt.agent.party ≡ q.0 = pt.own.party ∙ st.whose in
@@ -566,9 +568,16 @@ module _ {T : Type 0} where
       (ap (λ (l : List (Agent T)). slice_get l after.0) (sym pt.are) ∙ after.2) (after.3 ∙ sym his) in
       let rest : remove b.agents after.0 ≡ pt.front ++ pt.back = ap (λ (l : List (Agent T)). remove l after.0) pt.are
       ∙ is.without in
-      let same = after.4 ∙ ended_is after.0 after.1 pt.agent y kp f.kept (with_woken names b) (pt.front ++ pt.back) is.same
-      f.given rest in
-      subst (λ (d : NameState T). Owned d t) (sym same) (ends_owned b s t q.0 m y kp names o known st)
+      after.4 ∙ ended_is after.0 after.1 pt.agent y kp f.kept (with_woken names b) (pt.front ++ pt.back) is.same f.given rest
+
+  pub stepped : (b c : NameState T) (s t : Configuration T Waiter) (q : PartyId) (m : Mark) (r : Option (Reply T)) (kp : Option (Kept T))
+      (names : List Waiter) → Owned b s → AllKnown s.now s.under_way
+      → Steps s q.0 (record { mark = m; reply = r; kept = kp }) names t → IsAfter b q r kp names c → Owned c t
+  stepped b c s t q m None kp names o known st after =
+      subst (λ (d : NameState T). Owned d t) (sym after.4) (goes_owned b s t q.0 m kp names o known st)
+  stepped b c s t q m (Some y) kp names o known st after =
+      subst (λ (d : NameState T). Owned d t) (sym (ended_as b c s t q m y kp names o known st after))
+      (ends_owned b s t q.0 m y kp names o known st)
 
   pub idle_and_free : (q : PartyId) (c : Call T) (b : NameState T) → step_refusal b.name_table b.agents (step.Begin q c) ≡ None
       → (is_at_work q.0 b.agents ≡ false) × (begin_refusal b.name_table c ≡ None)

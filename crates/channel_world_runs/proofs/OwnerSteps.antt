@@ -15,7 +15,8 @@ use Rattle.channel_steps.specs.Configuration.{ActiveCall, Configuration}
 use Rattle.channel_steps.specs.declared.party.Entry.{Entry as ChannelEntry}
 use Rattle.channel_world_runs.specs.AskedBy.{IsOrListens}
 use Rattle.channel_world_runs.specs.Bookkeeping.{asks, on_return_of, names_begun}
-use Rattle.channel_world_runs.specs.Owners.{All, AnyOf, NameStatus, free, retired, invalid, rests, waits, polled, status_by, status, holding, task_at, wait_of, Bears, subject, Suits, Together, Differ, AllDiffer, IsListed, NoneListedTwice, Holder, named, calling, HoldsIn, Owned}
+use Rattle.channel_world_runs.specs.Order.{order_begun}
+use Rattle.channel_world_runs.specs.Owners.{All, AnyOf, NameStatus, free, retired, invalid, rests, waits, polled, status_by, status, holding, wait_of, subject, Suits, Together, Differ, AllDiffer, IsListed, NoneListedTwice, Holder, named, calling, HoldsIn, Owned}
 use Rattle.channel_world_runs.specs.NameTable.{first_name_table, unused, is_at_work}
 use Rattle.channel_world_runs.specs.Run.{NameState, name_state_begun}
 use Rattle.channel_world_runs.specs.declared.names.Agent.{Agent}
@@ -23,8 +24,9 @@ use Rattle.channel_world_runs.specs.declared.names.OnReturn.{OnReturn}
 use Rattle.channel_world_runs.specs.declared.names.OnReturn.TheVariants as on_return
 use Rattle.channel_world_model.specs.declared.name.HandleKind.TheVariants as handle_kind
 use Rattle.channel_world_runs.specs.declared.step.PartyId.{PartyId}
-use Rattle.channel_world_runs.proofs.OwnerBegins.{line_held, IsBusy, IsLoose, held_in, ask_holds, holds_same, waits_same, starts, Quiet, Touches, Admitted}
-use Rattle.channel_world_runs.proofs.OwnerCalls.{begins_so}
+use Rattle.channel_world_runs.proofs.AskStarts.{line_held, ask_holds, holds_same, waits_same, Starts, starts}
+use Rattle.channel_world_runs.proofs.OwnerBegins.{IsBusy, IsLoose, held_in, Quiet, Touches, Admitted}
+use Rattle.channel_world_runs.proofs.OwnerCalls.{BeginsSo, begins_so}
 use Rattle.channel_world_runs.proofs.OwnerEnds.{IsCalm}
 use Rattle.channel_world_runs.proofs.OwnerHolders.{Accounted, Passes, accounted}
 use Rattle.channel_world_runs.proofs.OwnerMoves.{still}
@@ -48,18 +50,11 @@ busy_amiss x c e = subst IsBusy e c
 pub busy_loose : (x : NameStatus) → IsBusy x → IsLoose x → ⊥
 busy_loose retired b l = l
 busy_loose (polled line) b l = l
-busy_loose free b l = b
-busy_loose invalid b l = b
-busy_loose (rests line) b l = b
-busy_loose (waits h w) b l = b
+busy_loose x b l = b
 
 held_is : (x : NameStatus) (h : Held) → held_in x ≡ Some h → (b : Bool) × (x ≡ waits h b)
 held_is (waits k b) h e = (b, ap (λ (z : Held). waits z b) (ap (λ (o : Option Held). elim o [ None ↦ k | Some z ↦ z ]) e))
-held_is free h e = absurd (let no : None ≡ Some h = e in cc)
-held_is retired h e = absurd (let no : None ≡ Some h = e in cc)
-held_is invalid h e = absurd (let no : None ≡ Some h = e in cc)
-held_is (rests line) h e = absurd (let no : None ≡ Some h = e in cc)
-held_is (polled line) h e = absurd (let no : None ≡ Some h = e in cc)
+held_is x h e = absurd (let no : None ≡ Some h = e in cc)
 
 pub told_was : (x : NameStatus) (h : Held) (b : Bool) → told_status x ≡ waits h b → (c : Bool) × (x ≡ waits h c)
 told_was (waits k c) h b e = (
@@ -75,19 +70,12 @@ told_was (polled line) h b e = (b, e)
 
 pub told_amiss : (x : NameStatus) → told_status x ≡ invalid → x ≡ invalid
 told_amiss (waits k c) e = absurd (let no : waits k true ≡ invalid = e in cc)
-told_amiss free e = e
-told_amiss retired e = e
-told_amiss invalid e = e
-told_amiss (rests line) e = e
-told_amiss (polled line) e = e
+told_amiss x e = e
 
 pub told_busy : (x : NameStatus) → IsBusy x → told_status x ≡ x
 told_busy retired b = refl
 told_busy (polled line) b = refl
-told_busy free b = absurd b
-told_busy invalid b = absurd b
-told_busy (rests line) b = absurd b
-told_busy (waits h w) b = absurd b
+told_busy x b = absurd b
 
 pub never_unwoken : (x : NameStatus) (h : Held) → told_status x ≡ waits h false → ⊥
 never_unwoken (waits k c) h e =
@@ -135,9 +123,7 @@ module _ (T : Type 0) where
 
   nobody_twice : (cap : Option ℕ) → NoneListedTwice {T = T} {W = Waiter} (new_configuration cap).now
   nobody_twice cap Sends = tt
-  nobody_twice cap Receives = tt
-  nobody_twice cap Streams = tt
-  nobody_twice cap Closings = tt
+  nobody_twice cap x = tt
 
   nobody_listed : (cap : Option ℕ) (h : Held) → IsListed {T = T} {W = Waiter} h (new_configuration cap).now → ⊥
   nobody_listed cap h i = by h.line i
@@ -220,7 +206,7 @@ module _ {T : Type 0} where
     abbrev calls : List (ActiveCall T Waiter)
     calls = s.under_way ++ new_call ∷ []
 
-    starts_so : (holding n.at ≡ ask_holds a) × Bears (task_at n.at) (wait_of a)
+    starts_so : Starts a n.at
     starts_so = starts a n.answer n.at n.turned
 
     first_stage : holding n.at ≡ ask_holds (asks b.name_table c)
@@ -264,7 +250,7 @@ module _ {T : Type 0} where
         )
         )
 
-    quietly : Quiet P P' (on_return_of b.name_table c) (asks b.name_table c) → Owned (name_state_begun q c b) t
+    quietly : Quiet P P' (on_return_of b.name_table c) (asks b.name_table c) (order_begun c) → Owned (name_state_begun q c b) t
     quietly k = begun_owned None (calling q.0) (calling q.0) pass (λ v i. k.same v)
         (λ v i e. absurd (let no : None ≡ Some v = sym k.nobody ∙ e in cc)) (λ v e. o.none_amiss v (sym (k.same v) ∙ e))
         (λ v h e. sym (k.same v) ∙ e) (plain_suits P' (on_return_of b.name_table c) (wait_of (asks b.name_table c)) k.nobody k.patient)
@@ -306,7 +292,7 @@ module _ {T : Type 0} where
           new = λ h e. absurd (let no : None ≡ Some h = e in cc);
         }
 
-    touching : Touches P P' (on_return_of b.name_table c) (asks b.name_table c) → Owned (name_state_begun q c b) t
+    touching : Touches P P' (on_return_of b.name_table c) (asks b.name_table c) (order_begun c) → Owned (name_state_begun q c b) t
     touching k = begun_owned (held_in (P k.name)) (named k.name) (calling q.0) pass (λ v i. k.sets.others v (idle_name v i)) own
         sane unwoken k.suits
       where
@@ -372,7 +358,6 @@ module _ {T : Type 0} where
     pub begins_owned : Admitted b.name_table c → Owned (name_state_begun q c b) t
     begins_owned no_refusal = by (begins_so b.name_table c o.none_amiss no_refusal)
       where
-        by : Quiet P P' (on_return_of b.name_table c) (asks b.name_table c) ⊎ Touches P P' (on_return_of b.name_table c) (asks b.name_table c)
-            → Owned (name_state_begun q c b) t
+        by : BeginsSo b.name_table c → Owned (name_state_begun q c b) t
         by (inl k) = quietly k
         by (inr k) = touching k

@@ -67,9 +67,7 @@ module _ {T : Type 0} where
   suits_on p p' (on_return.PollNext receiver) wait f h = (h.0, f (Stream receiver) refl ∙ h.1, h.2)
   suits_on p p' (on_return.Make op operation) wait f h = (f (Op op) refl ∙ h.0, h.1, h.2)
   suits_on p p' (on_return.New from new kind) wait f h = (f (Stream new) refl ∙ h.0, h.1)
-  suits_on p p' on_return.Nothing wait f h = h
-  suits_on p p' (on_return.Leave handle) wait f h = h
-  suits_on p p' (on_return.LeaveBoth a b) wait f h = h
+  suits_on p p' x wait f h = h
 
   -- where an agent works, the name is busy
   pub busy : (p : Waiter → NameStatus) (e : OnReturn T) (wait : Option (Line × Waiter)) (v : Waiter) → Suits p e wait → subject e ≡ Some v → IsBusy (p v)
@@ -89,9 +87,7 @@ module _ {T : Type 0} where
     where
       by : Stream new ≡ v → IsBusy (p v)
       by same = subst (λ (w : Waiter). IsBusy (p w)) same (subst IsBusy (sym h.0) tt)
-  busy p on_return.Nothing wait v h e = absurd (let no : None ≡ Some v = e in cc)
-  busy p (on_return.Leave handle) wait v h e = absurd (let no : None ≡ Some v = e in cc)
-  busy p (on_return.LeaveBoth a b) wait v h e = absurd (let no : None ≡ Some v = e in cc)
+  busy p x wait v h e = absurd (let no : None ≡ Some v = e in cc)
 
   -- these names stand as before
   abbrev pub Keeps : (Waiter → NameStatus) → (Waiter → NameStatus) → Agent T → Type 0

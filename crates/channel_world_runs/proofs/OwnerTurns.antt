@@ -10,8 +10,8 @@ use Rattle.concurrent_queue.specs.declared.call.QueueMark.{QueueMark}
 use Rattle.concurrent_queue.specs.declared.call.QueueMark.TheVariants.{Nothing, Close}
 use Rattle.concurrent_queue.specs.declared.call.QueueReply.{QueueReply}
 use Rattle.concurrent_queue.specs.declared.call.QueueReply.TheVariants as answer
-use Rattle.concurrent_queue.specs.declared.error.PushError.TheVariants as push_error
 use Rattle.concurrent_queue.specs.declared.error.ForcePushError.TheVariants as force_error
+use Rattle.concurrent_queue.specs.declared.error.PushError.TheVariants as push_error
 use Rattle.concurrent_queue.specs.declared.error.PopError.TheVariants as pop_error
 use Rattle.event_listener.specs.declared.key.Key.{Key}
 use Rattle.channel_calls.specs.Answered.{over, answered_next, send_next, receive_next, stream_next, closing_next, closed_next, asked_next, terminated_next, upgraded_next, sent_next, forced_next, received_next, gathered_next, short_next, several_next}
@@ -103,16 +103,12 @@ module _ (T W : Type 0) where
   over_has x m line (Some key) task = (refl, inl refl)
 
   closer_has : (c : Closer) (b : Bool) (task : Option W) → Has (closer_holds c) task (ends_by (closer_ending c b))
-  closer_has closer.Call b task = (refl, refl)
-  closer_has closer.Sender b task = (refl, refl)
-  closer_has (closer.Receiver None) b task = (refl, refl)
   closer_has (closer.Receiver (Some key)) b task = (refl, inl refl)
+  closer_has x b task = (refl, refl)
 
   pub told_all_has : (line : Line) (c : Closer) (task : Option W) → Has (closer_holds c) task (told_all_next line c)
-  told_all_has Sends c task = (refl, inl refl)
-  told_all_has Receives c task = (refl, inl refl)
-  told_all_has Streams c task = (refl, inl refl)
   told_all_has Closings c task = closer_has c true task
+  told_all_has x c task = (refl, inl refl)
 
   lowered_or : (b : Bool) (side : Side) (key : Option Key) (task : Option W) → Has (closer_holds (dropper side key)) task (if b then Tries queue.Close (aim.Close (dropper side key)) else ends_by (closer_ending (dropper side key) false))
   lowered_or true side key task = (refl, inl refl)
@@ -145,35 +141,27 @@ module _ (T W : Type 0) where
   sent_has : (x : QueueReply T) → Has None None (sent_next x)
   sent_has (answer.Push (Ok u)) = (refl, inl refl)
   sent_has (answer.Push (Err (push_error.Full m))) = (refl, refl)
-  sent_has (answer.Push (Err (push_error.Closed m))) = (refl, refl)
-  sent_has (answer.Push (Err (push_error.NoMemory m))) = (refl, refl)
   sent_has x = (refl, refl)
 
   forced_has : (x : QueueReply T) → Has None None (forced_next x)
   forced_has (answer.Force (Ok d)) = (refl, inl refl)
   forced_has (answer.Force (Err (force_error.Closed m))) = (refl, refl)
-  forced_has (answer.Force (Err (force_error.NoMemory m))) = (refl, refl)
   forced_has x = (refl, refl)
 
   received_has : (x : QueueReply T) → Has None None (received_next x)
   received_has (answer.Pop (Ok m)) = (refl, inl refl)
   received_has (answer.Pop (Err pop_error.Empty)) = (refl, refl)
-  received_has (answer.Pop (Err pop_error.Closed)) = (refl, refl)
   received_has x = (refl, refl)
 
   asked_has : (x : QueueReply T) → Has None None (asked_next x)
   asked_has (answer.Flag b) = (refl, refl)
-  asked_has (answer.Count n) = (refl, refl)
-  asked_has (answer.Cap n) = (refl, refl)
   asked_has x = (refl, refl)
 
   terminated_has : (x : QueueReply T) → Has None None (terminated_next x)
   terminated_has (answer.Flag true) = (refl, inl refl)
-  terminated_has (answer.Flag false) = (refl, refl)
   terminated_has x = (refl, refl)
 
   upgraded_has : (x : QueueReply T) (side : Side) → Has None None (upgraded_next x side)
-  upgraded_has (answer.Flag true) side = (refl, refl)
   upgraded_has (answer.Flag false) side = (refl, inl refl)
   upgraded_has x side = (refl, refl)
 

@@ -1,6 +1,5 @@
 -- Whoever is pending and was woken is told, over steps of calls.
-use Rattle.std.proofs.Common.{◌≡◌, ℕ, Bool, true, false, List, [], ◌∷◌, ◌++◌, map, slice_get, Option, None, Some, ◌⊎◌, inl, inr, refl, sym, ap, ◌∙◌, subst}
-use Rattle.std.specs.List.{remove}
+use Rattle.std.proofs.Common.{◌≡◌, ℕ, Bool, true, false, List, [], ◌∷◌, ◌++◌, map, Option, None, Some, ◌⊎◌, inl, inr, refl, sym, ap, ◌∙◌, subst}
 use Rattle.std.specs.Map.{keys_of}
 use Rattle.event_listener.specs.declared.key.Key.{Key}
 use Rattle.channel_calls.specs.Moves.{Channel}
@@ -15,9 +14,9 @@ use Rattle.channel_world_model.specs.declared.name.Waiter.TheVariants.{Op, Strea
 use Rattle.channel_steps.specs.Configuration.{ActiveCall, Configuration, Steps, AllKnown, sees, does}
 use Rattle.channel_world_runs.specs.Bookkeeping.{written_back, with_one_woken, all_woken}
 use Rattle.channel_world_runs.specs.Order.{all_moved_last, order_settled}
-use Rattle.channel_world_runs.specs.Owners.{IsAmong, All, AnyOf, NameStatus, free, retired, invalid, rests, waits, polled, status, holding, task_at, wait_of, Bears, subject, Suits, Together, Differ, AllDiffer, IsListed, WaitsToWake, named, calling, HoldsIn, Owned}
+use Rattle.channel_world_runs.specs.Owners.{IsAmong, All, AnyOf, NameStatus, free, retired, invalid, rests, waits, polled, status, holding, task_at, wait_of, Bears, subject, Suits, Together, Differ, IsListed, WaitsToWake, named, calling, HoldsIn, Owned}
 use Rattle.channel_world_runs.specs.OwnerWoken.{IsAway, IsTold, NoneWorks, IsOwn, WokenSound}
-use Rattle.channel_world_runs.specs.Run.{NameState, name_state_ended, with_woken}
+use Rattle.channel_world_runs.specs.Run.{NameState, with_woken}
 use Rattle.channel_world_runs.specs.declared.names.Agent.{Agent}
 use Rattle.channel_world_runs.specs.declared.names.OnReturn.{OnReturn}
 use Rattle.channel_world_runs.specs.declared.names.OnReturn.TheVariants as on_return
@@ -29,9 +28,9 @@ use Rattle.channel_world_runs.proofs.OwnerKeys.{IsGone}
 use Rattle.channel_world_runs.proofs.OwnerLists.{among_left, among_right, among_of}
 use Rattle.channel_world_runs.proofs.OwnerMoves.{LeavesIt, Turnout}
 use Rattle.channel_world_runs.proofs.OwnerNames.{waiter_or, one_woken, named_told}
-use Rattle.channel_world_runs.proofs.OwnerRuns.{mid_forth, mid_busy, parts, sides, out, was_mine, now_after, forth_calling, inner, subject_or, waits_is, busy_own, set, leaves, back_calling, ended_is}
+use Rattle.channel_world_runs.proofs.OwnerRuns.{mid_forth, mid_busy, parts, sides, out, was_mine, now_after, forth_calling, inner, subject_or, waits_is, busy_own, set, leaves, back_calling, IsAfter, ended_as}
 use Rattle.channel_world_runs.proofs.OwnerSteps.{calm_waits, busy_waits, told_was, calling_is, apart}
-use Rattle.channel_world_runs.proofs.OwnerTogether.{HasIt, all_join, all_left, all_right, busy, Parted, is_agent}
+use Rattle.channel_world_runs.proofs.OwnerTogether.{HasIt, all_join, all_left, all_right, busy, Parted}
 use Rattle.channel_world_runs.proofs.OwnerWokenLists.{key_of_entry}
 use Rattle.channel_world_runs.proofs.OwnerWokenMoves.{Follows, follows}
 
@@ -113,9 +112,7 @@ module _ {T : Type 0} where
       by (inr some) = ap (λ (o : Option (Line × Waiter)). elim o [ None ↦ Some v | Some x ↦ Some x.1 ]) (sym some ∙ w)
   suits_name p (on_return.Make op operation) line v wait s w = absurd (let no : None ≡ Some (line, v) = sym s.2 ∙ w in cc)
   suits_name p (on_return.New from new kind) line v wait s w = absurd (let no : None ≡ Some (line, v) = sym s.1 ∙ w in cc)
-  suits_name p on_return.Nothing line v wait s w = absurd (let no : None ≡ Some (line, v) = sym s ∙ w in cc)
-  suits_name p (on_return.Leave handle) line v wait s w = absurd (let no : None ≡ Some (line, v) = sym s ∙ w in cc)
-  suits_name p (on_return.LeaveBoth x y) line v wait s w = absurd (let no : None ≡ Some (line, v) = sym s ∙ w in cc)
+  suits_name p z line v wait s w = absurd (let no : None ≡ Some (line, v) = sym s ∙ w in cc)
 
   listed_of : (h : Held) (w : Waiter) (c : Channel T Waiter) → WaitsToWake h w c → IsListed h c
   listed_of h w c i = among_right h.key (keys_of (listeners h.line c.roster).told)
@@ -378,10 +375,6 @@ module _ {T : Type 0} where
 
   -- ---- any step
 
-  abbrev IsAfter : NameState T → PartyId → Option (Reply T) → Option (Kept T) → List Waiter → NameState T → Type 0
-  IsAfter b q r kp names c =
-      (k : ℕ) × (a : Agent T) × (slice_get b.agents k ≡ Some a) × (a.party ≡ q.0) × (c ≡ name_state_ended k a r kp (with_woken names b))
-
   pub stepped_woken : (b c : NameState T) (s t : Configuration T Waiter) (q : PartyId) (m : Mark) (r : Option (Reply T))
       (kp : Option (Kept T)) (names : List Waiter) → Owned b s → AllKnown s.now s.under_way
       → Steps s q.0 (record { mark = m; reply = r; kept = kp }) names t → IsAfter b q r kp names c → WokenSound b s →
@@ -389,14 +382,5 @@ module _ {T : Type 0} where
   stepped_woken b c s t q m None kp names o known st after w =
       subst (λ (d : NameState T). WokenSound d t) (sym after.4) (goes_woken b s t q.0 m kp names o known st w)
   stepped_woken b c s t q m (Some y) kp names o known st after w =
-      let pt = parts b s t q.0 m (Some y) kp names o known st in
-      let f = st.finishes in
-      let his : pt.agent.party ≡ q.0 = pt.own.party ∙ st.whose in
-      let is = is_agent pt.front pt.agent pt.back after.0 after.1
-      (subst (λ (l : List (Agent T)). AllDiffer l) pt.are o.differ)
-      (ap (λ (l : List (Agent T)). slice_get l after.0) (sym pt.are) ∙ after.2) (after.3 ∙ sym his) in
-      let rest : remove b.agents after.0 ≡ pt.front ++ pt.back =
-      ap (λ (l : List (Agent T)). remove l after.0) pt.are ∙ is.without in
-      let same = after.4 ∙ ended_is after.0 after.1 pt.agent y kp f.kept (with_woken names b) (pt.front ++ pt.back) is.same
-      f.given rest in
-      subst (λ (d : NameState T). WokenSound d t) (sym same) (ends_woken b s t q.0 m y kp names o known st w)
+      subst (λ (d : NameState T). WokenSound d t) (sym (ended_as b c s t q m y kp names o known st after))
+      (ends_woken b s t q.0 m y kp names o known st w)

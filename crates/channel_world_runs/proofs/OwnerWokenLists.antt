@@ -1,5 +1,5 @@
 -- Who is told on a list, and whom its listeners wake, after what a step does there.
-use Rattle.std.proofs.Common.{◌≡◌, ◌≤◌, ℕ, zero, suc, Bool, true, false, cond, if◌then◌else◌, List, [], ◌∷◌, ◌++◌, length, map, take, drop, Option, None, Some, is_some, ◌⊎◌, inl, inr, refl, sym, ap, ◌∙◌, subst, arith}
+use Rattle.std.proofs.Common.{◌≡◌, ◌≤◌, ℕ, zero, suc, Bool, true, false, cond, if◌then◌else◌, List, [], ◌∷◌, ◌++◌, length, take, drop, Option, None, Some, is_some, ◌⊎◌, inl, inr, refl, sym, ap, ◌∙◌, subst, arith}
 use Rattle.std.specs.Map.{remove_entry, set_value, keys_of}
 use Rattle.event_listener.specs.Lists.{Notice, same_key, tasks_of, told_as, waits_as, told_with, without, with_task, moved, passed, passed_wakes, listened, registration, removed, removed_wakes}
 use Rattle.event_listener.specs.declared.key.Key.{Key}
@@ -7,7 +7,7 @@ use Rattle.channel_calls.specs.Parts.{Listeners, told_one, told_one_wakes, told_
 use Rattle.channel_calls.specs.declared.stage.Held.{Held}
 use Rattle.channel_calls.specs.declared.stage.Line.{Line}
 use Rattle.channel_world_runs.specs.Owners.{IsAmong}
-use Rattle.channel_world_runs.proofs.OwnerKeys.{on}
+use Rattle.channel_world_runs.proofs.OwnerKeys.{on, few, one_tag, units, same_many, at_most_one, removed_as, removed_names}
 use Rattle.channel_world_runs.proofs.OwnerLists.{same_is, key_stays, among_of}
 
 module _ {A : Type 0} where
@@ -21,14 +21,6 @@ module _ {A : Type 0} where
   among_drop zero x xs h = h
   among_drop (suc n) x [] h = h
   among_drop (suc n) x (y ∷ xs) h = inr (among_drop n x xs h)
-
-  abbrev units : List A → List (Unit {0})
-  units xs = map (λ x. tt) xs
-
-  few : (n : ℕ) (xs : List A) → length (take n xs) ≤ n
-  few zero xs = omega arith
-  few (suc n) [] = omega arith
-  few (suc n) (x ∷ xs) = let h = few n xs in omega (arith, h)
 
 module _ {X : Type 0} where
   pub key_of_entry : (e : Key × X) (es : List (Key × X)) → IsAmong e es → IsAmong e.0 (keys_of es)
@@ -124,17 +116,8 @@ module _ {W : Type 0} where
       woken = woken;
     }
       where
-        at_most_one : (additional : Bool) → moved additional 1 l ≤ 1
-        at_most_one true = omega arith
-        at_most_one false = omega arith
-
-        one_tag : (k : ℕ) (u : Unit {0}) → k ≤ 1 → length (take k (u ∷ [])) ≡ k
-        one_tag zero u h = refl
-        one_tag (suc zero) u h = refl
-        one_tag (suc (suc k)) u h = absurd (omega (arith, h))
-
         many : length (tags n l) ≡ moved n.additional 1 l
-        many = one_tag (moved n.additional 1 l) n.tag (at_most_one n.additional)
+        many = one_tag (moved n.additional 1 l) n.tag (at_most_one n.additional l)
 
         woken : (w : W) → IsAmong w (passed_wakes n l)
             → (key : Key) × IsAmong (key, Some w) l.waiting × IsAmong key (keys_of (passed n l).told)
@@ -184,10 +167,6 @@ module _ {W : Type 0} where
     all_pass l =
         record { told = λ key other h. keys_left key l.told (all_new l) h; tasks = λ key w h. absurd h; woken = woken }
       where
-        enough : {A : Type 0} (xs : List A) → length xs ≤ length (units xs)
-        enough [] = omega arith
-        enough (x ∷ xs) = let h = enough xs in omega (arith, h)
-
         woken : (w : W) → IsAmong w (told_all_wakes l)
             → (key : Key) × IsAmong (key, Some w) l.waiting × IsAmong key (keys_of (told_all l).told)
         woken w h =
@@ -195,7 +174,7 @@ module _ {W : Type 0} where
               who.0,
               who.1,
               keys_right who.0 l.told (all_new l)
-                  (told_keys false who.0 l.waiting (all_tags l) (enough l.waiting)
+                  (told_keys false who.0 l.waiting (all_tags l) (same_many l.waiting)
                   (key_of_entry (who.0, Some w) l.waiting who.1)),
             )
 
@@ -235,16 +214,6 @@ module _ {W : Type 0} where
       woken : (w : W) → (key : Key) × IsAmong (key, Some w) l'.waiting × IsAmong key (keys_of l''.told)
           → (key : Key) × IsAmong (key, Some w) l.waiting × IsAmong key (keys_of l''.told)
       woken w h = (h.0, back h.0 w (f.tasks h.0 w h.1), h.2)
-
-  abbrev removed_as : Option (Notice Unit) → Bool → Key → Listeners W → Listeners W
-  removed_as o b key l = elim o [
-    | Some notice ↦ (if true then passed notice (without key l) else without key l)
-    | None ↦
-        (if b then without key l else l)
-  ]
-
-  abbrev removed_names : Option (Notice Unit) → Key → Listeners W → List W
-  removed_names o key l = elim o [ Some notice ↦ (if true then passed_wakes notice (without key l) else []) | None ↦ [] ]
 
   removing : (line : Line) (key : Key) (l : Listeners W) (o : Option (Notice Unit)) (b : Bool)
       → Tells line l (removed_as o b key l) (removed_names o key l) (on line key) None

@@ -1,12 +1,12 @@
--- Who is told, and whom listeners wake, after a step of a call.
-use Rattle.std.proofs.Common.{◌≡◌, ℕ, ◌+◌, ◌-◌, Bool, true, false, if◌then◌else◌, List, [], Option, None, Some, ◌⊎◌, inl, inr, refl, sym, subst}
+-- Who is told, in order, and whom listeners wake, after a step of a call.
+use Rattle.std.proofs.Common.{◌≡◌, ℕ, ◌+◌, ◌-◌, Bool, true, false, if◌then◌else◌, List, [], Option, None, Some, ◌⊎◌, inl, inr, refl, sym, ap, subst}
 use Rattle.std.specs.Map.{keys_of}
 use Rattle.concurrent_queue.specs.Queue.{Phase}
 use Rattle.event_listener.specs.Lists.{listened, registration, removed, removed_wakes}
 use Rattle.event_listener.specs.declared.key.Key.{Key}
 use Rattle.channel_calls.specs.Marks.{up, down}
 use Rattle.channel_calls.specs.Moves.{Channel, Effect, queued, untouched, on_line, on_count, leaves, Inserts, Worked, Moves}
-use Rattle.channel_calls.specs.Parts.{Roster, Listeners, listeners, with_listeners, with_count, count, is_raised, told_one, told_one_wakes, told_more, told_more_wakes, told_all, told_all_wakes}
+use Rattle.channel_calls.specs.Parts.{Roster, Listeners, listeners, with_listeners, count, is_raised, told_one, told_one_wakes, told_more, told_more_wakes, told_all, told_all_wakes}
 use Rattle.channel_calls.specs.Turns.{line_of}
 use Rattle.channel_calls.specs.declared.mark.Mark.{Mark}
 use Rattle.channel_calls.specs.declared.reply.Reply.{Reply}
@@ -19,10 +19,12 @@ use Rattle.channel_calls.specs.declared.stage.Stage.{Stage}
 use Rattle.channel_calls.specs.declared.stage.Stage.TheVariants.{Trying, Working, Finished}
 use Rattle.channel_calls.specs.declared.stage.Waiting.{Waiting}
 use Rattle.channel_calls.specs.declared.stage.Work.{Work}
-use Rattle.channel_calls.specs.declared.stage.Work.TheVariants.{TellReceive, TellStreams, TellSend, TellSends, TakeRoom, TellAll, Insert, Register, Leave, Lower, Count, Load, Raise}
+use Rattle.channel_calls.specs.declared.stage.Work.TheVariants.{TellReceive, TellStreams, TellSend, TellSends, TellAll, Insert, Register, Leave, Lower, Raise}
 use Rattle.channel_world_runs.specs.Owners.{IsAmong, holding, task_at, WaitsToWake}
 use Rattle.channel_world_runs.specs.OwnerWoken.{IsTold}
 use Rattle.channel_world_runs.proofs.OwnerKeys.{on}
+use Rattle.channel_world_runs.proofs.OwnerMoves.{same_list, other_list, counted_list}
+use Rattle.channel_world_runs.proofs.OwnerOrderLists.{InTurn, none_told, one_passed, more_passed, all_passed, one_left, one_came, one_asked}
 use Rattle.channel_world_runs.proofs.OwnerWokenLists.{Tells, passes, more_pass, all_pass, leaves_list, comes_in, registers_on}
 
 module _ {W : Type 0} where
@@ -34,10 +36,7 @@ module _ {W : Type 0} where
   told_on Receives Receives l names r had task t key other i = t.told key other i
   told_on Streams Streams l names r had task t key other i = t.told key other i
   told_on Closings Closings l names r had task t key other i = t.told key other i
-  told_on Sends at l names r had task t key other i = i
-  told_on Receives at l names r had task t key other i = i
-  told_on Streams at l names r had task t key other i = i
-  told_on Closings at l names r had task t key other i = i
+  told_on x at l names r had task t key other i = i
 
   tasks_on : (line at : Line) (l : Listeners W) (names : List W) (r : Roster W) (had : Option Held) (task : Option W)
       → Tells at (listeners at r) l names had task
@@ -47,10 +46,7 @@ module _ {W : Type 0} where
   tasks_on Receives Receives l names r had task t key w i = t.tasks key w i
   tasks_on Streams Streams l names r had task t key w i = t.tasks key w i
   tasks_on Closings Closings l names r had task t key w i = t.tasks key w i
-  tasks_on Sends at l names r had task t key w i = inl i
-  tasks_on Receives at l names r had task t key w i = inl i
-  tasks_on Streams at l names r had task t key w i = inl i
-  tasks_on Closings at l names r had task t key w i = inl i
+  tasks_on x at l names r had task t key w i = inl i
 
   abbrev Hears : Roster W → Roster W → W → Type 0
   Hears r r' w =
@@ -64,17 +60,13 @@ module _ {W : Type 0} where
   woken_on Streams l names r had task t w i = let x = t.woken w i in (record { line = Streams; key = x.0 }, x.1, x.2)
   woken_on Closings l names r had task t w i = let x = t.woken w i in (record { line = Closings; key = x.0 }, x.1, x.2)
 
-  counted : (line : Line) (side : Side) (n : ℕ) (r : Roster W) → listeners line (with_count side n r) ≡ listeners line r
-  counted Sends Senders n r = refl
-  counted Sends Receivers n r = refl
-  counted Receives Senders n r = refl
-  counted Receives Receivers n r = refl
-  counted Streams Senders n r = refl
-  counted Streams Receivers n r = refl
-  counted Closings Senders n r = refl
-  counted Closings Receivers n r = refl
-
 module _ {T W : Type 0} where
+  -- a step that wakes these, by a call with this listener in hand, tells on one list, in its order, and on no other
+  pub record TellsInTurn (c d : Channel T W) (names : List W) (had : Option Held) : Type 0 where
+    pub at : Line
+    pub here : InTurn at (listeners at c.roster) (listeners at d.roster) names had
+    pub others : (line : Line) → (line ≡ at → ⊥) → keys_of (listeners line d.roster).told ≡ keys_of (listeners line c.roster).told
+
   -- A channel after a step that wakes these, by a call with this listener in hand, which may be to wake this task: those who were
   -- told are told still, but for the one in hand; a listener that waits waited for the same, or is the one in hand, and waits for
   -- its task; whoever is woken waited, and is told.
@@ -82,6 +74,7 @@ module _ {T W : Type 0} where
     pub told : (h : Held) → (had ≡ Some h → ⊥) → IsTold h c → IsTold h d
     pub tasks : (h : Held) (w : W) → WaitsToWake h w d → WaitsToWake h w c ⊎ ((had ≡ Some h) × (task ≡ Some w))
     pub woken : (w : W) → IsAmong w names → (h : Held) × WaitsToWake h w c × IsTold h d
+    pub turns : TellsInTurn c d names had
 
   as_before : (c d : Channel T W) (had : Option Held) (task : Option W)
       → ((line : Line) → listeners line d.roster ≡ listeners line c.roster) → Follows c d [] had task
@@ -90,15 +83,27 @@ module _ {T W : Type 0} where
         told = λ h other i. subst (λ (l : Listeners W). IsAmong h.key (keys_of l.told)) (sym (f h.line)) i;
         tasks = λ h w i. inl (subst (λ (l : Listeners W). IsAmong (h.key, Some w) l.waiting) (f h.line) i);
         woken = λ w i. absurd i;
+        turns = record {
+          at = Sends;
+          here = none_told Sends (listeners Sends c.roster) (listeners Sends d.roster) had
+              (ap (λ (l : Listeners W). keys_of l.told) (f Sends));
+          others = λ line other. ap (λ (l : Listeners W). keys_of l.told) (f line);
+        };
       }
 
   on_one : (at : Line) (l : Listeners W) (names : List W) (c : Channel T W) (had : Option Held) (task : Option W)
-      → Tells at (listeners at c.roster) l names had task → Follows c (on_line at l names c).channel names had task
-  on_one at l names c had task t =
+      → Tells at (listeners at c.roster) l names had task → InTurn at (listeners at c.roster) l names had
+      → Follows c (on_line at l names c).channel names had task
+  on_one at l names c had task t i =
       record {
         told = λ h other i. told_on h.line at l names c.roster had task t h.key other i;
         tasks = λ h w i. tasks_on h.line at l names c.roster had task t h.key w i;
         woken = λ w i. woken_on at l names c.roster had task t w i;
+        turns = record {
+          at = at;
+          here = subst (λ (x : Listeners W). InTurn at (listeners at c.roster) x names had) (sym (same_list at l c.roster)) i;
+          others = λ line other. ap (λ (x : Listeners W). keys_of x.told) (other_list line at l c.roster other);
+        };
       }
 
   module _ (c : Channel T W) where
@@ -113,27 +118,28 @@ module _ {T W : Type 0} where
         (told_one_wakes (listeners at c.roster)) had None
     tells_one_more at had = on_one at (told_one (listeners at c.roster)) (told_one_wakes (listeners at c.roster)) c had None
         (passes at had None (record { additional = true; tag = tt }) (listeners at c.roster))
+        (one_passed at (record { additional = true; tag = tt }) (listeners at c.roster) had)
 
     tells_several : (at : Line) (n : ℕ) (had : Option Held)
         → Follows c (on_line at (told_more n (listeners at c.roster)) (told_more_wakes n (listeners at c.roster)) c).channel
         (told_more_wakes n (listeners at c.roster)) had None
     tells_several at n had = on_one at (told_more n (listeners at c.roster)) (told_more_wakes n (listeners at c.roster)) c had None
-        (more_pass at had None n (listeners at c.roster))
+        (more_pass at had None n (listeners at c.roster)) (more_passed at n (listeners at c.roster) had)
 
     tells_them_all : (at : Line) (had : Option Held)
         → Follows c (on_line at (told_all (listeners at c.roster)) (told_all_wakes (listeners at c.roster)) c).channel
         (told_all_wakes (listeners at c.roster)) had None
     tells_them_all at had = on_one at (told_all (listeners at c.roster)) (told_all_wakes (listeners at c.roster)) c had None
-        (all_pass at had None (listeners at c.roster))
+        (all_pass at had None (listeners at c.roster)) (all_passed at (listeners at c.roster) had)
 
     left : (o : Option Held) → After o None (leaves o c)
     left None = as_before c c None None (λ line. refl)
     left (Some k) = on_one k.line (removed k.key true (listeners k.line c.roster))
         (removed_wakes k.key true (listeners k.line c.roster)) c (on k.line k.key) None
-        (leaves_list k.line k.key (listeners k.line c.roster))
+        (leaves_list k.line k.key (listeners k.line c.roster)) (one_left k.line k.key (listeners k.line c.roster))
 
     counts : (side : Side) (n : ℕ) (m : Mark) (had : Option Held) → After had None (on_count side n m c)
-    counts side n m had = as_before c (on_count side n m c).channel had None (λ line. counted line side n c.roster)
+    counts side n m had = as_before c (on_count side n m c).channel had None (λ line. counted_list line side n c.roster)
 
     raised : (b : Bool) (side : Side) (n : ℕ) → After None None (if b then on_count side (n + 1) (up side) c else untouched c)
     raised true side n = counts side (n + 1) (up side) None
@@ -143,7 +149,8 @@ module _ {T W : Type 0} where
         → Inserts w task c e r s → After None (Some task) e
     inserts w task e r s (inl (key, new, same, t)) =
         as_it None (Some task) e _ same (on_one (line_of w) (listened key (listeners (line_of w) c.roster)) [] c None
-        (Some task) (comes_in (line_of w) key (listeners (line_of w) c.roster) (Some task)))
+        (Some task) (comes_in (line_of w) key (listeners (line_of w) c.roster) (Some task))
+        (one_came (line_of w) key (listeners (line_of w) c.roster) None))
     inserts w task e r s (inr (error, same, t)) =
         as_it None (Some task) e _ same (as_before c c None (Some task) (λ line. refl))
 
@@ -153,21 +160,20 @@ module _ {T W : Type 0} where
     works (TellStreams y) e r s h = as_it y.held None e _ h.0 (tells_them_all Streams y.held)
     works (TellSend y) e r s h = as_it y.held None e _ h.0 (tells_one_more Sends y.held)
     works (TellSends n y) e r s h = as_it y.held None e _ h.0 (tells_several Sends n y.held)
-    works (TakeRoom n) e r s h = as_it None None e _ h.0 (as_before c c None None (λ line. refl))
     works (TellAll line closer) e r s h = as_it _ None e _ h.0 (tells_them_all line _)
     works (Insert w task) e r s h = inserts w task e r s h
     works (Register w key task) e r s h =
         as_it (on (line_of w) key) (Some task) e _ h.0
         (on_one (line_of w) (registration key task (listeners (line_of w) c.roster)) [] c (on (line_of w) key) (Some task)
-        (registers_on (line_of w) key task (listeners (line_of w) c.roster)))
+        (registers_on (line_of w) key task (listeners (line_of w) c.roster))
+        (one_asked (line_of w) key task (listeners (line_of w) c.roster)))
     works (Leave y) e r s h = as_it y.held None e _ h.0 (left y.held)
     works (Lower Senders key) e r s h =
         as_it None None e _ h.0 (counts Senders (count Senders c.roster - 1) (down Senders) None)
     works (Lower Receivers key) e r s h =
         as_it _ None e _ h.0 (counts Receivers (count Receivers c.roster - 1) (down Receivers) _)
-    works (Count side) e r s h = as_it None None e _ h.0 (as_before c c None None (λ line. refl))
-    works (Load side making) e r s h = as_it None None e _ h.0 (as_before c c None None (λ line. refl))
     works (Raise side n making) e r s h = as_it None None e _ h.0 (raised (is_raised side n c.roster) side n)
+    works x e r s h = as_it None None e _ h.0 (as_before c c None None (λ line. refl))
 
     -- any step
     pub follows : (at : Stage (Phase T) T W) (e : Effect T W) (r : Option (Reply T)) (s : Stage (Phase T) T W)

@@ -5,7 +5,7 @@ use Rattle.channel_calls.specs.Moves.{Channel}
 use Rattle.channel_calls.specs.declared.ask.ChannelAsk.{ChannelAsk}
 use Rattle.channel_calls.specs.declared.stage.Held.{Held}
 use Rattle.channel_calls.specs.declared.stage.Line.{Line}
-use Rattle.channel_calls.specs.declared.stage.Line.TheVariants.{Sends, Receives, Streams, Closings}
+use Rattle.channel_calls.specs.declared.stage.Line.TheVariants.{Sends}
 use Rattle.channel_world_model.specs.declared.call.Call.{Call}
 use Rattle.channel_world_model.specs.declared.name.Waiter.{Waiter}
 use Rattle.channel_steps.specs.Run.{Begins, new_configuration, call_begun as begun_active_call}
@@ -13,14 +13,16 @@ use Rattle.channel_steps.specs.Configuration.{ActiveCall, Configuration}
 use Rattle.channel_steps.specs.declared.party.Entry.{Entry as ChannelEntry}
 use Rattle.channel_world_runs.specs.AskedBy.{IsOrListens}
 use Rattle.channel_world_runs.specs.Bookkeeping.{asks, on_return_of, names_begun}
-use Rattle.channel_world_runs.specs.Owners.{NameStatus, free, retired, invalid, rests, waits, polled, status, holding, subject, Together, WaitsToWake, Owned}
+use Rattle.channel_world_runs.specs.Order.{order_begun}
+use Rattle.channel_world_runs.specs.Owners.{NameStatus, retired, waits, polled, status, holding, subject, Together, WaitsToWake, Owned}
 use Rattle.channel_world_runs.specs.OwnerWoken.{IsAway, IsTold, NoneWorks, Works, IsOwn, WokenSound}
 use Rattle.channel_world_runs.specs.NameTable.{first_name_table}
 use Rattle.channel_world_runs.specs.Run.{NameState, name_state_begun}
 use Rattle.channel_world_runs.specs.declared.names.Agent.{Agent}
 use Rattle.channel_world_runs.specs.declared.step.PartyId.{PartyId}
-use Rattle.channel_world_runs.proofs.OwnerBegins.{IsBusy, held_in, holds_same, starts, Quiet, Touches, Admitted}
-use Rattle.channel_world_runs.proofs.OwnerCalls.{begins_so}
+use Rattle.channel_world_runs.proofs.AskStarts.{holds_same, starts}
+use Rattle.channel_world_runs.proofs.OwnerBegins.{IsBusy, held_in, Quiet, Touches, Admitted}
+use Rattle.channel_world_runs.proofs.OwnerCalls.{BeginsSo, begins_so}
 use Rattle.channel_world_runs.proofs.OwnerLists.{among_left, among_right}
 use Rattle.channel_world_runs.proofs.OwnerNames.{waiter_or}
 use Rattle.channel_world_runs.proofs.OwnerRuns.{inner}
@@ -31,18 +33,13 @@ use Rattle.channel_world_runs.proofs.OwnerWoken.{away_busy}
 busy_away : (p : NameStatus) → IsBusy p → IsAway p
 busy_away retired h = inl refl
 busy_away (polled line) h = inr (line, refl)
-busy_away free h = absurd h
-busy_away invalid h = absurd h
-busy_away (rests line) h = absurd h
-busy_away (waits k is_woken) h = absurd h
+busy_away x h = absurd h
 
 module _ (T : Type 0) where
   nobody_waits : (cap : Option ℕ) (line : Line) (key : Key) (v : Waiter) → WaitsToWake {T = T} {W = Waiter}
       (record { line = line; key = key }) v (new_configuration cap).now → ⊥
   nobody_waits cap Sends key v i = i
-  nobody_waits cap Receives key v i = i
-  nobody_waits cap Streams key v i = i
-  nobody_waits cap Closings key v i = i
+  nobody_waits cap x key v i = i
 
   -- a channel that was just opened
   pub woken_first : (cap : Option ℕ) → WokenSound {T = T} (record { name_table = first_name_table; order = []; agents = [] }) (new_configuration cap)
@@ -97,7 +94,7 @@ module _ {T : Type 0} where
     none_more : (v : Waiter) → NoneWorks v b.agents → Idle v new_agent → NoneWorks v (b.agents ++ new_agent ∷ [])
     none_more v h f = all_join (Idle v) b.agents (new_agent ∷ []) h (f, tt)
 
-    quietly : Quiet P P' (on_return_of b.name_table c) (asks b.name_table c) → WokenSound (name_state_begun q c b) t
+    quietly : Quiet P P' (on_return_of b.name_table c) (asks b.name_table c) (order_begun c) → WokenSound (name_state_begun q c b) t
     quietly k = begun_woken (λ v h x i. sym (k.same v) ∙ i) still
       where
         still : (v : Waiter) (h : Held) → IsOwn b s.under_way v h → IsOwn (name_state_begun q c b) calls v h
@@ -110,7 +107,7 @@ module _ {T : Type 0} where
                   (λ i. absurd (let no : None ≡ Some v = sym k.nobody ∙ i in cc)),
             ))
 
-    touching : Touches P P' (on_return_of b.name_table c) (asks b.name_table c) → WokenSound (name_state_begun q c b) t
+    touching : Touches P P' (on_return_of b.name_table c) (asks b.name_table c) (order_begun c) → WokenSound (name_state_begun q c b) t
     touching k = begun_woken (λ v h x i. sym (k.sets.others v (not_now v h x i)) ∙ i) still
       where
         not_now : (v : Waiter) (h : Held) (x : Bool) → P' v ≡ waits h x → v ≡ k.name → ⊥
@@ -157,7 +154,6 @@ module _ {T : Type 0} where
     pub begins_woken : Admitted b.name_table c → WokenSound (name_state_begun q c b) t
     begins_woken no_refusal = by (begins_so b.name_table c o.none_amiss no_refusal)
       where
-        by : Quiet P P' (on_return_of b.name_table c) (asks b.name_table c) ⊎ Touches P P' (on_return_of b.name_table c) (asks b.name_table c)
-            → WokenSound (name_state_begun q c b) t
+        by : BeginsSo b.name_table c → WokenSound (name_state_begun q c b) t
         by (inl k) = quietly k
         by (inr k) = touching k

@@ -18,10 +18,9 @@ use Rattle.channel_calls.specs.declared.reply.Reply.{Reply}
 use Rattle.channel_calls.specs.declared.reply.Reply.TheVariants as reply
 use Rattle.channel_calls.specs.declared.stage.Ending.{Ending}
 use Rattle.channel_calls.specs.declared.stage.Line.TheVariants.{Sends, Receives, Streams}
-use Rattle.channel_calls.specs.declared.stage.Side.TheVariants.{Senders, Receivers}
 use Rattle.channel_calls.specs.declared.stage.Waiting.{Waiting}
 use Rattle.channel_calls.specs.declared.stage.Waiting.TheVariants as waiting
-use Rattle.channel_world_model.specs.Asked.{poll_asked, refusal_asked, giving_up_asked, drop_asked, clone_asked, upgrade_asked}
+use Rattle.channel_world_model.specs.Asked.{poll_asked}
 use Rattle.channel_world_model.specs.Laws.{is_line, line_of_operation}
 use Rattle.channel_world_model.specs.Laws as laws
 use Rattle.channel_world_model.specs.Settling.{poll_of}
@@ -29,10 +28,7 @@ use Rattle.channel_world_model.specs.Names.{at}
 use Rattle.channel_world_model.specs.Names as model
 use Rattle.channel_world_model.specs.declared.call.Call.{Call}
 use Rattle.channel_world_model.specs.declared.call.Call.TheVariants as call
-use Rattle.channel_world_model.specs.declared.name.Handle.{Handle}
 use Rattle.channel_world_model.specs.declared.name.HandleId.{HandleId}
-use Rattle.channel_world_model.specs.declared.name.HandleKind.{HandleKind}
-use Rattle.channel_world_model.specs.declared.name.HandleKind.TheVariants as handle_kind
 use Rattle.channel_world_model.specs.declared.name.OpId.{OpId}
 use Rattle.channel_world_model.specs.declared.name.Waiter.{Waiter}
 use Rattle.channel_world_model.specs.declared.name.Waiter.TheVariants.{Op, Stream}
@@ -46,42 +42,15 @@ use Rattle.channel_world_runs.specs.declared.names.Operation.{Operation}
 use Rattle.channel_world_runs.specs.declared.names.OperationKind.{OperationKind}
 use Rattle.channel_world_runs.specs.declared.names.OperationKind.TheVariants as kind
 use Rattle.channel_world_runs.specs.declared.name_table.NameTable.{NameTable}
+use Rattle.channel_world_runs.proofs.AskFacts.{of_refused, of_given_up, of_dropped, of_cloned, of_upgraded}
 use Rattle.channel_world_runs.proofs.PositionFacts.{left_queue, step_brings, begin_brings}
 use Rattle.channel_world_runs.proofs.RefusalLemmas as refusals
 
-module _ (T : Type 0) where
-  none_cloned : (o : Option Handle) → length (brought (let a : ChannelAsk T Waiter = clone_asked o in a)) ≡ 0
-  none_cloned None = refl
-  none_cloned (Some h) = by h.kind
-    where
-      by : (k : HandleKind) → let a : ChannelAsk T Waiter = elim k [
-        | handle_kind.Sender ↦ channel.CloneHandle Senders
-        | handle_kind.Receiver ↦ channel.CloneHandle Receivers
-        | handle_kind.WeakSender ↦ channel.Make
-        | handle_kind.WeakReceiver ↦ channel.Make
-      ] in length (brought a) ≡ 0
-      by handle_kind.Sender = refl
-      by handle_kind.Receiver = refl
-      by handle_kind.WeakSender = refl
-      by handle_kind.WeakReceiver = refl
-
-  none_upgraded : (o : Option Handle) → length (brought (let a : ChannelAsk T Waiter = upgrade_asked o in a)) ≡ 0
-  none_upgraded None = refl
-  none_upgraded (Some h) = by h.kind
-    where
-      by : (k : HandleKind) → let a : ChannelAsk T Waiter = elim k [
-        | handle_kind.Sender ↦ channel.Upgrade Senders
-        | handle_kind.Receiver ↦ channel.Upgrade Receivers
-        | handle_kind.WeakSender ↦ channel.Upgrade Senders
-        | handle_kind.WeakReceiver ↦ channel.Upgrade Receivers
-      ] in length (brought a) ≡ 0
-      by handle_kind.Sender = refl
-      by handle_kind.Receiver = refl
-      by handle_kind.WeakSender = refl
-      by handle_kind.WeakReceiver = refl
-
 module _ {T : Type 0} where
   -- ---- a call that may bring none asks for none to be brought
+
+  abbrev BringsNone : ChannelAsk T Waiter → Type 0
+  BringsNone a = length (brought a) ≡ 0
 
   none_polled : (r : NameTable T) (op : OpId) (o : Option (Operation T))
       → option_map_or (λ (x : Operation T). has_message x.kind x.message) o false ≡ false
@@ -95,38 +64,8 @@ module _ {T : Type 0} where
     by kind.Receive m e = refl
     by kind.Closing m e = refl
 
-  none_refused : (r : NameTable T) (op : OpId) (o : Option (model.ModelOperation T)) → length (brought (refusal_asked (held_of r) op o)) ≡ 0
-  none_refused r op None = refl
-  none_refused r op (Some (model.send handle m)) = refl
-  none_refused r op (Some (model.recv handle)) = refl
-  none_refused r op (Some (model.closing handle)) = refl
-
-  none_given_up : (r : NameTable T) (op : OpId) (o : Option (model.ModelOperation T)) → length (brought (giving_up_asked (held_of r) op o)) ≡ 0
-  none_given_up r op None = refl
-  none_given_up r op (Some (model.send handle m)) = refl
-  none_given_up r op (Some (model.recv handle)) = refl
-  none_given_up r op (Some (model.closing handle)) = refl
-
-  none_dropped : (r : NameTable T) (handle : HandleId) (o : Option Handle)
-      → length (brought (let a : ChannelAsk T Waiter = drop_asked (held_of r) handle o in a)) ≡ 0
-  none_dropped r handle None = refl
-  none_dropped r handle (Some h) = by h.kind
-    where
-      by : (k : HandleKind) → let a : ChannelAsk T Waiter = elim k [
-        | handle_kind.Sender ↦ channel.DropSender
-        | handle_kind.Receiver ↦ channel.DropReceiver (held_of r (Stream handle))
-        | handle_kind.WeakSender ↦ channel.DropWeak
-        | handle_kind.WeakReceiver ↦ channel.DropWeak
-      ] in length (brought a) ≡ 0
-      by handle_kind.Sender = refl
-      by handle_kind.Receiver = refl
-      by handle_kind.WeakSender = refl
-      by handle_kind.WeakReceiver = refl
-
   -- no call brings more than one
   pub brought_most : (a : ChannelAsk T Waiter) → length (brought a) ≤ 1
-  brought_most (channel.TrySend m) = omega arith
-  brought_most (channel.ForceSend m) = omega arith
   brought_most (channel.PollSend m key task) = omega arith
   brought_most a = omega arith
 
@@ -134,11 +73,11 @@ module _ {T : Type 0} where
   no_message r (call.TrySend sender m) e = absurd (let no : true ≡ false = e in cc)
   no_message r (call.ForceSend sender m) e = absurd (let no : true ≡ false = e in cc)
   no_message r (call.Poll op) e = none_polled r op (at op.0 r.operations) e
-  no_message r (call.PollRefused op) e = none_refused r op (operation_at op r)
-  no_message r (call.GiveUp op) e = none_given_up r op (operation_at op r)
-  no_message r (call.Drop handle) e = none_dropped r handle (handle_at handle r)
-  no_message r (call.TryClone handle new) e = none_cloned T (handle_at handle r)
-  no_message r (call.Upgrade weak new) e = none_upgraded T (handle_at weak r)
+  no_message r (call.PollRefused op) e = of_refused BringsNone refl (λ line m key. refl) (held_of r) op (operation_at op r)
+  no_message r (call.GiveUp op) e = of_given_up BringsNone refl (λ line m key. refl) (held_of r) op (operation_at op r)
+  no_message r (call.Drop handle) e = of_dropped BringsNone refl refl (λ key. refl) refl (held_of r) handle (handle_at handle r)
+  no_message r (call.TryClone handle new) e = of_cloned BringsNone refl (λ side. refl) (handle_at handle r)
+  no_message r (call.Upgrade weak new) e = of_upgraded BringsNone refl (λ side. refl) (handle_at weak r)
   no_message r c e = refl
 
   -- a poll that may bring one is that of a send

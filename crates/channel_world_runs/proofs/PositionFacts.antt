@@ -117,11 +117,7 @@ module _ {T : Type 0} where
   -- so many more are accepted as a mark brings in
   marked : (f : Phase T) (m : QueueMark) (q : Queue T) → (after f m q).accepted ≡ q.accepted + brought_in (mark_of_queue m)
   marked f Nothing q = omega arith
-  marked f Append q = omega arith
-  marked f Take q = omega arith
-  marked f TakeDisplaced q = omega arith
-  marked f Replace q = omega arith
-  marked f Close q = omega arith
+  marked f x q = omega arith
 
 module _ {T W : Type 0} where
   -- ---- what comes next
@@ -133,8 +129,7 @@ module _ {T W : Type 0} where
 
   turned_yet : (turn : Turn T W) (r : Option (Reply T)) (s : Stage (Phase T) T W) → Turned turn r s → yet s ≡ yet_after turn
   turned_yet (Tries a y) r s h = ap (λ (z : Stage (Phase T) T W). yet z) h.1
-  turned_yet (Works w) r s h = ap (λ (z : Stage (Phase T) T W). yet z) h.1
-  turned_yet (Ends y kept) r s h = ap (λ (z : Stage (Phase T) T W). yet z) h.1
+  turned_yet x r s h = ap (λ (z : Stage (Phase T) T W). yet z) h.1
 
   refused_yet : (m : T) (key : Option Key) (task : W) → yet_after (refused_next (waiting.Send m) key task) ≡ 1
   refused_yet m None task = refl
@@ -194,20 +189,16 @@ module _ {T : Type 0} (W : Type 0) where
   sent_yet : (r : QueueReply T) → FewYet (let t : Turn T W = sent_next r in t) r
   sent_yet (answer.Push (Ok u)) = omega arith
   sent_yet (answer.Push (Err (push_error.Full m))) = omega arith
-  sent_yet (answer.Push (Err (push_error.Closed m))) = omega arith
-  sent_yet (answer.Push (Err (push_error.NoMemory m))) = omega arith
   sent_yet r = omega arith
 
   forced_yet : (r : QueueReply T) → FewYet (let t : Turn T W = forced_next r in t) r
   forced_yet (answer.Force (Ok d)) = omega arith
   forced_yet (answer.Force (Err (force_error.Closed m))) = omega arith
-  forced_yet (answer.Force (Err (force_error.NoMemory m))) = omega arith
   forced_yet r = omega arith
 
   received_yet : (r : QueueReply T) → FewYet (let t : Turn T W = received_next r in t) r
   received_yet (answer.Pop (Ok m)) = omega arith
   received_yet (answer.Pop (Err pop_error.Empty)) = omega arith
-  received_yet (answer.Pop (Err pop_error.Closed)) = omega arith
   received_yet r = omega arith
 
   gathered_yet : (vs : List T) (n : ℕ) → yet_after (let t : Turn T W = gathered_next (with_last vs n) in t) ≡ 0
@@ -225,32 +216,25 @@ module _ {T : Type 0} (W : Type 0) where
   several_yet r g = omega arith
 
   closed_yet : (r : QueueReply T) (c : Closer) → FewYet (let t : Turn T W = closed_next r c in t) r
-  closed_yet (answer.Close true) c = omega arith
   closed_yet (answer.Close false) c = let none : yet_after (let t : Turn T W = ends_by (closer_ending c false) in t) ≡ 0 = ended_yet (closer_ending c false) in omega (arith, none)
   closed_yet r c = omega arith
 
   asked_yet : (r : QueueReply T) → FewYet (let t : Turn T W = asked_next r in t) r
   asked_yet (answer.Flag b) = omega arith
-  asked_yet (answer.Count n) = omega arith
-  asked_yet (answer.Cap n) = omega arith
   asked_yet r = omega arith
 
   terminated_yet : (r : QueueReply T) → FewYet (let t : Turn T W = terminated_next r in t) r
   terminated_yet (answer.Flag true) = omega arith
-  terminated_yet (answer.Flag false) = omega arith
   terminated_yet r = omega arith
 
   upgraded_yet : (r : QueueReply T) (side : Side) → FewYet (let t : Turn T W = upgraded_next r side in t) r
   upgraded_yet (answer.Flag true) side = omega arith
-  upgraded_yet (answer.Flag false) side = omega arith
   upgraded_yet r side = omega arith
 
 module _ (T W : Type 0) where
   told_yet : (line : Line) (y : Closer) → yet_after (let t : Turn T W = told_all_next line y in t) ≡ 0
-  told_yet Sends y = refl
-  told_yet Receives y = refl
-  told_yet Streams y = refl
   told_yet Closings y = ended_yet W (closer_ending y true)
+  told_yet x y = refl
 
   lowered_yet : (b : Bool) (y : Closer)
       → yet_after (let t : Turn T W = (if b then Tries ask.Close (aim.Close y) else ends_by (closer_ending y false)) in t) ≡ 0
@@ -337,9 +321,7 @@ module _ {T W : Type 0} where
 
   again_yet : (w : Waiting T) (key : Option Key) (task : W) → yet_after (again w key task) ≤ yet_worked (let x : Work T W = Insert w task in x)
   again_yet (waiting.Send m) key task = omega arith
-  again_yet waiting.Receive key task = omega arith
-  again_yet waiting.Stream key task = omega arith
-  again_yet waiting.Closing key task = omega arith
+  again_yet x key task = omega arith
 
   registered_yet : (b : Bool) (w : Waiting T) (key : Key) (task : W)
       → yet_after (if b then pends_by w key else again w None task) ≤ yet_worked (let x : Work T W = Register w key task in x)
@@ -478,12 +460,9 @@ module _ {T W : Type 0} where
   none_yet true (Some key) task t same = subst (λ (x : Turn T W). yet_after x ≤ 0) (sym same) (omega arith)
 
   first_yet : (a : ChannelAsk T W) → yet_after (first a) ≤ length (brought a)
-  first_yet (channel.TrySend m) = omega arith
-  first_yet (channel.ForceSend m) = omega arith
   first_yet (channel.PollSend m l task) = poll_yet m l.asks_first l.key task
   first_yet (channel.PollRecv l task) = none_yet l.asks_first l.key task _ refl
   first_yet (channel.PollNext None task) = omega arith
-  first_yet (channel.PollNext (Some key) task) = omega arith
   first_yet a = omega arith
 
   pub begin_brings : (s : Configuration T W) (p : ℕ) (a : ChannelAsk T W) (e : Entry T) (t : Configuration T W) → Begins s p a e t

@@ -8,10 +8,8 @@ use Rattle.channel_calls.specs.declared.reply.Reply.{Reply}
 use Rattle.channel_calls.specs.declared.reply.Reply.TheVariants as reply
 use Rattle.channel_calls.specs.declared.stage.Kept.{Kept}
 use Rattle.channel_world_model.proofs.WaiterLemmas.{decided}
-use Rattle.channel_world_model.specs.Answer.{weak_of, strong_of}
 use Rattle.channel_world_model.specs.Names.{Directory, at, with_changed, without_name, with_spent}
 use Rattle.channel_world_model.specs.declared.call.Call.{Call}
-use Rattle.channel_world_model.specs.declared.call.Call.TheVariants as call
 use Rattle.channel_world_model.specs.declared.name.Handle.{Handle}
 use Rattle.channel_world_model.specs.declared.name.HandleId.{HandleId}
 use Rattle.channel_world_model.specs.declared.name.HandleKind.{HandleKind}
@@ -19,8 +17,9 @@ use Rattle.channel_world_model.specs.declared.name.HandleKind.TheVariants as han
 use Rattle.channel_world_model.specs.declared.name.OpId.{OpId}
 use Rattle.channel_world_model.specs.declared.name.Waiter.{Waiter}
 use Rattle.channel_world_model.specs.declared.name.Waiter.TheVariants.{Op, Stream}
-use Rattle.channel_world_runs.specs.Bookkeeping.{names_begun, written_back, installed, with_one_woken, all_woken, lent_by, handed_over_by, lent_to_poll, with_operation, operation_named, handle_named, on_return_of, leave_handle_of, new_from}
+use Rattle.channel_world_runs.specs.Bookkeeping.{new_message, returns, names_planned, written_back, installed, with_one_woken, all_woken, lent_by, handed_over_by, lent_to_poll, with_operation, operation_named, handle_named, on_return_of, leave_handle_of, new_from}
 use Rattle.channel_world_runs.specs.NameTable.{poll_state_with, used_more, used_less, borrowed_more, handed_over, with_handle, with_lent, with_given_back, with_borrowed, with_handed_over, with_poll_state, unused, first_name_table, handle_at}
+use Rattle.channel_world_runs.specs.Plan.{kin, plan_of}
 use Rattle.channel_world_runs.specs.Run.{NameState, name_state_begun, name_state_ended, with_woken}
 use Rattle.channel_world_runs.specs.Users.{one, times_used, all_uses, FewUsers}
 use Rattle.channel_world_runs.specs.declared.names.Agent.{Agent}
@@ -31,6 +30,8 @@ use Rattle.channel_world_runs.specs.declared.names.Operation.{Operation}
 use Rattle.channel_world_runs.specs.declared.names.PollState.{PollState}
 use Rattle.channel_world_runs.specs.declared.names.PollState.TheVariants.{IsPolled}
 use Rattle.channel_world_runs.specs.declared.name_table.NameTable.{NameTable}
+use Rattle.channel_world_runs.specs.declared.plan.Plan.{Plan}
+use Rattle.channel_world_runs.specs.declared.plan.Plan.TheVariants as plan
 use Rattle.channel_world_runs.specs.declared.step.PartyId.{PartyId}
 use Rattle.channel_world_runs.proofs.OwnerNames.{same_number, own_number, number_or, set_there, set_other, found, is_there, handle_none}
 
@@ -262,40 +263,24 @@ module _ {T : Type 0} where
         (length (without_name op.0 r.operations)) (with_handed_over o.handle gone).handles (λ name. omega arith) (omega (arith, as_many))
         (handed_over_few n (length r.operations) o.handle gone few)
 
-    pub begun_few : (c : Call T) → AreFew (λ name. n name + times_used name (on_return_of r c)) (length (names_begun r c).operations) (names_begun r c).handles
-    begun_few (call.NewSend op sender msg) = made op sender
-    begun_few (call.NewRecv op receiver) = made op receiver
-    begun_few (call.NewClosed op sender) = made op sender
-    begun_few (call.Poll op) = same _ (operation_length lent_to_poll op r)
-    begun_few (call.PollRefused op) = same _ (operation_length lent_to_poll op r)
-    begun_few (call.GiveUp op) = handed_over_by_few op (at op.0 r.operations)
-    begun_few (call.SendIsTerminated op) = lent_by_few (at op.0 r.operations)
-    begun_few (call.PollNext receiver) =
-        let stands : NameTable T = with_poll_state (IsPolled false) receiver r in
-        lent_few n (length r.operations) receiver stands (poll_state_few n (length r.operations) (IsPolled false) receiver r few)
-    begun_few (call.StreamIsTerminated receiver) = once receiver
-    begun_few (call.TrySend sender msg) = once sender
-    begun_few (call.ForceSend sender msg) = once sender
-    begun_few (call.TryRecv receiver) = once receiver
-    begun_few (call.RecvMany receiver limit) = once receiver
-    begun_few (call.Close handle) = once handle
-    begun_few (call.Drop handle) =
-        more_few n (λ name. n name + 0) (length r.operations) (length r.operations) (without_name handle.0 r.handles) (λ name. omega arith) (omega arith)
-        (set_few n (length r.operations) handle.0 r.handles None few (λ h e k. absurd (never h e)))
-    begun_few (call.TryClone handle new) = named handle new (λ k. k)
-    begun_few (call.Downgrade handle new) = named handle new weak_of
-    begun_few (call.Upgrade weak new) = named weak new strong_of
-    begun_few (call.SameChannel a b) =
+    pub begun_few : (m : Option T) (p : Plan)
+        → AreFew (λ name. n name + times_used name (returns r m p)) (length (names_planned p r).operations) (names_planned p r).handles
+    begun_few m (plan.Through wanted handle) = once handle
+    begun_few m (plan.ThroughBoth a b) =
         more_few (λ name. n name + one name a + one name b) (λ name. n name + (one name a + one name b)) (length r.operations) (length r.operations)
         (with_lent b (with_lent a r)).handles (λ name. omega arith) (omega arith)
         (lent_few (λ name. n name + one name a) (length r.operations) b (with_lent a r) (lent_few n (length r.operations) a r few))
-    begun_few (call.IsClosed handle) = once handle
-    begun_few (call.IsEmpty handle) = once handle
-    begun_few (call.IsFull handle) = once handle
-    begun_few (call.Len handle) = once handle
-    begun_few (call.Capacity handle) = once handle
-    begun_few (call.SenderCount handle) = once handle
-    begun_few (call.ReceiverCount handle) = once handle
+    begun_few m (plan.Makes wanted handle op kind) = made op handle
+    begun_few m (plan.Polls op) = same _ (operation_length lent_to_poll op r)
+    begun_few m (plan.GivesUp op) = handed_over_by_few op (at op.0 r.operations)
+    begun_few m (plan.Asks op) = lent_by_few (at op.0 r.operations)
+    begun_few m (plan.Streams receiver) =
+        let stands : NameTable T = with_poll_state (IsPolled false) receiver r in
+        lent_few n (length r.operations) receiver stands (poll_state_few n (length r.operations) (IsPolled false) receiver r few)
+    begun_few m (plan.Drops handle) =
+        more_few n (λ name. n name + 0) (length r.operations) (length r.operations) (without_name handle.0 r.handles) (λ name. omega arith) (omega arith)
+        (set_few n (length r.operations) handle.0 r.handles None few (λ h e k. absurd (never h e)))
+    begun_few m (plan.Mints wanted from new to) = named from new (kin to)
 
   -- ---- its end
 
@@ -308,20 +293,18 @@ module _ {T : Type 0} where
   -- a handle that it gives back is used by one fewer
   settled_few : (n : ℕ → ℕ) (m : ℕ) (e : OnReturn T) (y : Reply T) (left : Kept T) (r : NameTable T)
       → AreFew (λ name. n name + times_used name e) m r.handles → AreFew n m (written_back e y left r).handles
-  settled_few n m on_return.Nothing y left r few = more_few (λ name. n name + 0) n m m r.handles (λ name. omega arith) (omega arith) few
   settled_few n m (on_return.Leave handle) y left r few = given_back_few n m handle r few
   settled_few n m (on_return.LeaveBoth a b) y left r few =
       given_back_few n m b (with_given_back a r)
       (given_back_few (λ name. n name + one name b) m a r
       (more_few (λ name. n name + (one name a + one name b)) (λ name. n name + one name b + one name a) m m r.handles (λ name. omega arith) (omega arith) few))
-  settled_few n m (on_return.Make op operation) y left r few = more_few (λ name. n name + 0) n m m r.handles (λ name. omega arith) (omega arith) few
-  settled_few n m (on_return.Poll op) y left r few = more_few (λ name. n name + 0) n m m r.handles (λ name. omega arith) (omega arith) few
   settled_few n m (on_return.PollNext receiver) y left r few =
       let stands = poll_state_with left.key in
       given_back_few n m receiver (with_poll_state stands receiver r)
       (poll_state_few (λ name. n name + one name receiver) m stands receiver r few)
   settled_few n m (on_return.New from new kind) y left r few =
       installed_few n m new kind y (with_given_back from r) (given_back_few n m from r few)
+  settled_few n m x y left r few = more_few (λ name. n name + 0) n m m r.handles (λ name. omega arith) (omega arith) few
 
   installed_length : (new : HandleId) (kind : HandleKind) (y : Reply T) (r : NameTable T)
       → length (installed new kind y r).operations ≡ length r.operations
@@ -330,13 +313,10 @@ module _ {T : Type 0} where
 
   settled_length : (e : OnReturn T) (y : Reply T) (left : Kept T) (r : NameTable T)
       → length (written_back e y left r).operations ≡ length r.operations
-  settled_length on_return.Nothing y left r = refl
-  settled_length (on_return.Leave handle) y left r = refl
-  settled_length (on_return.LeaveBoth a b) y left r = refl
   settled_length (on_return.Make op operation) y left r = set_length op.0 r.operations (Some operation)
   settled_length (on_return.Poll op) y left r = operation_length _ op r
-  settled_length (on_return.PollNext receiver) y left r = refl
   settled_length (on_return.New from new kind) y left r = installed_length new kind y (with_given_back from r)
+  settled_length e y left r = refl
 
   -- ---- wakes
 
@@ -374,7 +354,7 @@ module _ {T : Type 0} where
 
   pub users_begun : (q : PartyId) (c : Call T) (b : NameState T) → FewUsers b → FewUsers (name_state_begun q c b)
   users_begun q c b few name h i =
-      let most = begun_few (λ (n : ℕ). all_uses n b.agents) b.name_table few c name h i in
+      let most = begun_few (λ (n : ℕ). all_uses n b.agents) b.name_table few (new_message c) (plan_of c) name h i in
       let more = uses_more name b.agents (record { party = q.0; on_return = on_return_of b.name_table c }) in
       let users : h.users ≤ all_uses name b.agents + times_used name (on_return_of b.name_table c) = most.0 in
       (omega (arith, users, more), most.1)

@@ -57,13 +57,9 @@ among_filter p w (v ∷ ws) e = elim (decided (p v)) [
         behind false i = i
 
 pub woken_waits : (p : NameStatus) → was_woken p ≡ true → (h : Held) × (p ≡ waits h true)
-woken_waits free g = absurd (let no : false ≡ true = g in cc)
-woken_waits retired g = absurd (let no : false ≡ true = g in cc)
-woken_waits invalid g = absurd (let no : false ≡ true = g in cc)
-woken_waits (rests l) g = absurd (let no : false ≡ true = g in cc)
 woken_waits (waits h true) g = (h, refl)
 woken_waits (waits h false) g = absurd (let no : false ≡ true = g in cc)
-woken_waits (polled l) g = absurd (let no : false ≡ true = g in cc)
+woken_waits x g = absurd (let no : false ≡ true = g in cc)
 
 -- ---- what is pending lives, and is not being polled
 

@@ -35,7 +35,7 @@ use Rattle.channel_world_runs.proofs.OwnerOrder.{stepped_order}
 use Rattle.channel_world_runs.proofs.OwnerOrderRuns.{order_first, begins_order}
 use Rattle.channel_world_runs.proofs.OwnerPolled.{polled_first, polled_begun, polled_step}
 use Rattle.channel_world_runs.proofs.OwnerBegins.{Admitted, admitted}
-use Rattle.channel_world_runs.proofs.OwnerRuns.{stepped, idle_and_free}
+use Rattle.channel_world_runs.proofs.OwnerRuns.{IsAfter, stepped, idle_and_free}
 use Rattle.channel_world_runs.proofs.OwnerSteps.{owned_first, begins_owned}
 use Rattle.channel_world_runs.proofs.OwnerTogether.{all_join, all_left, all_right}
 use Rattle.channel_world_runs.proofs.OwnerWoken.{stepped_woken}
@@ -78,11 +78,6 @@ module _ {T : Type 0} where
         counted = counted_begun q c b a s t e is n k.counted;
       }
 
-  -- the name state after a step of a party
-  abbrev IsAfter : NameState T → PartyId → Option (Reply T) → Option (Kept T) → List Waiter → NameState T → Type 0
-  IsAfter b q r kp names c =
-      (k : ℕ) × (a : Agent T) × (slice_get b.agents k ≡ Some a) × (a.party ≡ q.0) × (c ≡ name_state_ended k a r kp (with_woken names b))
-
   -- a call makes a step
   pub names_kept_step : (b c : NameState T) (s t : Configuration T Waiter) (q : PartyId) (e : ChannelEntry T) (names : List Waiter)
       → Steps s q.0 e names t → IsAfter b q e.reply e.kept names c → NamesKept b s → NamesKept c t
@@ -94,8 +89,7 @@ module _ {T : Type 0} where
         woken = stepped_woken b c s t q e.mark e.reply e.kept names k.owned known st after k.woken;
         order = stepped_order b c s t q e.mark e.reply e.kept names k.owned known st after k.woken k.order;
         sound = all_sound_next s (channel.Step q.0) e names t k.sound st;
-        polled = polled_step b c s t q e.mark e.reply e.kept names k.owned known st after.0 after.1 after.2 after.3
-            after.4 k.polled;
+        polled = polled_step b c s t q e.mark e.reply e.kept names k.owned known st after k.polled;
         users = subst (λ (d : NameState T). FewUsers d) (sym after.4) (users_ended after.0 after.1 e.reply e.kept names b after.2 k.users);
         counted = counted_step b c s t q e.mark e.reply e.kept names k.owned known st after
             (stays_closed s (channel.Step q.0) e names t st) k.counted;

@@ -7,7 +7,6 @@ use Rattle.channel_calls.specs.declared.ask.ChannelAsk.TheVariants as ask
 use Rattle.channel_calls.specs.declared.reply.Reply.{Reply}
 use Rattle.channel_calls.specs.declared.reply.Reply.TheVariants as reply
 use Rattle.channel_calls.specs.declared.stage.Kept.{Kept}
-use Rattle.channel_world_model.specs.Answer.{weak_of, strong_of}
 use Rattle.channel_world_model.specs.Asked.{asked, poll_asked, refusal_asked, giving_up_asked, drop_asked, clone_asked, upgrade_asked}
 use Rattle.channel_world_model.specs.Names.{at, with_spent, with_changed, without_name}
 use Rattle.channel_world_model.specs.declared.call.Call.{Call}
@@ -21,6 +20,7 @@ use Rattle.channel_world_model.specs.declared.name.OpId.{OpId}
 use Rattle.channel_world_model.specs.declared.name.Waiter.{Waiter}
 use Rattle.channel_world_model.specs.declared.name.Waiter.TheVariants as waiter
 use Rattle.channel_world_runs.specs.NameTable.{key_of, poll_state_with, told, is_done, unused, names_of, operation_at, handle_at, held_of, with_handle, with_lent, with_given_back, with_borrowed, with_handed_over, with_poll_state}
+use Rattle.channel_world_runs.specs.Plan.{kin, plan_of}
 use Rattle.channel_world_runs.specs.declared.beginning.Begun.{Begun}
 use Rattle.channel_world_runs.specs.declared.names.OnReturn.{OnReturn}
 use Rattle.channel_world_runs.specs.declared.names.OnReturn.TheVariants.{Nothing, Leave, LeaveBoth, Make, Poll, PollNext, New}
@@ -30,6 +30,10 @@ use Rattle.channel_world_runs.specs.declared.names.OperationKind.{OperationKind}
 use Rattle.channel_world_runs.specs.declared.names.OperationKind.TheVariants.{Send, Receive, Closing}
 use Rattle.channel_world_runs.specs.declared.names.PollState.TheVariants.{Rests, IsPolled}
 use Rattle.channel_world_runs.specs.declared.name_table.NameTable.{NameTable}
+use Rattle.channel_world_runs.specs.declared.plan.Kinship.{Kinship}
+use Rattle.channel_world_runs.specs.declared.plan.Kinship.TheVariants as kinship
+use Rattle.channel_world_runs.specs.declared.plan.Plan.{Plan}
+use Rattle.channel_world_runs.specs.declared.plan.Plan.TheVariants as plan
 
 module _ {T : Type 0} where
   -- ---- the beginning
@@ -59,34 +63,26 @@ module _ {T : Type 0} where
   new_from from new kind None = Nothing
   new_from from new kind (Some h) = New from new (kind h.kind)
 
+  -- the message of a new send
+  abbrev pub new_message : Call T → Option T
+  new_message (call.NewSend op sender msg) = Some msg
+  new_message c = None
+
+  -- what a call of this plan has to write back; a new operation has this message
+  abbrev pub returns : NameTable T → Option T → Plan → OnReturn T
+  returns r m (plan.Through wanted handle) = Leave handle
+  returns r m (plan.ThroughBoth a b) = LeaveBoth a b
+  returns r m (plan.Makes wanted handle op kind) = Make op (unpolled kind handle m)
+  returns r m (plan.Polls op) = Poll op
+  returns r m (plan.GivesUp op) = leave_handle_of (at op.0 r.operations)
+  returns r m (plan.Asks op) = leave_handle_of (at op.0 r.operations)
+  returns r m (plan.Streams receiver) = PollNext receiver
+  returns r m (plan.Drops handle) = Nothing
+  returns r m (plan.Mints wanted from new to) = new_from from new (kin to) (handle_at from r)
+
   -- what a call has to write back
   abbrev pub on_return_of : NameTable T → Call T → OnReturn T
-  on_return_of r (call.NewSend op sender msg) = Make op (unpolled Send sender (Some msg))
-  on_return_of r (call.NewRecv op receiver) = Make op (unpolled Receive receiver None)
-  on_return_of r (call.NewClosed op sender) = Make op (unpolled Closing sender None)
-  on_return_of r (call.Poll op) = Poll op
-  on_return_of r (call.PollRefused op) = Poll op
-  on_return_of r (call.GiveUp op) = leave_handle_of (at op.0 r.operations)
-  on_return_of r (call.SendIsTerminated op) = leave_handle_of (at op.0 r.operations)
-  on_return_of r (call.PollNext receiver) = PollNext receiver
-  on_return_of r (call.StreamIsTerminated receiver) = Leave receiver
-  on_return_of r (call.TrySend sender msg) = Leave sender
-  on_return_of r (call.ForceSend sender msg) = Leave sender
-  on_return_of r (call.TryRecv receiver) = Leave receiver
-  on_return_of r (call.RecvMany receiver limit) = Leave receiver
-  on_return_of r (call.Close handle) = Leave handle
-  on_return_of r (call.Drop handle) = Nothing
-  on_return_of r (call.TryClone handle new) = new_from handle new (λ k. k) (handle_at handle r)
-  on_return_of r (call.Downgrade handle new) = new_from handle new weak_of (handle_at handle r)
-  on_return_of r (call.Upgrade weak new) = new_from weak new strong_of (handle_at weak r)
-  on_return_of r (call.SameChannel a b) = LeaveBoth a b
-  on_return_of r (call.IsClosed handle) = Leave handle
-  on_return_of r (call.IsEmpty handle) = Leave handle
-  on_return_of r (call.IsFull handle) = Leave handle
-  on_return_of r (call.Len handle) = Leave handle
-  on_return_of r (call.Capacity handle) = Leave handle
-  on_return_of r (call.SenderCount handle) = Leave handle
-  on_return_of r (call.ReceiverCount handle) = Leave handle
+  on_return_of r c = returns r (new_message c) (plan_of c)
 
   -- a new name is taken, and nothing lives under it yet
   abbrev pub operation_named : OpId → NameTable T → NameTable T
@@ -113,35 +109,22 @@ module _ {T : Type 0} where
   handed_over_by None r = r
   handed_over_by (Some o) r = with_handed_over o.handle r
 
-  -- the names once a call has begun: what it makes has its name, and an operation borrows its handle, what it polls is lent to
-  -- it, what it gives up or drops lives no more, and the handles that it goes through are in use
+  -- the names once a call of this plan has begun: what it makes has its name, and an operation borrows its handle, what it polls is
+  -- lent to it, what it gives up or drops lives no more, and the handles that it goes through are in use
+  abbrev pub names_planned : Plan → NameTable T → NameTable T
+  names_planned (plan.Through wanted handle) r = with_lent handle r
+  names_planned (plan.ThroughBoth a b) r = with_lent b (with_lent a r)
+  names_planned (plan.Makes wanted handle op kind) r = with_borrowed handle (operation_named op r)
+  names_planned (plan.Polls op) r = with_operation lent_to_poll op r
+  names_planned (plan.GivesUp op) r = handed_over_by (at op.0 r.operations) (record r { operations = without_name op.0 r.operations })
+  names_planned (plan.Asks op) r = lent_by (at op.0 r.operations) r
+  names_planned (plan.Streams receiver) r = with_lent receiver (with_poll_state (IsPolled false) receiver r)
+  names_planned (plan.Drops handle) r = record r { handles = without_name handle.0 r.handles }
+  names_planned (plan.Mints wanted from new to) r = with_lent from (handle_named new r)
+
+  -- once a call has begun
   abbrev pub names_begun : NameTable T → Call T → NameTable T
-  names_begun r (call.NewSend op sender msg) = with_borrowed sender (operation_named op r)
-  names_begun r (call.NewRecv op receiver) = with_borrowed receiver (operation_named op r)
-  names_begun r (call.NewClosed op sender) = with_borrowed sender (operation_named op r)
-  names_begun r (call.Poll op) = with_operation lent_to_poll op r
-  names_begun r (call.PollRefused op) = with_operation lent_to_poll op r
-  names_begun r (call.GiveUp op) = handed_over_by (at op.0 r.operations) (record r { operations = without_name op.0 r.operations })
-  names_begun r (call.SendIsTerminated op) = lent_by (at op.0 r.operations) r
-  names_begun r (call.PollNext receiver) = with_lent receiver (with_poll_state (IsPolled false) receiver r)
-  names_begun r (call.StreamIsTerminated receiver) = with_lent receiver r
-  names_begun r (call.TrySend sender msg) = with_lent sender r
-  names_begun r (call.ForceSend sender msg) = with_lent sender r
-  names_begun r (call.TryRecv receiver) = with_lent receiver r
-  names_begun r (call.RecvMany receiver limit) = with_lent receiver r
-  names_begun r (call.Close handle) = with_lent handle r
-  names_begun r (call.Drop handle) = record r { handles = without_name handle.0 r.handles }
-  names_begun r (call.TryClone handle new) = with_lent handle (handle_named new r)
-  names_begun r (call.Downgrade handle new) = with_lent handle (handle_named new r)
-  names_begun r (call.Upgrade weak new) = with_lent weak (handle_named new r)
-  names_begun r (call.SameChannel a b) = with_lent b (with_lent a r)
-  names_begun r (call.IsClosed handle) = with_lent handle r
-  names_begun r (call.IsEmpty handle) = with_lent handle r
-  names_begun r (call.IsFull handle) = with_lent handle r
-  names_begun r (call.Len handle) = with_lent handle r
-  names_begun r (call.Capacity handle) = with_lent handle r
-  names_begun r (call.SenderCount handle) = with_lent handle r
-  names_begun r (call.ReceiverCount handle) = with_lent handle r
+  names_begun r c = names_planned (plan_of c) r
 
   -- ---- the code of a beginning
 
@@ -168,6 +151,12 @@ module _ {T : Type 0} where
   drop_ask_of handle_kind.Receiver key = ask.DropReceiver key
   drop_ask_of handle_kind.WeakSender key = ask.DropWeak
   drop_ask_of handle_kind.WeakReceiver key = ask.DropWeak
+
+  -- what the making of a handle from another asks
+  abbrev pub mint_asked : Kinship → Option Handle → ChannelAsk T Waiter
+  mint_asked kinship.Same h = clone_asked h
+  mint_asked kinship.Weak h = ask.Make
+  mint_asked kinship.Strong h = upgrade_asked h
 
   -- what a poll got of an operation that it found
   abbrev pub IsLent : OpId → Option (Operation T) → NameTable T → Option (OperationKind × Option T × Option Key) → NameTable T → Type 0

@@ -1,6 +1,7 @@
 pub mod NameTable
 pub mod Pending
 pub mod Apart
+pub mod Plan
 pub mod Refusal
 pub mod Bookkeeping
 pub mod Woken

@@ -9,27 +9,19 @@ use Rattle.channel_calls.specs.declared.stage.Line.{Line}
 use Rattle.channel_world_model.specs.Laws.{same_line}
 use Rattle.channel_world_model.specs.declared.name.Waiter.{Waiter}
 use Rattle.channel_steps.specs.Configuration.{Configuration}
-use Rattle.channel_world_runs.specs.Owners.{IsAmong, NoneTwice, NameStatus, free, retired, invalid, rests, waits, polled, status}
+use Rattle.channel_world_runs.specs.Owners.{IsAmong, NoneTwice, NameStatus, waits, polled, status}
 use Rattle.channel_world_runs.specs.Run.{NameState}
 use Rattle.channel_world_runs.specs.declared.name_table.NameTable.{NameTable}
 
 -- whether one that stands so is pending and was woken
 abbrev pub was_woken : NameStatus → Bool
 was_woken (waits h is_woken) = is_woken
-was_woken free = false
-was_woken retired = false
-was_woken invalid = false
-was_woken (rests l) = false
-was_woken (polled l) = false
+was_woken p = false
 
 -- its listener, if it is one of this line and was woken
 abbrev pub woken_key : Line → NameStatus → List Key
 woken_key line (waits h is_woken) = if is_woken then (if same_line line h.line then h.key ∷ [] else []) else []
-woken_key line free = []
-woken_key line retired = []
-woken_key line invalid = []
-woken_key line (rests l) = []
-woken_key line (polled l) = []
+woken_key line p = []
 
 -- one list within another: some of its elements, in the same order
 abbrev pub Within : {A : Type 0} → List A → List A → Type 0

@@ -15,11 +15,11 @@ use Rattle.channel_calls.specs.declared.stage.Closer.TheVariants as closer
 use Rattle.channel_calls.specs.declared.stage.Held.{Held}
 use Rattle.channel_calls.specs.declared.stage.Line.{Line}
 use Rattle.channel_calls.specs.declared.stage.Line.TheVariants.{Sends, Receives, Streams, Closings}
-use Rattle.channel_calls.specs.declared.stage.Side.TheVariants.{Senders, Receivers}
+use Rattle.channel_calls.specs.declared.stage.Side.TheVariants.{Receivers}
 use Rattle.channel_calls.specs.declared.stage.Stage.{Stage}
 use Rattle.channel_calls.specs.declared.stage.Stage.TheVariants.{Trying, Working, Finished}
 use Rattle.channel_calls.specs.declared.stage.Work.{Work}
-use Rattle.channel_calls.specs.declared.stage.Work.TheVariants.{TellReceive, TellStreams, TellSend, TellSends, TakeRoom, TellAll, Insert, Register, Leave, Lower, Count, Load, Raise}
+use Rattle.channel_calls.specs.declared.stage.Work.TheVariants.{TellReceive, TellStreams, TellSend, TellSends, TellAll, Insert, Register, Leave, Lower}
 use Rattle.channel_world_model.specs.declared.name.HandleKind.{HandleKind}
 use Rattle.channel_world_model.specs.declared.name.HandleKind.TheVariants as handle_kind
 use Rattle.channel_world_model.specs.declared.name.Waiter.{Waiter}
@@ -113,32 +113,18 @@ module _ {T : Type 0} where
 -- ---- the calls under way
 
 abbrev pub closer_holds : Closer → Option Held
-closer_holds closer.Call = None
-closer_holds closer.Sender = None
 closer_holds (closer.Receiver key) = held_on Streams key
+closer_holds c = None
 
 module _ {T W : Type 0} where
   abbrev pub aim_holds : Aim T W → Option Held
   aim_holds (aim.Poll line key task) = held_on line key
   aim_holds (aim.Close c) = closer_holds c
-  aim_holds aim.TrySend = None
-  aim_holds aim.ForceSend = None
-  aim_holds aim.TryRecv = None
-  aim_holds (aim.RecvMany g) = None
-  aim_holds aim.Ask = None
-  aim_holds aim.IsTerminated = None
-  aim_holds (aim.Upgrade side) = None
+  aim_holds a = None
 
   abbrev pub aim_task : Aim T W → Option W
   aim_task (aim.Poll line key task) = Some task
-  aim_task (aim.Close c) = None
-  aim_task aim.TrySend = None
-  aim_task aim.ForceSend = None
-  aim_task aim.TryRecv = None
-  aim_task (aim.RecvMany g) = None
-  aim_task aim.Ask = None
-  aim_task aim.IsTerminated = None
-  aim_task (aim.Upgrade side) = None
+  aim_task a = None
 
 module _ {W : Type 0} where
   -- the task of its listener is that of its operation
@@ -152,16 +138,11 @@ module _ {T W : Type 0} where
   work_holds (TellStreams x) = x.held
   work_holds (TellSend x) = x.held
   work_holds (TellSends n x) = x.held
-  work_holds (TakeRoom n) = None
   work_holds (TellAll line c) = closer_holds c
-  work_holds (Insert w task) = None
   work_holds (Register w key task) = Some (record { line = line_of w; key = key })
   work_holds (Leave x) = x.held
-  work_holds (Lower Senders key) = None
   work_holds (Lower Receivers key) = held_on Streams key
-  work_holds (Count side) = None
-  work_holds (Load side making) = None
-  work_holds (Raise side n making) = None
+  work_holds w = None
 
   -- the listener that a call at this stage has in hand
   abbrev pub holding : Stage (Phase T) T W → Option Held
@@ -172,17 +153,7 @@ module _ {T W : Type 0} where
   abbrev pub work_task : Work T W → Option W
   work_task (Insert w task) = Some task
   work_task (Register w key task) = Some task
-  work_task (TellReceive x) = None
-  work_task (TellStreams x) = None
-  work_task (TellSend x) = None
-  work_task (TellSends n x) = None
-  work_task (TakeRoom n) = None
-  work_task (TellAll line c) = None
-  work_task (Leave x) = None
-  work_task (Lower side key) = None
-  work_task (Count side) = None
-  work_task (Load side making) = None
-  work_task (Raise side n making) = None
+  work_task w = None
 
   -- the task that its listener is to wake
   abbrev pub task_at : Stage (Phase T) T W → Option W
@@ -219,9 +190,7 @@ module _ {T : Type 0} where
   subject (on_return.PollNext receiver) = Some (Stream receiver)
   subject (on_return.Make op operation) = Some (Op op)
   subject (on_return.New from new kind) = Some (Stream new)
-  subject on_return.Nothing = None
-  subject (on_return.Leave handle) = None
-  subject (on_return.LeaveBoth a b) = None
+  subject e = None
 
   -- a call waits, if at all, for the name that it polls; under a name that it makes nothing lives yet
   abbrev pub Suits : (Waiter → NameStatus) → OnReturn T → Option (Line × Waiter) → Type 0
@@ -229,9 +198,7 @@ module _ {T : Type 0} where
   Suits p (on_return.PollNext receiver) wait = (line : Line) × (p (Stream receiver) ≡ polled line) × ((wait ≡ None) ⊎ (wait ≡ Some (line, Stream receiver)))
   Suits p (on_return.Make op operation) wait = (p (Op op) ≡ retired) × (operation.poll_state ≡ Rests) × (wait ≡ None)
   Suits p (on_return.New from new kind) wait = (p (Stream new) ≡ retired) × (wait ≡ None)
-  Suits p on_return.Nothing wait = wait ≡ None
-  Suits p (on_return.Leave handle) wait = wait ≡ None
-  Suits p (on_return.LeaveBoth a b) wait = wait ≡ None
+  Suits p e wait = wait ≡ None
 
   -- an agent and the call of the same party under way
   pub record AgentFits (p : Waiter → NameStatus) (a : Agent T) (u : ActiveCall T Waiter) : Type 0 where

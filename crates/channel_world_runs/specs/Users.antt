@@ -19,9 +19,7 @@ module _ {T : Type 0} where
   times_used name (on_return.LeaveBoth a b) = one name a + one name b
   times_used name (on_return.PollNext receiver) = one name receiver
   times_used name (on_return.New from new kind) = one name from
-  times_used name (on_return.Make op operation) = 0
-  times_used name (on_return.Poll op) = 0
-  times_used name on_return.Nothing = 0
+  times_used name e = 0
 
   abbrev pub all_uses : ℕ → List (Agent T) → ℕ
   all_uses name [] = 0

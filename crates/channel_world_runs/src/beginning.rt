@@ -1,12 +1,12 @@
 //! What calls do to the names as they begin, what they ask of the channel, and what they will have to write back.
 
 ghost use Rattle.std.specs.Prelude.{◌≡◌, Some};
-ghost use Rattle.channel_world_model.specs.Answer.{weak_of, strong_of};
 ghost use Rattle.channel_world_model.specs.Asked.{clone_asked, upgrade_asked};
-ghost use Rattle.channel_world_runs.specs.Bookkeeping.{polled_ask, own_message, drop_ask_of};
+ghost use Rattle.channel_world_runs.specs.Bookkeeping.{polled_ask, own_message, drop_ask_of, mint_asked, unpolled};
 
 use crate::name_table::NameTable;
 use crate::names::{OnReturn, Operation, OperationKind, PollState};
+use crate::plan::Kinship;
 use channel_calls::ask::{ChannelAsk, lent};
 use channel_calls::several::Limit;
 use channel_calls::stage::{Line, Side};
@@ -20,26 +20,6 @@ use std::alloc::Global;
 pub(crate) struct Begun<T> {
     pub(crate) ask: ChannelAsk<T, Waiter>,
     pub(crate) on_return: OnReturn<T>,
-}
-
-/// The weak kind beside a strong one.
-fn weak_of(kind: HandleKind) -> HandleKind
-    ensures { result ≡ weak_of kind }
-{
-    match kind {
-        HandleKind::Sender | HandleKind::WeakSender => HandleKind::WeakSender,
-        HandleKind::Receiver | HandleKind::WeakReceiver => HandleKind::WeakReceiver,
-    }
-}
-
-/// The strong kind beside a weak one.
-fn strong_of(kind: HandleKind) -> HandleKind
-    ensures { result ≡ strong_of kind }
-{
-    match kind {
-        HandleKind::Sender | HandleKind::WeakSender => HandleKind::Sender,
-        HandleKind::Receiver | HandleKind::WeakReceiver => HandleKind::Receiver,
-    }
 }
 
 /// What a clone of a handle asks: a weak one is not counted.
@@ -60,6 +40,17 @@ fn upgrade_ask<T>(handle: Handle) -> ChannelAsk<T, Waiter>
     match handle.kind {
         HandleKind::Sender | HandleKind::WeakSender => ChannelAsk::Upgrade(Side::Senders),
         HandleKind::Receiver | HandleKind::WeakReceiver => ChannelAsk::Upgrade(Side::Receivers),
+    }
+}
+
+/// What the making of a handle from another asks.
+fn mint_ask<T>(kinship: Kinship, handle: Handle) -> ChannelAsk<T, Waiter>
+    ensures { result ≡ mint_asked kinship (Some handle) }
+{
+    match kinship {
+        Kinship::Same => clone_ask(handle),
+        Kinship::Weak => ChannelAsk::Make,
+        Kinship::Strong => upgrade_ask(handle),
     }
 }
 
@@ -103,6 +94,23 @@ fn own_message<T: Drop>(kind: OperationKind, message: Option<T>) -> Option<T>
     }
 }
 
+/// An operation whose name was taken is being made.
+fn making<T: Drop>(op: OpId, handle: HandleId, kind: OperationKind, message: Option<T>) -> Begun<T>
+    ensures ask { result.ask ≡ ChannelAsk.Make }
+    ensures on_return { result.on_return ≡ OnReturn.Make op (unpolled kind handle message) }
+{
+    let operation = Operation {
+        kind,
+        handle,
+        message,
+        poll_state: PollState::Rests,
+    };
+    Begun {
+        ask: ChannelAsk::Make,
+        on_return: OnReturn::Make { op, operation },
+    }
+}
+
 impl<T: Drop> NameTable<T> {
     ghost use Rattle.std.specs.Prelude.{◌≡◌, None, Some, List, false, is_some, IfOk, OnErr, IfErr, IfSome, IfNone};
     ghost use Rattle.std.specs.Bool.{OnTrue, OnFalse};
@@ -111,8 +119,9 @@ impl<T: Drop> NameTable<T> {
     ghost use Rattle.channel_world_model.specs.declared.name.Waiter.{Waiter};
     ghost use Rattle.channel_world_runs.specs.Order.{order_begun};
     ghost use Rattle.channel_world_runs.specs.Refusal.{takes_again};
-    ghost use Rattle.channel_world_runs.specs.NameTable.{key_of, with_lent, with_borrowed};
-    ghost use Rattle.channel_world_runs.specs.Bookkeeping.{BeginsByName, Starts, IsLent, unpolled, operation_named, handle_named};
+    ghost use Rattle.channel_world_runs.specs.NameTable.{handle_at, key_of, with_lent, with_borrowed};
+    ghost use Rattle.channel_world_runs.specs.Plan.{kin};
+    ghost use Rattle.channel_world_runs.specs.Bookkeeping.{BeginsByName, Starts, IsLent, mint_asked, new_from, operation_named, handle_named};
 
     /// A call through a handle asks this.
     fn through(&mut self, handle: HandleId, ask: ChannelAsk<T, Waiter>) -> Begun<T>
@@ -142,36 +151,6 @@ impl<T: Drop> NameTable<T> {
         }
         self.handles.set(handle.0, borrowed);
         true
-    }
-
-    /// An operation is being made; it comes back where its name found no room.
-    fn make_operation(
-        &mut self,
-        op: OpId,
-        handle: HandleId,
-        kind: OperationKind,
-        message: Option<T>,
-    ) -> Result<Begun<T>, Option<T>>
-        requires { is_taken op.0 self.old.operations ≡ false }
-        ensures ok { IfOk result
-            (λ b. Starts ChannelAsk.Make (OnReturn.Make op (unpolled kind handle message))
-            (with_borrowed handle (operation_named op self.old)) b self.new) }
-        ensures err { OnErr result (self.new ≡ self.old) }
-        ensures back { IfErr result (λ m. m ≡ message) }
-    {
-        if !self.name_operation(op, handle) {
-            return Err(message);
-        }
-        let operation = Operation {
-            kind,
-            handle,
-            message,
-            poll_state: PollState::Rests,
-        };
-        Ok(Begun {
-            ask: ChannelAsk::Make,
-            on_return: OnReturn::Make { op, operation },
-        })
     }
 
     /// A poll takes what the operation has; refused its waker or not.
@@ -288,54 +267,27 @@ impl<T: Drop> NameTable<T> {
         }
     }
 
-    /// A handle of this kind is being made from another. None where its name found no room.
-    fn make_handle(
-        &mut self,
-        from: HandleId,
-        new: HandleId,
-        kind: HandleKind,
-        ask: ChannelAsk<T, Waiter>,
-    ) -> Option<Begun<T>>
+    /// A handle is being made from another. None where its name found no room, or that lives no more.
+    fn mint(&mut self, from: HandleId, new: HandleId, kinship: Kinship) -> Option<Begun<T>>
         requires { is_taken new.0 self.old.handles ≡ false }
         ensures some { IfSome result
-            (λ b. Starts ask (OnReturn.New from new kind) (with_lent from (handle_named new self.old)) b self.new) }
+            (λ b. Starts (mint_asked kinship (handle_at from self.old)) (new_from from new (kin kinship) (handle_at from self.old))
+            (with_lent from (handle_named new self.old)) b self.new) }
         ensures none { IfNone result (self.new ≡ self.old) }
     {
+        let seen = self.seen(from)?;
         if !self.handles.spend(new.0) {
             return None;
         }
         self.lend(from);
         Some(Begun {
-            ask,
-            on_return: OnReturn::New { from, new, kind },
+            ask: mint_ask(kinship, seen),
+            on_return: OnReturn::New {
+                from,
+                new,
+                kind: kinship.of(seen.kind),
+            },
         })
-    }
-
-    fn try_clone(&mut self, handle: HandleId, new: HandleId) -> Option<Begun<T>>
-        requires { is_taken new.0 self.old.handles ≡ false }
-        ensures some { IfSome result (λ b. BeginsByName self.old (Call.TryClone handle new) b self.new) }
-        ensures none { IfNone result (self.new ≡ self.old) }
-    {
-        let seen = self.seen(handle)?;
-        self.make_handle(handle, new, seen.kind, clone_ask(seen))
-    }
-
-    fn downgrade(&mut self, handle: HandleId, new: HandleId) -> Option<Begun<T>>
-        requires { is_taken new.0 self.old.handles ≡ false }
-        ensures some { IfSome result (λ b. BeginsByName self.old (Call.Downgrade handle new) b self.new) }
-        ensures none { IfNone result (self.new ≡ self.old) }
-    {
-        let seen = self.seen(handle)?;
-        self.make_handle(handle, new, weak_of(seen.kind), ChannelAsk::Make)
-    }
-
-    fn upgrade(&mut self, weak: HandleId, new: HandleId) -> Option<Begun<T>>
-        requires { is_taken new.0 self.old.handles ≡ false }
-        ensures some { IfSome result (λ b. BeginsByName self.old (Call.Upgrade weak new) b self.new) }
-        ensures none { IfNone result (self.new ≡ self.old) }
-    {
-        let seen = self.seen(weak)?;
-        self.make_handle(weak, new, strong_of(seen.kind), upgrade_ask(seen))
     }
 
     fn same_channel(&mut self, a: HandleId, b: HandleId) -> Begun<T>
@@ -360,33 +312,32 @@ impl<T: Drop> NameTable<T> {
     {
         match call {
             Call::NewSend { op, sender, msg } => {
-                match self.make_operation(op, sender, OperationKind::Send, Some(msg)) {
-                    Ok(begun) => Ok(begun),
-                    Err(Some(msg)) => Err(Call::NewSend { op, sender, msg }),
-                    Err(None) => unreachable!(),
+                if !self.name_operation(op, sender) {
+                    return Err(Call::NewSend { op, sender, msg });
                 }
+                Ok(making(op, sender, OperationKind::Send, Some(msg)))
             }
             Call::NewRecv { op, receiver } => {
-                match self.make_operation(op, receiver, OperationKind::Receive, None) {
-                    Ok(begun) => Ok(begun),
-                    Err(_) => Err(Call::NewRecv { op, receiver }),
+                if !self.name_operation(op, receiver) {
+                    return Err(Call::NewRecv { op, receiver });
                 }
+                Ok(making(op, receiver, OperationKind::Receive, None))
             }
             Call::NewClosed { op, sender } => {
-                match self.make_operation(op, sender, OperationKind::Closing, None) {
-                    Ok(begun) => Ok(begun),
-                    Err(_) => Err(Call::NewClosed { op, sender }),
+                if !self.name_operation(op, sender) {
+                    return Err(Call::NewClosed { op, sender });
                 }
+                Ok(making(op, sender, OperationKind::Closing, None))
             }
-            Call::TryClone { handle, new } => match self.try_clone(handle, new) {
+            Call::TryClone { handle, new } => match self.mint(handle, new, Kinship::Same) {
                 Some(begun) => Ok(begun),
                 None => Err(Call::TryClone { handle, new }),
             },
-            Call::Downgrade { handle, new } => match self.downgrade(handle, new) {
+            Call::Downgrade { handle, new } => match self.mint(handle, new, Kinship::Weak) {
                 Some(begun) => Ok(begun),
                 None => Err(Call::Downgrade { handle, new }),
             },
-            Call::Upgrade { weak, new } => match self.upgrade(weak, new) {
+            Call::Upgrade { weak, new } => match self.mint(weak, new, Kinship::Strong) {
                 Some(begun) => Ok(begun),
                 None => Err(Call::Upgrade { weak, new }),
             },

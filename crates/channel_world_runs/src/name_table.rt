@@ -209,23 +209,12 @@ ghost use Rattle.channel_world_model.specs.Laws.{same_line};
 fn is_same(a: Line, b: Line) -> bool
     ensures { result ≡ same_line a b }
 {
-    match a {
-        Line::Sends => match b {
-            Line::Sends => true,
-            Line::Receives | Line::Streams | Line::Closings => false,
-        },
-        Line::Receives => match b {
-            Line::Receives => true,
-            Line::Sends | Line::Streams | Line::Closings => false,
-        },
-        Line::Streams => match b {
-            Line::Streams => true,
-            Line::Sends | Line::Receives | Line::Closings => false,
-        },
-        Line::Closings => match b {
-            Line::Closings => true,
-            Line::Sends | Line::Receives | Line::Streams => false,
-        },
+    match (a, b) {
+        (Line::Sends, Line::Sends)
+        | (Line::Receives, Line::Receives)
+        | (Line::Streams, Line::Streams)
+        | (Line::Closings, Line::Closings) => true,
+        _ => false,
     }
 }
 

@@ -2,6 +2,7 @@
 
 use crate::name_table::NameTable;
 use crate::names::OnReturn;
+use crate::plan::Plan;
 use channel_world_model::call::Call;
 use channel_world_model::name::Waiter;
 use event_listener::key::Key;
@@ -123,15 +124,15 @@ impl Order {
         ensures ok { OnOk result (self.new ≡ order_begun call.now self.old) }
         ensures err { OnErr result (self.new ≡ self.old) }
     {
-        match call {
-            Call::Poll { op } | Call::PollRefused { op } => self.place(Waiter::Op(*op)),
-            Call::PollNext { receiver } => self.place(Waiter::Stream(*receiver)),
-            Call::GiveUp { op } => {
-                self.leave(Waiter::Op(*op));
+        match Plan::of(call) {
+            Plan::Polls(op) => self.place(Waiter::Op(op)),
+            Plan::Streams(receiver) => self.place(Waiter::Stream(receiver)),
+            Plan::GivesUp(op) => {
+                self.leave(Waiter::Op(op));
                 Ok(())
             }
-            Call::Drop { handle } => {
-                self.leave(Waiter::Stream(*handle));
+            Plan::Drops(handle) => {
+                self.leave(Waiter::Stream(handle));
                 Ok(())
             }
             _ => Ok(()),

@@ -32,8 +32,7 @@ module _ {T : Type 0} where
   polled_operation Send (Some m) (IsPolled b) e = (Sends, refl)
   polled_operation Receive m (IsPolled b) e = (Receives, refl)
   polled_operation Closing m (IsPolled b) e = (Closings, refl)
-  polled_operation k m Rests e = absurd (let no : false ≡ true = e in cc)
-  polled_operation k m (Waits key w) e = absurd (let no : false ≡ true = e in cc)
+  polled_operation k m x e = absurd (let no : false ≡ true = e in cc)
 
   abbrev seen_as : OperationKind → HandleId → Option T → names.ModelOperation T
   seen_as k handle m = elim k [ Send ↦ names.send handle m | Receive ↦ names.recv handle | Closing ↦ names.closing handle ]

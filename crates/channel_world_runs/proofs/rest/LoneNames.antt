@@ -5,8 +5,10 @@ use Rattle.channel_world_model.specs.Names as model
 use Rattle.channel_world_model.specs.declared.call.Call.TheVariants as call
 use Rattle.channel_world_runs.specs.declared.names.OnReturn.TheVariants as on_return
 use Rattle.channel_world_runs.specs.declared.names.OperationKind.TheVariants as kind
+use Rattle.channel_world_runs.specs.Plan.{plan_of}
+use Rattle.channel_world_runs.proofs.RefusalLemmas.{handle_through}
 use Rattle.channel_world_runs.proofs.rest.LoneDirectory.{views_set, changed_some, changed_none, changed_twice, same_put_back}
-use Rattle.channel_world_runs.proofs.rest.LoneSeen.{used_by, handle_of, with_message, put_twice, borrowed_is, left_names, with_operations, seen_lent, seen_back, seen_poll_state, seen_borrowed, seen_handed_over, seen_to_poll, seen_restored, all_seen}
+use Rattle.channel_world_runs.proofs.rest.LoneSeen.{handle_of, with_message, put_twice, borrowed_is, left_names, with_operations, seen_lent, seen_back, seen_poll_state, seen_borrowed, seen_handed_over, seen_to_poll, seen_restored, all_seen}
 
 own : (n : ℕ) → nat_eq n n ≡ true
 own n = nat_eq_equiv.refl n
@@ -28,14 +30,11 @@ module _ {T : Type 0} where
   installed_names new k x n = n
 
   abbrev settled_names : OnReturn T → Reply T → Kept T → Names T → Names T
-  settled_names on_return.Nothing x kept n = n
-  settled_names (on_return.Leave handle) x kept n = n
-  settled_names (on_return.LeaveBoth a b) x kept n = n
   settled_names (on_return.Make op operation) x kept n =
       with_operations (with_changed op.0 (operation_of operation) n.operations) n
   settled_names (on_return.Poll op) x kept n = left_names kept.message op n
-  settled_names (on_return.PollNext receiver) x kept n = n
   settled_names (on_return.New from new k) x kept n = installed_names new k x n
+  settled_names y x kept n = n
 
   seen_installed : (new : HandleId) (k : HandleKind) (x : Reply T) (r : NameTable T)
       → names_of (installed new k x r) ≡ installed_names new k x (names_of r)
@@ -123,9 +122,8 @@ module _ {T : Type 0} where
     polled_is op (Some (model.send handle (Some m))) channel o e alone = changed op o.kept.message _ e
     polled_is op (Some (model.send handle None)) channel o e alone =
         unchanged op o.kept.message _ e (ap (λ (p : Outcome T Waiter). model.send handle p.kept.message) alone)
-    polled_is op (Some (model.recv handle)) channel o e alone = unchanged op o.kept.message _ e refl
-    polled_is op (Some (model.closing handle)) channel o e alone = unchanged op o.kept.message _ e refl
     polled_is op None channel o e alone = nothing op o.kept.message e
+    polled_is op x channel o e alone = unchanged op o.kept.message _ e refl
 
     refused_is : (op : OpId) (y : Option (model.ModelOperation T)) (left : Option T) → at op.0 operations ≡ y
         → left_names left op (names_of r) ≡ refused_names op y left (names_of r)
@@ -272,4 +270,4 @@ module _ {T : Type 0} where
     names_follow (call.Upgrade weak new) alone =
         follow (λ n. made_names new (option_map strong_of (kind_at weak n)) o.reply n) _ (renewed weak new strong_of)
     names_follow (call.SameChannel a b) alone = follow (λ n. n) _ (through_both r a b o.reply o.kept o.woken)
-    names_follow c alone = follow (λ n. n) _ (through r (used_by c) o.reply o.kept o.woken)
+    names_follow c alone = follow (λ n. n) _ (through r (handle_through (plan_of c)) o.reply o.kept o.woken)

@@ -1,6 +1,5 @@
 -- What the parts of a call do to the names, as one call at a time sees them.
-use Rattle.channel_world_runs.proofs.rest.Words.{◌≡◌, ℕ, ◌+◌, ◌-◌, List, [], ◌∷◌, Option, None, Some, refl, sym, ap, ◌∙◌, Directory, Names, lent_once_more, used_once_less, Want, uses, Call, option_map_or, Handle, HandleId, OpId, Waiter, Op, Stream, Kept, lent_to_poll, restored, with_operation, with_one_woken, all_woken, operation_of, used_more, used_less, borrowed_more, handed_over, names_of, told, with_handle, with_lent, with_given_back, with_borrowed, with_handed_over, with_poll_state, HandleEntry, Operation, OperationKind, PollState, NameTable}
-use Rattle.std.specs.Prelude.{slice_get}
+use Rattle.channel_world_runs.proofs.rest.Words.{◌≡◌, ◌+◌, ◌-◌, List, [], ◌∷◌, Option, None, refl, ap, ◌∙◌, Directory, Names, lent_once_more, used_once_less, Handle, HandleId, OpId, Waiter, Op, Stream, Kept, lent_to_poll, restored, with_operation, with_one_woken, all_woken, operation_of, used_more, used_less, borrowed_more, handed_over, names_of, told, with_handle, with_lent, with_given_back, with_borrowed, with_handed_over, with_poll_state, HandleEntry, Operation, OperationKind, PollState, NameTable}
 use Rattle.channel_world_model.specs.Names as model
 use Rattle.channel_world_runs.specs.declared.names.OperationKind.TheVariants as kind
 use Rattle.channel_world_runs.proofs.rest.LoneDirectory.{changed_at, views_changed, views_kept}
@@ -17,10 +16,6 @@ one_more h = record h { borrowers = h.borrowers + 1 }
 abbrev pub one_less : Handle → Handle
 one_less h = record h { borrowers = h.borrowers - 1 }
 
--- the handle that a call goes through, where it uses one alone
-abbrev pub used_by : {T : Type 0} → Call T → HandleId
-used_by c = record { 0 = option_map_or (λ (u : ℕ × Want). u.0) (slice_get (uses c) 0) 0 }
-
 -- ---- operations
 
 module _ {T : Type 0} where
@@ -34,8 +29,7 @@ module _ {T : Type 0} where
   pub put_twice : (first last : Option T) (x : model.ModelOperation T)
       → with_message last (with_message first x) ≡ with_message last x
   put_twice first last (model.send handle msg) = refl
-  put_twice first last (model.recv handle) = refl
-  put_twice first last (model.closing handle) = refl
+  put_twice first last x = refl
 
   abbrev as_seen : OperationKind → HandleId → Option T → model.ModelOperation T
   as_seen k handle m =

@@ -7,8 +7,7 @@ use Rattle.channel_world_runs.proofs.rest.LoneWakes.{not_same, is_pending}
 
 polled_off : (T : Type 0) (k : OperationKind) (b : Bool) → is_pending (operation_status {T = T} k None (IsPolled b)) ≡ false
 polled_off T kind.Send b = refl
-polled_off T kind.Receive b = refl
-polled_off T kind.Closing b = refl
+polled_off T x b = refl
 
 -- a test that no name passes under which nothing lives
 pub record Sees (f : NameStatus → Bool) : Type 0 where

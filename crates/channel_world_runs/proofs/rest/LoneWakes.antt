@@ -1,5 +1,5 @@
 -- Whoever is woken comes last among those who were woken.
-use Rattle.channel_world_runs.proofs.rest.Words.{false_from_ne_true, arith, ◌≡◌, ◌≤◌, ◌+◌, List, [], ◌∷◌, ◌++◌, Bool, true, false, not, cond, Option, None, Some, ◌⊎◌, inl, inr, refl, sym, ap, subst, ◌∙◌, append_assoc, append-nil, filter-append, filter, count_append, among_counts, among_self, or_right, same_refl, same_sound, decided, or_true, without_absent, none_left, times, same_waiter, is_among, without_waiter, Waiter, with_one_woken, all_woken, moved_last, all_moved_last, was_woken, woken_in, NameStatus, free, retired, invalid, rests, waits, polled, status, NameTable, Sets, told_status, one_woken, but_for}
+use Rattle.channel_world_runs.proofs.rest.Words.{false_from_ne_true, arith, ◌≡◌, ◌≤◌, ◌+◌, List, [], ◌∷◌, ◌++◌, Bool, true, false, not, cond, Option, None, Some, ◌⊎◌, inl, inr, refl, sym, ap, subst, ◌∙◌, append_assoc, append-nil, filter-append, filter, count_append, among_counts, among_self, or_right, same_refl, same_sound, decided, or_true, without_absent, none_left, times, same_waiter, is_among, without_waiter, Waiter, with_one_woken, all_woken, moved_last, all_moved_last, was_woken, woken_in, NameStatus, waits, status, NameTable, Sets, told_status, one_woken, but_for}
 
 -- ---- lists without a name
 
@@ -132,11 +132,7 @@ among_moved w v ws there = by (decided (is_among w ws)) (decided (same_waiter w 
 
 abbrev pub is_pending : NameStatus → Bool
 is_pending (waits h is_woken) = true
-is_pending free = false
-is_pending retired = false
-is_pending invalid = false
-is_pending (rests line) = false
-is_pending (polled line) = false
+is_pending x = false
 
 -- whoever is not pending was not woken
 pub not_woken : (p : NameStatus) → is_pending p ≡ false → was_woken p ≡ false

@@ -1,13 +1,15 @@
 -- A call that was made alone leaves those who were woken in the order in which the model leaves them.
-use Rattle.channel_world_runs.proofs.rest.Words.{◌≡◌, ◌≤◌, nat_eq, List, [], ◌∷◌, ◌++◌, Bool, true, false, Option, None, Some, inl, inr, refl, sym, ap, subst, ◌∙◌, lookup, option_map, option_map_or, Reply, Held, Outcome, among_self, or_right, at_seen, left_among, weak_of, strong_of, stream_of, times, same_waiter, is_among, without_waiter, Names, at, is_taken, State, Call, Handle, HandleId, HandleKind, OpId, Waiter, Op, Stream, keeper, woken_after, on_return_of, names_begun, unpolled, leave_handle_of, new_from, lent_by, handed_over_by, operation_named, handle_named, lent_to_poll, restored, installed, with_operation, all_woken, placed, order_begun, all_moved_last, was_woken, woken_in, IsAmong, NameStatus, waits, no_stream_status, stream_status, status_by, status, names_of, handle_at, unused, with_lent, with_borrowed, with_poll_state, with_given_back, poll_state_with, HandleEntry, Operation, OperationKind, PollState, Rests, IsPolled, NameTable, Admitted, untaken, found, op_status, handle_entry_status, op_spent, handle_spent, lent_same, borrowed_same, handed_over_same, given_back_same, names_alone, order_alone, but_for}
+use Rattle.channel_world_runs.proofs.rest.Words.{◌≡◌, ◌≤◌, nat_eq, List, ◌++◌, Bool, true, false, Option, None, Some, refl, sym, ap, subst, ◌∙◌, lookup, option_map, option_map_or, Reply, Held, Outcome, at_seen, left_among, weak_of, strong_of, stream_of, times, same_waiter, is_among, without_waiter, Names, at, is_taken, State, Call, Handle, HandleId, HandleKind, OpId, Waiter, Op, Stream, keeper, woken_after, on_return_of, names_begun, unpolled, leave_handle_of, new_from, lent_by, handed_over_by, operation_named, handle_named, lent_to_poll, restored, installed, with_operation, all_woken, placed, order_begun, all_moved_last, was_woken, woken_in, IsAmong, NameStatus, waits, no_stream_status, stream_status, status_by, status, names_of, handle_at, unused, with_lent, with_borrowed, with_poll_state, with_given_back, poll_state_with, HandleEntry, Operation, OperationKind, PollState, Rests, IsPolled, NameTable, Admitted, untaken, found, op_status, handle_entry_status, op_spent, handle_spent, lent_same, borrowed_same, handed_over_same, given_back_same, names_alone, order_alone, but_for}
 use Rattle.channel_calls.specs.declared.reply.Reply.TheVariants as reply
 use Rattle.channel_world_model.specs.declared.call.Call.TheVariants as call
 use Rattle.channel_world_model.specs.declared.name.HandleKind.TheVariants as handle_kind
 use Rattle.channel_world_runs.specs.declared.names.OnReturn.TheVariants as on_return
 use Rattle.channel_world_runs.specs.declared.names.OperationKind.TheVariants as kind
+use Rattle.channel_world_runs.specs.Plan.{plan_of}
+use Rattle.channel_world_runs.proofs.OwnerOrderNames.{is_there}
+use Rattle.channel_world_runs.proofs.RefusalLemmas.{handle_through}
 use Rattle.channel_world_runs.proofs.rest.LoneWakes.{Other, not_same, but_append, is_pending, HavePlaces, all_pending, all_last}
 use Rattle.channel_world_runs.proofs.rest.LoneStatuses.{nothing_there, sees_pending, sees_woken, op_other, op_own, handle_other, handle_own, with_op_value, with_handle_value, op_value_other, op_value_own, handle_value_other, handle_value_own, lent_off, left_off, resting_off, stream_polled_off, stream_left_off, stream_resting_off}
-use Rattle.channel_world_runs.proofs.rest.LoneSeen.{used_by}
 use Rattle.channel_world_runs.proofs.rest.LoneEnds.{Starts, Alike, alike_starts, same_alike, off_alike, polled_starts, gone_starts, unheld_starts, EndsSo, same_woken, left_woken, off_woken, polled_woken}
 
 -- ---- who is pending, in words
@@ -15,11 +17,6 @@ use Rattle.channel_world_runs.proofs.rest.LoneEnds.{Starts, Alike, alike_starts,
 pending_is : (p : NameStatus) → is_pending p ≡ true → (h : Held) × (b : Bool) × (p ≡ waits h b)
 pending_is (waits h b) e = (h, b, refl)
 pending_is p e = absurd (let no : false ≡ true = e in cc)
-
-is_named : (w : Waiter) (ws : List Waiter) → IsAmong w ws → is_among w ws ≡ true
-is_named w [] i = absurd i
-is_named w (v ∷ ws) (inl e) = subst (λ (x : Waiter). is_among w (x ∷ ws) ≡ true) (sym e) (among_self w ws)
-is_named w (v ∷ ws) (inr i) = or_right (same_waiter w v) (is_among w ws) (is_named w ws i)
 
 other_left : (k : Option Waiter) (v : Waiter) (ws : List Waiter) → is_among v (but_for k ws) ≡ true → Other k v
 other_left None v ws e = tt
@@ -267,7 +264,7 @@ module _ {T : Type 0} where
           starts = lends_both r order x y;
           ends = λ z kept new ws p. left_woken (with_given_back x new) y ws ∙ left_woken new x ws;
         }
-    goes c a = record { starts = lends r order (used_by c); ends = leaves_through r order (used_by c) }
+    goes c a = record { starts = lends r order (handle_through (plan_of c)); ends = leaves_through r order (handle_through (plan_of c)) }
 
   -- whoever was woken when the call began is woken after it, and then those whom it woke, in order, but for its own name
   pub woken_follows : (r : NameTable T) (c : Call T) (s : State T) (o : Outcome T Waiter) (order : List Waiter)
@@ -292,7 +289,7 @@ module _ {T : Type 0} where
           let other = g.starts.own v on in
           let before : is_pending (status r v) ≡ true = sym (g.starts.others v other) ∙ on in
           let pends = pending_is (status r v) before in
-          g.starts.places v before other (is_named v order (places v pends.0 pends.1 pends.2))
+          g.starts.places v before other (is_there v order (places v pends.0 pends.1 pends.2))
 
       wakes : (v : Waiter) → is_among v (but_for (keeper s c) o.woken) ≡ true → is_pending (status (names_begun r c) v) ≡ true
       wakes v e =

@@ -9,11 +9,7 @@ on line key = record { line = line; key = key }
 
 abbrev status_held : Held → NameStatus → Held
 status_held h (waits k is_woken) = k
-status_held h free = h
-status_held h retired = h
-status_held h invalid = h
-status_held h (rests line) = h
-status_held h (polled line) = h
+status_held h x = h
 
 pub same_held : (h k : Held) (b c : Bool) → waits h b ≡ waits k c → h ≡ k
 same_held h k b c e = ap (λ (p : NameStatus). status_held h p) e

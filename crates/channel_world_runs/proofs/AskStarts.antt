@@ -1,0 +1,144 @@
+-- What a call has in hand, whom it waits for, and what it is to do to the counts, by what it asks; so it stands at its first stage.
+use Rattle.std.proofs.Common.{◌≡◌, Bool, true, false, if◌then◌else◌, Option, None, Some, inl, inr, refl, sym, ap, ◌∙◌, subst}
+use Rattle.std.specs.Option.{option_map}
+use Rattle.concurrent_queue.specs.Queue.{Phase, asked}
+use Rattle.event_listener.specs.declared.key.Key.{Key}
+use Rattle.channel_calls.specs.Asks.{asks_listener, first}
+use Rattle.channel_calls.specs.Moves.{Turned}
+use Rattle.channel_calls.specs.Turns.{again, held_on, line_of as waits_on}
+use Rattle.channel_calls.specs.declared.ask.ChannelAsk.{ChannelAsk}
+use Rattle.channel_calls.specs.declared.ask.ChannelAsk.TheVariants as ask
+use Rattle.channel_calls.specs.declared.reply.Reply.{Reply}
+use Rattle.channel_calls.specs.declared.stage.Held.{Held}
+use Rattle.channel_calls.specs.declared.stage.Line.{Line}
+use Rattle.channel_calls.specs.declared.stage.Line.TheVariants.{Sends, Receives, Streams, Closings}
+use Rattle.channel_calls.specs.declared.stage.Side.{Side}
+use Rattle.channel_calls.specs.declared.stage.Side.TheVariants.{Senders, Receivers}
+use Rattle.channel_calls.specs.declared.stage.Stage.{Stage}
+use Rattle.channel_calls.specs.declared.stage.Stage.TheVariants.{Trying, Working}
+use Rattle.channel_calls.specs.declared.stage.Turn.{Turn}
+use Rattle.channel_calls.specs.declared.stage.Turn.TheVariants.{Tries, Works, Ends}
+use Rattle.channel_calls.specs.declared.stage.Waiting.{Waiting}
+use Rattle.channel_calls.specs.declared.stage.Waiting.TheVariants as waiting
+use Rattle.channel_world_runs.specs.AskedBy.{listening_first, IsOrListens}
+use Rattle.channel_world_runs.specs.Counted.{same_side, is_lowering, is_raising}
+use Rattle.channel_world_runs.specs.Owners.{holding, task_at, wait_of, line_asked, Bears}
+
+line_on : (line : Line) (key : Option Key) (h : Held) → held_on line key ≡ Some h → let o : Option Line = Some line in
+    o ≡ Some h.line
+line_on line None h e = absurd (let no : None ≡ Some h = e in cc)
+line_on line (Some key) h e = ap (λ (o : Option Held). option_map (λ (i : Held). i.line) o) e
+
+module _ {T W : Type 0} where
+  -- the listener with which a call begins
+  abbrev pub ask_holds : ChannelAsk T W → Option Held
+  ask_holds (ask.PollSend m l task) = held_on Sends l.key
+  ask_holds (ask.PollRecv l task) = held_on Receives l.key
+  ask_holds (ask.PollClosed key task) = held_on Closings key
+  ask_holds (ask.PollNext key task) = held_on Streams key
+  ask_holds (ask.RefusePoll line message key) = held_on line key
+  ask_holds (ask.GiveUp line message key) = held_on line key
+  ask_holds (ask.DropReceiver key) = held_on Streams key
+  ask_holds a = None
+
+  -- whether it is to lower the count of this side
+  abbrev pub asks_lowering : Side → ChannelAsk T W → Bool
+  asks_lowering side ask.DropSender = same_side side Senders
+  asks_lowering side (ask.DropReceiver key) = same_side side Receivers
+  asks_lowering side a = false
+
+  -- or may raise it
+  abbrev pub asks_raising : Side → ChannelAsk T W → Bool
+  asks_raising side (ask.CloneHandle s) = same_side side s
+  asks_raising side (ask.Upgrade s) = same_side side s
+  asks_raising side a = false
+
+  pub line_held : (a : ChannelAsk T W) (h : Held) → ask_holds a ≡ Some h → line_asked a ≡ Some h.line
+  line_held (ask.PollSend m l task) h e = line_on Sends l.key h e
+  line_held (ask.PollRecv l task) h e = line_on Receives l.key h e
+  line_held (ask.PollClosed key task) h e = line_on Closings key h e
+  line_held (ask.PollNext key task) h e = line_on Streams key h e
+  line_held (ask.RefusePoll line message key) h e = line_on line key h e
+  line_held (ask.GiveUp line message key) h e = line_on line key h e
+  line_held (ask.DropReceiver key) h e = line_on Streams key h e
+  line_held a h e = absurd (let no : None ≡ Some h = e in cc)
+
+  pub line_waits : (a : ChannelAsk T W) (line : Line) (task : W) → wait_of a ≡ Some (line, task) → line_asked a ≡ Some line
+  line_waits (ask.PollSend m key t) line task e = ap (λ (o : Option (Line × W)). option_map (λ (x : Line × W). x.0) o) e
+  line_waits (ask.PollRecv key t) line task e = ap (λ (o : Option (Line × W)). option_map (λ (x : Line × W). x.0) o) e
+  line_waits (ask.PollClosed key t) line task e = ap (λ (o : Option (Line × W)). option_map (λ (x : Line × W). x.0) o) e
+  line_waits (ask.PollNext key t) line task e = ap (λ (o : Option (Line × W)). option_map (λ (x : Line × W). x.0) o) e
+  line_waits a line task e = absurd (let no : None ≡ Some (line, task) = e in cc)
+
+  -- ---- with its listener asked first all of this is the same
+
+  listens_so : (side : Side) (x : ChannelAsk T W)
+      → (ask_holds (listening_first x) ≡ ask_holds x) × (wait_of (listening_first x) ≡ wait_of x)
+      × (asks_lowering side (listening_first x) ≡ asks_lowering side x) × (asks_raising side (listening_first x) ≡ asks_raising side x)
+  listens_so side (ask.PollSend m l task) = (refl, refl, refl, refl)
+  listens_so side x = (refl, refl, refl, refl)
+
+  same_of : {X : Type 0} (f : ChannelAsk T W → X) (x a : ChannelAsk T W) → f (listening_first x) ≡ f x → IsOrListens x a → f a ≡ f x
+  same_of f x a so (inl same) = ap f same
+  same_of f x a so (inr same) = ap f same ∙ so
+
+  pub holds_same : (x a : ChannelAsk T W) → IsOrListens x a → ask_holds a ≡ ask_holds x
+  holds_same x a = same_of (λ (y : ChannelAsk T W). ask_holds y) x a (listens_so Senders x).0
+
+  pub waits_same : (x a : ChannelAsk T W) → IsOrListens x a → wait_of a ≡ wait_of x
+  waits_same x a = same_of (λ (y : ChannelAsk T W). wait_of y) x a (listens_so Senders x).1
+
+  pub lowering_same : (side : Side) (x a : ChannelAsk T W) → IsOrListens x a → asks_lowering side a ≡ asks_lowering side x
+  lowering_same side x a = same_of (λ (y : ChannelAsk T W). asks_lowering side y) x a (listens_so side x).2
+
+  pub raising_same : (side : Side) (x a : ChannelAsk T W) → IsOrListens x a → asks_raising side a ≡ asks_raising side x
+  raising_same side x a = same_of (λ (y : ChannelAsk T W). asks_raising side y) x a (listens_so side x).3
+
+  -- ---- the first stage
+
+  abbrev pub Starts : ChannelAsk T W → Stage (Phase T) T W → Type 0
+  Starts a s = (holding s ≡ ask_holds a) × Bears (task_at s) (wait_of a)
+      × ((side : Side) → is_lowering side s ≡ asks_lowering side a) × ((side : Side) → is_raising side s ≡ asks_raising side a)
+
+  abbrev TurnStarts : ChannelAsk T W → Turn T W → Type 0
+  TurnStarts a (Tries x aim) = (p : Phase T) → Starts a (Trying p aim)
+  TurnStarts a (Works w) = Starts a (Working w)
+  TurnStarts a (Ends x kept) = ⊥
+
+  taken : (a : ChannelAsk T W) (t : Turn T W) (r : Option (Reply T)) (s : Stage (Phase T) T W) → Turned t r s
+      → TurnStarts a t → Starts a s
+  taken a (Tries x aim) r s h k = subst (λ (z : Stage (Phase T) T W). Starts a z) (sym h.1) (k (asked x))
+  taken a (Works w) r s h k = subst (λ (z : Stage (Phase T) T W). Starts a z) (sym h.1) k
+  taken a (Ends x kept) r s h k = absurd k
+
+  polled_turn : (a : ChannelAsk T W) (w : Waiting T) (b : Bool) (key : Option Key) (task : W) → ask_holds a ≡ held_on (waits_on w) key → wait_of a ≡ Some (waits_on w, task)
+      → ((side : Side) → false ≡ asks_lowering side a) → ((side : Side) → false ≡ asks_raising side a)
+      → TurnStarts a (if b then asks_listener w key task else again w key task)
+  polled_turn a w false key task h e lowers raises = λ p. (sym h, (waits_on w, e), lowers, raises)
+  polled_turn a w true None task h e lowers raises = λ p. (sym h, (waits_on w, e), lowers, raises)
+  polled_turn a w true (Some key) task h e lowers raises = (sym h, (waits_on w, e), lowers, raises)
+
+  first_turn : (a : ChannelAsk T W) → TurnStarts a (first a)
+  first_turn (ask.PollSend m l task) =
+      polled_turn (ask.PollSend m l task) (waiting.Send m) l.asks_first l.key task refl refl (λ side. refl) (λ side. refl)
+  first_turn (ask.PollRecv l task) =
+      polled_turn (ask.PollRecv l task) waiting.Receive l.asks_first l.key task refl refl (λ side. refl) (λ side. refl)
+  first_turn (ask.PollNext key task) =
+      polled_turn (ask.PollNext key task) waiting.Stream true key task refl refl (λ side. refl) (λ side. refl)
+  first_turn (ask.PollClosed key task) = λ p. (refl, (Closings, refl), λ side. refl, λ side. refl)
+  first_turn ask.PollFinishedSend = (refl, tt, λ side. refl, λ side. refl)
+  first_turn (ask.RecvMany n) = (refl, tt, λ side. refl, λ side. refl)
+  first_turn (ask.RefusePoll line message key) = (refl, tt, λ side. refl, λ side. refl)
+  first_turn (ask.GiveUp line message key) = (refl, tt, λ side. refl, λ side. refl)
+  first_turn ask.DropSender = (refl, tt, λ side. refl, λ side. refl)
+  first_turn (ask.DropReceiver key) = (refl, tt, λ side. refl, λ side. refl)
+  first_turn (ask.CloneHandle s) = (refl, tt, λ side. refl, λ side. refl)
+  first_turn (ask.HandleCount s) = (refl, tt, λ side. refl, λ side. refl)
+  first_turn (ask.SendIsTerminated b) = (refl, tt, λ side. refl, λ side. refl)
+  first_turn (ask.SameChannel b) = (refl, tt, λ side. refl, λ side. refl)
+  first_turn ask.Make = (refl, tt, λ side. refl, λ side. refl)
+  first_turn ask.DropWeak = (refl, tt, λ side. refl, λ side. refl)
+  first_turn a = λ p. (refl, tt, λ side. refl, λ side. refl)
+
+  pub starts : (a : ChannelAsk T W) (r : Option (Reply T)) (s : Stage (Phase T) T W) → Turned (first a) r s → Starts a s
+  starts a r s h = taken a (first a) r s h (first_turn a)
