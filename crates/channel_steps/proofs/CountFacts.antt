@@ -1,6 +1,6 @@
 -- How a step changes the number of messages, by its mark.
-use Rattle.std.proofs.Common.{arith, ◌≡◌, ◌+◌, ◌^◌, ◌≤◌, ◌<◌, length, Option, refl, sym, subst}
-use Rattle.channel_steps.proofs.Words.{Queue, Phase, after, QueueMark, mark_of_queue, Channel, Effect, Worked, Moves, Mark, Reply, Stage, Trying, Working, Finished, Work, IsBalanced, counted, brought_in, taken_out}
+use Rattle.std.proofs.Common.{arith, ◌≡◌, ◌+◌, ◌^◌, ◌<◌, length, Option}
+use Rattle.channel_steps.proofs.Words.{Queue, Phase, after, QueueMark, mark_of_queue, Channel, Effect, Moves, Mark, Reply, Stage, IsBalanced, counted, brought_in, taken_out}
 use Rattle.concurrent_queue.specs.declared.call.QueueMark.TheVariants as queue
 use Rattle.channel_calls.specs.declared.mark.Mark.TheVariants as mark
 use Rattle.channel_steps.specs.every_run.Ends.{IsStill}

@@ -1,9 +1,8 @@
 -- What a layer above may use: runs, one after another and by induction; what is known of the calls under way stays known over every
 -- entry of a run; a step of the only call under way; how a step changes the number of messages; how few steps a call has left; and
 -- that a listener which was just added waits.
-use Rattle.std.proofs.Common.{◌≡◌, ℕ, suc, ◌+◌, ◌^◌, ◌≤◌, ◌<◌, true, List, [], ◌∷◌, ◌++◌, map, length, slice_get, Option, None, Some, refl, ap, sym, ◌∙◌, subst}
-use Rattle.channel_steps.proofs.Words.{Phase, Queue, Contents, Seat, chain_after, QueueForm, kind_of, listened, Key, Channel, Effect, Moves, Parts, Roster, Listeners, listeners, with_listeners, waits, Line, Mark, Reply, Kept, Stage, Finished, counted, brought_in, taken_out, all_left, most_left, ActiveCall, Configuration, sees, does, unless_ended, Known, AllKnown, IsBalanced, OthersQuiet, wanted_at, Steps, Represents, MayHave, blocks_after, EachStep, IsRun, end_of, Next, call_begun, Entry, Party, Step}
-use Rattle.concurrent_queue.specs.Step.{FitsAt}
+use Rattle.std.proofs.Common.{◌≡◌, ℕ, suc, ◌+◌, ◌^◌, ◌<◌, List, [], ◌∷◌, ◌++◌, map, length, Option, None, Some, refl, ap, sym, ◌∙◌, subst}
+use Rattle.channel_steps.proofs.Words.{Phase, Channel, Effect, Moves, Mark, Reply, Stage, counted, brought_in, taken_out, ActiveCall, Configuration, sees, does, unless_ended, Known, AllKnown, IsBalanced, Steps, EachStep, IsRun, end_of, Next, call_begun, Entry, Step}
 use Rattle.channel_steps.specs.declared.run.Step.TheVariants as step
 pub use Rattle.channel_steps.proofs.QueueFacts.{answer_marks, answered_by}
 use Rattle.channel_steps.proofs.OwnFacts.{moves_on, all_see, own_known, begins_known}

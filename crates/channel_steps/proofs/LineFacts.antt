@@ -2,7 +2,7 @@
 use Rattle.std.proofs.Common.{◌≡◌, not, Bool, true, false, if◌then◌else◌, List, [], ◌∷◌, ◌++◌, Option, None, Some, is_some, refl, sym, subst, arith}
 use Rattle.std.proofs.lemmas.Bool.Decides.{nat_tests}
 use Rattle.std.specs.Map.{lookup}
-use Rattle.channel_steps.proofs.Words.{Key, kind_of, listened, Listeners, Roster, listeners, with_listeners, waits, Line, Sends, Receives, Streams, Closings, told_as, waits_as, same_key}
+use Rattle.channel_steps.proofs.Words.{Key, kind_of, listened, Listeners, Roster, listeners, with_listeners, waits, Line, Sends, told_as, waits_as, same_key}
 
 same_as_itself : (key : Key) → same_key key key ≡ true
 same_as_itself key = grind (arith, nat_tests)

@@ -1,8 +1,7 @@
 -- What every step of a call leaves as it is, and where it ends.
 use Rattle.std.proofs.Common.{◌≡◌, List, ℕ, suc, ◌+◌, ◌≤◌, [], Bool, true, false, if◌then◌else◌, Option, None, Some, ◌⊎◌, inl, inr, refl, sym, ap, ◌∙◌, subst, arith}
-use Rattle.channel_steps.proofs.Words.{Queue, Phase, after, IsInRange, QueueMark, Nothing, QueueCall, Reply, Held, Kept, Side, Senders, Receivers, Mark, Stage, Trying, Working, Finished, Turn, Tries, Works, Ends, Work, TellReceive, TellStreams, TellSend, TellSends, TakeRoom, TellAll, Insert, Register, Leave, Lower, Count, Load, Raise, kept_by, up, down, listeners, count, is_raised, waits, line_of, leaving, nothing_kept, ends_by, again, pends_by, unlistened, told_all_next, room_next, roomless, lowered_next, loaded_next, raised_next, Channel, Effect, untouched, on_count, leaves, Turned, Worked, Moves, seats, phase, HasRange, ChannelAsk, gone_by, came_by}
+use Rattle.channel_steps.proofs.Words.{Queue, Phase, IsInRange, QueueCall, Reply, Held, Kept, Side, Senders, Receivers, Mark, Stage, Trying, Working, Finished, Turn, Tries, Works, Ends, Work, Insert, Leave, Lower, Raise, kept_by, up, down, is_raised, Channel, Effect, untouched, on_count, leaves, Turned, Worked, Moves, seats, phase, HasRange, ChannelAsk, gone_by, came_by}
 use Rattle.channel_calls.specs.declared.mark.Mark.TheVariants as mark
-use Rattle.channel_calls.specs.declared.reply.Reply.TheVariants as reply
 use Rattle.channel_steps.specs.every_run.Ends.{IsStill}
 use Rattle.channel_steps.proofs.LeftFacts.{work_lessens}
 use Rattle.channel_steps.proofs.StageFacts.{phase_end}

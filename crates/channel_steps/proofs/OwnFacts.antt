@@ -1,13 +1,10 @@
 -- A step of a call: what is known of it after, whom it wakes, and what it takes and brings.
 use Rattle.std.proofs.Common.{◌≡◌, map, ℕ, ◌+◌, ◌<◌, ◌≤◌, Bool, true, false, if◌then◌else◌, List, [], ◌∷◌, ◌++◌, take, drop, Option, None, Some, ◌⊎◌, inl, inr, refl, sym, ap, ◌∙◌, subst, arith, append-nil, append_assoc}
-use Rattle.channel_steps.proofs.Words.{Queue, Phase, after, message, ContinuesBy, QueueAsk, QueueMark, QueueReply, Key, answered_next, first, mark_of_queue, up, Channel, Effect, untouched, on_count, leaves, Turned, Tried, Worked, Moves, listeners, is_raised, again, ChannelAsk, Loan, Mark, Reply, Aim, Held, Kept, Sends, Receives, Streams, Closings, Side, Stage, Trying, Working, Finished, Turn, Tries, Works, Ends, Work, TellReceive, TellSend, Insert, Leave, Raise, Continues, Answers, asks_listener, told_one_wakes, MarkedMoment, with_marked, TriesFor, TriesAt, StageAt, ToldAt, IsQuick, quick_steps_left, call_begun, ActiveCall, sees, does, Finishes, EndsInTime, brought, gone_by, came_by, Known, AllKnown, IsBalanced, Telling, telling, dropping, WokenBy}
+use Rattle.channel_steps.proofs.Words.{Queue, Phase, after, message, ContinuesBy, QueueAsk, QueueMark, QueueReply, Key, answered_next, first, mark_of_queue, up, Channel, Effect, untouched, on_count, leaves, Turned, Tried, Worked, Moves, listeners, is_raised, again, ChannelAsk, Loan, Mark, Reply, Aim, Held, Kept, Sends, Receives, Side, Stage, Trying, Working, Finished, Turn, Tries, Works, Ends, Work, TellReceive, TellSend, Insert, Leave, Raise, Continues, Answers, asks_listener, told_one_wakes, MarkedMoment, with_marked, TriesFor, TriesAt, StageAt, ToldAt, IsQuick, quick_steps_left, call_begun, ActiveCall, sees, does, Finishes, EndsInTime, brought, gone_by, came_by, Known, AllKnown, IsBalanced, Telling, telling, dropping, WokenBy}
 use Rattle.concurrent_queue.specs.Queue as queue
 use Rattle.concurrent_queue.specs.declared.call.QueueAsk.TheVariants as ask
 use Rattle.concurrent_queue.specs.declared.call.QueueMark.TheVariants as queue_mark
 use Rattle.channel_calls.specs.declared.ask.ChannelAsk.TheVariants as channel
-use Rattle.channel_calls.specs.declared.mark.Mark.TheVariants as mark
-use Rattle.channel_calls.specs.declared.stage.Aim.TheVariants as aim
-use Rattle.channel_calls.specs.declared.stage.Closer.TheVariants as closer
 use Rattle.channel_calls.specs.declared.stage.Waiting.TheVariants as waiting
 use Rattle.channel_steps.specs.every_run.Ends.{IsStill}
 use Rattle.channel_steps.proofs.MoveFacts.{nothing_gone, nothing_came, worked_spares}

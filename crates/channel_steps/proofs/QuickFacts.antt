@@ -1,13 +1,12 @@
 -- Quick calls end within eight steps.
 use Rattle.std.proofs.Common.{◌≡◌, ℕ, ◌<◌, ◌≤◌, ◌==◌, Bool, true, false, if◌then◌else◌, List, Option, None, Some, ◌⊎◌, inl, inr, refl, sym, ap, subst, arith}
-use Rattle.channel_steps.proofs.Words.{Phase, trying, read, ContinuesBy, QueueAsk, QueueMark, Nothing, QueueReply, Key, asked_next, closed_next, terminated_next, answered_next, Channel, Effect, Turned, Worked, Moves, count, leaving, closer_ending, dropper, ends_by, told_all_next, lowered_next, ChannelAsk, Reply, Aim, Closer, Ending, Held, Line, Sends, Receives, Streams, Closings, Making, Side, Stage, Trying, Working, Finished, Turn, Tries, Works, Ends, Waiting, Work, TellReceive, TellStreams, TellSend, TellSends, TakeRoom, TellAll, Insert, Register, Leave, Lower, Count, Load, Raise, MarkedMoment, TriesFor, IsFor, Makes, WorkAt, StageAt, IsQuick, left_to_try, left_to_tell, quick_left_to_work, quick_steps_left}
+use Rattle.channel_steps.proofs.Words.{Phase, trying, read, ContinuesBy, QueueAsk, QueueMark, Nothing, QueueReply, Key, asked_next, closed_next, terminated_next, answered_next, Channel, Effect, Turned, Worked, Moves, count, leaving, closer_ending, dropper, ends_by, told_all_next, lowered_next, ChannelAsk, Reply, Aim, Closer, Ending, Held, Line, Sends, Closings, Making, Side, Stage, Trying, Working, Finished, Turn, Tries, Works, Ends, Waiting, Work, TellReceive, TellStreams, TellSend, TellSends, TakeRoom, TellAll, Insert, Register, Leave, Lower, Count, Load, Raise, MarkedMoment, IsFor, Makes, WorkAt, StageAt, IsQuick, left_to_try, left_to_tell, quick_left_to_work, quick_steps_left}
 use Rattle.concurrent_queue.specs.Queue as queue
 use Rattle.concurrent_queue.specs.declared.call.QueueAsk.TheVariants as ask
 use Rattle.concurrent_queue.specs.declared.call.QueueReply.TheVariants as answer
 use Rattle.channel_calls.specs.declared.ask.ChannelAsk.TheVariants as channel
 use Rattle.channel_calls.specs.declared.stage.Aim.TheVariants as aim
 use Rattle.channel_steps.proofs.SuitFacts.{IsQuickTry, IsQuickAim, quick_try}
-use Rattle.channel_calls.specs.declared.stage.Closer.TheVariants as closer
 
 module _ {T : Type 0} where
   some_to_try : (a : QueueAsk T) (s : queue.Stage T) → 0 < left_to_try a s

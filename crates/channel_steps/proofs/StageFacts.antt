@@ -1,5 +1,5 @@
 -- What is known of the code's stage of a call by what is known of the stage without its cells.
-use Rattle.std.proofs.Common.{◌≡◌, refl, ap}
+use Rattle.std.proofs.Common.{◌≡◌, ap}
 use Rattle.channel_steps.proofs.Words.{Phase, QueueCall, phase, Aim, Kept, Stage, Trying, Working, Finished, Work}
 
 module _ {T W : Type 0} (f : Phase T) where

@@ -1,10 +1,9 @@
 -- What a call asks of the queue, and the two ways of a step of the queue's call.
 use Rattle.std.proofs.Common.{◌≡◌, List, Option, None, Some, ◌⊎◌, refl, ap, ◌∙◌, subst}
-use Rattle.channel_steps.proofs.every_run.Words.{Phase, Continues, Answers, QueueAsk, QueueMark, QueueReply, Key, answered_next, Channel, Effect, leaves, Turned, leaving, ChannelAsk, Reply, Aim, Ending, Held, Line, Sends, Receives, Streams, Closings, Stage, Trying, Working, Turn, Works, Ends, Leave, TriesFor, MarkedMoment, removes, IsSending, Waits, WaitApart}
+use Rattle.channel_steps.proofs.every_run.Words.{Phase, Continues, Answers, QueueAsk, QueueMark, QueueReply, Key, answered_next, Channel, Effect, leaves, Turned, leaving, ChannelAsk, Reply, Aim, Ending, Held, Line, Sends, Receives, Streams, Closings, Stage, Trying, Working, Turn, Works, Ends, Leave, TriesFor, MarkedMoment, removes, Waits, WaitApart}
 use Rattle.concurrent_queue.specs.declared.call.QueueAsk.TheVariants as ask
 use Rattle.channel_calls.specs.declared.ask.ChannelAsk.TheVariants as channel
 use Rattle.channel_calls.specs.declared.stage.Aim.TheVariants as aim
-use Rattle.channel_calls.specs.declared.stage.Closer.TheVariants as closer
 use Rattle.channel_steps.proofs.every_run.ListFacts.{removed_leaves}
 
 module _ {T : Type 0} where

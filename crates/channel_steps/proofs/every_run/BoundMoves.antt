@@ -1,9 +1,8 @@
 -- What a step does to the number of messages, to the capacity and to the flag.
-use Rattle.std.proofs.Common.{arith, ◌≡◌, ℕ, ◌+◌, ◌≤◌, ◌==◌, Bool, true, false, List, [], ◌∷◌, length, drop, Option, Some, ◌⊎◌, inl, inr, refl, sym, ap, ◌∙◌, subst, length-append}
+use Rattle.std.proofs.Common.{arith, ◌≡◌, ℕ, ◌+◌, ◌≤◌, ◌==◌, true, false, List, [], ◌∷◌, length, drop, Option, Some, refl, sym, ap, ◌∙◌, subst, length-append}
 use Rattle.std.proofs.lemmas.Bool.Decides.{nat_tests}
-use Rattle.channel_steps.proofs.every_run.Words.{Queue, Phase, trying, displaced, is_filled, is_full_at, IsOpen, IsOldest, message, marked, is_displaced, ContinuesPush, ContinuesForce, ContinuesPop, ContinuesBy, Continues, AnswersTo, Answers, QueueAsk, QueueMark, Nothing, QueueReply, Channel, Effect, queued, Moves, Mark, Reply, Stage, Trying, Working, Finished, IsWithinBound, IsStill, after, mark_of_queue}
+use Rattle.channel_steps.proofs.every_run.Words.{Queue, Phase, is_filled, is_full_at, IsOpen, message, marked, is_displaced, QueueAsk, QueueMark, Nothing, Channel, Effect, Moves, Mark, Reply, Stage, IsWithinBound, IsStill, after, mark_of_queue}
 use Rattle.concurrent_queue.specs.Queue as queue
-use Rattle.concurrent_queue.specs.declared.call.QueueAsk.TheVariants as ask
 use Rattle.concurrent_queue.specs.declared.call.QueueMark.TheVariants.{Append, Take, TakeDisplaced, Replace, Close}
 use Rattle.channel_calls.specs.declared.mark.Mark.TheVariants as mark
 use Rattle.channel_steps.proofs.QueueFacts.{Says, moves_by, same_capacity, one_message, one_fewer}

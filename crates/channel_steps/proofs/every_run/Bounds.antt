@@ -1,6 +1,6 @@
 -- Over runs: no more messages than fit, never full without a bound, and closed once.
 use Rattle.std.proofs.Common.{arith, ◌≡◌, ℕ, true, false, List, [], ◌∷◌, ◌++◌, Option, None, Some, Err, inl, inr, refl, sym, ap, ◌∙◌, subst}
-use Rattle.channel_steps.proofs.every_run.Words.{is_filled, is_full_at, Channel, ChannelAsk, Mark, Reply, Kept, Sends, Receives, Streams, Closings, Row, MarkedMoment, Once, Next, IsRun, NextConfiguration, new_configuration, ActiveCall, Configuration, Steps, MayFinish, does, Entry, Step, Crowded, IsDisplacing, SaysFull, NoneFull, IsWithinBound, AllOf, BoundSound, BoundsStay, NeverOverfull, EachUnboundedRunIsNeverFull, Replies}
+use Rattle.channel_steps.proofs.every_run.Words.{is_filled, is_full_at, Channel, ChannelAsk, Mark, Reply, Kept, MarkedMoment, Once, Next, IsRun, NextConfiguration, new_configuration, ActiveCall, Configuration, Steps, MayFinish, does, Entry, Step, Crowded, IsDisplacing, SaysFull, NoneFull, IsWithinBound, AllOf, BoundSound, BoundsStay, NeverOverfull, EachUnboundedRunIsNeverFull, Replies}
 use Rattle.channel_calls.specs.declared.ask.ChannelAsk.TheVariants as ask
 use Rattle.channel_calls.specs.declared.error.Refused.TheVariants as refused
 use Rattle.channel_calls.specs.declared.error.TrySendError.TheVariants as try_send_error

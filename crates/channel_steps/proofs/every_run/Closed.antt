@@ -1,7 +1,6 @@
 -- A closed channel over runs.
-use Rattle.std.proofs.Common.{◌≡◌, ℕ, ◌+◌, ◌≤◌, Bool, false, if◌then◌else◌, List, ◌∷◌, length, drop, Option, refl, sym, ap, subst, arith, length-append}
-use Rattle.channel_steps.proofs.every_run.Words.{Queue, Phase, IsShut, IsOldest, message, is_displaced, QueueAsk, QueueMark, Channel, Effect, queued, Moves, Mark, Append, Take, TakeDisplaced, Replace, Close, Reply, Aim, Stage, Trying, Working, Finished, Shut, Configuration, Steps, Next, IsRun, NextConfiguration, Entry, Step, after, IsStill, within, MayStillDo, ClosingIsForGood, mark_of_queue}
-use Rattle.concurrent_queue.specs.declared.call.QueueAsk.TheVariants as ask
+use Rattle.std.proofs.Common.{◌≡◌, ℕ, ◌≤◌, Bool, false, if◌then◌else◌, List, Option, refl, sym, ap, subst, arith, length-append}
+use Rattle.channel_steps.proofs.every_run.Words.{Queue, Phase, IsShut, message, is_displaced, QueueMark, Channel, Effect, Moves, Mark, Append, Replace, Close, Reply, Aim, Stage, Trying, Shut, Configuration, Steps, Next, IsRun, NextConfiguration, Entry, Step, after, IsStill, within, MayStillDo, ClosingIsForGood, mark_of_queue}
 use Rattle.concurrent_queue.specs.declared.call.QueueMark.TheVariants as queue
 use Rattle.channel_steps.specs.declared.run.Step.TheVariants as step
 use Rattle.channel_steps.specs.every_run.Closed.{one_if}

@@ -1,10 +1,8 @@
 -- What a step may do to a closed channel.
 use Rattle.std.proofs.Common.{◌≡◌, true, false, List, [], ◌∷◌, Option, ⊎_elim, refl, sym, ◌∙◌, subst}
-use Rattle.channel_steps.proofs.every_run.Words.{Queue, Phase, trying, displaced, IsOpen, IsShut, IsDrained, IsOldest, is_displaced, ContinuesPush, ContinuesForce, ContinuesPop, ContinuesBy, Continues, AnswersTo, Answers, QueueAsk, QueueMark, Nothing, QueueReply, Channel, Effect, queued, untouched, Worked, Moves, Mark, Reply, Stage, Trying, Working, Finished, Work, Spent, IsStill, after, mark_of_queue}
+use Rattle.channel_steps.proofs.every_run.Words.{Queue, Phase, IsOpen, IsShut, IsDrained, IsOldest, is_displaced, QueueAsk, QueueMark, Nothing, Channel, Effect, Moves, Reply, Stage, Spent, IsStill, after, mark_of_queue}
 use Rattle.concurrent_queue.specs.Queue as queue
-use Rattle.concurrent_queue.specs.declared.call.QueueAsk.TheVariants as ask
 use Rattle.concurrent_queue.specs.declared.call.QueueMark.TheVariants.{Append, Take, TakeDisplaced, Replace, Close}
-use Rattle.channel_calls.specs.declared.mark.Mark.TheVariants as mark
 use Rattle.channel_steps.proofs.QueueFacts.{Says, moves_by}
 
 module _ {T : Type 0} where

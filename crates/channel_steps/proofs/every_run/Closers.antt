@@ -1,6 +1,6 @@
 -- Of all closes of a run one at most closes the channel: each that says so has its own mark.
 use Rattle.std.proofs.Common.{arith, ◌≡◌, ℕ, ◌+◌, ◌≤◌, Bool, true, false, List, [], ◌∷◌, ◌++◌, map, Option, None, Some, refl, ap}
-use Rattle.channel_steps.proofs.every_run.Words.{Channel, ChannelAsk, Mark, Close, Reply, Kept, Sends, Receives, Streams, Closings, Row, MarkedMoment, with_marked, ClosedIt, Next, IsRun, NextConfiguration, new_configuration, call_begun, ActiveCall, Configuration, Steps, MayFinish, sees, does, unless_ended, Entry, Step, one_if_closed, closings_in, EachRunClosesOnce}
+use Rattle.channel_steps.proofs.every_run.Words.{Channel, ChannelAsk, Mark, Close, Reply, Kept, Row, MarkedMoment, with_marked, ClosedIt, Next, IsRun, NextConfiguration, new_configuration, call_begun, ActiveCall, Configuration, Steps, MayFinish, sees, does, unless_ended, Entry, Step, one_if_closed, closings_in, EachRunClosesOnce}
 use Rattle.channel_calls.specs.declared.ask.ChannelAsk.TheVariants as ask
 use Rattle.channel_calls.specs.declared.mark.Mark.TheVariants.{Nothing}
 use Rattle.channel_calls.specs.declared.reply.Reply.TheVariants as reply

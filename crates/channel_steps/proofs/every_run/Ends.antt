@@ -1,6 +1,6 @@
 -- What is over stays over, over runs.
 use Rattle.std.proofs.Common.{◌≡◌, ℕ, List, [], ◌∷◌, ◌++◌, ◌⊎◌, inl, inr, refl, sym, ap, ◌∙◌, subst, append-nil}
-use Rattle.channel_steps.proofs.every_run.Words.{Queue, IsShut, IsDrained, Channel, ChannelAsk, Mark, Append, Take, TakeDisplaced, Replace, Close, Spent, Once, ActiveCall, Configuration, Steps, does, gone_by, came_by, Next, IsRun, NextConfiguration, Entry, Step, IsStill, GivesMessage, Replies, KnowsTheEnd, GetsNothing, StaysOver, EndIsForGood, EndIsKnown, NothingComesAfterTheEnd, StillDeeds}
+use Rattle.channel_steps.proofs.every_run.Words.{Queue, IsShut, IsDrained, Channel, Spent, Once, ActiveCall, Configuration, Steps, does, Next, IsRun, NextConfiguration, Entry, Step, IsStill, GivesMessage, Replies, KnowsTheEnd, GetsNothing, StaysOver, EndIsForGood, EndIsKnown, NothingComesAfterTheEnd, StillDeeds}
 use Rattle.channel_steps.specs.declared.run.Step.TheVariants as step
 use Rattle.channel_steps.specs.every_run.Ends.{Each}
 use Rattle.channel_steps.proofs.Interface.{run_so}

@@ -1,6 +1,6 @@
 -- Who tells all of a list has closed the channel, and it is closed.
-use Rattle.std.proofs.Common.{◌≡◌, ℕ, zero, suc, List, [], ◌∷◌, ◌++◌, Option, ◌⊎◌, inl, inr, refl, sym, ap, ◌∙◌, subst}
-use Rattle.channel_steps.proofs.every_run.Words.{Phase, QueueMark, mark_of_queue, Channel, Effect, queued, Moves, Mark, Append, Replace, Close, Reply, Closer, Line, Sends, Receives, Streams, Closings, Stage, Trying, Working, Finished, TellAll, ToldAt, MarkedMoment, with_marked, Shut, Telling, all_from, one_of, more_of, all_of, owed_for, owed_takings, takings, owed_besides, HasClosed, HasToTell, IsStill, Queue, after, IsShut}
+use Rattle.std.proofs.Common.{◌≡◌, ℕ, zero, suc, List, [], ◌∷◌, ◌++◌, Option, ◌⊎◌, inl, inr, refl, subst}
+use Rattle.channel_steps.proofs.every_run.Words.{Phase, QueueMark, mark_of_queue, Channel, Effect, Moves, Mark, Append, Replace, Close, Reply, Closer, Line, Sends, Receives, Streams, Closings, Stage, Working, TellAll, ToldAt, MarkedMoment, with_marked, Shut, Telling, all_from, one_of, more_of, all_of, owed_for, owed_takings, takings, owed_besides, HasClosed, HasToTell, IsStill, Queue, after, IsShut}
 use Rattle.concurrent_queue.specs.declared.call.QueueMark.TheVariants as queue
 use Rattle.channel_calls.specs.declared.mark.Mark.TheVariants.{Nothing}
 use Rattle.channel_steps.specs.Tellings.{owed}

@@ -1,6 +1,6 @@
 -- How those who were told were told, over runs.
 use Rattle.std.proofs.Common.{◌≡◌, ℕ, Bool, true, false, List, Option, ◌⊎◌, inl, inr, refl, sym, ◌∙◌, subst}
-use Rattle.channel_steps.proofs.every_run.Words.{Phase, Key, Channel, Effect, tells_all, Moves, ChannelAsk, Reply, Line, Sends, Receives, Streams, Closings, Stage, Working, TellReceive, TellStreams, TellSend, TellSends, TellAll, ToldAt, MarkedMoment, Open, Shut, Configuration, Steps, Known, Telling, Next, Begins, new_configuration, Entry, Step, HasClosed, LooksAgain, MayBeTold, IsOneByOne, EachTold, AnyTold, told_of, TellingsSound, TellingsStayFit, TellingsAlwaysFit, Waits, Any}
+use Rattle.channel_steps.proofs.every_run.Words.{Phase, Key, Channel, Effect, tells_all, Moves, ChannelAsk, Reply, Line, Sends, Receives, Streams, Stage, Working, TellReceive, TellStreams, TellSend, TellSends, TellAll, ToldAt, MarkedMoment, Open, Shut, Configuration, Steps, Known, Telling, Next, Begins, new_configuration, Entry, Step, HasClosed, LooksAgain, MayBeTold, IsOneByOne, EachTold, AnyTold, told_of, TellingsSound, TellingsStayFit, TellingsAlwaysFit, Waits, Any}
 use Rattle.channel_calls.specs.declared.mark.Mark.TheVariants as mark
 use Rattle.channel_steps.specs.declared.run.Step.TheVariants as step
 use Rattle.channel_steps.proofs.Interface.{known_next}

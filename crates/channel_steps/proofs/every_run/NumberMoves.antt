@@ -1,5 +1,5 @@
 -- How many messages there are after a step of the queue's call, and what the call counts for by its turn.
-use Rattle.std.proofs.Common.{◌≡◌, ℕ, ◌+◌, ◌≤◌, Bool, [], ◌∷◌, ◌++◌, length, drop, Option, None, Some, refl, ap, ◌∙◌, arith, length-append}
+use Rattle.std.proofs.Common.{◌≡◌, ℕ, ◌+◌, ◌≤◌, [], ◌∷◌, ◌++◌, length, drop, Option, None, Some, refl, ap, ◌∙◌, arith, length-append}
 use Rattle.channel_steps.proofs.every_run.Words.{Queue, Phase, trying, displaced, appended, taken, asked, marked, is_displaced, ContinuesPush, ContinuesForce, ContinuesPop, ContinuesBy, AnswersTo, QueueAsk, QueueMark, Nothing, QueueReply, Key, Turned, ChannelAsk, Reply, Line, Stage, Trying, Working, Turn, Tries, Works, Ends, is_trying, is_trying_anew, has_appended, has_taken, has_displaced}
 use Rattle.concurrent_queue.specs.Queue as queue
 use Rattle.concurrent_queue.specs.declared.call.QueueAsk.TheVariants as ask

@@ -1,8 +1,6 @@
 -- What a reply that says the end, and one that gives a message, say of their call.
-use Rattle.std.proofs.Common.{◌≡◌, List, [], ◌∷◌, ◌++◌, length, Option, None, Some, Ok, Err, ◌⊎◌, inl, inr, sym, subst}
-use Rattle.channel_steps.proofs.every_run.Words.{is_filled, Ready, Channel, count, ChannelAsk, Mark, Append, Take, Replace, SenderUp, SenderDown, ReceiverUp, ReceiverDown, Reply, Kept, Line, Sends, Receives, Streams, Closings, MarkedMoment, with_marked, Spent, Once, Took, TookAll, Replaced, Displaced, Row, ActiveCall, MayFinish, refused_reply, TrySend, ForceSend, TryRecv, RecvMany, PollSend, PollRecv, PollClosed, PollNext, RefusePoll, CloneHandle, Upgrade, HandleCount, IsClosed, IsEmpty, IsFull, Len, Capacity, IsTerminated, RecvError, TrySendRow, ForceSendRow, TryRecvRow, SeveralRow, SendPollRow, RecvPollRow, ClosedPollRow, NextRow, CloseRow, CloneRow, UpgradeRow, FlagRow, CountRow, CapacityRow, TerminatedRow, is_empty, StillDeeds, IsStill, SaysTheEnd, GivesMessage, Replies, DropSender, DropReceiver, PollFinishedSend, GiveUp, SendIsTerminated, SameChannel, Make, DropWeak}
-use Rattle.event_listener.specs.declared.error.ListenError.TheVariants as listen_error
-use Rattle.channel_calls.specs.declared.ask.ChannelAsk.TheVariants.{Close}
+use Rattle.std.proofs.Common.{◌≡◌, List, [], ◌∷◌, ◌++◌, Option, None, Some, Ok, Err, ◌⊎◌, inl, inr, sym, subst}
+use Rattle.channel_steps.proofs.every_run.Words.{Ready, Channel, ChannelAsk, Mark, Append, Take, Replace, SenderUp, SenderDown, ReceiverUp, ReceiverDown, Reply, Kept, Sends, MarkedMoment, with_marked, Spent, Once, Took, TookAll, Replaced, Displaced, Row, ActiveCall, MayFinish, ForceSend, TryRecv, RecvMany, PollRecv, PollNext, RefusePoll, StillDeeds, IsStill, SaysTheEnd, GivesMessage, Replies, DropSender, DropReceiver, PollFinishedSend, GiveUp, SendIsTerminated, SameChannel, Make, DropWeak}
 use Rattle.channel_calls.specs.declared.error.Refused.TheVariants as refused
 use Rattle.channel_calls.specs.declared.error.TryRecvError.TheVariants as try_recv_error
 use Rattle.channel_calls.specs.declared.error.TrySendError.TheVariants as try_send_error

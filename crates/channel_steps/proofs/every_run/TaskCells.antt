@@ -1,7 +1,7 @@
 -- Other tasks put for those of a channel's lists: each deed does to them what it did, with these tasks.
 use Rattle.std.proofs.Common.{◌≡◌, ℕ, zero, suc, ◌+◌, ◌-◌, Bool, true, false, not, if◌then◌else◌, List, [], ◌∷◌, ◌++◌, map, Option, None, Some, Result, Ok, Err, option_map, refl, sym, ap, subst, ◌∙◌}
 use Rattle.std.proofs.lemmas.List.{map-append}
-use Rattle.channel_steps.proofs.every_run.Words.{Notice, kind_of, listened, registration, removed, removed_wakes, told_with, Woken, Key, ListenError, Deed, stepped, inserted, registered, taken_off, one_told, more_told, all_told, counted, lowered, raised, Done, Does, Parts, Listeners, Roster, with_roster, listeners, with_listeners, count, with_count, is_raised, told_one, told_one_wakes, told_more, told_more_wakes, told_all, told_all_wakes, waits, Line, Sends, Receives, Streams, Closings, Side, Senders, Receivers, woken_by, OnList, Registers, WakesSo, WakesFor, listeners_by, roster_by, parts_by, deed_by}
+use Rattle.channel_steps.proofs.every_run.Words.{Notice, kind_of, listened, registration, removed, removed_wakes, told_with, Woken, Key, ListenError, Deed, stepped, inserted, registered, taken_off, one_told, more_told, all_told, counted, lowered, raised, Done, Does, Parts, Listeners, Roster, with_roster, listeners, with_listeners, count, with_count, is_raised, told_one, told_one_wakes, told_more, told_more_wakes, told_all, told_all_wakes, waits, Line, Sends, Side, Senders, Receivers, woken_by, OnList, Registers, WakesSo, WakesFor, listeners_by, roster_by, parts_by, deed_by}
 use Rattle.channel_steps.proofs.every_run.TaskLists.{by, told_by, tasks_by, kind_by, listened_by, registration_by, passed_by, passed_wakes_by, removed_by, removed_wakes_by}
 
 module _ {W V : Type 0} (put : W → V) where

@@ -1,6 +1,6 @@
 -- What a channel's words say, of what its cells and its calls under way show.
 use Rattle.std.proofs.Common.{◌≡◌, ℕ, ◌<◌, List, [], ◌∷◌, ◌++◌, map, length, None, Some, slice_get, ◌⊎◌, ⊎_elim, inl, inr, refl, sym, ap, ◌∙◌, subst}
-use Rattle.channel_steps.proofs.every_run.Words.{Contents, slot_at, Queue, Phase, appended, message, Seat, HasBrought, QueueAsk, QueueForm, Slot, CallState, QueueCall, Channel, Parts, ChannelAsk, Aim, Sends, Receives, Streams, Closings, Stage, Trying, Working, Finished, TriesFor, TryAt, TriesAt, StageAt, ToldAt, MarkedMoment, Appended, Replaced, Displaced, ActiveCall, Configuration, ActiveCallWitness, MayHave, Known, AllKnown, Represents, active_call_of, brought, Telling, Party, phases, closed_in, length_in, items_in, seats, phase, all_seats, IsInState, SomeCall, ChainBy, IsAtQueue, HasLetIn, IsWith, IsWithOne, WordsSay}
+use Rattle.channel_steps.proofs.every_run.Words.{Contents, slot_at, Queue, Phase, appended, message, Seat, HasBrought, QueueAsk, QueueForm, Slot, CallState, QueueCall, Channel, Parts, ChannelAsk, Aim, Stage, Trying, Working, Finished, TriesFor, TryAt, TriesAt, StageAt, ToldAt, MarkedMoment, Appended, Replaced, Displaced, ActiveCall, Configuration, ActiveCallWitness, MayHave, Known, AllKnown, Represents, active_call_of, brought, Telling, Party, phases, closed_in, length_in, items_in, seats, phase, all_seats, IsInState, SomeCall, ChainBy, IsAtQueue, HasLetIn, IsWith, IsWithOne, WordsSay}
 use Rattle.concurrent_queue.specs.Step.{slot_in}
 use Rattle.concurrent_queue.specs.Step.{FitsAt}
 use Rattle.concurrent_queue.specs.Queue as queue

@@ -1,5 +1,5 @@
 -- A call that is stepped to its end with nobody else at work, from the contract of a step alone.
-use Rattle.channel_steps.proofs.solo.Words.{◌≡◌, ℕ, ◌+◌, ◌*◌, ◌<◌, ◌≤◌, List, [], ◌∷◌, ◌++◌, append_assoc, Option, None, Some, ◌⊎◌, inl, inr, refl, sym, ap, ◌∙◌, subst, arith, Queue, Phase, asked, after, Continues, Answers, IsInRange, Fits, rank, QueueCall, QueueAsk, QueueMark, QueueReply, shows, IsIdle, Comes, Does, does, Woken, ChannelAsk, Mark, Reply, Aim, Kept, Stage, Trying, Working, Finished, Turn, Tries, Works, Ends, Work, Parts, Roster, answered_next, kept_by, Channel, Effect, channel, Turned, Tried, seats, phase, IsTaken, Hastens, Made, IsStepOver, Outcome, Alone, after_waking, answers, HasNextPosition, steps_left}
+use Rattle.channel_steps.proofs.solo.Words.{◌≡◌, ℕ, ◌+◌, ◌<◌, ◌≤◌, List, [], ◌∷◌, ◌++◌, append_assoc, Option, None, Some, ◌⊎◌, inl, inr, refl, sym, ap, ◌∙◌, subst, arith, Queue, Phase, asked, after, Continues, Answers, IsInRange, Fits, QueueCall, QueueAsk, QueueMark, QueueReply, shows, IsIdle, Comes, Does, does, Woken, ChannelAsk, Mark, Reply, Aim, Kept, Stage, Trying, Working, Finished, Turn, Tries, Works, Ends, Work, Parts, Roster, answered_next, kept_by, Channel, Effect, channel, Turned, Tried, seats, phase, Made, IsStepOver, Outcome, Alone, after_waking, answers, HasNextPosition, steps_left}
 use Rattle.channel_steps.proofs.solo.TryFacts.{brought_by, brought_by_is, left_by, Found, tries_start, tries_on, tries_end}
 use Rattle.channel_steps.proofs.LeftFacts.{IsAtWork, step_lessens}
 use Rattle.channel_steps.proofs.StageFacts.{phase_try, phase_work, phase_end}

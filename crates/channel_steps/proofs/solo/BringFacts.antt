@@ -1,5 +1,5 @@
 -- How long a call that is alone at work may still bring a message.
-use Rattle.channel_steps.proofs.solo.Words.{◌≡◌, true, Option, None, Some, Ok, subst, Phase, QueueReply, Reply, Aim, Closer, Ending, Held, Line, Sends, Receives, Streams, Closings, Stage, Trying, Working, Finished, Turn, Work, TellReceive, TellStreams, TellSend, TellSends, TellAll, Leave, Count, ends_by, closer_ending, told_all_next, answered_next, Channel, Effect, Turned, Worked}
+use Rattle.channel_steps.proofs.solo.Words.{◌≡◌, true, Option, None, Some, Ok, subst, Phase, QueueReply, Reply, Aim, Closer, Ending, Held, Line, Sends, Closings, Stage, Working, Finished, Turn, Work, TellReceive, TellStreams, TellSend, TellSends, TellAll, Leave, Count, ends_by, closer_ending, told_all_next, answered_next, Channel, Effect, Turned, Worked}
 use Rattle.concurrent_queue.specs.declared.call.QueueReply.TheVariants as answer
 use Rattle.channel_calls.specs.declared.stage.Aim.TheVariants as aim
 use Rattle.channel_steps.proofs.solo.TryFacts.{brought_by}

@@ -1,5 +1,5 @@
 -- The first turn of a call that is alone at work.
-use Rattle.channel_steps.proofs.solo.Words.{◌≡◌, Bool, true, false, if◌then◌else◌, [], ◌++◌, Option, None, Some, refl, sym, ap, ◌∙◌, subst, Contents, Queue, Phase, asked, Fits, QueueCall, Key, ChannelAsk, TrySend, ForceSend, TryRecv, RecvMany, Close, PollSend, PollFinishedSend, PollRecv, PollClosed, PollNext, RefusePoll, GiveUp, DropSender, DropReceiver, CloneHandle, Upgrade, HandleCount, IsClosed, IsEmpty, IsFull, Len, Capacity, IsTerminated, SendIsTerminated, SameChannel, Make, DropWeak, Reply, Stage, Turn, Tries, Works, Ends, Waiting, again, asks_listener, first, Channel, Turned, seats, phase, IsTaken, Outcome, Where, PollsSend, PollsReceive, AsksListener, Alone}
+use Rattle.channel_steps.proofs.solo.Words.{◌≡◌, Bool, true, false, if◌then◌else◌, [], ◌++◌, Option, None, Some, refl, sym, ap, ◌∙◌, subst, Contents, Queue, Phase, asked, Fits, QueueCall, Key, ChannelAsk, RecvMany, PollSend, PollFinishedSend, PollRecv, PollNext, RefusePoll, GiveUp, DropSender, DropReceiver, CloneHandle, HandleCount, SendIsTerminated, SameChannel, Make, DropWeak, Reply, Stage, Turn, Tries, Works, Ends, Waiting, again, asks_listener, first, Channel, Turned, seats, phase, IsTaken, Outcome, Where, PollsSend, PollsReceive, AsksListener, Alone}
 use Rattle.concurrent_queue.specs.declared.call.QueueAsk.TheVariants as ask
 use Rattle.channel_calls.specs.declared.stage.Waiting.TheVariants as waiting
 use Rattle.channel_steps.proofs.solo.Rest.{RestTurn}
