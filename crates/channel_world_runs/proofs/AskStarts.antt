@@ -2,6 +2,7 @@
 use Rattle.std.proofs.Common.{◌≡◌, Bool, true, false, if◌then◌else◌, Option, None, Some, inl, inr, refl, sym, ap, ◌∙◌, subst}
 use Rattle.std.specs.Option.{option_map}
 use Rattle.concurrent_queue.specs.Queue.{Phase, asked}
+use Rattle.concurrent_queue.specs.declared.call.QueueAsk.TheVariants as queue
 use Rattle.event_listener.specs.declared.key.Key.{Key}
 use Rattle.channel_calls.specs.Asks.{asks_listener, first}
 use Rattle.channel_calls.specs.Moves.{Turned}
@@ -102,13 +103,13 @@ module _ {T W : Type 0} where
 
   abbrev TurnStarts : ChannelAsk T W → Turn T W → Type 0
   TurnStarts a (Tries x aim) = (p : Phase T) → Starts a (Trying p aim)
-  TurnStarts a (Works w) = Starts a (Working w)
+  TurnStarts a (Works w) = (p : Phase T) → Starts a (Working w)
   TurnStarts a (Ends x kept) = ⊥
 
   taken : (a : ChannelAsk T W) (t : Turn T W) (r : Option (Reply T)) (s : Stage (Phase T) T W) → Turned t r s
       → TurnStarts a t → Starts a s
   taken a (Tries x aim) r s h k = subst (λ (z : Stage (Phase T) T W). Starts a z) (sym h.1) (k (asked x))
-  taken a (Works w) r s h k = subst (λ (z : Stage (Phase T) T W). Starts a z) (sym h.1) k
+  taken a (Works w) r s h k = subst (λ (z : Stage (Phase T) T W). Starts a z) (sym h.1) (k (asked queue.Pop))
   taken a (Ends x kept) r s h k = absurd k
 
   polled_turn : (a : ChannelAsk T W) (w : Waiting T) (b : Bool) (key : Option Key) (task : W) → ask_holds a ≡ held_on (waits_on w) key → wait_of a ≡ Some (waits_on w, task)
@@ -116,7 +117,7 @@ module _ {T W : Type 0} where
       → TurnStarts a (if b then asks_listener w key task else again w key task)
   polled_turn a w false key task h e lowers raises = λ p. (sym h, (waits_on w, e), lowers, raises)
   polled_turn a w true None task h e lowers raises = λ p. (sym h, (waits_on w, e), lowers, raises)
-  polled_turn a w true (Some key) task h e lowers raises = (sym h, (waits_on w, e), lowers, raises)
+  polled_turn a w true (Some key) task h e lowers raises = λ p. (sym h, (waits_on w, e), lowers, raises)
 
   first_turn : (a : ChannelAsk T W) → TurnStarts a (first a)
   first_turn (ask.PollSend m l task) =
@@ -126,18 +127,6 @@ module _ {T W : Type 0} where
   first_turn (ask.PollNext key task) =
       polled_turn (ask.PollNext key task) waiting.Stream true key task refl refl (λ side. refl) (λ side. refl)
   first_turn (ask.PollClosed key task) = λ p. (refl, (Closings, refl), λ side. refl, λ side. refl)
-  first_turn ask.PollFinishedSend = (refl, tt, λ side. refl, λ side. refl)
-  first_turn (ask.RecvMany n) = (refl, tt, λ side. refl, λ side. refl)
-  first_turn (ask.RefusePoll line message key) = (refl, tt, λ side. refl, λ side. refl)
-  first_turn (ask.GiveUp line message key) = (refl, tt, λ side. refl, λ side. refl)
-  first_turn ask.DropSender = (refl, tt, λ side. refl, λ side. refl)
-  first_turn (ask.DropReceiver key) = (refl, tt, λ side. refl, λ side. refl)
-  first_turn (ask.CloneHandle s) = (refl, tt, λ side. refl, λ side. refl)
-  first_turn (ask.HandleCount s) = (refl, tt, λ side. refl, λ side. refl)
-  first_turn (ask.SendIsTerminated b) = (refl, tt, λ side. refl, λ side. refl)
-  first_turn (ask.SameChannel b) = (refl, tt, λ side. refl, λ side. refl)
-  first_turn ask.Make = (refl, tt, λ side. refl, λ side. refl)
-  first_turn ask.DropWeak = (refl, tt, λ side. refl, λ side. refl)
   first_turn a = λ p. (refl, tt, λ side. refl, λ side. refl)
 
   pub starts : (a : ChannelAsk T W) (r : Option (Reply T)) (s : Stage (Phase T) T W) → Turned (first a) r s → Starts a s

@@ -201,7 +201,9 @@ module _ {T : Type 0} where
     enough = let c = was.counts in let w = tally_was (λ at. is_lowering side at) in omega (arith, c, w)
 
     pub turned : Turns T Waiter side st.mine.at (count side s.now.roster) r st.at_now (count side t.now.roster)
-    turned = turns T Waiter side s.now st.mine.at effect r st.at_now enough st.moves
+    turned =
+        let k = own_known in
+        turns T Waiter side s.now st.mine.ask st.mine.at effect r st.at_now st.mine.marks st.mine.seen k.stands enough st.moves
 
     -- no less than before, unless it is lowered
     no_less : (x : Option (Reply T)) → Turns T Waiter side st.mine.at (count side s.now.roster) x st.at_now (count side t.now.roster)

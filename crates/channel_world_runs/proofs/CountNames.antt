@@ -25,7 +25,7 @@ use Rattle.channel_world_runs.specs.declared.names.Operation.{Operation}
 use Rattle.channel_world_runs.specs.declared.names.PollState.{PollState}
 use Rattle.channel_world_runs.specs.declared.names.PollState.TheVariants.{Rests, Waits, IsPolled}
 use Rattle.channel_world_runs.specs.declared.name_table.NameTable.{NameTable}
-use Rattle.channel_world_runs.proofs.RefusalLemmas.{and_true}
+use Rattle.channel_world_runs.proofs.RefusalLemmas.{and_true, and_false}
 use Rattle.channel_world_runs.proofs.OwnerNames.{found, handle_entry_status, given_back_same}
 
 -- one where it passes
@@ -101,10 +101,6 @@ vacant_is : (o : Option (Option HandleEntry)) → status_by handle_entry_status 
 vacant_is None e = absurd (is_vacant free e)
 vacant_is (Some None) e = (None, refl, λ side. refl)
 vacant_is (Some (Some h)) e = absurd (not_vacant h.handle.kind h.poll_state (is_vacant (handle_entry_status h) e))
-
-pub and_false : (b : Bool) → (b && false) ≡ false
-and_false true = refl
-and_false false = refl
 
 module _ {T : Type 0} where
   -- a handle that is changed is of the same kind

@@ -302,11 +302,11 @@ module _ (T W : Type 0) where
 
     lowers : (side : Side) (key : Option Key) (n : ℕ)
         → Has T W (work_holds {T = T} {W = W} (Lower side key)) None (lowered_next side key n)
-    lowers Senders key n = lowered_has T W Senders key n None
-    lowers Receivers key n = lowered_has T W Receivers key n None
+    lowers Senders key n = (lowered_has T W Senders key n None).0
+    lowers Receivers key n = (lowered_has T W Receivers key n None).0
 
     roomed : (n : ℕ) (r : Option (Reply T)) (s : Stage (Phase T) T W) → TakesRoomFor n r s → Out (Working (TakeRoom n)) r s (untouched c)
-    roomed n r s (inl t) = on_it_goes (Working (TakeRoom n)) r s (untouched c) (room_next n) (still c.roster [] None) t (room_has T W n)
+    roomed n r s (inl t) = on_it_goes (Working (TakeRoom n)) r s (untouched c) (room_next n) (still c.roster [] None) t (room_has T W n).0
     roomed n r s (inr t) = on_it_goes (Working (TakeRoom n)) r s (untouched c) roomless (still c.roster [] None) t.1 (refl, refl)
 
     works : (w : Work T W) (e : Effect T W) (r : Option (Reply T)) (s : Stage (Phase T) T W) (ds : List (MarkedMoment T W))
@@ -321,23 +321,23 @@ module _ (T W : Type 0) where
         as_it (Working (TellStreams y)) r s e _ h.0
         (on_it_goes (Working (TellStreams y)) r s _ _
         (tells Streams (told_all (listeners Streams c.roster)) (told_all_wakes (listeners Streams c.roster)) c.roster y.held
-        (list.all_told Streams (listeners Streams c.roster) y.held)) h.1 (ends_has T W y None))
+        (list.all_told Streams (listeners Streams c.roster) y.held)) h.1 (ends_has T W y None).0)
     works (TellSend y) e r s ds seen k b h =
         as_it (Working (TellSend y)) r s e _ h.0
         (on_it_goes (Working (TellSend y)) r s _ _
         (tells Sends (told_one (listeners Sends c.roster)) (told_one_wakes (listeners Sends c.roster)) c.roster y.held
-        (list.one_told Sends (listeners Sends c.roster) y.held)) h.1 (ends_has T W y None))
+        (list.one_told Sends (listeners Sends c.roster) y.held)) h.1 (ends_has T W y None).0)
     works (TellSends n y) e r s ds seen k b h =
         as_it (Working (TellSends n y)) r s e _ h.0
         (on_it_goes (Working (TellSends n y)) r s _ _
         (tells Sends (told_more n (listeners Sends c.roster)) (told_more_wakes n (listeners Sends c.roster)) c.roster y.held
-        (list.more_told Sends n (listeners Sends c.roster) y.held)) h.1 (ends_has T W y None))
+        (list.more_told Sends n (listeners Sends c.roster) y.held)) h.1 (ends_has T W y None).0)
     works (TakeRoom n) e r s ds seen k b h = as_it (Working (TakeRoom n)) r s e _ h.0 (roomed n r s h.1)
     works (TellAll line closer) e r s ds seen k b h =
         as_it (Working (TellAll line closer)) r s e _ h.0
         (on_it_goes (Working (TellAll line closer)) r s _ _
         (tells line (told_all (listeners line c.roster)) (told_all_wakes (listeners line c.roster)) c.roster _
-        (list.all_told line (listeners line c.roster) _)) h.1 (told_all_has T W line closer None))
+        (list.all_told line (listeners line c.roster) _)) h.1 (told_all_has T W line closer None).0)
     works (Insert w task) e r s ds seen k b h = inserts w task k.0 e r s h
     works (Register w key task) e r s ds seen k b h =
         as_it (Working (Register w key task)) r s e _ h.0
@@ -354,7 +354,7 @@ module _ (T W : Type 0) where
         (still c.roster [] None) h.1 (refl, refl))
     works (Load side making) e r s ds seen k b h = as_it (Working (Load side making)) r s e _ h.0
         (on_it_goes (Working (Load side making)) r s (untouched c) _ (still c.roster [] None) h.1
-        (loaded_has T W side making (count side c.roster)))
+        (loaded_has T W side making (count side c.roster)).0)
     works (Raise side n making) e r s ds seen k b h =
         as_it (Working (Raise side n making)) r s e _ h.0
         (on_it_goes (Working (Raise side n making)) r s _ _ (raised (is_raised side n c.roster) side n None) h.1
@@ -386,6 +386,6 @@ module _ (T W : Type 0) where
         tried (inr g) =
             as_it (Trying f aim) r s e (queued f h.mark c) h.effect
             (on_it_goes (Trying f aim) r s (queued f h.mark c) _ (still c.roster [] (holding (Trying f aim))) g.2
-            (answered_has T W c.queue x aim f.ask h.mark g.0 f.stage ds seen k.0 g.1))
+            (answered_has T W f c.queue x aim f.ask h.mark g.0 f.stage ds seen k.0 g.1).0)
     turnout (Working w) e r s ds seen k b h = works w e r s ds seen k b h
     turnout (Finished kept) e r s ds seen k b h = absurd k

@@ -145,6 +145,11 @@ told_status invalid = invalid
 told_status (rests line) = rests line
 told_status (polled line) = polled line
 
+-- a waking makes nobody polled
+pub told_polled : (x : NameStatus) (line : Line) → told_status x ≡ polled line → x ≡ polled line
+told_polled (waits h b) line e = absurd (let no : waits h true ≡ polled line = e in cc)
+told_polled x line e = e
+
 told_on : (line : Line) (s : PollState) → status_on line (told s) ≡ told_status (status_on line s)
 told_on line Rests = refl
 told_on line x = refl

@@ -27,7 +27,7 @@ use Rattle.channel_world_runs.proofs.OwnerEnds.{IsCalm, Comes}
 use Rattle.channel_world_runs.proofs.OwnerKeys.{on}
 use Rattle.channel_world_runs.proofs.OwnerLists.{none_parts}
 use Rattle.channel_world_runs.proofs.OwnerMoves.{line_or}
-use Rattle.channel_world_runs.proofs.OwnerNames.{told_status, MayBeTold, all_told}
+use Rattle.channel_world_runs.proofs.OwnerNames.{told_polled, MayBeTold, all_told}
 use Rattle.channel_world_runs.proofs.OwnerOrderNames.{stays_among, once_without, all_stay, once_moved}
 use Rattle.channel_world_runs.proofs.OwnerOrderWakes.{at_line, NotOn, keyless, key_on, keys_are, key_of_one, woken_elsewhere, AreOwn, HavePlaces, woken_here}
 use Rattle.channel_world_runs.proofs.OwnerOrderWithin.{within_both, within_self, within_cut, gathered, gathered_same, gathered_fewer}
@@ -39,10 +39,6 @@ use Rattle.channel_world_runs.proofs.OwnerWokenMoves.{TellsInTurn, follows}
 use Rattle.channel_world_runs.proofs.OwnerWokenLists.{waited, key_of_entry}
 
 -- ---- statuses
-
-told_polled : (x : NameStatus) (line : Line) → told_status x ≡ polled line → x ≡ polled line
-told_polled (waits k c) line e = absurd (let no : waits k true ≡ polled line = e in cc)
-told_polled x line e = e
 
 pub busy_keyless : (line : Line) (x : NameStatus) → IsBusy x → woken_key line x ≡ []
 busy_keyless line x b = keyless line x (λ h c e same. busy_waits x h c b e)

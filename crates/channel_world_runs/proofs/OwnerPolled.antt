@@ -18,17 +18,12 @@ use Rattle.channel_world_runs.proofs.OwnerBegins.{Admitted}
 use Rattle.channel_world_runs.proofs.OwnerCalls.{BeginsSo, begins_so}
 use Rattle.channel_world_runs.proofs.OwnerEnds.{IsCalm, Comes}
 use Rattle.channel_world_runs.proofs.OwnerLists.{among_left, among_right, among_of}
-use Rattle.channel_world_runs.proofs.OwnerNames.{waiter_or, told_status, MayBeTold, all_told}
+use Rattle.channel_world_runs.proofs.OwnerNames.{told_polled, waiter_or, MayBeTold, all_told}
 use Rattle.channel_world_runs.proofs.OwnerRuns.{IsAfter, ended_as, parts, set, inner}
 use Rattle.channel_world_runs.proofs.OwnerSteps.{first_calm}
 
 calm_polled : (x : NameStatus) (line : Line) → IsCalm x → x ≡ polled line → ⊥
 calm_polled x line h e = subst (λ (p : NameStatus). IsCalm p) e h
-
--- a waking makes nobody polled
-told_polled : (x : NameStatus) (line : Line) → told_status x ≡ polled line → x ≡ polled line
-told_polled (waits h b) line e = absurd (let no : waits h _ ≡ polled line = e in cc)
-told_polled x line e = e
 
 module _ {T : Type 0} where
   pub polled_first : (b : NameState T) → b.name_table ≡ first_name_table → PolledAtWork b

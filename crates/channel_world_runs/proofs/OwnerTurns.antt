@@ -1,9 +1,9 @@
--- What a call has in hand after it takes a turn.
+-- What a call has in hand after it takes a turn, and what it is to do to the counts.
 use Rattle.channel_calls.specs.Several.{Gathered, with_last}
 use Rattle.channel_calls.specs.declared.error.TryRecvError.{TryRecvError}
 use Rattle.channel_calls.specs.declared.error.TryRecvError.TheVariants as try_recv_error
-use Rattle.std.proofs.Common.{◌≡◌, ℕ, zero, suc, List, [], ◌∷◌, ◌++◌, ◌==◌, Bool, true, false, if◌then◌else◌, nat_lt, Option, None, Some, Ok, Err, ◌⊎◌, inl, inr, refl}
-use Rattle.concurrent_queue.specs.Queue.{Queue, Stage, AnswersPush, AnswersPop, AnswersClose, AnswersShut, AnswersTo}
+use Rattle.std.proofs.Common.{◌≡◌, ℕ, zero, suc, List, [], ◌∷◌, ◌++◌, ◌==◌, Bool, true, false, ◌&&◌, if◌then◌else◌, nat_lt, Option, None, Some, Ok, Err, ◌⊎◌, inl, inr, refl}
+use Rattle.concurrent_queue.specs.Queue.{Phase, asked, Queue, Stage, AnswersPush, AnswersPop, AnswersClose, AnswersShut, AnswersTo}
 use Rattle.concurrent_queue.specs.declared.call.QueueAsk.{QueueAsk}
 use Rattle.concurrent_queue.specs.declared.call.QueueAsk.TheVariants as queue
 use Rattle.concurrent_queue.specs.declared.call.QueueMark.{QueueMark}
@@ -31,14 +31,20 @@ use Rattle.channel_calls.specs.declared.stage.Line.TheVariants.{Sends, Receives,
 use Rattle.channel_calls.specs.declared.stage.Making.{Making}
 use Rattle.channel_calls.specs.declared.stage.Making.TheVariants as making
 use Rattle.channel_calls.specs.declared.stage.Side.{Side}
+use Rattle.channel_calls.specs.Marks.{is_made}
+use Rattle.channel_calls.specs.declared.stage.Stage as stage
+use Rattle.channel_calls.specs.declared.stage.Stage.TheVariants.{Trying, Working}
 use Rattle.channel_calls.specs.declared.stage.Turn.{Turn}
 use Rattle.channel_calls.specs.declared.stage.Turn.TheVariants.{Tries, Works, Ends}
 use Rattle.channel_calls.specs.declared.stage.Waiting.{Waiting}
 use Rattle.channel_calls.specs.declared.stage.Waiting.TheVariants as waiting
+use Rattle.channel_calls.specs.declared.stage.Work.{Work}
 use Rattle.channel_calls.specs.declared.stage.Work.TheVariants.{Leave}
 use Rattle.channel_calls.specs.declared.stage.Work.TheVariants as work
 use Rattle.channel_steps.specs.Known.{TriesFor}
+use Rattle.channel_world_runs.specs.Counted.{same_side, is_lowering, is_raising}
 use Rattle.channel_world_runs.specs.Owners.{closer_holds, aim_holds, aim_task, work_holds, work_task}
+use Rattle.channel_world_runs.proofs.RefusalLemmas.{and_false}
 
 module _ {W : Type 0} where
   -- the task is this, or none
@@ -87,48 +93,67 @@ module _ (T W : Type 0) where
   Has h task (Works w) = (work_holds w ≡ h) × MayBear (work_task w) task
   Has h task (Ends x kept) = (h ≡ None) × (kept.key ≡ None)
 
-  ends_or : (e : Ending T) (o : Option Held) (task : Option W) → e.held ≡ o → Has o task (elim o [ None ↦ Ends e.reply (leaving None e.message) | Some held ↦ Works (Leave e) ])
-  ends_or e None task same = (refl, refl)
-  ends_or e (Some h) task same = (same, inl refl)
+  abbrev works_at : Work T W → stage.Stage (Phase T) T W
+  works_at w = Working w
 
-  pub ends_has : (e : Ending T) (task : Option W) → Has e.held task (ends_by e)
+  abbrev tries_at : QueueAsk T → Aim T W → stage.Stage (Phase T) T W
+  tries_at x a = Trying (asked x) a
+
+  -- it is to lower no count, and may raise the count of this side if it might before; where it ends it makes no handle of this side
+  abbrev pub Stays : Side → Bool → Turn T W → Type 0
+  Stays side may (Tries x a) = is_raising side (tries_at x a) ≡ may
+  Stays side may (Works w) = (is_lowering side (works_at w) ≡ false) × (is_raising side (works_at w) ≡ may)
+  Stays side may (Ends y kept) = (may && is_made (Some y)) ≡ false
+
+  -- both; it may raise the count of these sides
+  abbrev pub Goes : Option Held → Option W → (Side → Bool) → Turn T W → Type 0
+  Goes h task may t = Has h task t × ((side : Side) → Stays side (may side) t)
+
+  abbrev never : Side → Bool
+  never side = false
+
+  ends_or : (e : Ending T) (o : Option Held) (task : Option W) → e.held ≡ o → Goes o task never (elim o [ None ↦ Ends e.reply (leaving None e.message) | Some held ↦ Works (Leave e) ])
+  ends_or e None task same = ((refl, refl), λ side. refl)
+  ends_or e (Some h) task same = ((same, inl refl), λ side. (refl, refl))
+
+  pub ends_has : (e : Ending T) (task : Option W) → Goes e.held task never (ends_by e)
   ends_has e task = ends_or e e.held task refl
 
-  refused_has : (w : Waiting T) (key : Option Key) (task : W) → Has (held_on (line_of w) key) (Some task) (refused_next w key task)
-  refused_has w None task = (refl, inr refl)
-  refused_has w (Some key) task = (refl, inr refl)
+  refused_has : (w : Waiting T) (key : Option Key) (task : W) → Goes (held_on (line_of w) key) (Some task) never (refused_next w key task)
+  refused_has w None task = ((refl, inr refl), λ side. (refl, refl))
+  refused_has w (Some key) task = ((refl, inr refl), λ side. (refl, refl))
 
-  over_has : (x : Reply T) (m : Option T) (line : Line) (key : Option Key) (task : Option W) → Has (held_on line key) task (ends_by (over x m line key))
-  over_has x m line None task = (refl, refl)
-  over_has x m line (Some key) task = (refl, inl refl)
+  over_has : (x : Reply T) (m : Option T) (line : Line) (key : Option Key) (task : Option W) → Goes (held_on line key) task never (ends_by (over x m line key))
+  over_has x m line None task = ((refl, refl), λ side. refl)
+  over_has x m line (Some key) task = ((refl, inl refl), λ side. (refl, refl))
 
-  closer_has : (c : Closer) (b : Bool) (task : Option W) → Has (closer_holds c) task (ends_by (closer_ending c b))
-  closer_has (closer.Receiver (Some key)) b task = (refl, inl refl)
-  closer_has x b task = (refl, refl)
+  closer_has : (c : Closer) (b : Bool) (task : Option W) → Goes (closer_holds c) task never (ends_by (closer_ending c b))
+  closer_has (closer.Receiver (Some key)) b task = ((refl, inl refl), λ side. (refl, refl))
+  closer_has c b task = ((refl, refl), λ side. refl)
 
-  pub told_all_has : (line : Line) (c : Closer) (task : Option W) → Has (closer_holds c) task (told_all_next line c)
+  pub told_all_has : (line : Line) (c : Closer) (task : Option W) → Goes (closer_holds c) task never (told_all_next line c)
   told_all_has Closings c task = closer_has c true task
-  told_all_has x c task = (refl, inl refl)
+  told_all_has line c task = ((refl, inl refl), λ side. (refl, refl))
 
-  lowered_or : (b : Bool) (side : Side) (key : Option Key) (task : Option W) → Has (closer_holds (dropper side key)) task (if b then Tries queue.Close (aim.Close (dropper side key)) else ends_by (closer_ending (dropper side key) false))
-  lowered_or true side key task = (refl, inl refl)
+  lowered_or : (b : Bool) (side : Side) (key : Option Key) (task : Option W) → Goes (closer_holds (dropper side key)) task never (if b then Tries queue.Close (aim.Close (dropper side key)) else ends_by (closer_ending (dropper side key) false))
+  lowered_or true side key task = ((refl, inl refl), λ s. refl)
   lowered_or false side key task = closer_has (dropper side key) false task
 
-  pub lowered_has : (side : Side) (key : Option Key) (n : ℕ) (task : Option W) → Has (closer_holds (dropper side key)) task (lowered_next side key n)
+  pub lowered_has : (side : Side) (key : Option Key) (n : ℕ) (task : Option W) → Goes (closer_holds (dropper side key)) task never (lowered_next side key n)
   lowered_has side key n task = lowered_or (n == 1) side key task
 
-  counted_or : (b : Bool) (side : Side) (m : Making) (n : ℕ) → Has None None (if b then Ends reply.TooMany (leaving None None) else Works (work.Raise side n m))
-  counted_or true side m n = (refl, refl)
-  counted_or false side m n = (refl, inl refl)
+  counted_or : (b : Bool) (side : Side) (m : Making) (n : ℕ) → Goes None None (λ s. same_side s side) (if b then Ends reply.TooMany (leaving None None) else Works (work.Raise side n m))
+  counted_or true side m n = ((refl, refl), λ s. and_false (same_side s side))
+  counted_or false side m n = ((refl, inl refl), λ s. (refl, refl))
 
-  counted_has : (side : Side) (m : Making) (n : ℕ) → Has None None (counted_next side m n)
+  counted_has : (side : Side) (m : Making) (n : ℕ) → Goes None None (λ s. same_side s side) (counted_next side m n)
   counted_has side m n = counted_or (nat_lt most n) side m n
 
-  upgraded_or : (b : Bool) (side : Side) (n : ℕ) → Has None None (if b then Ends reply.NotMade (leaving None None) else counted_next side making.Upgrade n)
-  upgraded_or true side n = (refl, refl)
+  upgraded_or : (b : Bool) (side : Side) (n : ℕ) → Goes None None (λ s. same_side s side) (if b then Ends reply.NotMade (leaving None None) else counted_next side making.Upgrade n)
+  upgraded_or true side n = ((refl, refl), λ s. and_false (same_side s side))
   upgraded_or false side n = counted_has side making.Upgrade n
 
-  pub loaded_has : (side : Side) (m : Making) (n : ℕ) → Has None None (loaded_next side m n)
+  pub loaded_has : (side : Side) (m : Making) (n : ℕ) → Goes None None (λ s. same_side s side) (loaded_next side m n)
   loaded_has side making.Clone n = counted_has side making.Clone n
   loaded_has side making.Upgrade n = upgraded_or (n == 0) side n
 
@@ -138,95 +163,95 @@ module _ (T W : Type 0) where
 
   -- ---- an answer of the queue
 
-  sent_has : (x : QueueReply T) → Has None None (sent_next x)
-  sent_has (answer.Push (Ok u)) = (refl, inl refl)
-  sent_has (answer.Push (Err (push_error.Full m))) = (refl, refl)
-  sent_has x = (refl, refl)
+  sent_has : (x : QueueReply T) → Goes None None never (sent_next x)
+  sent_has (answer.Push (Ok u)) = ((refl, inl refl), λ side. (refl, refl))
+  sent_has (answer.Push (Err (push_error.Full m))) = ((refl, refl), λ side. refl)
+  sent_has x = ((refl, refl), λ side. refl)
 
-  forced_has : (x : QueueReply T) → Has None None (forced_next x)
-  forced_has (answer.Force (Ok d)) = (refl, inl refl)
-  forced_has (answer.Force (Err (force_error.Closed m))) = (refl, refl)
-  forced_has x = (refl, refl)
+  forced_has : (x : QueueReply T) → Goes None None never (forced_next x)
+  forced_has (answer.Force (Ok d)) = ((refl, inl refl), λ side. (refl, refl))
+  forced_has (answer.Force (Err (force_error.Closed m))) = ((refl, refl), λ side. refl)
+  forced_has x = ((refl, refl), λ side. refl)
 
-  received_has : (x : QueueReply T) → Has None None (received_next x)
-  received_has (answer.Pop (Ok m)) = (refl, inl refl)
-  received_has (answer.Pop (Err pop_error.Empty)) = (refl, refl)
-  received_has x = (refl, refl)
+  received_has : (x : QueueReply T) → Goes None None never (received_next x)
+  received_has (answer.Pop (Ok m)) = ((refl, inl refl), λ side. (refl, refl))
+  received_has (answer.Pop (Err pop_error.Empty)) = ((refl, refl), λ side. refl)
+  received_has x = ((refl, refl), λ side. refl)
 
-  asked_has : (x : QueueReply T) → Has None None (asked_next x)
-  asked_has (answer.Flag b) = (refl, refl)
-  asked_has x = (refl, refl)
+  asked_has : (x : QueueReply T) → Goes None None never (asked_next x)
+  asked_has (answer.Flag b) = ((refl, refl), λ side. refl)
+  asked_has x = ((refl, refl), λ side. refl)
 
-  terminated_has : (x : QueueReply T) → Has None None (terminated_next x)
-  terminated_has (answer.Flag true) = (refl, inl refl)
-  terminated_has x = (refl, refl)
+  terminated_has : (x : QueueReply T) → Goes None None never (terminated_next x)
+  terminated_has (answer.Flag true) = ((refl, inl refl), λ side. refl)
+  terminated_has x = ((refl, refl), λ side. refl)
 
-  upgraded_has : (x : QueueReply T) (side : Side) → Has None None (upgraded_next x side)
-  upgraded_has (answer.Flag false) side = (refl, inl refl)
-  upgraded_has x side = (refl, refl)
+  upgraded_has : (x : QueueReply T) (side : Side) → Goes None None (λ s. same_side s side) (upgraded_next x side)
+  upgraded_has (answer.Flag false) side = ((refl, inl refl), λ s. (refl, refl))
+  upgraded_has x side = ((refl, refl), λ s. and_false (same_side s side))
 
-  send_has : (x : QueueReply T) (key : Option Key) (task : W) → IsSent x → Has (held_on Sends key) (Some task) (send_next x key task)
-  send_has (answer.Push (Ok u)) key task h = (refl, inl refl)
+  send_has : (x : QueueReply T) (key : Option Key) (task : W) → IsSent x → Goes (held_on Sends key) (Some task) never (send_next x key task)
+  send_has (answer.Push (Ok u)) key task h = ((refl, inl refl), λ side. (refl, refl))
   send_has (answer.Push (Err (push_error.Full m))) key task h = refused_has (waiting.Send m) key task
   send_has (answer.Push (Err (push_error.Closed m))) key task h = over_has _ None Sends key (Some task)
   send_has (answer.Push (Err (push_error.NoMemory m))) key task h = over_has _ (Some m) Sends key (Some task)
   send_has x key task h = absurd h
 
-  receive_has : (x : QueueReply T) (key : Option Key) (task : W) → IsReceived x → Has (held_on Receives key) (Some task) (receive_next x key task)
-  receive_has (answer.Pop (Ok m)) key task h = (refl, inl refl)
+  receive_has : (x : QueueReply T) (key : Option Key) (task : W) → IsReceived x → Goes (held_on Receives key) (Some task) never (receive_next x key task)
+  receive_has (answer.Pop (Ok m)) key task h = ((refl, inl refl), λ side. (refl, refl))
   receive_has (answer.Pop (Err pop_error.Empty)) key task h = refused_has waiting.Receive key task
   receive_has (answer.Pop (Err pop_error.Closed)) key task h = over_has _ None Receives key (Some task)
   receive_has x key task h = absurd h
 
-  stream_has : (x : QueueReply T) (key : Option Key) (task : W) → IsReceived x → Has (held_on Streams key) (Some task) (stream_next x key task)
-  stream_has (answer.Pop (Ok m)) key task h = (refl, inl refl)
+  stream_has : (x : QueueReply T) (key : Option Key) (task : W) → IsReceived x → Goes (held_on Streams key) (Some task) never (stream_next x key task)
+  stream_has (answer.Pop (Ok m)) key task h = ((refl, inl refl), λ side. (refl, refl))
   stream_has (answer.Pop (Err pop_error.Empty)) key task h = refused_has waiting.Stream key task
   stream_has (answer.Pop (Err pop_error.Closed)) key task h = over_has _ None Streams key (Some task)
   stream_has x key task h = absurd h
 
-  closing_has : (x : QueueReply T) (key : Option Key) (task : W) → IsFlag x → Has (held_on Closings key) (Some task) (closing_next x key task)
+  closing_has : (x : QueueReply T) (key : Option Key) (task : W) → IsFlag x → Goes (held_on Closings key) (Some task) never (closing_next x key task)
   closing_has (answer.Flag true) key task h = over_has _ None Closings key (Some task)
   closing_has (answer.Flag false) key task h = refused_has waiting.Closing key task
   closing_has x key task h = absurd h
 
-  closed_has : (x : QueueReply T) (c : Closer) → IsClosing x → Has (closer_holds c) None (closed_next x c)
-  closed_has (answer.Close true) c h = (refl, inl refl)
+  closed_has : (x : QueueReply T) (c : Closer) → IsClosing x → Goes (closer_holds c) None never (closed_next x c)
+  closed_has (answer.Close true) c h = ((refl, inl refl), λ side. (refl, refl))
   closed_has (answer.Close false) c h = closer_has c false None
   closed_has x c h = absurd h
 
-  pub room_has : (n : ℕ) → Has None None (room_next n)
-  room_has zero = (refl, refl)
-  room_has (suc n) = (refl, inl refl)
+  pub room_has : (n : ℕ) → Goes None None never (room_next n)
+  room_has zero = ((refl, refl), λ side. refl)
+  room_has (suc n) = ((refl, inl refl), λ side. refl)
 
-  gathered_has : (vs : List T) (n : ℕ) → Has None None (gathered_next (with_last vs n))
-  gathered_has vs zero = (refl, inl refl)
-  gathered_has vs (suc n) = (refl, inl refl)
+  gathered_has : (vs : List T) (n : ℕ) → Goes None None never (gathered_next (with_last vs n))
+  gathered_has vs zero = ((refl, inl refl), λ side. (refl, refl))
+  gathered_has vs (suc n) = ((refl, inl refl), λ side. refl)
 
-  short_has : (vs : List T) (e : TryRecvError) → Has None None (short_next vs e)
-  short_has [] e = (refl, refl)
-  short_has (v ∷ vs) e = (refl, inl refl)
+  short_has : (vs : List T) (e : TryRecvError) → Goes None None never (short_next vs e)
+  short_has [] e = ((refl, refl), λ side. refl)
+  short_has (v ∷ vs) e = ((refl, inl refl), λ side. (refl, refl))
 
-  several_has : (x : QueueReply T) (g : Gathered T) → Has None None (several_next x g)
+  several_has : (x : QueueReply T) (g : Gathered T) → Goes None None never (several_next x g)
   several_has (answer.Pop (Ok m)) g = gathered_has (g.taken ++ m ∷ []) g.more
   several_has (answer.Pop (Err pop_error.Empty)) g = short_has g.taken try_recv_error.Empty
   several_has (answer.Pop (Err pop_error.Closed)) g = short_has g.taken try_recv_error.Closed
-  several_has x g = (refl, refl)
+  several_has x g = ((refl, refl), λ side. refl)
 
   -- a call of the channel goes on with what it has in hand
-  pub answered_has : (q : Queue T) (x : ChannelAsk T W) (y : Aim T W) (a : QueueAsk T) (m : QueueMark) (r : QueueReply T) (s : Stage T) (ds : _) (seen : _)
-      → TriesFor x y a ds seen → AnswersTo q a m r s → Has (aim_holds y) (aim_task y) (answered_next y r)
-  answered_has q x aim.TrySend a m r s ds seen t h = sent_has r
-  answered_has q x aim.ForceSend a m r s ds seen t h = forced_has r
-  answered_has q x aim.TryRecv a m r s ds seen t h = received_has r
-  answered_has q x (aim.RecvMany g) a m r s ds seen t h = several_has r g
-  answered_has q x aim.Ask a m r s ds seen t h = asked_has r
-  answered_has q x aim.IsTerminated a m r s ds seen t h = terminated_has r
-  answered_has q x (aim.Upgrade side) a m r s ds seen t h = upgraded_has r side
-  answered_has q (ask.PollSend v k u) (aim.Poll Sends key task) (queue.Push w) m r s ds seen t h = send_has r key task (push_is q w m r s h)
-  answered_has q (ask.PollRecv k u) (aim.Poll Receives key task) queue.Pop m r s ds seen t h = receive_has r key task (pop_is q m r s h)
-  answered_has q (ask.PollNext k u) (aim.Poll Streams key task) queue.Pop m r s ds seen t h = stream_has r key task (pop_is q m r s h)
-  answered_has q (ask.PollClosed k u) (aim.Poll Closings key task) queue.IsClosed m r s ds seen t h = closing_has r key task (flag_is q m r s h)
-  answered_has q ask.Close (aim.Close closer.Call) queue.Close m r s ds seen t h = closed_has r closer.Call (closing_is q m r s h)
-  answered_has q ask.DropSender (aim.Close closer.Sender) queue.Close m r s ds seen t h = closed_has r closer.Sender (closing_is q m r s h)
-  answered_has q (ask.DropReceiver k) (aim.Close (closer.Receiver key)) queue.Close m r s ds seen t h = closed_has r (closer.Receiver key) (closing_is q m r s h)
-  answered_has q x y a m r s ds seen t h = absurd t
+  pub answered_has : (f : Phase T) (q : Queue T) (x : ChannelAsk T W) (y : Aim T W) (a : QueueAsk T) (m : QueueMark) (r : QueueReply T) (s : Stage T) (ds : _) (seen : _)
+      → TriesFor x y a ds seen → AnswersTo q a m r s → Goes (aim_holds y) (aim_task y) (λ side. is_raising side (Trying f y)) (answered_next y r)
+  answered_has f q x aim.TrySend a m r s ds seen t h = sent_has r
+  answered_has f q x aim.ForceSend a m r s ds seen t h = forced_has r
+  answered_has f q x aim.TryRecv a m r s ds seen t h = received_has r
+  answered_has f q x (aim.RecvMany g) a m r s ds seen t h = several_has r g
+  answered_has f q x aim.Ask a m r s ds seen t h = asked_has r
+  answered_has f q x aim.IsTerminated a m r s ds seen t h = terminated_has r
+  answered_has f q x (aim.Upgrade side) a m r s ds seen t h = upgraded_has r side
+  answered_has f q (ask.PollSend v k u) (aim.Poll Sends key task) (queue.Push w) m r s ds seen t h = send_has r key task (push_is q w m r s h)
+  answered_has f q (ask.PollRecv k u) (aim.Poll Receives key task) queue.Pop m r s ds seen t h = receive_has r key task (pop_is q m r s h)
+  answered_has f q (ask.PollNext k u) (aim.Poll Streams key task) queue.Pop m r s ds seen t h = stream_has r key task (pop_is q m r s h)
+  answered_has f q (ask.PollClosed k u) (aim.Poll Closings key task) queue.IsClosed m r s ds seen t h = closing_has r key task (flag_is q m r s h)
+  answered_has f q ask.Close (aim.Close closer.Call) queue.Close m r s ds seen t h = closed_has r closer.Call (closing_is q m r s h)
+  answered_has f q ask.DropSender (aim.Close closer.Sender) queue.Close m r s ds seen t h = closed_has r closer.Sender (closing_is q m r s h)
+  answered_has f q (ask.DropReceiver k) (aim.Close (closer.Receiver key)) queue.Close m r s ds seen t h = closed_has r (closer.Receiver key) (closing_is q m r s h)
+  answered_has f q x y a m r s ds seen t h = absurd t

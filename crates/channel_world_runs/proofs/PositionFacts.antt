@@ -140,35 +140,24 @@ module _ {T W : Type 0} where
   FewYet turn r = yet_after turn ≤ was_full r
 
   send_yet : (r : QueueReply T) (key : Option Key) (task : W) → FewYet (send_next r key task) r
-  send_yet (answer.Push (Ok u)) key task = omega arith
   send_yet (answer.Push (Err (push_error.Full m))) key task = let e = refused_yet m key task in omega (arith, e)
   send_yet (answer.Push (Err (push_error.Closed m))) None task = omega arith
-  send_yet (answer.Push (Err (push_error.Closed m))) (Some key) task = omega arith
   send_yet (answer.Push (Err (push_error.NoMemory m))) None task = omega arith
-  send_yet (answer.Push (Err (push_error.NoMemory m))) (Some key) task = omega arith
   send_yet r key task = omega arith
 
   receive_yet : (r : QueueReply T) (key : Option Key) (task : W) → FewYet (receive_next r key task) r
-  receive_yet (answer.Pop (Ok m)) key task = omega arith
   receive_yet (answer.Pop (Err pop_error.Empty)) None task = omega arith
-  receive_yet (answer.Pop (Err pop_error.Empty)) (Some key) task = omega arith
   receive_yet (answer.Pop (Err pop_error.Closed)) None task = omega arith
-  receive_yet (answer.Pop (Err pop_error.Closed)) (Some key) task = omega arith
   receive_yet r key task = omega arith
 
   stream_yet : (r : QueueReply T) (key : Option Key) (task : W) → FewYet (stream_next r key task) r
-  stream_yet (answer.Pop (Ok m)) key task = omega arith
   stream_yet (answer.Pop (Err pop_error.Empty)) None task = omega arith
-  stream_yet (answer.Pop (Err pop_error.Empty)) (Some key) task = omega arith
   stream_yet (answer.Pop (Err pop_error.Closed)) None task = omega arith
-  stream_yet (answer.Pop (Err pop_error.Closed)) (Some key) task = omega arith
   stream_yet r key task = omega arith
 
   closing_yet : (r : QueueReply T) (key : Option Key) (task : W) → FewYet (closing_next r key task) r
   closing_yet (answer.Flag true) None task = omega arith
-  closing_yet (answer.Flag true) (Some key) task = omega arith
   closing_yet (answer.Flag false) None task = omega arith
-  closing_yet (answer.Flag false) (Some key) task = omega arith
   closing_yet r key task = omega arith
 
   polled_yet : (line : Line) (r : QueueReply T) (key : Option Key) (task : W) → FewYet (polled_next line r key task) r
@@ -325,11 +314,8 @@ module _ {T W : Type 0} where
 
   registered_yet : (b : Bool) (w : Waiting T) (key : Key) (task : W)
       → yet_after (if b then pends_by w key else again w None task) ≤ yet_worked (let x : Work T W = Register w key task in x)
-  registered_yet true w key task = omega arith
   registered_yet false (waiting.Send m) key task = omega arith
-  registered_yet false waiting.Receive key task = omega arith
-  registered_yet false waiting.Stream key task = omega arith
-  registered_yet false waiting.Closing key task = omega arith
+  registered_yet b w key task = omega arith
 
   room_yet : (n : ℕ) (t : Turn T W) → t ≡ room_next n → yet_after t ≤ 0
   room_yet zero t e = subst (λ (x : Turn T W). yet_after x ≤ 0) (sym e) (omega arith)

@@ -97,18 +97,11 @@ stands_there (Some (Some x)) h w e = let k = receives_and_rests x.handle.kind x.
 
 waits_and_rests : {T : Type 0} → (k : OperationKind) (m : Option T) (x : PollState) (h : Held) (w : Bool) → operation_status k m x ≡ waits h w
     → is_polled x ≡ false
-waits_and_rests kind.Send None Rests h w e = refl
-waits_and_rests kind.Send None (Waits key z) h w e = refl
 waits_and_rests kind.Send None (IsPolled z) h w e = absurd (let no : polled Sends ≡ waits h w = e in cc)
-waits_and_rests kind.Send (Some m) Rests h w e = refl
-waits_and_rests kind.Send (Some m) (Waits key z) h w e = refl
 waits_and_rests kind.Send (Some m) (IsPolled z) h w e = absurd (let no : polled Sends ≡ waits h w = e in cc)
-waits_and_rests kind.Receive m Rests h w e = refl
-waits_and_rests kind.Receive m (Waits key z) h w e = refl
 waits_and_rests kind.Receive m (IsPolled z) h w e = absurd (let no : polled Receives ≡ waits h w = e in cc)
-waits_and_rests kind.Closing m Rests h w e = refl
-waits_and_rests kind.Closing m (Waits key z) h w e = refl
 waits_and_rests kind.Closing m (IsPolled z) h w e = absurd (let no : polled Closings ≡ waits h w = e in cc)
+waits_and_rests k m x h w e = refl
 
 module _ {T : Type 0} where
   lives_there : (o : Option (Option (Operation T))) (h : Held) (w : Bool)

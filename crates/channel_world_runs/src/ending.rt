@@ -17,17 +17,10 @@ impl<T: Drop> NameTable<T> {
         ensures { self.new ≡ with_operation (restored kept) op self.old }
     {
         if let Some(operation) = self.operations.take(op.0) {
-            let Operation {
-                kind,
-                handle,
-                message: _,
-                poll_state: _,
-            } = operation;
             let restored = Operation {
-                kind,
-                handle,
                 message: kept.message,
                 poll_state: PollState::with(kept.key),
+                ..operation
             };
             self.operations.set(op.0, restored);
         }
@@ -73,17 +66,10 @@ impl<T: Drop> NameTable<T> {
         match name {
             Waiter::Op(op) => {
                 if let Some(operation) = self.operations.take(op.0) {
-                    let Operation {
-                        kind,
-                        handle,
-                        message,
-                        poll_state,
-                    } = operation;
+                    let poll_state = operation.poll_state.told();
                     let told = Operation {
-                        kind,
-                        handle,
-                        message,
-                        poll_state: poll_state.told(),
+                        poll_state,
+                        ..operation
                     };
                     self.operations.set(op.0, told);
                 }

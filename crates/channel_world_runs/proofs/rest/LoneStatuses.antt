@@ -123,9 +123,7 @@ module _ {T : Type 0} where
   pub left_off : (k : OperationKind) (m : Option T) (key : Option Key)
       → was_woken (operation_status k m (poll_state_with key)) ≡ false
   left_off kind.Send None None = refl
-  left_off kind.Send None (Some key) = refl
   left_off kind.Send (Some m) None = refl
-  left_off kind.Send (Some m) (Some key) = refl
   left_off kind.Receive m None = refl
   left_off kind.Closing m None = refl
   left_off k m key = refl
@@ -141,7 +139,6 @@ stream_polled_off k b = refl
 
 pub stream_left_off : (k : HandleKind) (key : Option Key) → was_woken (stream_status k (poll_state_with key)) ≡ false
 stream_left_off handle_kind.Receiver None = refl
-stream_left_off handle_kind.Receiver (Some key) = refl
 stream_left_off handle_kind.Sender None = refl
 stream_left_off handle_kind.WeakSender None = refl
 stream_left_off handle_kind.WeakReceiver None = refl
