@@ -87,52 +87,7 @@ module _ {T W : Type 0} where
     abbrev pub Then : ChannelAsk T W → QueueAsk T → queue.Stage T → QueueMark → List (MarkedMoment T W) → Turn T W → Type 0
     Then x a st m ds turn = TurnAt (next_channel a st m c) x [] (with_marked ds (mark_of_queue m) c seen) (next_channel a st m c ∷ seen) turn
 
-    -- ---- sends
-
-    sent : (msg v : T) (ds : List (MarkedMoment T W)) → v ≡ msg → (m : QueueMark) (r : QueueReply T) (st : queue.Stage T) → AnswersPush c.queue v m r st → TryAt c (ask.Push v) st ds seen
-        → Then (channel.TrySend msg) (ask.Push v) st m ds (sent_next r)
-    sent msg v ds e Nothing (Push (Ok u)) (appended None) h ev = ((([], c ∷ seen, refl, ev), refl), owed_appended ds ev)
-    sent msg v ds e Nothing (Push (Err (push_error.Full w))) (trying b) h ev = ((([], c ∷ seen, refl, (h.0 ∙ e, ev.0, full_once c.queue.capacity c.queue.items (c ∷ seen) h.1 (refusal_seen b c seen ev.1 h.2))), refl), owes_nothing ds ev.0)
-    sent msg v ds e Nothing (Push (Err (push_error.Closed w))) (trying b) h ev = ((([], c ∷ seen, refl, (h.0 ∙ e, ev.0, inl h.1)), refl), owes_nothing ds ev.0)
-    sent msg v ds e Nothing (Push (Err (push_error.NoMemory w))) (trying b) h ev = ((([], c ∷ seen, refl, (h.0 ∙ e, ev.0, unbounded_once c.queue.capacity (c ∷ seen) h.1 (refusal_seen b c seen ev.1 h.2))), refl), owes_nothing ds ev.0)
-    sent msg v ds e m r st h ev = absurd h
-
-    forced : (msg v : T) (ds : List (MarkedMoment T W)) → v ≡ msg → (m : QueueMark) (r : QueueReply T) (st : queue.Stage T) → AnswersForce c.queue v m r st → TryAt c (ask.ForcePush v) st ds seen
-        → Then (channel.ForceSend msg) (ask.ForcePush v) st m ds (forced_next r)
-    forced msg v ds e Nothing (Force (Ok None)) (appended None) h ev = ((([], c ∷ seen, refl, ev), refl), owed_appended ds ev)
-    forced msg v ds e Nothing (Force (Ok None)) (appended (Some d)) h ev = absurd (let no : None ≡ Some d = h in cc)
-    forced msg v ds e Nothing (Force (Ok (Some w))) (appended None) h ev = absurd (let no : Some w ≡ None = h in cc)
-    forced msg v ds e Nothing (Force (Ok (Some w))) (appended (Some d)) h ev =
-        let same : Some w ≡ Some d = h in
-        let k : w ≡ d = cc in
-        ((([], c ∷ seen, refl, subst (λ (z : T). Replaced ds z ⊎ Displaced ds z) (sym k) ev), refl), ⊎_elim (λ z. owed_replaced ds d z) (λ z. owed_displaced ds d z) ev)
-    forced msg v ds e Nothing (Force (Err (force_error.Closed w))) (trying b) h ev = ((([], c ∷ seen, refl, (h.0 ∙ e, ev.0, inl h.1)), refl), owes_nothing ds ev.0)
-    forced msg v ds e Nothing (Force (Err (force_error.NoMemory w))) (trying b) h ev = ((([], c ∷ seen, refl, (h.0 ∙ e, ev.0, unbounded_once c.queue.capacity (c ∷ seen) h.1 (refusal_seen b c seen ev.1 h.2))), refl), owes_nothing ds ev.0)
-    forced msg v ds e m r st h ev = absurd h
-
-    poll_sent : (msg v : T) (k : Loan) (t : W) (key : Option Key) (task : W) (ds : List (MarkedMoment T W)) → v ≡ msg → (m : QueueMark) (r : QueueReply T) (st : queue.Stage T) → AnswersPush c.queue v m r st → TryAt c (ask.Push v) st ds seen
-        → Then (channel.PollSend msg k t) (ask.Push v) st m ds (send_next r key task)
-    poll_sent msg v k t key task ds e Nothing (Push (Ok u)) (appended None) h ev = ((([], c ∷ seen, refl, ev), refl), owed_appended ds ev)
-    poll_sent msg v k t None task ds e Nothing (Push (Err (push_error.Full w))) (trying b) h ev = ((h.0 ∙ e, ev.0, full_once c.queue.capacity c.queue.items (c ∷ seen) h.1 (refusal_seen b c seen ev.1 h.2)), owes_nothing ds ev.0)
-    poll_sent msg v k t (Some key) task ds e Nothing (Push (Err (push_error.Full w))) (trying b) h ev = ((h.0 ∙ e, ev.0, λ n. full_once c.queue.capacity c.queue.items (c ∷ seen) h.1 (refusal_seen b c seen ev.1 h.2)), owes_nothing ds ev.0)
-    poll_sent msg v k t key task ds e Nothing (Push (Err (push_error.Closed w))) (trying b) h ev =
-        ended c (channel.PollSend msg k t) [] ds (c ∷ seen) (over (reply.SendPoll (Ready (Err (refused.Plain (record { 0 = w }))))) None Sends key)
-        (([], c ∷ seen, refl, (h.0 ∙ e, ev.0, inl h.1)), refl) (owes_nothing ds ev.0)
-    poll_sent msg v k t key task ds e Nothing (Push (Err (push_error.NoMemory w))) (trying b) h ev =
-        ended c (channel.PollSend msg k t) [] ds (c ∷ seen) (over (reply.SendPoll (Ready (Err (refused.NoMemory tt)))) (Some w) Sends key)
-        (([], c ∷ seen, refl, (ev.0, open_once c.queue.capacity (c ∷ seen) (refusal_seen b c seen ev.1 h.2))), ap (λ (z : T). let kept : Kept T = leaving None (Some z) in kept) (h.0 ∙ e)) (owes_nothing ds ev.0)
-    poll_sent msg v k t key task ds e m r st h ev = absurd h
-
-    -- ---- receives
-
-    received : (ds : List (MarkedMoment T W)) (m : QueueMark) (r : QueueReply T) (st : queue.Stage T) → AnswersPop c.queue m r st → TryAt c ask.Pop st ds seen
-        → Then channel.TryRecv ask.Pop st m ds (received_next r)
-    received ds Nothing (Pop (Ok w)) (taken v) h ev = ((([], c ∷ seen, refl, subst (λ (z : T). Took ds z) (sym h) ev), refl), owed_took ds v ev)
-    received ds Nothing (Pop (Err pop_error.Empty)) (trying b) h ev = ((([], c ∷ seen, refl, (ev, inl h)), refl), owes_nothing ds ev)
-    received ds Nothing (Pop (Err pop_error.Closed)) (trying b) h ev = ((([], c ∷ seen, refl, (ev, inl h)), refl), owes_nothing ds ev)
-    received ds m r st h ev = absurd h
-
-    -- several at once
+    -- ---- several receives at once
 
     handed : (n : ℕ) (ds : List (MarkedMoment T W)) (vs : List T) → 0 < length vs → TookAll ds vs → (length vs ≡ n) ⊎ ((length vs < n) × RanOut ds (c ∷ seen))
         → TurnAt c (channel.RecvMany n) [] ds (c ∷ seen) (hands_out vs)
@@ -164,40 +119,7 @@ module _ {T W : Type 0} where
           let all : TookAll ds (v ∷ vs) = subst (λ (xs : List (MarkedMoment T W)). TookAll xs (v ∷ vs)) (sym same) took in
           handed n ds (v ∷ vs) (omega arith) all (inr (omega (arith, e), ran_out_of ds v vs c seen all t.behind gone))
 
-    several : (n : ℕ) (g : Gathered T) (ds : List (MarkedMoment T W)) → n ≡ length g.taken + (g.more + 1) → (m : QueueMark) (r : QueueReply T) (st : queue.Stage T) → AnswersPop c.queue m r st
-        → TriesAt c (aim.RecvMany g) ask.Pop st ds seen → Then (channel.RecvMany n) ask.Pop st m ds (several_next r g)
-    several n g ds e Nothing (Pop (Ok w)) (taken v) h ev = gathered n g.more g.taken w ds ev.0 e ev.1 (subst (λ (z : T). Took ev.0 z) (sym h) ev.2)
-    several n g ds e Nothing (Pop (Err pop_error.Empty)) (trying b) h ev = short n g.more g.taken ds ev.0 e ev.1 ev.2 try_recv_error.Empty h.1 (λ none. (none, omega (arith, e), inl h))
-    several n g ds e Nothing (Pop (Err pop_error.Closed)) (trying b) h ev = short n g.more g.taken ds ev.0 e ev.1 ev.2 try_recv_error.Closed h.1 (λ none. (none, omega (arith, e), inl h))
-    several n g ds e m r st h ev = absurd h
-
-    poll_received : (k : Loan) (t : W) (key : Option Key) (task : W) (ds : List (MarkedMoment T W)) (m : QueueMark) (r : QueueReply T) (st : queue.Stage T) → AnswersPop c.queue m r st → TryAt c ask.Pop st ds seen
-        → Then (channel.PollRecv k t) ask.Pop st m ds (receive_next r key task)
-    poll_received k t key task ds Nothing (Pop (Ok w)) (taken v) h ev = ((([], c ∷ seen, refl, subst (λ (z : T). Took ds z) (sym h) ev), refl), owed_took ds v ev)
-    poll_received k t None task ds Nothing (Pop (Err pop_error.Empty)) (trying b) h ev = ((tt, ev, inl h), owes_nothing ds ev)
-    poll_received k t (Some key) task ds Nothing (Pop (Err pop_error.Empty)) (trying b) h ev = ((tt, ev, λ n. inl h), owes_nothing ds ev)
-    poll_received k t key task ds Nothing (Pop (Err pop_error.Closed)) (trying b) h ev =
-        ended c (channel.PollRecv k t) [] ds (c ∷ seen) (over (reply.RecvPoll (Ready (Err (refused.Plain (record {}))))) None Receives key) (([], c ∷ seen, refl, (ev, inl h)), refl) (owes_nothing ds ev)
-    poll_received k t key task ds m r st h ev = absurd h
-
-    streamed : (k : Option Key) (t : W) (key : Option Key) (task : W) (ds : List (MarkedMoment T W)) (m : QueueMark) (r : QueueReply T) (st : queue.Stage T) → AnswersPop c.queue m r st → TryAt c ask.Pop st ds seen
-        → Then (channel.PollNext k t) ask.Pop st m ds (stream_next r key task)
-    streamed k t key task ds Nothing (Pop (Ok w)) (taken v) h ev = ((([], c ∷ seen, refl, subst (λ (z : T). Took ds z) (sym h) ev), refl), owed_took ds v ev)
-    streamed k t None task ds Nothing (Pop (Err pop_error.Empty)) (trying b) h ev = ((tt, ev, tt), owes_nothing ds ev)
-    streamed k t (Some key) task ds Nothing (Pop (Err pop_error.Empty)) (trying b) h ev = ((tt, ev, λ n. tt), owes_nothing ds ev)
-    streamed k t key task ds Nothing (Pop (Err pop_error.Closed)) (trying b) h ev =
-        ended c (channel.PollNext k t) [] ds (c ∷ seen) (over (reply.Next (Ready None)) None Streams key) (([], c ∷ seen, refl, (ev, inl h)), refl) (owes_nothing ds ev)
-    streamed k t key task ds m r st h ev = absurd h
-
     -- ---- closing
-
-    waited : (k : Option Key) (t : W) (key : Option Key) (task : W) (ds : List (MarkedMoment T W)) (m : QueueMark) (r : QueueReply T) (st : queue.Stage T) → AnswersShut c.queue m r st → TryAt c ask.IsClosed st ds seen
-        → Then (channel.PollClosed k t) ask.IsClosed st m ds (closing_next r key task)
-    waited k t key task ds Nothing (Flag true) (trying b) h ev =
-        ended c (channel.PollClosed k t) [] ds (c ∷ seen) (over (reply.ClosedPoll (Ready (Ok tt))) None Closings key) (([], c ∷ seen, refl, (ev, inl h)), refl) (owes_nothing ds ev)
-    waited k t None task ds Nothing (Flag false) (trying b) h ev = ((tt, ev, inl h), owes_nothing ds ev)
-    waited k t (Some key) task ds Nothing (Flag false) (trying b) h ev = ((tt, ev, λ n. inl h), owes_nothing ds ev)
-    waited k t key task ds m r st h ev = absurd h
 
     closed_none : (m : QueueMark) (r : QueueReply T) (st : queue.Stage T) → AnswersClose c.queue m r st → Then channel.Close ask.Close st m [] (closed_next r closer.Call)
     closed_none Close (answer.Close true) (trying b) h = ((([], _, refl, (refl, h)), refl), refl)
@@ -229,41 +151,12 @@ module _ {T W : Type 0} where
 
     -- ---- questions
 
-    upgraded : (side s : Side) (ds : List (MarkedMoment T W)) → s ≡ side → (m : QueueMark) (r : QueueReply T) (st : queue.Stage T) → AnswersShut c.queue m r st → TryAt c ask.IsClosed st ds seen
-        → Then (channel.Upgrade side) ask.IsClosed st m ds (upgraded_next r s)
-    upgraded side s ds e Nothing (Flag true) (trying b) h ev = ((([], c ∷ seen, refl, (ev, inl (inl h))), refl), owes_nothing ds ev)
-    upgraded side s ds e Nothing (Flag false) (trying b) h ev = (((e, inl h), ev), owes_nothing ds ev)
-    upgraded side s ds e m r st h ev = absurd h
-
-    shut : (ds : List (MarkedMoment T W)) (m : QueueMark) (r : QueueReply T) (st : queue.Stage T) → AnswersShut c.queue m r st → TryAt c ask.IsClosed st ds seen → Then channel.IsClosed ask.IsClosed st m ds (asked_next r)
-    shut ds Nothing (Flag f) (trying b) h ev = ((([], c ∷ seen, refl, (ev, inl h)), refl), owes_nothing ds ev)
-    shut ds m r st h ev = absurd h
-
-    terminated : (ds : List (MarkedMoment T W)) (m : QueueMark) (r : QueueReply T) (st : queue.Stage T) → AnswersShut c.queue m r st → TryAt c ask.IsClosed st ds seen → Then channel.IsTerminated ask.IsClosed st m ds (terminated_next r)
-    terminated ds Nothing (Flag true) (trying b) h ev = ((inl h, ev), refl)
-    terminated ds Nothing (Flag false) (trying b) h ev = ((([], c ∷ seen, refl, (ev, inl (inl h))), refl), owes_nothing ds ev)
-    terminated ds m r st h ev = absurd h
-
     none_there : c.queue.items ≡ [] → is_empty c ≡ true
     none_there e = ap (λ (xs : List T). length xs == 0) e
 
     some_there : (n : ℕ) → n < c.queue.accepted → Once HasMessage seen ⊎ (c.queue.accepted ≤ n) → Once HasMessage (c ∷ seen)
     some_there n h (inl k) = inr k
     some_there n h (inr k) = absurd (omega arith)
-
-    empty : (ds : List (MarkedMoment T W)) (m : QueueMark) (r : QueueReply T) (st : queue.Stage T) → AnswersEmpty c.queue m r st → TryAt c ask.IsEmpty st ds seen → Then channel.IsEmpty ask.IsEmpty st m ds (asked_next r)
-    empty ds Nothing (Flag f) (trying b) h ev = ((([], c ∷ seen, refl, (ev, inl h)), refl), owes_nothing ds ev)
-    empty ds Nothing (Flag true) (read n) h ev = ((([], c ∷ seen, refl, (ev.0, inl (none_there h))), refl), owes_nothing ds ev.0)
-    empty ds Nothing (Flag false) (read n) h ev = ((([], c ∷ seen, refl, (ev.0, some_there n h ev.1)), refl), owes_nothing ds ev.0)
-    empty ds m r st h ev = absurd h
-
-    spent : (ds : List (MarkedMoment T W)) → Once Shut seen → (m : QueueMark) (r : QueueReply T) (st : queue.Stage T) → AnswersEmpty c.queue m r st → TryAt c ask.IsEmpty st ds seen → Then channel.IsTerminated ask.IsEmpty st m ds (asked_next r)
-    spent ds o Nothing (Flag true) (trying b) h ev = ((([], c ∷ seen, refl, (ev, inl (h, inr o))), refl), owes_nothing ds ev)
-    spent ds o Nothing (Flag false) (trying b) h ev = ((([], c ∷ seen, refl, (ev, inl (inr h))), refl), owes_nothing ds ev)
-    spent ds o Nothing (Flag true) (read n) h ev = ((([], c ∷ seen, refl, (ev.0, inl (none_there h, inr o))), refl), owes_nothing ds ev.0)
-    spent ds o Nothing (Flag false) (read n) h ev =
-        ((([], c ∷ seen, refl, (ev.0, once_map HasMessage (λ z. Open z ⊎ HasMessage z) (λ z k. inr k) (c ∷ seen) (some_there n h ev.1))), refl), owes_nothing ds ev.0)
-    spent ds o m r st h ev = absurd h
 
     room_there : (n cap : ℕ) → c.queue.capacity ≡ Some cap → n < c.queue.removed + cap → IsBalanced c.queue → Once HasRoom seen ⊎ (c.queue.accepted ≡ n) → Once HasRoom (c ∷ seen)
     room_there n cap e k b (inl h) = inr h
@@ -272,43 +165,89 @@ module _ {T W : Type 0} where
         let short : (length c.queue.items == cap) ≡ false = ne_of (length c.queue.items) cap (λ same. absurd (omega (arith, same, h, k, b'))) in
         inl (subst (λ (o : Option ℕ). is_full_at o c.queue.items ≡ false) (sym e) short)
 
-    full : (ds : List (MarkedMoment T W)) → IsBalanced c.queue → (m : QueueMark) (r : QueueReply T) (st : queue.Stage T) → AnswersFull c.queue m r st → TryAt c ask.IsFull st ds seen → Then channel.IsFull ask.IsFull st m ds (asked_next r)
-    full ds b Nothing (Flag f) (trying s) h ev = ((([], c ∷ seen, refl, (ev, inl h)), refl), owes_nothing ds ev)
-    full ds b Nothing (Flag true) (read n) h ev = ((([], c ∷ seen, refl, (ev.0, inl h)), refl), owes_nothing ds ev.0)
-    full ds b Nothing (Flag false) (read n) h ev = ((([], c ∷ seen, refl, (ev.0, room_there n h.0 h.1 h.2 b ev.2)), refl), owes_nothing ds ev.0)
-    full ds b m r st h ev = absurd h
-
-    counted : (ds : List (MarkedMoment T W)) (m : QueueMark) (r : QueueReply T) (st : queue.Stage T) → AnswersLen c.queue m r st → TryAt c ask.Len st ds seen → Then channel.Len ask.Len st m ds (asked_next r)
-    counted ds Nothing (Count n) (trying s) h ev = ((([], c ∷ seen, refl, (ev, inl h)), refl), owes_nothing ds ev)
-    counted ds Nothing (Count n) (measured i k) h ev =
-        ((([], c ∷ seen, refl, (ev.0, inr (once_map (λ z. length z.queue.items ≡ k) (λ z. length z.queue.items ≡ n) (λ z e. e ∙ sym h.0) seen ev.1))), refl), owes_nothing ds ev.0)
-    counted ds m r st h ev = absurd h
-
-    sized : (ds : List (MarkedMoment T W)) (m : QueueMark) (r : QueueReply T) (st : queue.Stage T) → AnswersCapacity c.queue m r st → TryAt c ask.Capacity st ds seen → Then channel.Capacity ask.Capacity st m ds (asked_next r)
-    sized ds Nothing (Cap n) (trying s) h ev = ((([], c ∷ seen, refl, (ev, inl (sym h))), refl), owes_nothing ds ev)
-    sized ds m r st h ev = absurd h
-
     -- ---- by what the call asks, and what its queue's call is made for
 
-    pub answered : (ds : List (MarkedMoment T W)) → IsBalanced c.queue → (x : ChannelAsk T W) (y : Aim T W) (a : QueueAsk T) (st : queue.Stage T) (m : QueueMark) (r : QueueReply T)
+    pub answered : (ds : List (MarkedMoment T W)) → IsBalanced c.queue → (x : ChannelAsk T W) (y : Aim T W) (a : QueueAsk T) (m : QueueMark) (r : QueueReply T) (st : queue.Stage T)
         → TriesFor x y a ds seen → TriesAt c y a st ds seen → AnswersTo c.queue a m r st → Then x a st m ds (answered_next y r)
-    answered ds b (channel.TrySend msg) aim.TrySend (ask.Push v) st m r f ev h = sent msg v ds f m r st h ev
-    answered ds b (channel.ForceSend msg) aim.ForceSend (ask.ForcePush v) st m r f ev h = forced msg v ds f m r st h ev
-    answered ds b channel.TryRecv aim.TryRecv ask.Pop st m r f ev h = received ds m r st h ev
-    answered ds b (channel.RecvMany n) (aim.RecvMany g) ask.Pop st m r f ev h = several n g ds f m r st h ev
-    answered ds b channel.Close (aim.Close closer.Call) ask.Close st m r f ev h = closed_by ds f m r st h
-    answered ds b (channel.PollSend msg k t) (aim.Poll Sends key task) (ask.Push v) st m r f ev h = poll_sent msg v k t key task ds f m r st h ev
-    answered ds b (channel.PollRecv k t) (aim.Poll Receives key task) ask.Pop st m r f ev h = poll_received k t key task ds m r st h ev
-    answered ds b (channel.PollClosed k t) (aim.Poll Closings key task) ask.IsClosed st m r f ev h = waited k t key task ds m r st h ev
-    answered ds b (channel.PollNext k t) (aim.Poll Streams key task) ask.Pop st m r f ev h = streamed k t key task ds m r st h ev
-    answered ds b channel.DropSender (aim.Close closer.Sender) ask.Close st m r f ev h = sender_left ds f m r st h
-    answered ds b (channel.DropReceiver k) (aim.Close (closer.Receiver key)) ask.Close st m r f ev h = receiver_left k key ds f m r st h
-    answered ds b (channel.Upgrade side) (aim.Upgrade s) ask.IsClosed st m r f ev h = upgraded side s ds f m r st h ev
-    answered ds b channel.IsClosed aim.Ask ask.IsClosed st m r f ev h = shut ds m r st h ev
-    answered ds b channel.IsEmpty aim.Ask ask.IsEmpty st m r f ev h = empty ds m r st h ev
-    answered ds b channel.IsFull aim.Ask ask.IsFull st m r f ev h = full ds b m r st h ev
-    answered ds b channel.Len aim.Ask ask.Len st m r f ev h = counted ds m r st h ev
-    answered ds b channel.Capacity aim.Ask ask.Capacity st m r f ev h = sized ds m r st h ev
-    answered ds b channel.IsTerminated aim.IsTerminated ask.IsClosed st m r f ev h = terminated ds m r st h ev
-    answered ds b channel.IsTerminated aim.Ask ask.IsEmpty st m r f ev h = spent ds f m r st h ev
-    answered ds b x y a st m r f ev h = absurd f
+    answered ds bal (channel.TrySend msg) aim.TrySend (ask.Push v) Nothing (Push (Ok u)) (appended None) e ev h = ((([], c ∷ seen, refl, ev), refl), owed_appended ds ev)
+    answered ds bal (channel.TrySend msg) aim.TrySend (ask.Push v) Nothing (Push (Err (push_error.Full w))) (trying b) e ev h = ((([], c ∷ seen, refl, (h.0 ∙ e, ev.0, full_once c.queue.capacity c.queue.items (c ∷ seen) h.1 (refusal_seen b c seen ev.1 h.2))), refl), owes_nothing ds ev.0)
+    answered ds bal (channel.TrySend msg) aim.TrySend (ask.Push v) Nothing (Push (Err (push_error.Closed w))) (trying b) e ev h = ((([], c ∷ seen, refl, (h.0 ∙ e, ev.0, inl h.1)), refl), owes_nothing ds ev.0)
+    answered ds bal (channel.TrySend msg) aim.TrySend (ask.Push v) Nothing (Push (Err (push_error.NoMemory w))) (trying b) e ev h = ((([], c ∷ seen, refl, (h.0 ∙ e, ev.0, unbounded_once c.queue.capacity (c ∷ seen) h.1 (refusal_seen b c seen ev.1 h.2))), refl), owes_nothing ds ev.0)
+    answered ds bal (channel.TrySend msg) aim.TrySend (ask.Push v) m r st e ev h = absurd h
+    answered ds bal (channel.ForceSend msg) aim.ForceSend (ask.ForcePush v) Nothing (Force (Ok None)) (appended None) e ev h = ((([], c ∷ seen, refl, ev), refl), owed_appended ds ev)
+    answered ds bal (channel.ForceSend msg) aim.ForceSend (ask.ForcePush v) Nothing (Force (Ok None)) (appended (Some d)) e ev h = absurd (let no : None ≡ Some d = h in cc)
+    answered ds bal (channel.ForceSend msg) aim.ForceSend (ask.ForcePush v) Nothing (Force (Ok (Some w))) (appended None) e ev h = absurd (let no : Some w ≡ None = h in cc)
+    answered ds bal (channel.ForceSend msg) aim.ForceSend (ask.ForcePush v) Nothing (Force (Ok (Some w))) (appended (Some d)) e ev h =
+        let same : Some w ≡ Some d = h in
+        let k : w ≡ d = cc in
+        ((([], c ∷ seen, refl, subst (λ (z : T). Replaced ds z ⊎ Displaced ds z) (sym k) ev), refl), ⊎_elim (λ z. owed_replaced ds d z) (λ z. owed_displaced ds d z) ev)
+    answered ds bal (channel.ForceSend msg) aim.ForceSend (ask.ForcePush v) Nothing (Force (Err (force_error.Closed w))) (trying b) e ev h = ((([], c ∷ seen, refl, (h.0 ∙ e, ev.0, inl h.1)), refl), owes_nothing ds ev.0)
+    answered ds bal (channel.ForceSend msg) aim.ForceSend (ask.ForcePush v) Nothing (Force (Err (force_error.NoMemory w))) (trying b) e ev h = ((([], c ∷ seen, refl, (h.0 ∙ e, ev.0, unbounded_once c.queue.capacity (c ∷ seen) h.1 (refusal_seen b c seen ev.1 h.2))), refl), owes_nothing ds ev.0)
+    answered ds bal (channel.ForceSend msg) aim.ForceSend (ask.ForcePush v) m r st e ev h = absurd h
+    answered ds bal channel.TryRecv aim.TryRecv ask.Pop Nothing (Pop (Ok w)) (taken v) f ev h = ((([], c ∷ seen, refl, subst (λ (z : T). Took ds z) (sym h) ev), refl), owed_took ds v ev)
+    answered ds bal channel.TryRecv aim.TryRecv ask.Pop Nothing (Pop (Err pop_error.Empty)) (trying b) f ev h = ((([], c ∷ seen, refl, (ev, inl h)), refl), owes_nothing ds ev)
+    answered ds bal channel.TryRecv aim.TryRecv ask.Pop Nothing (Pop (Err pop_error.Closed)) (trying b) f ev h = ((([], c ∷ seen, refl, (ev, inl h)), refl), owes_nothing ds ev)
+    answered ds bal channel.TryRecv aim.TryRecv ask.Pop m r st f ev h = absurd h
+    answered ds bal (channel.RecvMany n) (aim.RecvMany g) ask.Pop Nothing (Pop (Ok w)) (taken v) e ev h = gathered n g.more g.taken w ds ev.0 e ev.1 (subst (λ (z : T). Took ev.0 z) (sym h) ev.2)
+    answered ds bal (channel.RecvMany n) (aim.RecvMany g) ask.Pop Nothing (Pop (Err pop_error.Empty)) (trying b) e ev h = short n g.more g.taken ds ev.0 e ev.1 ev.2 try_recv_error.Empty h.1 (λ none. (none, omega (arith, e), inl h))
+    answered ds bal (channel.RecvMany n) (aim.RecvMany g) ask.Pop Nothing (Pop (Err pop_error.Closed)) (trying b) e ev h = short n g.more g.taken ds ev.0 e ev.1 ev.2 try_recv_error.Closed h.1 (λ none. (none, omega (arith, e), inl h))
+    answered ds bal (channel.RecvMany n) (aim.RecvMany g) ask.Pop m r st e ev h = absurd h
+    answered ds b channel.Close (aim.Close closer.Call) ask.Close m r st f ev h = closed_by ds f m r st h
+    answered ds bal (channel.PollSend msg k t) (aim.Poll Sends key task) (ask.Push v) Nothing (Push (Ok u)) (appended None) e ev h = ((([], c ∷ seen, refl, ev), refl), owed_appended ds ev)
+    answered ds bal (channel.PollSend msg k t) (aim.Poll Sends None task) (ask.Push v) Nothing (Push (Err (push_error.Full w))) (trying b) e ev h = ((h.0 ∙ e, ev.0, full_once c.queue.capacity c.queue.items (c ∷ seen) h.1 (refusal_seen b c seen ev.1 h.2)), owes_nothing ds ev.0)
+    answered ds bal (channel.PollSend msg k t) (aim.Poll Sends (Some key) task) (ask.Push v) Nothing (Push (Err (push_error.Full w))) (trying b) e ev h = ((h.0 ∙ e, ev.0, λ n. full_once c.queue.capacity c.queue.items (c ∷ seen) h.1 (refusal_seen b c seen ev.1 h.2)), owes_nothing ds ev.0)
+    answered ds bal (channel.PollSend msg k t) (aim.Poll Sends key task) (ask.Push v) Nothing (Push (Err (push_error.Closed w))) (trying b) e ev h =
+        ended c (channel.PollSend msg k t) [] ds (c ∷ seen) (over (reply.SendPoll (Ready (Err (refused.Plain (record { 0 = w }))))) None Sends key)
+        (([], c ∷ seen, refl, (h.0 ∙ e, ev.0, inl h.1)), refl) (owes_nothing ds ev.0)
+    answered ds bal (channel.PollSend msg k t) (aim.Poll Sends key task) (ask.Push v) Nothing (Push (Err (push_error.NoMemory w))) (trying b) e ev h =
+        ended c (channel.PollSend msg k t) [] ds (c ∷ seen) (over (reply.SendPoll (Ready (Err (refused.NoMemory tt)))) (Some w) Sends key)
+        (([], c ∷ seen, refl, (ev.0, open_once c.queue.capacity (c ∷ seen) (refusal_seen b c seen ev.1 h.2))), ap (λ (z : T). let kept : Kept T = leaving None (Some z) in kept) (h.0 ∙ e)) (owes_nothing ds ev.0)
+    answered ds bal (channel.PollSend msg k t) (aim.Poll Sends key task) (ask.Push v) m r st e ev h = absurd h
+    answered ds bal (channel.PollRecv k t) (aim.Poll Receives key task) ask.Pop Nothing (Pop (Ok w)) (taken v) f ev h = ((([], c ∷ seen, refl, subst (λ (z : T). Took ds z) (sym h) ev), refl), owed_took ds v ev)
+    answered ds bal (channel.PollRecv k t) (aim.Poll Receives None task) ask.Pop Nothing (Pop (Err pop_error.Empty)) (trying b) f ev h = ((tt, ev, inl h), owes_nothing ds ev)
+    answered ds bal (channel.PollRecv k t) (aim.Poll Receives (Some key) task) ask.Pop Nothing (Pop (Err pop_error.Empty)) (trying b) f ev h = ((tt, ev, λ n. inl h), owes_nothing ds ev)
+    answered ds bal (channel.PollRecv k t) (aim.Poll Receives key task) ask.Pop Nothing (Pop (Err pop_error.Closed)) (trying b) f ev h =
+        ended c (channel.PollRecv k t) [] ds (c ∷ seen) (over (reply.RecvPoll (Ready (Err (refused.Plain (record {}))))) None Receives key) (([], c ∷ seen, refl, (ev, inl h)), refl) (owes_nothing ds ev)
+    answered ds bal (channel.PollRecv k t) (aim.Poll Receives key task) ask.Pop m r st f ev h = absurd h
+    answered ds bal (channel.PollClosed k t) (aim.Poll Closings key task) ask.IsClosed Nothing (Flag true) (trying b) f ev h =
+        ended c (channel.PollClosed k t) [] ds (c ∷ seen) (over (reply.ClosedPoll (Ready (Ok tt))) None Closings key) (([], c ∷ seen, refl, (ev, inl h)), refl) (owes_nothing ds ev)
+    answered ds bal (channel.PollClosed k t) (aim.Poll Closings None task) ask.IsClosed Nothing (Flag false) (trying b) f ev h = ((tt, ev, inl h), owes_nothing ds ev)
+    answered ds bal (channel.PollClosed k t) (aim.Poll Closings (Some key) task) ask.IsClosed Nothing (Flag false) (trying b) f ev h = ((tt, ev, λ n. inl h), owes_nothing ds ev)
+    answered ds bal (channel.PollClosed k t) (aim.Poll Closings key task) ask.IsClosed m r st f ev h = absurd h
+    answered ds bal (channel.PollNext k t) (aim.Poll Streams key task) ask.Pop Nothing (Pop (Ok w)) (taken v) f ev h = ((([], c ∷ seen, refl, subst (λ (z : T). Took ds z) (sym h) ev), refl), owed_took ds v ev)
+    answered ds bal (channel.PollNext k t) (aim.Poll Streams None task) ask.Pop Nothing (Pop (Err pop_error.Empty)) (trying b) f ev h = ((tt, ev, tt), owes_nothing ds ev)
+    answered ds bal (channel.PollNext k t) (aim.Poll Streams (Some key) task) ask.Pop Nothing (Pop (Err pop_error.Empty)) (trying b) f ev h = ((tt, ev, λ n. tt), owes_nothing ds ev)
+    answered ds bal (channel.PollNext k t) (aim.Poll Streams key task) ask.Pop Nothing (Pop (Err pop_error.Closed)) (trying b) f ev h =
+        ended c (channel.PollNext k t) [] ds (c ∷ seen) (over (reply.Next (Ready None)) None Streams key) (([], c ∷ seen, refl, (ev, inl h)), refl) (owes_nothing ds ev)
+    answered ds bal (channel.PollNext k t) (aim.Poll Streams key task) ask.Pop m r st f ev h = absurd h
+    answered ds b channel.DropSender (aim.Close closer.Sender) ask.Close m r st f ev h = sender_left ds f m r st h
+    answered ds b (channel.DropReceiver k) (aim.Close (closer.Receiver key)) ask.Close m r st f ev h = receiver_left k key ds f m r st h
+    answered ds bal (channel.Upgrade side) (aim.Upgrade s) ask.IsClosed Nothing (Flag true) (trying b) e ev h = ((([], c ∷ seen, refl, (ev, inl (inl h))), refl), owes_nothing ds ev)
+    answered ds bal (channel.Upgrade side) (aim.Upgrade s) ask.IsClosed Nothing (Flag false) (trying b) e ev h = (((e, inl h), ev), owes_nothing ds ev)
+    answered ds bal (channel.Upgrade side) (aim.Upgrade s) ask.IsClosed m r st e ev h = absurd h
+    answered ds bal channel.IsClosed aim.Ask ask.IsClosed Nothing (Flag f) (trying b) t ev h = ((([], c ∷ seen, refl, (ev, inl h)), refl), owes_nothing ds ev)
+    answered ds bal channel.IsClosed aim.Ask ask.IsClosed m r st f ev h = absurd h
+    answered ds bal channel.IsEmpty aim.Ask ask.IsEmpty Nothing (Flag f) (trying b) t ev h = ((([], c ∷ seen, refl, (ev, inl h)), refl), owes_nothing ds ev)
+    answered ds bal channel.IsEmpty aim.Ask ask.IsEmpty Nothing (Flag true) (read n) f ev h = ((([], c ∷ seen, refl, (ev.0, inl (none_there h))), refl), owes_nothing ds ev.0)
+    answered ds bal channel.IsEmpty aim.Ask ask.IsEmpty Nothing (Flag false) (read n) f ev h = ((([], c ∷ seen, refl, (ev.0, some_there n h ev.1)), refl), owes_nothing ds ev.0)
+    answered ds bal channel.IsEmpty aim.Ask ask.IsEmpty m r st f ev h = absurd h
+    answered ds bal channel.IsFull aim.Ask ask.IsFull Nothing (Flag f) (trying s) t ev h = ((([], c ∷ seen, refl, (ev, inl h)), refl), owes_nothing ds ev)
+    answered ds bal channel.IsFull aim.Ask ask.IsFull Nothing (Flag true) (read n) f ev h = ((([], c ∷ seen, refl, (ev.0, inl h)), refl), owes_nothing ds ev.0)
+    answered ds bal channel.IsFull aim.Ask ask.IsFull Nothing (Flag false) (read n) f ev h = ((([], c ∷ seen, refl, (ev.0, room_there n h.0 h.1 h.2 bal ev.2)), refl), owes_nothing ds ev.0)
+    answered ds bal channel.IsFull aim.Ask ask.IsFull m r st f ev h = absurd h
+    answered ds bal channel.Len aim.Ask ask.Len Nothing (Count n) (trying s) f ev h = ((([], c ∷ seen, refl, (ev, inl h)), refl), owes_nothing ds ev)
+    answered ds bal channel.Len aim.Ask ask.Len Nothing (Count n) (measured i k) f ev h =
+        ((([], c ∷ seen, refl, (ev.0, inr (once_map (λ z. length z.queue.items ≡ k) (λ z. length z.queue.items ≡ n) (λ z e. e ∙ sym h.0) seen ev.1))), refl), owes_nothing ds ev.0)
+    answered ds bal channel.Len aim.Ask ask.Len m r st f ev h = absurd h
+    answered ds bal channel.Capacity aim.Ask ask.Capacity Nothing (Cap n) (trying s) f ev h = ((([], c ∷ seen, refl, (ev, inl (sym h))), refl), owes_nothing ds ev)
+    answered ds bal channel.Capacity aim.Ask ask.Capacity m r st f ev h = absurd h
+    answered ds bal channel.IsTerminated aim.IsTerminated ask.IsClosed Nothing (Flag true) (trying b) f ev h = ((inl h, ev), refl)
+    answered ds bal channel.IsTerminated aim.IsTerminated ask.IsClosed Nothing (Flag false) (trying b) f ev h = ((([], c ∷ seen, refl, (ev, inl (inl h))), refl), owes_nothing ds ev)
+    answered ds bal channel.IsTerminated aim.IsTerminated ask.IsClosed m r st f ev h = absurd h
+    answered ds bal channel.IsTerminated aim.Ask ask.IsEmpty Nothing (Flag true) (trying b) o ev h = ((([], c ∷ seen, refl, (ev, inl (h, inr o))), refl), owes_nothing ds ev)
+    answered ds bal channel.IsTerminated aim.Ask ask.IsEmpty Nothing (Flag false) (trying b) o ev h = ((([], c ∷ seen, refl, (ev, inl (inr h))), refl), owes_nothing ds ev)
+    answered ds bal channel.IsTerminated aim.Ask ask.IsEmpty Nothing (Flag true) (read n) o ev h = ((([], c ∷ seen, refl, (ev.0, inl (none_there h, inr o))), refl), owes_nothing ds ev.0)
+    answered ds bal channel.IsTerminated aim.Ask ask.IsEmpty Nothing (Flag false) (read n) o ev h =
+        ((([], c ∷ seen, refl, (ev.0, once_map HasMessage (λ z. Open z ⊎ HasMessage z) (λ z k. inr k) (c ∷ seen) (some_there n h ev.1))), refl), owes_nothing ds ev.0)
+    answered ds bal channel.IsTerminated aim.Ask ask.IsEmpty m r st o ev h = absurd h
+    answered ds b x y a m r st f ev h = absurd f

@@ -101,18 +101,6 @@ module _ {T W : Type 0} (a : Roster W) where
       subst (λ (l : Line). (if waits key (listeners (line_of w) a) then 1 else told_try) ≤ (if waits key (listeners l a) then 3 else told_try)) e
       (register_or_try (waits key (listeners (line_of w) a)))
 
-  sent_left : (x : QueueReply T) → left_to_turn a (let t : Turn T W = sent_next x in t) ≤ 3
-  sent_left (answer.Push (Err (push_error.Full m))) = omega arith
-  sent_left x = omega arith
-
-  forced_left : (x : QueueReply T) → left_to_turn a (let t : Turn T W = forced_next x in t) ≤ 3
-  forced_left (answer.Force (Err (force_error.Closed m))) = omega arith
-  forced_left x = omega arith
-
-  received_left : (x : QueueReply T) → left_to_turn a (let t : Turn T W = received_next x in t) ≤ 2
-  received_left (answer.Pop (Err pop_error.Empty)) = omega arith
-  received_left x = omega arith
-
   gathered_left : (vs : List T) (k : ℕ) → left_to_turn a (let t : Turn T W = gathered_next (with_last vs k) in t) ≤ 2 + one_try * k
   gathered_left vs zero = omega arith
   gathered_left vs (suc k) = omega arith
@@ -121,73 +109,42 @@ module _ {T W : Type 0} (a : Roster W) where
   short_left [] e = omega arith
   short_left (v ∷ vs) e = omega arith
 
-  several_left : (x : QueueReply T) (g : Gathered T) → left_to_turn a (let t : Turn T W = several_next x g in t) ≤ 2 + one_try * g.more
-  several_left (answer.Pop (Ok m)) g = gathered_left (g.taken ++ m ∷ []) g.more
-  several_left (answer.Pop (Err pop_error.Empty)) g = let h = short_left g.taken try_recv_error.Empty in omega (arith, h)
-  several_left (answer.Pop (Err pop_error.Closed)) g = let h = short_left g.taken try_recv_error.Closed in omega (arith, h)
-  several_left x g = omega arith
-
-  module _ (key : Option Key) (task : W) where
-    soon : (line : Line) (x : Ending T) → left_to_turn a (let t : Turn T W = ends_by x in t) ≤ left_after_try {T = T} a (aim.Poll line key task)
-    soon line x = let h = ends_soon x in let k = some_to_poll T a line key task 1 (omega arith) in omega (arith, h, k)
-
-    send_left : (x : QueueReply T) → left_to_turn a (send_next x key task) ≤ left_after_try {T = T} a (aim.Poll Sends key task)
-    send_left (answer.Push (Ok u)) = some_to_poll T a Sends key task 3 (omega arith)
-    send_left (answer.Push (Err (push_error.Full m))) = refused_left (waiting.Send m) Sends key task refl
-    send_left (answer.Push (Err (push_error.Closed m))) = soon Sends _
-    send_left (answer.Push (Err (push_error.NoMemory m))) = soon Sends _
-    send_left x = some_to_poll T a Sends key task 0 (omega arith)
-
-    receive_left : (x : QueueReply T) → left_to_turn a (receive_next x key task) ≤ left_after_try {T = T} a (aim.Poll Receives key task)
-    receive_left (answer.Pop (Ok m)) = some_to_poll T a Receives key task 2 (omega arith)
-    receive_left (answer.Pop (Err pop_error.Empty)) = refused_left waiting.Receive Receives key task refl
-    receive_left (answer.Pop (Err pop_error.Closed)) = soon Receives _
-    receive_left x = some_to_poll T a Receives key task 0 (omega arith)
-
-    stream_left : (x : QueueReply T) → left_to_turn a (stream_next x key task) ≤ left_after_try {T = T} a (aim.Poll Streams key task)
-    stream_left (answer.Pop (Ok m)) = some_to_poll T a Streams key task 2 (omega arith)
-    stream_left (answer.Pop (Err pop_error.Empty)) = refused_left waiting.Stream Streams key task refl
-    stream_left (answer.Pop (Err pop_error.Closed)) = soon Streams _
-    stream_left x = some_to_poll T a Streams key task 0 (omega arith)
-
-    closing_left : (x : QueueReply T) → left_to_turn a (closing_next x key task) ≤ left_after_try {T = T} a (aim.Poll Closings key task)
-    closing_left (answer.Flag true) = soon Closings _
-    closing_left (answer.Flag false) = refused_left waiting.Closing Closings key task refl
-    closing_left x = some_to_poll T a Closings key task 0 (omega arith)
-
-    polled_left : (line : Line) (x : QueueReply T) → left_to_turn a (polled_next line x key task) ≤ left_after_try {T = T} a (aim.Poll line key task)
-    polled_left Sends x = send_left x
-    polled_left Receives x = receive_left x
-    polled_left Streams x = stream_left x
-    polled_left Closings x = closing_left x
-
-  closed_left : (x : QueueReply T) (c : Closer) → left_to_turn a (let t : Turn T W = closed_next x c in t) ≤ 5
-  closed_left (answer.Close true) c = omega arith
-  closed_left (answer.Close false) c = let h = ends_soon (closer_ending c false) in omega (arith, h)
-  closed_left x c = omega arith
-
-  asked_left : (x : QueueReply T) → left_to_turn a (let t : Turn T W = asked_next x in t) ≤ 0
-  asked_left (answer.Flag b) = omega arith
-  asked_left x = omega arith
-
-  terminated_left : (x : QueueReply T) → left_to_turn a (let t : Turn T W = terminated_next x in t) ≤ one_try
-  terminated_left (answer.Flag true) = omega arith
-  terminated_left x = omega arith
-
-  upgraded_left : (x : QueueReply T) (side : Side) → left_to_turn a (let t : Turn T W = upgraded_next x side in t) ≤ 2
-  upgraded_left (answer.Flag true) side = omega arith
-  upgraded_left x side = omega arith
+  soon : (key : Option Key) (task : W) (line : Line) (x : Ending T) → left_to_turn a (let t : Turn T W = ends_by x in t) ≤ left_after_try {T = T} a (aim.Poll line key task)
+  soon key task line x = let h = ends_soon x in let k = some_to_poll T a line key task 1 (omega arith) in omega (arith, h, k)
 
   pub answered_left : (x : Aim T W) (y : QueueReply T) → left_to_turn a (answered_next x y) ≤ left_after_try a x
-  answered_left aim.TrySend y = sent_left y
-  answered_left aim.ForceSend y = forced_left y
-  answered_left aim.TryRecv y = received_left y
-  answered_left (aim.RecvMany g) y = several_left y g
-  answered_left (aim.Poll line key task) y = polled_left key task line y
-  answered_left (aim.Close c) y = closed_left y c
-  answered_left aim.Ask y = asked_left y
-  answered_left aim.IsTerminated y = terminated_left y
-  answered_left (aim.Upgrade side) y = upgraded_left y side
+  answered_left aim.TrySend (answer.Push (Err (push_error.Full m))) = omega arith
+  answered_left aim.TrySend y = omega arith
+  answered_left aim.ForceSend (answer.Force (Err (force_error.Closed m))) = omega arith
+  answered_left aim.ForceSend y = omega arith
+  answered_left aim.TryRecv (answer.Pop (Err pop_error.Empty)) = omega arith
+  answered_left aim.TryRecv y = omega arith
+  answered_left (aim.RecvMany g) (answer.Pop (Ok m)) = gathered_left (g.taken ++ m ∷ []) g.more
+  answered_left (aim.RecvMany g) (answer.Pop (Err pop_error.Empty)) = let h = short_left g.taken try_recv_error.Empty in omega (arith, h)
+  answered_left (aim.RecvMany g) (answer.Pop (Err pop_error.Closed)) = let h = short_left g.taken try_recv_error.Closed in omega (arith, h)
+  answered_left (aim.RecvMany g) y = omega arith
+  answered_left (aim.Poll Sends key task) (answer.Push (Ok u)) = some_to_poll T a Sends key task 3 (omega arith)
+  answered_left (aim.Poll Sends key task) (answer.Push (Err (push_error.Full m))) = refused_left (waiting.Send m) Sends key task refl
+  answered_left (aim.Poll Sends key task) (answer.Push (Err (push_error.Closed m))) = soon key task Sends _
+  answered_left (aim.Poll Sends key task) (answer.Push (Err (push_error.NoMemory m))) = soon key task Sends _
+  answered_left (aim.Poll Receives key task) (answer.Pop (Ok m)) = some_to_poll T a Receives key task 2 (omega arith)
+  answered_left (aim.Poll Receives key task) (answer.Pop (Err pop_error.Empty)) = refused_left waiting.Receive Receives key task refl
+  answered_left (aim.Poll Receives key task) (answer.Pop (Err pop_error.Closed)) = soon key task Receives _
+  answered_left (aim.Poll Streams key task) (answer.Pop (Ok m)) = some_to_poll T a Streams key task 2 (omega arith)
+  answered_left (aim.Poll Streams key task) (answer.Pop (Err pop_error.Empty)) = refused_left waiting.Stream Streams key task refl
+  answered_left (aim.Poll Streams key task) (answer.Pop (Err pop_error.Closed)) = soon key task Streams _
+  answered_left (aim.Poll Closings key task) (answer.Flag true) = soon key task Closings _
+  answered_left (aim.Poll Closings key task) (answer.Flag false) = refused_left waiting.Closing Closings key task refl
+  answered_left (aim.Poll line key task) y = some_to_poll T a line key task 0 (omega arith)
+  answered_left (aim.Close c) (answer.Close true) = omega arith
+  answered_left (aim.Close c) (answer.Close false) = let h = ends_soon (closer_ending c false) in omega (arith, h)
+  answered_left (aim.Close c) y = omega arith
+  answered_left aim.Ask (answer.Flag b) = omega arith
+  answered_left aim.Ask y = omega arith
+  answered_left aim.IsTerminated (answer.Flag true) = omega arith
+  answered_left aim.IsTerminated y = omega arith
+  answered_left (aim.Upgrade side) (answer.Flag true) = omega arith
+  answered_left (aim.Upgrade side) y = omega arith
 
 -- ---- after a step on a list or a count
 

@@ -49,7 +49,7 @@ module _ {T W : Type 0} where
         (subst (λ (z : Stage (Phase T) T W). After d x [] es (d ∷ seen) None z) (sym h.3) (went f h.0 y m tf ta h.1))
     tried_by f y m r s tf ta (inr h) =
         let d : Channel T W = next_channel f.ask f.stage m c in
-        turned_at d x [] (with_marked ds (mark_of_queue m) c seen) (d ∷ seen) (answered_next y h.0) r s h.2 (answered c seen ds bal x y f.ask f.stage m h.0 tf ta h.1)
+        turned_at d x [] (with_marked ds (mark_of_queue m) c seen) (d ∷ seen) (answered_next y h.0) r s h.2 (answered c seen ds bal x y f.ask m h.0 f.stage tf ta h.1)
 
     tried : (f : Phase T) (y : Aim T W) (e : Effect T W) (r : Option (Reply T)) (s : Stage (Phase T) T W) → TriesFor x y f.ask ds seen → TriesAt c y f.ask f.stage ds seen → told ≡ [] → Tried c f y e r s
         → After e.channel x (told ++ []) (with_marked ds e.mark c seen) (e.channel ∷ seen) r s

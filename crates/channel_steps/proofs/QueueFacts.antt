@@ -20,31 +20,14 @@ module _ {T : Type 0} where
   Says a s Close q = IsOpen q
 
   module _ (q : Queue T) where
-    push_says : (v : T) (m : QueueMark) (s t : queue.Stage T) → ContinuesPush q m s t → Says (ask.Push v) s m q
-    push_says v Nothing s t g = tt
-    push_says v Append (trying b) t g = ((v, refl), g.1, inl g.0)
-    push_says v m s t g = absurd g
-
-    force_says : (v : T) (m : QueueMark) (s t : queue.Stage T) → ContinuesForce q m s t → Says (ask.ForcePush v) s m q
-    force_says v Nothing s t g = tt
-    force_says v Append (trying b) t g = ((v, refl), g.1, inl g.0)
-    force_says v Append (displaced d) t g = ((v, refl), g.1, inr (g.0, refl))
-    force_says v Replace (trying b) t g = ((v, refl), (g.0, g.1), g.3, g.2, g.4)
-    force_says v TakeDisplaced (trying b) t g = ((g.0, g.1), g.3, g.4)
-    force_says v m s t g = absurd g
-
-    pop_says : (m : QueueMark) (s t : queue.Stage T) → ContinuesPop q m s t → Says ask.Pop s m q
-    pop_says Nothing s t g = tt
-    pop_says Take (trying b) t g = (g.0, g.1)
-    pop_says m s t g = absurd g
-
     goes_says : (a : QueueAsk T) (m : QueueMark) (s t : queue.Stage T) → ContinuesBy q a m s t → Says a s m q
-    goes_says (ask.Push v) m s t g = push_says v m s t g
-    goes_says (ask.ForcePush v) m s t g = force_says v m s t g
-    goes_says ask.Pop m s t g = pop_says m s t g
-    goes_says ask.IsEmpty Nothing s t g = tt
-    goes_says ask.IsFull Nothing s t g = tt
-    goes_says ask.Len Nothing s t g = tt
+    goes_says (ask.Push v) Append (trying b) t g = ((v, refl), g.1, inl g.0)
+    goes_says (ask.ForcePush v) Append (trying b) t g = ((v, refl), g.1, inl g.0)
+    goes_says (ask.ForcePush v) Append (displaced d) t g = ((v, refl), g.1, inr (g.0, refl))
+    goes_says (ask.ForcePush v) Replace (trying b) t g = ((v, refl), (g.0, g.1), g.3, g.2, g.4)
+    goes_says (ask.ForcePush v) TakeDisplaced (trying b) t g = ((g.0, g.1), g.3, g.4)
+    goes_says ask.Pop Take (trying b) t g = (g.0, g.1)
+    goes_says a Nothing s t g = tt
     goes_says a m s t g = absurd g
 
     -- an answer comes by a step with no mark, or it is that of a call that has closed

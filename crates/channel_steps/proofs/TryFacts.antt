@@ -119,55 +119,31 @@ module _ {T W : Type 0} where
     at_deeds : (a : QueueAsk T) (m : QueueMark) (s t : queue.Stage T) (ds : List (MarkedMoment T W)) → ds ≡ [] → Went a m s t [] → Went a m s t ds
     at_deeds a m s t ds e h = subst (λ (x : List (MarkedMoment T W)). Went a m s t x) (sym e) h
 
-    goes_push : (v : T) (m : QueueMark) (s t : queue.Stage T) (ds : List (MarkedMoment T W)) → ContinuesPush c.queue m s t → TryAt c (ask.Push v) s ds seen → Went (ask.Push v) m s t ds
-    goes_push v Nothing (trying b) t ds g ev = at_stage (ask.Push v) Nothing (trying b) t (trying (seen_after b c.queue)) ds g (ev.0, λ e. refusal_seen b c seen ev.1 e)
-    goes_push v Nothing (appended None) t ds g ev = at_stage (ask.Push v) Nothing (appended None) t (appended None) ds g ev
-    goes_push v Append (trying b) t ds g ev = at_stage (ask.Push v) Append (trying b) t (appended None) ds g.2 (at_deeds (ask.Push v) Append (trying b) (appended None) ds ev.0 (refl, g.0, g.1))
-    goes_push v m s t ds g ev = absurd g
-
-    goes_force : (v : T) (m : QueueMark) (s t : queue.Stage T) (ds : List (MarkedMoment T W)) → ContinuesForce c.queue m s t → TryAt c (ask.ForcePush v) s ds seen → Went (ask.ForcePush v) m s t ds
-    goes_force v Nothing (trying b) t ds g ev = at_stage (ask.ForcePush v) Nothing (trying b) t (trying (seen_after b c.queue)) ds g (ev.0, λ e. refusal_seen b c seen ev.1 e)
-    goes_force v Nothing (displaced d) t ds g ev = at_stage (ask.ForcePush v) Nothing (displaced d) t (displaced d) ds g ev
-    goes_force v Nothing (appended None) t ds g ev = at_stage (ask.ForcePush v) Nothing (appended None) t (appended None) ds g ev
-    goes_force v Nothing (appended (Some d)) t ds g ev = at_stage (ask.ForcePush v) Nothing (appended (Some d)) t (appended (Some d)) ds g ev
-    goes_force v Append (trying b) t ds g ev = at_stage (ask.ForcePush v) Append (trying b) t (appended None) ds g.2 (at_deeds (ask.ForcePush v) Append (trying b) (appended None) ds ev.0 (refl, g.0, g.1))
-    goes_force v Append (displaced d) t ds g ev = at_stage (ask.ForcePush v) Append (displaced d) t (appended (Some d)) ds g.2 (inr (displaced_now ds d _ ev refl g.1))
-    goes_force v Replace (trying b) t ds g ev = at_stage (ask.ForcePush v) Replace (trying b) t (appended (Some g.0)) ds g.5 (at_deeds (ask.ForcePush v) Replace (trying b) (appended (Some g.0)) ds ev.0 (inl (refl, (g.2, g.3), g.1, g.4)))
-    goes_force v TakeDisplaced (trying b) t ds g ev =
-        at_stage (ask.ForcePush v) TakeDisplaced (trying b) t (displaced g.0) ds g.5 (at_deeds (ask.ForcePush v) TakeDisplaced (trying b) (displaced g.0) ds ev.0 (refl, g.3, g.4, g.1, open_once c.queue.capacity (c ∷ seen) (refusal_seen b c seen ev.1 g.2), g.6))
-    goes_force v m s t ds g ev = absurd g
-
-    goes_pop : (m : QueueMark) (s t : queue.Stage T) (ds : List (MarkedMoment T W)) → ContinuesPop c.queue m s t → TryAt c ask.Pop s ds seen → Went ask.Pop m s t ds
-    goes_pop Nothing (trying b) t ds g ev = at_stage ask.Pop Nothing (trying b) t (trying (seen_after b c.queue)) ds g ev
-    goes_pop Nothing (taken v) t ds g ev = at_stage ask.Pop Nothing (taken v) t (taken v) ds g ev
-    goes_pop Take (trying b) t ds g ev = at_stage ask.Pop Take (trying b) t (taken g.0) ds g.2 (at_deeds ask.Pop Take (trying b) (taken g.0) ds ev (refl, g.1))
-    goes_pop m s t ds g ev = absurd g
-
     empty_or_not : (n : ℕ) → n ≡ length c.queue.items → IsBalanced c.queue → Once HasMessage (c ∷ seen) ⊎ (c.queue.accepted ≤ c.queue.removed)
     empty_or_not zero e h = let h' : length c.queue.items + c.queue.removed ≡ c.queue.accepted = h in inr (omega arith)
     empty_or_not (suc n) e h = inl (inl (ne_of (length c.queue.items) 0 (λ k. absurd (omega (arith, e, k)))))
 
-    goes_empty : (m : QueueMark) (s t : queue.Stage T) (ds : List (MarkedMoment T W)) → ContinuesBy c.queue ask.IsEmpty m s t → IsBalanced c.queue → TryAt c ask.IsEmpty s ds seen → Went ask.IsEmpty m s t ds
-    goes_empty Nothing (trying b) t ds g h ev = at_stage ask.IsEmpty Nothing (trying b) t (read c.queue.removed) ds g (ev, empty_or_not (length c.queue.items) refl h)
-    goes_empty m s t ds g h ev = absurd g
-
-    goes_full : (m : QueueMark) (s t : queue.Stage T) (ds : List (MarkedMoment T W)) → ContinuesBy c.queue ask.IsFull m s t → TryAt c ask.IsFull s ds seen → Went ask.IsFull m s t ds
-    goes_full Nothing (trying b) t ds g ev = at_stage ask.IsFull Nothing (trying b) t (read c.queue.accepted) ds g.0 (ev, g.1, inr refl)
-    goes_full m s t ds g ev = absurd g
-
-    goes_len : (m : QueueMark) (s t : queue.Stage T) (ds : List (MarkedMoment T W)) → ContinuesBy c.queue ask.Len m s t → TryAt c ask.Len s ds seen → Went ask.Len m s t ds
-    goes_len Nothing (trying b) t ds g ev = at_stage ask.Len Nothing (trying b) t (read c.queue.accepted) ds g ev
-    goes_len Nothing (read n) t ds g ev = at_stage ask.Len Nothing (read n) t (measured n (length c.queue.items)) ds g (ev, inl refl)
-    goes_len Nothing (measured n k) t ds g ev = at_stage ask.Len Nothing (measured n k) t (trying false) ds g ev.0
-    goes_len m s t ds g ev = absurd g
-
     pub goes : (a : QueueAsk T) (m : QueueMark) (s t : queue.Stage T) (ds : List (MarkedMoment T W)) → ContinuesBy c.queue a m s t → IsBalanced c.queue → TryAt c a s ds seen → Went a m s t ds
-    goes (ask.Push v) m s t ds g h ev = goes_push v m s t ds g ev
-    goes (ask.ForcePush v) m s t ds g h ev = goes_force v m s t ds g ev
-    goes ask.Pop m s t ds g h ev = goes_pop m s t ds g ev
-    goes ask.IsEmpty m s t ds g h ev = goes_empty m s t ds g h ev
-    goes ask.IsFull m s t ds g h ev = goes_full m s t ds g ev
-    goes ask.Len m s t ds g h ev = goes_len m s t ds g ev
+    goes (ask.Push v) Nothing (trying b) t ds g h ev = at_stage (ask.Push v) Nothing (trying b) t (trying (seen_after b c.queue)) ds g (ev.0, λ e. refusal_seen b c seen ev.1 e)
+    goes (ask.Push v) Nothing (appended None) t ds g h ev = at_stage (ask.Push v) Nothing (appended None) t (appended None) ds g ev
+    goes (ask.Push v) Append (trying b) t ds g h ev = at_stage (ask.Push v) Append (trying b) t (appended None) ds g.2 (at_deeds (ask.Push v) Append (trying b) (appended None) ds ev.0 (refl, g.0, g.1))
+    goes (ask.ForcePush v) Nothing (trying b) t ds g h ev = at_stage (ask.ForcePush v) Nothing (trying b) t (trying (seen_after b c.queue)) ds g (ev.0, λ e. refusal_seen b c seen ev.1 e)
+    goes (ask.ForcePush v) Nothing (displaced d) t ds g h ev = at_stage (ask.ForcePush v) Nothing (displaced d) t (displaced d) ds g ev
+    goes (ask.ForcePush v) Nothing (appended None) t ds g h ev = at_stage (ask.ForcePush v) Nothing (appended None) t (appended None) ds g ev
+    goes (ask.ForcePush v) Nothing (appended (Some d)) t ds g h ev = at_stage (ask.ForcePush v) Nothing (appended (Some d)) t (appended (Some d)) ds g ev
+    goes (ask.ForcePush v) Append (trying b) t ds g h ev = at_stage (ask.ForcePush v) Append (trying b) t (appended None) ds g.2 (at_deeds (ask.ForcePush v) Append (trying b) (appended None) ds ev.0 (refl, g.0, g.1))
+    goes (ask.ForcePush v) Append (displaced d) t ds g h ev = at_stage (ask.ForcePush v) Append (displaced d) t (appended (Some d)) ds g.2 (inr (displaced_now ds d _ ev refl g.1))
+    goes (ask.ForcePush v) Replace (trying b) t ds g h ev = at_stage (ask.ForcePush v) Replace (trying b) t (appended (Some g.0)) ds g.5 (at_deeds (ask.ForcePush v) Replace (trying b) (appended (Some g.0)) ds ev.0 (inl (refl, (g.2, g.3), g.1, g.4)))
+    goes (ask.ForcePush v) TakeDisplaced (trying b) t ds g h ev =
+        at_stage (ask.ForcePush v) TakeDisplaced (trying b) t (displaced g.0) ds g.5 (at_deeds (ask.ForcePush v) TakeDisplaced (trying b) (displaced g.0) ds ev.0 (refl, g.3, g.4, g.1, open_once c.queue.capacity (c ∷ seen) (refusal_seen b c seen ev.1 g.2), g.6))
+    goes ask.Pop Nothing (trying b) t ds g h ev = at_stage ask.Pop Nothing (trying b) t (trying (seen_after b c.queue)) ds g ev
+    goes ask.Pop Nothing (taken v) t ds g h ev = at_stage ask.Pop Nothing (taken v) t (taken v) ds g ev
+    goes ask.Pop Take (trying b) t ds g h ev = at_stage ask.Pop Take (trying b) t (taken g.0) ds g.2 (at_deeds ask.Pop Take (trying b) (taken g.0) ds ev (refl, g.1))
+    goes ask.IsEmpty Nothing (trying b) t ds g h ev = at_stage ask.IsEmpty Nothing (trying b) t (read c.queue.removed) ds g (ev, empty_or_not (length c.queue.items) refl h)
+    goes ask.IsFull Nothing (trying b) t ds g h ev = at_stage ask.IsFull Nothing (trying b) t (read c.queue.accepted) ds g.0 (ev, g.1, inr refl)
+    goes ask.Len Nothing (trying b) t ds g h ev = at_stage ask.Len Nothing (trying b) t (read c.queue.accepted) ds g ev
+    goes ask.Len Nothing (read n) t ds g h ev = at_stage ask.Len Nothing (read n) t (measured n (length c.queue.items)) ds g (ev, inl refl)
+    goes ask.Len Nothing (measured n k) t ds g h ev = at_stage ask.Len Nothing (measured n k) t (trying false) ds g ev.0
     goes x m s t ds g h ev = absurd g
 
   -- ---- what a call has taken before

@@ -81,18 +81,6 @@ module _ {T W V : Type 0} (put : W → V) where
   refused_alike w None task = refl
   refused_alike w (Some key) task = refl
 
-  sent_alike : (x : QueueReply T) → Same (sent_next x) (sent_next x)
-  sent_alike (Push (Err (push_error.Full m))) = refl
-  sent_alike _ = refl
-
-  forced_alike : (x : QueueReply T) → Same (forced_next x) (forced_next x)
-  forced_alike (Force (Err (force_error.Closed m))) = refl
-  forced_alike _ = refl
-
-  received_alike : (x : QueueReply T) → Same (received_next x) (received_next x)
-  received_alike (Pop (Err pop_error.Empty)) = refl
-  received_alike _ = refl
-
   gathered_alike : (taken : List T) (more : ℕ) → Same (gathered_next (with_last taken more)) (gathered_next (with_last taken more))
   gathered_alike taken zero = refl
   gathered_alike taken (suc n) = refl
@@ -101,69 +89,27 @@ module _ {T W V : Type 0} (put : W → V) where
   short_alike [] e = refl
   short_alike (v ∷ vs) e = refl
 
-  several_alike : (x : QueueReply T) (g : Gathered T) → Same (several_next x g) (several_next x g)
-  several_alike (Pop (Ok m)) g = gathered_alike (g.taken ++ m ∷ []) g.more
-  several_alike (Pop (Err pop_error.Empty)) g = short_alike g.taken _
-  several_alike (Pop (Err pop_error.Closed)) g = short_alike g.taken _
-  several_alike _ g = refl
-
-  send_alike : (x : QueueReply T) (key : Option Key) (task : W) → Same (send_next x key task) (send_next x key (put task))
-  send_alike (Push (Ok u)) key task = refl
-  send_alike (Push (Err (push_error.Full m))) key task = refused_alike (waiting.Send m) key task
-  send_alike (Push (Err (push_error.Closed m))) key task = ends_alike _
-  send_alike (Push (Err (push_error.NoMemory m))) key task = ends_alike _
-  send_alike _ key task = refl
-
-  receive_alike : (x : QueueReply T) (key : Option Key) (task : W) → Same (receive_next x key task) (receive_next x key (put task))
-  receive_alike (Pop (Ok m)) key task = refl
-  receive_alike (Pop (Err pop_error.Empty)) key task = refused_alike waiting.Receive key task
-  receive_alike (Pop (Err pop_error.Closed)) key task = ends_alike _
-  receive_alike _ key task = refl
-
-  stream_alike : (x : QueueReply T) (key : Option Key) (task : W) → Same (stream_next x key task) (stream_next x key (put task))
-  stream_alike (Pop (Ok m)) key task = refl
-  stream_alike (Pop (Err pop_error.Empty)) key task = refused_alike waiting.Stream key task
-  stream_alike (Pop (Err pop_error.Closed)) key task = ends_alike _
-  stream_alike _ key task = refl
-
-  closing_alike : (x : QueueReply T) (key : Option Key) (task : W) → Same (closing_next x key task) (closing_next x key (put task))
-  closing_alike (Flag true) key task = ends_alike _
-  closing_alike (Flag false) key task = refused_alike waiting.Closing key task
-  closing_alike _ key task = refl
-
-  polled_alike : (line : Line) (x : QueueReply T) (key : Option Key) (task : W) → Same (polled_next line x key task) (polled_next line x key (put task))
-  polled_alike Sends x key task = send_alike x key task
-  polled_alike Receives x key task = receive_alike x key task
-  polled_alike Streams x key task = stream_alike x key task
-  polled_alike Closings x key task = closing_alike x key task
-
-  closed_alike : (x : QueueReply T) (c : Closer) → Same (closed_next x c) (closed_next x c)
-  closed_alike (Close true) c = refl
-  closed_alike (Close false) c = ends_alike (closer_ending c false)
-  closed_alike _ c = refl
-
-  asked_alike : (x : QueueReply T) → Same (asked_next x) (asked_next x)
-  asked_alike (Flag b) = refl
-  asked_alike _ = refl
-
-  terminated_alike : (x : QueueReply T) → Same (terminated_next x) (terminated_next x)
-  terminated_alike (Flag true) = refl
-  terminated_alike _ = refl
-
-  upgraded_alike : (x : QueueReply T) (side : Side) → Same (upgraded_next x side) (upgraded_next x side)
-  upgraded_alike (Flag true) side = refl
-  upgraded_alike _ side = refl
-
   pub answered_alike : (a : Aim T W) (x : QueueReply T) → Same (answered_next a x) (answered_next (aim_by put a) x)
-  answered_alike aim.TrySend x = sent_alike x
-  answered_alike aim.ForceSend x = forced_alike x
-  answered_alike aim.TryRecv x = received_alike x
-  answered_alike (aim.RecvMany g) x = several_alike x g
-  answered_alike (aim.Poll line key task) x = polled_alike line x key task
-  answered_alike (aim.Close c) x = closed_alike x c
-  answered_alike aim.Ask x = asked_alike x
-  answered_alike aim.IsTerminated x = terminated_alike x
-  answered_alike (aim.Upgrade side) x = upgraded_alike x side
+  answered_alike aim.TrySend (Push (Err (push_error.Full m))) = refl
+  answered_alike aim.ForceSend (Force (Err (force_error.Closed m))) = refl
+  answered_alike aim.TryRecv (Pop (Err pop_error.Empty)) = refl
+  answered_alike (aim.RecvMany g) (Pop (Ok m)) = gathered_alike (g.taken ++ m ∷ []) g.more
+  answered_alike (aim.RecvMany g) (Pop (Err pop_error.Empty)) = short_alike g.taken _
+  answered_alike (aim.RecvMany g) (Pop (Err pop_error.Closed)) = short_alike g.taken _
+  answered_alike (aim.Poll Sends key task) (Push (Err (push_error.Full m))) = refused_alike (waiting.Send m) key task
+  answered_alike (aim.Poll Sends key task) (Push (Err (push_error.Closed m))) = ends_alike _
+  answered_alike (aim.Poll Sends key task) (Push (Err (push_error.NoMemory m))) = ends_alike _
+  answered_alike (aim.Poll Receives key task) (Pop (Err pop_error.Empty)) = refused_alike waiting.Receive key task
+  answered_alike (aim.Poll Receives key task) (Pop (Err pop_error.Closed)) = ends_alike _
+  answered_alike (aim.Poll Streams key task) (Pop (Err pop_error.Empty)) = refused_alike waiting.Stream key task
+  answered_alike (aim.Poll Streams key task) (Pop (Err pop_error.Closed)) = ends_alike _
+  answered_alike (aim.Poll Closings key task) (Flag true) = ends_alike _
+  answered_alike (aim.Poll Closings key task) (Flag false) = refused_alike waiting.Closing key task
+  answered_alike (aim.Close c) (Close false) = ends_alike (closer_ending c false)
+  answered_alike aim.Ask (Flag b) = refl
+  answered_alike aim.IsTerminated (Flag true) = refl
+  answered_alike (aim.Upgrade side) (Flag true) = refl
+  answered_alike a x = refl
 
   -- ---- the first turn
 

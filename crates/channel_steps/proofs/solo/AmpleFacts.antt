@@ -1,5 +1,5 @@
 -- A poll that holds a listener is refused no memory where it is alone: its list has room for the next as soon as that one has left.
-use Rattle.channel_steps.proofs.solo.Words.{nat_tests, arith, cond, ◌≡◌, ◌+◌, ◌<◌, ℕ, Bool, true, false, if◌then◌else◌, not, List, [], ◌∷◌, ◌++◌, Option, None, Some, Result, Ok, Err, is_some, refl, sym, ap, ◌∙◌, subst, Queue, IsQueueStep, mark_of, QueueAsk, QueueReply, QueueCall, shows, Finds, kind_of, listened, told_as, waits_as, same_key, ListenError, Key, answered_next, asks_listener, first, inserted, registered, Done, Channel, channel, Parts, Roster, Listeners, listeners, with_listeners, waits, parts_of, rooms_of, DoesPlain, line_of, leaving, pending_reply, refused_reply, ends_by, again, inserted_next, registered_next, Takes, Heard, WorkMakes, ChannelMakes, ChannelAsk, PollSend, PollRecv, PollClosed, PollNext, Mark, Nothing, PlainChannel, Reply, Aim, Ending, Held, Line, Sends, Receives, Streams, Closings, Stage, Trying, Working, Finished, Turn, Tries, Works, Ends, Waiting, Work, TellReceive, TellStreams, TellSend, Insert, Register, Leave, IsAtRest}
+use Rattle.channel_steps.proofs.solo.Words.{nat_tests, arith, cond, ◌≡◌, ◌+◌, ◌<◌, ℕ, Bool, true, false, if◌then◌else◌, not, List, [], ◌∷◌, ◌++◌, Option, None, Some, Result, Ok, Err, is_some, refl, sym, ap, ◌∙◌, subst, Queue, IsQueueStep, mark_of, QueueAsk, QueueReply, QueueCall, shows, Finds, kind_of, listened, told_as, waits_as, same_key, ListenError, Key, answered_next, asks_listener, first, inserted, registered, Done, Channel, channel, Parts, Roster, Listeners, listeners, with_listeners, waits, parts_of, rooms_of, DoesPlain, line_of, leaving, pending_reply, refused_reply, ends_by, again, inserted_next, registered_next, Takes, Heard, WorkMakes, ChannelMakes, ChannelAsk, PollSend, PollRecv, PollClosed, PollNext, Mark, Nothing, PlainChannel, Reply, Aim, Ending, Held, Line, Sends, Receives, Streams, Closings, Stage, Trying, Working, Finished, Turn, Tries, Works, Ends, Waiting, Work, TellReceive, TellStreams, TellSend, Insert, Register, Leave, IsAtRest, refused_next}
 use Rattle.std.specs.Map.{lookup}
 use Rattle.concurrent_queue.specs.Capacity.{capacity_of}
 use Rattle.event_listener.specs.Runs.{room_polled}
@@ -129,48 +129,22 @@ module _ {T W : Type 0} (cap : Option ℕ) where
   -- ---- an answer of the queue
 
   module _ (a : Roster W) (m : Rooms) where
-    sent : (key : Option Key) (task : W) (x : QueueReply T) → HasMemory cap x
-        → ReadyAim a m (aim.Poll Sends key task) → ReadyTurn a m (answered_next (aim.Poll Sends key task) x)
-    sent key task (answer.Push (Ok u)) ample h = refl
-    sent None task (answer.Push (Err (push_error.Full v))) ample h = h
-    sent (Some key) task (answer.Push (Err (push_error.Full v))) ample h = h
-    sent None task (answer.Push (Err (push_error.Closed v))) ample h = refl
-    sent (Some key) task (answer.Push (Err (push_error.Closed v))) ample h = refl
-    sent None task (answer.Push (Err (push_error.NoMemory v))) ample h = absurd (ample h.1 v refl)
-    sent (Some key) task (answer.Push (Err (push_error.NoMemory v))) ample h = absurd (ample h.1 v refl)
-    sent key task x ample h = refl
-
-    received : (key : Option Key) (task : W) (x : QueueReply T)
-        → ReadyAim a m (aim.Poll Receives key task) → ReadyTurn a m (answered_next (aim.Poll Receives key task) x)
-    received key task (answer.Pop (Ok v)) h = refl
-    received None task (answer.Pop (Err pop_error.Empty)) h = h
-    received (Some key) task (answer.Pop (Err pop_error.Empty)) h = h
-    received None task (answer.Pop (Err pop_error.Closed)) h = refl
-    received (Some key) task (answer.Pop (Err pop_error.Closed)) h = refl
-    received key task x h = refl
-
-    streamed : (key : Option Key) (task : W) (x : QueueReply T)
-        → ReadyAim a m (aim.Poll Streams key task) → ReadyTurn a m (answered_next (aim.Poll Streams key task) x)
-    streamed key task (answer.Pop (Ok v)) h = refl
-    streamed None task (answer.Pop (Err pop_error.Empty)) h = h
-    streamed (Some key) task (answer.Pop (Err pop_error.Empty)) h = h
-    streamed None task (answer.Pop (Err pop_error.Closed)) h = refl
-    streamed (Some key) task (answer.Pop (Err pop_error.Closed)) h = refl
-    streamed key task x h = refl
-
-    looked : (key : Option Key) (task : W) (x : QueueReply T)
-        → ReadyAim a m (aim.Poll Closings key task) → ReadyTurn a m (answered_next (aim.Poll Closings key task) x)
-    looked None task (answer.Flag true) h = refl
-    looked (Some key) task (answer.Flag true) h = refl
-    looked None task (answer.Flag false) h = h
-    looked (Some key) task (answer.Flag false) h = h
-    looked key task x h = refl
+    refused_ready : (w : Waiting T) (key : Option Key) (task : W) → ReadyAim a m (aim.Poll (line_of w) key task) → ReadyTurn a m (refused_next w key task)
+    refused_ready w None task h = h
+    refused_ready w (Some key) task h = h
 
     answered : (y : Aim T W) (x : QueueReply T) → HasMemory cap x → ReadyAim a m y → ReadyTurn a m (answered_next y x)
-    answered (aim.Poll Sends key task) x ample h = sent key task x ample h
-    answered (aim.Poll Receives key task) x ample h = received key task x h
-    answered (aim.Poll Streams key task) x ample h = streamed key task x h
-    answered (aim.Poll Closings key task) x ample h = looked key task x h
+    answered (aim.Poll Sends key task) (answer.Push (Err (push_error.Full v))) ample h = refused_ready (waiting.Send v) key task h
+    answered (aim.Poll Sends key task) (answer.Push (Err (push_error.Closed v))) ample h = ends_ready a m _ refl
+    answered (aim.Poll Sends None task) (answer.Push (Err (push_error.NoMemory v))) ample h = absurd (ample h.1 v refl)
+    answered (aim.Poll Sends (Some key) task) (answer.Push (Err (push_error.NoMemory v))) ample h = absurd (ample h.1 v refl)
+    answered (aim.Poll Receives key task) (answer.Pop (Err pop_error.Empty)) ample h = refused_ready waiting.Receive key task h
+    answered (aim.Poll Receives key task) (answer.Pop (Err pop_error.Closed)) ample h = ends_ready a m _ refl
+    answered (aim.Poll Streams key task) (answer.Pop (Err pop_error.Empty)) ample h = refused_ready waiting.Stream key task h
+    answered (aim.Poll Streams key task) (answer.Pop (Err pop_error.Closed)) ample h = ends_ready a m _ refl
+    answered (aim.Poll Closings key task) (answer.Flag true) ample h = ends_ready a m _ refl
+    answered (aim.Poll Closings key task) (answer.Flag false) ample h = refused_ready waiting.Closing key task h
+    answered (aim.Poll line key task) x ample h = refl
     answered y x ample h = absurd h
 
   -- ---- a step on a list

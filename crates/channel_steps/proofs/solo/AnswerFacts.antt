@@ -72,43 +72,6 @@ module _ {T W : Type 0} where
   now_is c q = record c { queue = q }
 
   module _ (c : Channel T W) (o : Outcome T W) where
-    sent_rest : (m : T) (y : QueueReply T) → Finds (ask.Push m) c.queue y → RestTurn (sent_next y) (now_is c (left_by (ask.Push m) y c.queue)) o → RestTry (ask.Push m) aim.TrySend c o
-    sent_rest m (answer.Push (Ok u)) g k = inr (pick_else c.queue.closed o _ _ g.0 (pick_else (is_filled c.queue) o _ _ g.1 k))
-    sent_rest m (answer.Push (Err (push_error.Full n))) g k =
-        let k' = subst (λ (x : T). RestTurn (sent_next (answer.Push (Err (push_error.Full x)))) c o) g.2 k in
-        inr (pick_else c.queue.closed o _ _ g.0 (pick_then (is_filled c.queue) o _ _ g.1 k'))
-    sent_rest m (answer.Push (Err (push_error.Closed n))) g k =
-        let k' = subst (λ (x : T). RestTurn (sent_next (answer.Push (Err (push_error.Closed x)))) c o) g.1 k in
-        inr (pick_then c.queue.closed o _ _ g.0 k')
-    sent_rest m (answer.Push (Err (push_error.NoMemory n))) g k =
-        let k' = subst (λ (x : T). RestTurn (sent_next (answer.Push (Err (push_error.NoMemory x)))) c o) g.2 k in
-        inl (g.0, g.1, k')
-    sent_rest m y g k = absurd g
-
-    forced_rest : (m : T) (y : QueueReply T) → Finds (ask.ForcePush m) c.queue y → RestTurn (forced_next y) (now_is c (left_by (ask.ForcePush m) y c.queue)) o → RestTry (ask.ForcePush m) aim.ForceSend c o
-    forced_rest m (answer.Force (Ok None)) g k = inr (pick_else c.queue.closed o _ _ g.0 (pick_else (is_filled c.queue) o _ _ g.1 k))
-    forced_rest m (answer.Force (Ok (Some d))) g k =
-        let oldest : Some d ≡ slice_get c.queue.items 0 = sym (ap (λ (xs : List T). slice_get xs 0) g.2.1) in
-        let k' = k ∙ ap (λ (x : Option T). ends alone.of_message (says (reply.ForceSend (Ok x))) (now_is c (alone.replaced m c.queue))) oldest in
-        inr (pick_else c.queue.closed o _ _ g.0 (pick_then (is_filled c.queue) o _ _ g.1 k'))
-    forced_rest m (answer.Force (Err (force_error.Closed n))) g k =
-        let k' = subst (λ (x : T). RestTurn (forced_next (answer.Force (Err (force_error.Closed x)))) c o) g.1 k in
-        inr (pick_then c.queue.closed o _ _ g.0 k')
-    forced_rest m (answer.Force (Err (force_error.NoMemory n))) g k =
-        let k' = subst (λ (x : T). RestTurn (forced_next (answer.Force (Err (force_error.NoMemory x)))) c o) g.2 k in
-        inl (g.0, g.1, k')
-    forced_rest m y g k = absurd g
-
-    received_rest : (y : QueueReply T) → Finds ask.Pop c.queue y → RestTurn (received_next y) (now_is c (left_by ask.Pop y c.queue)) o → RestTry ask.Pop aim.TryRecv c o
-    received_rest (answer.Pop (Ok m)) g k = subst (λ (xs : List T). o ≡ receives_by xs c) (sym g.1) k
-    received_rest (answer.Pop (Err pop_error.Empty)) g k =
-        let e : try_recv_error.Empty ≡ (if c.queue.closed then try_recv_error.Closed else try_recv_error.Empty) = pick_else c.queue.closed _ _ _ g.0 refl in
-        subst (λ (xs : List T). o ≡ receives_by xs c) (sym g.1) (k ∙ ap (λ (x : TryRecvError). ends [] (says (reply.TryRecv (Err x))) c) e)
-    received_rest (answer.Pop (Err pop_error.Closed)) g k =
-        let e : try_recv_error.Closed ≡ (if c.queue.closed then try_recv_error.Closed else try_recv_error.Empty) = pick_then c.queue.closed _ _ _ g.0 refl in
-        subst (λ (xs : List T). o ≡ receives_by xs c) (sym g.1) (k ∙ ap (λ (x : TryRecvError). ends [] (says (reply.TryRecv (Err x))) c) e)
-    received_rest y g k = absurd g
-
     gathered_rest : (vs rest : List T) (n : ℕ) (m : T) → c.queue.items ≡ m ∷ rest → RestTurn (gathered_next (with_last (vs ++ m ∷ []) n)) (now_is c (alone.taken c.queue)) o
         → o ≡ gathers (m ∷ rest) vs n c
     gathered_rest vs rest zero m e k = k
@@ -118,44 +81,6 @@ module _ {T W : Type 0} where
     short_rest : (vs : List T) (n : ℕ) (e : TryRecvError) → e ≡ (if c.queue.closed then try_recv_error.Closed else try_recv_error.Empty) → RestTurn (short_next vs e) c o → o ≡ gathers [] vs n c
     short_rest [] n e same k = k ∙ ap (λ (x : TryRecvError). ends [] (says (reply.RecvMany (Err (refused.Plain x)))) c) same
     short_rest (v ∷ vs) n e same k = k
-
-    several_rest : (g : Gathered T) (y : QueueReply T) → Finds ask.Pop c.queue y → RestTurn (several_next y g) (now_is c (left_by ask.Pop y c.queue)) o → RestTry ask.Pop (aim.RecvMany g) c o
-    several_rest z (answer.Pop (Ok m)) g k =
-        subst (λ (xs : List T). o ≡ gathers xs z.taken z.more c) (sym g.1) (gathered_rest z.taken g.0 z.more m g.1 k)
-    several_rest z (answer.Pop (Err pop_error.Empty)) g k =
-        subst (λ (xs : List T). o ≡ gathers xs z.taken z.more c) (sym g.1)
-        (short_rest z.taken z.more try_recv_error.Empty (pick_else c.queue.closed _ _ _ g.0 refl) k)
-    several_rest z (answer.Pop (Err pop_error.Closed)) g k =
-        subst (λ (xs : List T). o ≡ gathers xs z.taken z.more c) (sym g.1)
-        (short_rest z.taken z.more try_recv_error.Closed (pick_then c.queue.closed _ _ _ g.0 refl) k)
-    several_rest z y g k = absurd g
-
-    closed_rest : (by : Closer) (y : QueueReply T) → Finds ask.Close c.queue y → RestTurn (closed_next y by) (now_is c (left_by ask.Close y c.queue)) o → RestTry ask.Close (aim.Close by) c o
-    closed_rest by (answer.Close true) g k = pick_else c.queue.closed o _ _ (not-true c.queue.closed (sym g)) k
-    closed_rest by (answer.Close false) g k = pick_then c.queue.closed o _ _ (not-false c.queue.closed (sym g)) (ends_rest c o _ k)
-    closed_rest by y g k = absurd g
-
-    asked_rest : (a : QueueAsk T) (y : QueueReply T) → Finds a c.queue y → RestTurn (asked_next y) (now_is c (left_by a y c.queue)) o → RestTry a aim.Ask c o
-    asked_rest ask.IsClosed (answer.Flag b) g k = k ∙ ap (λ (x : Bool). says_only (reply.Flag x) c) g
-    asked_rest ask.IsEmpty (answer.Flag b) g k = k ∙ ap (λ (x : Bool). says_only (reply.Flag x) c) g
-    asked_rest ask.IsFull (answer.Flag b) g k = k ∙ ap (λ (x : Bool). says_only (reply.Flag x) c) g
-    asked_rest ask.Len (answer.Count n) g k = k ∙ ap (λ (x : ℕ). says_only (reply.Count x) c) g
-    asked_rest ask.Capacity (answer.Cap n) g k = k ∙ ap (λ (x : Option ℕ). says_only (reply.Cap x) c) g
-    asked_rest (ask.Push v) y g k = tt
-    asked_rest (ask.ForcePush v) y g k = tt
-    asked_rest ask.Pop y g k = tt
-    asked_rest ask.Close y g k = tt
-    asked_rest a y g k = absurd g
-
-    terminated_rest : (y : QueueReply T) → Finds ask.IsClosed c.queue y → RestTurn (terminated_next y) (now_is c (left_by ask.IsClosed y c.queue)) o → RestTry ask.IsClosed aim.IsTerminated c o
-    terminated_rest (answer.Flag true) g k = k ∙ ap (λ (x : Bool). says_only (reply.Flag (x && (length c.queue.items == 0))) c) g
-    terminated_rest (answer.Flag false) g k = k ∙ ap (λ (x : Bool). says_only (reply.Flag (x && (length c.queue.items == 0))) c) g
-    terminated_rest y g k = absurd g
-
-    upgraded_rest : (side : Side) (y : QueueReply T) → Finds ask.IsClosed c.queue y → RestTurn (upgraded_next y side) (now_is c (left_by ask.IsClosed y c.queue)) o → RestTry ask.IsClosed (aim.Upgrade side) c o
-    upgraded_rest side (answer.Flag true) g k = pick_then c.queue.closed o _ _ (sym g) k
-    upgraded_rest side (answer.Flag false) g k = pick_else c.queue.closed o _ _ (sym g) k
-    upgraded_rest side y g k = absurd g
 
     -- ---- polls
 
@@ -178,64 +103,102 @@ module _ {T W : Type 0} where
     abbrev ForStream : Option Key → W → List T → Type 0
     ForStream key task xs = PollsFor xs waiting.Stream (λ m. reply.Next (poll.Ready (Some (Ok m)))) (reply.Next (poll.Ready None)) key task c o
 
-    module _ (key : Option Key) (task : W) where
-      fresh_on : (line : Line) (k : Key) → kind_of (listeners line c.roster) k ≡ None → waits k (listeners line (listens line k c).channel.roster) ≡ true
-      fresh_on line k none =
-          subst (λ (l : Listeners W). waits k l ≡ true) (sym (same_line line (listened k (listeners line c.roster)) c.roster)) (fresh_waits k (listeners line c.roster) none)
+    fresh_on : (line : Line) (k : Key) → kind_of (listeners line c.roster) k ≡ None → waits k (listeners line (listens line k c).channel.roster) ≡ true
+    fresh_on line k none =
+        subst (λ (l : Listeners W). waits k l ≡ true) (sym (same_line line (listened k (listeners line c.roster)) c.roster)) (fresh_waits k (listeners line c.roster) none)
 
-      send_rest : (m : T) (y : QueueReply T) → Finds (ask.Push m) c.queue y → RestTurn (send_next y key task) (now_is c (left_by (ask.Push m) y c.queue)) o → RestTry (ask.Push m) (aim.Poll Sends key task) c o
-      send_rest m (answer.Push (Ok u)) g k = inr (where_else c.queue.closed _ _ g.0 (where_else (is_filled c.queue) _ _ g.1 k))
-      send_rest m (answer.Push (Err (push_error.Full n))) g k =
-          let k' = subst (λ (x : T). RestTurn (refused_next (waiting.Send x) key task) c o) g.2 k in
-          inr (where_else c.queue.closed _ _ g.0 (where_then (is_filled c.queue) _ _ g.1 (refused_rest c (waiting.Send m) (fresh_on Sends) (stuck_send m g.0 g.1) task o key k')))
-      send_rest m (answer.Push (Err (push_error.Closed n))) g k =
-          let k' = subst (λ (x : T). o ≡ ends [] (over (reply.SendPoll (poll.Ready (Err (refused.Plain (record { 0 = x }))))) None Sends key) c) g.1 (ends_rest c o _ k) in
-          inr (where_then c.queue.closed _ _ g.0 k')
-      send_rest m (answer.Push (Err (push_error.NoMemory n))) g k =
-          let k' = subst (λ (x : T). o ≡ ends [] (over (reply.SendPoll (poll.Ready (Err (refused.NoMemory tt)))) (Some x) Sends key) c) g.2 (ends_rest c o _ k) in
-          inl (g.0, g.1, k')
-      send_rest m y g k = absurd g
-
-      receive_rest : (y : QueueReply T) → Finds ask.Pop c.queue y → RestTurn (receive_next y key task) (now_is c (left_by ask.Pop y c.queue)) o → RestTry ask.Pop (aim.Poll Receives key task) c o
-      receive_rest (answer.Pop (Ok m)) g k = subst (λ (xs : List T). ForReceive key task xs) (sym g.1) k
-      receive_rest (answer.Pop (Err pop_error.Empty)) g k =
-          subst (λ (xs : List T). ForReceive key task xs) (sym g.1)
-          (where_else c.queue.closed _ _ g.0 (refused_rest c waiting.Receive (fresh_on Receives) (stuck_for waiting.Receive (λ m. reply.RecvPoll (poll.Ready (Ok m))) (reply.RecvPoll (poll.Ready (Err (refused.Plain (record {}))))) g.0 g.1) task o key k))
-      receive_rest (answer.Pop (Err pop_error.Closed)) g k =
-          subst (λ (xs : List T). ForReceive key task xs) (sym g.1) (where_then c.queue.closed _ (WaitsOrGoesOn waiting.Receive key task c o) g.0 (ends_rest c o _ k))
-      receive_rest y g k = absurd g
-
-      stream_rest : (y : QueueReply T) → Finds ask.Pop c.queue y → RestTurn (stream_next y key task) (now_is c (left_by ask.Pop y c.queue)) o → RestTry ask.Pop (aim.Poll Streams key task) c o
-      stream_rest (answer.Pop (Ok m)) g k = subst (λ (xs : List T). ForStream key task xs) (sym g.1) k
-      stream_rest (answer.Pop (Err pop_error.Empty)) g k =
-          subst (λ (xs : List T). ForStream key task xs) (sym g.1)
-          (where_else c.queue.closed _ _ g.0 (refused_rest c waiting.Stream (fresh_on Streams) (stuck_for waiting.Stream (λ m. reply.Next (poll.Ready (Some (Ok m)))) (reply.Next (poll.Ready None)) g.0 g.1) task o key k))
-      stream_rest (answer.Pop (Err pop_error.Closed)) g k =
-          subst (λ (xs : List T). ForStream key task xs) (sym g.1) (where_then c.queue.closed _ (WaitsOrGoesOn waiting.Stream key task c o) g.0 (ends_rest c o _ k))
-      stream_rest y g k = absurd g
-
-      stuck_closing : c.queue.closed ≡ false → (d : Channel T W) (key : Option Key) (task : W) (p : Outcome T W) → d.queue ≡ c.queue
-          → RestTry ask.IsClosed (aim.Poll Closings key task) d p → WaitsOrGoesOn waiting.Closing key task d p
-      stuck_closing opened d key task p e h = given_else d.queue.closed _ _ (ap (λ (q : Queue T). q.closed) e ∙ opened) h
-
-      closing_rest : (y : QueueReply T) → Finds ask.IsClosed c.queue y → RestTurn (closing_next y key task) (now_is c (left_by ask.IsClosed y c.queue)) o → RestTry ask.IsClosed (aim.Poll Closings key task) c o
-      closing_rest (answer.Flag true) g k = where_then c.queue.closed _ _ (sym g) (ends_rest c o _ k)
-      closing_rest (answer.Flag false) g k =
-          where_else c.queue.closed _ _ (sym g) (refused_rest c waiting.Closing (fresh_on Closings) (stuck_closing (sym g)) task o key k)
-      closing_rest y g k = absurd g
+    stuck_closing : c.queue.closed ≡ false → (d : Channel T W) (key : Option Key) (task : W) (p : Outcome T W) → d.queue ≡ c.queue
+        → RestTry ask.IsClosed (aim.Poll Closings key task) d p → WaitsOrGoesOn waiting.Closing key task d p
+    stuck_closing opened d key task p e h = given_else d.queue.closed _ _ (ap (λ (q : Queue T). q.closed) e ∙ opened) h
 
     -- what comes after the queue's answer is what comes of the whole try
     pub answered_rest : (a : QueueAsk T) (x : Aim T W) (y : QueueReply T) → Finds a c.queue y → RestTurn (answered_next x y) (now_is c (left_by a y c.queue)) o → RestTry a x c o
-    answered_rest (ask.Push m) aim.TrySend y g k = sent_rest m y g k
-    answered_rest (ask.ForcePush m) aim.ForceSend y g k = forced_rest m y g k
-    answered_rest ask.Pop aim.TryRecv y g k = received_rest y g k
-    answered_rest ask.Pop (aim.RecvMany z) y g k = several_rest z y g k
-    answered_rest ask.Close (aim.Close by) y g k = closed_rest by y g k
-    answered_rest (ask.Push m) (aim.Poll Sends key task) y g k = send_rest key task m y g k
-    answered_rest ask.Pop (aim.Poll Receives key task) y g k = receive_rest key task y g k
-    answered_rest ask.Pop (aim.Poll Streams key task) y g k = stream_rest key task y g k
-    answered_rest ask.IsClosed (aim.Poll Closings key task) y g k = closing_rest key task y g k
-    answered_rest a aim.Ask y g k = asked_rest a y g k
-    answered_rest ask.IsClosed aim.IsTerminated y g k = terminated_rest y g k
-    answered_rest ask.IsClosed (aim.Upgrade side) y g k = upgraded_rest side y g k
+    answered_rest (ask.Push m) aim.TrySend (answer.Push (Ok u)) g k = inr (pick_else c.queue.closed o _ _ g.0 (pick_else (is_filled c.queue) o _ _ g.1 k))
+    answered_rest (ask.Push m) aim.TrySend (answer.Push (Err (push_error.Full n))) g k =
+        let k' = subst (λ (x : T). RestTurn (sent_next (answer.Push (Err (push_error.Full x)))) c o) g.2 k in
+        inr (pick_else c.queue.closed o _ _ g.0 (pick_then (is_filled c.queue) o _ _ g.1 k'))
+    answered_rest (ask.Push m) aim.TrySend (answer.Push (Err (push_error.Closed n))) g k =
+        let k' = subst (λ (x : T). RestTurn (sent_next (answer.Push (Err (push_error.Closed x)))) c o) g.1 k in
+        inr (pick_then c.queue.closed o _ _ g.0 k')
+    answered_rest (ask.Push m) aim.TrySend (answer.Push (Err (push_error.NoMemory n))) g k =
+        let k' = subst (λ (x : T). RestTurn (sent_next (answer.Push (Err (push_error.NoMemory x)))) c o) g.2 k in
+        inl (g.0, g.1, k')
+    answered_rest (ask.Push m) aim.TrySend y g k = absurd g
+    answered_rest (ask.ForcePush m) aim.ForceSend (answer.Force (Ok None)) g k = inr (pick_else c.queue.closed o _ _ g.0 (pick_else (is_filled c.queue) o _ _ g.1 k))
+    answered_rest (ask.ForcePush m) aim.ForceSend (answer.Force (Ok (Some d))) g k =
+        let oldest : Some d ≡ slice_get c.queue.items 0 = sym (ap (λ (xs : List T). slice_get xs 0) g.2.1) in
+        let k' = k ∙ ap (λ (x : Option T). ends alone.of_message (says (reply.ForceSend (Ok x))) (now_is c (alone.replaced m c.queue))) oldest in
+        inr (pick_else c.queue.closed o _ _ g.0 (pick_then (is_filled c.queue) o _ _ g.1 k'))
+    answered_rest (ask.ForcePush m) aim.ForceSend (answer.Force (Err (force_error.Closed n))) g k =
+        let k' = subst (λ (x : T). RestTurn (forced_next (answer.Force (Err (force_error.Closed x)))) c o) g.1 k in
+        inr (pick_then c.queue.closed o _ _ g.0 k')
+    answered_rest (ask.ForcePush m) aim.ForceSend (answer.Force (Err (force_error.NoMemory n))) g k =
+        let k' = subst (λ (x : T). RestTurn (forced_next (answer.Force (Err (force_error.NoMemory x)))) c o) g.2 k in
+        inl (g.0, g.1, k')
+    answered_rest (ask.ForcePush m) aim.ForceSend y g k = absurd g
+    answered_rest ask.Pop aim.TryRecv (answer.Pop (Ok m)) g k = subst (λ (xs : List T). o ≡ receives_by xs c) (sym g.1) k
+    answered_rest ask.Pop aim.TryRecv (answer.Pop (Err pop_error.Empty)) g k =
+        let e : try_recv_error.Empty ≡ (if c.queue.closed then try_recv_error.Closed else try_recv_error.Empty) = pick_else c.queue.closed _ _ _ g.0 refl in
+        subst (λ (xs : List T). o ≡ receives_by xs c) (sym g.1) (k ∙ ap (λ (x : TryRecvError). ends [] (says (reply.TryRecv (Err x))) c) e)
+    answered_rest ask.Pop aim.TryRecv (answer.Pop (Err pop_error.Closed)) g k =
+        let e : try_recv_error.Closed ≡ (if c.queue.closed then try_recv_error.Closed else try_recv_error.Empty) = pick_then c.queue.closed _ _ _ g.0 refl in
+        subst (λ (xs : List T). o ≡ receives_by xs c) (sym g.1) (k ∙ ap (λ (x : TryRecvError). ends [] (says (reply.TryRecv (Err x))) c) e)
+    answered_rest ask.Pop aim.TryRecv y g k = absurd g
+    answered_rest ask.Pop (aim.RecvMany z) (answer.Pop (Ok m)) g k =
+        subst (λ (xs : List T). o ≡ gathers xs z.taken z.more c) (sym g.1) (gathered_rest z.taken g.0 z.more m g.1 k)
+    answered_rest ask.Pop (aim.RecvMany z) (answer.Pop (Err pop_error.Empty)) g k =
+        subst (λ (xs : List T). o ≡ gathers xs z.taken z.more c) (sym g.1)
+        (short_rest z.taken z.more try_recv_error.Empty (pick_else c.queue.closed _ _ _ g.0 refl) k)
+    answered_rest ask.Pop (aim.RecvMany z) (answer.Pop (Err pop_error.Closed)) g k =
+        subst (λ (xs : List T). o ≡ gathers xs z.taken z.more c) (sym g.1)
+        (short_rest z.taken z.more try_recv_error.Closed (pick_then c.queue.closed _ _ _ g.0 refl) k)
+    answered_rest ask.Pop (aim.RecvMany z) y g k = absurd g
+    answered_rest ask.Close (aim.Close by) (answer.Close true) g k = pick_else c.queue.closed o _ _ (not-true c.queue.closed (sym g)) k
+    answered_rest ask.Close (aim.Close by) (answer.Close false) g k = pick_then c.queue.closed o _ _ (not-false c.queue.closed (sym g)) (ends_rest c o _ k)
+    answered_rest ask.Close (aim.Close by) y g k = absurd g
+    answered_rest (ask.Push m) (aim.Poll Sends key task) (answer.Push (Ok u)) g k = inr (where_else c.queue.closed _ _ g.0 (where_else (is_filled c.queue) _ _ g.1 k))
+    answered_rest (ask.Push m) (aim.Poll Sends key task) (answer.Push (Err (push_error.Full n))) g k =
+        let k' = subst (λ (x : T). RestTurn (refused_next (waiting.Send x) key task) c o) g.2 k in
+        inr (where_else c.queue.closed _ _ g.0 (where_then (is_filled c.queue) _ _ g.1 (refused_rest c (waiting.Send m) (fresh_on Sends) (stuck_send m g.0 g.1) task o key k')))
+    answered_rest (ask.Push m) (aim.Poll Sends key task) (answer.Push (Err (push_error.Closed n))) g k =
+        let k' = subst (λ (x : T). o ≡ ends [] (over (reply.SendPoll (poll.Ready (Err (refused.Plain (record { 0 = x }))))) None Sends key) c) g.1 (ends_rest c o _ k) in
+        inr (where_then c.queue.closed _ _ g.0 k')
+    answered_rest (ask.Push m) (aim.Poll Sends key task) (answer.Push (Err (push_error.NoMemory n))) g k =
+        let k' = subst (λ (x : T). o ≡ ends [] (over (reply.SendPoll (poll.Ready (Err (refused.NoMemory tt)))) (Some x) Sends key) c) g.2 (ends_rest c o _ k) in
+        inl (g.0, g.1, k')
+    answered_rest (ask.Push m) (aim.Poll Sends key task) y g k = absurd g
+    answered_rest ask.Pop (aim.Poll Receives key task) (answer.Pop (Ok m)) g k = subst (λ (xs : List T). ForReceive key task xs) (sym g.1) k
+    answered_rest ask.Pop (aim.Poll Receives key task) (answer.Pop (Err pop_error.Empty)) g k =
+        subst (λ (xs : List T). ForReceive key task xs) (sym g.1)
+        (where_else c.queue.closed _ _ g.0 (refused_rest c waiting.Receive (fresh_on Receives) (stuck_for waiting.Receive (λ m. reply.RecvPoll (poll.Ready (Ok m))) (reply.RecvPoll (poll.Ready (Err (refused.Plain (record {}))))) g.0 g.1) task o key k))
+    answered_rest ask.Pop (aim.Poll Receives key task) (answer.Pop (Err pop_error.Closed)) g k =
+        subst (λ (xs : List T). ForReceive key task xs) (sym g.1) (where_then c.queue.closed _ (WaitsOrGoesOn waiting.Receive key task c o) g.0 (ends_rest c o _ k))
+    answered_rest ask.Pop (aim.Poll Receives key task) y g k = absurd g
+    answered_rest ask.Pop (aim.Poll Streams key task) (answer.Pop (Ok m)) g k = subst (λ (xs : List T). ForStream key task xs) (sym g.1) k
+    answered_rest ask.Pop (aim.Poll Streams key task) (answer.Pop (Err pop_error.Empty)) g k =
+        subst (λ (xs : List T). ForStream key task xs) (sym g.1)
+        (where_else c.queue.closed _ _ g.0 (refused_rest c waiting.Stream (fresh_on Streams) (stuck_for waiting.Stream (λ m. reply.Next (poll.Ready (Some (Ok m)))) (reply.Next (poll.Ready None)) g.0 g.1) task o key k))
+    answered_rest ask.Pop (aim.Poll Streams key task) (answer.Pop (Err pop_error.Closed)) g k =
+        subst (λ (xs : List T). ForStream key task xs) (sym g.1) (where_then c.queue.closed _ (WaitsOrGoesOn waiting.Stream key task c o) g.0 (ends_rest c o _ k))
+    answered_rest ask.Pop (aim.Poll Streams key task) y g k = absurd g
+    answered_rest ask.IsClosed (aim.Poll Closings key task) (answer.Flag true) g k = where_then c.queue.closed _ _ (sym g) (ends_rest c o _ k)
+    answered_rest ask.IsClosed (aim.Poll Closings key task) (answer.Flag false) g k =
+        where_else c.queue.closed _ _ (sym g) (refused_rest c waiting.Closing (fresh_on Closings) (stuck_closing (sym g)) task o key k)
+    answered_rest ask.IsClosed (aim.Poll Closings key task) y g k = absurd g
+    answered_rest ask.IsClosed aim.Ask (answer.Flag b) g k = k ∙ ap (λ (x : Bool). says_only (reply.Flag x) c) g
+    answered_rest ask.IsEmpty aim.Ask (answer.Flag b) g k = k ∙ ap (λ (x : Bool). says_only (reply.Flag x) c) g
+    answered_rest ask.IsFull aim.Ask (answer.Flag b) g k = k ∙ ap (λ (x : Bool). says_only (reply.Flag x) c) g
+    answered_rest ask.Len aim.Ask (answer.Count n) g k = k ∙ ap (λ (x : ℕ). says_only (reply.Count x) c) g
+    answered_rest ask.Capacity aim.Ask (answer.Cap n) g k = k ∙ ap (λ (x : Option ℕ). says_only (reply.Cap x) c) g
+    answered_rest (ask.Push v) aim.Ask y g k = tt
+    answered_rest (ask.ForcePush v) aim.Ask y g k = tt
+    answered_rest ask.Pop aim.Ask y g k = tt
+    answered_rest ask.Close aim.Ask y g k = tt
+    answered_rest a aim.Ask y g k = absurd g
+    answered_rest ask.IsClosed aim.IsTerminated (answer.Flag true) g k = k ∙ ap (λ (x : Bool). says_only (reply.Flag (x && (length c.queue.items == 0))) c) g
+    answered_rest ask.IsClosed aim.IsTerminated (answer.Flag false) g k = k ∙ ap (λ (x : Bool). says_only (reply.Flag (x && (length c.queue.items == 0))) c) g
+    answered_rest ask.IsClosed aim.IsTerminated y g k = absurd g
+    answered_rest ask.IsClosed (aim.Upgrade side) (answer.Flag true) g k = pick_then c.queue.closed o _ _ (sym g) k
+    answered_rest ask.IsClosed (aim.Upgrade side) (answer.Flag false) g k = pick_else c.queue.closed o _ _ (sym g) k
+    answered_rest ask.IsClosed (aim.Upgrade side) y g k = absurd g
     answered_rest a x y g k = tt
