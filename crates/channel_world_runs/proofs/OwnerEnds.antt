@@ -179,6 +179,26 @@ module _ {T : Type 0} where
       (no_wait (status (written_back (on_return.Make op o) y kept r)) (on_return.Make op o) kept wait l f.2
       (calm_at (status (written_back (on_return.Make op o) y kept r)) (on_return.Make op o) (Op op) (op_status o) refl s.there calm))
 
+  -- the end of a poll: the name stands by the listener that is left
+  comes : (after : Waiter → NameStatus) (e : OnReturn T) (w : Waiter) (x : Option Key → NameStatus) (line : Line) (kept : Kept T)
+      (wait : Option (Line × Waiter)) → subject e ≡ Some w → after w ≡ x kept.key → IsCalm (x None)
+      → ((key : Key) → Carries line kept.message → x (Some key) ≡ waits (record { line = line; key = key }) false) → IsFor wait line w
+      → IsLeft kept wait → Comes after e kept wait
+  comes after e w x line kept wait whose is calm pends whom (inl none) =
+      inl (none, calm_at after e w (x None) whose (is ∙ ap x none) calm)
+  comes after e w x line kept wait whose is calm pends whom (inr (l, key, task, k, wt, m)) =
+      let own = own_wait wait line l w task whom wt in
+      inr (
+        l,
+        key,
+        task,
+        k,
+        wt,
+        whose ∙ ap (λ (v : Waiter). Some v) (sym own.1),
+        ap after own.1 ∙ (is ∙ (ap x k ∙ (pends key (λ sends. m (own.0 ∙ sends))
+            ∙ ap (λ (i : Line). waits (record { line = i; key = key }) false) (sym own.0)))),
+      )
+
   polls : (r : NameTable T) (op : OpId) (y : Reply T) (kept : Kept T) (wait : Option (Line × Waiter)) → IsLeft kept wait
       → Suits {T = T} (status r) (on_return.Poll op) wait
       → Settles (status r) (status (written_back (on_return.Poll op) y kept r)) (on_return.Poll op) kept wait
@@ -187,34 +207,11 @@ module _ {T : Type 0} where
       let o = there.0 in
       let s = op_changed r op (restored kept) o there.1 in
       let line = op_line o.kind o.message f.0 o.poll_state there.2 in
-      set (status r) (status (written_back (on_return.Poll op) y kept r)) (on_return.Poll op) kept wait (Op op) _ refl s (by o s.there line l)
-    where
-      after : Waiter → NameStatus
-      after = status (written_back (on_return.Poll op) y kept r)
-
-      by : (o : Operation T) → after (Op op) ≡ operation_status o.kind kept.message (poll_state_with kept.key) → line_of_kind o.kind ≡ f.0
-          → IsLeft kept wait → Comes after (on_return.Poll op) kept wait
-      by o e line (inl none) =
-          inl (
-            none,
-            calm_at after (on_return.Poll op) (Op op) _ refl
-                (e ∙ ap (λ k. operation_status o.kind kept.message (poll_state_with k)) none) (calm_op o.kind kept.message),
-          )
-      by o e line (inr (l, key, task, k, w, m)) =
-          let own = own_wait wait f.0 l (Op op) task f.2 w in
-          let same : line_of_kind o.kind ≡ l = line ∙ sym own.0 in
-          let waiting = waiting_op o.kind kept.message key (λ sends. m (sym same ∙ sends)) in
-          inr (
-            l,
-            key,
-            task,
-            k,
-            w,
-            ap (λ (v : Waiter). Some v) (sym own.1),
-            ap after own.1
-                ∙ (e ∙ (ap (λ x. operation_status o.kind kept.message (poll_state_with x)) k
-                ∙ (waiting ∙ ap (λ (x : Line). waits (record { line = x; key = key }) false) same))),
-          )
+      set (status r) (status (written_back (on_return.Poll op) y kept r)) (on_return.Poll op) kept wait (Op op) _ refl s
+      (comes (status (written_back (on_return.Poll op) y kept r)) (on_return.Poll op) (Op op)
+      (λ k. operation_status o.kind kept.message (poll_state_with k)) f.0 kept wait refl s.there (calm_op o.kind kept.message)
+      (λ key c. waiting_op o.kind kept.message key (λ sends. c (sym line ∙ sends))
+      ∙ ap (λ (x : Line). waits (record { line = x; key = key }) false) line) f.2 l)
 
   nexts : (r : NameTable T) (receiver : HandleId) (y : Reply T) (kept : Kept T) (wait : Option (Line × Waiter)) → IsLeft kept wait
       → Suits {T = T} (status r) (on_return.PollNext receiver) wait
@@ -227,34 +224,10 @@ module _ {T : Type 0} where
       let s = handle_changed r receiver (λ (x : HandleEntry). record x { poll_state = poll_state_with kept.key }) h there.1 in
       let all = sets_same (status r) (status put) (status (with_given_back receiver put)) (Stream receiver) _ s
       (given_back_same put receiver) in
-      set (status r) (status (written_back (on_return.PollNext receiver) y kept r)) (on_return.PollNext receiver) kept wait (Stream receiver) _
-      refl all (by (all.there ∙ ap (λ k. stream_status k (poll_state_with kept.key)) is.0) is.1 l)
-    where
-      after : Waiter → NameStatus
-      after = status (written_back (on_return.PollNext receiver) y kept r)
-
-      by : after (Stream receiver) ≡ status_on Streams (poll_state_with kept.key) → Streams ≡ f.0 → IsLeft kept wait
-          → Comes after (on_return.PollNext receiver) kept wait
-      by e line (inl none) =
-          inl (
-            none,
-            calm_at after (on_return.PollNext receiver) (Stream receiver) (rests Streams) refl
-                (e ∙ ap (λ k. status_on Streams (poll_state_with k)) none) tt,
-          )
-      by e line (inr (l, key, task, k, w, m)) =
-          let own = own_wait wait f.0 l (Stream receiver) task f.2 w in
-          let same : Streams ≡ l = line ∙ sym own.0 in
-          inr (
-            l,
-            key,
-            task,
-            k,
-            w,
-            ap (λ (v : Waiter). Some v) (sym own.1),
-            ap after own.1
-                ∙ (e ∙ (ap (λ x. status_on Streams (poll_state_with x)) k
-                ∙ ap (λ (x : Line). waits (record { line = x; key = key }) false) same)),
-          )
+      set (status r) (status (written_back (on_return.PollNext receiver) y kept r)) (on_return.PollNext receiver) kept wait (Stream receiver) _ refl all
+      (comes (status (written_back (on_return.PollNext receiver) y kept r)) (on_return.PollNext receiver) (Stream receiver)
+      (λ k. status_on Streams (poll_state_with k)) f.0 kept wait refl (all.there ∙ ap (λ k. stream_status k (poll_state_with kept.key)) is.0) tt
+      (λ key c. ap (λ (x : Line). waits (record { line = x; key = key }) false) is.1) f.2 l)
 
   -- a new handle lives, or doesn't
   installs : (r : NameTable T) (new : HandleId) (k : HandleKind) (y : Reply T) → status r (Stream new) ≡ retired

@@ -261,9 +261,7 @@ module _ {T : Type 0} where
         plain_suits p (on_return.PollNext receiver) wait f g = absurd (let no : Some (Stream receiver) ≡ None = f in cc)
         plain_suits p (on_return.Make op operation) wait f g = absurd (let no : Some (Op op) ≡ None = f in cc)
         plain_suits p (on_return.New from new kind) wait f g = absurd (let no : Some (Stream new) ≡ None = f in cc)
-        plain_suits p on_return.Nothing wait f g = g
-        plain_suits p (on_return.Leave handle) wait f g = g
-        plain_suits p (on_return.LeaveBoth x y) wait f g = g
+        plain_suits p e wait f g = g
 
         nothing : (h : Held) → holding n.at ≡ Some h → ⊥
         nothing h e = absurd (let no : None ≡ Some h = sym (first_stage ∙ k.empty) ∙ e in cc)

@@ -160,22 +160,18 @@ impl<T: Drop> NameTable<T> {
         let Some(operation) = self.operations.take(op.0) else {
             return None;
         };
-        let Operation {
-            kind,
-            handle,
-            message,
-            poll_state,
-        } = operation;
+        let (kind, key) = (operation.kind, operation.poll_state.key());
+        let message = operation.message;
         let lent = Operation {
             kind,
-            handle,
+            handle: operation.handle,
             message: None,
             poll_state: PollState::IsPolled {
                 brings: message.is_some(),
             },
         };
         self.operations.set(op.0, lent);
-        Some((kind, message, poll_state.key()))
+        Some((kind, message, key))
     }
 
     pub(crate) fn poll(&mut self, op: OpId) -> Begun<T>
@@ -215,15 +211,11 @@ impl<T: Drop> NameTable<T> {
                 on_return: OnReturn::Nothing,
             };
         };
-        let Operation {
-            kind,
-            handle,
-            message,
-            poll_state,
-        } = operation;
+        let (kind, handle) = (operation.kind, operation.handle);
+        let key = operation.poll_state.key();
         self.hand_over(handle);
         Begun {
-            ask: ChannelAsk::GiveUp(kind.line(), own_message(kind, message), poll_state.key()),
+            ask: ChannelAsk::GiveUp(kind.line(), own_message(kind, operation.message), key),
             on_return: OnReturn::Leave { handle },
         }
     }
