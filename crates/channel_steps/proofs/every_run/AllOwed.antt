@@ -1,8 +1,8 @@
 -- Where one call tells all of a list, who waits there is owed no number: there is no cause, or a call is to tell. As numbers that is
 -- the one law of `Owed`, in which such a call counts for one.
-use Rattle.std.proofs.Common.{◌≡◌, ℕ, zero, suc, ◌≤◌, List, [], ◌∷◌, ◌⊎◌, inl, inr, refl, arith}
+use Rattle.std.proofs.Common.{◌≡◌, ℕ, zero, suc, ◌≤◌, List, [], ◌∷◌, ◌⊎◌, ⊎_elim, inl, inr, refl, arith}
 use Rattle.channel_steps.proofs.every_run.Words.{Phase, Key, Channel, ChannelAsk, Stage, ActiveCall, Configuration, Known, AllKnown, total, Any}
-use Rattle.channel_steps.proofs.every_run.AnyFacts.{any_weaker}
+use Rattle.channel_steps.proofs.every_run.AnyFacts.{any_either, any_weaker}
 
 module _ {T W : Type 0} (Free : Channel T W → Type 0) (Tells : ActiveCall T W → Type 0) (Holds : Key → Stage (Phase T) T W → Type 0)
     (weigh : ChannelAsk T W → Stage (Phase T) T W → ℕ) where
@@ -23,16 +23,6 @@ module _ {T W : Type 0} (Free : Channel T W → Type 0) (Tells : ActiveCall T W 
       by zero e later = inr (later (omega (arith, h, e)))
       by (suc n) e later = inl (f u known.0 (omega (arith, e)))
 
-  split : (key : Key) (us : List (ActiveCall T W)) → Any (λ u. Tells u ⊎ Holds key u.at) us → Any Tells us ⊎ Any (λ u. Holds key u.at) us
-  split key [] h = absurd h
-  split key (u ∷ us) (inl (inl h)) = inl (inl h)
-  split key (u ∷ us) (inl (inr h)) = inr (inl h)
-  split key (u ∷ us) (inr h) = deeper (split key us h)
-    where
-      deeper : Any Tells us ⊎ Any (λ u. Holds key u.at) us → Any Tells (u ∷ us) ⊎ Any (λ u. Holds key u.at) (u ∷ us)
-      deeper (inl h) = inl (inr h)
-      deeper (inr h) = inr (inr h)
-
   module _ (s : Configuration T W) (key : Key) where
     abbrev Counted : Type 0
     Counted = FreeOrTold s.now (total weigh s.under_way) ⊎ Any (λ u. Holds key u.at) s.under_way
@@ -42,11 +32,8 @@ module _ {T W : Type 0} (Free : Channel T W → Type 0) (Tells : ActiveCall T W 
 
     pub as_counts : ((u : ActiveCall T W) → Tells u → 1 ≤ weigh u.ask u.at) → Answered → Counted
     as_counts f (inl h) = inl (inl h)
-    as_counts f (inr h) = by (split key s.under_way h)
-      where
-        by : Any Tells s.under_way ⊎ Any (λ u. Holds key u.at) s.under_way → Counted
-        by (inl k) = inl (inr (any_counts f s.under_way k))
-        by (inr k) = inr k
+    as_counts f (inr h) =
+        ⊎_elim (λ k. inl (inr (any_counts f s.under_way k))) (λ k. inr k) (any_either Tells (λ u. Holds key u.at) s.under_way h)
 
     pub as_calls : ((u : ActiveCall T W) → Known s.now u → 1 ≤ weigh u.ask u.at → Tells u) → AllKnown s.now s.under_way → Counted → Answered
     as_calls f known (inl (inl h)) = inl h

@@ -1,21 +1,24 @@
 -- One of the calls under way, before and after a step.
-use Rattle.std.proofs.Common.{◌≡◌, ℕ, List, [], ◌∷◌, ◌++◌, map, Option, None, Some, ◌⊎◌, inl, inr, sym, subst}
+use Rattle.std.proofs.Common.{◌≡◌, ℕ, List, [], ◌∷◌, ◌++◌, map, Option, None, Some, ◌⊎◌, ⊎_elim, inl, inr, sym, subst}
 use Rattle.channel_steps.proofs.every_run.Words.{ChannelAsk, Reply, ActiveCall, Configuration, Steps, sees, does, unless_ended, Begins, call_begun, Entry, Any}
 use Rattle.channel_steps.specs.every_run.Ends.{Each}
 
 module _ {T W : Type 0} where
-  -- one of them is so or so, and none is so
-  pub any_but : (P Q : ActiveCall T W → Type 0) (us : List (ActiveCall T W)) → Any (λ u. P u ⊎ Q u) us → Each (λ u. Q u → ⊥) us → Any P us
-  any_but P Q [] h none = h
-  any_but P Q (u ∷ us) (inl (inl h)) none = inl h
-  any_but P Q (u ∷ us) (inl (inr h)) none = absurd (none.0 h)
-  any_but P Q (u ∷ us) (inr h) none = inr (any_but P Q us h none.1)
-
   -- one of them is so, and none is
   pub any_none : (P : ActiveCall T W → Type 0) (us : List (ActiveCall T W)) → Any P us → Each (λ u. P u → ⊥) us → ⊥
   any_none P [] h none = h
   any_none P (u ∷ us) (inl h) none = none.0 h
   any_none P (u ∷ us) (inr h) none = any_none P us h none.1
+
+  pub any_either : (P Q : ActiveCall T W → Type 0) (us : List (ActiveCall T W)) → Any (λ u. P u ⊎ Q u) us → Any P us ⊎ Any Q us
+  any_either P Q [] h = absurd h
+  any_either P Q (u ∷ us) (inl (inl h)) = inl (inl h)
+  any_either P Q (u ∷ us) (inl (inr h)) = inr (inl h)
+  any_either P Q (u ∷ us) (inr h) = ⊎_elim (λ k. inl (inr k)) (λ k. inr (inr k)) (any_either P Q us h)
+
+  -- one of them is so or so, and none is so
+  pub any_but : (P Q : ActiveCall T W → Type 0) (us : List (ActiveCall T W)) → Any (λ u. P u ⊎ Q u) us → Each (λ u. Q u → ⊥) us → Any P us
+  any_but P Q us h none = ⊎_elim (λ k. k) (λ k. absurd (any_none Q us k none)) (any_either P Q us h)
 
   pub any_weaker : (P Q : ActiveCall T W → Type 0) → ((u : ActiveCall T W) → P u → Q u) → (us : List (ActiveCall T W)) → Any P us → Any Q us
   any_weaker P Q f [] h = h
@@ -35,11 +38,7 @@ module _ {T W : Type 0} (P : ActiveCall T W → Type 0) where
   any_of : (us vs : List (ActiveCall T W)) → Any P (us ++ vs) → Any P us ⊎ Any P vs
   any_of [] vs h = inr h
   any_of (u ∷ us) vs (inl h) = inl (inl h)
-  any_of (u ∷ us) vs (inr h) = deeper (any_of us vs h)
-    where
-      deeper : Any P us ⊎ Any P vs → Any P (u ∷ us) ⊎ Any P vs
-      deeper (inl h) = inl (inr h)
-      deeper (inr h) = inr h
+  any_of (u ∷ us) vs (inr h) = ⊎_elim (λ k. inl (inr k)) (λ k. inr k) (any_of us vs h)
 
   any_map : (f : ActiveCall T W → ActiveCall T W) → ((u : ActiveCall T W) → P u → P (f u)) → (us : List (ActiveCall T W)) → Any P us → Any P (map f us)
   any_map f g [] h = h
@@ -73,17 +72,11 @@ module _ {T W : Type 0} (P : ActiveCall T W → Type 0) where
         (any_right (unless_ended after e.reply) (map (sees t.now) st.behind) (any_map (sees t.now) others st.behind h))
         )
 
-    split_mine : Any P (st.mine ∷ st.behind) → Any P t.under_way ⊎ P st.mine
-    split_mine (inl h) = inr h
-    split_mine (inr h) = inl (from_behind h)
-
-    split : Any P st.before ⊎ Any P (st.mine ∷ st.behind) → Any P t.under_way ⊎ P st.mine
-    split (inl h) = inl (from_before h)
-    split (inr h) = split_mine h
-
     -- one of the others, or the call that makes the step
     pub any_steps : Any P s.under_way → Any P t.under_way ⊎ P st.mine
-    any_steps h = split (any_of st.before (st.mine ∷ st.behind) (subst (λ (us : List (ActiveCall T W)). Any P us) st.there h))
+    any_steps h =
+        ⊎_elim (λ k. inl (from_before k)) (λ k. ⊎_elim (λ m. inr m) (λ m. inl (from_behind m)) k)
+        (any_of st.before (st.mine ∷ st.behind) (subst (λ (us : List (ActiveCall T W)). Any P us) st.there h))
 
   pub any_begins : (s t : Configuration T W) (p : ℕ) (ask : ChannelAsk T W) (e : Entry T) (b : Begins s p ask e t) → Any P s.under_way → Any P t.under_way
   any_begins s t p ask e b h = subst (λ (us : List (ActiveCall T W)). Any P us) (sym b.under_way) (any_left s.under_way (call_begun p ask b.at s.now ∷ []) h)

@@ -151,13 +151,10 @@ module _ {T W : Type 0} (line : Line) where
   counts_for_closing x (Working (TellAll next closer)) = 1 - (place next - place line)
   counts_for_closing x at = 0
 
-  pub counts_tell : (x : ChannelAsk T W) (at : Stage (Phase T) T W) → 1 ≤ counts_for_closing x at → HasToTell line at
-  counts_tell x (Working (TellAll next closer)) h = omega (arith, h)
-  counts_tell x at h = absurd (omega (arith, h))
-
-  pub tell_counts : (x : ChannelAsk T W) (at : Stage (Phase T) T W) → HasToTell line at → 1 ≤ counts_for_closing x at
-  tell_counts x (Working (TellAll next closer)) h = omega (arith, h)
-  tell_counts x at h = absurd h
+  pub tell_counts : (x : ChannelAsk T W) (at : Stage (Phase T) T W)
+      → (HasToTell line at → 1 ≤ counts_for_closing x at) × (1 ≤ counts_for_closing x at → HasToTell line at)
+  tell_counts x (Working (TellAll next closer)) = (λ h. omega (arith, h), λ h. omega (arith, h))
+  tell_counts x at = (λ h. absurd h, λ h. absurd (omega (arith, h)))
 
   abbrev pub TellsIt : ActiveCall T W → Type 0
   TellsIt u = HasClosed u.marks × HasToTell line u.at

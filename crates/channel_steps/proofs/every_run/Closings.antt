@@ -4,7 +4,7 @@ use Rattle.channel_steps.proofs.every_run.Words.{Key, Line, Sends, Open, Shut, N
 use Rattle.channel_steps.proofs.Interface.{known_next}
 use Rattle.channel_steps.proofs.every_run.AllOwed.{as_counts, as_calls}
 use Rattle.channel_steps.proofs.every_run.AnyFacts.{any_but}
-use Rattle.channel_steps.proofs.every_run.ClosingMoves.{counts_for_closing, counts_tell, tell_counts, TellsIt, OpenOrTold, closing_ledger}
+use Rattle.channel_steps.proofs.every_run.ClosingMoves.{counts_for_closing, tell_counts, TellsIt, OpenOrTold, closing_ledger}
 use Rattle.channel_steps.proofs.every_run.ListMoves.{apart_next}
 use Rattle.channel_steps.proofs.every_run.NoticeMoves.{told_has_closed}
 use Rattle.channel_steps.proofs.every_run.Owed.{owed_next}
@@ -29,7 +29,7 @@ module _ {T W : Type 0} where
 
   -- who is to tell all of a list has closed
   tells_it : (line : Line) (s : Configuration T W) (u : ActiveCall T W) → Known s.now u → 1 ≤ counts_for_closing line u.ask u.at → TellsIt line u
-  tells_it line s u known h = let tells = counts_tell line u.ask u.at h in (told_has_closed line u.told u.at u.marks known.tells tells, tells)
+  tells_it line s u known h = let k = tell_counts line u.ask u.at in let tells = k.1 h in (told_has_closed line u.told u.at u.marks known.tells tells, tells)
 
   pub sound_next : (s : Configuration T W) (x : Step T W) (e : Entry T) (names : List W) (t : Configuration T W) → Next s x e names t → ClosingSound s → ClosingSound t
   sound_next s x e names t n sound =
@@ -40,7 +40,7 @@ module _ {T W : Type 0} where
         apart = λ line. apart_next line s x e names t n (sound.apart line);
         owed = λ line key shut w. but_shut line t key shut (as_calls Open (TellsIt line) (LooksAgain line) (counts_for_closing line) t key (λ u h. tells_it line t u h) k.0
             (owed_next line (OpenOrTold line) (counts_for_closing line) (LooksAgain line) (λ c. ⊥) (closing_ledger line) s x e names t n sound.known (sound.apart line) (λ d. absurd d)
-            (λ key w. as_counts Open (TellsIt line) (LooksAgain line) (counts_for_closing line) s key (λ u h. tell_counts line u.ask u.at h.1)
+            (λ key w. as_counts Open (TellsIt line) (LooksAgain line) (counts_for_closing line) s key (λ u h. let k = tell_counts line u.ask u.at in k.0 h.1)
             (open_or line s key (λ shut. sound.owed line key shut w))) key w));
       }
 

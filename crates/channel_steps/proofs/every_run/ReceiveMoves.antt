@@ -52,33 +52,23 @@ module _ {T W : Type 0} where
     abbrev Keeps : ChannelAsk T W → Aim T W → QueueAsk T → QueueReply T → queue.Stage T → Type 0
     Keeps x y a r s = counted x y a s ≤ weigh_turn counts_for_receives x (answered_next y r)
 
-    pushed_try : (v w : T) (m : QueueMark) (r : QueueReply T) (s : queue.Stage T) → AnswersPush q w m r s → Keeps (channel.TrySend v) aim.TrySend (ask.Push w) r s
-    pushed_try v w Nothing (answer.Push (Ok u)) (appended None) h = omega arith
-    pushed_try v w Nothing (answer.Push (Err (push_error.Full z))) (trying b) h = omega arith
-    pushed_try v w Nothing (answer.Push (Err (push_error.Closed z))) (trying b) h = omega arith
-    pushed_try v w Nothing (answer.Push (Err (push_error.NoMemory z))) (trying b) h = omega arith
-    pushed_try v w m r s h = absurd h
-
-    pushed_poll : (v w : T) (k : Loan) (key : Option Key) (t' task : W) (m : QueueMark) (r : QueueReply T) (s : queue.Stage T) → AnswersPush q w m r s
-        → Keeps (channel.PollSend v k t') (aim.Poll Sends key task) (ask.Push w) r s
-    pushed_poll v w k key t' task Nothing (answer.Push (Ok u)) (appended None) h = omega arith
-    pushed_poll v w k key t' task Nothing (answer.Push (Err (push_error.Full z))) (trying b) h = omega arith
-    pushed_poll v w k key t' task Nothing (answer.Push (Err (push_error.Closed z))) (trying b) h = omega arith
-    pushed_poll v w k key t' task Nothing (answer.Push (Err (push_error.NoMemory z))) (trying b) h = omega arith
-    pushed_poll v w k key t' task m r s h = absurd h
-
-    forced : (v w : T) (m : QueueMark) (r : QueueReply T) (s : queue.Stage T) → AnswersForce q w m r s → Keeps (channel.ForceSend v) aim.ForceSend (ask.ForcePush w) r s
-    forced v w Nothing (answer.Force (Ok d)) (appended o) h = omega arith
-    forced v w Nothing (answer.Force (Err (force_error.Closed z))) (trying b) h = omega arith
-    forced v w Nothing (answer.Force (Err (force_error.NoMemory z))) (trying b) h = omega arith
-    forced v w m r s h = absurd h
-
     pub sending_keeps : (x : ChannelAsk T W) → IsSending x → (y : Aim T W) (a : QueueAsk T) (m : QueueMark) (r : QueueReply T) (s : queue.Stage T) → TriesFor x y a ds seen → AnswersTo q a m r s → Keeps x y a r s
-    sending_keeps (channel.TrySend v) sends aim.TrySend (ask.Push w) m r s h g = pushed_try v w m r s g
+    sending_keeps (channel.TrySend v) sends aim.TrySend (ask.Push w) Nothing (answer.Push (Ok u)) (appended None) h g = omega arith
+    sending_keeps (channel.TrySend v) sends aim.TrySend (ask.Push w) Nothing (answer.Push (Err (push_error.Full z))) (trying b) h g = omega arith
+    sending_keeps (channel.TrySend v) sends aim.TrySend (ask.Push w) Nothing (answer.Push (Err (push_error.Closed z))) (trying b) h g = omega arith
+    sending_keeps (channel.TrySend v) sends aim.TrySend (ask.Push w) Nothing (answer.Push (Err (push_error.NoMemory z))) (trying b) h g = omega arith
+    sending_keeps (channel.TrySend v) sends aim.TrySend (ask.Push w) m r s h g = absurd g
     sending_keeps (channel.TrySend v) sends y a m r s h g = absurd h
-    sending_keeps (channel.PollSend v k t') sends (aim.Poll Sends key task) (ask.Push w) m r s h g = pushed_poll v w k key t' task m r s g
+    sending_keeps (channel.PollSend v k t') sends (aim.Poll Sends key task) (ask.Push w) Nothing (answer.Push (Ok u)) (appended None) h g = omega arith
+    sending_keeps (channel.PollSend v k t') sends (aim.Poll Sends key task) (ask.Push w) Nothing (answer.Push (Err (push_error.Full z))) (trying b) h g = omega arith
+    sending_keeps (channel.PollSend v k t') sends (aim.Poll Sends key task) (ask.Push w) Nothing (answer.Push (Err (push_error.Closed z))) (trying b) h g = omega arith
+    sending_keeps (channel.PollSend v k t') sends (aim.Poll Sends key task) (ask.Push w) Nothing (answer.Push (Err (push_error.NoMemory z))) (trying b) h g = omega arith
+    sending_keeps (channel.PollSend v k t') sends (aim.Poll Sends key task) (ask.Push w) m r s h g = absurd g
     sending_keeps (channel.PollSend v k t') sends y a m r s h g = absurd h
-    sending_keeps (channel.ForceSend v) sends aim.ForceSend (ask.ForcePush w) m r s h g = forced v w m r s g
+    sending_keeps (channel.ForceSend v) sends aim.ForceSend (ask.ForcePush w) Nothing (answer.Force (Ok d)) (appended o) h g = omega arith
+    sending_keeps (channel.ForceSend v) sends aim.ForceSend (ask.ForcePush w) Nothing (answer.Force (Err (force_error.Closed z))) (trying b) h g = omega arith
+    sending_keeps (channel.ForceSend v) sends aim.ForceSend (ask.ForcePush w) Nothing (answer.Force (Err (force_error.NoMemory z))) (trying b) h g = omega arith
+    sending_keeps (channel.ForceSend v) sends aim.ForceSend (ask.ForcePush w) m r s h g = absurd g
     sending_keeps (channel.ForceSend v) sends y a m r s h g = absurd h
     sending_keeps x sends y a m r s h g = absurd sends
 
@@ -86,20 +76,16 @@ module _ {T W : Type 0} where
     abbrev Answered : ChannelAsk T W → Aim T W → QueueAsk T → QueueMark → QueueReply T → queue.Stage T → Type 0
     Answered x y a m r s = Keeps x y a r s ⊎ ((marked a (is_displaced s) m q).items ≡ [])
 
-    popped : (k : Loan) (key : Option Key) (t' task : W) (m : QueueMark) (r : QueueReply T) (s : queue.Stage T) → AnswersPop q m r s
-        → Answered (channel.PollRecv k t') (aim.Poll Receives key task) ask.Pop m r s
-    popped k key t' task Nothing (answer.Pop (Ok w)) (taken v) h =
-        let few = anew_at_most {T = T} (record { ask = ask.Pop; stage = taken v }) Receives key task in inl (omega (arith, few))
-    popped k key t' task Nothing (answer.Pop (Err pop_error.Empty)) (trying b) h = inr h.1.0
-    popped k key t' task Nothing (answer.Pop (Err pop_error.Closed)) (trying b) h = inr h.1.0
-    popped k key t' task m r s h = absurd h
-
     answers_pay : (x : ChannelAsk T W) (y : Aim T W) (a : QueueAsk T) (m : QueueMark) (r : QueueReply T) (s : queue.Stage T)
         → TriesFor x y a ds seen → AnswersTo q a m r s → Answered x y a m r s
     answers_pay (channel.TrySend v) y a m r s h g = inl (sending_keeps (channel.TrySend v) tt y a m r s h g)
     answers_pay (channel.PollSend v k t') y a m r s h g = inl (sending_keeps (channel.PollSend v k t') tt y a m r s h g)
     answers_pay (channel.ForceSend v) y a m r s h g = inl (sending_keeps (channel.ForceSend v) tt y a m r s h g)
-    answers_pay (channel.PollRecv k t') (aim.Poll Receives key task) ask.Pop m r s h g = popped k key t' task m r s g
+    answers_pay (channel.PollRecv k t') (aim.Poll Receives key task) ask.Pop Nothing (answer.Pop (Ok w)) (taken v) h g =
+        let few = anew_at_most {T = T} (record { ask = ask.Pop; stage = taken v }) Receives key task in inl (omega (arith, few))
+    answers_pay (channel.PollRecv k t') (aim.Poll Receives key task) ask.Pop Nothing (answer.Pop (Err pop_error.Empty)) (trying b) h g = inr g.1.0
+    answers_pay (channel.PollRecv k t') (aim.Poll Receives key task) ask.Pop Nothing (answer.Pop (Err pop_error.Closed)) (trying b) h g = inr g.1.0
+    answers_pay (channel.PollRecv k t') (aim.Poll Receives key task) ask.Pop m r s h g = absurd g
     answers_pay (channel.PollRecv k t') y a m r s h g = absurd h
     answers_pay x y a m r s h g = inl (omega arith)
 

@@ -73,31 +73,6 @@ module _ {T W : Type 0} where
         (length q.items + counted x y a s ≤ number a s m q + weigh_turn counts_for_sends x (answered_next y r))
         ⊎ ((m ≡ Nothing) × Refuses q)
 
-    pushed : (v w : T) (k : Loan) (key : Option Key) (t' task : W) (m : QueueMark) (r : QueueReply T) (s : queue.Stage T)
-        → AnswersPush q w m r s
-        → Answered (channel.PollSend v k t') (aim.Poll Sends key task) (ask.Push w) m r s
-    pushed v w k key t' task Nothing (answer.Push (Ok u)) (appended None) h =
-        let few = anew_at_most {T = T} (record { ask = ask.Push w; stage = appended None }) Sends key task in inl
-        (omega (arith, few))
-    pushed v w k key t' task Nothing (answer.Push (Err (push_error.Full z))) (trying b) h = inr (refl, inl h.1)
-    pushed v w k key t' task Nothing (answer.Push (Err (push_error.Closed z))) (trying b) h = inr (refl, inr (inl h.1))
-    pushed v w k key t' task Nothing (answer.Push (Err (push_error.NoMemory z))) (trying b) h = inr (refl, inr (inr h.1))
-    pushed v w k key t' task m r s h = absurd h
-
-    forced : (v w : T) (m : QueueMark) (r : QueueReply T) (s : queue.Stage T) → AnswersForce q w m r s
-        → Answered (channel.ForceSend v) aim.ForceSend (ask.ForcePush w) m r s
-    forced v w Nothing (answer.Force (Ok d)) (appended o) h = inl (omega arith)
-    forced v w Nothing (answer.Force (Err (force_error.Closed z))) (trying b) h = inl (omega arith)
-    forced v w Nothing (answer.Force (Err (force_error.NoMemory z))) (trying b) h = inl (omega arith)
-    forced v w m r s h = absurd h
-
-    popped_try : (m : QueueMark) (r : QueueReply T) (s : queue.Stage T) → AnswersPop q m r s
-        → Answered channel.TryRecv aim.TryRecv ask.Pop m r s
-    popped_try Nothing (answer.Pop (Ok w)) (taken v) h = inl (omega arith)
-    popped_try Nothing (answer.Pop (Err pop_error.Empty)) (trying b) h = inl (omega arith)
-    popped_try Nothing (answer.Pop (Err pop_error.Closed)) (trying b) h = inl (omega arith)
-    popped_try m r s h = absurd h
-
     -- one more of several is in hand
     gathers : (n k : ℕ) (vs : List T) (v : T) → length vs + 1 ≤ weigh_turn {W = W} counts_for_sends (channel.RecvMany n) (gathered_next (with_last (vs ++ v ∷ []) k))
     gathers n zero vs v = let l = length-append vs (v ∷ []) in omega (arith, l)
@@ -107,40 +82,40 @@ module _ {T W : Type 0} where
     stops n [] e = omega arith
     stops n (v ∷ vs) e = omega arith
 
-    popped_several : (n : ℕ) (z : Gathered T) (m : QueueMark) (r : QueueReply T) (s : queue.Stage T) → AnswersPop q m r s
-        → Answered (channel.RecvMany n) (aim.RecvMany z) ask.Pop m r s
-    popped_several n z Nothing (answer.Pop (Ok w)) (taken v) h = let k = gathers n z.more z.taken w in inl (omega (arith, k))
-    popped_several n z Nothing (answer.Pop (Err pop_error.Empty)) (trying b) h = let k = stops n z.taken try_recv_error.Empty in inl (omega (arith, k))
-    popped_several n z Nothing (answer.Pop (Err pop_error.Closed)) (trying b) h = let k = stops n z.taken try_recv_error.Closed in inl (omega (arith, k))
-    popped_several n z m r s h = absurd h
-
-    popped_poll : (k : Loan) (key : Option Key) (t' task : W) (m : QueueMark) (r : QueueReply T) (s : queue.Stage T) → AnswersPop q m r s
-        → Answered (channel.PollRecv k t') (aim.Poll Receives key task) ask.Pop m r s
-    popped_poll k key t' task Nothing (answer.Pop (Ok w)) (taken v) h = inl (omega arith)
-    popped_poll k key t' task Nothing (answer.Pop (Err pop_error.Empty)) (trying b) h = inl (omega arith)
-    popped_poll k key t' task Nothing (answer.Pop (Err pop_error.Closed)) (trying b) h = inl (omega arith)
-    popped_poll k key t' task m r s h = absurd h
-
-    popped_next : (k key : Option Key) (t' task : W) (m : QueueMark) (r : QueueReply T) (s : queue.Stage T) → AnswersPop q m r s
-        → Answered (channel.PollNext k t') (aim.Poll Streams key task) ask.Pop m r s
-    popped_next k key t' task Nothing (answer.Pop (Ok w)) (taken v) h = inl (omega arith)
-    popped_next k key t' task Nothing (answer.Pop (Err pop_error.Empty)) (trying b) h = inl (omega arith)
-    popped_next k key t' task Nothing (answer.Pop (Err pop_error.Closed)) (trying b) h = inl (omega arith)
-    popped_next k key t' task m r s h = absurd h
-
     answers_pay : (x : ChannelAsk T W) (y : Aim T W) (a : QueueAsk T) (m : QueueMark) (r : QueueReply T) (s : queue.Stage T)
         → TriesFor x y a ds seen → AnswersTo q a m r s → Answered x y a m r s
-    answers_pay channel.TryRecv aim.TryRecv ask.Pop m r s h g = popped_try m r s g
+    answers_pay channel.TryRecv aim.TryRecv ask.Pop Nothing (answer.Pop (Ok w)) (taken v) h g = inl (omega arith)
+    answers_pay channel.TryRecv aim.TryRecv ask.Pop Nothing (answer.Pop (Err pop_error.Empty)) (trying b) h g = inl (omega arith)
+    answers_pay channel.TryRecv aim.TryRecv ask.Pop Nothing (answer.Pop (Err pop_error.Closed)) (trying b) h g = inl (omega arith)
+    answers_pay channel.TryRecv aim.TryRecv ask.Pop m r s h g = absurd g
     answers_pay channel.TryRecv y a m r s h g = absurd h
-    answers_pay (channel.RecvMany n) (aim.RecvMany z) ask.Pop m r s h g = popped_several n z m r s g
+    answers_pay (channel.RecvMany n) (aim.RecvMany z) ask.Pop Nothing (answer.Pop (Ok w)) (taken v) h g = let k = gathers n z.more z.taken w in inl (omega (arith, k))
+    answers_pay (channel.RecvMany n) (aim.RecvMany z) ask.Pop Nothing (answer.Pop (Err pop_error.Empty)) (trying b) h g = let k = stops n z.taken try_recv_error.Empty in inl (omega (arith, k))
+    answers_pay (channel.RecvMany n) (aim.RecvMany z) ask.Pop Nothing (answer.Pop (Err pop_error.Closed)) (trying b) h g = let k = stops n z.taken try_recv_error.Closed in inl (omega (arith, k))
+    answers_pay (channel.RecvMany n) (aim.RecvMany z) ask.Pop m r s h g = absurd g
     answers_pay (channel.RecvMany n) y a m r s h g = absurd h
-    answers_pay (channel.PollRecv k t') (aim.Poll Receives key task) ask.Pop m r s h g = popped_poll k key t' task m r s g
+    answers_pay (channel.PollRecv k t') (aim.Poll Receives key task) ask.Pop Nothing (answer.Pop (Ok w)) (taken v) h g = inl (omega arith)
+    answers_pay (channel.PollRecv k t') (aim.Poll Receives key task) ask.Pop Nothing (answer.Pop (Err pop_error.Empty)) (trying b) h g = inl (omega arith)
+    answers_pay (channel.PollRecv k t') (aim.Poll Receives key task) ask.Pop Nothing (answer.Pop (Err pop_error.Closed)) (trying b) h g = inl (omega arith)
+    answers_pay (channel.PollRecv k t') (aim.Poll Receives key task) ask.Pop m r s h g = absurd g
     answers_pay (channel.PollRecv k t') y a m r s h g = absurd h
-    answers_pay (channel.PollNext k t') (aim.Poll Streams key task) ask.Pop m r s h g = popped_next k key t' task m r s g
+    answers_pay (channel.PollNext k t') (aim.Poll Streams key task) ask.Pop Nothing (answer.Pop (Ok w)) (taken v) h g = inl (omega arith)
+    answers_pay (channel.PollNext k t') (aim.Poll Streams key task) ask.Pop Nothing (answer.Pop (Err pop_error.Empty)) (trying b) h g = inl (omega arith)
+    answers_pay (channel.PollNext k t') (aim.Poll Streams key task) ask.Pop Nothing (answer.Pop (Err pop_error.Closed)) (trying b) h g = inl (omega arith)
+    answers_pay (channel.PollNext k t') (aim.Poll Streams key task) ask.Pop m r s h g = absurd g
     answers_pay (channel.PollNext k t') y a m r s h g = absurd h
-    answers_pay (channel.ForceSend v) aim.ForceSend (ask.ForcePush w) m r s h g = forced v w m r s g
+    answers_pay (channel.ForceSend v) aim.ForceSend (ask.ForcePush w) Nothing (answer.Force (Ok d)) (appended o) h g = inl (omega arith)
+    answers_pay (channel.ForceSend v) aim.ForceSend (ask.ForcePush w) Nothing (answer.Force (Err (force_error.Closed z))) (trying b) h g = inl (omega arith)
+    answers_pay (channel.ForceSend v) aim.ForceSend (ask.ForcePush w) Nothing (answer.Force (Err (force_error.NoMemory z))) (trying b) h g = inl (omega arith)
+    answers_pay (channel.ForceSend v) aim.ForceSend (ask.ForcePush w) m r s h g = absurd g
     answers_pay (channel.ForceSend v) y a m r s h g = absurd h
-    answers_pay (channel.PollSend v k t') (aim.Poll Sends key task) (ask.Push w) m r s h g = pushed v w k key t' task m r s g
+    answers_pay (channel.PollSend v k t') (aim.Poll Sends key task) (ask.Push w) Nothing (answer.Push (Ok u)) (appended None) h g =
+        let few = anew_at_most {T = T} (record { ask = ask.Push w; stage = appended None }) Sends key task in inl
+        (omega (arith, few))
+    answers_pay (channel.PollSend v k t') (aim.Poll Sends key task) (ask.Push w) Nothing (answer.Push (Err (push_error.Full z))) (trying b) h g = inr (refl, inl g.1)
+    answers_pay (channel.PollSend v k t') (aim.Poll Sends key task) (ask.Push w) Nothing (answer.Push (Err (push_error.Closed z))) (trying b) h g = inr (refl, inr (inl g.1))
+    answers_pay (channel.PollSend v k t') (aim.Poll Sends key task) (ask.Push w) Nothing (answer.Push (Err (push_error.NoMemory z))) (trying b) h g = inr (refl, inr (inr g.1))
+    answers_pay (channel.PollSend v k t') (aim.Poll Sends key task) (ask.Push w) m r s h g = absurd g
     answers_pay (channel.PollSend v k t') y a m r s h g = absurd h
     answers_pay x y a m r s h g = let n = answers_same_number q a m r s g in inl (omega (arith, n))
 

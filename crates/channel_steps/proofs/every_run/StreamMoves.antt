@@ -19,13 +19,9 @@ use Rattle.channel_steps.proofs.every_run.ReceiveMoves.{sending_keeps}
 use Rattle.channel_steps.proofs.every_run.TotalFacts.{left_over}
 
 module _ {T : Type 0} where
-  appended_counts : (s : queue.Stage T) → HasAppended s → 1 ≤ has_appended s
-  appended_counts (appended o) h = omega arith
-  appended_counts s h = absurd h
-
-  counts_appended : (s : queue.Stage T) → 1 ≤ has_appended s → HasAppended s
-  counts_appended (appended o) h = tt
-  counts_appended s h = absurd (omega (arith, h))
+  appended_counts : (s : queue.Stage T) → (HasAppended s → 1 ≤ has_appended s) × (1 ≤ has_appended s → HasAppended s)
+  appended_counts (appended o) = (λ h. omega arith, λ h. tt)
+  appended_counts s = (λ h. absurd h, λ h. absurd (omega (arith, h)))
 
   -- where no more messages are there than were, but for those that are to be told of, there is none, or one is to be told of
   settled : (items : List T) (n k m l : ℕ) → length items + k ≤ n + m → k ≤ m → (n ≡ 0) ⊎ (1 ≤ k + l) → (items ≡ []) ⊎ (1 ≤ m + l)
@@ -56,29 +52,19 @@ module _ {T W : Type 0} where
   if_none (channel.TrySend m) = refl
   if_none x = refl
 
-  bringing_counts : (at : Stage (Phase T) T W) → IsBringing at → 1 ≤ is_to_tell_streams at
-  bringing_counts (Trying f y) h = appended_counts f.stage h
-  bringing_counts (Working (TellReceive x)) h = omega arith
-  bringing_counts (Working (TellStreams x)) h = omega arith
-  bringing_counts at h = absurd h
+  bringing_counts : (at : Stage (Phase T) T W) → (IsBringing at → 1 ≤ is_to_tell_streams at) × (1 ≤ is_to_tell_streams at → IsBringing at)
+  bringing_counts (Trying f y) = appended_counts f.stage
+  bringing_counts (Working (TellReceive x)) = (λ h. omega arith, λ h. tt)
+  bringing_counts (Working (TellStreams x)) = (λ h. omega arith, λ h. tt)
+  bringing_counts at = (λ h. absurd h, λ h. absurd (omega (arith, h)))
 
-  counts_bringing : (at : Stage (Phase T) T W) → 1 ≤ is_to_tell_streams at → IsBringing at
-  counts_bringing (Trying f y) h = counts_appended f.stage h
-  counts_bringing (Working (TellReceive x)) h = tt
-  counts_bringing (Working (TellStreams x)) h = tt
-  counts_bringing at h = absurd (omega (arith, h))
-
-  pub tells_counts : (x : ChannelAsk T W) (at : Stage (Phase T) T W) → IsSending x × IsBringing at → 1 ≤ counts_for_streams x at
-  tells_counts (channel.TrySend m) at h = bringing_counts at h.1
-  tells_counts (channel.ForceSend m) at h = bringing_counts at h.1
-  tells_counts (channel.PollSend m k t) at h = bringing_counts at h.1
-  tells_counts x at h = absurd h.0
-
-  pub counts_tells : (x : ChannelAsk T W) (at : Stage (Phase T) T W) → 1 ≤ counts_for_streams x at → IsSending x × IsBringing at
-  counts_tells (channel.TrySend m) at h = (tt, counts_bringing at h)
-  counts_tells (channel.ForceSend m) at h = (tt, counts_bringing at h)
-  counts_tells (channel.PollSend m k t) at h = (tt, counts_bringing at h)
-  counts_tells x at h = absurd (omega (arith, h))
+  -- a call that is to tell the streams counts, and no other
+  pub tells_counts : (x : ChannelAsk T W) (at : Stage (Phase T) T W)
+      → (IsSending x × IsBringing at → 1 ≤ counts_for_streams x at) × (1 ≤ counts_for_streams x at → IsSending x × IsBringing at)
+  tells_counts (channel.TrySend m) at = let k = bringing_counts at in (λ h. k.0 h.1, λ h. (tt, k.1 h))
+  tells_counts (channel.ForceSend m) at = let k = bringing_counts at in (λ h. k.0 h.1, λ h. (tt, k.1 h))
+  tells_counts (channel.PollSend m k' t) at = let k = bringing_counts at in (λ h. k.0 h.1, λ h. (tt, k.1 h))
+  tells_counts x at = (λ h. absurd h.0, λ h. absurd (omega (arith, h)))
 
   -- ---- a step of the queue's call
 

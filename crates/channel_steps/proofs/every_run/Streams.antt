@@ -7,7 +7,7 @@ use Rattle.channel_steps.proofs.every_run.AnyFacts.{any_but}
 use Rattle.channel_steps.proofs.every_run.ListMoves.{apart_next}
 use Rattle.channel_steps.proofs.every_run.Owed.{owed_next}
 use Rattle.channel_steps.proofs.every_run.RunFacts.{kept_long}
-use Rattle.channel_steps.proofs.every_run.StreamMoves.{counts_for_streams, tells_counts, counts_tells, NoMessages, Tells, NoneOrTold, stream_ledger}
+use Rattle.channel_steps.proofs.every_run.StreamMoves.{counts_for_streams, tells_counts, NoMessages, Tells, NoneOrTold, stream_ledger}
 
 module _ {T W : Type 0} where
   pub sound_next : (s : Configuration T W) (x : Step T W) (e : Entry T) (names : List W) (t : Configuration T W) → Next s x e names t → StreamsSound s → StreamsSound t
@@ -17,9 +17,9 @@ module _ {T W : Type 0} where
         known = k.0;
         balanced = k.1;
         apart = apart_next Streams s x e names t n sound.apart;
-        owed = λ key w. as_calls NoMessages Tells HasInHand counts_for_streams t key (λ u h. counts_tells u.ask u.at) k.0
+        owed = λ key w. as_calls NoMessages Tells HasInHand counts_for_streams t key (λ u h. let k = tells_counts u.ask u.at in k.1) k.0
             (owed_next Streams NoneOrTold counts_for_streams HasInHand (λ c. ⊥) stream_ledger s x e names t n sound.known sound.apart (λ d. absurd d)
-            (λ key w. as_counts NoMessages Tells HasInHand counts_for_streams s key (λ u. tells_counts u.ask u.at) (sound.owed key w)) key w);
+            (λ key w. as_counts NoMessages Tells HasInHand counts_for_streams s key (λ u. let k = tells_counts u.ask u.at in k.0) (sound.owed key w)) key w);
       }
 
   pub new_sound : (cap : Option ℕ) → StreamsSound (new_configuration {T = T} {W = W} cap)
