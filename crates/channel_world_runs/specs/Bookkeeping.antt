@@ -154,7 +154,7 @@ module _ {T : Type 0} where
 
   -- what the making of a handle from another asks
   abbrev pub mint_asked : Kinship → Option Handle → ChannelAsk T Waiter
-  mint_asked kinship.Same h = clone_asked h
+  mint_asked kinship.Own h = clone_asked h
   mint_asked kinship.Weak h = ask.Make
   mint_asked kinship.Strong h = upgrade_asked h
 

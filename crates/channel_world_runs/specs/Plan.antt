@@ -22,7 +22,7 @@ want_of Any = want.a_handle
 
 -- the kind of a handle that is made from one of this kind
 abbrev pub kin : Kinship → HandleKind → HandleKind
-kin kinship.Same k = k
+kin kinship.Own k = k
 kin kinship.Weak k = weak_of k
 kin kinship.Strong k = strong_of k
 
@@ -43,7 +43,7 @@ plan_of (call.TryRecv receiver) = Through Receiver receiver
 plan_of (call.RecvMany receiver limit) = Through Receiver receiver
 plan_of (call.Close handle) = Through Strong handle
 plan_of (call.Drop handle) = Drops handle
-plan_of (call.TryClone handle new) = Mints Any handle new kinship.Same
+plan_of (call.TryClone handle new) = Mints Any handle new kinship.Own
 plan_of (call.Downgrade handle new) = Mints Strong handle new kinship.Weak
 plan_of (call.Upgrade weak new) = Mints Weak weak new kinship.Strong
 plan_of (call.SameChannel a b) = ThroughBoth a b

@@ -48,7 +48,7 @@ fn mint_ask<T>(kinship: Kinship, handle: Handle) -> ChannelAsk<T, Waiter>
     ensures { result ≡ mint_asked kinship (Some handle) }
 {
     match kinship {
-        Kinship::Same => clone_ask(handle),
+        Kinship::Own => clone_ask(handle),
         Kinship::Weak => ChannelAsk::Make,
         Kinship::Strong => upgrade_ask(handle),
     }
@@ -321,7 +321,7 @@ impl<T: Drop> NameTable<T> {
                 }
                 Ok(making(op, sender, OperationKind::Closing, None))
             }
-            Call::TryClone { handle, new } => match self.mint(handle, new, Kinship::Same) {
+            Call::TryClone { handle, new } => match self.mint(handle, new, Kinship::Own) {
                 Some(begun) => Ok(begun),
                 None => Err(Call::TryClone { handle, new }),
             },

@@ -37,7 +37,7 @@ impl Wanted {
 /// Of which kind a handle is that is made from another.
 #[derive(Clone, Copy)]
 pub(crate) enum Kinship {
-    Same,
+    Own,
     Weak,
     Strong,
 }
@@ -51,7 +51,7 @@ impl Kinship {
         ensures { result ≡ kin self kind }
     {
         match (self, kind) {
-            (Kinship::Same, kind) => kind,
+            (Kinship::Own, kind) => kind,
             (Kinship::Weak, HandleKind::Sender | HandleKind::WeakSender) => HandleKind::WeakSender,
             (Kinship::Weak, HandleKind::Receiver | HandleKind::WeakReceiver) => {
                 HandleKind::WeakReceiver
@@ -110,26 +110,18 @@ impl Plan {
             Call::SendIsTerminated { op } => Plan::Asks(*op),
             Call::PollNext { receiver } => Plan::Streams(*receiver),
             Call::Drop { handle } => Plan::Drops(*handle),
-            Call::TryClone { handle, new } => Plan::Mints(
-                Wanted::Any,
-                *handle,
-                *new,
-                Kinship::Same,
-            ),
+            Call::TryClone { handle, new } => Plan::Mints(Wanted::Any, *handle, *new, Kinship::Own),
             Call::Downgrade { handle, new } => {
                 Plan::Mints(Wanted::Strong, *handle, *new, Kinship::Weak)
             }
             Call::Upgrade { weak, new } => Plan::Mints(Wanted::Weak, *weak, *new, Kinship::Strong),
             Call::SameChannel { a, b } => Plan::ThroughBoth(*a, *b),
-            Call::TrySend { sender: handle, .. } | Call::ForceSend { sender: handle, .. } => {
-                Plan::Through(Wanted::Sender, *handle)
+            Call::TrySend { sender, .. } | Call::ForceSend { sender, .. } => {
+                Plan::Through(Wanted::Sender, *sender)
             }
-            Call::StreamIsTerminated { receiver: handle }
-            | Call::TryRecv { receiver: handle }
-            | Call::RecvMany {
-                receiver: handle,
-                ..
-            } => Plan::Through(Wanted::Receiver, *handle),
+            Call::StreamIsTerminated { receiver }
+            | Call::TryRecv { receiver }
+            | Call::RecvMany { receiver, .. } => Plan::Through(Wanted::Receiver, *receiver),
             Call::Close { handle }
             | Call::IsClosed { handle }
             | Call::IsEmpty { handle }
