@@ -9,7 +9,7 @@ use Rattle.concurrent_queue.specs.declared.error.PopError.TheVariants as pop_err
 use Rattle.concurrent_queue.specs.declared.error.PushError.TheVariants as push_error
 use Rattle.channel_calls.specs.declared.stage.Aim.TheVariants as aim
 use Rattle.channel_steps.proofs.Interface.{answer_marks}
-use Rattle.channel_steps.proofs.every_run.AllOwed.{FreeOrTold}
+use Rattle.channel_steps.proofs.every_run.AllOwed.{FreeOrTold, free_more}
 use Rattle.channel_steps.proofs.SuitFacts.{IsClose, closes_by}
 use Rattle.channel_steps.proofs.every_run.AskFacts.{How, poll_asks, held_by, leaves_next, has_left}
 use Rattle.channel_steps.proofs.MoveFacts.{worked_spares}
@@ -226,14 +226,10 @@ module _ {T W : Type 0} (line : Line) where
       by true shut = inl (looks_goes c x at ds seen e r s line key st g shut h apart w)
       by false unshut = inr (λ n. closing_pays c x at ds seen e r s key st g w n (inl unshut))
 
-  more_told : (c : Channel T W) (m n : ℕ) → m ≤ n → OpenOrTold line c m → OpenOrTold line c n
-  more_told c m n less (inl h) = inl h
-  more_told c m n less (inr h) = inr (omega (arith, less, h))
-
   pub closing_ledger : Ledger {T = T} {W = W} line (OpenOrTold line) (counts_for_closing line) (LooksAgain line) (λ z. ⊥)
   closing_ledger =
       record {
-        more = more_told;
+        more = free_more Open (TellsIt line) (LooksAgain line) (counts_for_closing line);
         comes = λ c e r s key h. newcomer_looks c e r s line key h;
         keeps = keeps_looking;
         pays = λ c x at ds seen e r s key st g w. inl (closing_pays c x at ds seen e r s key st g w);

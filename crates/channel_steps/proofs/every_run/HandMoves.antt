@@ -1,5 +1,5 @@
 -- A poll that has a listener in hand keeps it, leaves the list, or finds cause to wait.
-use Rattle.std.proofs.Common.{◌≡◌, true, List, [], Option, None, Some, Ok, Err, ◌⊎◌, inl, inr, refl, sym, ap, ◌∙◌, subst}
+use Rattle.std.proofs.Common.{◌≡◌, true, List, [], Option, None, Some, Ok, Err, ◌⊎◌, ⊎_elim, inl, inr, refl, sym, ap, ◌∙◌, subst}
 use Rattle.channel_steps.proofs.every_run.Words.{Queue, Phase, trying, appended, taken, is_filled, AnswersPush, AnswersPop, AnswersTo, QueueAsk, QueueMark, Nothing, QueueReply, Key, polled_next, Channel, Effect, queued, Turned, Moves, ChannelAsk, Reply, Line, Sends, Receives, Stage, Trying, Working, Turn, Works, TellReceive, TellStreams, TellSend, Leave, TriesFor, StageAt, MarkedMoment, HoldsListener, LooksAgain, IsOneByOne, Waits, WaitApart}
 use Rattle.concurrent_queue.specs.Queue as queue
 use Rattle.concurrent_queue.specs.declared.call.QueueReply.TheVariants as answer
@@ -101,12 +101,10 @@ module _ {T W : Type 0} where
   polls line key one c x f task m ds seen e r s effect h (inl (f', goes, none, there)) =
       inl (none, subst (λ (z : Stage (Phase T) T W). HoldsListener line key z) (sym there) (refl, refl))
   polls line key one c x f task m ds seen e r s effect h (inr (reply, ans, turned)) =
-      by_answer (poll_answered c.queue key task line one x f.ask ds seen m reply f.stage h ans)
-    where
-      by_answer : DropsLater line key (polled_next line reply (Some key) task) ⊎ ((m ≡ Nothing) × HasCause line c.queue)
-          → HoldsOrWaits line key e r s
-      by_answer (inl d) = inl (turned_holds line key (polled_next line reply (Some key) task) r s d turned)
-      by_answer (inr d) = inr (caused line c f m e effect d.0 d.1)
+      ⊎_elim
+      (λ d. inl (turned_holds line key (polled_next line reply (Some key) task) r s d turned))
+      (λ d. inr (caused line c f m e effect d.0 d.1))
+      (poll_answered c.queue key task line one x f.ask ds seen m reply f.stage h ans)
 
   module _ (line : Line) (key : Key) (one : IsOneByOne line) (c : Channel T W) (x : ChannelAsk T W) (ds : List (MarkedMoment T W))
       (seen : List (Channel T W)) (e : Effect T W) (r : Option (Reply T)) (s : Stage (Phase T) T W) where

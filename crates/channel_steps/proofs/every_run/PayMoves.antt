@@ -1,5 +1,5 @@
 -- On a list that is told one at a time, a step on lists pays: as many more are told as the call counts for less.
-use Rattle.std.proofs.Common.{◌≡◌, ℕ, ◌+◌, ◌≤◌, false, Option, None, ◌⊎◌, inl, inr, refl, arith, List, length}
+use Rattle.std.proofs.Common.{◌≡◌, ℕ, ◌+◌, ◌≤◌, false, Option, None, ◌⊎◌, ⊎_elim, inl, inr, refl, arith, List, length}
 use Rattle.channel_steps.proofs.every_run.Words.{Phase, Key, Channel, Effect, Worked, line_of, again, ChannelAsk, Reply, Line, Stage, Working, Waiting, Work, Register, IsFor, WorkAt, MarkedMoment, Next, Configuration, Entry, Step, HoldsListener, AreOwed, LooksAgain, IsOneByOne, AnyTold, told_of, TellingsSound, Waits, Any}
 use Rattle.channel_steps.proofs.every_run.AnyFacts.{any_weaker}
 use Rattle.channel_steps.proofs.every_run.HandMoves.{HasCause, HoldsOrWaits, looks_holds, holds_on, newcomer_holds}
@@ -54,17 +54,15 @@ module _ {T W : Type 0} (line : Line) (one : IsOneByOne line) (Enough : Channel 
     more_enough : (c : Channel T W) (m n : ℕ) → m ≤ n → Enough c m → Enough c n
     more_enough c m n less h = counting.eased c c m n refl (omega (arith, less)) h
 
-    or_cause : (key : Key) (x : ChannelAsk T W) (e : Effect T W) (r : Option (Reply T)) (s : Stage (Phase T) T W) → HoldsOrWaits line key e r s → GoesOnOr line Enough weigh (HoldsListener line) OneByDefault key x e r s
-    or_cause key x e r s (inl h) = inl h
-    or_cause key x e r s (inr h) = inr (λ n. counting.caused e.channel (left_over weigh x r s + n) h)
-
     -- with its payments, the ledger of such a list
     pub ledger_of : OfStep line Enough weigh (HoldsListener line) OneByDefault (λ c x at e r s key. PaysOne c x at e r s ⊎ OneByDefault c) → Ledger line Enough weigh (HoldsListener line) OneByDefault
     ledger_of pays =
         record {
           more = more_enough;
           comes = λ c e r s key h. newcomer_holds c e r s line key h;
-          keeps = λ c x at ds seen e r s key st g w apart h. or_cause key x e r s (holds_on line key one c x ds seen e r s at st g h apart w);
+          keeps = λ c x at ds seen e r s key st g w apart h. 
+              ⊎_elim (λ k. inl k) (λ k. inr (λ n. counting.caused e.channel (left_over weigh x r s + n) k))
+              (holds_on line key one c x ds seen e r s at st g h apart w);
           pays = pays;
         }
 

@@ -1,5 +1,5 @@
 -- Each step pays for what it brings or uses up, as those count it who wait for a message.
-use Rattle.std.proofs.Common.{◌≡◌, ℕ, ◌+◌, ◌≤◌, false, List, [], length, Option, None, Some, Ok, Err, ◌⊎◌, inl, inr, refl, sym, ap, subst, arith}
+use Rattle.std.proofs.Common.{◌≡◌, ℕ, ◌+◌, ◌≤◌, false, List, [], length, Option, None, Some, Ok, Err, ◌⊎◌, ⊎_elim, inl, inr, refl, sym, ap, subst, arith}
 use Rattle.channel_steps.proofs.every_run.Words.{Queue, Phase, trying, appended, taken, marked, is_displaced, AnswersPush, AnswersForce, AnswersPop, AnswersTo, ContinuesBy, QueueAsk, QueueMark, Nothing, QueueReply, Key, answered_next, Channel, Effect, queued, Moves, line_of, again, ChannelAsk, Loan, Reply, Aim, Sends, Receives, Streams, Closings, Stage, Trying, Working, Finished, Waiting, Work, TellReceive, TriesFor, IsFor, StageAt, MarkedMoment, HoldsListener, AnyTold, told_of, is_to_tell_receive, counts_for_receives, MessagesAreFew, IsSending, Waits}
 use Rattle.concurrent_queue.specs.Queue as queue
 use Rattle.concurrent_queue.specs.declared.call.QueueAsk.TheVariants as ask
@@ -104,15 +104,11 @@ module _ {T W : Type 0} where
       let at = ap (λ (z : Stage (Phase T) T W). counts_for_receives x z) there in
       omega (arith, enough, same, k, now, at)
   tried_pays c x f y m ds seen r s h (inr (reply, ans, turned)) n enough =
-      by_answer (answers_pay c.queue ds seen x y f.ask m reply f.stage h ans)
-    where
-      by_answer : Answered c.queue ds seen x y f.ask m reply f.stage
-          → MessagesAreFew (let e : Effect T W = queued f m c in e.channel) (left_over counts_for_receives x r s + n)
-      by_answer (inl k) =
-          let same = answers_same_number c.queue f.ask m reply f.stage ans in
-          let now = turned_weighs counts_for_receives x (answered_next y reply) r s turned in omega (arith, enough, same, k, now)
-      by_answer (inr k) =
-          let none : length (marked f.ask (is_displaced f.stage) m c.queue).items ≡ 0 = ap length k in omega (arith, none)
+      ⊎_elim
+      (λ k. let same = answers_same_number c.queue f.ask m reply f.stage ans in
+      let now = turned_weighs counts_for_receives x (answered_next y reply) r s turned in omega (arith, enough, same, k, now))
+      (λ k. let none : length (marked f.ask (is_displaced f.stage) m c.queue).items ≡ 0 = ap length k in omega (arith, none))
+      (answers_pay c.queue ds seen x y f.ask m reply f.stage h ans)
 
   -- ---- a step on a list
 

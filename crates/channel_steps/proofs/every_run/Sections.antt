@@ -1,5 +1,5 @@
 -- What a step on lists and counts does to each of the four lists: nothing, or what its work does to the one that it touches.
-use Rattle.std.proofs.Common.{◌≡◌, ℕ, ◌+◌, ◌-◌, Bool, true, false, if◌then◌else◌, List, [], Option, None, Some, ◌⊎◌, inl, inr, refl, sym, ap, ◌∙◌, subst}
+use Rattle.std.proofs.Common.{◌≡◌, ℕ, ◌+◌, ◌-◌, Bool, true, false, if◌then◌else◌, List, [], Option, None, Some, ◌⊎◌, ⊎_elim, inl, inr, refl, sym, ap, ◌∙◌, subst}
 use Rattle.channel_steps.proofs.every_run.Words.{Phase, kind_of, listened, registration, removed, Key, up, down, Channel, Effect, untouched, on_line, on_count, leaves, Turned, Worked, Listeners, listeners, count, is_raised, told_one, told_more, told_all, waits, line_of, again, pends_by, Mark, Reply, Ending, Held, Line, Sends, Receives, Streams, Closings, Side, Senders, Stage, Waiting, Work, TellReceive, TellStreams, TellSend, TellSends, TellAll, Insert, Register, Leave, Lower, Raise}
 
 module _ {T W : Type 0} where
@@ -57,22 +57,15 @@ module _ {T W : Type 0} where
     IsMade = (line ≡ at) × (listeners line e.channel.roster ≡ f (listeners line c.roster))
 
     made : (Same line c e × (line ≡ at → ⊥)) ⊎ IsMade
-    made = by (on_lines line at (f (listeners at c.roster)) names c)
-      where
-        by : (Same line c (on_line at (f (listeners at c.roster)) names c) × (line ≡ at → ⊥))
-            ⊎ ((line ≡ at) × (listeners line (let z : Effect T W = on_line at (f (listeners at c.roster)) names c in z.channel.roster) ≡ f (listeners at c.roster)))
-            → (Same line c e × (line ≡ at → ⊥)) ⊎ IsMade
-        by (inl h) = inl (same_as line c e (on_line at (f (listeners at c.roster)) names c) is h.0, h.1)
-        by (inr h) =
-            inr (h.0, ap (λ (z : Effect T W). listeners line z.channel.roster) is ∙ (h.1 ∙ ap (λ (z : Line). f (listeners z c.roster)) (sym h.0)))
+    made =
+        ⊎_elim
+        (λ h. inl (same_as line c e (on_line at (f (listeners at c.roster)) names c) is h.0, h.1))
+        (λ h. inr (h.0, ap (λ (z : Effect T W). listeners line z.channel.roster) is ∙ (h.1 ∙ ap (λ (z : Line). f (listeners z c.roster)) (sym h.0))))
+        (on_lines line at (f (listeners at c.roster)) names c)
 
     -- and with what else is said of that list
     made_with : (P : Listeners W → Type 0) → P (listeners at c.roster) → Same line c e ⊎ (IsMade × P (listeners line c.roster))
-    made_with P h = by made
-      where
-        by : (Same line c e × (line ≡ at → ⊥)) ⊎ IsMade → Same line c e ⊎ (IsMade × P (listeners line c.roster))
-        by (inl k) = inl k.0
-        by (inr k) = inr (k, subst (λ (z : Line). P (listeners z c.roster)) (sym k.0) h)
+    made_with P h = ⊎_elim (λ k. inl k.0) (λ k. inr (k, subst (λ (z : Line). P (listeners z c.roster)) (sym k.0) h)) made
 
   -- ---- any of them
 
@@ -95,11 +88,7 @@ module _ {T W : Type 0} where
 
     left : (x : Ending T) (o : Option Held) → e ≡ leaves o c → Section (Leave x)
     left x None g = inl (same_as line c e (untouched c) g refl, tt)
-    left x (Some h) g = by (made line h.line (λ l. removed h.key true l) _ c e g)
-      where
-        by : (Same line c e × (line ≡ h.line → ⊥)) ⊎ ((line ≡ h.line) × (listeners line e.channel.roster ≡ removed h.key true (listeners line c.roster))) → Section (Leave x)
-        by (inl k) = inl (k.0, tt)
-        by (inr k) = inr (h, k.0, k.1)
+    left x (Some h) g = ⊎_elim (λ k. inl (k.0, tt)) (λ k. inr (h, k.0, k.1)) (made line h.line (λ l. removed h.key true l) _ c e g)
 
     pub section : (w : Work T W) → Worked c w e r s → Section w
     section (TellReceive x) g = made line Receives (λ l. told_one l) _ c e g.0

@@ -8,7 +8,7 @@ use Rattle.concurrent_queue.specs.declared.error.PopError.TheVariants as pop_err
 use Rattle.channel_calls.specs.declared.ask.ChannelAsk.TheVariants as channel
 use Rattle.channel_calls.specs.declared.stage.Aim.TheVariants as aim
 use Rattle.channel_calls.specs.declared.stage.Waiting.TheVariants as waiting
-use Rattle.channel_steps.proofs.every_run.AllOwed.{FreeOrTold}
+use Rattle.channel_steps.proofs.every_run.AllOwed.{FreeOrTold, free_more}
 use Rattle.channel_steps.proofs.SuitFacts.{push_sends}
 use Rattle.channel_steps.proofs.every_run.AskFacts.{How, poll_asks, held_by, leaves_next, has_left}
 use Rattle.channel_steps.proofs.MoveFacts.{worked_spares}
@@ -198,9 +198,5 @@ module _ {T W : Type 0} where
   stream_comes c e r s key (waiting.Receive, task, at, t) = absurd (let never : Receives ≡ Streams = at in cc)
   stream_comes c e r s key (waiting.Closing, task, at, t) = absurd (let never : Closings ≡ Streams = at in cc)
 
-  more_told_of : (c : Channel T W) (m n : ℕ) → m ≤ n → NoneOrTold c m → NoneOrTold c n
-  more_told_of c m n less (inl h) = inl h
-  more_told_of c m n less (inr h) = inr (omega (arith, less, h))
-
   pub stream_ledger : Ledger {T = T} {W = W} Streams NoneOrTold counts_for_streams HasInHand (λ z. ⊥)
-  stream_ledger = record { more = more_told_of; comes = stream_comes; keeps = keeps_in_hand; pays = stream_pays }
+  stream_ledger = record { more = free_more NoMessages Tells HasInHand counts_for_streams; comes = stream_comes; keeps = keeps_in_hand; pays = stream_pays }
