@@ -23,10 +23,6 @@ module _ {T W : Type 0} where
         by true shut = inr (f shut)
         by false unshut = inl unshut
 
-  -- who is to tell all of a list has closed
-  tells_it : (line : Line) (s : Configuration T W) (u : ActiveCall T W) → Known s.now u → 1 ≤ counts_for_closing line u.ask u.at → TellsIt line u
-  tells_it line s u known h = let k = tell_counts line u.ask u.at in let tells = k.1 h in (told_has_closed line u.told u.at u.marks known.tells tells, tells)
-
   pub sound_next : (s : Configuration T W) (x : Step T W) (e : Entry T) (names : List W) (t : Configuration T W) → Next s x e names t → ClosingSound s → ClosingSound t
   sound_next s x e names t n sound =
       let k = known_next s x e names t n sound.known sound.balanced in
@@ -34,7 +30,7 @@ module _ {T W : Type 0} where
         known = k.0;
         balanced = k.1;
         apart = λ line. apart_next line s x e names t n (sound.apart line);
-        owed = λ line key shut w. ⊎_elim (λ unshut. absurd (let never : true ≡ false = sym shut ∙ unshut in cc)) (λ h. h) (as_calls Open (TellsIt line) (LooksAgain line) (counts_for_closing line) t key (λ u h. tells_it line t u h) k.0
+        owed = λ line key shut w. ⊎_elim (λ unshut. absurd (let never : true ≡ false = sym shut ∙ unshut in cc)) (λ h. h) (as_calls Open (TellsIt line) (LooksAgain line) (counts_for_closing line) t key (λ u known h. let k = tell_counts line u.ask u.at in let tells = k.1 h in (told_has_closed line u.told u.at u.marks known.tells tells, tells)) k.0
             (owed_next line (OpenOrTold line) (counts_for_closing line) (LooksAgain line) (λ c. ⊥) (closing_ledger line) s x e names t n sound.known (sound.apart line) (λ d. absurd d)
             (λ key w. as_counts Open (TellsIt line) (LooksAgain line) (counts_for_closing line) s key (λ u h. let k = tell_counts line u.ask u.at in k.0 h.1)
             (open_or line s key (λ shut. sound.owed line key shut w))) key w));

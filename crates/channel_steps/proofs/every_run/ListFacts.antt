@@ -40,9 +40,6 @@ module _ {W : Type 0} where
   thin_both : (us vs ws : List (Key × Option W)) → Thinner us vs → Thinner vs ws → Thinner us ws
   thin_both us vs ws f g = (λ key h. f.0 key (g.0 key h), λ h. g.1 (f.1 h))
 
-  thin_none : (ws : List (Key × Option W)) → Thinner ws []
-  thin_none ws = (λ key h. absurd h, λ h. tt)
-
   pub thin_drop : (n : ℕ) (ws : List (Key × Option W)) → Thinner ws (drop n ws)
   thin_drop zero ws = thin_same ws
   thin_drop (suc n) [] = thin_same []
@@ -101,7 +98,7 @@ module _ {W : Type 0} where
       thin_both l.waiting (told_one l).waiting (told_more n (told_one l)).waiting (thin_told_one l) (thin_told_more n (told_one l))
 
   pub thin_told_all : (l : Listeners W) → Thinner l.waiting (told_all l).waiting
-  thin_told_all l = thin_none l.waiting
+  thin_told_all l = (λ key h. absurd h, λ h. tt)
 
   thin_passed : (n : Notice Unit) (key : Key) (l : Listeners W) → Thinner l.waiting (passed n (without key l)).waiting
   thin_passed n key l =

@@ -276,9 +276,8 @@ module _ {T W : Type 0} where
   stages now a (Working w) ds seen h = works a w ds seen h
   stages now a (Finished kept) ds seen h = absurd h
 
-  begins : (now : Channel T W) (u : ActiveCall T W) → Known now u → BeginsItsMarks u
-  begins now u k = let b = stages now u.ask u.at u.marks u.seen k.stands in record { later = b.0; all = b.1 }
-
   pub all_begin : (now : Channel T W) (us : List (ActiveCall T W)) → AllKnown now us → Each (λ u. BeginsItsMarks u) us
   all_begin now [] k = tt
-  all_begin now (u ∷ us) k = (begins now u k.0, all_begin now us k.1)
+  all_begin now (u ∷ us) k =
+      let known = k.0 in
+      let b = stages now u.ask u.at u.marks u.seen known.stands in (record { later = b.0; all = b.1 }, all_begin now us k.1)

@@ -62,9 +62,6 @@ module _ {T W : Type 0} where
     shut_on : Shut s.now → Shut t.now
     shut_on shut = let k = shut_does s.now st.mine.at effect e.reply st.at_now shut st.moves in k.0.0
 
-    open_back : Open t.now → Open s.now
-    open_back now = open_as s.now.queue.closed t.now.queue.closed shut_on now
-
     mine_closed : HasClosed st.mine.marks → Shut t.now
     mine_closed h = shut_on (of_mine (λ u. HasClosed u.marks → Shut s.now) s t p e names st sound.closers h)
 
@@ -78,7 +75,7 @@ module _ {T W : Type 0} where
       open_after : Open t.now → EachTold (MayBeTold line) (told_of line t.now)
       open_after now =
           each_as (MayBeTold line) (told_of line t.now)
-          (λ b h. ⊎_elim (λ k. any_as (MayBeTold line) (told_of line s.now) (sound.fit.while_open line (open_back now)) b k)
+          (λ b h. ⊎_elim (λ k. any_as (MayBeTold line) (told_of line s.now) (sound.fit.while_open line (open_as s.now.queue.closed t.now.queue.closed shut_on now)) b k)
           (λ k. let mine = mine_known in
           ⊎_elim (λ n. n) (λ n. absurd (let never : true ≡ false = sym (mine_closed n) ∙ now in cc))
           (tells_as line b st.mine.told st.mine.at st.mine.marks mine.tells k))

@@ -51,14 +51,11 @@ module _ {T W : Type 0} (line : Line) (one : IsOneByOne line) (Enough : Channel 
             inl (λ n enough. counting.eased c e.channel (weigh x (Working w) + n) (left_over weigh x r s + n) same (omega (arith, less, k, more, none)) enough)
         by (inr (inr d)) = inr d
 
-    more_enough : (c : Channel T W) (m n : ℕ) → m ≤ n → Enough c m → Enough c n
-    more_enough c m n less h = counting.eased c c m n refl (omega (arith, less)) h
-
     -- with its payments, the ledger of such a list
     pub ledger_of : OfStep line Enough weigh (HoldsListener line) OneByDefault (λ c x at e r s key. PaysOne c x at e r s ⊎ OneByDefault c) → Ledger line Enough weigh (HoldsListener line) OneByDefault
     ledger_of pays =
         record {
-          more = more_enough;
+          more = λ c m n less h. counting.eased c c m n refl (omega (arith, less)) h;
           comes = λ c e r s key h. newcomer_holds c e r s line key h;
           keeps = λ c x at ds seen e r s key st g w apart h. 
               ⊎_elim (λ k. inl k) (λ k. inr (λ n. counting.caused e.channel (left_over weigh x r s + n) k))
@@ -70,9 +67,7 @@ module _ {T W : Type 0} (line : Line) (one : IsOneByOne line) (Enough : Channel 
   pub one_next : Ledger line Enough weigh (HoldsListener line) OneByDefault → (s : Configuration T W) (x : Step T W) (e : Entry T) (names : List W) (t : Configuration T W) → Next s x e names t → TellingsSound s
       → AreOwed line Enough weigh (HoldsListener line) s → AreOwed line Enough weigh (HoldsListener line) t
   one_next ledger s x e names t n sound owed =
-      owed_next line Enough weigh (HoldsListener line) OneByDefault ledger s x e names t n sound.known (sound.apart line) held_if owed
-    where
-      held_if : OneByDefault s.now → (key : Key) → Waits line key s.now → Any (λ u. HoldsListener line key u.at) s.under_way
-      held_if d key w =
-          let k = sound.fit.by_default line one d in
-          any_weaker (λ u. LooksAgain line key u.at) (λ u. HoldsListener line key u.at) (λ u. looks_holds line key u.at) s.under_way (k.1 key w)
+      owed_next line Enough weigh (HoldsListener line) OneByDefault ledger s x e names t n sound.known (sound.apart line)
+      (λ d key w. let k = sound.fit.by_default line one d in
+      any_weaker (λ u. LooksAgain line key u.at) (λ u. HoldsListener line key u.at) (λ u. looks_holds line key u.at) s.under_way (k.1 key w))
+      owed

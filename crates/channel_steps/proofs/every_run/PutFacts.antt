@@ -209,9 +209,6 @@ module _ {T : Type 0} where
     same_index : (c : ℕ) → (c % cap == n % cap) ≡ true → (r.at (c % cap)).round ≡ there.round
     same_index c e = ap (λ (i : ℕ). (r.at i).round) (denote.eq_true _ _ e)
 
-    same_written : (c : ℕ) → (c % cap == n % cap) ≡ true → (r.at (c % cap)).written ≡ there.written
-    same_written c e = ap (λ (i : ℕ). (r.at i).written) (denote.eq_true _ _ e)
-
     same_slot : (c : ℕ) → (c % cap == n % cap) ≡ true → (r.at (c % cap)).slot ≡ there.slot
     same_slot c e = ap (λ (i : ℕ). (r.at i).slot) (denote.eq_true _ _ e)
 
@@ -222,7 +219,7 @@ module _ {T : Type 0} where
       filled : (c : ℕ) → (c % cap == n % cap) ≡ true → (r.at (c % cap)).round ≡ c → (r.at (c % cap)).written ≡ false → c ≡ n
       filled c e at un = ⊎_elim
           (λ h. sym at ∙ same_index c e ∙ h.0)
-          (λ h. absurd (false≢true (sym un ∙ same_written c e ∙ h.1))) stands
+          (λ h. absurd (false≢true (sym un ∙ ap (λ (i : ℕ). (r.at i).written) (denote.eq_true _ _ e) ∙ h.1))) stands
 
       forced : (c : ℕ) → (c % cap == n % cap) ≡ true → (r.at (c % cap)).round ≡ c → c < r.head → c + cap ≡ n
       forced c e at below = ⊎_elim

@@ -129,14 +129,14 @@ module _ {T W : Type 0} where
   asks_one x waiting.Closing task h at = absurd (let never : Receives ≡ Closings = at in cc)
   asks_one x v task h at = absurd h
 
-  few_caused : (c : Channel T W) (n : ℕ) → HasCause Receives c.queue → MessagesAreFew c n
-  few_caused c n h = let none : length c.queue.items ≡ 0 = ap length h in omega (arith, none)
-
-  few_eased : (c d : Channel T W) (m n : ℕ) → d.queue ≡ c.queue → length (told_of Receives c) + m ≤ length (told_of Receives d) + n → MessagesAreFew c m → MessagesAreFew d n
-  few_eased c d m n same less h = let items = ap (λ (q : Queue T). length q.items) same in omega (arith, less, items, h)
-
   counting : Counting {T = T} {W = W} Receives tt MessagesAreFew counts_for_receives
-  counting = record { tells = work_counts; asks = asks_one; caused = few_caused; eased = few_eased }
+  counting =
+      record {
+        tells = work_counts;
+        asks = asks_one;
+        caused = λ c n h. (let none : length c.queue.items ≡ 0 = ap length h in omega (arith, none));
+        eased = λ c d m n same less h. (let items = ap (λ (q : Queue T). length q.items) same in omega (arith, less, items, h));
+      }
 
   receive_pays : (c : Channel T W) (x : ChannelAsk T W) (at : Stage (Phase T) T W) (ds : List (MarkedMoment T W))
       (seen : List (Channel T W)) (e : Effect T W) (r : Option (Reply T)) (s : Stage (Phase T) T W) (key : Key)
