@@ -422,31 +422,22 @@ module _ {T : Type 0} where
   is_single : (cap : ℕ) (s : CallState T) (a : SingleAction T) (x : Slot × T) → IsAtSingle s a → puts_single a ≡ Some x
       → puts_by (Bounded cap) s ≡ Some x
   is_single cap (Single y) a x e g = subst (λ (z : SingleAction T). puts_single z ≡ Some x) e g
-  is_single cap (Asked k) a x e g = absurd (start_none k x (subst (λ (z : SingleAction T). puts_single z ≡ Some x) e g))
-    where
-      start_none : (k : QueueAsk T) (x : Slot × T) → puts_single (start k) ≡ Some x → ⊥
-      start_none (ask.Push v) x h = absurd cc
-      start_none k x h = absurd cc
+  is_single cap (Asked (ask.Push v)) a x e g = absurd (let h = subst (λ (z : SingleAction T). puts_single z ≡ Some x) e g in cc h)
+  is_single cap (Asked k) a x e g = absurd (let h = subst (λ (z : SingleAction T). puts_single z ≡ Some x) e g in cc h)
   is_single cap x a y e g = absurd e
 
   is_ring : (cap : ℕ) (s : CallState T) (a : RingAction T) (x : Slot × T) → IsAtRing s a → puts_ring (ring_mark cap) a ≡ Some x
       → puts_by (Bounded cap) s ≡ Some x
   is_ring cap (Ring y) a x e g = subst (λ (z : RingAction T). puts_ring (ring_mark cap) z ≡ Some x) e g
-  is_ring cap (Asked k) a x e g = absurd (start_none k x (subst (λ (z : RingAction T). puts_ring (ring_mark cap) z ≡ Some x) e g))
-    where
-      start_none : (k : QueueAsk T) (x : Slot × T) → puts_ring (ring_mark cap) (ring_start k) ≡ Some x → ⊥
-      start_none (ask.Push v) x h = absurd cc
-      start_none k x h = absurd cc
+  is_ring cap (Asked (ask.Push v)) a x e g = absurd (let h = subst (λ (z : RingAction T). puts_ring (ring_mark cap) z ≡ Some x) e g in cc h)
+  is_ring cap (Asked k) a x e g = absurd (let h = subst (λ (z : RingAction T). puts_ring (ring_mark cap) z ≡ Some x) e g in cc h)
   is_ring cap x a y e g = absurd e
 
   is_blocks : (s : CallState T) (a : UnboundedCall T) (x : Slot × T) → IsAtBlocks s a → puts_blocks a.action ≡ Some x
       → puts_by Unbounded s ≡ Some x
   is_blocks (Blocks y) a x e g = subst (λ (z : UnboundedCall T). puts_blocks z.action ≡ Some x) e g
-  is_blocks (Asked k) a x e g = absurd (start_none k x (subst (λ (z : UnboundedCall T). puts_blocks z.action ≡ Some x) e g))
-    where
-      start_none : (k : QueueAsk T) (x : Slot × T) → puts_blocks (begin k).action ≡ Some x → ⊥
-      start_none (ask.Push v) x h = absurd cc
-      start_none k x h = absurd cc
+  is_blocks (Asked (ask.Push v)) a x e g = absurd (let h = subst (λ (z : UnboundedCall T). puts_blocks z.action ≡ Some x) e g in cc h)
+  is_blocks (Asked k) a x e g = absurd (let h = subst (λ (z : UnboundedCall T). puts_blocks z.action ≡ Some x) e g in cc h)
   is_blocks x a y e g = absurd e
 
   -- a message is in its slot, or a call under way is yet to put it there

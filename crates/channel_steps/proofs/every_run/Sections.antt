@@ -73,19 +73,6 @@ module _ {T W : Type 0} where
     abbrev pub Section : Work T W → Type 0
     Section w = (Same line c e × TellsOthers w line) ⊎ Touched w r s line (listeners line c.roster) (listeners line e.channel.roster)
 
-    inserted : (w : Waiting T) (task : W) (key : Key) → Turned (again w (Some key) task) r s
-        → Same line c e ⊎ (((line ≡ line_of w) × (listeners line e.channel.roster ≡ listened key (listeners line c.roster))) × (kind_of (listeners line c.roster) key ≡ None))
-        → Section (Insert w task)
-    inserted w task key t (inl h) = inl (h, tt)
-    inserted w task key t (inr h) = inr (h.0.0, key, h.1, h.0.1, t)
-
-    registered : (w : Waiting T) (key : Key) (task : W)
-        → Same line c e ⊎ (((line ≡ line_of w) × (listeners line e.channel.roster ≡ registration key task (listeners line c.roster)))
-        × Turned (if waits key (listeners line c.roster) then pends_by w key else again w None task) r s)
-        → Section (Register w key task)
-    registered w key task (inl h) = inl (h, tt)
-    registered w key task (inr h) = inr (h.0.0, h.0.1, h.1)
-
     left : (x : Ending T) (o : Option Held) → e ≡ leaves o c → Section (Leave x)
     left x None g = inl (same_as line c e (untouched c) g refl, tt)
     left x (Some h) g = ⊎_elim (λ k. inl (k.0, tt)) (λ k. inr (h, k.0, k.1)) (made line h.line (λ l. removed h.key true l) _ c e g)
@@ -96,10 +83,13 @@ module _ {T W : Type 0} where
     section (TellSend x) g = made line Sends (λ l. told_one l) _ c e g.0
     section (TellSends n x) g = made line Sends (λ l. told_more n l) _ c e g.0
     section (TellAll at closer) g = made line at (λ l. told_all l) _ c e g.0
-    section (Insert w task) (inl g) = inserted w task g.0 g.3 (made_with line (line_of w) (λ l. listened g.0 l) [] c e g.2 (λ l. kind_of l g.0 ≡ None) g.1)
+    section (Insert w task) (inl g) =
+        ⊎_elim (λ h. inl (h, tt)) (λ h. inr (h.0.0, g.0, h.1, h.0.1, g.3))
+        (made_with line (line_of w) (λ l. listened g.0 l) [] c e g.2 (λ l. kind_of l g.0 ≡ None) g.1)
     section (Insert w task) (inr g) = inl (same_as line c e (untouched c) g.1 refl, tt)
     section (Register w key task) g =
-        registered w key task (made_with line (line_of w) (λ l. registration key task l) [] c e g.0 (λ l. Turned (if waits key l then pends_by w key else again w None task) r s) g.1)
+        ⊎_elim (λ h. inl (h, tt)) (λ h. inr (h.0.0, h.0.1, h.1))
+        (made_with line (line_of w) (λ l. registration key task l) [] c e g.0 (λ l. Turned (if waits key l then pends_by w key else again w None task) r s) g.1)
     section (Leave x) g = left x x.held g.0
     section (Lower side key) g = inl (same_as line c e _ g.0 (on_counts line side (count side c.roster - 1) (down side) c), tt)
     section (Raise side n making) g = inl (same_as line c e _ g.0 (on_raise line (is_raised side n c.roster) side n c), tt)

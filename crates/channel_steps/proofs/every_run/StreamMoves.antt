@@ -1,5 +1,5 @@
 -- Each step pays for what it brings, as streams count it: there is no message, or a call is to tell them all.
-use Rattle.std.proofs.Common.{◌≡◌, ℕ, ◌+◌, ◌≤◌, List, [], ◌∷◌, length, Option, Some, Ok, Err, ◌⊎◌, inl, inr, refl, sym, ap, ◌∙◌, subst, arith}
+use Rattle.std.proofs.Common.{⊎_elim, ◌≡◌, ℕ, ◌+◌, ◌≤◌, List, [], ◌∷◌, length, Option, Some, Ok, Err, ◌⊎◌, inl, inr, refl, sym, ap, ◌∙◌, subst, arith}
 use Rattle.channel_steps.proofs.every_run.Words.{Queue, Phase, trying, appended, taken, marked, is_displaced, ContinuesBy, AnswersPop, AnswersTo, QueueAsk, QueueMark, Nothing, QueueReply, Key, answered_next, stream_next, Channel, Effect, queued, Turned, Moves, ChannelAsk, Reply, Aim, Sends, Receives, Streams, Closings, Stage, Trying, Working, Finished, Turn, Tries, Works, Ends, Work, TellReceive, TellStreams, TellSend, Leave, TriesFor, StageAt, MarkedMoment, ActiveCall, has_appended, is_to_tell_receive, counts_for_receives, HasAppended, IsSending, IsBringing, HasInHand, Waits, WaitApart}
 use Rattle.concurrent_queue.specs.Queue as queue
 use Rattle.concurrent_queue.specs.declared.call.QueueAsk.TheVariants as ask
@@ -153,11 +153,9 @@ module _ {T W : Type 0} where
       → StageAt c x at ds seen → Moves c at e r s → Waits Streams key e.channel → Paid c x at e r s ⊎ ⊥
   stream_pays c x (Trying f y) ds seen e r s key st g w =
       inl (subst (λ (z : Effect T W). Paid c x (Trying f y) z r s) (sym g.effect) (tried_pays c x f y g.mark ds seen r s st.0 g.how))
-  stream_pays c x (Working z) ds seen e r s key st g w = inl by
-    where
-      by : Paid c x (Working z) e r s
-      by n (inl none) = let same = worked_spares c z e r s g in inl (ap (λ (q : Queue T). q.items) same.0 ∙ none)
-      by n (inr some) = let on = works_on c x z e r s key g w in inr (omega (arith, some, on))
+  stream_pays c x (Working z) ds seen e r s key st g w =
+      inl (λ n h. ⊎_elim (λ none. let same = worked_spares c z e r s g in inl (ap (λ (q : Queue T). q.items) same.0 ∙ none))
+      (λ some. let on = works_on c x z e r s key g w in inr (omega (arith, some, on))) h)
   stream_pays c x (Finished kept) ds seen e r s key st g w = absurd st
 
   -- ---- a stream's own poll
