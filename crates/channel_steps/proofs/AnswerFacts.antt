@@ -1,7 +1,7 @@
 -- The queue answers, and what is known of the call after that.
 use Rattle.std.proofs.lemmas.List.{length-append}
 use Rattle.std.proofs.Common.{append-nil, zero, suc, ◌≡◌, ℕ, ◌+◌, ◌<◌, ◌≤◌, ◌==◌, true, false, List, [], ◌∷◌, ◌++◌, length, Option, None, Some, Ok, Err, ◌⊎◌, ⊎_elim, inl, inr, refl, sym, ap, ◌∙◌, subst, arith}
-use Rattle.channel_steps.proofs.Words.{trying, appended, taken, read, measured, is_full_at, AnswersTo, QueueAsk, QueueMark, Nothing, Close, QueueReply, Key, sent_next, forced_next, received_next, gathered_next, short_next, several_next, send_next, receive_next, stream_next, closing_next, closed_next, asked_next, terminated_next, upgraded_next, answered_next, mark_of_queue, down, Channel, leaving, closer_ending, ChannelAsk, Loan, Mark, TryRecvError, Gathered, with_last, Aim, Kept, Sends, Receives, Streams, Closings, Side, Senders, Receivers, Turn, AnswersPush, AnswersForce, AnswersPop, AnswersClose, AnswersShut, AnswersEmpty, AnswersFull, AnswersLen, AnswersCapacity, Push, Force, Pop, Flag, Cap, over, hands_out, SeveralRow, Ready, MarkedMoment, with_marked, Open, Shut, HasRoom, HasMessage, is_empty, Once, Appended, Took, TookAll, RanOut, Drained, Replaced, Displaced, LeftLast, TriesFor, TryAt, HasTaken, AreBehind, TriesAt, all_from, IsBalanced, Telling, one_of, more_of, all_of, owed_for, owed_takings, with_taking, takings, owed_besides, owed}
+use Rattle.channel_steps.proofs.Words.{trying, appended, taken, read, measured, is_full_at, AnswersTo, QueueAsk, QueueMark, Nothing, Close, QueueReply, Key, gathered_next, short_next, closed_next, answered_next, mark_of_queue, down, Channel, leaving, closer_ending, ChannelAsk, Mark, TryRecvError, with_last, Aim, Kept, Sends, Receives, Streams, Closings, Side, Senders, Receivers, Turn, AnswersClose, Push, Force, Pop, Flag, Cap, over, hands_out, SeveralRow, Ready, MarkedMoment, with_marked, Open, HasRoom, HasMessage, is_empty, Once, Appended, Took, TookAll, RanOut, Drained, Replaced, Displaced, LeftLast, TriesFor, HasTaken, AreBehind, TriesAt, all_from, IsBalanced, Telling, one_of, more_of, all_of, owed_for, owed_takings, with_taking, takings, owed_besides, owed}
 use Rattle.concurrent_queue.specs.Queue as queue
 use Rattle.concurrent_queue.specs.declared.call.QueueAsk.TheVariants as ask
 use Rattle.concurrent_queue.specs.declared.call.QueueReply.TheVariants.{Count}

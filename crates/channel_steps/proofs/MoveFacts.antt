@@ -1,5 +1,5 @@
 -- What every step of a call leaves as it is, and where it ends.
-use Rattle.std.proofs.Common.{◌≡◌, List, ℕ, suc, ◌+◌, ◌≤◌, [], Bool, true, false, if◌then◌else◌, Option, None, Some, ◌⊎◌, ⊎_elim, inl, inr, refl, sym, ap, ◌∙◌, subst, arith}
+use Rattle.std.proofs.Common.{◌≡◌, List, ℕ, suc, ◌+◌, ◌≤◌, [], Bool, true, false, if◌then◌else◌, Option, None, Some, ⊎_elim, inl, inr, refl, sym, ap, ◌∙◌, subst, arith}
 use Rattle.channel_steps.proofs.Words.{Queue, Phase, IsInRange, QueueCall, Reply, Held, Kept, Side, Senders, Receivers, Mark, Stage, Trying, Working, Finished, Turn, Tries, Works, Ends, Work, Insert, Leave, Lower, Raise, kept_by, up, down, is_raised, Channel, Effect, untouched, on_count, leaves, Turned, Worked, Moves, seats, phase, HasRange, ChannelAsk, gone_by, came_by}
 use Rattle.channel_calls.specs.declared.mark.Mark.TheVariants as mark
 use Rattle.channel_steps.specs.every_run.Ends.{IsStill}

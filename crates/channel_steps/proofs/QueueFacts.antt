@@ -1,6 +1,6 @@
 -- What a step of a call does to the queue: what its mark says, or nothing.
-use Rattle.std.proofs.Common.{⊎_elim, ◌≡◌, ◌+◌, ◌≤◌, Bool, true, false, List, [], ◌∷◌, length, drop, Option, None, Some, ◌⊎◌, inl, inr, refl, sym, ap, subst, arith}
-use Rattle.channel_steps.proofs.Words.{Queue, Phase, displaced, trying, after, marked, message, is_filled, is_displaced, IsOpen, IsOldest, ContinuesPush, ContinuesForce, ContinuesPop, ContinuesBy, Continues, Answers, AnswersTo, QueueAsk, QueueMark, Nothing, Append, Take, TakeDisplaced, Replace, Close, QueueReply, mark_of_queue, answered_next, Channel, Effect, Turned, Tried, Moves, Mark, Reply, Aim, Stage, Trying, Working, Finished}
+use Rattle.std.proofs.Common.{⊎_elim, ◌≡◌, ◌+◌, ◌≤◌, Bool, true, false, List, [], ◌∷◌, length, drop, Option, Some, ◌⊎◌, inl, inr, refl, sym, ap, subst, arith}
+use Rattle.channel_steps.proofs.Words.{Queue, Phase, displaced, trying, after, marked, message, is_filled, is_displaced, IsOpen, IsOldest, ContinuesBy, AnswersTo, QueueAsk, QueueMark, Nothing, Append, Take, TakeDisplaced, Replace, Close, QueueReply, mark_of_queue, Channel, Effect, Tried, Moves, Mark, Reply, Aim, Stage, Trying, Working, Finished}
 use Rattle.concurrent_queue.specs.Queue as queue
 use Rattle.concurrent_queue.specs.declared.call.QueueAsk.TheVariants as ask
 use Rattle.concurrent_queue.specs.declared.call.QueueReply.TheVariants as answer

@@ -1,7 +1,7 @@
 -- A step of the queue's call that goes on, and what is known of the channel's call after it.
 use Rattle.std.proofs.Common.{append_assoc, ◌≡◌, ℕ, zero, suc, ◌+◌, ◌≤◌, ◌==◌, Bool, true, false, if◌then◌else◌, List, [], ◌∷◌, ◌++◌, length, drop, Option, None, Some, ◌⊎◌, ⊎_elim, inl, inr, refl, sym, ap, ◌∙◌, subst, arith, length-append}
 use Rattle.std.proofs.lemmas.Bool.Decides.{nat_tests}
-use Rattle.channel_steps.proofs.Words.{Queue, trying, displaced, appended, taken, read, measured, is_full_at, message, ContinuesBy, QueueAsk, QueueMark, Nothing, Append, Take, TakeDisplaced, Replace, Close, mark_of_queue, Channel, Aim, Mark, is_filled, IsOldest, marked, is_displaced, may_refuse_at, seen_after, ContinuesPush, ContinuesForce, ContinuesPop, MarkedMoment, with_marked, Open, HasRoom, Crowded, Refuses, HasMessage, Once, MadeRoom, Displaced, TryAt, HasTaken, AreBehind, TriesAt, IsBalanced}
+use Rattle.channel_steps.proofs.Words.{Queue, trying, displaced, appended, taken, read, measured, is_full_at, message, ContinuesBy, QueueAsk, QueueMark, Nothing, Append, Take, TakeDisplaced, Replace, Close, mark_of_queue, Channel, Aim, Mark, is_filled, IsOldest, marked, is_displaced, may_refuse_at, seen_after, MarkedMoment, with_marked, Open, HasRoom, Crowded, Refuses, HasMessage, Once, MadeRoom, Displaced, TryAt, HasTaken, AreBehind, TriesAt, IsBalanced}
 use Rattle.concurrent_queue.specs.Queue as queue
 use Rattle.concurrent_queue.specs.declared.call.QueueAsk.TheVariants as ask
 use Rattle.channel_calls.specs.declared.stage.Aim.TheVariants as aim

@@ -1,5 +1,5 @@
 -- Each step pays for what it closes, as those count it who wait on a closed channel: it is open, or a call is to tell their list.
-use Rattle.std.proofs.Common.{⊎_elim, ◌≡◌, ℕ, ◌+◌, ◌-◌, ◌≤◌, Bool, true, false, if◌then◌else◌, List, Option, None, Some, Ok, Err, ◌⊎◌, inl, inr, refl, sym, ap, ◌∙◌, subst, arith}
+use Rattle.std.proofs.Common.{⊎_elim, ◌≡◌, ℕ, ◌-◌, ◌≤◌, Bool, true, false, if◌then◌else◌, List, Option, None, Some, Ok, Err, ◌⊎◌, inl, inr, refl, sym, ap, ◌∙◌, subst, arith}
 use Rattle.channel_steps.proofs.every_run.Words.{Queue, Phase, trying, appended, taken, marked, is_displaced, IsOpen, IsShut, ContinuesPush, ContinuesPop, ContinuesBy, AnswersPush, AnswersPop, AnswersTo, QueueAsk, QueueMark, Nothing, QueueReply, Key, answered_next, polled_next, Channel, Effect, queued, tells_all, Turned, Moves, told_all_next, ChannelAsk, Reply, Aim, Closer, Line, Sends, Receives, Streams, Closings, Stage, Trying, Working, Finished, Turn, Works, Work, TellSend, TellAll, Leave, TriesFor, StageAt, MarkedMoment, Open, Shut, ActiveCall, may_refuse_at, seen_after, AnswersShut, place, HasClosed, HasNoCauseToWait, HasToTell, LooksAgain, Waits, WaitApart}
 use Rattle.concurrent_queue.specs.Queue as queue
 use Rattle.concurrent_queue.specs.declared.call.QueueAsk.TheVariants as ask

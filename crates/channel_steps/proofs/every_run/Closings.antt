@@ -1,6 +1,6 @@
 -- Those who wait on a closed channel, over runs.
-use Rattle.std.proofs.Common.{◌≡◌, ℕ, ◌≤◌, Bool, true, false, List, Option, ◌⊎◌, ⊎_elim, inl, inr, refl, sym, ◌∙◌}
-use Rattle.channel_steps.proofs.every_run.Words.{Key, Line, Sends, Open, Shut, Next, new_configuration, ActiveCall, Configuration, Known, Entry, Step, HasClosed, HasToTell, LooksAgain, ClosingIsOwed, PendingIsOwedTheClosing, AnswersClosed, ClosingSound, ClosingStaysOwed, EachRunOwesTheClosing, WaitApart, Any}
+use Rattle.std.proofs.Common.{◌≡◌, ℕ, Bool, true, false, List, Option, ◌⊎◌, ⊎_elim, inl, inr, refl, sym, ◌∙◌}
+use Rattle.channel_steps.proofs.every_run.Words.{Key, Line, Sends, Open, Shut, Next, new_configuration, Configuration, Entry, Step, HasClosed, HasToTell, LooksAgain, ClosingIsOwed, PendingIsOwedTheClosing, AnswersClosed, ClosingSound, ClosingStaysOwed, EachRunOwesTheClosing, WaitApart, Any}
 use Rattle.channel_steps.proofs.Interface.{known_next}
 use Rattle.channel_steps.proofs.every_run.AllOwed.{as_counts, as_calls}
 use Rattle.channel_steps.proofs.every_run.AnyFacts.{any_but}

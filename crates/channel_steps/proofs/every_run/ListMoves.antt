@@ -2,7 +2,7 @@
 use Rattle.std.proofs.Common.{◌≡◌, List, Option, None, Some, ◌⊎◌, ⊎_elim, inl, inr, sym, subst}
 use Rattle.channel_steps.proofs.every_run.Words.{Phase, listened, Key, Channel, Effect, queued, Turned, Moves, Listeners, listeners, line_of, again, Reply, Line, Stage, Trying, Working, Finished, Waiting, Work, TellReceive, TellStreams, TellSend, TellSends, TellAll, Insert, Register, Leave, Next, Configuration, Entry, Step, IsIn, Apart, Waits, WaitApart}
 use Rattle.channel_steps.specs.declared.run.Step.TheVariants as step
-use Rattle.channel_steps.proofs.every_run.Sections.{Touched, Section, section}
+use Rattle.channel_steps.proofs.every_run.Sections.{Touched, section}
 use Rattle.channel_steps.proofs.every_run.ListFacts.{Thinner, thin_same, thin_told_one, thin_told_more, thin_told_all, thin_registration, thin_removed, newcomer, in_more, apart_more}
 
 module _ {T W : Type 0} where

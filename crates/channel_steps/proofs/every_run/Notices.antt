@@ -1,7 +1,6 @@
 -- How those who were told were told, over runs.
 use Rattle.std.proofs.Common.{◌≡◌, ℕ, Bool, true, false, List, Option, ◌⊎◌, ⊎_elim, inl, inr, refl, sym, ◌∙◌, subst}
 use Rattle.channel_steps.proofs.every_run.Words.{Phase, Key, Channel, Effect, tells_all, Moves, ChannelAsk, Reply, Line, Sends, Receives, Streams, Stage, Working, TellReceive, TellStreams, TellSend, TellSends, TellAll, ToldAt, MarkedMoment, Open, Shut, Configuration, Steps, Known, Telling, Next, Begins, new_configuration, Entry, Step, HasClosed, LooksAgain, MayBeTold, IsOneByOne, EachTold, AnyTold, told_of, TellingsSound, TellingsStayFit, TellingsAlwaysFit, Waits, Any}
-use Rattle.channel_calls.specs.declared.mark.Mark.TheVariants as mark
 use Rattle.channel_steps.specs.declared.run.Step.TheVariants as step
 use Rattle.channel_steps.proofs.Interface.{known_next}
 use Rattle.channel_steps.specs.every_run.Ends.{Each}
@@ -10,7 +9,7 @@ use Rattle.channel_steps.proofs.every_run.Closed.{shut_does}
 use Rattle.channel_steps.proofs.every_run.Closings.{new_apart}
 use Rattle.channel_steps.proofs.every_run.ClosingMoves.{StillLooks, looks_goes, newcomer_looks, nobody_left}
 use Rattle.channel_steps.proofs.every_run.EachFacts.{of_mine, each_known, each_steps, each_begins}
-use Rattle.channel_steps.proofs.every_run.ListMoves.{Tries, moved_lists, waited, apart_next}
+use Rattle.channel_steps.proofs.every_run.ListMoves.{moved_lists, waited, apart_next}
 use Rattle.channel_steps.proofs.every_run.NoticeMoves.{teller_has_closed, closed_before, close_shuts}
 use Rattle.channel_steps.proofs.every_run.RunFacts.{kept_long}
 use Rattle.channel_steps.proofs.every_run.ToldFacts.{each_as, any_as}

@@ -1,10 +1,10 @@
 -- On a list that is told one at a time, a step on lists pays: as many more are told as the call counts for less.
 use Rattle.std.proofs.Common.{◌≡◌, ℕ, ◌+◌, ◌≤◌, false, Option, None, ◌⊎◌, ⊎_elim, inl, inr, refl, arith, List, length}
-use Rattle.channel_steps.proofs.every_run.Words.{Phase, Key, Channel, Effect, Worked, line_of, again, ChannelAsk, Reply, Line, Stage, Working, Waiting, Work, Register, IsFor, WorkAt, MarkedMoment, Next, Configuration, Entry, Step, HoldsListener, AreOwed, LooksAgain, IsOneByOne, AnyTold, told_of, TellingsSound, Waits, Any}
+use Rattle.channel_steps.proofs.every_run.Words.{Phase, Key, Channel, Effect, Worked, line_of, again, ChannelAsk, Reply, Line, Stage, Working, Waiting, Work, Register, IsFor, WorkAt, MarkedMoment, Next, Configuration, Entry, Step, HoldsListener, AreOwed, LooksAgain, IsOneByOne, AnyTold, told_of, TellingsSound, Waits}
 use Rattle.channel_steps.proofs.every_run.AnyFacts.{any_weaker}
-use Rattle.channel_steps.proofs.every_run.HandMoves.{HasCause, HoldsOrWaits, looks_holds, holds_on, newcomer_holds}
+use Rattle.channel_steps.proofs.every_run.HandMoves.{HasCause, looks_holds, holds_on, newcomer_holds}
 use Rattle.channel_steps.proofs.every_run.NumberMoves.{weigh_turn, turned_weighs}
-use Rattle.channel_steps.proofs.every_run.Owed.{Pays, GoesOnOr, OfStep, Ledger, owed_next}
+use Rattle.channel_steps.proofs.every_run.Owed.{Pays, OfStep, Ledger, owed_next}
 use Rattle.channel_steps.proofs.every_run.ToldMoves.{tells_now, AsksAnew, worked_counts}
 use Rattle.channel_steps.proofs.every_run.TotalFacts.{left_over}
 
@@ -57,7 +57,7 @@ module _ {T W : Type 0} (line : Line) (one : IsOneByOne line) (Enough : Channel 
         record {
           more = λ c m n less h. counting.eased c c m n refl (omega (arith, less)) h;
           comes = λ c e r s key h. newcomer_holds c e r s line key h;
-          keeps = λ c x at ds seen e r s key st g w apart h. 
+          keeps = λ c x at ds seen e r s key st g w apart h.
               ⊎_elim (λ k. inl k) (λ k. inr (λ n. counting.caused e.channel (left_over weigh x r s + n) k))
               (holds_on line key one c x ds seen e r s at st g h apart w);
           pays = pays;

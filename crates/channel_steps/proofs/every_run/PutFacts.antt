@@ -3,11 +3,10 @@ use Rattle.std.proofs.Common.{◌≡◌, ℕ, zero, suc, ◌+◌, ◌*◌, ◌/�
 use Rattle.std.proofs.lemmas.Nat.{mod_below, div-add-mod'}
 use Rattle.std.proofs.lemmas.Bool.{cases_lt, false≢true}
 use Rattle.std.proofs.lemmas.Bool.Decides.{nat_tests}
-use Rattle.channel_steps.proofs.every_run.Words.{Contents, block_at, slot_at, Queue, Phase, appended, message, Seat, AreAt, IsAtBlocks, FitsForm, HasBrought, Place, Each, owed, one_if, number, position, KnowsBlocks, same, owes, BlocksSeat, BlocksMeans, owners, Denotes, act_of, seat_of, IsChain, begin, QueueAsk, QueueForm, Bounded, Unbounded, Slot, CallState, Asked, Single, Ring, Blocks, UnboundedAction, UnboundedCall, IsAtSingle, IsAtRing, FitsSlot, FitsRing, slot_by, sum, pos, holds, holders, KnowsSingle, Means, SingleMeans, index, ring_mark, ring_start, SlotState, SoundRing, busy, reach, hold, ask_of, at_stage, placed, KnowsRing, RingMeans, place_at, ring_slot, number_of, fill, taken_in, Fills, IsProper, IsTailAt, IsFit, blocks_slot, RingAction, WhenFull, Refuse, Displace, At, In, SingleAction, puts_single, puts_ring, puts_blocks, puts_by}
+use Rattle.channel_steps.proofs.every_run.Words.{Contents, block_at, slot_at, Queue, Phase, appended, message, Seat, AreAt, IsAtBlocks, FitsForm, HasBrought, Place, Each, owed, one_if, number, position, KnowsBlocks, same, owes, BlocksSeat, BlocksMeans, owners, Denotes, act_of, seat_of, IsChain, QueueAsk, QueueForm, Bounded, Unbounded, Slot, CallState, Asked, Single, Ring, Blocks, UnboundedAction, UnboundedCall, IsAtSingle, IsAtRing, FitsSlot, FitsRing, slot_by, sum, pos, holds, holders, KnowsSingle, Means, SingleMeans, index, ring_mark, SlotState, SoundRing, busy, reach, hold, ask_of, at_stage, placed, KnowsRing, RingMeans, place_at, ring_slot, number_of, fill, taken_in, Fills, IsProper, IsTailAt, IsFit, blocks_slot, RingAction, WhenFull, Refuse, Displace, At, In, SingleAction, puts_single, puts_ring, puts_blocks, puts_by}
 use Rattle.concurrent_queue.specs.Step.{slot_in}
 use Rattle.concurrent_queue.specs.Step.{FitsAt}
 use Rattle.concurrent_queue.specs.Queue.{Stage}
-use Rattle.concurrent_queue.specs.machine.Single.{start}
 use Rattle.concurrent_queue.specs.machine.RingState.{Ring as RingNumbers}
 use Rattle.concurrent_queue.specs.machine.RingCalls.{owes as ring_owes}
 use Rattle.concurrent_queue.specs.machine.BlocksState.{Blocks as BlocksNumbers}

@@ -1,6 +1,6 @@
 -- Each step pays for what it brings or uses up, as those count it who wait for a message.
 use Rattle.std.proofs.Common.{◌≡◌, ℕ, ◌+◌, ◌≤◌, false, List, [], length, Option, None, Some, Ok, Err, ◌⊎◌, ⊎_elim, inl, inr, refl, sym, ap, subst, arith}
-use Rattle.channel_steps.proofs.every_run.Words.{Queue, Phase, trying, appended, taken, marked, is_displaced, AnswersPush, AnswersForce, AnswersPop, AnswersTo, ContinuesBy, QueueAsk, QueueMark, Nothing, QueueReply, Key, answered_next, Channel, Effect, queued, Moves, line_of, again, ChannelAsk, Loan, Reply, Aim, Sends, Receives, Streams, Closings, Stage, Trying, Working, Finished, Waiting, Work, TellReceive, TriesFor, IsFor, StageAt, MarkedMoment, HoldsListener, AnyTold, told_of, is_to_tell_receive, counts_for_receives, MessagesAreFew, IsSending, Waits}
+use Rattle.channel_steps.proofs.every_run.Words.{Queue, Phase, trying, appended, taken, marked, is_displaced, AnswersTo, ContinuesBy, QueueAsk, QueueMark, Nothing, QueueReply, Key, answered_next, Channel, Effect, queued, Moves, line_of, again, ChannelAsk, Loan, Reply, Aim, Sends, Receives, Streams, Closings, Stage, Trying, Working, Finished, Waiting, Work, TellReceive, TriesFor, IsFor, StageAt, MarkedMoment, HoldsListener, AnyTold, told_of, is_to_tell_receive, counts_for_receives, MessagesAreFew, IsSending, Waits}
 use Rattle.concurrent_queue.specs.Queue as queue
 use Rattle.concurrent_queue.specs.declared.call.QueueAsk.TheVariants as ask
 use Rattle.concurrent_queue.specs.declared.call.QueueReply.TheVariants as answer
@@ -13,7 +13,6 @@ use Rattle.channel_calls.specs.declared.stage.Waiting.TheVariants as waiting
 use Rattle.channel_steps.proofs.SuitFacts.{push_sends}
 use Rattle.channel_steps.proofs.every_run.AskFacts.{How}
 use Rattle.channel_steps.proofs.MoveFacts.{worked_spares}
-use Rattle.channel_steps.proofs.every_run.HandMoves.{HasCause}
 use Rattle.channel_steps.proofs.every_run.NumberMoves.{number, push_brings, force_brings, pop_takes, goes_no_more, answers_same_number, anew_at_most, weigh_turn, turned_weighs}
 use Rattle.channel_steps.proofs.every_run.Owed.{Ledger}
 use Rattle.channel_steps.proofs.every_run.PayMoves.{OneByDefault, PaysOne, Counting, worked_pays, ledger_of}

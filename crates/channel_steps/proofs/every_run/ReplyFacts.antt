@@ -1,5 +1,5 @@
 -- What a reply that says the end, and one that gives a message, say of their call.
-use Rattle.std.proofs.Common.{⊎_elim, ◌≡◌, List, [], ◌∷◌, ◌++◌, Option, None, Some, Ok, Err, ◌⊎◌, inl, inr, sym, subst}
+use Rattle.std.proofs.Common.{⊎_elim, ◌≡◌, List, [], ◌∷◌, ◌++◌, Option, None, Some, Ok, Err, inr, sym, subst}
 use Rattle.channel_steps.proofs.every_run.Words.{Ready, Channel, ChannelAsk, Mark, Append, Take, Replace, SenderUp, SenderDown, ReceiverUp, ReceiverDown, Reply, Kept, Sends, MarkedMoment, with_marked, Spent, Once, Took, TookAll, Replaced, Displaced, Row, ActiveCall, MayFinish, ForceSend, TryRecv, RecvMany, PollRecv, PollNext, RefusePoll, StillDeeds, IsStill, SaysTheEnd, GivesMessage, Replies, DropSender, DropReceiver, PollFinishedSend, GiveUp, SendIsTerminated, SameChannel, Make, DropWeak}
 use Rattle.channel_calls.specs.declared.error.Refused.TheVariants as refused
 use Rattle.channel_calls.specs.declared.error.TryRecvError.TheVariants as try_recv_error

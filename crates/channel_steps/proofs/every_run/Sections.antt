@@ -1,6 +1,6 @@
 -- What a step on lists and counts does to each of the four lists: nothing, or what its work does to the one that it touches.
 use Rattle.std.proofs.Common.{◌≡◌, ℕ, ◌+◌, ◌-◌, Bool, true, false, if◌then◌else◌, List, [], Option, None, Some, ◌⊎◌, ⊎_elim, inl, inr, refl, sym, ap, ◌∙◌, subst}
-use Rattle.channel_steps.proofs.every_run.Words.{Phase, kind_of, listened, registration, removed, Key, up, down, Channel, Effect, untouched, on_line, on_count, leaves, Turned, Worked, Listeners, listeners, count, is_raised, told_one, told_more, told_all, waits, line_of, again, pends_by, Mark, Reply, Ending, Held, Line, Sends, Receives, Streams, Closings, Side, Senders, Stage, Waiting, Work, TellReceive, TellStreams, TellSend, TellSends, TellAll, Insert, Register, Leave, Lower, Raise}
+use Rattle.channel_steps.proofs.every_run.Words.{Phase, kind_of, listened, registration, removed, Key, up, down, Channel, Effect, untouched, on_line, on_count, leaves, Turned, Worked, Listeners, listeners, count, is_raised, told_one, told_more, told_all, waits, line_of, again, pends_by, Mark, Reply, Ending, Held, Line, Sends, Receives, Streams, Closings, Side, Senders, Stage, Work, TellReceive, TellStreams, TellSend, TellSends, TellAll, Insert, Register, Leave, Lower, Raise}
 
 module _ {T W : Type 0} where
   -- what a work does to this list, from l to l'

@@ -1,6 +1,6 @@
 -- Each step pays for what it takes or uses up, as those count it who wait for a free place.
 use Rattle.std.proofs.lemmas.List.{length-append}
-use Rattle.channel_steps.proofs.every_run.Words.{Gathered, with_last, TryRecvError, Queue, Phase, IsShut, trying, appended, taken, is_displaced, is_full_at, is_filled, AnswersPush, AnswersForce, AnswersPop, AnswersTo, ContinuesBy, QueueAsk, QueueMark, Nothing, QueueReply, Key, answered_next, gathered_next, short_next, Channel, Effect, queued, Moves, line_of, again, ChannelAsk, Loan, Reply, Aim, Sends, Receives, Streams, Closings, Stage, Trying, Working, Finished, Waiting, Work, TellSend, TriesFor, IsFor, StageAt, MarkedMoment, Shut, HoldsListener, AnyTold, told_of, is_to_tell_send, counts_for_sends, HasPlaces, PlacesAreFew, Waits}
+use Rattle.channel_steps.proofs.every_run.Words.{with_last, TryRecvError, Queue, Phase, IsShut, trying, appended, taken, is_displaced, is_full_at, is_filled, AnswersTo, ContinuesBy, QueueAsk, QueueMark, Nothing, QueueReply, Key, answered_next, gathered_next, short_next, Channel, Effect, queued, Moves, line_of, again, ChannelAsk, Loan, Reply, Aim, Sends, Receives, Streams, Closings, Stage, Trying, Working, Finished, Waiting, Work, TellSend, TriesFor, IsFor, StageAt, MarkedMoment, Shut, HoldsListener, AnyTold, told_of, is_to_tell_send, counts_for_sends, HasPlaces, PlacesAreFew, Waits}
 use Rattle.channel_calls.specs.declared.error.TryRecvError.TheVariants as try_recv_error
 use Rattle.std.proofs.Common.{◌≡◌, ℕ, zero, suc, ◌+◌, ◌≤◌, true, false, List, [], ◌∷◌, ◌++◌, length, Option, None, Some, Ok, Err, ◌⊎◌, ⊎_elim, inl, inr, refl, sym, ap, subst, arith}
 use Rattle.std.proofs.lemmas.Bool.Decides.{nat_tests}

@@ -1,6 +1,6 @@
 -- Waiting streams over runs.
-use Rattle.std.proofs.Common.{ℕ, List, Option, ◌⊎◌, ⊎_elim, inl, inr, refl}
-use Rattle.channel_steps.proofs.every_run.Words.{Streams, Next, new_configuration, Configuration, Entry, Step, IsSending, IsBringing, HasInHand, PendingStreamsAreOwed, AnswersFor, StreamsAreOwed, StreamsSound, StreamsStayOwed, NoStreamIsForgotten, Any}
+use Rattle.std.proofs.Common.{ℕ, List, Option, ⊎_elim, inl, inr, refl}
+use Rattle.channel_steps.proofs.every_run.Words.{Streams, Next, new_configuration, Configuration, Entry, Step, IsSending, IsBringing, HasInHand, PendingStreamsAreOwed, StreamsAreOwed, StreamsSound, StreamsStayOwed, NoStreamIsForgotten}
 use Rattle.channel_steps.proofs.Interface.{known_next}
 use Rattle.channel_steps.proofs.every_run.AllOwed.{as_counts, as_calls}
 use Rattle.channel_steps.proofs.every_run.AnyFacts.{any_but}

@@ -1,6 +1,6 @@
 -- What a step does to those of a list that were told.
 use Rattle.std.proofs.Common.{⊎_elim, ◌≡◌, ℕ, ◌+◌, ◌≤◌, Bool, true, false, if◌then◌else◌, length, Option, None, ◌⊎◌, inl, inr, refl, sym, ap, subst, arith}
-use Rattle.channel_steps.proofs.every_run.Words.{Phase, registration, removed, Key, Channel, Effect, Turned, Worked, Moves, Listeners, listeners, waits, line_of, again, pends_by, Reply, Line, Sends, Receives, Streams, Stage, Trying, Working, Finished, Ending, Waiting, Work, TellReceive, TellStreams, TellSend, TellSends, TellAll, Insert, Register, Leave, AnyTold, told_of, IsIn}
+use Rattle.channel_steps.proofs.every_run.Words.{Phase, registration, Key, Channel, Effect, Turned, Worked, Moves, Listeners, listeners, waits, line_of, again, pends_by, Reply, Line, Sends, Receives, Streams, Stage, Trying, Working, Finished, Waiting, Work, TellReceive, TellStreams, TellSend, TellSends, TellAll, Insert, Register, Leave, AnyTold, told_of, IsIn}
 use Rattle.channel_steps.proofs.every_run.Sections.{Touched, TellsOthers, Section, section}
 use Rattle.channel_steps.proofs.every_run.ToldFacts.{any_told_one, any_told_more, any_told_all, any_after_removal, any_registration, told_one_counts, told_more_counts, removed_counts, registered_counts}
 

@@ -1,5 +1,5 @@
 -- A step on a list or on a count of a call that is alone at work.
-use Rattle.channel_steps.proofs.solo.Words.{zero, suc, ◌∙◌, ◌≡◌, ℕ, ◌+◌, ◌==◌, nat_lt, Bool, true, false, if◌then◌else◌, [], Option, None, Some, inl, inr, refl, sym, ap, subst, Phase, Key, ListenError, kind_of, Reply, Closer, Ending, Held, Line, Sends, Receives, Streams, Closings, Making, Side, Stage, Turn, Tries, Works, Ends, Waiting, Work, TellReceive, TellStreams, TellSend, TellSends, TakeRoom, TellAll, Insert, Register, Leave, Lower, Count, Load, Raise, listeners, waits, count, is_raised, most, line_of, message_of, ask_of, leaving, nothing_kept, ends_by, again, pends_by, pending_reply, unlistened, closer_ending, dropper, told_all_next, room_next, roomless, lowered_next, counted_next, loaded_next, raised_next, Channel, Effect, Turned, Worked, TakesRoomFor, tells_one, tells_more, tells_all, listens, registers, leaves, lowers, raises, untouched, on_count, Outcome, Where, after_waking, answers, ends, receives_several, closes, clones}
+use Rattle.channel_steps.proofs.solo.Words.{zero, suc, ◌∙◌, ◌≡◌, ℕ, ◌+◌, ◌==◌, nat_lt, Bool, true, false, if◌then◌else◌, [], Option, None, Some, inl, inr, refl, sym, ap, subst, Phase, Key, Reply, Closer, Ending, Held, Line, Sends, Receives, Streams, Closings, Making, Side, Stage, Turn, Tries, Works, Ends, Waiting, Work, TellReceive, TellStreams, TellSend, TellSends, TakeRoom, TellAll, Insert, Register, Leave, Lower, Count, Load, Raise, listeners, waits, count, is_raised, most, line_of, message_of, ask_of, leaving, nothing_kept, ends_by, again, pends_by, pending_reply, unlistened, closer_ending, dropper, told_all_next, room_next, roomless, lowered_next, counted_next, loaded_next, raised_next, Channel, Effect, Turned, Worked, TakesRoomFor, tells_one, tells_more, tells_all, registers, leaves, lowers, raises, untouched, on_count, Outcome, Where, after_waking, answers, ends, receives_several, closes, clones}
 use Rattle.channel_calls.specs.Marks.{up}
 use Rattle.concurrent_queue.specs.declared.call.QueueAsk.TheVariants as ask
 use Rattle.channel_calls.specs.declared.reply.Reply.TheVariants as reply
