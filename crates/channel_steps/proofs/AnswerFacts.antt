@@ -1,7 +1,7 @@
 -- The queue answers, and what is known of the call after that.
 use Rattle.std.proofs.lemmas.List.{length-append}
 use Rattle.std.proofs.Common.{append-nil, zero, suc, ◌≡◌, ℕ, ◌+◌, ◌<◌, ◌≤◌, ◌==◌, true, false, List, [], ◌∷◌, ◌++◌, length, Option, None, Some, Ok, Err, ◌⊎◌, ⊎_elim, inl, inr, refl, sym, ap, ◌∙◌, subst, arith}
-use Rattle.channel_steps.proofs.Words.{trying, appended, taken, read, measured, is_full_at, AnswersTo, QueueAsk, QueueMark, Nothing, Close, QueueReply, Key, sent_next, forced_next, received_next, gathered_next, short_next, several_next, send_next, receive_next, stream_next, closing_next, closed_next, asked_next, terminated_next, upgraded_next, answered_next, mark_of_queue, down, Channel, leaving, closer_ending, ChannelAsk, Loan, Mark, TryRecvError, Gathered, with_last, Aim, Kept, Sends, Receives, Streams, Closings, Side, Senders, Receivers, Turn, AnswersPush, AnswersForce, AnswersPop, AnswersClose, AnswersShut, AnswersEmpty, AnswersFull, AnswersLen, AnswersCapacity, Push, Force, Pop, Flag, Cap, over, hands_out, SeveralRow, Ready, MarkedMoment, with_marked, Open, Shut, HasRoom, HasMessage, is_empty, Once, Appended, Took, TookAll, RanOut, Drained, Replaced, Displaced, LeftLast, TriesFor, TryAt, HasTaken, AreBehind, TriesAt, all_from, IsBalanced, Telling, one_of, more_of, all_of, owed_for, owed_takings, with_taking, takings, owed_besides, owed}
+use Rattle.channel_steps.proofs.Words.{trying, appended, taken, read, measured, is_full_at, AnswersTo, QueueAsk, QueueMark, Nothing, Close, QueueReply, Key, gathered_next, short_next, closed_next, answered_next, mark_of_queue, down, Channel, leaving, closer_ending, ChannelAsk, Mark, TryRecvError, with_last, Aim, Kept, Sends, Receives, Streams, Closings, Side, Senders, Receivers, Turn, AnswersClose, Push, Force, Pop, Flag, Cap, over, hands_out, SeveralRow, Ready, MarkedMoment, with_marked, Open, HasRoom, HasMessage, is_empty, Once, Appended, Took, TookAll, RanOut, Drained, Replaced, Displaced, LeftLast, TriesFor, HasTaken, AreBehind, TriesAt, all_from, IsBalanced, Telling, one_of, more_of, all_of, owed_for, owed_takings, with_taking, takings, owed_besides, owed}
 use Rattle.concurrent_queue.specs.Queue as queue
 use Rattle.concurrent_queue.specs.declared.call.QueueAsk.TheVariants as ask
 use Rattle.concurrent_queue.specs.declared.call.QueueReply.TheVariants.{Count}
@@ -126,9 +126,6 @@ module _ {T W : Type 0} where
     closed_none Nothing (answer.Close false) (trying b) h = ((([], c ∷ seen, refl, (refl, inl h)), refl), refl)
     closed_none m r st h = absurd h
 
-    closed_by : (ds : List (MarkedMoment T W)) → ds ≡ [] → (m : QueueMark) (r : QueueReply T) (st : queue.Stage T) → AnswersClose c.queue m r st → Then channel.Close ask.Close st m ds (closed_next r closer.Call)
-    closed_by ds e m r st h = subst (λ (xs : List (MarkedMoment T W)). Then channel.Close ask.Close st m xs (closed_next r closer.Call)) (sym e) (closed_none m r st h)
-
     owed_last : (side : Side) (m : Mark) → m ≡ down side → (ts : List Telling) → ts ≡ owed_takings (with_taking m 0) ++ (owed_for m ++ ts)
     owed_last Senders m e ts = sym (ap (λ x. owed_takings (with_taking x 0) ++ (owed_for x ++ ts)) e)
     owed_last Receivers m e ts = sym (ap (λ x. owed_takings (with_taking x 0) ++ (owed_for x ++ ts)) e)
@@ -192,7 +189,8 @@ module _ {T W : Type 0} where
     answered ds bal (channel.RecvMany n) (aim.RecvMany g) ask.Pop Nothing (Pop (Err pop_error.Empty)) (trying b) e ev h = short n g.more g.taken ds ev.0 e ev.1 ev.2 try_recv_error.Empty h.1 (λ none. (none, omega (arith, e), inl h))
     answered ds bal (channel.RecvMany n) (aim.RecvMany g) ask.Pop Nothing (Pop (Err pop_error.Closed)) (trying b) e ev h = short n g.more g.taken ds ev.0 e ev.1 ev.2 try_recv_error.Closed h.1 (λ none. (none, omega (arith, e), inl h))
     answered ds bal (channel.RecvMany n) (aim.RecvMany g) ask.Pop m r st e ev h = absurd h
-    answered ds b channel.Close (aim.Close closer.Call) ask.Close m r st f ev h = closed_by ds f m r st h
+    answered ds b channel.Close (aim.Close closer.Call) ask.Close m r st f ev h =
+        subst (λ (xs : List (MarkedMoment T W)). Then channel.Close ask.Close st m xs (closed_next r closer.Call)) (sym f) (closed_none m r st h)
     answered ds bal (channel.PollSend msg k t) (aim.Poll Sends key task) (ask.Push v) Nothing (Push (Ok u)) (appended None) e ev h = ((([], c ∷ seen, refl, ev), refl), owed_appended ds ev)
     answered ds bal (channel.PollSend msg k t) (aim.Poll Sends None task) (ask.Push v) Nothing (Push (Err (push_error.Full w))) (trying b) e ev h = ((h.0 ∙ e, ev.0, full_once c.queue.capacity c.queue.items (c ∷ seen) h.1 (refusal_seen b c seen ev.1 h.2)), owes_nothing ds ev.0)
     answered ds bal (channel.PollSend msg k t) (aim.Poll Sends (Some key) task) (ask.Push v) Nothing (Push (Err (push_error.Full w))) (trying b) e ev h = ((h.0 ∙ e, ev.0, λ n. full_once c.queue.capacity c.queue.items (c ∷ seen) h.1 (refusal_seen b c seen ev.1 h.2)), owes_nothing ds ev.0)

@@ -1,5 +1,5 @@
 -- Calls without a mark are quiet to the calls of the queue.
-use Rattle.std.proofs.Common.{arith, ◌≡◌, ◌<◌, ◌≤◌, ℕ, List, [], ◌∷◌, ◌++◌, map, None, Some, ◌⊎◌, inl, inr, refl, sym, ap, ◌∙◌, subst}
+use Rattle.std.proofs.Common.{⊎_elim, arith, ◌≡◌, ◌<◌, ◌≤◌, ℕ, List, [], ◌∷◌, ◌++◌, map, None, Some, ◌⊎◌, inl, inr, refl, sym, ap, ◌∙◌, subst}
 use Rattle.channel_steps.proofs.Words.{Phase, trying, displaced, appended, taken, read, measured, Seat, PhasesQuiet, phases, QueueAsk, QueueCall, Channel, phase, seats, ChannelAsk, Stage, Trying, Working, Finished, Aim, IsQuiet, AllQuiet, TryAt, TriesAt, StageAt, MarkedMoment, ActiveCall, Configuration, Steps, ActiveCallWitness, sees, active_call_of, seats_of, all_seats, AllKnown, AreIdle, OthersQuiet, Entry}
 use Rattle.concurrent_queue.specs.Queue as queue
 use Rattle.concurrent_queue.specs.declared.call.QueueAsk.TheVariants as ask
@@ -53,11 +53,8 @@ module _ {T W : Type 0} where
   -- calls without a mark are quiet calls of the queue
   pub idle_holds : (now : Channel T W) (xs : List (ActiveCallWitness T W)) → AllKnown now (map active_call_of xs) → OthersQuiet now (map active_call_of xs)
       → PhasesQuiet now.queue (phases (all_seats xs))
-  idle_holds now xs known (idle, first) = (idle_seats now xs known idle, λ bare. by (first bare))
-    where
-      by : (0 < now.queue.removed) ⊎ (map active_call_of xs ≡ []) → (0 < now.queue.removed) ⊎ (phases (all_seats xs) ≡ [])
-      by (inl some) = inl some
-      by (inr none) = inr (ap phases (none_seats xs none))
+  idle_holds now xs known (idle, first) =
+      (idle_seats now xs known idle, λ bare. ⊎_elim (λ some. inl some) (λ none. inr (ap phases (none_seats xs none))) (first bare))
 
   -- ---- they are still quiet after its step
 

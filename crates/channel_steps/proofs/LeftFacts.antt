@@ -1,7 +1,7 @@
 -- How many steps a call still makes at most where the others are quiet.
 use Rattle.std.proofs.Common.{◌≡◌, ◌≤◌, ◌<◌, ◌+◌, ◌-◌, ◌*◌, ◌^◌, ◌==◌, ◌&&◌, nat_lt, ℕ, zero, suc, Bool, true, false, if◌then◌else◌, List, [], ◌∷◌, ◌++◌, Option, None, Some, Ok, Err, inl, inr, refl, sym, ap, ◌∙◌, subst, arith}
 use Rattle.std.proofs.lemmas.Bool.Decides.{nat_tests}
-use Rattle.channel_steps.proofs.Words.{Contents, Queue, Phase, asked, Seat, Fits, PhasesQuiet, phases, QueueReply, QueueCall, Key, kind_of, listened, Gathered, with_last, TryRecvError, Mark, Reply, Aim, Closer, Ending, Held, Line, Sends, Receives, Streams, Closings, Making, Side, Stage, Trying, Working, Finished, Turn, Tries, Works, Ends, Waiting, Work, TellReceive, TellStreams, TellSend, TellSends, TakeRoom, TellAll, Insert, Register, Leave, Lower, Count, Load, Raise, Parts, Roster, Listeners, listeners, with_listeners, waits, count, is_raised, most, line_of, leaving, nothing_kept, ends_by, again, pends_by, unlistened, closer_ending, dropper, told_all_next, room_next, roomless, lowered_next, counted_next, loaded_next, raised_next, sent_next, forced_next, received_next, gathered_next, short_next, several_next, send_next, receive_next, stream_next, closing_next, closed_next, asked_next, terminated_next, upgraded_next, answered_next, Channel, Effect, channel, Turned, Worked, Tried, seats, phase, IsTaken, Made, refused_next, polled_next, Hastens, left_to_tell, one_try, listening_try, told_try, most_left, left_after_try, left_to_work, steps_left}
+use Rattle.channel_steps.proofs.Words.{Contents, Queue, Phase, asked, Seat, Fits, PhasesQuiet, phases, QueueReply, QueueCall, Key, kind_of, listened, with_last, TryRecvError, Mark, Reply, Aim, Closer, Ending, Held, Line, Sends, Receives, Streams, Closings, Making, Side, Stage, Trying, Working, Finished, Turn, Tries, Works, Ends, Waiting, Work, TellReceive, TellStreams, TellSend, TellSends, TakeRoom, TellAll, Insert, Register, Leave, Lower, Count, Load, Raise, Parts, Roster, Listeners, listeners, with_listeners, waits, count, is_raised, most, line_of, leaving, nothing_kept, ends_by, again, pends_by, unlistened, closer_ending, dropper, told_all_next, room_next, roomless, lowered_next, counted_next, loaded_next, raised_next, gathered_next, short_next, answered_next, Channel, Effect, channel, Turned, Worked, Tried, seats, phase, IsTaken, Made, refused_next, Hastens, left_to_tell, one_try, listening_try, told_try, most_left, left_after_try, left_to_work, steps_left}
 use Rattle.concurrent_queue.specs.declared.call.QueueAsk.TheVariants as ask
 use Rattle.concurrent_queue.specs.declared.call.QueueReply.TheVariants as answer
 use Rattle.concurrent_queue.specs.declared.error.PushError.TheVariants as push_error

@@ -1,5 +1,5 @@
 -- What every step of a call leaves as it is, and where it ends.
-use Rattle.std.proofs.Common.{◌≡◌, List, ℕ, suc, ◌+◌, ◌≤◌, [], Bool, true, false, if◌then◌else◌, Option, None, Some, ◌⊎◌, inl, inr, refl, sym, ap, ◌∙◌, subst, arith}
+use Rattle.std.proofs.Common.{◌≡◌, List, ℕ, suc, ◌+◌, ◌≤◌, [], Bool, true, false, if◌then◌else◌, Option, None, Some, ⊎_elim, inl, inr, refl, sym, ap, ◌∙◌, subst, arith}
 use Rattle.channel_steps.proofs.Words.{Queue, Phase, IsInRange, QueueCall, Reply, Held, Kept, Side, Senders, Receivers, Mark, Stage, Trying, Working, Finished, Turn, Tries, Works, Ends, Work, Insert, Leave, Lower, Raise, kept_by, up, down, is_raised, Channel, Effect, untouched, on_count, leaves, Turned, Worked, Moves, seats, phase, HasRange, ChannelAsk, gone_by, came_by}
 use Rattle.channel_calls.specs.declared.mark.Mark.TheVariants as mark
 use Rattle.channel_steps.specs.every_run.Ends.{IsStill}
@@ -59,17 +59,10 @@ module _ {T W : Type 0} where
   turned_ends (Works w) y s h = absurd (let no : Some y ≡ None = h.0 in cc)
   turned_ends (Ends x kept) y s h = (kept, h.1)
 
-  worked_ends : (c : Channel T W) (w : Work T W) (e : Effect T W) (y : Reply T) (s : Stage (Phase T) T W) → Worked c w e (Some y) s → (kept : Kept T) × (s ≡ Finished kept)
-  worked_ends c w e y s h = let b = work_lessens c e (Some y) s w h in turned_ends b.turn y s b.turned
-
-  tried_ends : (a b : Type 0) (y : Reply T) (s : Stage (Phase T) T W) → (a → (kept : Kept T) × (s ≡ Finished kept)) → (b → (kept : Kept T) × (s ≡ Finished kept)) → a ⊎ b → (kept : Kept T) × (s ≡ Finished kept)
-  tried_ends a b y s f g (inl h) = f h
-  tried_ends a b y s f g (inr h) = g h
-
   moves_end : (c : Channel T W) (at : Stage (Phase T) T W) (e : Effect T W) (y : Reply T) (s : Stage (Phase T) T W) → Moves c at e (Some y) s → (kept : Kept T) × (s ≡ Finished kept)
   moves_end c (Trying f aim) e y s h =
-      tried_ends _ _ y s (λ k. absurd (let no : Some y ≡ None = k.2 in cc)) (λ k. turned_ends _ y s k.2) h.how
-  moves_end c (Working w) e y s h = worked_ends c w e y s h
+      ⊎_elim (λ k. absurd (let no : Some y ≡ None = k.2 in cc)) (λ k. turned_ends _ y s k.2) h.how
+  moves_end c (Working w) e y s h = let b = work_lessens c e (Some y) s w h in turned_ends b.turn y s b.turned
   moves_end c (Finished kept) e y s h = absurd (let no : Some y ≡ None = h.1 in cc)
 
   pub kept_at : (f : Phase T) (s : Stage (QueueCall T) T W) (kept : Kept T) → phase f s ≡ Finished kept → kept_by s ≡ kept

@@ -1,6 +1,6 @@
 -- What a step of a call does to the queue: what its mark says, or nothing.
-use Rattle.std.proofs.Common.{◌≡◌, ◌+◌, ◌≤◌, Bool, true, false, List, [], ◌∷◌, length, drop, Option, None, Some, ◌⊎◌, inl, inr, refl, sym, ap, subst, arith}
-use Rattle.channel_steps.proofs.Words.{Queue, Phase, displaced, trying, after, marked, message, is_filled, is_displaced, IsOpen, IsOldest, ContinuesPush, ContinuesForce, ContinuesPop, ContinuesBy, Continues, Answers, AnswersTo, QueueAsk, QueueMark, Nothing, Append, Take, TakeDisplaced, Replace, Close, QueueReply, mark_of_queue, answered_next, Channel, Effect, Turned, Tried, Moves, Mark, Reply, Aim, Stage, Trying, Working, Finished}
+use Rattle.std.proofs.Common.{⊎_elim, ◌≡◌, ◌+◌, ◌≤◌, Bool, true, false, List, [], ◌∷◌, length, drop, Option, Some, ◌⊎◌, inl, inr, refl, sym, ap, subst, arith}
+use Rattle.channel_steps.proofs.Words.{Queue, Phase, displaced, trying, after, marked, message, is_filled, is_displaced, IsOpen, IsOldest, ContinuesBy, AnswersTo, QueueAsk, QueueMark, Nothing, Append, Take, TakeDisplaced, Replace, Close, QueueReply, mark_of_queue, Channel, Effect, Tried, Moves, Mark, Reply, Aim, Stage, Trying, Working, Finished}
 use Rattle.concurrent_queue.specs.Queue as queue
 use Rattle.concurrent_queue.specs.declared.call.QueueAsk.TheVariants as ask
 use Rattle.concurrent_queue.specs.declared.call.QueueReply.TheVariants as answer
@@ -62,11 +62,9 @@ module _ {T : Type 0} where
 
 module _ {T W : Type 0} (c : Channel T W) where
   tried_says : (f : Phase T) (y : Aim T W) (e : Effect T W) (r : Option (Reply T)) (s : Stage (Phase T) T W) (h : Tried c f y e r s) → Says f.ask f.stage h.mark c.queue
-  tried_says f y e r s h = by h.how where
-    by : ((f' : Phase T) × Continues c.queue f h.mark f' × (r ≡ None) × (s ≡ Trying f' y)) ⊎ ((x : QueueReply T) × Answers c.queue f h.mark x × Turned (answered_next y x) r s)
-        → Says f.ask f.stage h.mark c.queue
-    by (inl k) = goes_says c.queue f.ask h.mark f.stage k.0.stage k.1.1
-    by (inr k) = answered_by c.queue (λ z. Says f.ask f.stage z c.queue) tt (λ was. was) f.ask h.mark k.0 f.stage k.1
+  tried_says f y e r s h =
+      ⊎_elim (λ k. goes_says c.queue f.ask h.mark f.stage k.0.stage k.1.1)
+      (λ k. answered_by c.queue (λ z. Says f.ask f.stage z c.queue) tt (λ was. was) f.ask h.mark k.0 f.stage k.1) h.how
 
   -- what holds of each mark of a step of the queue's call, and where the queue is as it was, holds of any step
   pub moves_by : (at : Stage (Phase T) T W) (P : Mark → Queue T → Type 0)

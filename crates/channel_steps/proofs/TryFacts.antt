@@ -1,7 +1,7 @@
 -- A step of the queue's call that goes on, and what is known of the channel's call after it.
 use Rattle.std.proofs.Common.{append_assoc, ◌≡◌, ℕ, zero, suc, ◌+◌, ◌≤◌, ◌==◌, Bool, true, false, if◌then◌else◌, List, [], ◌∷◌, ◌++◌, length, drop, Option, None, Some, ◌⊎◌, ⊎_elim, inl, inr, refl, sym, ap, ◌∙◌, subst, arith, length-append}
 use Rattle.std.proofs.lemmas.Bool.Decides.{nat_tests}
-use Rattle.channel_steps.proofs.Words.{Queue, trying, displaced, appended, taken, read, measured, is_full_at, message, ContinuesBy, QueueAsk, QueueMark, Nothing, Append, Take, TakeDisplaced, Replace, Close, mark_of_queue, Channel, Aim, Mark, is_filled, IsOldest, marked, is_displaced, may_refuse_at, seen_after, ContinuesPush, ContinuesForce, ContinuesPop, MarkedMoment, with_marked, Open, HasRoom, Crowded, Refuses, HasMessage, Once, MadeRoom, Displaced, TryAt, HasTaken, AreBehind, TriesAt, IsBalanced}
+use Rattle.channel_steps.proofs.Words.{Queue, trying, displaced, appended, taken, read, measured, is_full_at, message, ContinuesBy, QueueAsk, QueueMark, Nothing, Append, Take, TakeDisplaced, Replace, Close, mark_of_queue, Channel, Aim, Mark, is_filled, IsOldest, marked, is_displaced, may_refuse_at, seen_after, MarkedMoment, with_marked, Open, HasRoom, Crowded, Refuses, HasMessage, Once, MadeRoom, Displaced, TryAt, HasTaken, AreBehind, TriesAt, IsBalanced}
 use Rattle.concurrent_queue.specs.Queue as queue
 use Rattle.concurrent_queue.specs.declared.call.QueueAsk.TheVariants as ask
 use Rattle.channel_calls.specs.declared.stage.Aim.TheVariants as aim
@@ -56,16 +56,13 @@ module _ {T : Type 0} where
           balanced = λ h. (let n = one_fewer q w oldest in let h' : length q.items + q.removed ≡ q.accepted = h in omega (arith, i, j, n));
         }
 
-    closes : Progress q (record q { closed = true })
-    closes = record { capacity = refl; grew = inl refl; balanced = λ h. h }
-
     pub progress : (a : QueueAsk T) (s : queue.Stage T) (m : QueueMark) → Says a s m q → Progress q (marked a (is_displaced s) m q)
     progress a s Nothing h = still q
     progress a s Append h = brings a h.0.0 h.0.1 (is_displaced s) h.1
     progress a s Take h = takes a h.0 h.1 q.coming
     progress a s TakeDisplaced h = takes a h.0.0 h.0.1 true
     progress a s Replace h = replaces a h.0.0 h.1.0 h.0.1 h.1.1 h.4
-    progress a s Close h = closes
+    progress a s Close h = record { capacity = refl; grew = inl refl; balanced = λ h. h }
 
 module _ {T W : Type 0} where
   -- ---- moments
@@ -188,13 +185,10 @@ module _ {T W : Type 0} where
     grown_message n (inl h) = inl (inr h)
     grown_message n (inr h) = ⊎_elim (λ e. inr (omega (arith, h, e))) (λ k. inl (inl k.0)) p.grew
 
-    was_there : HasRoom c → Once HasRoom seen
-    was_there h = subst (λ (cs : List (Channel T W)). Once HasRoom cs) (sym latest) (inl h)
-
     grown_room : (n : ℕ) → (c.queue.capacity ≡ Some 1 → ⊥) → Once HasRoom seen ⊎ (c.queue.accepted ≡ n) → Once HasRoom (c' ∷ seen) ⊎ (c'.queue.accepted ≡ n)
     grown_room n many (inl h) = inl (inr h)
     grown_room n many (inr h) =
-        ⊎_elim (λ e. inr (e ∙ h)) (λ k. ⊎_elim (λ room. inl (inr (was_there room))) (λ one. absurd (many one)) k.1) p.grew
+        ⊎_elim (λ e. inr (e ∙ h)) (λ k. ⊎_elim (λ room. inl (inr (subst (λ (cs : List (Channel T W)). Once HasRoom cs) (sym latest) (inl room)))) (λ one. absurd (many one)) k.1) p.grew
 
     refused_before : Once (Refuses c.queue.capacity) seen → Once (Refuses c'.queue.capacity) (c' ∷ seen)
     refused_before h = inr (subst (λ (cap : Option ℕ). Once (Refuses cap) seen) (sym p.capacity) h)

@@ -9,6 +9,9 @@ module _ {T W : Type 0} (Free : Channel T W → Type 0) (Tells : ActiveCall T W 
   abbrev pub FreeOrTold : Channel T W → ℕ → Type 0
   FreeOrTold c n = Free c ⊎ (1 ≤ n)
 
+  pub free_more : (c : Channel T W) (m n : ℕ) → m ≤ n → FreeOrTold c m → FreeOrTold c n
+  free_more c m n less h = ⊎_elim (λ k. inl k) (λ k. inr (omega (arith, less, k))) h
+
   any_counts : ((u : ActiveCall T W) → Tells u → 1 ≤ weigh u.ask u.at) → (us : List (ActiveCall T W)) → Any Tells us → 1 ≤ total weigh us
   any_counts f [] h = absurd h
   any_counts f (u ∷ us) (inl h) = let k = f u h in omega (arith, k)

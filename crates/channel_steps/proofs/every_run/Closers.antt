@@ -33,12 +33,9 @@ module _ {T W : Type 0} where
   marks_join [] es = omega arith
   marks_join (d ∷ ds) es = let h = marks_join ds es in omega (arith, h)
 
-  one_more : (ds : List (MarkedMoment T W)) (d : MarkedMoment T W) → marks_in (ds ++ d ∷ []) ≡ marks_in ds + one_if_close d.mark
-  one_more ds d = let h = marks_join ds (d ∷ []) in omega (arith, h)
-
   marks_with : (ds : List (MarkedMoment T W)) (m : Mark) (c : Channel T W) (seen : List (Channel T W)) → marks_in (with_marked ds m c seen) ≡ marks_in ds + one_if_close m
   marks_with ds Nothing c seen = omega arith
-  marks_with ds m c seen = one_more ds (record { mark = m; before = c; seen = seen })
+  marks_with ds m c seen = let h = marks_join ds (record { mark = m; before = c; seen = seen } ∷ []) in omega (arith, h)
 
   closers_join : (us vs : List (ActiveCall T W)) → closers (us ++ vs) ≡ closers us + closers vs
   closers_join [] vs = omega arith

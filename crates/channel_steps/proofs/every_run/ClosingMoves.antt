@@ -1,5 +1,5 @@
 -- Each step pays for what it closes, as those count it who wait on a closed channel: it is open, or a call is to tell their list.
-use Rattle.std.proofs.Common.{◌≡◌, ℕ, ◌+◌, ◌-◌, ◌≤◌, Bool, true, false, if◌then◌else◌, List, Option, None, Some, Ok, Err, ◌⊎◌, inl, inr, refl, sym, ap, ◌∙◌, subst, arith}
+use Rattle.std.proofs.Common.{⊎_elim, ◌≡◌, ℕ, ◌-◌, ◌≤◌, Bool, true, false, if◌then◌else◌, List, Option, None, Some, Ok, Err, ◌⊎◌, inl, inr, refl, sym, ap, ◌∙◌, subst, arith}
 use Rattle.channel_steps.proofs.every_run.Words.{Queue, Phase, trying, appended, taken, marked, is_displaced, IsOpen, IsShut, ContinuesPush, ContinuesPop, ContinuesBy, AnswersPush, AnswersPop, AnswersTo, QueueAsk, QueueMark, Nothing, QueueReply, Key, answered_next, polled_next, Channel, Effect, queued, tells_all, Turned, Moves, told_all_next, ChannelAsk, Reply, Aim, Closer, Line, Sends, Receives, Streams, Closings, Stage, Trying, Working, Finished, Turn, Works, Work, TellSend, TellAll, Leave, TriesFor, StageAt, MarkedMoment, Open, Shut, ActiveCall, may_refuse_at, seen_after, AnswersShut, place, HasClosed, HasNoCauseToWait, HasToTell, LooksAgain, Waits, WaitApart}
 use Rattle.concurrent_queue.specs.Queue as queue
 use Rattle.concurrent_queue.specs.declared.call.QueueAsk.TheVariants as ask
@@ -9,7 +9,7 @@ use Rattle.concurrent_queue.specs.declared.error.PopError.TheVariants as pop_err
 use Rattle.concurrent_queue.specs.declared.error.PushError.TheVariants as push_error
 use Rattle.channel_calls.specs.declared.stage.Aim.TheVariants as aim
 use Rattle.channel_steps.proofs.Interface.{answer_marks}
-use Rattle.channel_steps.proofs.every_run.AllOwed.{FreeOrTold}
+use Rattle.channel_steps.proofs.every_run.AllOwed.{FreeOrTold, free_more}
 use Rattle.channel_steps.proofs.SuitFacts.{IsClose, closes_by}
 use Rattle.channel_steps.proofs.every_run.AskFacts.{How, poll_asks, held_by, leaves_next, has_left}
 use Rattle.channel_steps.proofs.MoveFacts.{worked_spares}
@@ -176,15 +176,13 @@ module _ {T W : Type 0} (line : Line) where
   tried_pays c x f y m ds seen r s h how n (inr some) = inr (omega (arith, some))
   tried_pays c x f y m ds seen r s h (inl (f', goes, none, there)) n (inl unshut) =
       inl (open_on c.queue f.ask (is_displaced f.stage) m f.stage f'.stage goes.1 unshut)
-  tried_pays c x f y m ds seen r s h (inr (reply, ans, turned)) n (inl unshut) = by (answer_marks c.queue f.ask m reply f.stage ans)
-    where
-      by : (m ≡ Nothing) ⊎ ((m ≡ Close) × (f.ask ≡ ask.Close) × (reply ≡ answer.Close true) × IsOpen c.queue)
-          → OpenOrTold (let e : Effect T W = queued f m c in e.channel) (left_over counts_for_closing x r s + n)
-      by (inl none) = inl (subst (λ (z : QueueMark). IsOpen (marked f.ask (is_displaced f.stage) z c.queue)) (sym none) unshut)
-      by (inr (closes, asks, says, was)) =
-          let first = tells_first x y (closes_by x y ds seen (subst (λ (a : QueueAsk T). TriesFor x y a ds seen) asks h)) in
-          let now = turned_weighs counts_for_closing x (answered_next y (answer.Close true)) r s (subst (λ (z : QueueReply T). Turned (answered_next y z) r s) says turned) in
-          inr (omega (arith, first, now))
+  tried_pays c x f y m ds seen r s h (inr (reply, ans, turned)) n (inl unshut) =
+      ⊎_elim
+      (λ none. inl (subst (λ (z : QueueMark). IsOpen (marked f.ask (is_displaced f.stage) z c.queue)) (sym none) unshut))
+      (λ k. let first = tells_first x y (closes_by x y ds seen (subst (λ (a : QueueAsk T). TriesFor x y a ds seen) k.1 h)) in
+      let now = turned_weighs counts_for_closing x (answered_next y (answer.Close true)) r s (subst (λ (z : QueueReply T). Turned (answered_next y z) r s) k.2 turned) in
+      inr (omega (arith, first, now)))
+      (answer_marks c.queue f.ask m reply f.stage ans)
 
 module _ {T W : Type 0} where
   -- a closing tells one list after another
@@ -198,14 +196,12 @@ module _ {T W : Type 0} where
 module _ {T W : Type 0} (line : Line) where
   works_on : (c : Channel T W) (x : ChannelAsk T W) (w : Work T W) (e : Effect T W) (r : Option (Reply T)) (s : Stage (Phase T) T W) (key : Key) → Moves c (Working w) e r s → Waits line key e.channel
       → counts_for_closing line x (Working w) ≤ left_over (counts_for_closing line) x r s
-  works_on c x (TellAll at closer) e r s key g w = by (next_told line at closer x)
-    where
-      by : (line ≡ at) ⊎ (1 - (place at - place line) ≤ weigh_turn (counts_for_closing line) x (told_all_next at closer))
-          → counts_for_closing line x (Working (TellAll at closer)) ≤ left_over (counts_for_closing line) x r s
-      by (inl same) =
-          absurd (nobody_left at key c (subst (λ (z : Line). Waits z key (let e : Effect T W = tells_all at c in e.channel)) same
-          (subst (λ (z : Effect T W). Waits line key z.channel) g.0 w)))
-      by (inr on) = let now = turned_weighs (counts_for_closing line) x (told_all_next at closer) r s g.1 in omega (arith, on, now)
+  works_on c x (TellAll at closer) e r s key g w =
+      ⊎_elim
+      (λ same. absurd (nobody_left at key c (subst (λ (z : Line). Waits z key (let e : Effect T W = tells_all at c in e.channel)) same
+      (subst (λ (z : Effect T W). Waits line key z.channel) g.0 w))))
+      (λ on. let now = turned_weighs (counts_for_closing line) x (told_all_next at closer) r s g.1 in omega (arith, on, now))
+      (next_told line at closer x)
   works_on c x z e r s key g w = omega arith
 
   closing_pays : (c : Channel T W) (x : ChannelAsk T W) (at : Stage (Phase T) T W) (ds : List (MarkedMoment T W)) (seen : List (Channel T W)) (e : Effect T W) (r : Option (Reply T)) (s : Stage (Phase T) T W) (key : Key)
@@ -226,14 +222,10 @@ module _ {T W : Type 0} (line : Line) where
       by true shut = inl (looks_goes c x at ds seen e r s line key st g shut h apart w)
       by false unshut = inr (λ n. closing_pays c x at ds seen e r s key st g w n (inl unshut))
 
-  more_told : (c : Channel T W) (m n : ℕ) → m ≤ n → OpenOrTold line c m → OpenOrTold line c n
-  more_told c m n less (inl h) = inl h
-  more_told c m n less (inr h) = inr (omega (arith, less, h))
-
   pub closing_ledger : Ledger {T = T} {W = W} line (OpenOrTold line) (counts_for_closing line) (LooksAgain line) (λ z. ⊥)
   closing_ledger =
       record {
-        more = more_told;
+        more = free_more Open (TellsIt line) (LooksAgain line) (counts_for_closing line);
         comes = λ c e r s key h. newcomer_looks c e r s line key h;
         keeps = keeps_looking;
         pays = λ c x at ds seen e r s key st g w. inl (closing_pays c x at ds seen e r s key st g w);

@@ -1,6 +1,6 @@
 -- Those who wait on a closed channel, over runs.
-use Rattle.std.proofs.Common.{◌≡◌, ℕ, ◌≤◌, Bool, true, false, List, Option, ◌⊎◌, inl, inr, refl, sym, ◌∙◌}
-use Rattle.channel_steps.proofs.every_run.Words.{Key, Line, Sends, Open, Shut, Next, new_configuration, ActiveCall, Configuration, Known, Entry, Step, HasClosed, HasToTell, LooksAgain, ClosingIsOwed, PendingIsOwedTheClosing, AnswersClosed, ClosingSound, ClosingStaysOwed, EachRunOwesTheClosing, WaitApart, Any}
+use Rattle.std.proofs.Common.{◌≡◌, ℕ, Bool, true, false, List, Option, ◌⊎◌, ⊎_elim, inl, inr, refl, sym, ◌∙◌}
+use Rattle.channel_steps.proofs.every_run.Words.{Key, Line, Sends, Open, Shut, Next, new_configuration, Configuration, Entry, Step, HasClosed, HasToTell, LooksAgain, ClosingIsOwed, PendingIsOwedTheClosing, AnswersClosed, ClosingSound, ClosingStaysOwed, EachRunOwesTheClosing, WaitApart, Any}
 use Rattle.channel_steps.proofs.Interface.{known_next}
 use Rattle.channel_steps.proofs.every_run.AllOwed.{as_counts, as_calls}
 use Rattle.channel_steps.proofs.every_run.AnyFacts.{any_but}
@@ -23,14 +23,6 @@ module _ {T W : Type 0} where
         by true shut = inr (f shut)
         by false unshut = inl unshut
 
-    but_shut : Shut s.now → Open s.now ⊎ IsAnswered → IsAnswered
-    but_shut shut (inl unshut) = absurd (let never : true ≡ false = sym shut ∙ unshut in cc)
-    but_shut shut (inr h) = h
-
-  -- who is to tell all of a list has closed
-  tells_it : (line : Line) (s : Configuration T W) (u : ActiveCall T W) → Known s.now u → 1 ≤ counts_for_closing line u.ask u.at → TellsIt line u
-  tells_it line s u known h = let k = tell_counts line u.ask u.at in let tells = k.1 h in (told_has_closed line u.told u.at u.marks known.tells tells, tells)
-
   pub sound_next : (s : Configuration T W) (x : Step T W) (e : Entry T) (names : List W) (t : Configuration T W) → Next s x e names t → ClosingSound s → ClosingSound t
   sound_next s x e names t n sound =
       let k = known_next s x e names t n sound.known sound.balanced in
@@ -38,7 +30,7 @@ module _ {T W : Type 0} where
         known = k.0;
         balanced = k.1;
         apart = λ line. apart_next line s x e names t n (sound.apart line);
-        owed = λ line key shut w. but_shut line t key shut (as_calls Open (TellsIt line) (LooksAgain line) (counts_for_closing line) t key (λ u h. tells_it line t u h) k.0
+        owed = λ line key shut w. ⊎_elim (λ unshut. absurd (let never : true ≡ false = sym shut ∙ unshut in cc)) (λ h. h) (as_calls Open (TellsIt line) (LooksAgain line) (counts_for_closing line) t key (λ u known h. let k = tell_counts line u.ask u.at in let tells = k.1 h in (told_has_closed line u.told u.at u.marks known.tells tells, tells)) k.0
             (owed_next line (OpenOrTold line) (counts_for_closing line) (LooksAgain line) (λ c. ⊥) (closing_ledger line) s x e names t n sound.known (sound.apart line) (λ d. absurd d)
             (λ key w. as_counts Open (TellsIt line) (LooksAgain line) (counts_for_closing line) s key (λ u h. let k = tell_counts line u.ask u.at in k.0 h.1)
             (open_or line s key (λ shut. sound.owed line key shut w))) key w));

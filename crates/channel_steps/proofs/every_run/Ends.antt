@@ -10,10 +10,6 @@ use Rattle.channel_steps.proofs.MoveFacts.{nothing_gone, nothing_came}
 use Rattle.channel_steps.proofs.every_run.ClosedMoves.{over_spares}
 use Rattle.channel_steps.proofs.every_run.ReplyFacts.{with_still, finish_gives, finish_ends}
 
-module _ {T : Type 0} where
-  same_over : (q q' : Queue T) → q' ≡ q → IsShut q × IsDrained q → IsShut q' × IsDrained q'
-  same_over q q' e h = subst (λ (x : Queue T). IsShut x × IsDrained x) (sym e) h
-
 module _ {T W : Type 0} where
   -- ---- one entry
 
@@ -34,7 +30,7 @@ module _ {T W : Type 0} where
   rests s (step.Step p) e names t over n =
       let h = over_spares s.now n.mine.at (record { channel = t.now; mark = e.mark; woken = names }) e.reply n.at_now over n.moves in
       record {
-        over = same_over s.now.queue t.now.queue h.0 over;
+        over = subst (λ (q : Queue T). IsShut q × IsDrained q) (sym h.0) over;
         still = h.1;
         gone = n.gone ∙ (ap (λ (vs : List T). s.gone ++ vs) (nothing_gone e.mark s.now.queue.items h.1) ∙ append-nil s.gone);
         came = n.came ∙ (ap (λ (vs : List T). s.came ++ vs) (nothing_came e.mark n.mine.ask h.1) ∙ append-nil s.came);

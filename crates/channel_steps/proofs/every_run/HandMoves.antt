@@ -1,5 +1,5 @@
 -- A poll that has a listener in hand keeps it, leaves the list, or finds cause to wait.
-use Rattle.std.proofs.Common.{◌≡◌, true, List, [], Option, None, Some, Ok, Err, ◌⊎◌, inl, inr, refl, sym, ap, ◌∙◌, subst}
+use Rattle.std.proofs.Common.{◌≡◌, true, List, [], Option, None, Some, Ok, Err, ◌⊎◌, ⊎_elim, inl, inr, refl, sym, ap, ◌∙◌, subst}
 use Rattle.channel_steps.proofs.every_run.Words.{Queue, Phase, trying, appended, taken, is_filled, AnswersPush, AnswersPop, AnswersTo, QueueAsk, QueueMark, Nothing, QueueReply, Key, polled_next, Channel, Effect, queued, Turned, Moves, ChannelAsk, Reply, Line, Sends, Receives, Stage, Trying, Working, Turn, Works, TellReceive, TellStreams, TellSend, Leave, TriesFor, StageAt, MarkedMoment, HoldsListener, LooksAgain, IsOneByOne, Waits, WaitApart}
 use Rattle.concurrent_queue.specs.Queue as queue
 use Rattle.concurrent_queue.specs.declared.call.QueueReply.TheVariants as answer
@@ -88,11 +88,6 @@ module _ {T W : Type 0} where
   abbrev pub HoldsOrWaits : Line → Key → Effect T W → Option (Reply T) → Stage (Phase T) T W → Type 0
   HoldsOrWaits line key e r s = StillHolds line key r s ⊎ HasCause line e.channel.queue
 
-  caused : (line : Line) (c : Channel T W) (f : Phase T) (m : QueueMark) (e : Effect T W) → e ≡ queued f m c → m ≡ Nothing
-      → HasCause line c.queue → HasCause line e.channel.queue
-  caused line c f m e effect none h =
-      subst (λ (z : Effect T W). HasCause line z.channel.queue) (sym (effect ∙ ap (λ (n : QueueMark). queued f n c) none)) h
-
   polls : (line : Line) (key : Key) → IsOneByOne line
       → (c : Channel T W) (x : ChannelAsk T W) (f : Phase T) (task : W) (m : QueueMark) (ds : List (MarkedMoment T W))
       (seen : List (Channel T W)) (e : Effect T W) (r : Option (Reply T)) (s : Stage (Phase T) T W)
@@ -101,24 +96,18 @@ module _ {T W : Type 0} where
   polls line key one c x f task m ds seen e r s effect h (inl (f', goes, none, there)) =
       inl (none, subst (λ (z : Stage (Phase T) T W). HoldsListener line key z) (sym there) (refl, refl))
   polls line key one c x f task m ds seen e r s effect h (inr (reply, ans, turned)) =
-      by_answer (poll_answered c.queue key task line one x f.ask ds seen m reply f.stage h ans)
-    where
-      by_answer : DropsLater line key (polled_next line reply (Some key) task) ⊎ ((m ≡ Nothing) × HasCause line c.queue)
-          → HoldsOrWaits line key e r s
-      by_answer (inl d) = inl (turned_holds line key (polled_next line reply (Some key) task) r s d turned)
-      by_answer (inr d) = inr (caused line c f m e effect d.0 d.1)
+      ⊎_elim
+      (λ d. inl (turned_holds line key (polled_next line reply (Some key) task) r s d turned))
+      (λ d. inr (subst (λ (z : Effect T W). HasCause line z.channel.queue) (sym (effect ∙ ap (λ (n : QueueMark). queued f n c) d.0)) d.1))
+      (poll_answered c.queue key task line one x f.ask ds seen m reply f.stage h ans)
 
   module _ (line : Line) (key : Key) (one : IsOneByOne line) (c : Channel T W) (x : ChannelAsk T W) (ds : List (MarkedMoment T W))
       (seen : List (Channel T W)) (e : Effect T W) (r : Option (Reply T)) (s : Stage (Phase T) T W) where
-    polls_at : (f : Phase T) (at : Line) (k : Key) (task : W) (m : QueueMark) → e ≡ queued f m c → at ≡ line → k ≡ key
-        → TriesFor x (aim.Poll at (Some k) task) f.ask ds seen → How c f (aim.Poll at (Some k) task) m r s → HoldsOrWaits line key e r s
-    polls_at f at k task m effect a b h how =
-        subst (λ (z : Line). HoldsOrWaits z key e r s) a (subst (λ (z : Key). HoldsOrWaits at z e r s) b
-        (polls at k (subst IsOneByOne (sym a) one) c x f task m ds seen e r s effect h how))
-
     pub holds_on : (at : Stage (Phase T) T W) → StageAt c x at ds seen → Moves c at e r s → HoldsListener line key at
         → WaitApart line c → Waits line key e.channel → HoldsOrWaits line key e r s
-    holds_on (Trying f (aim.Poll at (Some k) task)) st g h apart w = polls_at f at k task g.mark g.effect h.0 h.1 st.0 g.how
+    holds_on (Trying f (aim.Poll at (Some k) task)) st g h apart w =
+        subst (λ (z : Line). HoldsOrWaits z key e r s) h.0 (subst (λ (z : Key). HoldsOrWaits at z e r s) h.1
+        (polls at k (subst IsOneByOne (sym h.0) one) c x f task g.mark ds seen e r s g.effect st.0 g.how))
     holds_on (Working (TellReceive z)) st g h apart w = inl (holds_at line key (Working (TellStreams z)) r s h g.1)
     holds_on (Working (TellStreams z)) st g h apart w = inl (holds_at line key (Working (Leave z)) r s h (leaves_next z z.held (held_by line key) r s h g.1))
     holds_on (Working (TellSend z)) st g h apart w = inl (holds_at line key (Working (Leave z)) r s h (leaves_next z z.held (held_by line key) r s h g.1))

@@ -1,5 +1,5 @@
 -- Who still waits after a section on a list.
-use Rattle.std.proofs.Common.{◌≡◌, ℕ, zero, suc, Bool, true, false, if◌then◌else◌, List, [], ◌∷◌, ◌++◌, length, drop, take, Option, None, Some, is_some, ◌⊎◌, inl, inr, refl, sym, ap, ◌∙◌, subst, arith}
+use Rattle.std.proofs.Common.{◌≡◌, ℕ, zero, suc, Bool, true, false, if◌then◌else◌, List, [], ◌∷◌, ◌++◌, length, drop, take, Option, None, Some, is_some, ◌⊎◌, ⊎_elim, inl, inr, refl, sym, ap, ◌∙◌, subst, arith}
 use Rattle.std.proofs.lemmas.Bool.Decides.{nat_tests}
 use Rattle.std.specs.Map.{lookup, remove_entry, set_value}
 use Rattle.channel_steps.proofs.every_run.Words.{Notice, same_key, told_as, waits_as, kind_of, without, with_task, moved, passed, registration, removed, Key, Listeners, told_one, told_more, told_all, IsIn, Apart}
@@ -19,30 +19,16 @@ kind_none true b e = absurd cc
 kind_none false true e = absurd cc
 kind_none false false e = refl
 
-module _ {X : Type 0} where
-  -- a key of these entries
-  abbrev Among : Key → List (Key × X) → Type 0
-  Among key [] = ⊥
-  Among key (w ∷ ws) = (w.0 ≡ key) ⊎ Among key ws
-
-  is_found : (key : Key) (b : Bool) (w : Key × X) (ws : List (Key × X)) → same_key key w.0 ≡ b → (is_some (lookup (same_key key) ws) ≡ false → Among key ws → ⊥)
-      → is_some (cond b (Some w.1) (lookup (same_key key) ws)) ≡ false → Among key (w ∷ ws) → ⊥
+module _ {W : Type 0} where
+  is_found : (key : Key) (b : Bool) (w : Key × Option W) (ws : List (Key × Option W)) → same_key key w.0 ≡ b → (is_some (lookup (same_key key) ws) ≡ false → IsIn key ws → ⊥)
+      → is_some (cond b (Some w.1) (lookup (same_key key) ws)) ≡ false → IsIn key (w ∷ ws) → ⊥
   is_found key true w ws same f e h = absurd (let never : true ≡ false = e in cc)
   is_found key false w ws same f e (inl h) = absurd (let never : true ≡ false = sym (same_self key) ∙ (ap (λ (k : Key). same_key key k) (sym h) ∙ same) in cc)
   is_found key false w ws same f e (inr h) = f e h
 
-  not_found : (key : Key) (ws : List (Key × X)) → is_some (lookup (same_key key) ws) ≡ false → Among key ws → ⊥
-  not_found key [] e h = h
-  not_found key (w ∷ ws) e h = is_found key (same_key key w.0) w ws refl (not_found key ws) e h
-
-module _ {W : Type 0} where
-  among : (key : Key) (ws : List (Key × Option W)) → IsIn key ws → Among key ws
-  among key [] h = h
-  among key (w ∷ ws) (inl h) = inl h
-  among key (w ∷ ws) (inr h) = inr (among key ws h)
-
   pub unlisted : (key : Key) (ws : List (Key × Option W)) → is_some (lookup (same_key key) ws) ≡ false → IsIn key ws → ⊥
-  unlisted key ws e h = not_found key ws e (among key ws h)
+  unlisted key [] e h = h
+  unlisted key (w ∷ ws) e h = is_found key (same_key key w.0) w ws refl (unlisted key ws) e h
 
   -- nobody comes in, and none stands twice where none did
   abbrev pub Thinner : List (Key × Option W) → List (Key × Option W) → Type 0
@@ -53,9 +39,6 @@ module _ {W : Type 0} where
 
   thin_both : (us vs ws : List (Key × Option W)) → Thinner us vs → Thinner vs ws → Thinner us ws
   thin_both us vs ws f g = (λ key h. f.0 key (g.0 key h), λ h. g.1 (f.1 h))
-
-  thin_none : (ws : List (Key × Option W)) → Thinner ws []
-  thin_none ws = (λ key h. absurd h, λ h. tt)
 
   pub thin_drop : (n : ℕ) (ws : List (Key × Option W)) → Thinner ws (drop n ws)
   thin_drop zero ws = thin_same ws
@@ -98,19 +81,11 @@ module _ {W : Type 0} where
   in_more key w [] (inl h) = inr h
   in_more key w [] (inr h) = absurd h
   in_more key w (x ∷ ws) (inl h) = inl (inl h)
-  in_more key w (x ∷ ws) (inr h) = deeper (in_more key w ws h)
-    where
-      deeper : IsIn key ws ⊎ (w.0 ≡ key) → IsIn key (x ∷ ws) ⊎ (w.0 ≡ key)
-      deeper (inl h) = inl (inr h)
-      deeper (inr h) = inr h
-
-  not_more : (key : Key) (w : Key × Option W) (ws : List (Key × Option W)) → (IsIn key ws → ⊥) → (w.0 ≡ key → ⊥) → IsIn key ws ⊎ (w.0 ≡ key) → ⊥
-  not_more key w ws f g (inl h) = f h
-  not_more key w ws f g (inr h) = g h
+  in_more key w (x ∷ ws) (inr h) = ⊎_elim (λ k. inl (inr k)) (λ k. inr k) (in_more key w ws h)
 
   pub apart_more : (w : Key × Option W) (ws : List (Key × Option W)) → (IsIn w.0 ws → ⊥) → Apart ws → Apart (ws ++ w ∷ [])
   apart_more w [] f h = (λ i. i, tt)
-  apart_more w (x ∷ ws) f h = (λ i. not_more x.0 w ws h.0 (λ e. f (inl (sym e))) (in_more x.0 w ws i), apart_more w ws (λ i. f (inr i)) h.1)
+  apart_more w (x ∷ ws) f h = (λ i. ⊎_elim (λ k. h.0 k) (λ e. f (inl (sym e))) (in_more x.0 w ws i), apart_more w ws (λ i. f (inr i)) h.1)
 
   -- ---- the sections
 
@@ -120,12 +95,10 @@ module _ {W : Type 0} where
   pub thin_told_more : (n : ℕ) (l : Listeners W) → Thinner l.waiting (told_more n l).waiting
   thin_told_more zero l = thin_same l.waiting
   thin_told_more (suc n) l =
-      let f = thin_told_one l in
-      let g = thin_told_more n (told_one l) in
-      (λ key h. f.0 key (g.0 key h), λ h. g.1 (f.1 h))
+      thin_both l.waiting (told_one l).waiting (told_more n (told_one l)).waiting (thin_told_one l) (thin_told_more n (told_one l))
 
   pub thin_told_all : (l : Listeners W) → Thinner l.waiting (told_all l).waiting
-  thin_told_all l = thin_none l.waiting
+  thin_told_all l = (λ key h. absurd h, λ h. tt)
 
   thin_passed : (n : Notice Unit) (key : Key) (l : Listeners W) → Thinner l.waiting (passed n (without key l)).waiting
   thin_passed n key l =

@@ -1,8 +1,8 @@
 -- What a step does to those who wait on a list.
-use Rattle.std.proofs.Common.{◌≡◌, List, Option, None, Some, ◌⊎◌, inl, inr, sym, subst}
+use Rattle.std.proofs.Common.{◌≡◌, List, Option, None, Some, ◌⊎◌, ⊎_elim, inl, inr, sym, subst}
 use Rattle.channel_steps.proofs.every_run.Words.{Phase, listened, Key, Channel, Effect, queued, Turned, Moves, Listeners, listeners, line_of, again, Reply, Line, Stage, Trying, Working, Finished, Waiting, Work, TellReceive, TellStreams, TellSend, TellSends, TellAll, Insert, Register, Leave, Next, Configuration, Entry, Step, IsIn, Apart, Waits, WaitApart}
 use Rattle.channel_steps.specs.declared.run.Step.TheVariants as step
-use Rattle.channel_steps.proofs.every_run.Sections.{Touched, Section, section}
+use Rattle.channel_steps.proofs.every_run.Sections.{Touched, section}
 use Rattle.channel_steps.proofs.every_run.ListFacts.{Thinner, thin_same, thin_told_one, thin_told_more, thin_told_all, thin_registration, thin_removed, newcomer, in_more, apart_more}
 
 module _ {T W : Type 0} where
@@ -37,17 +37,14 @@ module _ {T W : Type 0} where
     touched_lists (Leave x) (h, at, is) = thins_to _ is (thin_removed h.key (listeners line c.roster))
     touched_lists w h = absurd h
 
-    section_lists : (w : Work T W) → Section line c e r s w → Either line c r s e
-    section_lists w (inl h) = thins_to _ h.0 (thin_same _)
-    section_lists w (inr h) = touched_lists w h
-
   thins_as : (line : Line) (c : Channel T W) (e e' : Effect T W) → e ≡ e' → Thins line c e' → Thins line c e
   thins_as line c e e' same h = subst (λ (x : Effect T W). Thins line c x) (sym same) h
 
   -- any step
   pub moved_lists : (line : Line) (c : Channel T W) (at : Stage (Phase T) T W) (e : Effect T W) (r : Option (Reply T)) (s : Stage (Phase T) T W) → Moves c at e r s → Either line c r s e
   moved_lists line c (Trying f aim) e r s h = inl (thins_as line c e (queued f h.mark c) h.effect (thin_same _))
-  moved_lists line c (Working w) e r s h = section_lists line c e r s w (section line c e r s w h)
+  moved_lists line c (Working w) e r s h =
+      ⊎_elim (λ k. thins_to line c e r s _ k.0 (thin_same _)) (λ k. touched_lists line c e r s w k) (section line c e r s w h)
   moved_lists line c (Finished kept) e r s h = inl (thins_as line c e _ h.0 (thin_same _))
 
   -- ---- who waits after it
@@ -60,11 +57,10 @@ module _ {T W : Type 0} where
     pub waited : (key : Key) → Either line c r s e → Waits line key e.channel → Waits line key c ⊎ Tries key
     waited key (inl h) w = inl (h.0 key w)
     waited key (inr (wait, task, key', at, new, there, turned)) w =
-        by_key (in_more key (key', None) (listeners line c.roster).waiting (subst (λ (l : Listeners W). IsIn key l.waiting) there w))
-      where
-        by_key : IsIn key (listeners line c.roster).waiting ⊎ (key' ≡ key) → Waits line key c ⊎ Tries key
-        by_key (inl h) = inl h
-        by_key (inr h) = inr (wait, task, at, subst (λ (k : Key). Turned (again wait (Some k) task) r s) h turned)
+        ⊎_elim
+        (λ k. inl k)
+        (λ k. inr (wait, task, at, subst (λ (z : Key). Turned (again wait (Some z) task) r s) k turned))
+        (in_more key (key', None) (listeners line c.roster).waiting (subst (λ (l : Listeners W). IsIn key l.waiting) there w))
 
     pub stays_apart : Either line c r s e → WaitApart line c → WaitApart line e.channel
     stays_apart (inl h) apart = h.1 apart

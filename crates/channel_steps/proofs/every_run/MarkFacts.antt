@@ -1,6 +1,6 @@
 -- Of what is known of a call under way follows which marks it has made.
 use Rattle.std.proofs.Common.{arith, ◌≡◌, ◌≤◌, ◌+◌, ℕ, length, true, false, List, [], ◌∷◌, ◌++◌, None, Some, Ok, Err, inl, inr, ◌⊎◌, refl, sym, ap, ◌∙◌, subst, append-nil}
-use Rattle.channel_steps.proofs.every_run.Words.{trying, displaced, appended, taken, QueueAsk, Ready, Pending, up, down, Channel, ChannelAsk, Mark, Append, Take, TakeDisplaced, Replace, Close, Reply, Aim, Sends, Receives, Streams, Closings, Side, Senders, Receivers, Stage, Trying, Working, Finished, Work, TellReceive, TellStreams, TellSend, TellSends, TellAll, Leave, Ending, closer_ending, Phase, Row, TriesFor, TryAt, TriesAt, WorkAt, StageAt, MarkedMoment, Appended, Took, TookAll, Replaced, Displaced, ClosedIt, ActiveCall, Known, AllKnown, read, measured, HasTaken, Answered, MadeRoom, CountRaised, Upgraded, LeftLast, Dropped, AreTakings, AreMarksOf, marks_of, BeginsItsMarks}
+use Rattle.channel_steps.proofs.every_run.Words.{trying, displaced, appended, taken, QueueAsk, Ready, Pending, up, down, Channel, ChannelAsk, Mark, Append, Take, TakeDisplaced, Replace, Close, Reply, Aim, Sends, Receives, Streams, Closings, Side, Senders, Receivers, Stage, Trying, Working, Finished, Work, TellReceive, TellStreams, TellSend, TellSends, TellAll, Leave, Ending, closer_ending, Phase, Row, TriesFor, TryAt, TriesAt, WorkAt, StageAt, MarkedMoment, Appended, Took, TookAll, Replaced, Displaced, ClosedIt, ActiveCall, AllKnown, read, measured, HasTaken, Answered, MadeRoom, CountRaised, Upgraded, LeftLast, Dropped, AreTakings, AreMarksOf, marks_of, BeginsItsMarks}
 use Rattle.concurrent_queue.specs.Queue as queue
 use Rattle.concurrent_queue.specs.declared.call.QueueAsk.TheVariants as q
 use Rattle.channel_calls.specs.declared.ask.ChannelAsk.TheVariants as ask
@@ -276,9 +276,8 @@ module _ {T W : Type 0} where
   stages now a (Working w) ds seen h = works a w ds seen h
   stages now a (Finished kept) ds seen h = absurd h
 
-  begins : (now : Channel T W) (u : ActiveCall T W) → Known now u → BeginsItsMarks u
-  begins now u k = let b = stages now u.ask u.at u.marks u.seen k.stands in record { later = b.0; all = b.1 }
-
   pub all_begin : (now : Channel T W) (us : List (ActiveCall T W)) → AllKnown now us → Each (λ u. BeginsItsMarks u) us
   all_begin now [] k = tt
-  all_begin now (u ∷ us) k = (begins now u k.0, all_begin now us k.1)
+  all_begin now (u ∷ us) k =
+      let known = k.0 in
+      let b = stages now u.ask u.at u.marks u.seen known.stands in (record { later = b.0; all = b.1 }, all_begin now us k.1)

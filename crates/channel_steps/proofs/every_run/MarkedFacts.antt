@@ -1,7 +1,7 @@
 -- What a step does to the plain channel.
 use Rattle.std.proofs.Common.{arith, ◌≡◌, ℕ, ◌+◌, ◌-◌, ◌^◌, ◌==◌, ◌&&◌, nat_lt, Bool, true, false, if◌then◌else◌, take, drop, List, [], ◌∷◌, ◌++◌, None, Some, Option, inl, inr, refl, sym, ap, ◌∙◌, subst, append-nil, append_assoc}
 use Rattle.std.proofs.lemmas.Bool.Decides.{nat_tests}
-use Rattle.channel_steps.proofs.every_run.Words.{Phase, message, QueueMark, listened, registration, removed, removed_wakes, Key, up, Effect, queued, untouched, on_line, tells_one, tells_more, tells_all, listens, registers, leaves, lowers, Worked, Moves, Listeners, listeners, count, is_raised, told_one, told_one_wakes, told_more, told_more_wakes, told_all, told_all_wakes, line_of, ChannelAsk, Mark, Append, Take, TakeDisplaced, Replace, Reply, Held, Line, Sends, Receives, Streams, Side, Senders, Receivers, Stage, Trying, Working, Finished, Waiting, Work, TellReceive, TellStreams, TellSend, TellSends, TellAll, Insert, Register, Leave, Lower, Raise, Configuration, Steps, brought, gone_by, came_by, Entry, Inserts, ModelChannel, plain, brought_by, AddUp}
+use Rattle.channel_steps.proofs.every_run.Words.{Phase, message, QueueMark, listened, registration, removed, removed_wakes, up, Effect, queued, untouched, on_line, tells_one, tells_all, leaves, lowers, Worked, Moves, Listeners, listeners, count, is_raised, told_one, told_one_wakes, told_more, told_more_wakes, told_all, told_all_wakes, line_of, ChannelAsk, Mark, Append, Take, TakeDisplaced, Replace, Reply, Held, Line, Sends, Receives, Streams, Side, Senders, Receivers, Stage, Trying, Working, Finished, Waiting, Work, TellReceive, TellStreams, TellSend, TellSends, TellAll, Insert, Register, Leave, Lower, Raise, Configuration, Steps, brought, gone_by, came_by, Entry, Inserts, ModelChannel, plain, brought_by, AddUp}
 use Rattle.concurrent_queue.specs.declared.call.QueueMark.TheVariants as queue
 use Rattle.channel_calls.specs.Moves as moves
 use Rattle.channel_calls.specs.declared.mark.Mark.TheVariants.{Nothing}
@@ -29,17 +29,8 @@ module _ {T W : Type 0} where
   by_one : (line : Line) (c : moves.Channel T W) → Does c (tells_one line c)
   by_one line c = by_line line (told_one (listeners line c.roster)) (told_one_wakes (listeners line c.roster)) c
 
-  by_more : (n : ℕ) (line : Line) (c : moves.Channel T W) → Does c (tells_more n line c)
-  by_more n line c = by_line line (told_more n (listeners line c.roster)) (told_more_wakes n (listeners line c.roster)) c
-
   by_all : (line : Line) (c : moves.Channel T W) → Does c (tells_all line c)
   by_all line c = by_line line (told_all (listeners line c.roster)) (told_all_wakes (listeners line c.roster)) c
-
-  by_listening : (line : Line) (key : Key) (c : moves.Channel T W) → Does c (listens line key c)
-  by_listening line key c = by_line line (listened key (listeners line c.roster)) [] c
-
-  by_registering : (line : Line) (key : Key) (task : W) (c : moves.Channel T W) → Does c (registers line key task c)
-  by_registering line key task c = by_line line (registration key task (listeners line c.roster)) [] c
 
   by_none : (c : moves.Channel T W) → Does c (untouched c)
   by_none c = ([], refl)
@@ -70,17 +61,17 @@ module _ {T W : Type 0} where
 
   by_inserting : (c : moves.Channel T W) (w : Waiting T) (task : W) (e : Effect T W) (r : Option (Reply T)) (s : Stage (Phase T) T W)
       → Inserts w task c e r s → Does c e
-  by_inserting c w task e r s (inl (key, new, same, t)) = as_it c e _ same (by_listening (line_of w) key c)
+  by_inserting c w task e r s (inl (key, new, same, t)) = as_it c e _ same (by_line (line_of w) (listened key (listeners (line_of w) c.roster)) [] c)
   by_inserting c w task e r s (inr (error, same, t)) = as_it c e _ same (by_none c)
 
   by_work : (c : moves.Channel T W) (w : Work T W) (e : Effect T W) (r : Option (Reply T)) (s : Stage (Phase T) T W) → Worked c w e r s → Does c e
   by_work c (TellReceive x) e r s h = as_it c e _ h.0 (by_one Receives c)
   by_work c (TellStreams x) e r s h = as_it c e _ h.0 (by_all Streams c)
   by_work c (TellSend x) e r s h = as_it c e _ h.0 (by_one Sends c)
-  by_work c (TellSends n x) e r s h = as_it c e _ h.0 (by_more n Sends c)
+  by_work c (TellSends n x) e r s h = as_it c e _ h.0 (by_line Sends (told_more n (listeners Sends c.roster)) (told_more_wakes n (listeners Sends c.roster)) c)
   by_work c (TellAll line closer) e r s h = as_it c e _ h.0 (by_all line c)
   by_work c (Insert w task) e r s h = by_inserting c w task e r s h
-  by_work c (Register w key task) e r s h = as_it c e _ h.0 (by_registering (line_of w) key task c)
+  by_work c (Register w key task) e r s h = as_it c e _ h.0 (by_line (line_of w) (registration key task (listeners (line_of w) c.roster)) [] c)
   by_work c (Leave x) e r s h = as_it c e _ h.0 (by_leaving x.held c)
   by_work c (Lower side key) e r s h = as_it c e _ h.0 (by_lowering side c)
   by_work c (Raise side n making) e r s h = as_it c e _ h.0 (raised_or side n c (is_raised side n c.roster) refl)

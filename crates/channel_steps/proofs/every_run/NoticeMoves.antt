@@ -1,5 +1,5 @@
 -- Who tells all of a list has closed the channel, and it is closed.
-use Rattle.std.proofs.Common.{◌≡◌, ℕ, zero, suc, List, [], ◌∷◌, ◌++◌, Option, ◌⊎◌, inl, inr, refl, subst}
+use Rattle.std.proofs.Common.{◌≡◌, ℕ, zero, suc, List, [], ◌∷◌, ◌++◌, Option, ◌⊎◌, ⊎_elim, inl, inr, refl, subst}
 use Rattle.channel_steps.proofs.every_run.Words.{Phase, QueueMark, mark_of_queue, Channel, Effect, Moves, Mark, Append, Replace, Close, Reply, Closer, Line, Sends, Receives, Streams, Closings, Stage, Working, TellAll, ToldAt, MarkedMoment, with_marked, Shut, Telling, all_from, one_of, more_of, all_of, owed_for, owed_takings, takings, owed_besides, HasClosed, HasToTell, IsStill, Queue, after, IsShut}
 use Rattle.concurrent_queue.specs.declared.call.QueueMark.TheVariants as queue
 use Rattle.channel_calls.specs.declared.mark.Mark.TheVariants.{Nothing}
@@ -20,11 +20,7 @@ module _ (x : Telling) where
   among_either : (xs ys : List Telling) → IsAmong (xs ++ ys) → IsAmong xs ⊎ IsAmong ys
   among_either [] ys h = inr h
   among_either (y ∷ xs) ys (inl h) = inl (inl h)
-  among_either (y ∷ xs) ys (inr h) = deeper (among_either xs ys h)
-    where
-      deeper : IsAmong xs ⊎ IsAmong ys → IsAmong (y ∷ xs) ⊎ IsAmong ys
-      deeper (inl h) = inl (inr h)
-      deeper (inr h) = inr h
+  among_either (y ∷ xs) ys (inr h) = ⊎_elim (λ k. inl (inr k)) (λ k. inr k) (among_either xs ys h)
 
 -- a closing tells those last who wait for it
 closings_last : (line : Line) → IsAmong (all_of Closings) (all_from line)
@@ -57,20 +53,15 @@ module _ {T : Type 0} where
   queue_closes q f w h = absurd cc
 
 module _ {T W : Type 0} where
-  by_mark : (d : MarkedMoment T W) (ds : List (MarkedMoment T W)) → (IsAmong (all_of Closings) (owed_besides ds) → HasClosed ds)
-      → IsAmong (all_of Closings) (owed_for d.mark) ⊎ IsAmong (all_of Closings) (owed_besides ds) → HasClosed (d ∷ ds)
-  by_mark d ds f (inl h) = inl (closing_owes d.mark h)
-  by_mark d ds f (inr h) = inr (f h)
-
   has_besides : (ds : List (MarkedMoment T W)) → IsAmong (all_of Closings) (owed_besides ds) → HasClosed ds
   has_besides [] h = absurd h
-  has_besides (d ∷ ds) h = by_mark d ds (has_besides ds) (among_either (all_of Closings) (owed_for d.mark) (owed_besides ds) h)
+  has_besides (d ∷ ds) h =
+      ⊎_elim (λ k. inl (closing_owes d.mark k)) (λ k. inr (has_besides ds k)) (among_either (all_of Closings) (owed_for d.mark) (owed_besides ds) h)
 
   has_owed : (ds : List (MarkedMoment T W)) → IsAmong (all_of Closings) (owed ds) → HasClosed ds
-  has_owed ds h = by (among_either (all_of Closings) (owed_takings (takings ds)) (owed_besides ds) h) where
-    by : IsAmong (all_of Closings) (owed_takings (takings ds)) ⊎ IsAmong (all_of Closings) (owed_besides ds) → HasClosed ds
-    by (inl h) = absurd (takings_owe (takings ds) h)
-    by (inr h) = has_besides ds h
+  has_owed ds h =
+      ⊎_elim (λ k. absurd (takings_owe (takings ds) k)) (λ k. has_besides ds k)
+      (among_either (all_of Closings) (owed_takings (takings ds)) (owed_besides ds) h)
 
   -- who tells all of a list has closed the channel
   pub teller_has_closed : (told : List Telling) (line : Line) (closer : Closer) (ds : List (MarkedMoment T W))
@@ -89,11 +80,7 @@ module _ {T W : Type 0} where
   had_or_last [] d (inl h) = inr h
   had_or_last [] d (inr h) = absurd h
   had_or_last (x ∷ ds) d (inl h) = inl (inl h)
-  had_or_last (x ∷ ds) d (inr h) = deeper (had_or_last ds d h)
-    where
-      deeper : HasClosed ds ⊎ (d.mark ≡ Close) → HasClosed (x ∷ ds) ⊎ (d.mark ≡ Close)
-      deeper (inl h) = inl (inr h)
-      deeper (inr h) = inr h
+  had_or_last (x ∷ ds) d (inr h) = ⊎_elim (λ k. inl (inr k)) (λ k. inr k) (had_or_last ds d h)
 
   -- a call that has closed after its step had so before, or the step did
   pub closed_before : (ds : List (MarkedMoment T W)) (m : Mark) (c : Channel T W) (seen : List (Channel T W))

@@ -1,7 +1,6 @@
 -- How those who were told were told, over runs.
-use Rattle.std.proofs.Common.{◌≡◌, ℕ, Bool, true, false, List, Option, ◌⊎◌, inl, inr, refl, sym, ◌∙◌, subst}
+use Rattle.std.proofs.Common.{◌≡◌, ℕ, Bool, true, false, List, Option, ◌⊎◌, ⊎_elim, inl, inr, refl, sym, ◌∙◌, subst}
 use Rattle.channel_steps.proofs.every_run.Words.{Phase, Key, Channel, Effect, tells_all, Moves, ChannelAsk, Reply, Line, Sends, Receives, Streams, Stage, Working, TellReceive, TellStreams, TellSend, TellSends, TellAll, ToldAt, MarkedMoment, Open, Shut, Configuration, Steps, Known, Telling, Next, Begins, new_configuration, Entry, Step, HasClosed, LooksAgain, MayBeTold, IsOneByOne, EachTold, AnyTold, told_of, TellingsSound, TellingsStayFit, TellingsAlwaysFit, Waits, Any}
-use Rattle.channel_calls.specs.declared.mark.Mark.TheVariants as mark
 use Rattle.channel_steps.specs.declared.run.Step.TheVariants as step
 use Rattle.channel_steps.proofs.Interface.{known_next}
 use Rattle.channel_steps.specs.every_run.Ends.{Each}
@@ -10,7 +9,7 @@ use Rattle.channel_steps.proofs.every_run.Closed.{shut_does}
 use Rattle.channel_steps.proofs.every_run.Closings.{new_apart}
 use Rattle.channel_steps.proofs.every_run.ClosingMoves.{StillLooks, looks_goes, newcomer_looks, nobody_left}
 use Rattle.channel_steps.proofs.every_run.EachFacts.{of_mine, each_known, each_steps, each_begins}
-use Rattle.channel_steps.proofs.every_run.ListMoves.{Tries, moved_lists, waited, apart_next}
+use Rattle.channel_steps.proofs.every_run.ListMoves.{moved_lists, waited, apart_next}
 use Rattle.channel_steps.proofs.every_run.NoticeMoves.{teller_has_closed, closed_before, close_shuts}
 use Rattle.channel_steps.proofs.every_run.RunFacts.{kept_long}
 use Rattle.channel_steps.proofs.every_run.ToldFacts.{each_as, any_as}
@@ -62,35 +61,24 @@ module _ {T W : Type 0} where
     shut_on : Shut s.now → Shut t.now
     shut_on shut = let k = shut_does s.now st.mine.at effect e.reply st.at_now shut st.moves in k.0.0
 
-    open_back : Open t.now → Open s.now
-    open_back now = open_as s.now.queue.closed t.now.queue.closed shut_on now
-
     mine_closed : HasClosed st.mine.marks → Shut t.now
     mine_closed h = shut_on (of_mine (λ u. HasClosed u.marks → Shut s.now) s t p e names st sound.closers h)
-
-    or_closes : HasClosed st.mine.marks ⊎ (e.mark ≡ mark.Close) → Shut t.now
-    or_closes (inl h) = mine_closed h
-    or_closes (inr h) = close_shuts s.now st.mine.at effect e.reply st.at_now st.moves h
 
     closers_after : Each (λ u. HasClosed u.marks → Shut t.now) t.under_way
     closers_after =
         each_steps (λ u. HasClosed u.marks → Shut s.now) (λ u. HasClosed u.marks → Shut t.now) s t p e names st
-        (λ u f h. shut_on (f h)) (λ f h. or_closes (closed_before st.mine.marks e.mark s.now st.mine.seen h)) sound.closers
+        (λ u f h. shut_on (f h)) (λ f h. ⊎_elim (λ k. mine_closed k) (λ k. close_shuts s.now st.mine.at effect e.reply st.at_now st.moves k)
+        (closed_before st.mine.marks e.mark s.now st.mine.seen h)) sound.closers
 
     module _ (line : Line) where
-      may_be : (b : Bool) → Open t.now → MayBeTold line b ⊎ HasClosed st.mine.marks → MayBeTold line b
-      may_be b now (inl h) = h
-      may_be b now (inr h) = absurd (let never : true ≡ false = sym (mine_closed h) ∙ now in cc)
-
-      was_or_tells : (b : Bool) → Open t.now → AnyTold b (told_of line s.now) ⊎ Tells line b st.mine.at → MayBeTold line b
-      was_or_tells b now (inl h) = any_as (MayBeTold line) (told_of line s.now) (sound.fit.while_open line (open_back now)) b h
-      was_or_tells b now (inr h) =
-          let k = mine_known in may_be b now (tells_as line b st.mine.told st.mine.at st.mine.marks k.tells h)
-
       open_after : Open t.now → EachTold (MayBeTold line) (told_of line t.now)
       open_after now =
           each_as (MayBeTold line) (told_of line t.now)
-          (λ b h. was_or_tells b now (moved_told line b s.now st.mine.at effect e.reply st.at_now st.moves h))
+          (λ b h. ⊎_elim (λ k. any_as (MayBeTold line) (told_of line s.now) (sound.fit.while_open line (open_as s.now.queue.closed t.now.queue.closed shut_on now)) b k)
+          (λ k. let mine = mine_known in
+          ⊎_elim (λ n. n) (λ n. absurd (let never : true ≡ false = sym (mine_closed n) ∙ now in cc))
+          (tells_as line b st.mine.told st.mine.at st.mine.marks mine.tells k))
+          (moved_told line b s.now st.mine.at effect e.reply st.at_now st.moves h))
 
       module _ (key : Key) (w : Waits line key t.now) (shut : Shut s.now) where
         abbrev Looked : Type 0
@@ -99,43 +87,29 @@ module _ {T W : Type 0} where
         goes_on : StillLooks line key e.reply st.at_now → Looked
         goes_on h = any_mine (λ u. LooksAgain line key u.at) s t p e names st (λ u h. h) h.0 h.1
 
-        still_looks : Looked ⊎ LooksAgain line key st.mine.at → Looked
-        still_looks (inl h) = h
-        still_looks (inr h) =
-            let k = mine_known in
-            goes_on (looks_goes s.now st.mine.ask st.mine.at st.mine.marks st.mine.seen effect e.reply st.at_now line key
-            k.stands st.moves shut h (sound.apart line) w)
-
-        looks_or_new : ((key : Key) → Waits line key s.now → Any (λ u. LooksAgain line key u.at) s.under_way)
-            → Waits line key s.now ⊎ Tries line s.now effect e.reply st.at_now key → Looked
-        looks_or_new before (inl h) =
-            still_looks (any_steps (λ u. LooksAgain line key u.at) s t p e names st (λ u h. h) (before key h))
-        looks_or_new before (inr h) = goes_on (newcomer_looks s.now effect e.reply st.at_now line key h)
-
         looked : ((key : Key) → Waits line key s.now → Any (λ u. LooksAgain line key u.at) s.under_way) → Looked
         looked before =
-            looks_or_new before (waited line s.now effect e.reply st.at_now key
+            ⊎_elim
+            (λ h. ⊎_elim (λ k. k)
+            (λ k. let mine = mine_known in
+            goes_on (looks_goes s.now st.mine.ask st.mine.at st.mine.marks st.mine.seen effect e.reply st.at_now line key
+            mine.stands st.moves shut k (sound.apart line) w))
+            (any_steps (λ u. LooksAgain line key u.at) s t p e names st (λ u h. h) (before key h)))
+            (λ h. goes_on (newcomer_looks s.now effect e.reply st.at_now line key h))
+            (waited line s.now effect e.reply st.at_now key
             (moved_lists line s.now st.mine.at effect e.reply st.at_now st.moves) w)
 
       abbrev ClosedThen : Configuration T W → Type 0
       ClosedThen z = Shut z.now × ((key : Key) → Waits line key z.now → Any (λ u. LooksAgain line key u.at) z.under_way)
 
-      default_then : IsOneByOne line → ClosedThen s ⊎ Tells line false st.mine.at → ClosedThen t
-      default_then one (inl h) = (shut_on h.0, λ key w. looked key w h.0 h.1)
-      default_then one (inr h) =
-          let k = mine_known in
-          let all = by_default_as line one st.mine.told s.now st.mine.at effect e.reply st.at_now st.mine.marks k.tells st.moves
-          h in
-          (mine_closed all.0, λ key w. absurd (all.1 key w))
-
-      was_default : IsOneByOne line → AnyTold false (told_of line s.now) ⊎ Tells line false st.mine.at → ClosedThen s
-          ⊎ Tells line false st.mine.at
-      was_default one (inl h) = inl (sound.fit.by_default line one h)
-      was_default one (inr h) = inr h
-
       default_after : IsOneByOne line → AnyTold false (told_of line t.now) → ClosedThen t
       default_after one h =
-          default_then one (was_default one (moved_told line false s.now st.mine.at effect e.reply st.at_now st.moves h))
+          ⊎_elim
+          (λ d. let k = sound.fit.by_default line one d in (shut_on k.0, λ key w. looked key w k.0 k.1))
+          (λ d. let k = mine_known in
+          let all = by_default_as line one st.mine.told s.now st.mine.at effect e.reply st.at_now st.mine.marks k.tells st.moves d in
+          (mine_closed all.0, λ key w. absurd (all.1 key w)))
+          (moved_told line false s.now st.mine.at effect e.reply st.at_now st.moves h)
 
   -- ---- a call that begins
 

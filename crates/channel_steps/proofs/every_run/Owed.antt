@@ -1,6 +1,6 @@
 -- Who waits on a list, over one step of a run: one law, for whatever list, whatever is enough for those who wait on it, and whatever
 -- the calls under way count for.
-use Rattle.std.proofs.Common.{◌≡◌, ℕ, ◌+◌, ◌≤◌, List, Option, None, ◌⊎◌, inl, inr, sym, subst}
+use Rattle.std.proofs.Common.{◌≡◌, ℕ, ◌+◌, ◌≤◌, List, Option, None, ◌⊎◌, ⊎_elim, inl, inr, sym, subst}
 use Rattle.channel_steps.proofs.every_run.Words.{Phase, Key, Channel, Effect, Moves, ChannelAsk, Reply, Line, Stage, StageAt, MarkedMoment, Next, Begins, Configuration, Steps, Known, AllKnown, Entry, Step, total, AreOwed, PendingAreOwed, Waits, WaitApart, Any}
 use Rattle.channel_steps.specs.declared.run.Step.TheVariants as step
 use Rattle.channel_steps.proofs.every_run.AnyFacts.{any_none, any_mine, any_steps, any_begins}
@@ -60,38 +60,26 @@ module _ {T W : Type 0} (line : Line) (Enough : Channel T W → ℕ → Type 0) 
         with_others : Enough t.now (left_over weigh st.mine.ask e.reply st.at_now + of_others weigh s t p e names st) → Owed
         with_others h = inl (subst (λ (n : ℕ). Enough t.now n) (sym (total_after weigh s t p e names st)) h)
 
-        or_enough : GoesOnOr key st.mine.ask effect e.reply st.at_now → Owed
-        or_enough (inl h) = goes_on h
-        or_enough (inr f) = with_others (f (of_others weigh s t p e names st))
-
-        held : Any (λ u. Holds key u.at) t.under_way ⊎ Holds key st.mine.at → Owed
-        held (inl h) = inr h
-        held (inr h) =
-            let k = mine_known in
-            or_enough (ledger.keeps s.now st.mine.ask st.mine.at st.mine.marks st.mine.seen effect e.reply st.at_now key k.stands st.moves w apart h)
-
         was_held : Any (λ u. Holds key u.at) s.under_way → Owed
-        was_held h = held (any_steps (λ u. Holds key u.at) s t p e names st (λ u h. h) h)
-
-        paid : Waits line key s.now → Enough s.now (total weigh s.under_way)
-            → Pays s.now st.mine.ask st.mine.at effect e.reply st.at_now ⊎ Defaulted s.now → Owed
-        paid before h (inl f) =
-            with_others (f (of_others weigh s t p e names st) (subst (λ (n : ℕ). Enough s.now n) (total_before weigh s t p e names st) h))
-        paid before h (inr d) = was_held (held_if d key before)
+        was_held h =
+            ⊎_elim (λ k. inr k)
+            (λ m. let k = mine_known in ⊎_elim (λ g. goes_on g) (λ f. with_others (f (of_others weigh s t p e names st)))
+            (ledger.keeps s.now st.mine.ask st.mine.at st.mine.marks st.mine.seen effect e.reply st.at_now key k.stands st.moves w apart m))
+            (any_steps (λ u. Holds key u.at) s t p e names st (λ u h. h) h)
 
         was_owed : Waits line key s.now → Enough s.now (total weigh s.under_way) ⊎ Any (λ u. Holds key u.at) s.under_way → Owed
         was_owed before (inl h) =
             let k = mine_known in
-            paid before h (ledger.pays s.now st.mine.ask st.mine.at st.mine.marks st.mine.seen effect e.reply st.at_now key k.stands st.moves w)
+            ⊎_elim
+            (λ f. with_others (f (of_others weigh s t p e names st) (subst (λ (n : ℕ). Enough s.now n) (total_before weigh s t p e names st) h)))
+            (λ d. was_held (held_if d key before))
+            (ledger.pays s.now st.mine.ask st.mine.at st.mine.marks st.mine.seen effect e.reply st.at_now key k.stands st.moves w)
         was_owed before (inr h) = was_held h
-
-        waited_or_new : AreOwed line Enough weigh Holds s → Waits line key s.now ⊎ Tries line s.now effect e.reply st.at_now key → Owed
-        waited_or_new owed (inl h) = was_owed h (owed key h)
-        waited_or_new owed (inr h) = goes_on (ledger.comes s.now effect e.reply st.at_now key h)
 
         owed_after : AreOwed line Enough weigh Holds s → Owed
         owed_after owed =
-            waited_or_new owed (waited line s.now effect e.reply st.at_now key
+            ⊎_elim (λ h. was_owed h (owed key h)) (λ h. goes_on (ledger.comes s.now effect e.reply st.at_now key h))
+            (waited line s.now effect e.reply st.at_now key
             (moved_lists line s.now st.mine.at effect e.reply st.at_now st.moves) w)
 
     begun_owed : (s t : Configuration T W) (p : ℕ) (ask : ChannelAsk T W) (e : Entry T) (b : Begins s p ask e t) (key : Key)
@@ -110,8 +98,4 @@ module _ {T W : Type 0} (line : Line) (Enough : Channel T W → ℕ → Type 0) 
     owed_next s (step.Step p) e names t n known apart held_if owed key w = owed_after s t p e names n known apart held_if key w owed
 
   pub pending_owed : (s : Configuration T W) → AreOwed line Enough weigh Holds s → PendingAreOwed line Enough weigh Holds s
-  pending_owed s owed key w none = or_none (owed key w)
-    where
-      or_none : Enough s.now (total weigh s.under_way) ⊎ Any (λ u. Holds key u.at) s.under_way → Enough s.now (total weigh s.under_way)
-      or_none (inl h) = h
-      or_none (inr h) = absurd (any_none (λ u. Holds key u.at) s.under_way h none)
+  pending_owed s owed key w none = ⊎_elim (λ h. h) (λ h. absurd (any_none (λ u. Holds key u.at) s.under_way h none)) (owed key w)

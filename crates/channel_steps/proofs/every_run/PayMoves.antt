@@ -1,10 +1,10 @@
 -- On a list that is told one at a time, a step on lists pays: as many more are told as the call counts for less.
-use Rattle.std.proofs.Common.{◌≡◌, ℕ, ◌+◌, ◌≤◌, false, Option, None, ◌⊎◌, inl, inr, refl, arith, List, length}
-use Rattle.channel_steps.proofs.every_run.Words.{Phase, Key, Channel, Effect, Worked, line_of, again, ChannelAsk, Reply, Line, Stage, Working, Waiting, Work, Register, IsFor, WorkAt, MarkedMoment, Next, Configuration, Entry, Step, HoldsListener, AreOwed, LooksAgain, IsOneByOne, AnyTold, told_of, TellingsSound, Waits, Any}
+use Rattle.std.proofs.Common.{◌≡◌, ℕ, ◌+◌, ◌≤◌, false, Option, None, ◌⊎◌, ⊎_elim, inl, inr, refl, arith, List, length}
+use Rattle.channel_steps.proofs.every_run.Words.{Phase, Key, Channel, Effect, Worked, line_of, again, ChannelAsk, Reply, Line, Stage, Working, Waiting, Work, Register, IsFor, WorkAt, MarkedMoment, Next, Configuration, Entry, Step, HoldsListener, AreOwed, LooksAgain, IsOneByOne, AnyTold, told_of, TellingsSound, Waits}
 use Rattle.channel_steps.proofs.every_run.AnyFacts.{any_weaker}
-use Rattle.channel_steps.proofs.every_run.HandMoves.{HasCause, HoldsOrWaits, looks_holds, holds_on, newcomer_holds}
+use Rattle.channel_steps.proofs.every_run.HandMoves.{HasCause, looks_holds, holds_on, newcomer_holds}
 use Rattle.channel_steps.proofs.every_run.NumberMoves.{weigh_turn, turned_weighs}
-use Rattle.channel_steps.proofs.every_run.Owed.{Pays, GoesOnOr, OfStep, Ledger, owed_next}
+use Rattle.channel_steps.proofs.every_run.Owed.{Pays, OfStep, Ledger, owed_next}
 use Rattle.channel_steps.proofs.every_run.ToldMoves.{tells_now, AsksAnew, worked_counts}
 use Rattle.channel_steps.proofs.every_run.TotalFacts.{left_over}
 
@@ -51,20 +51,15 @@ module _ {T W : Type 0} (line : Line) (one : IsOneByOne line) (Enough : Channel 
             inl (λ n enough. counting.eased c e.channel (weigh x (Working w) + n) (left_over weigh x r s + n) same (omega (arith, less, k, more, none)) enough)
         by (inr (inr d)) = inr d
 
-    more_enough : (c : Channel T W) (m n : ℕ) → m ≤ n → Enough c m → Enough c n
-    more_enough c m n less h = counting.eased c c m n refl (omega (arith, less)) h
-
-    or_cause : (key : Key) (x : ChannelAsk T W) (e : Effect T W) (r : Option (Reply T)) (s : Stage (Phase T) T W) → HoldsOrWaits line key e r s → GoesOnOr line Enough weigh (HoldsListener line) OneByDefault key x e r s
-    or_cause key x e r s (inl h) = inl h
-    or_cause key x e r s (inr h) = inr (λ n. counting.caused e.channel (left_over weigh x r s + n) h)
-
     -- with its payments, the ledger of such a list
     pub ledger_of : OfStep line Enough weigh (HoldsListener line) OneByDefault (λ c x at e r s key. PaysOne c x at e r s ⊎ OneByDefault c) → Ledger line Enough weigh (HoldsListener line) OneByDefault
     ledger_of pays =
         record {
-          more = more_enough;
+          more = λ c m n less h. counting.eased c c m n refl (omega (arith, less)) h;
           comes = λ c e r s key h. newcomer_holds c e r s line key h;
-          keeps = λ c x at ds seen e r s key st g w apart h. or_cause key x e r s (holds_on line key one c x ds seen e r s at st g h apart w);
+          keeps = λ c x at ds seen e r s key st g w apart h.
+              ⊎_elim (λ k. inl k) (λ k. inr (λ n. counting.caused e.channel (left_over weigh x r s + n) k))
+              (holds_on line key one c x ds seen e r s at st g h apart w);
           pays = pays;
         }
 
@@ -72,9 +67,7 @@ module _ {T W : Type 0} (line : Line) (one : IsOneByOne line) (Enough : Channel 
   pub one_next : Ledger line Enough weigh (HoldsListener line) OneByDefault → (s : Configuration T W) (x : Step T W) (e : Entry T) (names : List W) (t : Configuration T W) → Next s x e names t → TellingsSound s
       → AreOwed line Enough weigh (HoldsListener line) s → AreOwed line Enough weigh (HoldsListener line) t
   one_next ledger s x e names t n sound owed =
-      owed_next line Enough weigh (HoldsListener line) OneByDefault ledger s x e names t n sound.known (sound.apart line) held_if owed
-    where
-      held_if : OneByDefault s.now → (key : Key) → Waits line key s.now → Any (λ u. HoldsListener line key u.at) s.under_way
-      held_if d key w =
-          let k = sound.fit.by_default line one d in
-          any_weaker (λ u. LooksAgain line key u.at) (λ u. HoldsListener line key u.at) (λ u. looks_holds line key u.at) s.under_way (k.1 key w)
+      owed_next line Enough weigh (HoldsListener line) OneByDefault ledger s x e names t n sound.known (sound.apart line)
+      (λ d key w. let k = sound.fit.by_default line one d in
+      any_weaker (λ u. LooksAgain line key u.at) (λ u. HoldsListener line key u.at) (λ u. looks_holds line key u.at) s.under_way (k.1 key w))
+      owed

@@ -3,11 +3,10 @@ use Rattle.std.proofs.Common.{◌≡◌, ℕ, zero, suc, ◌+◌, ◌*◌, ◌/�
 use Rattle.std.proofs.lemmas.Nat.{mod_below, div-add-mod'}
 use Rattle.std.proofs.lemmas.Bool.{cases_lt, false≢true}
 use Rattle.std.proofs.lemmas.Bool.Decides.{nat_tests}
-use Rattle.channel_steps.proofs.every_run.Words.{Contents, block_at, slot_at, Queue, Phase, appended, message, Seat, AreAt, IsAtBlocks, FitsForm, HasBrought, Place, Each, owed, one_if, number, position, KnowsBlocks, same, owes, BlocksSeat, BlocksMeans, owners, Denotes, act_of, seat_of, IsChain, begin, QueueAsk, QueueForm, Bounded, Unbounded, Slot, CallState, Asked, Single, Ring, Blocks, UnboundedAction, UnboundedCall, IsAtSingle, IsAtRing, FitsSlot, FitsRing, slot_by, sum, pos, holds, holders, KnowsSingle, Means, SingleMeans, index, ring_mark, ring_start, SlotState, SoundRing, busy, reach, hold, ask_of, at_stage, placed, KnowsRing, RingMeans, place_at, ring_slot, number_of, fill, taken_in, Fills, IsProper, IsTailAt, IsFit, blocks_slot, RingAction, WhenFull, Refuse, Displace, At, In, SingleAction, puts_single, puts_ring, puts_blocks, puts_by}
+use Rattle.channel_steps.proofs.every_run.Words.{Contents, block_at, slot_at, Queue, Phase, appended, message, Seat, AreAt, IsAtBlocks, FitsForm, HasBrought, Place, Each, owed, one_if, number, position, KnowsBlocks, same, owes, BlocksSeat, BlocksMeans, owners, Denotes, act_of, seat_of, IsChain, QueueAsk, QueueForm, Bounded, Unbounded, Slot, CallState, Asked, Single, Ring, Blocks, UnboundedAction, UnboundedCall, IsAtSingle, IsAtRing, FitsSlot, FitsRing, slot_by, sum, pos, holds, holders, KnowsSingle, Means, SingleMeans, index, ring_mark, SlotState, SoundRing, busy, reach, hold, ask_of, at_stage, placed, KnowsRing, RingMeans, place_at, ring_slot, number_of, fill, taken_in, Fills, IsProper, IsTailAt, IsFit, blocks_slot, RingAction, WhenFull, Refuse, Displace, At, In, SingleAction, puts_single, puts_ring, puts_blocks, puts_by}
 use Rattle.concurrent_queue.specs.Step.{slot_in}
 use Rattle.concurrent_queue.specs.Step.{FitsAt}
 use Rattle.concurrent_queue.specs.Queue.{Stage}
-use Rattle.concurrent_queue.specs.machine.Single.{start}
 use Rattle.concurrent_queue.specs.machine.RingState.{Ring as RingNumbers}
 use Rattle.concurrent_queue.specs.machine.RingCalls.{owes as ring_owes}
 use Rattle.concurrent_queue.specs.machine.BlocksState.{Blocks as BlocksNumbers}
@@ -209,9 +208,6 @@ module _ {T : Type 0} where
     same_index : (c : ℕ) → (c % cap == n % cap) ≡ true → (r.at (c % cap)).round ≡ there.round
     same_index c e = ap (λ (i : ℕ). (r.at i).round) (denote.eq_true _ _ e)
 
-    same_written : (c : ℕ) → (c % cap == n % cap) ≡ true → (r.at (c % cap)).written ≡ there.written
-    same_written c e = ap (λ (i : ℕ). (r.at i).written) (denote.eq_true _ _ e)
-
     same_slot : (c : ℕ) → (c % cap == n % cap) ≡ true → (r.at (c % cap)).slot ≡ there.slot
     same_slot c e = ap (λ (i : ℕ). (r.at i).slot) (denote.eq_true _ _ e)
 
@@ -222,7 +218,7 @@ module _ {T : Type 0} where
       filled : (c : ℕ) → (c % cap == n % cap) ≡ true → (r.at (c % cap)).round ≡ c → (r.at (c % cap)).written ≡ false → c ≡ n
       filled c e at un = ⊎_elim
           (λ h. sym at ∙ same_index c e ∙ h.0)
-          (λ h. absurd (false≢true (sym un ∙ same_written c e ∙ h.1))) stands
+          (λ h. absurd (false≢true (sym un ∙ ap (λ (i : ℕ). (r.at i).written) (denote.eq_true _ _ e) ∙ h.1))) stands
 
       forced : (c : ℕ) → (c % cap == n % cap) ≡ true → (r.at (c % cap)).round ≡ c → c < r.head → c + cap ≡ n
       forced c e at below = ⊎_elim
@@ -425,31 +421,22 @@ module _ {T : Type 0} where
   is_single : (cap : ℕ) (s : CallState T) (a : SingleAction T) (x : Slot × T) → IsAtSingle s a → puts_single a ≡ Some x
       → puts_by (Bounded cap) s ≡ Some x
   is_single cap (Single y) a x e g = subst (λ (z : SingleAction T). puts_single z ≡ Some x) e g
-  is_single cap (Asked k) a x e g = absurd (start_none k x (subst (λ (z : SingleAction T). puts_single z ≡ Some x) e g))
-    where
-      start_none : (k : QueueAsk T) (x : Slot × T) → puts_single (start k) ≡ Some x → ⊥
-      start_none (ask.Push v) x h = absurd cc
-      start_none k x h = absurd cc
+  is_single cap (Asked (ask.Push v)) a x e g = absurd (let h = subst (λ (z : SingleAction T). puts_single z ≡ Some x) e g in cc h)
+  is_single cap (Asked k) a x e g = absurd (let h = subst (λ (z : SingleAction T). puts_single z ≡ Some x) e g in cc h)
   is_single cap x a y e g = absurd e
 
   is_ring : (cap : ℕ) (s : CallState T) (a : RingAction T) (x : Slot × T) → IsAtRing s a → puts_ring (ring_mark cap) a ≡ Some x
       → puts_by (Bounded cap) s ≡ Some x
   is_ring cap (Ring y) a x e g = subst (λ (z : RingAction T). puts_ring (ring_mark cap) z ≡ Some x) e g
-  is_ring cap (Asked k) a x e g = absurd (start_none k x (subst (λ (z : RingAction T). puts_ring (ring_mark cap) z ≡ Some x) e g))
-    where
-      start_none : (k : QueueAsk T) (x : Slot × T) → puts_ring (ring_mark cap) (ring_start k) ≡ Some x → ⊥
-      start_none (ask.Push v) x h = absurd cc
-      start_none k x h = absurd cc
+  is_ring cap (Asked (ask.Push v)) a x e g = absurd (let h = subst (λ (z : RingAction T). puts_ring (ring_mark cap) z ≡ Some x) e g in cc h)
+  is_ring cap (Asked k) a x e g = absurd (let h = subst (λ (z : RingAction T). puts_ring (ring_mark cap) z ≡ Some x) e g in cc h)
   is_ring cap x a y e g = absurd e
 
   is_blocks : (s : CallState T) (a : UnboundedCall T) (x : Slot × T) → IsAtBlocks s a → puts_blocks a.action ≡ Some x
       → puts_by Unbounded s ≡ Some x
   is_blocks (Blocks y) a x e g = subst (λ (z : UnboundedCall T). puts_blocks z.action ≡ Some x) e g
-  is_blocks (Asked k) a x e g = absurd (start_none k x (subst (λ (z : UnboundedCall T). puts_blocks z.action ≡ Some x) e g))
-    where
-      start_none : (k : QueueAsk T) (x : Slot × T) → puts_blocks (begin k).action ≡ Some x → ⊥
-      start_none (ask.Push v) x h = absurd cc
-      start_none k x h = absurd cc
+  is_blocks (Asked (ask.Push v)) a x e g = absurd (let h = subst (λ (z : UnboundedCall T). puts_blocks z.action ≡ Some x) e g in cc h)
+  is_blocks (Asked k) a x e g = absurd (let h = subst (λ (z : UnboundedCall T). puts_blocks z.action ≡ Some x) e g in cc h)
   is_blocks x a y e g = absurd e
 
   -- a message is in its slot, or a call under way is yet to put it there

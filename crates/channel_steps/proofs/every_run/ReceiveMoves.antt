@@ -1,6 +1,6 @@
 -- Each step pays for what it brings or uses up, as those count it who wait for a message.
-use Rattle.std.proofs.Common.{◌≡◌, ℕ, ◌+◌, ◌≤◌, false, List, [], length, Option, None, Some, Ok, Err, ◌⊎◌, inl, inr, refl, sym, ap, subst, arith}
-use Rattle.channel_steps.proofs.every_run.Words.{Queue, Phase, trying, appended, taken, marked, is_displaced, AnswersPush, AnswersForce, AnswersPop, AnswersTo, ContinuesBy, QueueAsk, QueueMark, Nothing, QueueReply, Key, answered_next, Channel, Effect, queued, Moves, line_of, again, ChannelAsk, Loan, Reply, Aim, Sends, Receives, Streams, Closings, Stage, Trying, Working, Finished, Waiting, Work, TellReceive, TriesFor, IsFor, StageAt, MarkedMoment, HoldsListener, AnyTold, told_of, is_to_tell_receive, counts_for_receives, MessagesAreFew, IsSending, Waits}
+use Rattle.std.proofs.Common.{◌≡◌, ℕ, ◌+◌, ◌≤◌, false, List, [], length, Option, None, Some, Ok, Err, ◌⊎◌, ⊎_elim, inl, inr, refl, sym, ap, subst, arith}
+use Rattle.channel_steps.proofs.every_run.Words.{Queue, Phase, trying, appended, taken, marked, is_displaced, AnswersTo, ContinuesBy, QueueAsk, QueueMark, Nothing, QueueReply, Key, answered_next, Channel, Effect, queued, Moves, line_of, again, ChannelAsk, Loan, Reply, Aim, Sends, Receives, Streams, Closings, Stage, Trying, Working, Finished, Waiting, Work, TellReceive, TriesFor, IsFor, StageAt, MarkedMoment, HoldsListener, AnyTold, told_of, is_to_tell_receive, counts_for_receives, MessagesAreFew, IsSending, Waits}
 use Rattle.concurrent_queue.specs.Queue as queue
 use Rattle.concurrent_queue.specs.declared.call.QueueAsk.TheVariants as ask
 use Rattle.concurrent_queue.specs.declared.call.QueueReply.TheVariants as answer
@@ -13,7 +13,6 @@ use Rattle.channel_calls.specs.declared.stage.Waiting.TheVariants as waiting
 use Rattle.channel_steps.proofs.SuitFacts.{push_sends}
 use Rattle.channel_steps.proofs.every_run.AskFacts.{How}
 use Rattle.channel_steps.proofs.MoveFacts.{worked_spares}
-use Rattle.channel_steps.proofs.every_run.HandMoves.{HasCause}
 use Rattle.channel_steps.proofs.every_run.NumberMoves.{number, push_brings, force_brings, pop_takes, goes_no_more, answers_same_number, anew_at_most, weigh_turn, turned_weighs}
 use Rattle.channel_steps.proofs.every_run.Owed.{Ledger}
 use Rattle.channel_steps.proofs.every_run.PayMoves.{OneByDefault, PaysOne, Counting, worked_pays, ledger_of}
@@ -104,15 +103,11 @@ module _ {T W : Type 0} where
       let at = ap (λ (z : Stage (Phase T) T W). counts_for_receives x z) there in
       omega (arith, enough, same, k, now, at)
   tried_pays c x f y m ds seen r s h (inr (reply, ans, turned)) n enough =
-      by_answer (answers_pay c.queue ds seen x y f.ask m reply f.stage h ans)
-    where
-      by_answer : Answered c.queue ds seen x y f.ask m reply f.stage
-          → MessagesAreFew (let e : Effect T W = queued f m c in e.channel) (left_over counts_for_receives x r s + n)
-      by_answer (inl k) =
-          let same = answers_same_number c.queue f.ask m reply f.stage ans in
-          let now = turned_weighs counts_for_receives x (answered_next y reply) r s turned in omega (arith, enough, same, k, now)
-      by_answer (inr k) =
-          let none : length (marked f.ask (is_displaced f.stage) m c.queue).items ≡ 0 = ap length k in omega (arith, none)
+      ⊎_elim
+      (λ k. let same = answers_same_number c.queue f.ask m reply f.stage ans in
+      let now = turned_weighs counts_for_receives x (answered_next y reply) r s turned in omega (arith, enough, same, k, now))
+      (λ k. let none : length (marked f.ask (is_displaced f.stage) m c.queue).items ≡ 0 = ap length k in omega (arith, none))
+      (answers_pay c.queue ds seen x y f.ask m reply f.stage h ans)
 
   -- ---- a step on a list
 
@@ -133,14 +128,14 @@ module _ {T W : Type 0} where
   asks_one x waiting.Closing task h at = absurd (let never : Receives ≡ Closings = at in cc)
   asks_one x v task h at = absurd h
 
-  few_caused : (c : Channel T W) (n : ℕ) → HasCause Receives c.queue → MessagesAreFew c n
-  few_caused c n h = let none : length c.queue.items ≡ 0 = ap length h in omega (arith, none)
-
-  few_eased : (c d : Channel T W) (m n : ℕ) → d.queue ≡ c.queue → length (told_of Receives c) + m ≤ length (told_of Receives d) + n → MessagesAreFew c m → MessagesAreFew d n
-  few_eased c d m n same less h = let items = ap (λ (q : Queue T). length q.items) same in omega (arith, less, items, h)
-
   counting : Counting {T = T} {W = W} Receives tt MessagesAreFew counts_for_receives
-  counting = record { tells = work_counts; asks = asks_one; caused = few_caused; eased = few_eased }
+  counting =
+      record {
+        tells = work_counts;
+        asks = asks_one;
+        caused = λ c n h. (let none : length c.queue.items ≡ 0 = ap length h in omega (arith, none));
+        eased = λ c d m n same less h. (let items = ap (λ (q : Queue T). length q.items) same in omega (arith, less, items, h));
+      }
 
   receive_pays : (c : Channel T W) (x : ChannelAsk T W) (at : Stage (Phase T) T W) (ds : List (MarkedMoment T W))
       (seen : List (Channel T W)) (e : Effect T W) (r : Option (Reply T)) (s : Stage (Phase T) T W) (key : Key)

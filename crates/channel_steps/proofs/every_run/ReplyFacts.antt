@@ -1,5 +1,5 @@
 -- What a reply that says the end, and one that gives a message, say of their call.
-use Rattle.std.proofs.Common.{◌≡◌, List, [], ◌∷◌, ◌++◌, Option, None, Some, Ok, Err, ◌⊎◌, inl, inr, sym, subst}
+use Rattle.std.proofs.Common.{⊎_elim, ◌≡◌, List, [], ◌∷◌, ◌++◌, Option, None, Some, Ok, Err, inr, sym, subst}
 use Rattle.channel_steps.proofs.every_run.Words.{Ready, Channel, ChannelAsk, Mark, Append, Take, Replace, SenderUp, SenderDown, ReceiverUp, ReceiverDown, Reply, Kept, Sends, MarkedMoment, with_marked, Spent, Once, Took, TookAll, Replaced, Displaced, Row, ActiveCall, MayFinish, ForceSend, TryRecv, RecvMany, PollRecv, PollNext, RefusePoll, StillDeeds, IsStill, SaysTheEnd, GivesMessage, Replies, DropSender, DropReceiver, PollFinishedSend, GiveUp, SendIsTerminated, SameChannel, Make, DropWeak}
 use Rattle.channel_calls.specs.declared.error.Refused.TheVariants as refused
 use Rattle.channel_calls.specs.declared.error.TryRecvError.TheVariants as try_recv_error
@@ -57,10 +57,6 @@ module _ {T W : Type 0} where
   displaced_moves (d ∷ e ∷ []) v h k = moved e.mark Append h.1 k.1.0
   displaced_moves ds v h k = absurd h
 
-  displacing_moves : (ds : List (MarkedMoment T W)) (v : T) → Replaced ds v ⊎ Displaced ds v → StillDeeds ds → ⊥
-  displacing_moves ds v (inl h) k = replaced_moves ds v h k
-  displacing_moves ds v (inr h) k = displaced_moves ds v h k
-
   module _ (ds : List (MarkedMoment T W)) (seen : List (Channel T W)) where
     -- what its row says of a reply, and of a call that has one answer alone, that this one is silent
     abbrev pub Spoken : ChannelAsk T W → Reply T → Type 0
@@ -96,7 +92,7 @@ module _ {T W : Type 0} where
     gives (reply.RecvPoll (Ready (Ok v))) ask h g k = h
     gives (reply.Next (Ready (Some (Ok v)))) (PollNext key task) h g k = took_moves ds v h k
     gives (reply.Next (Ready (Some (Ok v)))) ask h g k = h
-    gives (reply.ForceSend (Ok (Some v))) (ForceSend m) h g k = displacing_moves ds v h k
+    gives (reply.ForceSend (Ok (Some v))) (ForceSend m) h g k = ⊎_elim (λ r. replaced_moves ds v r k) (λ r. displaced_moves ds v r k) h
     gives (reply.ForceSend (Ok (Some v))) ask h g k = h
     gives (reply.RecvMany (Ok (v ∷ vs))) (RecvMany n) h g k = several_moves ds v vs h.0 k
     gives (reply.RecvMany (Ok (v ∷ vs))) ask h g k = h

@@ -1,6 +1,6 @@
 -- What a step on lists and counts does to each of the four lists: nothing, or what its work does to the one that it touches.
-use Rattle.std.proofs.Common.{◌≡◌, ℕ, ◌+◌, ◌-◌, Bool, true, false, if◌then◌else◌, List, [], Option, None, Some, ◌⊎◌, inl, inr, refl, sym, ap, ◌∙◌, subst}
-use Rattle.channel_steps.proofs.every_run.Words.{Phase, kind_of, listened, registration, removed, Key, up, down, Channel, Effect, untouched, on_line, on_count, leaves, Turned, Worked, Listeners, listeners, count, is_raised, told_one, told_more, told_all, waits, line_of, again, pends_by, Mark, Reply, Ending, Held, Line, Sends, Receives, Streams, Closings, Side, Senders, Stage, Waiting, Work, TellReceive, TellStreams, TellSend, TellSends, TellAll, Insert, Register, Leave, Lower, Raise}
+use Rattle.std.proofs.Common.{◌≡◌, ℕ, ◌+◌, ◌-◌, Bool, true, false, if◌then◌else◌, List, [], Option, None, Some, ◌⊎◌, ⊎_elim, inl, inr, refl, sym, ap, ◌∙◌, subst}
+use Rattle.channel_steps.proofs.every_run.Words.{Phase, kind_of, listened, registration, removed, Key, up, down, Channel, Effect, untouched, on_line, on_count, leaves, Turned, Worked, Listeners, listeners, count, is_raised, told_one, told_more, told_all, waits, line_of, again, pends_by, Mark, Reply, Ending, Held, Line, Sends, Receives, Streams, Closings, Side, Senders, Stage, Work, TellReceive, TellStreams, TellSend, TellSends, TellAll, Insert, Register, Leave, Lower, Raise}
 
 module _ {T W : Type 0} where
   -- what a work does to this list, from l to l'
@@ -57,22 +57,15 @@ module _ {T W : Type 0} where
     IsMade = (line ≡ at) × (listeners line e.channel.roster ≡ f (listeners line c.roster))
 
     made : (Same line c e × (line ≡ at → ⊥)) ⊎ IsMade
-    made = by (on_lines line at (f (listeners at c.roster)) names c)
-      where
-        by : (Same line c (on_line at (f (listeners at c.roster)) names c) × (line ≡ at → ⊥))
-            ⊎ ((line ≡ at) × (listeners line (let z : Effect T W = on_line at (f (listeners at c.roster)) names c in z.channel.roster) ≡ f (listeners at c.roster)))
-            → (Same line c e × (line ≡ at → ⊥)) ⊎ IsMade
-        by (inl h) = inl (same_as line c e (on_line at (f (listeners at c.roster)) names c) is h.0, h.1)
-        by (inr h) =
-            inr (h.0, ap (λ (z : Effect T W). listeners line z.channel.roster) is ∙ (h.1 ∙ ap (λ (z : Line). f (listeners z c.roster)) (sym h.0)))
+    made =
+        ⊎_elim
+        (λ h. inl (same_as line c e (on_line at (f (listeners at c.roster)) names c) is h.0, h.1))
+        (λ h. inr (h.0, ap (λ (z : Effect T W). listeners line z.channel.roster) is ∙ (h.1 ∙ ap (λ (z : Line). f (listeners z c.roster)) (sym h.0))))
+        (on_lines line at (f (listeners at c.roster)) names c)
 
     -- and with what else is said of that list
     made_with : (P : Listeners W → Type 0) → P (listeners at c.roster) → Same line c e ⊎ (IsMade × P (listeners line c.roster))
-    made_with P h = by made
-      where
-        by : (Same line c e × (line ≡ at → ⊥)) ⊎ IsMade → Same line c e ⊎ (IsMade × P (listeners line c.roster))
-        by (inl k) = inl k.0
-        by (inr k) = inr (k, subst (λ (z : Line). P (listeners z c.roster)) (sym k.0) h)
+    made_with P h = ⊎_elim (λ k. inl k.0) (λ k. inr (k, subst (λ (z : Line). P (listeners z c.roster)) (sym k.0) h)) made
 
   -- ---- any of them
 
@@ -80,26 +73,9 @@ module _ {T W : Type 0} where
     abbrev pub Section : Work T W → Type 0
     Section w = (Same line c e × TellsOthers w line) ⊎ Touched w r s line (listeners line c.roster) (listeners line e.channel.roster)
 
-    inserted : (w : Waiting T) (task : W) (key : Key) → Turned (again w (Some key) task) r s
-        → Same line c e ⊎ (((line ≡ line_of w) × (listeners line e.channel.roster ≡ listened key (listeners line c.roster))) × (kind_of (listeners line c.roster) key ≡ None))
-        → Section (Insert w task)
-    inserted w task key t (inl h) = inl (h, tt)
-    inserted w task key t (inr h) = inr (h.0.0, key, h.1, h.0.1, t)
-
-    registered : (w : Waiting T) (key : Key) (task : W)
-        → Same line c e ⊎ (((line ≡ line_of w) × (listeners line e.channel.roster ≡ registration key task (listeners line c.roster)))
-        × Turned (if waits key (listeners line c.roster) then pends_by w key else again w None task) r s)
-        → Section (Register w key task)
-    registered w key task (inl h) = inl (h, tt)
-    registered w key task (inr h) = inr (h.0.0, h.0.1, h.1)
-
     left : (x : Ending T) (o : Option Held) → e ≡ leaves o c → Section (Leave x)
     left x None g = inl (same_as line c e (untouched c) g refl, tt)
-    left x (Some h) g = by (made line h.line (λ l. removed h.key true l) _ c e g)
-      where
-        by : (Same line c e × (line ≡ h.line → ⊥)) ⊎ ((line ≡ h.line) × (listeners line e.channel.roster ≡ removed h.key true (listeners line c.roster))) → Section (Leave x)
-        by (inl k) = inl (k.0, tt)
-        by (inr k) = inr (h, k.0, k.1)
+    left x (Some h) g = ⊎_elim (λ k. inl (k.0, tt)) (λ k. inr (h, k.0, k.1)) (made line h.line (λ l. removed h.key true l) _ c e g)
 
     pub section : (w : Work T W) → Worked c w e r s → Section w
     section (TellReceive x) g = made line Receives (λ l. told_one l) _ c e g.0
@@ -107,10 +83,13 @@ module _ {T W : Type 0} where
     section (TellSend x) g = made line Sends (λ l. told_one l) _ c e g.0
     section (TellSends n x) g = made line Sends (λ l. told_more n l) _ c e g.0
     section (TellAll at closer) g = made line at (λ l. told_all l) _ c e g.0
-    section (Insert w task) (inl g) = inserted w task g.0 g.3 (made_with line (line_of w) (λ l. listened g.0 l) [] c e g.2 (λ l. kind_of l g.0 ≡ None) g.1)
+    section (Insert w task) (inl g) =
+        ⊎_elim (λ h. inl (h, tt)) (λ h. inr (h.0.0, g.0, h.1, h.0.1, g.3))
+        (made_with line (line_of w) (λ l. listened g.0 l) [] c e g.2 (λ l. kind_of l g.0 ≡ None) g.1)
     section (Insert w task) (inr g) = inl (same_as line c e (untouched c) g.1 refl, tt)
     section (Register w key task) g =
-        registered w key task (made_with line (line_of w) (λ l. registration key task l) [] c e g.0 (λ l. Turned (if waits key l then pends_by w key else again w None task) r s) g.1)
+        ⊎_elim (λ h. inl (h, tt)) (λ h. inr (h.0.0, h.0.1, h.1))
+        (made_with line (line_of w) (λ l. registration key task l) [] c e g.0 (λ l. Turned (if waits key l then pends_by w key else again w None task) r s) g.1)
     section (Leave x) g = left x x.held g.0
     section (Lower side key) g = inl (same_as line c e _ g.0 (on_counts line side (count side c.roster - 1) (down side) c), tt)
     section (Raise side n making) g = inl (same_as line c e _ g.0 (on_raise line (is_raised side n c.roster) side n c), tt)

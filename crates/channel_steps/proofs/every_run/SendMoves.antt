@@ -1,8 +1,8 @@
 -- Each step pays for what it takes or uses up, as those count it who wait for a free place.
 use Rattle.std.proofs.lemmas.List.{length-append}
-use Rattle.channel_steps.proofs.every_run.Words.{Gathered, with_last, TryRecvError, Queue, Phase, IsShut, trying, appended, taken, is_displaced, is_full_at, is_filled, AnswersPush, AnswersForce, AnswersPop, AnswersTo, ContinuesBy, QueueAsk, QueueMark, Nothing, QueueReply, Key, answered_next, gathered_next, short_next, Channel, Effect, queued, Moves, line_of, again, ChannelAsk, Loan, Reply, Aim, Sends, Receives, Streams, Closings, Stage, Trying, Working, Finished, Waiting, Work, TellSend, TriesFor, IsFor, StageAt, MarkedMoment, Shut, HoldsListener, AnyTold, told_of, is_to_tell_send, counts_for_sends, HasPlaces, PlacesAreFew, Waits}
+use Rattle.channel_steps.proofs.every_run.Words.{with_last, TryRecvError, Queue, Phase, IsShut, trying, appended, taken, is_displaced, is_full_at, is_filled, AnswersTo, ContinuesBy, QueueAsk, QueueMark, Nothing, QueueReply, Key, answered_next, gathered_next, short_next, Channel, Effect, queued, Moves, line_of, again, ChannelAsk, Loan, Reply, Aim, Sends, Receives, Streams, Closings, Stage, Trying, Working, Finished, Waiting, Work, TellSend, TriesFor, IsFor, StageAt, MarkedMoment, Shut, HoldsListener, AnyTold, told_of, is_to_tell_send, counts_for_sends, HasPlaces, PlacesAreFew, Waits}
 use Rattle.channel_calls.specs.declared.error.TryRecvError.TheVariants as try_recv_error
-use Rattle.std.proofs.Common.{◌≡◌, ℕ, zero, suc, ◌+◌, ◌≤◌, true, false, List, [], ◌∷◌, ◌++◌, length, Option, None, Some, Ok, Err, ◌⊎◌, inl, inr, refl, sym, ap, subst, arith}
+use Rattle.std.proofs.Common.{◌≡◌, ℕ, zero, suc, ◌+◌, ◌≤◌, true, false, List, [], ◌∷◌, ◌++◌, length, Option, None, Some, Ok, Err, ◌⊎◌, ⊎_elim, inl, inr, refl, sym, ap, subst, arith}
 use Rattle.std.proofs.lemmas.Bool.Decides.{nat_tests}
 use Rattle.concurrent_queue.specs.Queue as queue
 use Rattle.concurrent_queue.specs.declared.call.QueueAsk.TheVariants as ask
@@ -164,17 +164,15 @@ module _ {T W : Type 0} where
         let at = ap (λ (z : Stage (Phase T) T W). counts_for_sends x z) there in
         places_on c now (counts_for_sends x (Trying f y) + n) (left_over counts_for_sends x r s + n) shut same_bound
         (omega (arith, same, k, after, at)) enough
-    tried_pays h (inr (reply, ans, turned)) n enough = by_answer (answers_pay c.queue ds seen x y f.ask m reply f.stage h ans)
-      where
-        by_answer : Answered c.queue ds seen x y f.ask m reply f.stage → PlacesAreFew now (left_over counts_for_sends x r s + n)
-        by_answer (inl k) =
-            let after = turned_weighs counts_for_sends x (answered_next y reply) r s turned in
-            places_on c now (counts_for_sends x (Trying f y) + n) (left_over counts_for_sends x r s + n) shut same_bound
-            (omega (arith, k, after)) enough
-        by_answer (inr k) =
-            subst (λ (z : QueueMark). PlacesAreFew (let e : Effect T W = queued f z c in e.channel)
-            (left_over counts_for_sends x r s + n)) (sym k.0) (
-            refused_places c (counts_for_sends x (Trying f y) + n) (left_over counts_for_sends x r s + n) k.1 enough)
+    tried_pays h (inr (reply, ans, turned)) n enough =
+        ⊎_elim
+        (λ k. let after = turned_weighs counts_for_sends x (answered_next y reply) r s turned in
+        places_on c now (counts_for_sends x (Trying f y) + n) (left_over counts_for_sends x r s + n) shut same_bound
+        (omega (arith, k, after)) enough)
+        (λ k. subst (λ (z : QueueMark). PlacesAreFew (let e : Effect T W = queued f z c in e.channel)
+        (left_over counts_for_sends x r s + n)) (sym k.0) (
+        refused_places c (counts_for_sends x (Trying f y) + n) (left_over counts_for_sends x r s + n) k.1 enough))
+        (answers_pay c.queue ds seen x y f.ask m reply f.stage h ans)
 
   -- ---- a step on a list
 

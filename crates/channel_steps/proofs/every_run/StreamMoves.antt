@@ -1,5 +1,5 @@
 -- Each step pays for what it brings, as streams count it: there is no message, or a call is to tell them all.
-use Rattle.std.proofs.Common.{◌≡◌, ℕ, ◌+◌, ◌≤◌, List, [], ◌∷◌, length, Option, Some, Ok, Err, ◌⊎◌, inl, inr, refl, sym, ap, ◌∙◌, subst, arith}
+use Rattle.std.proofs.Common.{⊎_elim, ◌≡◌, ℕ, ◌+◌, ◌≤◌, List, [], ◌∷◌, length, Option, Some, Ok, Err, ◌⊎◌, inl, inr, refl, sym, ap, ◌∙◌, subst, arith}
 use Rattle.channel_steps.proofs.every_run.Words.{Queue, Phase, trying, appended, taken, marked, is_displaced, ContinuesBy, AnswersPop, AnswersTo, QueueAsk, QueueMark, Nothing, QueueReply, Key, answered_next, stream_next, Channel, Effect, queued, Turned, Moves, ChannelAsk, Reply, Aim, Sends, Receives, Streams, Closings, Stage, Trying, Working, Finished, Turn, Tries, Works, Ends, Work, TellReceive, TellStreams, TellSend, Leave, TriesFor, StageAt, MarkedMoment, ActiveCall, has_appended, is_to_tell_receive, counts_for_receives, HasAppended, IsSending, IsBringing, HasInHand, Waits, WaitApart}
 use Rattle.concurrent_queue.specs.Queue as queue
 use Rattle.concurrent_queue.specs.declared.call.QueueAsk.TheVariants as ask
@@ -8,7 +8,7 @@ use Rattle.concurrent_queue.specs.declared.error.PopError.TheVariants as pop_err
 use Rattle.channel_calls.specs.declared.ask.ChannelAsk.TheVariants as channel
 use Rattle.channel_calls.specs.declared.stage.Aim.TheVariants as aim
 use Rattle.channel_calls.specs.declared.stage.Waiting.TheVariants as waiting
-use Rattle.channel_steps.proofs.every_run.AllOwed.{FreeOrTold}
+use Rattle.channel_steps.proofs.every_run.AllOwed.{FreeOrTold, free_more}
 use Rattle.channel_steps.proofs.SuitFacts.{push_sends}
 use Rattle.channel_steps.proofs.every_run.AskFacts.{How, poll_asks, held_by, leaves_next, has_left}
 use Rattle.channel_steps.proofs.MoveFacts.{worked_spares}
@@ -153,11 +153,9 @@ module _ {T W : Type 0} where
       → StageAt c x at ds seen → Moves c at e r s → Waits Streams key e.channel → Paid c x at e r s ⊎ ⊥
   stream_pays c x (Trying f y) ds seen e r s key st g w =
       inl (subst (λ (z : Effect T W). Paid c x (Trying f y) z r s) (sym g.effect) (tried_pays c x f y g.mark ds seen r s st.0 g.how))
-  stream_pays c x (Working z) ds seen e r s key st g w = inl by
-    where
-      by : Paid c x (Working z) e r s
-      by n (inl none) = let same = worked_spares c z e r s g in inl (ap (λ (q : Queue T). q.items) same.0 ∙ none)
-      by n (inr some) = let on = works_on c x z e r s key g w in inr (omega (arith, some, on))
+  stream_pays c x (Working z) ds seen e r s key st g w =
+      inl (λ n h. ⊎_elim (λ none. let same = worked_spares c z e r s g in inl (ap (λ (q : Queue T). q.items) same.0 ∙ none))
+      (λ some. let on = works_on c x z e r s key g w in inr (omega (arith, some, on))) h)
   stream_pays c x (Finished kept) ds seen e r s key st g w = absurd st
 
   -- ---- a stream's own poll
@@ -198,9 +196,5 @@ module _ {T W : Type 0} where
   stream_comes c e r s key (waiting.Receive, task, at, t) = absurd (let never : Receives ≡ Streams = at in cc)
   stream_comes c e r s key (waiting.Closing, task, at, t) = absurd (let never : Closings ≡ Streams = at in cc)
 
-  more_told_of : (c : Channel T W) (m n : ℕ) → m ≤ n → NoneOrTold c m → NoneOrTold c n
-  more_told_of c m n less (inl h) = inl h
-  more_told_of c m n less (inr h) = inr (omega (arith, less, h))
-
   pub stream_ledger : Ledger {T = T} {W = W} Streams NoneOrTold counts_for_streams HasInHand (λ z. ⊥)
-  stream_ledger = record { more = more_told_of; comes = stream_comes; keeps = keeps_in_hand; pays = stream_pays }
+  stream_ledger = record { more = free_more NoMessages Tells HasInHand counts_for_streams; comes = stream_comes; keeps = keeps_in_hand; pays = stream_pays }

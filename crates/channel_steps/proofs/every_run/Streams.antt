@@ -1,6 +1,6 @@
 -- Waiting streams over runs.
-use Rattle.std.proofs.Common.{ℕ, List, Option, ◌⊎◌, inl, inr, refl}
-use Rattle.channel_steps.proofs.every_run.Words.{Streams, Next, new_configuration, Configuration, Entry, Step, IsSending, IsBringing, HasInHand, PendingStreamsAreOwed, AnswersFor, StreamsAreOwed, StreamsSound, StreamsStayOwed, NoStreamIsForgotten, Any}
+use Rattle.std.proofs.Common.{ℕ, List, Option, ⊎_elim, inl, inr, refl}
+use Rattle.channel_steps.proofs.every_run.Words.{Streams, Next, new_configuration, Configuration, Entry, Step, IsSending, IsBringing, HasInHand, PendingStreamsAreOwed, StreamsAreOwed, StreamsSound, StreamsStayOwed, NoStreamIsForgotten}
 use Rattle.channel_steps.proofs.Interface.{known_next}
 use Rattle.channel_steps.proofs.every_run.AllOwed.{as_counts, as_calls}
 use Rattle.channel_steps.proofs.every_run.AnyFacts.{any_but}
@@ -26,11 +26,9 @@ module _ {T W : Type 0} where
   new_sound cap = record { known = tt; balanced = refl; apart = tt; owed = λ key w. inl refl }
 
   pub pending_owed : (s : Configuration T W) → StreamsAreOwed s → PendingStreamsAreOwed s
-  pending_owed s owed key w none = but_it (owed key w)
-    where
-      but_it : NoMessages s.now ⊎ Any (AnswersFor key) s.under_way → NoMessages s.now ⊎ Any (λ u. IsSending u.ask × IsBringing u.at) s.under_way
-      but_it (inl h) = inl h
-      but_it (inr h) = inr (any_but (λ u. IsSending u.ask × IsBringing u.at) (λ u. HasInHand key u.at) s.under_way h none)
+  pending_owed s owed key w none =
+      ⊎_elim (λ h. inl h)
+      (λ h. inr (any_but (λ u. IsSending u.ask × IsBringing u.at) (λ u. HasInHand key u.at) s.under_way h none)) (owed key w)
 
 module _ (T W : Type 0) where
   pub streams_stay_owed : StreamsStayOwed T W

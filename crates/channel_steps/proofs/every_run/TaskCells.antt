@@ -39,9 +39,6 @@ module _ {W V : Type 0} (put : W → V) where
   pub all_wakes : (l : Listeners W) → told_all_wakes (listeners_by put l) ≡ map put (told_all_wakes l)
   all_wakes l = tasks_by put l.waiting
 
-  waits_alike : (key : Key) (l : Listeners W) → waits key (listeners_by put l) ≡ waits key l
-  waits_alike key l = ap (λ (o : Option Bool). elim o [ Some told ↦ not told | None ↦ false ]) (kind_by put key l)
-
   -- ---- all lists
 
   pub list_of : (line : Line) (a : Roster W) → listeners line (roster_by put a) ≡ listeners_by put (listeners line a)
@@ -101,7 +98,7 @@ module _ {T W V : Type 0} (put : W → V) where
   kind_so line key p = ap (λ (l : Listeners V). kind_of l key) (list_of put line p.roster) ∙ kind_by put key (listeners line p.roster)
 
   waits_so : (line : Line) (key : Key) (p : Parts T W) → waits key (listeners line (roster_by put p.roster)) ≡ waits key (listeners line p.roster)
-  waits_so line key p = ap (λ (l : Listeners V). waits key l) (list_of put line p.roster) ∙ waits_alike put key (listeners line p.roster)
+  waits_so line key p = ap (λ (l : Listeners V). waits key l) (list_of put line p.roster) ∙ ap (λ (o : Option Bool). elim o [ Some told ↦ not told | None ↦ false ]) (kind_by put key (listeners line p.roster))
 
   -- ---- what a deed does, with others put for the tasks
 

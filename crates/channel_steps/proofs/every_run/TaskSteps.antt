@@ -46,9 +46,6 @@ module _ {T W V S : Type 0} (put : W → V) (wakes : S → V → S → Type 0) (
           changes = refl;
         }
 
-    woke : (names : List W) (others : List V) → map put names ≡ others → Woken wakes c.1 others d.1 → Woken (WakesFor put wakes) c.1 names d.1
-    woke names others is h = wakes_for put wakes c.1 names d.1 (subst (λ (xs : List V). Woken wakes c.1 xs d.1) (sym is) h)
-
     -- A telling, or a removal, which may pass a notice on: what it does to its list and whom it wakes are alike whatever the tasks are.
     abbrev Tells : (List W → Deed T W) → Type 0
     Tells deed = (names : List W) × ActBefore (on_roster (deed names))
@@ -68,7 +65,7 @@ module _ {T W V S : Type 0} (put : W → V) (wakes : S → V → S → Type 0) (
               acts = same t.names_before ∙ ap (λ (xs : List V). on_roster (deed_there xs)) t.were ∙ sym is;
               left = (t.parts, d.1);
               seen = ends_in t.parts d.1 t.left refl;
-              changes = changes t.names_before t.parts t.told t.on_it (woke t.names_before names t.were woke_so);
+              changes = changes t.names_before t.parts t.told t.on_it (wakes_for put wakes c.1 t.names_before d.1 (subst (λ (xs : List V). Woken wakes c.1 xs d.1) (sym t.were) woke_so));
             },
           )
 

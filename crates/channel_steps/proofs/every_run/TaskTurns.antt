@@ -1,7 +1,7 @@
 -- Other tasks put for those of a call: what follows each answer is what followed it, with these tasks.
 use Rattle.std.proofs.Common.{◌≡◌, inl, inr, ℕ, zero, suc, ◌==◌, nat_lt, Bool, true, false, if◌then◌else◌, List, [], ◌∷◌, ◌++◌, Option, None, Some, Result, Ok, Err, option_map, refl, sym, ap, subst, ◌∙◌}
 use Rattle.concurrent_queue.specs.declared.call.QueueAsk.TheVariants as ask
-use Rattle.channel_steps.proofs.every_run.Words.{QueueReply, QueueCall, Key, ListenError, gathered_next, short_next, stream_next, polled_next, answered_next, first, kept_by, Gathered, with_last, leaving, nothing_kept, closer_ending, registered_next, told_all_next, again, Takes, Marked, ChannelAsk, Loan, TryRecvError, Mark, Reply, Aim, Closer, Ending, Held, Line, Sends, Receives, Streams, Closings, Side, Stage, Trying, Working, Finished, Turn, Tries, Works, Ends, Waiting, Push, Force, Pop, Flag, sent_next, forced_next, received_next, several_next, send_next, receive_next, closing_next, closed_next, asked_next, terminated_next, upgraded_next, asks_listener, most, ends_by, refused_next, dropper, inserted_next, room_next, roomless, TakesRoom, lowered_next, counted_next, loaded_next, raised_next, Making, ask_by, aim_by, turn_by, stage_by}
+use Rattle.channel_steps.proofs.every_run.Words.{QueueReply, QueueCall, Key, ListenError, gathered_next, short_next, answered_next, first, kept_by, with_last, leaving, nothing_kept, closer_ending, registered_next, told_all_next, again, Takes, Marked, ChannelAsk, Loan, TryRecvError, Mark, Reply, Aim, Closer, Ending, Held, Line, Sends, Receives, Streams, Closings, Side, Stage, Trying, Working, Finished, Turn, Tries, Works, Ends, Waiting, Push, Force, Pop, Flag, asks_listener, most, ends_by, refused_next, dropper, inserted_next, room_next, roomless, TakesRoom, lowered_next, counted_next, loaded_next, raised_next, Making, ask_by, aim_by, turn_by, stage_by}
 use Rattle.concurrent_queue.specs.declared.call.QueueReply.TheVariants.{Close}
 use Rattle.concurrent_queue.specs.declared.error.PushError.TheVariants as push_error
 use Rattle.concurrent_queue.specs.declared.error.ForcePushError.TheVariants as force_error

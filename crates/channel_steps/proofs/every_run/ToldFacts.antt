@@ -1,5 +1,5 @@
 -- How many are told after a section on a list, and how they were told.
-use Rattle.std.proofs.Common.{zero, suc, ◌≡◌, ℕ, ◌+◌, ◌-◌, ◌≤◌, Bool, true, false, if◌then◌else◌, min, List, [], ◌∷◌, ◌++◌, length, take, map, Option, None, Some, is_some, not, ◌⊎◌, inl, inr, refl, sym, ap, ◌∙◌, subst, arith, length-append}
+use Rattle.std.proofs.Common.{zero, suc, ◌≡◌, ℕ, ◌+◌, ◌-◌, ◌≤◌, Bool, true, false, if◌then◌else◌, min, List, [], ◌∷◌, ◌++◌, length, take, map, Option, None, Some, is_some, not, ◌⊎◌, ⊎_elim, inl, inr, refl, sym, ap, ◌∙◌, subst, arith, length-append}
 use Rattle.std.specs.Map.{lookup, remove_entry}
 use Rattle.channel_steps.proofs.every_run.Words.{Notice, same_key, told_as, waits_as, told_with, without, with_task, moved, passed, registration, removed, Key, Listeners, told_one, told_more, told_all, waits, AnyTold, EachTold, IsIn}
 use Rattle.channel_steps.proofs.every_run.ListFacts.{removed_as, thin_drop, thin_told_more}
@@ -40,11 +40,7 @@ module _ (b : Bool) where
   any_join : (us vs : Told) → AnyTold b (us ++ vs) → AnyTold b us ⊎ AnyTold b vs
   any_join [] vs h = inr h
   any_join (u ∷ us) vs (inl h) = inl (inl h)
-  any_join (u ∷ us) vs (inr h) = deeper (any_join us vs h)
-    where
-      deeper : AnyTold b us ⊎ AnyTold b vs → AnyTold b (u ∷ us) ⊎ AnyTold b vs
-      deeper (inl h) = inl (inr h)
-      deeper (inr h) = inr h
+  any_join (u ∷ us) vs (inr h) = ⊎_elim (λ k. inl (inr k)) (λ k. inr k) (any_join us vs h)
 
   any_cut : (c : Bool) (w : Key × Notice Unit) (ws vs : Told) → (AnyTold b vs → AnyTold b ws) → AnyTold b (cond c ws (w ∷ vs))
       → AnyTold b (w ∷ ws)
@@ -92,23 +88,16 @@ module _ (b : Bool) where
 
     pub any_told_more : (n : ℕ) (l : Listeners W) → AnyTold b (told_more n l).told → AnyTold b l.told ⊎ (true ≡ b)
     any_told_more zero l h = inl h
-    any_told_more (suc n) l h = by (any_told_more n (told_one l) h) where
-      by : AnyTold b (told_one l).told ⊎ (true ≡ b) → AnyTold b l.told ⊎ (true ≡ b)
-      by (inl h) = any_told_one l h
-      by (inr e) = inr e
+    any_told_more (suc n) l h = ⊎_elim (λ k. any_told_one l k) (λ e. inr e) (any_told_more n (told_one l) h)
 
     pub any_told_all : (l : Listeners W) → AnyTold b (told_all l).told → AnyTold b l.told ⊎ (false ≡ b)
     any_told_all l h =
         or_so false l.waiting (map (λ w. tt) l.waiting) (any_join l.told (told_with false l.waiting (map (λ w. tt) l.waiting)) h)
 
-    any_left : (key : Key) (l : Listeners W) (n : Notice Unit) → told_as l key ≡ Some n
-        → AnyTold b (remove_entry (same_key key) l.told) ⊎ (n.additional ≡ b) → AnyTold b l.told
-    any_left key l n e (inl h) = any_removed key l.told h
-    any_left key l n e (inr h) = any_found key l.told n e h
-
     any_removed_as : (o : Option (Notice Unit)) (c : Bool) (key : Key) (l : Listeners W) → told_as l key ≡ o
         → AnyTold b (removed_as o c key l).told → AnyTold b l.told
-    any_removed_as (Some n) c key l e h = any_left key l n e (any_passed n (without key l) h)
+    any_removed_as (Some n) c key l e h =
+        ⊎_elim (λ k. any_removed key l.told k) (λ k. any_found key l.told n e k) (any_passed n (without key l) h)
     any_removed_as None true key l e h = any_removed key l.told h
     any_removed_as None false key l e h = h
 

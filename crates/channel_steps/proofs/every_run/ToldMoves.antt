@@ -1,6 +1,6 @@
 -- What a step does to those of a list that were told.
-use Rattle.std.proofs.Common.{◌≡◌, ℕ, ◌+◌, ◌≤◌, Bool, true, false, if◌then◌else◌, length, Option, None, ◌⊎◌, inl, inr, refl, sym, ap, subst, arith}
-use Rattle.channel_steps.proofs.every_run.Words.{Phase, registration, removed, Key, Channel, Effect, Turned, Worked, Moves, Listeners, listeners, waits, line_of, again, pends_by, Reply, Line, Sends, Receives, Streams, Stage, Trying, Working, Finished, Ending, Waiting, Work, TellReceive, TellStreams, TellSend, TellSends, TellAll, Insert, Register, Leave, AnyTold, told_of, IsIn}
+use Rattle.std.proofs.Common.{⊎_elim, ◌≡◌, ℕ, ◌+◌, ◌≤◌, Bool, true, false, if◌then◌else◌, length, Option, None, ◌⊎◌, inl, inr, refl, sym, ap, subst, arith}
+use Rattle.channel_steps.proofs.every_run.Words.{Phase, registration, Key, Channel, Effect, Turned, Worked, Moves, Listeners, listeners, waits, line_of, again, pends_by, Reply, Line, Sends, Receives, Streams, Stage, Trying, Working, Finished, Waiting, Work, TellReceive, TellStreams, TellSend, TellSends, TellAll, Insert, Register, Leave, AnyTold, told_of, IsIn}
 use Rattle.channel_steps.proofs.every_run.Sections.{Touched, TellsOthers, Section, section}
 use Rattle.channel_steps.proofs.every_run.ToldFacts.{any_told_one, any_told_more, any_told_all, any_after_removal, any_registration, told_one_counts, told_more_counts, removed_counts, registered_counts}
 
@@ -53,16 +53,13 @@ module _ {T W : Type 0} where
     touched_told (Leave x) r s l l' (o, at, is) h = kept_to b l l' _ is (λ k. inl (any_after_removal b o.key l k)) h
     touched_told w r s l l' none h = absurd none
 
-    worked_told : (c : Channel T W) (w : Work T W) (e : Effect T W) (r : Option (Reply T)) (s : Stage (Phase T) T W)
-        → Section line c e r s w → Keeps (Working w) (listeners line c.roster) (listeners line e.channel.roster)
-    worked_told c w e r s (inl same) h = inl (subst (λ (z : Listeners W). AnyTold b z.told) same.0 h)
-    worked_told c w e r s (inr made) h = touched_told w r s (listeners line c.roster) (listeners line e.channel.roster) made h
-
     pub moved_told : (c : Channel T W) (at : Stage (Phase T) T W) (e : Effect T W) (r : Option (Reply T))
         (s : Stage (Phase T) T W) → Moves c at e r s
         → AnyTold b (told_of line e.channel) → AnyTold b (told_of line c) ⊎ Tells line b at
     moved_told c (Trying f aim) e r s g h = inl (subst (λ (z : Effect T W). AnyTold b (told_of line z.channel)) g.effect h)
-    moved_told c (Working w) e r s g h = worked_told c w e r s (section line c e r s w g) h
+    moved_told c (Working w) e r s g h =
+        ⊎_elim (λ same. inl (subst (λ (z : Listeners W). AnyTold b z.told) same.0 h))
+        (λ made. touched_told w r s (listeners line c.roster) (listeners line e.channel.roster) made h) (section line c e r s w g)
     moved_told c (Finished kept) e r s g h = inl (subst (λ (z : Effect T W). AnyTold b (told_of line z.channel)) g.0 h)
 
   -- ---- how many are told
@@ -114,10 +111,6 @@ module _ {T W : Type 0} where
     registers w own task l at turned (inr (found, n)) h =
         inr (inl ((at, subst (λ (b : Bool). Turned (if b then pends_by w own else again w None task) r s) found turned), omega (arith, n)))
 
-    leaves_it : (x : Ending T) (l k : Listeners W) → (length l.told ≤ length k.told) ⊎ AnyTold false l.told → Counts (Leave x) l k
-    leaves_it x l k (inl n) h = inl (omega (arith, n))
-    leaves_it x l k (inr d) h = inr (inr d)
-
     touched_counts : (w : Work T W) (l l' : Listeners W) → Touched w r s line l l' → Counts w l l'
     touched_counts (TellReceive x) l l' (at, is) = counts_to (TellReceive x) l l' _ is (tells (TellReceive x) l _ 1 (told_one_counts key l) (ap is_receives at))
     touched_counts (TellStreams x) l l' (at, is) = counts_to (TellStreams x) l l' _ is (λ h. absurd h)
@@ -126,7 +119,7 @@ module _ {T W : Type 0} where
     touched_counts (TellAll to closer) l l' (at, is) = counts_to (TellAll to closer) l l' _ is (λ h. absurd h)
     touched_counts (Insert w task) l l' (at, own, new, is, turned) = counts_to (Insert w task) l l' _ is (λ h. inl (omega arith))
     touched_counts (Register w own task) l l' (at, is, turned) = counts_to (Register w own task) l l' _ is (registers w own task l at turned (registered_counts own task l))
-    touched_counts (Leave x) l l' (o, at, is) = counts_to (Leave x) l l' _ is (λ h. leaves_it x l (removed o.key true l) (removed_counts o.key key l h) h)
+    touched_counts (Leave x) l l' (o, at, is) = counts_to (Leave x) l l' _ is (λ h. ⊎_elim (λ n. inl (omega (arith, n))) (λ d. inr (inr d)) (removed_counts o.key key l h))
     touched_counts w l l' none = absurd none
 
     pub worked_counts : (c : Channel T W) (w : Work T W) (e : Effect T W) → Worked c w e r s → Counts w (listeners line c.roster) (listeners line e.channel.roster)

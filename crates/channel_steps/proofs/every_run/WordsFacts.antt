@@ -57,10 +57,6 @@ module _ {T W : Type 0} where
   let_in v now y a (q.ForcePush w) s ds seen one b t h = force_in now w s ds seen b h
   let_in v now y a x s ds seen one b t h = absurd cc
 
-  tries : (v : T) (now : Channel T W) (a : ChannelAsk T W) (y : Aim T W) (x : QueueAsk T) (s : queue.Stage T) (ds : List (MarkedMoment T W))
-      (seen : List (Channel T W)) → message x ≡ v ∷ [] → HasBrought s → TriesFor a y x ds seen → TriesAt now y x s ds seen → Brings v a ds
-  tries v now a y x s ds seen one b t h = (sym (brings_own a y ds seen x t) ∙ one, let_in v now y a x s ds seen one b t h)
-
   -- the queue's call has brought the message at this stage
   abbrev Brought : T → Stage (Phase T) T W → Type 0
   Brought v (Trying f y) = (message f.ask ≡ v ∷ []) × HasBrought f.stage
@@ -69,7 +65,8 @@ module _ {T W : Type 0} where
   stands_with : (v : T) (now : Channel T W)
       (a : ChannelAsk T W) (at : Stage (Phase T) T W) (ds : List (MarkedMoment T W)) (seen : List (Channel T W))
       → StageAt now a at ds seen → Brought v at → Brings v a ds × IsAtQueue at
-  stands_with v now a (Trying f y) ds seen k b = (tries v now a y f.ask f.stage ds seen b.0 b.1 k.0 k.1, tt)
+  stands_with v now a (Trying f y) ds seen k b =
+      ((sym (brings_own a y ds seen f.ask k.0) ∙ b.0, let_in v now y a f.ask f.stage ds seen b.0 b.1 k.0 k.1), tt)
   stands_with v now a x ds seen k b = absurd b
 
   nothing_told : (told : List Telling) (at : Stage (Phase T) T W) (ds : List (MarkedMoment T W)) → ToldAt told at ds → IsAtQueue at → told ≡ []

@@ -24,9 +24,6 @@ module _ {T : Type 0} where
   still_in_range q p (inl h) c e = inl (c ∙ h)
   still_in_range q p (inr h) c e = inr (omega (arith, h, e))
 
-at_asked : {T : Type 0} (q : Queue T) (f : Phase T) (a : QueueAsk T) → f ≡ asked a → Comes q q f
-at_asked {T} q f a e = subst (λ (g : Phase T). Comes q q g) (sym e) (tries_start q a)
-
 module _ {T W : Type 0} where
   -- ---- stages
 
@@ -39,7 +36,7 @@ module _ {T W : Type 0} where
   at_turn : (turn : Turn T W) (f : Phase T) (s : Stage (QueueCall T) T W) (q : Queue T)
       → Turned turn None (phase f s) → At q f s q
   at_turn (Tries a x) f s q h =
-      let t = phase_try f (asked a) x s h.1 in subst (λ (z : Stage (QueueCall T) T W). At q f z q) (sym t.1) (at_asked q f a t.2)
+      let t = phase_try f (asked a) x s h.1 in subst (λ (z : Stage (QueueCall T) T W). At q f z q) (sym t.1) (subst (λ (g : Phase T). Comes q q g) (sym t.2) (tries_start q a))
   at_turn (Works v) f s q h = subst (λ (z : Stage (QueueCall T) T W). At q f z q) (sym (phase_work f v s h.1)) refl
   at_turn (Ends x kept) f s q h = absurd (let no : (let y : Option (Reply T) = None in y) ≡ Some x = h.0 in cc)
 

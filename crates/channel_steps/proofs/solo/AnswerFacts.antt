@@ -1,5 +1,5 @@
 -- What comes after an answer of the queue to a call that is alone at work.
-use Rattle.channel_steps.proofs.solo.Words.{◌≡◌, ℕ, zero, suc, drop, ◌∷◌, ◌++◌, ◌==◌, ◌&&◌, Bool, true, false, if◌then◌else◌, List, [], Option, None, Some, Ok, Err, inl, inr, refl, sym, ap, ◌∙◌, subst, Queue, is_filled, is_full_at, QueueAsk, QueueReply, Finds, Key, kind_of, listened, TryRecvError, Reply, Aim, Closer, Line, Sends, Receives, Streams, Closings, Side, Insert, Waiting, Listeners, listeners, waits, says, line_of, ask_of, refused_next, over, sent_next, forced_next, received_next, gathered_next, short_next, several_next, send_next, receive_next, stream_next, closing_next, closed_next, asked_next, terminated_next, upgraded_next, answered_next, Gathered, with_last, Channel, listens, registers, Outcome, Where, ends, receives_by, says_only, WaitsOrGoesOn, ListensOrIsRefused, PollsFor, fresh_waits, same_line}
+use Rattle.channel_steps.proofs.solo.Words.{◌≡◌, ℕ, zero, suc, drop, ◌∷◌, ◌++◌, ◌==◌, ◌&&◌, Bool, true, false, if◌then◌else◌, List, [], Option, None, Some, Ok, Err, inl, inr, refl, sym, ap, ◌∙◌, subst, Queue, is_filled, is_full_at, QueueAsk, QueueReply, Finds, Key, kind_of, listened, TryRecvError, Reply, Aim, Line, Sends, Receives, Streams, Closings, Insert, Waiting, Listeners, listeners, waits, says, line_of, ask_of, refused_next, over, sent_next, forced_next, gathered_next, short_next, answered_next, with_last, Channel, listens, registers, Outcome, Where, ends, receives_by, says_only, WaitsOrGoesOn, ListensOrIsRefused, PollsFor, fresh_waits, same_line}
 use Rattle.std.proofs.lemmas.Bool.{not-true, not-false}
 use Rattle.std.specs.Prelude.{length, slice_get}
 use Rattle.concurrent_queue.specs.declared.call.QueueAsk.TheVariants as ask

@@ -1,5 +1,5 @@
 -- A step on a list or on a count of a call that is alone at work.
-use Rattle.channel_steps.proofs.solo.Words.{zero, suc, ◌∙◌, ◌≡◌, ℕ, ◌+◌, ◌==◌, nat_lt, Bool, true, false, if◌then◌else◌, [], Option, None, Some, inl, inr, refl, sym, ap, subst, Phase, Key, ListenError, kind_of, Reply, Closer, Ending, Held, Line, Sends, Receives, Streams, Closings, Making, Side, Stage, Turn, Tries, Works, Ends, Waiting, Work, TellReceive, TellStreams, TellSend, TellSends, TakeRoom, TellAll, Insert, Register, Leave, Lower, Count, Load, Raise, listeners, waits, count, is_raised, most, line_of, message_of, ask_of, leaving, nothing_kept, ends_by, again, pends_by, pending_reply, unlistened, closer_ending, dropper, told_all_next, room_next, roomless, lowered_next, counted_next, loaded_next, raised_next, Channel, Effect, Turned, Worked, TakesRoomFor, tells_one, tells_more, tells_all, listens, registers, leaves, lowers, raises, untouched, on_count, Outcome, Where, after_waking, answers, ends, receives_several, closes, clones}
+use Rattle.channel_steps.proofs.solo.Words.{zero, suc, ◌∙◌, ◌≡◌, ℕ, ◌+◌, ◌==◌, nat_lt, Bool, true, false, if◌then◌else◌, [], Option, None, Some, inl, inr, refl, sym, ap, subst, Phase, Key, Reply, Closer, Ending, Held, Line, Sends, Receives, Streams, Closings, Making, Side, Stage, Turn, Tries, Works, Ends, Waiting, Work, TellReceive, TellStreams, TellSend, TellSends, TakeRoom, TellAll, Insert, Register, Leave, Lower, Count, Load, Raise, listeners, waits, count, is_raised, most, line_of, message_of, ask_of, leaving, nothing_kept, ends_by, again, pends_by, pending_reply, unlistened, closer_ending, dropper, told_all_next, room_next, roomless, lowered_next, counted_next, loaded_next, raised_next, Channel, Effect, Turned, Worked, TakesRoomFor, tells_one, tells_more, tells_all, registers, leaves, lowers, raises, untouched, on_count, Outcome, Where, after_waking, answers, ends, receives_several, closes, clones}
 use Rattle.channel_calls.specs.Marks.{up}
 use Rattle.concurrent_queue.specs.declared.call.QueueAsk.TheVariants as ask
 use Rattle.channel_calls.specs.declared.reply.Reply.TheVariants as reply
@@ -21,23 +21,10 @@ module _ {T W : Type 0} where
   at_effect c w e e0 r s h b = subst (λ (x : Effect T W). Backs c w x r s) (sym h) b
 
   module _ (c : Channel T W) (r : Option (Reply T)) (s : Stage (Phase T) T W) where
-    tell_receive : (x : Ending T) → Turned (Works (TellStreams x)) r s → Backs c (TellReceive x) (tells_one Receives c) r s
-    tell_receive x h =
-        record { turn = Works (TellStreams x); turned = h; back = λ o k. ap (λ (p : Outcome T W). after_waking (tells_one Receives c).woken p) k; queue = refl }
-
     -- it tells, and then the call ends
     then_ends : (w : Work T W) (e : Effect T W) (x : Ending T) → Turned (ends_by x) r s → ((o : Outcome T W) → o ≡ ends [] x e.channel → RestWork w c (after_waking e.woken o))
         → e.channel.queue ≡ c.queue → Backs c w e r s
     then_ends w e x h back queue = record { turn = ends_by x; turned = h; back = λ o k. back o (ends_rest e.channel o x k); queue = queue }
-
-    tell_streams : (x : Ending T) → Turned (ends_by x) r s → Backs c (TellStreams x) (tells_all Streams c) r s
-    tell_streams x h = then_ends (TellStreams x) (tells_all Streams c) x h (λ o k. ap (λ (p : Outcome T W). after_waking (tells_all Streams c).woken p) k) refl
-
-    tell_send : (x : Ending T) → Turned (ends_by x) r s → Backs c (TellSend x) (tells_one Sends c) r s
-    tell_send x h = then_ends (TellSend x) (tells_one Sends c) x h (λ o k. ap (λ (p : Outcome T W). after_waking (tells_one Sends c).woken p) k) refl
-
-    tell_sends : (n : ℕ) (x : Ending T) → Turned (ends_by x) r s → Backs c (TellSends n x) (tells_more n Sends c) r s
-    tell_sends n x h = then_ends (TellSends n x) (tells_more n Sends c) x h (λ o k. ap (λ (p : Outcome T W). after_waking (tells_more n Sends c).woken p) k) refl
 
     room_back : (n : ℕ) (o : Outcome T W) → RestTurn (room_next n) c o → o ≡ receives_several n c
     room_back zero o k = k
@@ -52,13 +39,6 @@ module _ {T W : Type 0} where
         then_ends (TellAll Closings by) (tells_all Closings c) (closer_ending by true) h (λ o k. ap (λ (p : Outcome T W). after_waking (tells_all Closings c).woken p) k) refl
     tell_all line by h =
         record { turn = told_all_next line by; turned = h; back = λ o k. ap (λ (p : Outcome T W). after_waking (tells_all line c).woken p) k; queue = refl }
-
-    inserted : (w : Waiting T) (task : W) (key : Key) → kind_of (listeners (line_of w) c.roster) key ≡ None → Turned (again w (Some key) task) r s → Backs c (Insert w task) (listens (line_of w) key c) r s
-    inserted w task key none h =
-        record { turn = again w (Some key) task; turned = h; back = λ o k. inl (key, none, k); queue = refl }
-
-    not_inserted : (w : Waiting T) (task : W) (error : ListenError) → Turned (unlistened w error) r s → Backs c (Insert w task) (untouched c) r s
-    not_inserted w task error h = record { turn = unlistened w error; turned = h; back = λ o k. inr (error, k); queue = refl }
 
     registered_back : (b : Bool) (w : Waiting T) (key : Key) (task : W) (d : Channel T W) (o : Outcome T W) → RestTurn (if b then pends_by w key else again w None task) d o
         → Where b (o ≡ answers (pending_reply (line_of w)) (leaving (Some key) (message_of w)) d) (RestTry (ask_of w) (aim.Poll (line_of w) None task) d o)
@@ -159,14 +139,14 @@ module _ {T W : Type 0} where
         }
 
   pub work_backs : (c : Channel T W) (w : Work T W) (e : Effect T W) (r : Option (Reply T)) (s : Stage (Phase T) T W) → Worked c w e r s → Backs c w e r s
-  work_backs c (TellReceive x) e r s h = at_effect c _ e _ r s h.0 (tell_receive c r s x h.1)
-  work_backs c (TellStreams x) e r s h = at_effect c _ e _ r s h.0 (tell_streams c r s x h.1)
-  work_backs c (TellSend x) e r s h = at_effect c _ e _ r s h.0 (tell_send c r s x h.1)
-  work_backs c (TellSends n x) e r s h = at_effect c _ e _ r s h.0 (tell_sends c r s n x h.1)
+  work_backs c (TellReceive x) e r s h = at_effect c _ e _ r s h.0 (record { turn = Works (TellStreams x); turned = h.1; back = λ o k. ap (λ (p : Outcome T W). after_waking (tells_one Receives c).woken p) k; queue = refl })
+  work_backs c (TellStreams x) e r s h = at_effect c _ e _ r s h.0 (then_ends c r s (TellStreams x) (tells_all Streams c) x h.1 (λ o k. ap (λ (p : Outcome T W). after_waking (tells_all Streams c).woken p) k) refl)
+  work_backs c (TellSend x) e r s h = at_effect c _ e _ r s h.0 (then_ends c r s (TellSend x) (tells_one Sends c) x h.1 (λ o k. ap (λ (p : Outcome T W). after_waking (tells_one Sends c).woken p) k) refl)
+  work_backs c (TellSends n x) e r s h = at_effect c _ e _ r s h.0 (then_ends c r s (TellSends n x) (tells_more n Sends c) x h.1 (λ o k. ap (λ (p : Outcome T W). after_waking (tells_more n Sends c).woken p) k) refl)
   work_backs c (TakeRoom n) e r s h = at_effect c _ e _ r s h.0 (take_room c r s n h.1)
   work_backs c (TellAll line by) e r s h = at_effect c _ e _ r s h.0 (tell_all c r s line by h.1)
-  work_backs c (Insert w task) e r s (inl h) = at_effect c _ e _ r s h.2 (inserted c r s w task h.0 h.1 h.3)
-  work_backs c (Insert w task) e r s (inr h) = at_effect c _ e _ r s h.1 (not_inserted c r s w task h.0 h.2)
+  work_backs c (Insert w task) e r s (inl h) = at_effect c _ e _ r s h.2 (record { turn = again w (Some h.0) task; turned = h.3; back = λ o k. inl (h.0, h.1, k); queue = refl })
+  work_backs c (Insert w task) e r s (inr h) = at_effect c _ e _ r s h.1 (record { turn = unlistened w h.0; turned = h.2; back = λ o k. inr (h.0, k); queue = refl })
   work_backs c (Register w key task) e r s h = at_effect c _ e _ r s h.0 (registered c r s w key task h.1)
   work_backs c (Leave x) e r s h = at_effect c _ e _ r s h.0 (left c r s x h.1)
   work_backs c (Lower side key) e r s h = at_effect c _ e _ r s h.0 (lowered c r s side key h.1)
