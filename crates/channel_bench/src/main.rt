@@ -16,6 +16,7 @@ mod settle;
 mod several;
 mod shared;
 mod steps;
+mod wakeups;
 mod watch;
 mod waybills;
 
@@ -43,6 +44,7 @@ fn measure<R: Clock + Print + Wait + Threads + Copy + Sync + Send>(
         "several" => several::measure_several(rt, alloc),
         "shared" => shared::measure_shared(&rt, alloc),
         "steps" => steps::measure_steps(&rt, alloc),
+        "wakeups" => wakeups::measure_wakeups(rt, alloc),
         "waybills" => waybills::measure_waybills(&rt, alloc),
         _ => println!(&rt; "nothing to measure is named {word}"),
     }

@@ -1,21 +1,93 @@
-//! Calls that block their thread: rounds of polls, between which the thread sleeps.
+//! Calls that block their thread: tries, and then rounds of polls, between which the thread sleeps.
 
 ghost use Rattle.std.specs.Prelude.{◌≡◌, ◌<◌};
 ghost use Rattle.channel_wakeups.specs.Blocks.{TakenAtLast};
-ghost use Rattle.channel_wakeups.specs.Sends.{SentAtLastIn};
+ghost use Rattle.channel_wakeups.specs.Calls.{Found};
+ghost use Rattle.channel_wakeups.specs.Sends.{SentAtLastIn, SentIn};
 
 use crate::channel::{Channel, Pass, Receive, Sending};
 use crate::form::Form;
 use crate::polled::{Blocked, Offered, Polled};
 use crate::rule::Room;
-use crate::wake::Sleeps;
+use crate::wake::{Sleeps, Wake};
+use concurrent_queue::{PopError, PushError};
+use crossbeam_utils::Backoff;
 use std::sync::Wait;
 
+impl<T: Drop, W: Wake, B: Room, F: Form> Channel<T, W, B, F> {
+    /// Tries to send some times, with a pause between: a place mostly comes sooner than a listener would be in.
+    fn send_soon<R: Wait>(
+        &self,
+        rt: &R,
+        pass: &mut Pass<T, W, B>,
+        message: T,
+    ) -> Result<(), PushError<T>>
+        ensures pass { pass.new.parts ≡ pass.old.parts }
+        ensures sent { SentIn F.ends message result pass.old.log pass.new.log }
+    {
+        let mut message = message;
+        let backoff = Backoff::new();
+        for _ in rt.forever() {
+            match self.try_send(rt, pass, message) {
+                Err(PushError::Full(back)) => {
+                    if backoff.is_completed() {
+                        return Err(PushError::Full(back));
+                    }
+                    message = back;
+                }
+                over => return over,
+            }
+            backoff.snooze();
+        }
+        unreachable!()
+    }
+
+    /// Tries to receive some times, with a pause between.
+    fn receive_soon<R: Wait>(&self, rt: &R, pass: &mut Pass<T, W, B>) -> Result<T, PopError>
+        ensures pass { pass.new.parts ≡ pass.old.parts }
+        ensures found { Found result pass.old.log pass.new.log }
+    {
+        let backoff = Backoff::new();
+        for _ in rt.forever() {
+            match self.try_recv(rt, pass) {
+                Err(PopError::Empty) => {
+                    if backoff.is_completed() {
+                        return Err(PopError::Empty);
+                    }
+                }
+                over => return over,
+            }
+            backoff.snooze();
+        }
+        unreachable!()
+    }
+}
+
 impl<T: Drop, W: Sleeps, B: Room, F: Form> Channel<T, W, B, F> {
-    /// Sends the message, as soon as there is a place: each round polls the send with a task of this thread, which sleeps while the send
-    /// is pending. `Closed` hands the message back: there will be no place. So does `NoMemory`, where there was none for a listener, or no
-    /// further task. It may wait for ever.
+    /// Sends the message, as soon as there is a place. It tries some times first. Then each round polls the send with a task of this thread,
+    /// which sleeps while the send is pending. `Closed` hands the message back: there will be no place. So does `NoMemory`, where there was
+    /// none for a listener, or no further task. It may wait for ever.
     pub fn send_blocking<R: Wait>(
+        &self,
+        rt: &R,
+        pass: &mut Pass<T, W, B>,
+        message: T,
+        thread: &W,
+    ) -> Result<(), Blocked<T>>
+        requires { 1 < pass.old.parts }
+        ensures pass { pass.new.parts ≡ pass.old.parts }
+        ensures sent { SentAtLastIn F.ends message result pass.old.log pass.new.log }
+    {
+        match self.send_soon(rt, pass, message) {
+            Ok(()) => Ok(()),
+            Err(PushError::Full(back)) => self.send_by_rounds(rt, pass, back, thread),
+            Err(PushError::Closed(back)) => Err(Blocked::Closed(back)),
+            Err(PushError::NoMemory(back)) => Err(Blocked::NoMemory(back)),
+        }
+    }
+
+    /// The rounds of a send that found no place.
+    fn send_by_rounds<R: Wait>(
         &self,
         rt: &R,
         pass: &mut Pass<T, W, B>,
@@ -44,10 +116,28 @@ impl<T: Drop, W: Sleeps, B: Room, F: Form> Channel<T, W, B, F> {
         unreachable!()
     }
 
-    /// Receives a message, as soon as there is one: each round polls the receive with a task of this thread, which sleeps while the
-    /// receive is pending. `Closed` where no message is left in a closed channel. `NoMemory` where there was none for a listener, or no
-    /// further task. It may wait for ever.
+    /// Receives a message, as soon as there is one. It tries some times first. Then each round polls the receive with a task of this thread,
+    /// which sleeps while the receive is pending. `Closed` where no message is left in a closed channel. `NoMemory` where there was none for
+    /// a listener, or no further task. It may wait for ever.
     pub fn recv_blocking<R: Wait>(
+        &self,
+        rt: &R,
+        pass: &mut Pass<T, W, B>,
+        thread: &W,
+    ) -> Result<T, Blocked<()>>
+        requires { 1 < pass.old.parts }
+        ensures pass { pass.new.parts ≡ pass.old.parts }
+        ensures received { TakenAtLast result pass.old.log pass.new.log }
+    {
+        match self.receive_soon(rt, pass) {
+            Ok(message) => Ok(message),
+            Err(PopError::Empty) => self.receive_by_rounds(rt, pass, thread),
+            Err(PopError::Closed) => Err(Blocked::Closed(())),
+        }
+    }
+
+    /// The rounds of a receive that found no message.
+    fn receive_by_rounds<R: Wait>(
         &self,
         rt: &R,
         pass: &mut Pass<T, W, B>,

@@ -2,7 +2,7 @@
 
 ghost use Rattle.std.specs.Prelude.{◌≡◌, ◌⊎◌, ℕ, ◌+◌, ◌-◌, ◌/◌, ◌<◌, [], ◌++◌, true, is_some, IfOk, MatchResult};
 ghost use Rattle.atomic_table.specs.Seated.{TableId};
-ghost use Rattle.channel_wakeups.specs.Calls.{held, is_pending, is_waiting, is_watching, Closes, Hand, IsClosed, Received, Watches};
+ghost use Rattle.channel_wakeups.specs.Calls.{held, is_pending, is_waiting, is_watching, Closes, Found, Hand, IsClosed, Received, Watches};
 ghost use Rattle.channel_wakeups.specs.Counts.{IsHandle};
 ghost use Rattle.channel_wakeups.specs.Log.{each, puts, takes, Looked};
 ghost use Rattle.channel_wakeups.specs.Seats.{IsIdle, IsTicket};
@@ -23,7 +23,7 @@ use crate::telling::Desks;
 use crate::wake::Wake;
 use crate::{at_rest, displacing, gathering, offers, shutting, takes, waits};
 use atomic_table::Table;
-use concurrent_queue::{ForcePushError, PushError};
+use concurrent_queue::{ForcePushError, PopError, PushError};
 use std::alloc::{AllocError, Global};
 use std::marker::{Model, PhantomData};
 use std::sync::{Mutex, Wait};
@@ -278,6 +278,15 @@ impl<T: Drop, W: Wake, B: Room, F: Form> Channel<T, W, B, F> {
             &mut pass.seat,
             message,
         )
+    }
+
+    /// Takes the oldest message, if there is one, and wakes the first send that waits untold. `Empty` where there was none in an open channel,
+    /// `Closed` where a closed one has none left. It may wait, as `try_send` may.
+    pub fn try_recv<R: Wait>(&self, rt: &R, pass: &mut Pass<T, W, B>) -> Result<T, PopError>
+        ensures pass { pass.new.parts ≡ pass.old.parts }
+        ensures found { Found result pass.old.log pass.new.log }
+    {
+        takes::take(rt, self.form, &self.table, &self.sends, &mut pass.seat)
     }
 
     /// Puts the message into the slot, in place of the one that is there, if there is one, and wakes the first receive and all streams that

@@ -1,7 +1,7 @@
 //! Receives and streams, each with a pass that is idle before it and after it.
 
 ghost use Rattle.std.specs.Prelude.{◌≡◌, ◌+◌, ◌-◌, ◌<◌, ◌≤◌, is_some};
-ghost use Rattle.channel_wakeups.specs.Calls.{held, is_pending, Received};
+ghost use Rattle.channel_wakeups.specs.Calls.{held, is_pending, Found, Received};
 ghost use Rattle.channel_wakeups.specs.Seats.{IsCall, IsIdle};
 ghost use Rattle.channel_wakeups.specs.Views.{of};
 
@@ -11,13 +11,41 @@ use crate::desk::Desk;
 use crate::form::Form;
 use crate::place::blank;
 use crate::polled::Polled;
-use crate::rule::{Room, Sends, Taking};
+use crate::rule::{Receives, Room, Sends, Taking};
 use crate::telling::tell;
 use crate::waits::{listen, notice, take_off};
 use crate::wake::Wake;
 use concurrent_queue::PopError;
 use std::mem;
 use std::sync::{Mutex, Wait};
+
+/// Takes a message, if there is one, by a receive that does not wait.
+pub(crate) fn take<T: Drop, W: Wake, B: Room, F: Form, R: Wait>(
+    rt: &R,
+    form: F,
+    table: &SlotTable<T, W>,
+    sends: &Mutex<Desk<T, W, B, Sends>>,
+    pass: &mut Place<T, W>,
+) -> Result<T, PopError>
+    requires table { (table.now.shared.table_id ≡ B.table) × (0 < B.table.words) }
+    requires fits { F.fits form B.table }
+    requires pass { IsIdle B.table pass.old pass.old.me.0.parts }
+    ensures pass { IsIdle B.table pass.new pass.old.me.0.parts }
+    ensures found { Found result pass.old.me.0.log pass.new.me.0.log }
+{
+    let call = mem::replace(pass, blank(table));
+    let (found, call) = form.pop::<T, W, Receives, R>(rt, table, call);
+    match found {
+        Ok(message) => {
+            *pass = tell(rt, table, sends, call);
+            Ok(message)
+        }
+        Err(refused) => {
+            *pass = call;
+            Err(refused)
+        }
+    }
+}
 
 /// Tries, listens where there was nothing, and tries once more, so that no message that came meanwhile is missed.
 fn try_or_listen<T: Drop, W: Wake, B: Room, F: Form, S: Taking, R: Wait>(

@@ -32,12 +32,9 @@ fn receive_one<B: Room, F: Form, R: Wait>(
     channel: &Channel<u64, (), B, F>,
     mut pass: Pass<u64, (), B>,
 ) -> Pass<u64, (), B>
-    requires { 1 < pass.parts }
     ensures { result.parts ≡ pass.parts }
 {
-    let mut receive = Receive::new();
-    let _ = channel.poll_recv(rt, &mut pass, &mut receive, ());
-    channel.give_up_recv(rt, &mut pass, receive);
+    let _ = channel.try_recv(rt, &mut pass);
     pass
 }
 
