@@ -2,7 +2,7 @@
 use Rattle.std.specs.Prelude.{◌≡◌, ℕ, ◌<◌, List, [], ◌∷◌, ◌++◌, Option, None, Some}
 use Rattle.channel_wakeups.specs.declared.rule.View.{View}
 use Rattle.channel_wakeups.specs.declared.rule.Transfer.TheVariants.{Out, Saw}
-use Rattle.channel_wakeups.specs.declared.rule.Sight.TheVariants.{Seen, Drained}
+use Rattle.channel_wakeups.specs.declared.rule.Sight.TheVariants.{Seen, Drained, Full, Empty}
 use Rattle.channel_wakeups.specs.declared.stage.Stage.{Stage}
 use Rattle.channel_wakeups.specs.declared.stage.Stage.TheVariants.{Free, Won, Filled, Caught, Emptied, Seized}
 use Rattle.channel_wakeups.specs.Views.{won_place, no_place, no_send, won_message, no_message, no_more, stepped, Known, given}
@@ -17,7 +17,7 @@ module _ {T W : Type 0} where
   filling v = stepped 3 (won_place v.calls) v.log v
 
   abbrev pub refused : View T W → View T W
-  refused v = stepped 0 (no_place v.calls) v.log v
+  refused v = stepped 0 (no_place v.calls) (v.log ++ Saw Full ∷ []) v
 
   -- or found the channel closed, and has its listener in hand still
   abbrev pub shut_out : View T W → View T W
@@ -32,7 +32,7 @@ module _ {T W : Type 0} where
   taking k x v = stepped 1 (won_message v.calls) (v.log ++ Out k x ∷ []) v
 
   abbrev pub resting : View T W → View T W
-  resting v = stepped 0 (no_message v.calls) v.log v
+  resting v = stepped 0 (no_message v.calls) (v.log ++ Saw Empty ∷ []) v
 
   -- or found none in a closed channel, and has its listener in hand still
   abbrev pub draining : View T W → View T W
