@@ -1,5 +1,5 @@
 -- What calls that may try more than once leave in their log, try by try.
-use Rattle.std.proofs.Common.{◌⊎◌, inl, inr, ◌≡◌, List, Bool, true, false, Result, Ok, Err, sym, refl, ◌∙◌, subst}
+use Rattle.std.proofs.Common.{◌≡◌, ◌+◌, ◌≤◌, List, [], ◌∷◌, Bool, Result, Ok, Err, sym, refl, ◌∙◌, subst, arith}
 use Rattle.concurrent_queue.specs.declared.error.PopError.{PopError}
 use Rattle.concurrent_queue.specs.declared.error.PopError.TheVariants as pop_error
 use Rattle.concurrent_queue.specs.declared.error.PushError.{PushError}
@@ -10,12 +10,28 @@ use Rattle.channel_wakeups.specs.declared.polled.Offered.TheVariants as offered
 use Rattle.channel_wakeups.specs.declared.polled.Polled.TheVariants as polled
 use Rattle.channel_wakeups.specs.declared.rule.Sight.{Sight}
 use Rattle.channel_wakeups.specs.declared.rule.Sight.TheVariants.{Drained, Full, Empty}
+use Rattle.channel_wakeups.specs.declared.rule.Sight.TheVariants as sight
 use Rattle.channel_wakeups.specs.declared.rule.Transfer.{Transfer}
+use Rattle.channel_wakeups.specs.declared.rule.Transfer.TheVariants.{In, Out, Saw}
 use Rattle.channel_wakeups.specs.Blocks.{FoundSoon, TakenAtLast}
 use Rattle.channel_wakeups.specs.Calls.{Found, Received}
-use Rattle.channel_wakeups.specs.Log.{each_sight, of_drained, HasPut, HasSeen, HasTaken, Looks, AtLast, NotSeen, NotDrained}
+use Rattle.channel_wakeups.specs.Log.{each_sight, of_drained, sights, HasPut, HasSeen, HasTaken, Looks, AtLast, NotSeen, NotDrained}
 use Rattle.channel_wakeups.specs.Sends.{FoundShut, OffersIn, SentIn, SentSoonIn, SentAtLastIn}
 use Rattle.channel_wakeups.proofs.Looks.{looks_none, looks_both, looks_one, looks_more, looks_weigh, unseen_before}
+
+-- a sight of a closed channel without a message is one of a closed channel
+weighs_less : (s : Sight) → of_drained s ≤ each_sight s
+weighs_less sight.Shut = omega arith
+weighs_less sight.Ended = omega arith
+weighs_less sight.Seen = omega arith
+weighs_less sight.Drained = omega arith
+weighs_less sight.Full = omega arith
+weighs_less sight.Empty = omega arith
+weighs_less (sight.Raised k) = omega arith
+weighs_less (sight.Lowered k) = omega arith
+weighs_less (sight.Last k) = omega arith
+weighs_less (sight.Gone k) = omega arith
+weighs_less (sight.Crowded k) = omega arith
 
 module _ {T : Type 0} where
   -- a log of this has this still, where it is another's by another name
@@ -35,6 +51,12 @@ module _ {T : Type 0} where
 
   drained_before : (a b : List (Transfer T)) → Looks Empty a b → NotDrained b → NotDrained a
   drained_before a b looks some_left = sym (looks_weigh Empty of_drained refl a b looks) ∙ some_left
+
+  less_drained : (l : List (Transfer T)) → sights of_drained l ≤ sights each_sight l
+  less_drained [] = omega arith
+  less_drained (In k x ∷ l) = less_drained l
+  less_drained (Out k x ∷ l) = less_drained l
+  less_drained (Saw s ∷ l) = let a = weighs_less s in let b = less_drained l in omega arith
 
   -- ---- a poll of a send
 
@@ -61,8 +83,8 @@ module _ {T : Type 0} where
   pub ready_once : (x : T) (a b c : List (Transfer T)) → NotDrained a → HasTaken x a b → c ≡ b → Received (polled.Ready x) a c
   ready_once x a b c some_left took e = (some_left, once Empty (HasTaken x) a b c took e)
 
-  pub ready_again : (x : T) (a b c d e : List (Transfer T)) → HasSeen Empty a b → c ≡ b → NotDrained c → HasTaken x c d → e ≡ d → Received (polled.Ready x) a e
-  ready_again x a b c d e seen f some_left took g = (drained_before a c (same_looks Empty a b c (looks_one Empty a b seen) f) some_left, again Empty (HasTaken x) a b c d e seen f took g)
+  pub ready_again : (x : T) (a b c d e : List (Transfer T)) → NotSeen a → HasSeen Empty a b → c ≡ b → HasTaken x c d → e ≡ d → Received (polled.Ready x) a e
+  ready_again x a b c d e unseen seen f took g = (let less = less_drained a in omega arith, again Empty (HasTaken x) a b c d e seen f took g)
 
   pub over_once : (a b : List (Transfer T)) → HasSeen Drained a b → Received {T = T} polled.Closed a b
   over_once a b seen = once Empty (HasSeen Drained) a b b seen refl
