@@ -301,8 +301,7 @@ module _ {T W : Type 0} (table : TableId) (p : ℕ) (log : List (Transfer T)) (x
   force_unlocks : (old : Option T) (a b : SlotCells T W) (w : ℕ) → a.seat.me.1 ≡ (0, Some x) ∷ [] → Owns Filled old a → Did (bits_kept State 18446744073709551614 w) a b → Forced table p log x (reply.Force (Ok old)) b
   force_unlocks old a b w there (unseen, (tried, between, looks, took, (i, g, e))) (j, did) =
       let d = did refl (inl g) in
-      let logs = same_log a.seat.me.0 (won_place idle_lines) 3 between e in
-      (
+      let logs = same_log a.seat.me.0 (won_place idle_lines) 3 between e in (
         unseen,
         (tried, between, d.0, looks, took, subst (λ (l : List (Transfer T)). PutBefore d.0 l) logs d.1, subst (λ (l : List (Transfer T)). TookBefore d.0 l) logs d.2, (j ∙ i, d.3.0, d.3.1 ∙ (λ k. giving d.0 (there k) (e k)))),
       )

@@ -1,5 +1,5 @@
 -- What calls that may try more than once leave in their log, try by try.
-use Rattle.std.proofs.Common.{◌≡◌, ◌+◌, ◌≤◌, List, [], ◌∷◌, Bool, Result, Ok, Err, sym, refl, ◌∙◌, subst, arith}
+use Rattle.std.proofs.Common.{◌≡◌, ◌≤◌, List, [], ◌∷◌, Bool, Result, Ok, Err, sym, refl, ◌∙◌, subst, arith}
 use Rattle.concurrent_queue.specs.declared.error.PopError.{PopError}
 use Rattle.concurrent_queue.specs.declared.error.PopError.TheVariants as pop_error
 use Rattle.concurrent_queue.specs.declared.error.PushError.{PushError}
@@ -58,6 +58,9 @@ module _ {T : Type 0} where
   less_drained (Out k x ∷ l) = less_drained l
   less_drained (Saw s ∷ l) = let a = weighs_less s in let b = less_drained l in omega arith
 
+  pub unseen_undrained : (l : List (Transfer T)) → NotSeen l → NotDrained l
+  unseen_undrained l unseen = let less = less_drained l in omega arith
+
   -- ---- a poll of a send
 
   pub accepted_once : (ends : Bool) (x : T) (a b c : List (Transfer T)) → NotSeen a → HasPut x a b → c ≡ b → OffersIn ends x offered.Accepted a c
@@ -84,7 +87,7 @@ module _ {T : Type 0} where
   ready_once x a b c some_left took e = (some_left, once Empty (HasTaken x) a b c took e)
 
   pub ready_again : (x : T) (a b c d e : List (Transfer T)) → NotSeen a → HasSeen Empty a b → c ≡ b → HasTaken x c d → e ≡ d → Received (polled.Ready x) a e
-  ready_again x a b c d e unseen seen f took g = (let less = less_drained a in omega arith, again Empty (HasTaken x) a b c d e seen f took g)
+  ready_again x a b c d e unseen seen f took g = (unseen_undrained a unseen, again Empty (HasTaken x) a b c d e seen f took g)
 
   pub over_once : (a b : List (Transfer T)) → HasSeen Drained a b → Received {T = T} polled.Closed a b
   over_once a b seen = once Empty (HasSeen Drained) a b b seen refl

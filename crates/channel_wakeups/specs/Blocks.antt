@@ -1,5 +1,5 @@
 -- What calls that block their thread answer.
-use Rattle.std.specs.Prelude.{◌≡◌, List, Result, Ok, Err, false}
+use Rattle.std.specs.Prelude.{List, Result, Ok, Err, false}
 use Rattle.concurrent_queue.specs.declared.error.PopError.{PopError}
 use Rattle.concurrent_queue.specs.declared.error.PopError.TheVariants as pop_error
 use Rattle.channel_wakeups.specs.declared.polled.Blocked.{Blocked}

@@ -1,5 +1,5 @@
 -- What a push on a ring leaves of its pass. A pop, a closing and a question leave what they leave with one slot.
-use Rattle.std.specs.Prelude.{◌≡◌, ℕ, List, Bool, true, false, Ok, Err}
+use Rattle.std.specs.Prelude.{ℕ, List, Bool, true, false, Ok, Err}
 use Rattle.atomic_table.specs.declared.shared.Seat.{Seat}
 use Rattle.atomic_table.specs.Seated.{TableId}
 use Rattle.std.specs.Prelude.{Option}
