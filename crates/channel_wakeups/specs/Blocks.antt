@@ -14,7 +14,7 @@ module _ {T : Type 0} where
   abbrev pub SentAtLast : T → Result Unit (Blocked T) → List (Transfer T) → List (Transfer T) → Type 0
   SentAtLast x sent log after = SentAtLastIn false x sent log after
 
-  -- a receive that tried some times; the last try found no message, or that none will come
+  -- a receive that tried some times, and found no message each time but the last. Where it answers that there is none, it found none at that one too
   abbrev pub FoundSoon : Result T PopError → List (Transfer T) → List (Transfer T) → Type 0
   FoundSoon (Ok x) log after = NotDrained log × AtLast Empty (HasTaken x) log after
   FoundSoon (Err pop_error.Empty) log after = Looks Empty log after

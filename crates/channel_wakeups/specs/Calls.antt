@@ -110,8 +110,8 @@ module _ {T : Type 0} where
   Found (Err pop_error.Empty) log after = NotSeen log × HasSeen Empty log after
   Found (Err pop_error.Closed) log after = HasSeen Drained log after
 
-  -- the same of a poll of a receive, or of a stream, which may find no message some times before. One that found none and had no memory for
-  -- a listener found none once
+  -- the same of a poll of a receive, or of a stream, which may have found no message before. One that had no memory for a listener found
+  -- none once
   abbrev pub Received : Polled T → List (Transfer T) → List (Transfer T) → Type 0
   Received (Ready x) log after = NotDrained log × AtLast Empty (HasTaken x) log after
   Received Pending log after = Looks Empty log after

@@ -198,11 +198,11 @@ module _ {T : Type 0} where
   abbrev pub HasSeen : Sight → List (Transfer T) → List (Transfer T) → Type 0
   HasSeen s log after = after ≡ log ++ Saw s ∷ []
 
-  -- the log has grown by so many sights of this as it may be, and by nothing else: each is a try that was refused
+  -- the log has grown by sights of this alone, by some or by none: each is a try that was refused
   abbrev pub Looks : Sight → List (Transfer T) → List (Transfer T) → Type 0
   Looks s log after = (tries : List (Transfer T)) × Every (λ e. e ≡ Saw s) tries × (after ≡ log ++ tries)
 
-  -- some tries were refused, or none, and then this was so
+  -- some tries were refused, or none, and then this was done
   abbrev pub AtLast : Sight → (List (Transfer T) → List (Transfer T) → Type 0) → List (Transfer T) → List (Transfer T) → Type 0
   AtLast s did log after = (between : List (Transfer T)) × Looks s log between × did between after
 

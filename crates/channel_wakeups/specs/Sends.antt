@@ -33,15 +33,15 @@ module _ {T : Type 0} where
   DisplacedIn ends x (Err (force_error.Closed y)) log after = (y ≡ x) × AtLast Full (FoundShut ends) log after
   DisplacedIn ends x (Err (force_error.NoMemory y)) log after = ⊥
 
-  -- what a poll of a send accepted was put in; else the message is handed back, and nothing was put in. It may have found no place some
-  -- times before. One that found none and had no memory for a listener found none once
+  -- what a poll of a send accepted was put in; else the message is handed back, and nothing was put in. It may have found no place
+  -- before. One that had no memory for a listener found none once
   abbrev pub OffersIn : Bool → T → Offered T → List (Transfer T) → List (Transfer T) → Type 0
   OffersIn ends x offered.Accepted log after = NotSeen log × AtLast Full (HasPut x) log after
   OffersIn ends x (offered.Pending y) log after = (y ≡ x) × Looks Full log after
   OffersIn ends x (offered.Closed y) log after = (y ≡ x) × AtLast Full (FoundShut ends) log after
   OffersIn ends x (offered.NoMemory y) log after = (y ≡ x) × NotSeen log × HasSeen Full log after
 
-  -- a send that tried some times, with the same message; the last try was refused where the queue is full
+  -- a send that tried some times, and was refused each time but the last. Where it answers that the queue is full, that one was refused too
   abbrev pub SentSoonIn : Bool → T → Result Unit (PushError T) → List (Transfer T) → List (Transfer T) → Type 0
   SentSoonIn ends x (Ok u) log after = NotSeen log × AtLast Full (HasPut x) log after
   SentSoonIn ends x (Err (push_error.Full y)) log after = (y ≡ x) × Looks Full log after

@@ -12,7 +12,7 @@ module _ {T W : Type 0} where
   abbrev pub having : ℕ → View T W → View T W
   having n v = stepped n v.calls v.log v
 
-  -- a push won the slot, and answers for one message more; or was refused, and answers for no place any more
+  -- a push won the slot, and answers for one message more; or was refused, which its log has, and answers for no place any more
   abbrev pub filling : View T W → View T W
   filling v = stepped 3 (won_place v.calls) v.log v
 
@@ -27,7 +27,7 @@ module _ {T W : Type 0} where
   abbrev pub displacing : ℕ → T → View T W → View T W
   displacing k x v = stepped 3 (won_place v.calls) (v.log ++ Out k x ∷ []) v
 
-  -- a pop won this message, and answers for one place more; or found none, and answers for no message any more
+  -- a pop won this message, and answers for one place more; or found none, which its log has, and answers for no message any more
   abbrev pub taking : ℕ → T → View T W → View T W
   taking k x v = stepped 1 (won_message v.calls) (v.log ++ Out k x ∷ []) v
 
