@@ -13,7 +13,7 @@ use Rattle.channel_wakeups.specs.declared.rule.Line.{Line}
 use Rattle.channel_wakeups.specs.declared.rule.Lines.{Lines}
 use Rattle.channel_wakeups.specs.declared.rule.Transfer.{Transfer}
 use Rattle.channel_wakeups.specs.declared.rule.Transfer.TheVariants.{In, Out, Saw}
-use Rattle.channel_wakeups.specs.declared.rule.Sight.TheVariants.{Shut, Seen, Drained}
+use Rattle.channel_wakeups.specs.declared.rule.Sight.TheVariants.{Shut, Seen, Drained, Full, Empty}
 use Rattle.concurrent_queue.specs.declared.error.PushError.TheVariants as push_error
 use Rattle.concurrent_queue.specs.declared.error.ForcePushError.TheVariants as force_error
 use Rattle.concurrent_queue.specs.declared.error.PopError.TheVariants as pop_error
@@ -45,7 +45,8 @@ module _ {T W : Type 0} (table : TableId) where
   leaves_push : (p a h : ℕ) (log : List (Transfer T)) (x : T) (r : QueueReply T) (c : SlotCells T W) → 0 < p → Pushed table p (only_on of_sends (calling a h 0)) log x r c → IsAt c.stage c.seat.me → PushLeaves table p h log x r c.seat
   leaves_push p a h log x (reply.Push (Ok u)) c some_part (unshut, (k, put, took, left)) at =
       (over of_receives p (won_place (only_on of_sends (calling a h 0))) (log ++ In k x ∷ []) c some_part left at, unshut, (k, put, took, logged p (won_place (only_on of_sends (calling a h 0))) (log ++ In k x ∷ []) c left))
-  leaves_push p a h log x (reply.Push (Err (push_error.Full y))) c some_part (unshut, left) at = (over of_receives p idle_lines log c some_part left at, unshut, logged p idle_lines log c left)
+  leaves_push p a h log x (reply.Push (Err (push_error.Full y))) c some_part (unshut, left) at =
+      (over of_receives p idle_lines (log ++ Saw Full ∷ []) c some_part left at, unshut, logged p idle_lines (log ++ Saw Full ∷ []) c left)
   leaves_push p a h log x (reply.Push (Err (push_error.Closed y))) c some_part left at =
       (over of_sends p (only_on of_sends (calling 0 h 0)) (log ++ Saw Seen ∷ []) c some_part left at, logged p (only_on of_sends (calling 0 h 0)) (log ++ Saw Seen ∷ []) c left)
   leaves_push p a h log x (reply.Push (Err (push_error.NoMemory y))) c some_part left at = elim left [ ]
@@ -57,9 +58,10 @@ module _ {T W : Type 0} (table : TableId) where
   leaves_push p a h log x (reply.Cap y) c some_part left at = elim left [ ]
 
   leaves_force : (p : ℕ) (log : List (Transfer T)) (x : T) (r : QueueReply T) (c : SlotCells T W) → 0 < p → Forced table p log x r c → IsAt c.stage c.seat.me → ForceLeaves table p log x r c.seat
-  leaves_force p log x (reply.Force (Ok old)) c some_part (unshut, (between, k, took_old, put, took, left)) at =
-      (over of_receives p (won_place idle_lines) (between ++ In k x ∷ []) c some_part left at, unshut, (between, took_old, (k, put, took, logged p (won_place idle_lines) (between ++ In k x ∷ []) c left)))
-  leaves_force p log x (reply.Force (Err (force_error.Closed y))) c some_part left at = (over of_receives p idle_lines (log ++ Saw Seen ∷ []) c some_part left at, logged p idle_lines (log ++ Saw Seen ∷ []) c left)
+  leaves_force p log x (reply.Force (Ok old)) c some_part (unshut, (tried, between, k, looks, took_old, put, took, left)) at =
+      (over of_receives p (won_place idle_lines) (between ++ In k x ∷ []) c some_part left at, unshut, (tried, looks, (between, took_old, (k, put, took, logged p (won_place idle_lines) (between ++ In k x ∷ []) c left))))
+  leaves_force p log x (reply.Force (Err (force_error.Closed y))) c some_part (tried, looks, left) at =
+      (over of_receives p idle_lines (tried ++ Saw Seen ∷ []) c some_part left at, (tried, looks, logged p idle_lines (tried ++ Saw Seen ∷ []) c left))
   leaves_force p log x (reply.Force (Err (force_error.NoMemory y))) c some_part left at = elim left [ ]
   leaves_force p log x (reply.Push y) c some_part left at = elim left [ ]
   leaves_force p log x (reply.Pop y) c some_part left at = elim left [ ]
@@ -75,8 +77,8 @@ module _ {T W : Type 0} (table : TableId) where
       let won = subst (λ (m : Lines). IsOver table p m (log ++ Out k x ∷ []) c) t.0 left in
       (subst (λ (b : Lines). IsPass of_sends table c.seat p (calling 1 0 0) b) t.1 (over of_sends p l (log ++ Out k x ∷ []) c some_part won at), there, (k, took, logged p l (log ++ Out k x ∷ []) c won))
   leaves_pop s which p a h log (reply.Pop (Err pop_error.Empty)) c some_part (unshut, left) at =
-      let rests = subst (λ (m : Lines). IsOver table p m log c) (takes_so s a h which).2 left in
-      (over of_receives p idle_lines log c some_part rests at, unshut, logged p idle_lines log c rests)
+      let rests = subst (λ (m : Lines). IsOver table p m (log ++ Saw Empty ∷ []) c) (takes_so s a h which).2 left in
+      (over of_receives p idle_lines (log ++ Saw Empty ∷ []) c some_part rests at, unshut, logged p idle_lines (log ++ Saw Empty ∷ []) c rests)
   leaves_pop s which p a h log (reply.Pop (Err pop_error.Closed)) c some_part left at =
       let drains = subst (λ (m : Lines). IsOver table p m (log ++ Saw Drained ∷ []) c) (takes_so s a h which).3 left in
       (over_on s p (calling 0 h 0) (log ++ Saw Drained ∷ []) c some_part drains at, logged p (only_on s (calling 0 h 0)) (log ++ Saw Drained ∷ []) c drains)

@@ -2,6 +2,8 @@ pub mod Words
 pub mod Sides
 pub mod Sums
 pub mod Logs
+pub mod Looks
+pub mod Tries
 pub mod Rings
 pub mod Beside
 pub mod RingSeats

@@ -13,7 +13,7 @@ use Rattle.channel_wakeups.specs.declared.rule.Sight.{Sight}
 use Rattle.channel_wakeups.specs.declared.rule.Sight.TheVariants.{Shut, Seen, Drained}
 use Rattle.channel_wakeups.specs.Lists.{total, is_this}
 use Rattle.channel_wakeups.specs.Log.{Weight, puts, takes, sights, each, numbered, held, Once, Balanced, PutBefore, TookBefore, Closings, each_sight, of_closer, of_ended, of_drained, NotSeen, NotDrained, EndsAt}
-use Rattle.channel_wakeups.specs.Views.{pass, only, puts_of, takes_of, sights_of, messages, at_word}
+use Rattle.channel_wakeups.specs.Views.{Picture, pass, only, puts_of, takes_of, sights_of, messages, at_word}
 use Rattle.channel_wakeups.proofs.Sums.{only_some, balanced_by, was, Logs, Sights}
 
 module _ {T : Type 0} where
@@ -267,6 +267,15 @@ module _ {T W : Type 0} where
       let a = one_more p o n l i m lg some_part Seen of_closer in
       let d = one_more p o n l i m lg some_part Seen of_drained in
       (omega arith, (λ more. refl), (λ more. drained (omega arith)))
+
+  -- a pass saw what weighs nothing
+  pub sights_weightless : (q : Picture) (p o n : ℕ) (l i : Lines) (m : Rolls W) (lg : List (Transfer T)) (s : Sight) → 0 < p → of_closer s ≡ 0 → each_sight s ≡ 0 → of_drained s ≡ 0 → Sights q q (pass p o l m lg) (pass p n i m (lg ++ Saw s ∷ []))
+  sights_weightless q p o n l i m lg s some_part c e r k (one, seen, drained) =
+      let a = one_more p o n l i m lg some_part s of_closer in
+      let b = one_more p o n l i m lg some_part s each_sight in
+      let d = one_more p o n l i m lg some_part s of_drained in
+      let same : k of_closer + sights_of of_closer (pass {W = W} p n i m (lg ++ Saw s ∷ [])) ≡ k of_closer + sights_of of_closer (pass {W = W} p o l m lg) = omega arith in
+      (same ∙ one, (λ more. seen (omega arith)), (λ more. drained (omega arith)))
 
   pub sights_drained : (w p o n : ℕ) (l i : Lines) (m : Rolls W) (lg : List (Transfer T)) → 0 < p → messages w ≡ 0 → Sights (at_word w true) (at_word w true) (pass p o l m lg) (pass p n i m (lg ++ Saw Drained ∷ []))
   sights_drained w p o n l i m lg some_part none_left k (one, seen, drained) =

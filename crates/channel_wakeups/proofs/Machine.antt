@@ -26,16 +26,17 @@ use Rattle.channel_wakeups.specs.declared.rule.Lines.{Lines}
 use Rattle.channel_wakeups.specs.declared.rule.View.{View}
 use Rattle.channel_wakeups.specs.declared.rule.Transfer.{Transfer}
 use Rattle.channel_wakeups.specs.declared.rule.Transfer.TheVariants.{Out, Saw}
-use Rattle.channel_wakeups.specs.declared.rule.Sight.TheVariants.{Seen}
+use Rattle.channel_wakeups.specs.declared.rule.Sight.TheVariants.{Seen, Full}
 use Rattle.concurrent_queue.specs.declared.call.QueueMark.TheVariants as mark
 use Rattle.concurrent_queue.specs.declared.error.PushError.TheVariants as push_error
 use Rattle.concurrent_queue.specs.declared.error.ForcePushError.TheVariants as force_error
 use Rattle.concurrent_queue.specs.declared.error.PopError.TheVariants as pop_error
-use Rattle.channel_wakeups.specs.Log.{PutBefore, TookBefore, MayTake, NotSeen, NotDrained}
+use Rattle.channel_wakeups.specs.Log.{PutBefore, TookBefore, MayTake, NotSeen, NotDrained, Looks}
 use Rattle.channel_wakeups.specs.Views.{AtHome, idle_lines, pass, no_rolls, won_place, no_send, won_message}
 use Rattle.channel_wakeups.specs.SlotSteps.{noted, closer, saw_open, saw_closed}
 use Rattle.channel_wakeups.specs.Stages.{filling, displacing, taken_from, refused, shut_out, taking, resting, draining, giving}
 use Rattle.channel_wakeups.specs.Cells.{IsLeft, IsSame, HasCaught, Did, PushMissed, PopMissed, ShutBy, SeenBy, Pushed, Popped, HasClosed, HasAsked, Forced}
+use Rattle.channel_wakeups.proofs.Looks.{looks_none, looks_more, unseen_before}
 
 -- what follows a push, a pop and a closing, by the bits of the word that was found
 module _ {T : Type 0} where
@@ -201,15 +202,15 @@ module _ {T W : Type 0} (table : TableId) (p : ℕ) (log : List (Transfer T)) (x
   abbrev Knows : Stage → Lines → ℕ → List (Transfer T) → SlotCells T W → Type 0
   Knows g l n lg c = IsLeft table g (pass p n l no_rolls lg) c
 
-  -- it has nothing yet; it won the slot, with this log
+  -- it has nothing yet, and found no place some times, or none; it won the slot, with this log
   abbrev Idle : SlotCells T W → Type 0
-  Idle c = Knows Free idle_lines 0 log c
+  Idle c = (tried : List (Transfer T)) × Looks Full log tried × Knows Free idle_lines 0 tried c
 
   abbrev Seizes : SlotCells T W → Type 0
-  Seizes c = NotSeen log × ((d : T) × (k : ℕ) × TookBefore k log × (c.seat.me.1 ≡ (0, Some d) ∷ []) × Knows Seized (won_place idle_lines) 3 (log ++ Out k d ∷ []) c)
+  Seizes c = NotSeen log × ((tried : List (Transfer T)) × (d : T) × (k : ℕ) × Looks Full log tried × TookBefore k tried × (c.seat.me.1 ≡ (0, Some d) ∷ []) × Knows Seized (won_place idle_lines) 3 (tried ++ Out k d ∷ []) c)
 
   abbrev Owns : Stage → Option T → SlotCells T W → Type 0
-  Owns g old c = NotSeen log × ((between : List (Transfer T)) × MayTake old log between × Knows g (won_place idle_lines) 3 between c)
+  Owns g old c = NotSeen log × ((tried : List (Transfer T)) × (between : List (Transfer T)) × Looks Full log tried × MayTake old tried between × Knows g (won_place idle_lines) 3 between c)
 
   -- where a displacing push stands at each action
   abbrev ForceAsks : QueueAsk T → SlotCells T W → Type 0
@@ -244,7 +245,7 @@ module _ {T W : Type 0} (table : TableId) (p : ℕ) (log : List (Transfer T)) (x
 
   -- the channel was closed, whoever had the slot
   force_shut : (v : T) (n w : ℕ) (j : Bool) (b : SlotCells T W) (c : CallState T) (r : Option (QueueReply T)) → clear w 4 ≡ false → clear w 1 ≡ j → c ≡ Single (after_force v n (Err w)).action → r ≡ (after_force v n (Err w)).reply
-      → Knows Free idle_lines 0 (log ++ Saw Seen ∷ []) b → Ensues b c r
+      → (tried : List (Transfer T)) × Looks Full log tried × Knows Free idle_lines 0 (tried ++ Saw Seen ∷ []) b → Ensues b c r
   force_shut v n w j b c r e f is gives ends_so = force_found v n w false j b c r e f is gives ends_so
 
   -- it was open, and the call tries again, from the word that it found or from the same one
@@ -254,23 +255,26 @@ module _ {T W : Type 0} (table : TableId) (p : ℕ) (log : List (Transfer T)) (x
   force_again v n w false b c r from same home e f is gives at = force_found v n w true false b c r e f is gives (from, same, at)
 
   force_misses : (v : T) (n w : ℕ) (a b : SlotCells T W) (c : CallState T) (r : Option (QueueReply T)) → (n ≡ 0) ⊎ (n ≡ 2) → v ≡ x → Idle a → b.seat.table_id ≡ a.seat.table_id → PushMissed w a b → c ≡ Single (after_force v n (Err w)).action → r ≡ (after_force v n (Err w)).reply → Ensues b c r
-  force_misses v n w a b c r from same (i, g, e) j (inl (shut, s, u)) is gives = force_shut v n w (clear w 1) b c r shut refl is gives (j ∙ i, s ∙ g, u ∙ ap (λ (y : View T W). shut_out y) e)
-  force_misses v n w a b c r from same (i, g, e) j (inr (inl (unshut, full, home, unseen, s, u))) is gives =
-      force_again v n w (clear w 1) b c r from same home unshut refl is gives (j ∙ i, s ∙ g, u ∙ ap (λ (y : View T W). refused y) e)
-  force_misses v n w a b c r from same (i, g, e) j (inr (inr (unshut, empty, home, (s, u)))) is gives = force_again v n w (clear w 1) b c r from same home unshut refl is gives (j ∙ i, s ∙ g, u ∙ e)
+  force_misses v n w a b c r from same (tried, looks, (i, g, e)) j (inl (shut, s, u)) is gives = force_shut v n w (clear w 1) b c r shut refl is gives (tried, looks, (j ∙ i, s ∙ g, u ∙ ap (λ (y : View T W). shut_out y) e))
+  force_misses v n w a b c r from same (tried, looks, (i, g, e)) j (inr (inl (unshut, full, home, unseen, s, u))) is gives =
+      force_again v n w (clear w 1) b c r from same home unshut refl is gives
+      (tried ++ Saw Full ∷ [], looks_more Full log tried (tried ++ Saw Full ∷ []) looks refl, (j ∙ i, s ∙ g, u ∙ ap (λ (y : View T W). refused y) e))
+  force_misses v n w a b c r from same (tried, looks, (i, g, e)) j (inr (inr (unshut, empty, home, (s, u)))) is gives = force_again v n w (clear w 1) b c r from same home unshut refl is gives (tried, looks, (j ∙ i, s ∙ g, u ∙ e))
 
   force_empty : (v : T) (a b : SlotCells T W) (o : Result ℕ ℕ) (c : CallState T) (r : Option (QueueReply T)) → v ≡ x → Idle a → Did (exchanged State 0 3 o) a b → c ≡ Single (after_force v 0 o).action → r ≡ (after_force v 0 o).reply → Ensues b c r
-  force_empty v a b (Ok w) c r same (i, g, e) (j, did) is gives =
+  force_empty v a b (Ok w) c r same (tried, looks, (i, g, e)) (j, did) is gives =
       let d = did.0 refl refl in
-      ensues b c _ r _ is gives (same, (subst (λ (y : List (Transfer T)). NotSeen y) (same_log a.seat.me.0 idle_lines 0 log e) d.0, (log, refl, (j ∙ i, d.1.0, d.1.1 ∙ ap (λ (y : View T W). filling y) e))))
+      let unseen = unseen_before Full refl log tried looks (subst (λ (y : List (Transfer T)). NotSeen y) (same_log a.seat.me.0 idle_lines 0 tried e) d.0) in
+      ensues b c _ r _ is gives (same, (unseen, (tried, tried, looks, refl, (j ∙ i, d.1.0, d.1.1 ∙ ap (λ (y : View T W). filling y) e))))
   force_empty v a b (Err w) c r same at (j, did) is gives = force_misses v 0 w a b c r (inl refl) same at j (did.0 refl refl) is gives
 
   force_full : (v : T) (a b : SlotCells T W) (o : Result ℕ ℕ) (c : CallState T) (r : Option (QueueReply T)) → v ≡ x → Idle a → Did (exchanged State 2 3 o) a b → c ≡ Single (after_force v 2 o).action → r ≡ (after_force v 2 o).reply → Ensues b c r
-  force_full v a b (Ok w) c r same (i, g, e) (j, did) is gives =
+  force_full v a b (Ok w) c r same (tried, looks, (i, g, e)) (j, did) is gives =
       let d = did.3 refl refl in
-      let logs = same_log a.seat.me.0 idle_lines 0 log e in
+      let logs = same_log a.seat.me.0 idle_lines 0 tried e in
+      let unseen = unseen_before Full refl log tried looks (subst (λ (l : List (Transfer T)). NotSeen l) logs d.0) in
       let y = d.1 in
-      ensues b c _ r _ is gives (same, (subst (λ (l : List (Transfer T)). NotSeen l) logs d.0, (y.0, y.1, subst (λ (l : List (Transfer T)). TookBefore y.1 l) logs y.2, y.3, (j ∙ i, y.4.0, y.4.1 ∙ ap (λ (z : View T W). displacing y.1 y.0 z) e))))
+      ensues b c _ r _ is gives (same, (unseen, (tried, y.0, y.1, looks, subst (λ (l : List (Transfer T)). TookBefore y.1 l) logs y.2, y.3, (j ∙ i, y.4.0, y.4.1 ∙ ap (λ (z : View T W). displacing y.1 y.0 z) e))))
   force_full v a b (Err w) c r same at (j, did) is gives = force_misses v 2 w a b c r (inr refl) same at j (did.3 refl refl) is gives
 
   force_tries : (n : ℕ) (v : T) (a b : SlotCells T W) (o : Result ℕ ℕ) (c : CallState T) (r : Option (QueueReply T)) → (n ≡ 0) ⊎ (n ≡ 2) → v ≡ x → Idle a → Did (exchanged State n 3 o) a b → c ≡ Single (after_force v n o).action → r ≡ (after_force v n o).reply → Ensues b c r
@@ -281,24 +285,26 @@ module _ {T W : Type 0} (table : TableId) (p : ℕ) (log : List (Transfer T)) (x
 
   force_takes : (v : T) (a b : SlotCells T W) (o : Option T) (c : CallState T) (r : Option (QueueReply T)) → v ≡ x → Seizes a → Did (did_take (At 0) o) a b
       → c ≡ Single (after_take (λ d. one.ForcePut v (Some d)) (one.ForceTake v) o).action → r ≡ (after_take (λ d. one.ForcePut v (Some d)) (one.ForceTake v) o).reply → Ensues b c r
-  force_takes v a b (Some d) c r same (unseen, (y, k, before, there, (i, g, e))) (j, (was, none_there, (u, w))) is gives =
+  force_takes v a b (Some d) c r same (unseen, (tried, y, k, looks, before, there, (i, g, e))) (j, (was, none_there, (u, w))) is gives =
       let one_message : y ≡ d = only_one y d (sym there ∙ was) in
-      ensues b c _ r _ is gives (same, (unseen, (log ++ Out k d ∷ [], (k, before, refl), (j ∙ i, u ∙ ap taken_from g, w ∙ e ∙ (λ z. pass p 3 (won_place idle_lines) no_rolls (log ++ Out k (one_message z) ∷ []))))))
-  force_takes v a b None c r same (unseen, (y, k, before, there, (i, g, e))) (j, (stays_there, (u, w))) is gives =
-      ensues b c _ r _ is gives (same, (unseen, (y, k, before, stays_there ∙ there, (j ∙ i, u ∙ g, w ∙ e))))
+      ensues b c _ r _ is gives (same, (unseen, (tried, tried ++ Out k d ∷ [], looks, (k, before, refl), (j ∙ i, u ∙ ap taken_from g, w ∙ e ∙ (λ z. pass p 3 (won_place idle_lines) no_rolls (tried ++ Out k (one_message z) ∷ []))))))
+  force_takes v a b None c r same (unseen, (tried, y, k, looks, before, there, (i, g, e))) (j, (stays_there, (u, w))) is gives =
+      ensues b c _ r _ is gives (same, (unseen, (tried, y, k, looks, before, stays_there ∙ there, (j ∙ i, u ∙ g, w ∙ e))))
 
   force_puts : (v : T) (old : Option T) (a b : SlotCells T W) (o : Result Unit T) (c : CallState T) (r : Option (QueueReply T)) → v ≡ x → Owns Won old a → Did (did_put (At 0) v o) a b
       → c ≡ Single (after_put (one.ForceUnlock old) (λ w. one.ForcePut w old) o).action → r ≡ (after_put (one.ForceUnlock old) (λ w. one.ForcePut w old) o).reply → Ensues b c r
-  force_puts v old a b (Ok u) c r same (unseen, (between, took, (i, g, e))) (j, (there, (s, w))) is gives =
-      ensues b c _ r _ is gives (there ∙ (λ k. (0, Some (same k)) ∷ []), (unseen, (between, took, (j ∙ i, s, w ∙ e))))
-  force_puts v old a b (Err w) c r same (unseen, (between, took, (i, g, e))) (j, (back, (s, u))) is gives =
-      ensues b c _ r _ is gives (back ∙ same, (unseen, (between, took, (j ∙ i, s ∙ g, u ∙ e))))
+  force_puts v old a b (Ok u) c r same (unseen, (tried, between, looks, took, (i, g, e))) (j, (there, (s, w))) is gives =
+      ensues b c _ r _ is gives (there ∙ (λ k. (0, Some (same k)) ∷ []), (unseen, (tried, between, looks, took, (j ∙ i, s, w ∙ e))))
+  force_puts v old a b (Err w) c r same (unseen, (tried, between, looks, took, (i, g, e))) (j, (back, (s, u))) is gives =
+      ensues b c _ r _ is gives (back ∙ same, (unseen, (tried, between, looks, took, (j ∙ i, s ∙ g, u ∙ e))))
 
   force_unlocks : (old : Option T) (a b : SlotCells T W) (w : ℕ) → a.seat.me.1 ≡ (0, Some x) ∷ [] → Owns Filled old a → Did (bits_kept State 18446744073709551614 w) a b → Forced table p log x (reply.Force (Ok old)) b
-  force_unlocks old a b w there (unseen, (between, took, (i, g, e))) (j, did) =
+  force_unlocks old a b w there (unseen, (tried, between, looks, took, (i, g, e))) (j, did) =
       let d = did refl (inl g) in
-      let logs = same_log a.seat.me.0 (won_place idle_lines) 3 between e in
-      (unseen, (between, d.0, took, subst (λ (l : List (Transfer T)). PutBefore d.0 l) logs d.1, subst (λ (l : List (Transfer T)). TookBefore d.0 l) logs d.2, (j ∙ i, d.3.0, d.3.1 ∙ (λ k. giving d.0 (there k) (e k)))))
+      let logs = same_log a.seat.me.0 (won_place idle_lines) 3 between e in (
+        unseen,
+        (tried, between, d.0, looks, took, subst (λ (l : List (Transfer T)). PutBefore d.0 l) logs d.1, subst (λ (l : List (Transfer T)). TookBefore d.0 l) logs d.2, (j ∙ i, d.3.0, d.3.1 ∙ (λ k. giving d.0 (there k) (e k)))),
+      )
 
   force_asked : (q : QueueAsk T) → (a b : SlotCells T W) (c : CallState T) (k : QueueMark) (r : Option (QueueReply T)) → Forces (Asked q) a → StateMakes Did (Bounded 1) a (Asked q) b (record { action = c; mark = k; reply = r }) → Ensues b c r
   force_asked (ask.ForcePush v) a b c k r (eq, at) (y, (o, did, e), f) = force_tries 0 v a b o c r (inl refl) eq at did ((λ k. (f k).action) ∙ (λ k. Single (e k).action)) ((λ k. (f k).reply) ∙ (λ k. (e k).reply))
@@ -341,8 +347,8 @@ module _ {T W : Type 0} (table : TableId) (p : ℕ) (log : List (Transfer T)) (x
   force_walk zero a at b to (e, f) st = subst (λ (c : SlotCells T W). Forces to c) (sym e) (subst (λ (s : CallState T). Forces s a) (sym f) st)
   force_walk (suc n) a at b to (y, c, (k, h), path) st = force_walk n y c b to path (force_step at a y c k None st h)
 
-  pub forces : (a b : SlotCells T W) (r : QueueReply T) → Idle a → WalkedFrom Did (Bounded 1) (Asked (ask.ForcePush x)) a r b → Forced table p log x r b
-  forces a b r st (n, (d, y, z, k, path, h)) = force_step y d b z k (Some r) (force_walk n a (Asked (ask.ForcePush x)) d y path (refl, st)) h
+  pub forces : (a b : SlotCells T W) (r : QueueReply T) → Knows Free idle_lines 0 log a → WalkedFrom Did (Bounded 1) (Asked (ask.ForcePush x)) a r b → Forced table p log x r b
+  forces a b r st (n, (d, y, z, k, path, h)) = force_step y d b z k (Some r) (force_walk n a (Asked (ask.ForcePush x)) d y path (refl, (log, looks_none Full log, st))) h
 
 -- a pop whose pass has these lines and this log
 module _ {T W : Type 0} (table : TableId) (p : ℕ) (l : Lines) (log : List (Transfer T)) where

@@ -18,7 +18,7 @@ use Rattle.channel_wakeups.specs.declared.rule.View.{View}
 use Rattle.channel_wakeups.specs.declared.rule.Transfer.{Transfer}
 use Rattle.channel_wakeups.specs.declared.rule.Transfer.TheVariants.{In, Out, Saw}
 use Rattle.channel_wakeups.specs.declared.rule.Sight.{Sight}
-use Rattle.channel_wakeups.specs.declared.rule.Sight.TheVariants.{Shut, Seen, Drained}
+use Rattle.channel_wakeups.specs.declared.rule.Sight.TheVariants.{Shut, Seen, Drained, Full, Empty}
 use Rattle.channel_wakeups.specs.Lists.{total, listed}
 use Rattle.channel_wakeups.specs.Log.{Weight, puts, each, held, InHistory}
 use Rattle.channel_wakeups.specs.Sections.{Fair}
@@ -29,7 +29,7 @@ use Rattle.channel_wakeups.proofs.Rings.{seats_set}
 use Rattle.channel_wakeups.proofs.RingHistories.{same_messages, history_kept}
 use Rattle.channel_wakeups.proofs.Words.{index_same, counts_stay, word_again}
 use Rattle.channel_wakeups.proofs.Sums.{only_some, others, others_free, was, turned, law_turned, Goes, Tickets, Logs, put_else, took_else}
-use Rattle.channel_wakeups.proofs.Logs.{puts_append, same_logs, saw_logs, put_logs, take_logs, comes_next, goes_next, not_seen, not_drained, sights_stay, sights_same, moved, sights_seen, sights_drained, sights_shut}
+use Rattle.channel_wakeups.proofs.Logs.{puts_append, same_logs, saw_logs, put_logs, take_logs, comes_next, goes_next, not_seen, not_drained, sights_stay, sights_same, moved, sights_seen, sights_weightless, sights_drained, sights_shut}
 use Rattle.channel_wakeups.proofs.History.{every_append, order_stays, order_grows}
 use Rattle.channel_wakeups.proofs.Hands.{hands_with, Carries, counted_kept, carries_all, carries_same, carries_more}
 use Rattle.channel_wakeups.proofs.Sides.{of_with, roll_with, which, Untouched}
@@ -143,7 +143,7 @@ module _ {T W : Type 0} where
     push_none : (f : ℕ → ℕ) (then : ℕ → Known T W → Type 0) (n : ℕ) (slot : home.Option (Option T)) (views : List (View T W)) → get_elem? views id ≡ some (pass p 0 l m lg) → f n ≡ n → places n ≡ 0 → clear n 4 ≡ true → clear n 2 ≡ false → AtHome n → Missed then n
         → Kept n false slot views → Outcome f then (pass p 0 l m lg, []) id views n slot
     push_none f then n slot views at same none_left is_open is_full home missed k = (
-      pass p 0 (no_place l) m lg,
+      pass p 0 (no_place l) m (lg ++ Saw Full ∷ []),
       keeps,
       slot,
       n,
@@ -151,11 +151,11 @@ module _ {T W : Type 0} where
       tt,
       refl,
       same,
-      turned_kept n n false false views id p 0 0 l (no_place l) m lg lg some_part at slot slot (refl, refl, refl, refl) (λ a o z i. i) (refused_turns (messages n) (places n) (messages n) l none_left)
-          (logs_stay p 0 0 l (no_place l) m lg slot slot id views (λ n f. refl)) (order_same p 0 0 l (no_place l) m lg slot slot id views at (λ x e. e))
-          (sights_stay n n false (pass p 0 l m lg) (pass p 0 (no_place l) m lg) (λ f. refl) (λ z. z.1)) k,
-      (λ j. carries_same j p 0 0 l (no_place l) m lg refl),
-      missed (pass p 0 (no_place l) m lg, []) (inr (inl (is_open, is_full, home, not_seen views id (pass p 0 l m lg) at some_part (messages n) k.law.closings, refl))),
+      turned_kept n n false false views id p 0 0 l (no_place l) m lg (lg ++ Saw Full ∷ []) some_part at slot slot (refl, refl, refl, refl) (λ a o z i. i) (refused_turns (messages n) (places n) (messages n) l none_left)
+          (saw_logs W (put_else views id) (took_else views id) slot slot Full p 0 0 l (no_place l) m lg (λ n f. refl)) (order_saw p 0 0 l (no_place l) m lg Full slot id views at)
+          (sights_weightless (at_word n false) p 0 0 l (no_place l) m lg Full some_part refl refl refl) k,
+      (λ j. carries_more j p 0 0 l (no_place l) m lg some_part (Saw Full) refl refl refl refl refl (inl (omega arith))),
+      missed (pass p 0 (no_place l) m (lg ++ Saw Full ∷ []), []) (inr (inl (is_open, is_full, home, not_seen views id (pass p 0 l m lg) at some_part (messages n) k.law.closings, refl))),
     )
 
     -- it found the channel closed
@@ -295,7 +295,7 @@ module _ {T W : Type 0} where
     -- it found no message
     wins_none : (n : ℕ) (slot : home.Option (Option T)) (views : List (View T W)) → get_elem? views id ≡ some (pass p 0 l m lg) → swap from to n ≡ n → messages n ≡ 0 → (n ≡ from → ⊥) → clear n 2 ≡ true → clear n 4 ≡ true → Kept n false slot views → Win views n slot
     wins_none n slot views at same none_left other is_empty is_open k = (
-      pass p 0 (no_message l) m lg,
+      pass p 0 (no_message l) m (lg ++ Saw Empty ∷ []),
       keeps,
       slot,
       n,
@@ -303,10 +303,10 @@ module _ {T W : Type 0} where
       tt,
       refl,
       same,
-      turned_kept n n false false views id p 0 0 l (no_message l) m lg lg some_part at slot slot (refl, refl, refl, refl) (λ a o z i. i) (rests_turns (messages n) (places n) (messages n) l none_left)
-          (logs_stay p 0 0 l (no_message l) m lg slot slot id views (λ n f. refl)) (order_same p 0 0 l (no_message l) m lg slot slot id views at (λ x e. e))
-          (sights_stay n n false (pass p 0 l m lg) (pass p 0 (no_message l) m lg) (λ f. refl) (λ z. z.1)) k,
-      (λ j. carries_same j p 0 0 l (no_message l) m lg refl),
+      turned_kept n n false false views id p 0 0 l (no_message l) m lg (lg ++ Saw Empty ∷ []) some_part at slot slot (refl, refl, refl, refl) (λ a o z i. i) (rests_turns (messages n) (places n) (messages n) l none_left)
+          (saw_logs W (put_else views id) (took_else views id) slot slot Empty p 0 0 l (no_message l) m lg (λ n f. refl)) (order_saw p 0 0 l (no_message l) m lg Empty slot id views at)
+          (sights_weightless (at_word n false) p 0 0 l (no_message l) m lg Empty some_part refl refl refl) k,
+      (λ j. carries_more j p 0 0 l (no_message l) m lg some_part (Saw Empty) refl refl refl refl refl (inl (omega arith))),
       inr (other, inr (inl (is_empty, is_open, not_seen views id (pass p 0 l m lg) at some_part (messages n) k.law.closings, refl))),
     )
 

@@ -19,7 +19,7 @@ use Rattle.concurrent_queue.proofs.RingDenotes as denote
 use Rattle.channel_wakeups.specs.declared.rule.Kind.{Kind}
 use Rattle.channel_wakeups.specs.declared.rule.Lines.{Lines}
 use Rattle.channel_wakeups.specs.declared.rule.Rolls.{Rolls}
-use Rattle.channel_wakeups.specs.declared.rule.Sight.TheVariants.{Seen}
+use Rattle.channel_wakeups.specs.declared.rule.Sight.TheVariants.{Seen, Full}
 use Rattle.channel_wakeups.specs.declared.rule.Transfer.{Transfer}
 use Rattle.channel_wakeups.specs.declared.rule.Transfer.TheVariants.{Saw}
 use Rattle.channel_wakeups.specs.declared.rule.Turn.{Turn}
@@ -32,7 +32,7 @@ use Rattle.channel_wakeups.specs.Turns.{owed_by_turn}
 use Rattle.channel_wakeups.specs.Views.{Side, Duty, only, sights_of, pass, turning, no_place, picture, at_number, of_ring, RingCells, Ringed, Knowing, Woken, Known}
 use Rattle.channel_wakeups.proofs.Hands.{Carries, carries_same, carries_more}
 use Rattle.channel_wakeups.proofs.Laws.{Turns, SameTickets, law_kept, same_turns}
-use Rattle.channel_wakeups.proofs.Logs.{not_seen, one_more, ends_more}
+use Rattle.channel_wakeups.proofs.Logs.{not_seen, one_more, sights_weightless, ends_more}
 use Rattle.channel_wakeups.proofs.Rings.{know_at, seats_set, put_saw, took_saw}
 use Rattle.channel_wakeups.proofs.RingCells.{same_or_other, open_tail}
 use Rattle.channel_wakeups.proofs.RingHistories.{SameMessages, same_messages, saw_messages, loose_brings, history_kept}
@@ -252,10 +252,11 @@ module _ {T W : Type 0} (slots id p : ℕ) (l : Lines) (m : Rolls W) (lg : List 
         let t = denote.same_pos slots (ring_mark slots) (omega (arith, several)) (mark_is slots (omega (arith, several)) h.seats.limit) r.head c (sym h.cells.head ∙ e) in
         let late : c + slots ≤ r.tail = k.0.2.0 in
         let none_free : r.head + slots - r.tail ≡ 0 = omega arith in
-        only_looks 0 SawFull (Behind c) Rest (behind_loose slots c) (rest_loose slots) words homes r views h at (no_place l) lg (same_messages lg) (refl, refl, refl, refl)
+        only_looks 0 SawFull (Behind c) Rest (behind_loose slots c) (rest_loose slots) words homes r views h at (no_place l) (lg ++ Saw Full ∷ []) (saw_messages lg Full) (refl, refl, refl, refl)
         (λ d s. full_turns (r.tail - r.head) (r.head + slots - r.tail) (reach r - r.head) r.closed l none_free seen d s)
-        (sights_rest (of_ring slots r) (of_ring slots r) (at_turn (Behind c)) (turning Rest (pass p 0 (no_place l) m lg)) refl (λ shut z. z) (λ f. refl))
-        (λ q parts. let z = q parts in ((true, refl), z.1, z.2, z.3)) (λ q. carries_same q p 0 0 l (no_place l) m lg refl) (inl (e, refl)))
+        (sights_weightless (of_ring slots r) p 0 0 l (no_place l) m lg Full some_part refl refl refl)
+        (λ q parts. let z = q parts in ((true, refl), put_saw r.tail lg Full z.1, took_saw r.head lg Full z.2, ends_more (at_number slots r.tail) lg (Saw Full) refl z.3))
+        (λ q. carries_more q p 0 0 l (no_place l) m lg some_part (Saw Full) refl refl refl refl refl (inl (omega arith))) (inl (e, refl)))
         (λ (e : slice_index words 0 ≡ at_number slots c → ⊥).
         turns_only 0 SawFull (Behind c) Rest (behind_loose slots c) (rest_loose slots) words homes r views h at (λ q parts. let z = q parts in ((true, refl), z.1, z.2, z.3)) (inr (e, refl)))
         (same_or_other (at_number slots c) (slice_index words 0))

@@ -23,7 +23,7 @@ use Rattle.channel_wakeups.specs.declared.rule.Kind.{Kind}
 use Rattle.channel_wakeups.specs.declared.rule.Kind.TheVariants.{OfSenders, OfReceivers}
 use Rattle.channel_wakeups.specs.declared.rule.Lines.{Lines}
 use Rattle.channel_wakeups.specs.declared.rule.Rolls.{Rolls}
-use Rattle.channel_wakeups.specs.declared.rule.Sight.TheVariants.{Drained}
+use Rattle.channel_wakeups.specs.declared.rule.Sight.TheVariants.{Drained, Empty}
 use Rattle.channel_wakeups.specs.declared.rule.Transfer.{Transfer}
 use Rattle.channel_wakeups.specs.declared.rule.Transfer.TheVariants.{In, Out, Saw}
 use Rattle.channel_wakeups.specs.declared.rule.Turn.TheVariants.{Rest, Ready, Filling, Written, Vacant, Emptying}
@@ -35,7 +35,7 @@ use Rattle.channel_wakeups.specs.Turns.{phase_of, owed_by_turn}
 use Rattle.channel_wakeups.specs.Views.{only, sights_of, pass, turning, won_message, no_message, no_more, Picture, picture, at_number, of_ring, Law, RingCells, RingSeats, RingHistory, Ringed, Shown, one_slot, a_ring, Knowing, Woken, Known}
 use Rattle.channel_wakeups.proofs.Hands.{Carries, counted_kept, carries_same, carries_more}
 use Rattle.channel_wakeups.proofs.Laws.{Turns, law_kept, same_turns, rests_turns, drains_turns, no_empty}
-use Rattle.channel_wakeups.proofs.Logs.{not_seen, not_drained, one_more, moved, sights_same, ends_later, ends_more}
+use Rattle.channel_wakeups.proofs.Logs.{not_seen, not_drained, one_more, sights_weightless, moved, sights_same, ends_later, ends_more}
 use Rattle.channel_wakeups.proofs.Rings.{know_at, seats_set, put_saw, took_saw}
 use Rattle.channel_wakeups.proofs.RingCells.{same_or_other, slots_took, slots_gave, was_home, tail_written, head_written, stamp_written}
 use Rattle.channel_wakeups.proofs.RingHistories.{same_messages, saw_messages, history_stays, history_kept, history_awaits, history_leaves, history_gains, still_in_place, none_out}
@@ -260,14 +260,15 @@ module _ {T W : Type 0} (slots id p n : ℕ) (l : Lines) (m : Rolls W) (lg : Lis
 
     -- the ring is empty at this moment, and open
     finds_none : r.tail ≡ n → r.closed ≡ false → RingOutcome 48 (λ x. x) Looked (vacant, []) id words homes slots views
-    finds_none there unshut = quiet (turning Rest (pass p 0 (no_message l) m lg))
-        (seats_set slots r views id vacant (turning Rest (pass p 0 (no_message l) m lg)) at (λ d. ap (λ (k : ℕ). only p k) (rest_owes slots d ∙ sym (vacant_owes slots n d))) (λ k parts. let z = k parts in ((true, refl), z.1, z.2, z.3)) h.seats)
-        (law_kept (of_ring slots r) (of_ring slots r) views id p 0 0 (Vacant n) Rest l (no_message l) m lg lg some_part at (refl, refl, refl, refl)
+    finds_none there unshut = quiet (turning Rest (pass p 0 (no_message l) m (lg ++ Saw Empty ∷ [])))
+        (seats_set slots r views id vacant (turning Rest (pass p 0 (no_message l) m (lg ++ Saw Empty ∷ []))) at (λ d. ap (λ (k : ℕ). only p k) (rest_owes slots d ∙ sym (vacant_owes slots n d)))
+        (λ k parts. let z = k parts in ((true, refl), put_saw r.tail lg Empty z.1, took_saw r.head lg Empty z.2, ends_more (at_number slots r.tail) lg (Saw Empty) refl z.3)) h.seats)
+        (law_kept (of_ring slots r) (of_ring slots r) views id p 0 0 (Vacant n) Rest l (no_message l) m lg (lg ++ Saw Empty ∷ []) some_part at (refl, refl, refl, refl)
         (λ d s. subst (λ (b : Bool). Turns d s (picture (r.tail - r.head) (r.head + slots - r.tail) (reach r - r.head) b) (picture (r.tail - r.head) (r.head + slots - r.tail) (reach r - r.head) b) l (no_message l)) (sym unshut)
         (rests_turns (r.tail - r.head) (r.head + slots - r.tail) (reach r - r.head) l (none_there there) d s))
-        (sights_rest (of_ring slots r) (of_ring slots r) vacant (turning Rest (pass p 0 (no_message l) m lg)) refl (λ shut z. z) (λ f. refl)) h.law)
-        (history_kept slots homes r views id vacant (turning Rest (pass p 0 (no_message l) m lg)) at some_part some_part (same_messages lg) (λ k. refl) h.history)
-        (λ j. carries_same j p 0 0 l (no_message l) m lg refl)
+        (sights_weightless (of_ring slots r) p 0 0 l (no_message l) m lg Empty some_part refl refl refl) h.law)
+        (history_kept slots homes r views id vacant (turning Rest (pass p 0 (no_message l) m (lg ++ Saw Empty ∷ []))) at some_part some_part (saw_messages lg Empty) (λ k. refl) h.history)
+        (λ j. carries_more j p 0 0 l (no_message l) m lg some_part (Saw Empty) refl refl refl refl refl (inl (omega arith)))
         (inl (now_tail ∙ ap (at_number slots) there, now_shut ∙ unshut, not_seen views id vacant at some_part (reach r - r.head) (subst (λ (b : Bool). Closings b (reach r - r.head) (λ f. total (sights_of f) views)) unshut h.law.closings), refl))
 
     -- it is empty, and closed: there will be none

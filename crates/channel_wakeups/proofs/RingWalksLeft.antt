@@ -17,7 +17,7 @@ use Rattle.channel_wakeups.specs.declared.ring_stage.RingStage.{RingStage}
 use Rattle.channel_wakeups.specs.declared.ring_stage.RingStage.TheVariants as stage
 use Rattle.channel_wakeups.specs.declared.rule.Line.{Line}
 use Rattle.channel_wakeups.specs.declared.rule.Lines.{Lines}
-use Rattle.channel_wakeups.specs.declared.rule.Sight.TheVariants.{Shut, Ended, Seen, Drained}
+use Rattle.channel_wakeups.specs.declared.rule.Sight.TheVariants.{Shut, Ended, Seen, Drained, Full, Empty}
 use Rattle.channel_wakeups.specs.declared.rule.Transfer.{Transfer}
 use Rattle.channel_wakeups.specs.declared.rule.Transfer.TheVariants.{In, Out, Saw}
 use Rattle.channel_wakeups.specs.declared.rule.Turn.TheVariants as turn
@@ -60,7 +60,7 @@ module _ {T W : Type 0} (table : TableId) where
       (over of_receives false stage.Over p (won_ring_place (sending a h 0)) (log ++ In n x ∷ []) c some_part st, unseen, (n, put, taken, logged false stage.Over p (won_ring_place (sending a h 0)) (log ++ In n x ∷ []) c st))
   leaves_push p a h log x r c some_part (full unseen st) =
       subst (λ (g : RingStage). RingPushLeaves table p h log x (has_shut g) (reply.Push (Err (push_error.Full x))) c.seat) (sym st.2)
-      (over of_receives false stage.Over p idle_lines log c some_part st, unseen, logged false stage.Over p idle_lines log c st)
+      (over of_receives false stage.Over p idle_lines (log ++ Saw Full ∷ []) c some_part st, unseen, logged false stage.Over p idle_lines (log ++ Saw Full ∷ []) c st)
   leaves_push p a h log x r c some_part (closed st) =
       subst (λ (g : RingStage). RingPushLeaves table p h log x (has_shut g) (reply.Push (Err (push_error.Closed x))) c.seat) (sym st.2)
       (over of_sends false stage.Over p (only_on of_sends (calling 0 h 0)) (log ++ Saw Seen ∷ []) c some_part st, logged false stage.Over p (only_on of_sends (calling 0 h 0)) (log ++ Saw Seen ∷ []) c st)
@@ -96,8 +96,8 @@ module _ {T W : Type 0} (table : TableId) where
         (n, before, logged false stage.Over p l (log ++ Out n x ∷ []) c won),
       )
   leaves_pop s which p a h log r c some_part (none unseen st) =
-      let rests = subst (λ (m : Lines). Stands table false stage.Over (on_way turn.Rest p m log, []) c) (takes_so s a h which).2 st in
-      (over of_receives false stage.Over p idle_lines log c some_part rests, unseen, logged false stage.Over p idle_lines log c rests)
+      let rests = subst (λ (m : Lines). Stands table false stage.Over (on_way turn.Rest p m (log ++ Saw Empty ∷ []), []) c) (takes_so s a h which).2 st in
+      (over of_receives false stage.Over p idle_lines (log ++ Saw Empty ∷ []) c some_part rests, unseen, logged false stage.Over p idle_lines (log ++ Saw Empty ∷ []) c rests)
   leaves_pop s which p a h log r c some_part (drained st) =
       let drains = subst (λ (m : Lines). Stands table false stage.Over (on_way turn.Rest p m (log ++ Saw Drained ∷ []), []) c) (takes_so s a h which).3 st in
       (over_on s false stage.Over p (calling 0 h 0) (log ++ Saw Drained ∷ []) c some_part drains, logged false stage.Over p (only_on s (calling 0 h 0)) (log ++ Saw Drained ∷ []) c drains)
@@ -106,7 +106,7 @@ module _ {T W : Type 0} (table : TableId) where
   leaves_more p k log r c some_part (took {n} {x} there before st) =
       (over of_sends false stage.Over p (only_on of_sends (calling (k + 1) 0 0)) (log ++ Out n x ∷ []) c some_part st, there, (n, before, logged false stage.Over p (only_on of_sends (calling (k + 1) 0 0)) (log ++ Out n x ∷ []) c st))
   leaves_more p k log r c some_part (none unseen st) =
-      (over of_sends false stage.Over p (only_on of_sends (calling k 0 0)) log c some_part st, unseen, logged false stage.Over p (only_on of_sends (calling k 0 0)) log c st)
+      (over of_sends false stage.Over p (only_on of_sends (calling k 0 0)) (log ++ Saw Empty ∷ []) c some_part st, unseen, logged false stage.Over p (only_on of_sends (calling k 0 0)) (log ++ Saw Empty ∷ []) c st)
   leaves_more p k log r c some_part (drained st) =
       (over of_sends false stage.Over p (only_on of_sends (calling k 0 0)) (log ++ Saw Drained ∷ []) c some_part st, logged false stage.Over p (only_on of_sends (calling k 0 0)) (log ++ Saw Drained ∷ []) c st)
 

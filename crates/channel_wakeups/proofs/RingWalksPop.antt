@@ -19,7 +19,7 @@ use Rattle.concurrent_queue.proofs.RingLater.{eq_self}
 use Rattle.channel_wakeups.specs.declared.ring_cells.RingCells.{RingCells}
 use Rattle.channel_wakeups.specs.declared.ring_stage.RingStage.TheVariants as stage
 use Rattle.channel_wakeups.specs.declared.rule.Lines.{Lines}
-use Rattle.channel_wakeups.specs.declared.rule.Sight.TheVariants.{Drained}
+use Rattle.channel_wakeups.specs.declared.rule.Sight.TheVariants.{Drained, Empty}
 use Rattle.channel_wakeups.specs.declared.rule.Transfer.{Transfer}
 use Rattle.channel_wakeups.specs.declared.rule.Transfer.TheVariants.{Out, Saw}
 use Rattle.channel_wakeups.specs.declared.rule.Turn.TheVariants as turn
@@ -45,7 +45,7 @@ pub data PopAt {T W : Type 0} (table : TableId) (p : ℕ) (l : Lines) (log : Lis
 -- what it leaves at its answer: it took this message; or there was none; or there will be none
 pub data PopSays {T W : Type 0} (table : TableId) (p : ℕ) (l : Lines) (log : List (Transfer T)) : QueueReply T → RingCells T W → Type 0 where
   took : {n : ℕ} {x : T} {c : RingCells T W} → NotDrained log → TookBefore n log → Stands table false stage.Over (on_way turn.Rest p (won_message l) (log ++ Out n x ∷ []), []) c → PopSays table p l log (reply.Pop (Ok x)) c
-  none : {c : RingCells T W} → NotSeen log → Stands table false stage.Over (on_way turn.Rest p (no_message l) log, []) c → PopSays table p l log (reply.Pop (Err pop_error.Empty)) c
+  none : {c : RingCells T W} → NotSeen log → Stands table false stage.Over (on_way turn.Rest p (no_message l) (log ++ Saw Empty ∷ []), []) c → PopSays table p l log (reply.Pop (Err pop_error.Empty)) c
   drained : {c : RingCells T W} → Stands table false stage.Over (on_way turn.Rest p (no_more l) (log ++ Saw Drained ∷ []), []) c → PopSays table p l log (reply.Pop (Err pop_error.Closed)) c
 
 -- what follows a look, by what was found
@@ -85,7 +85,7 @@ module _ {T W : Type 0} (table : TableId) (several : 1 < table.slots) (limit : t
       → EndRead table.slots h w a b → s ≡ in_ring y → y ≡ end_goes (unmarked (ring_mark table.slots) w == h) (is_marked (ring_mark table.slots) w) → Next b s
   ends_at h w n a b s y st i j (inl (there, unshut, unseen, went)) f e =
       ends b s y _ f (e ∙ (λ k. end_goes ((ap (λ (v : ℕ). v == h) there ∙ eq_self h) k) (unshut k)))
-      (none (of_me table false (λ k. NotSeen k.0.log) _ _ a st unseen) (comes table false (λ k. (came turn.Rest (no_message k.0.calls) k.0.log k.0, [])) _ _ _ a b st i j went))
+      (none (of_me table false (λ k. NotSeen k.0.log) _ _ a st unseen) (comes table false (λ k. (came turn.Rest (no_message k.0.calls) (k.0.log ++ Saw Empty ∷ []) k.0, [])) _ _ _ a b st i j went))
   ends_at h w n a b s y st i j (inr (inl (there, shut, went))) f e =
       ends b s y _ f (e ∙ (λ k. end_goes ((ap (λ (v : ℕ). v == h) there ∙ eq_self h) k) (shut k)))
       (drained (comes table false (λ k. (came turn.Rest (no_more k.0.calls) (k.0.log ++ Saw Drained ∷ []) k.0, [])) _ _ _ a b st i j went))

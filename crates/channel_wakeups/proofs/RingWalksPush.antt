@@ -25,7 +25,7 @@ use Rattle.concurrent_queue.proofs.RingLater.{eq_self}
 use Rattle.channel_wakeups.specs.declared.ring_cells.RingCells.{RingCells}
 use Rattle.channel_wakeups.specs.declared.ring_stage.RingStage.TheVariants as stage
 use Rattle.channel_wakeups.specs.declared.rule.Lines.{Lines}
-use Rattle.channel_wakeups.specs.declared.rule.Sight.TheVariants.{Ended, Seen}
+use Rattle.channel_wakeups.specs.declared.rule.Sight.TheVariants.{Ended, Seen, Full}
 use Rattle.channel_wakeups.specs.declared.rule.Transfer.{Transfer}
 use Rattle.channel_wakeups.specs.declared.rule.Transfer.TheVariants.{In, Out, Saw}
 use Rattle.channel_wakeups.specs.declared.rule.Turn.TheVariants as turn
@@ -74,7 +74,7 @@ pub data PushSays {T W : Type 0} (table : TableId) (p a h : ℕ) (log : List (Tr
       → PushSays table p a h log x k (pushed_reply k) c
   replaced : {n m : ℕ} {y : T} {c : RingCells T W} → NotSeen log → TookBefore n log → PutBefore m (log ++ Out n y ∷ []) → TookBefore m (log ++ Out n y ∷ [])
       → Stands table true stage.Over (on_way turn.Rest p (won_ring_place (sending a h 0)) ((log ++ Out n y ∷ []) ++ In m x ∷ []), []) c → PushSays table p a h log x Displace (reply.Force (Ok (Some y))) c
-  full : {c : RingCells T W} → NotSeen log → Stands table false stage.Over (on_way turn.Rest p (no_place (sending a h 0)) log, []) c → PushSays table p a h log x Refuse (reply.Push (Err (push_error.Full x))) c
+  full : {c : RingCells T W} → NotSeen log → Stands table false stage.Over (on_way turn.Rest p (no_place (sending a h 0)) (log ++ Saw Full ∷ []), []) c → PushSays table p a h log x Refuse (reply.Push (Err (push_error.Full x))) c
   closed : {k : WhenFull} {c : RingCells T W} → Stands table (displaces k) stage.Over (on_way turn.Rest p (sending 0 h h) (log ++ Saw Seen ∷ []), []) c → PushSays table p a h log x k (shut_reply k x) c
   shut : {k : WhenFull} {c : RingCells T W} → NotSeen log → Stands table (displaces k) stage.Shut (on_way turn.Rest p (all_owing (no_place (sending a h 0))) (log ++ Saw Ended ∷ []), []) c → PushSays table p a h log x k (shut_reply k x) c
 
@@ -181,7 +181,7 @@ module _ {T W : Type 0} (table : TableId) (several : 1 < table.slots) (limit : t
   sees_full : (o w n : ℕ) (c b : RingCells T W) (s : CallAnswer T) (y : RingAnswer T) → NotSeen log → Stands table false (stage.Behind o) (on_way (turn.Behind n) p (sending a h 0) log, []) c → b.seat.table_id ≡ c.seat.table_id → b.displaces ≡ c.displaces
       → FullRead o w c b → s ≡ in_ring y → y ≡ full_goes x (w == o) → Next Refuse b s
   sees_full o w n c b s y unseen st i j (inl (there, went)) g e =
-      ends Refuse b s y _ g (e ∙ (λ z. full_goes x ((ap (λ (v : ℕ). v == o) there ∙ eq_self o) z))) (full unseen (comes table false (λ v. (came turn.Rest (no_place v.0.calls) v.0.log v.0, [])) _ _ _ c b st i j went))
+      ends Refuse b s y _ g (e ∙ (λ z. full_goes x ((ap (λ (v : ℕ). v == o) there ∙ eq_self o) z))) (full unseen (comes table false (λ v. (came turn.Rest (no_place v.0.calls) (v.0.log ++ Saw Full ∷ []) v.0, [])) _ _ _ c b st i j went))
   sees_full o w n c b s y unseen st i j (inr (other, went)) g e = ends Refuse b s y _ g (e ∙ (λ z. full_goes x (eq_other w o other z))) (begins (comes table false (λ v. rests v.0) _ _ _ c b st i j went))
 
   reads_full : (o n : ℕ) (c b : RingCells T W) (s : CallAnswer T) → NotSeen log → Stands table false (stage.Behind o) (on_way (turn.Behind n) p (sending a h 0) log, []) c → MakesRing RingDid table.slots c (act.PushHead x o) b s → Next Refuse b s

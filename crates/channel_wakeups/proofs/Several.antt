@@ -14,7 +14,7 @@ use Rattle.channel_wakeups.specs.declared.polled.Untaken.TheVariants as untaken
 use Rattle.channel_wakeups.specs.declared.rule.Line.{Line}
 use Rattle.channel_wakeups.specs.declared.rule.Transfer.{Transfer}
 use Rattle.channel_wakeups.specs.declared.rule.Transfer.TheVariants.{Out, Saw}
-use Rattle.channel_wakeups.specs.declared.rule.Sight.TheVariants.{Drained}
+use Rattle.channel_wakeups.specs.declared.rule.Sight.TheVariants.{Drained, Empty}
 use Rattle.channel_wakeups.specs.declared.stage.Stage.{Stage}
 use Rattle.channel_wakeups.specs.declared.stage.Stage.TheVariants.{Free}
 use Rattle.channel_wakeups.specs.Cells.{Did, IsOver, Popped}
@@ -37,9 +37,9 @@ module _ {T : Type 0} where
 
   -- where nothing was taken the answer says why
   pub none_empty : (limit n : ℕ) (xs : List T) (a b c : List (Transfer T)) → n < limit → n ≡ length xs → n ≡ 0 → TookAll xs a b → Stopped (Some pop_error.Empty) b c → NoneGathered limit untaken.Empty a c
-  none_empty limit n xs a b c less long none took (unseen, stays) =
+  none_empty limit n xs a b c less long none took (unseen, seen) =
       let same = took_none xs a b (sym long ∙ none) took in
-      (omega arith, subst (λ (l : List (Transfer T)). NotSeen l) same unseen, stays ∙ same)
+      (omega arith, subst (λ (l : List (Transfer T)). NotSeen l) same unseen, subst (λ (l : List (Transfer T)). HasSeen Empty l c) same seen)
 
   pub none_closed : (limit n : ℕ) (xs : List T) (a b c : List (Transfer T)) → n < limit → n ≡ length xs → n ≡ 0 → TookAll xs a b → Stopped (Some pop_error.Closed) b c → NoneGathered limit untaken.Closed a c
   none_closed limit n xs a b c less long none took seen =
@@ -58,7 +58,8 @@ module _ {T W : Type 0} (table : TableId) where
   leaves_more : (p k : ℕ) (log : List (Transfer T)) (r : QueueReply T) (c : SlotCells T W) → 0 < p → Popped table p (only_on of_sends (calling k 0 0)) log r c → IsAt c.stage c.seat.me → PopMoreLeaves table p k log r c.seat
   leaves_more p k log (reply.Pop (Ok x)) c some_part (there, (n, took, left)) at =
       (over p (calling (k + 1) 0 0) (log ++ Out n x ∷ []) c some_part left at, there, (n, took, logged p (calling (k + 1) 0 0) (log ++ Out n x ∷ []) c left))
-  leaves_more p k log (reply.Pop (Err pop_error.Empty)) c some_part (unshut, left) at = (over p (calling k 0 0) log c some_part left at, unshut, logged p (calling k 0 0) log c left)
+  leaves_more p k log (reply.Pop (Err pop_error.Empty)) c some_part (unshut, left) at =
+      (over p (calling k 0 0) (log ++ Saw Empty ∷ []) c some_part left at, unshut, logged p (calling k 0 0) (log ++ Saw Empty ∷ []) c left)
   leaves_more p k log (reply.Pop (Err pop_error.Closed)) c some_part left at = (over p (calling k 0 0) (log ++ Saw Drained ∷ []) c some_part left at, logged p (calling k 0 0) (log ++ Saw Drained ∷ []) c left)
   leaves_more p k log (reply.Push y) c some_part left at = elim left [ ]
   leaves_more p k log (reply.Force y) c some_part left at = elim left [ ]

@@ -10,14 +10,14 @@ use Rattle.channel_wakeups.specs.declared.polled.Polled.{Polled}
 use Rattle.channel_wakeups.specs.declared.polled.Polled.TheVariants.{Ready, Pending, Closed, NoMemory}
 use Rattle.channel_wakeups.specs.declared.rule.View.{View}
 use Rattle.channel_wakeups.specs.declared.rule.Transfer.{Transfer}
-use Rattle.channel_wakeups.specs.declared.rule.Sight.TheVariants.{Shut, Seen, Drained}
+use Rattle.channel_wakeups.specs.declared.rule.Sight.TheVariants.{Shut, Seen, Drained, Full, Empty}
 use Rattle.concurrent_queue.specs.declared.error.PopError.{PopError}
 use Rattle.concurrent_queue.specs.declared.error.PopError.TheVariants as pop_error
 use Rattle.concurrent_queue.specs.declared.error.PushError.{PushError}
 use Rattle.concurrent_queue.specs.declared.error.PushError.TheVariants as push_error
 use Rattle.concurrent_queue.specs.declared.error.ForcePushError.{ForcePushError}
 use Rattle.concurrent_queue.specs.declared.error.ForcePushError.TheVariants as force_error
-use Rattle.channel_wakeups.specs.Log.{HasPut, HasTaken, Replaces, HasSeen, NotSeen, NotDrained}
+use Rattle.channel_wakeups.specs.Log.{HasPut, HasTaken, Replaces, HasSeen, NotSeen, NotDrained, Looks, AtLast}
 use Rattle.channel_wakeups.specs.Seats.{IsCall, IsPass, IsIdle}
 use Rattle.channel_wakeups.specs.Sends.{OffersIn, SentIn, DisplacedIn}
 use Rattle.channel_wakeups.specs.declared.polled.Watched.{Watched}
@@ -62,14 +62,14 @@ module _ {T W : Type 0} where
   -- where the channel was closed, it still has this listener in hand
   abbrev pub PushLeaves : TableId → ℕ → ℕ → List (Transfer T) → T → QueueReply T → Seat (Option T) (View T W) → Type 0
   PushLeaves table parts holds log x (reply.Push (Ok u)) s = IsPass of_receives table s parts (calling 1 0 0) to_streams × NotSeen log × HasPut x log s.me.0.log
-  PushLeaves table parts holds log x (reply.Push (Err (push_error.Full y))) s = IsIdle table s parts × NotSeen log × (s.me.0.log ≡ log)
+  PushLeaves table parts holds log x (reply.Push (Err (push_error.Full y))) s = IsIdle table s parts × NotSeen log × HasSeen Full log s.me.0.log
   PushLeaves table parts holds log x (reply.Push (Err (push_error.Closed y))) s = IsCall of_sends table s parts 0 holds 0 × HasSeen Seen log s.me.0.log
   PushLeaves table parts holds log x _ s = ⊥
 
   -- a displacing push that is in answers for its message, and has to tell all streams; one that found the channel closed for nothing
   abbrev pub ForceLeaves : TableId → ℕ → List (Transfer T) → T → QueueReply T → Seat (Option T) (View T W) → Type 0
-  ForceLeaves table parts log x (reply.Force (Ok old)) s = IsPass of_receives table s parts (calling 1 0 0) to_streams × NotSeen log × Replaces old x log s.me.0.log
-  ForceLeaves table parts log x (reply.Force (Err (force_error.Closed y))) s = IsIdle table s parts × HasSeen Seen log s.me.0.log
+  ForceLeaves table parts log x (reply.Force (Ok old)) s = IsPass of_receives table s parts (calling 1 0 0) to_streams × NotSeen log × AtLast Full (Replaces old x) log s.me.0.log
+  ForceLeaves table parts log x (reply.Force (Err (force_error.Closed y))) s = IsIdle table s parts × AtLast Full (HasSeen Seen) log s.me.0.log
   ForceLeaves table parts log x _ s = ⊥
 
   -- a pop answers for the place of the message that it took, which its log has, and still has this listener of its side in hand. One that
@@ -77,7 +77,7 @@ module _ {T W : Type 0} where
   abbrev pub PopLeaves : Side → TableId → ℕ → ℕ → List (Transfer T) → QueueReply T → Seat (Option T) (View T W) → Type 0
   PopLeaves side table parts holds log (reply.Pop (Ok x)) s =
       IsPass of_sends table s parts (calling 1 0 0) (only_on side (calling 0 holds 0)) × NotDrained log × HasTaken x log s.me.0.log
-  PopLeaves side table parts holds log (reply.Pop (Err pop_error.Empty)) s = IsIdle table s parts × NotSeen log × (s.me.0.log ≡ log)
+  PopLeaves side table parts holds log (reply.Pop (Err pop_error.Empty)) s = IsIdle table s parts × NotSeen log × HasSeen Empty log s.me.0.log
   PopLeaves side table parts holds log (reply.Pop (Err pop_error.Closed)) s = IsCall side table s parts 0 holds 0 × HasSeen Drained log s.me.0.log
   PopLeaves side table parts holds log _ s = ⊥
 
@@ -104,18 +104,19 @@ module _ {T W : Type 0} where
   AskLeaves table parts holds log _ s = ⊥
 
 module _ {T : Type 0} where
-  -- what is answered was taken out, and nothing else; or none was there; or it was seen that none will come
+  -- what is answered was taken out, and nothing else; or it was seen that none was there; or that none will come
   abbrev pub Found : Result T PopError → List (Transfer T) → List (Transfer T) → Type 0
   Found (Ok x) log after = NotDrained log × HasTaken x log after
-  Found (Err pop_error.Empty) log after = NotSeen log × (after ≡ log)
+  Found (Err pop_error.Empty) log after = NotSeen log × HasSeen Empty log after
   Found (Err pop_error.Closed) log after = HasSeen Drained log after
 
-  -- the same of a poll of a receive, or of a stream
+  -- the same of a poll of a receive, or of a stream, which may have found no message before. One that had no memory for a listener found
+  -- none once
   abbrev pub Received : Polled T → List (Transfer T) → List (Transfer T) → Type 0
-  Received (Ready x) log after = NotDrained log × HasTaken x log after
-  Received Pending log after = after ≡ log
-  Received Closed log after = HasSeen Drained log after
-  Received NoMemory log after = NotSeen log × (after ≡ log)
+  Received (Ready x) log after = NotDrained log × AtLast Empty (HasTaken x) log after
+  Received Pending log after = Looks Empty log after
+  Received Closed log after = AtLast Empty (HasSeen Drained) log after
+  Received NoMemory log after = NotSeen log × HasSeen Empty log after
 
   -- a poll of a send, a push, and a displacing push, of one slot, where positions do not end
   abbrev pub Offers : T → Offered T → List (Transfer T) → List (Transfer T) → Type 0

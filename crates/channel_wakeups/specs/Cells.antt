@@ -13,11 +13,11 @@ use Rattle.channel_wakeups.specs.declared.rule.Lines.{Lines}
 use Rattle.channel_wakeups.specs.declared.rule.View.{View}
 use Rattle.channel_wakeups.specs.declared.rule.Transfer.{Transfer}
 use Rattle.channel_wakeups.specs.declared.rule.Transfer.TheVariants.{In, Out, Saw}
-use Rattle.channel_wakeups.specs.declared.rule.Sight.TheVariants.{Seen, Drained, Shut}
+use Rattle.channel_wakeups.specs.declared.rule.Sight.TheVariants.{Seen, Drained, Shut, Full, Empty}
 use Rattle.concurrent_queue.specs.declared.error.PushError.TheVariants as push_error
 use Rattle.concurrent_queue.specs.declared.error.ForcePushError.TheVariants as force_error
 use Rattle.concurrent_queue.specs.declared.error.PopError.TheVariants as pop_error
-use Rattle.channel_wakeups.specs.Log.{PutBefore, TookBefore, MayTake, NotSeen, NotDrained}
+use Rattle.channel_wakeups.specs.Log.{PutBefore, TookBefore, MayTake, NotSeen, NotDrained, Looks}
 use Rattle.channel_wakeups.specs.Views.{pass, AtHome, idle_lines, no_rolls, won_place, no_place, no_send, won_message, no_message, no_more, settled, all_owing, still_open, found_closed}
 use Rattle.channel_wakeups.specs.SlotSteps.{closer, noted, saw_open, saw_closed}
 use Rattle.channel_wakeups.specs.Stages.{filling, displacing, taken_from, refused, shut_out, taking, resting, draining, giving}
@@ -106,23 +106,23 @@ module _ {T W : Type 0} where
   -- was a moment without a free place; or found the channel closed
   abbrev pub Pushed : TableId → ℕ → Lines → List (Transfer T) → T → QueueReply T → SlotCells T W → Type 0
   Pushed table p l log x (reply.Push (Ok u)) c = NotSeen log × ((k : ℕ) × PutBefore k log × TookBefore k log × IsOver table p (won_place l) (log ++ In k x ∷ []) c)
-  Pushed table p l log x (reply.Push (Err (push_error.Full y))) c = NotSeen log × IsOver table p (no_place l) log c
+  Pushed table p l log x (reply.Push (Err (push_error.Full y))) c = NotSeen log × IsOver table p (no_place l) (log ++ Saw Full ∷ []) c
   Pushed table p l log x (reply.Push (Err (push_error.Closed y))) c = IsOver table p (no_send l) (log ++ Saw Seen ∷ []) c
   Pushed table p l log x _ c = ⊥
 
-  -- a displacing push of an idle pass has answered: it answers for its message, which it put in, and has taken out the one that stood in
-  -- its way; or found the channel closed
+  -- a displacing push of an idle pass has answered, after it found no place some times, or none: it answers for its message, which it put
+  -- in, and has taken out the one that stood in its way; or found the channel closed
   abbrev pub Forced : TableId → ℕ → List (Transfer T) → T → QueueReply T → SlotCells T W → Type 0
   Forced table p log x (reply.Force (Ok old)) c =
-      NotSeen log × ((between : List (Transfer T)) × (k : ℕ) × MayTake old log between × PutBefore k between × TookBefore k between × IsOver table p (won_place idle_lines) (between ++ In k x ∷ []) c)
-  Forced table p log x (reply.Force (Err (force_error.Closed y))) c = IsOver table p idle_lines (log ++ Saw Seen ∷ []) c
+      NotSeen log × ((tried : List (Transfer T)) × (between : List (Transfer T)) × (k : ℕ) × Looks Full log tried × MayTake old tried between × PutBefore k between × TookBefore k between × IsOver table p (won_place idle_lines) (between ++ In k x ∷ []) c)
+  Forced table p log x (reply.Force (Err (force_error.Closed y))) c = (tried : List (Transfer T)) × Looks Full log tried × IsOver table p idle_lines (tried ++ Saw Seen ∷ []) c
   Forced table p log x _ c = ⊥
 
   -- a pop has answered: it answers for the place of the message that it took; or there was a moment without a message; or there will be
   -- none
   abbrev pub Popped : TableId → ℕ → Lines → List (Transfer T) → QueueReply T → SlotCells T W → Type 0
   Popped table p l log (reply.Pop (Ok x)) c = NotDrained log × ((k : ℕ) × TookBefore k log × IsOver table p (won_message l) (log ++ Out k x ∷ []) c)
-  Popped table p l log (reply.Pop (Err pop_error.Empty)) c = NotSeen log × IsOver table p (no_message l) log c
+  Popped table p l log (reply.Pop (Err pop_error.Empty)) c = NotSeen log × IsOver table p (no_message l) (log ++ Saw Empty ∷ []) c
   Popped table p l log (reply.Pop (Err pop_error.Closed)) c = IsOver table p (no_more l) (log ++ Saw Drained ∷ []) c
   Popped table p l log _ c = ⊥
 

@@ -198,6 +198,14 @@ module _ {T : Type 0} where
   abbrev pub HasSeen : Sight → List (Transfer T) → List (Transfer T) → Type 0
   HasSeen s log after = after ≡ log ++ Saw s ∷ []
 
+  -- the log has grown by sights of this alone, by some or by none: each is a try that was refused
+  abbrev pub Looks : Sight → List (Transfer T) → List (Transfer T) → Type 0
+  Looks s log after = (tries : List (Transfer T)) × Every (λ e. e ≡ Saw s) tries × (after ≡ log ++ tries)
+
+  -- some tries were refused, or none, and then this was done
+  abbrev pub AtLast : Sight → (List (Transfer T) → List (Transfer T) → Type 0) → List (Transfer T) → List (Transfer T) → Type 0
+  AtLast s did log after = (between : List (Transfer T)) × Looks s log between × did between after
+
   -- n handles of a kind are left: there was one at first, one more for each raising, and one less for each lowering. One lowering was to
   -- none, where none is left, and no other was; whoever found none did so rightly; and where none is left the channel is closed
   abbrev pub Leaves : Bool → Kind → ℕ → List (Transfer T) → Type 0

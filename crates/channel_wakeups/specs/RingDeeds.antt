@@ -46,7 +46,7 @@ module _ {T W : Type 0} where
   -- that message is the oldest, so the ring is full; or it has left
   abbrev pub FullRead : ℕ → ℕ → RingCells T W → RingCells T W → Type 0
   FullRead c w a b =
-      ((w ≡ c) × Became Over (came turn.Rest (no_place a.seat.me.0.calls) a.seat.me.0.log a.seat.me.0, []) b) ⊎ ((w ≡ c → ⊥) × Again Pushing a b)
+      ((w ≡ c) × Became Over (came turn.Rest (no_place a.seat.me.0.calls) (a.seat.me.0.log ++ Saw saw.Full ∷ []) a.seat.me.0, []) b) ⊎ ((w ≡ c → ⊥) × Again Pushing a b)
 
   -- the push won the place, and has its slot; or the tail has moved
   abbrev pub TailMoved : ℕ → ℕ → Result ℕ ℕ → RingCells T W → RingCells T W → Type 0
@@ -99,7 +99,7 @@ module _ {T W : Type 0} where
   -- the ring is empty, and open; or empty, and closed; or the tail has moved
   abbrev pub EndRead : ℕ → ℕ → ℕ → RingCells T W → RingCells T W → Type 0
   EndRead cap h w a b =
-      ((unmarked (ring_mark cap) w ≡ h) × (is_marked (ring_mark cap) w ≡ false) × NotSeen a.seat.me.0.log × Became Over (came turn.Rest (no_message a.seat.me.0.calls) a.seat.me.0.log a.seat.me.0, []) b)
+      ((unmarked (ring_mark cap) w ≡ h) × (is_marked (ring_mark cap) w ≡ false) × NotSeen a.seat.me.0.log × Became Over (came turn.Rest (no_message a.seat.me.0.calls) (a.seat.me.0.log ++ Saw saw.Empty ∷ []) a.seat.me.0, []) b)
       ⊎ (((unmarked (ring_mark cap) w ≡ h) × (is_marked (ring_mark cap) w ≡ true) × Became Over (came turn.Rest (no_more a.seat.me.0.calls) (a.seat.me.0.log ++ Saw saw.Drained ∷ []) a.seat.me.0, []) b)
       ⊎ ((unmarked (ring_mark cap) w ≡ h → ⊥) × Again Popping a b))
 

@@ -1,5 +1,5 @@
 -- What a push on a ring leaves of its pass. A pop, a closing and a question leave what they leave with one slot.
-use Rattle.std.specs.Prelude.{◌≡◌, ℕ, List, Bool, true, false, Ok, Err}
+use Rattle.std.specs.Prelude.{ℕ, List, Bool, true, false, Ok, Err}
 use Rattle.atomic_table.specs.declared.shared.Seat.{Seat}
 use Rattle.atomic_table.specs.Seated.{TableId}
 use Rattle.std.specs.Prelude.{Option}
@@ -8,7 +8,7 @@ use Rattle.concurrent_queue.specs.declared.call.QueueReply.TheVariants as reply
 use Rattle.concurrent_queue.specs.declared.error.PushError.TheVariants as push_error
 use Rattle.concurrent_queue.specs.declared.error.ForcePushError.TheVariants as force_error
 use Rattle.channel_wakeups.specs.declared.rule.Lines.{Lines}
-use Rattle.channel_wakeups.specs.declared.rule.Sight.TheVariants.{Ended, Seen}
+use Rattle.channel_wakeups.specs.declared.rule.Sight.TheVariants.{Ended, Seen, Full}
 use Rattle.channel_wakeups.specs.declared.rule.Transfer.{Transfer}
 use Rattle.channel_wakeups.specs.declared.rule.View.{View}
 use Rattle.channel_wakeups.specs.Calls.{to_others, to_streams}
@@ -26,7 +26,7 @@ module _ {T W : Type 0} where
   -- since positions ended, it has every line in hand to tell all
   abbrev pub RingPushLeaves : TableId → ℕ → ℕ → List (Transfer T) → T → Bool → QueueReply T → Seat (Option T) (View T W) → Type 0
   RingPushLeaves table parts holds log x false (reply.Push (Ok u)) s = IsPass of_receives table s parts (calling 1 0 0) (to_streams_holding holds) × NotSeen log × HasPut x log s.me.0.log
-  RingPushLeaves table parts holds log x false (reply.Push (Err (push_error.Full y))) s = IsIdle table s parts × NotSeen log × (s.me.0.log ≡ log)
+  RingPushLeaves table parts holds log x false (reply.Push (Err (push_error.Full y))) s = IsIdle table s parts × NotSeen log × HasSeen Full log s.me.0.log
   RingPushLeaves table parts holds log x false (reply.Push (Err (push_error.Closed y))) s = IsCall of_sends table s parts 0 holds 0 × HasSeen Seen log s.me.0.log
   RingPushLeaves table parts holds log x true (reply.Push (Err (push_error.Closed y))) s = IsPass of_receives table s parts (telling 1) to_others × NotSeen log × HasSeen Ended log s.me.0.log
   RingPushLeaves table parts holds log x shut _ s = ⊥

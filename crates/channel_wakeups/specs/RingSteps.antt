@@ -6,7 +6,7 @@ use prog.Atomic.{either}
 use Rattle.atomic_table.specs.Table.{Allows, opening}
 use Rattle.concurrent_queue.specs.machine.RingWords.{ring_mark, is_marked, unmarked, stride}
 use Rattle.channel_wakeups.specs.declared.rule.Lines.{Lines}
-use Rattle.channel_wakeups.specs.declared.rule.Sight.TheVariants.{Shut, Ended, Seen, Drained}
+use Rattle.channel_wakeups.specs.declared.rule.Sight.TheVariants.{Shut, Ended, Seen, Drained, Full, Empty}
 use Rattle.channel_wakeups.specs.declared.rule.Transfer.TheVariants.{In, Out, Saw}
 use Rattle.channel_wakeups.specs.declared.rule.Turn.{Turn}
 use Rattle.channel_wakeups.specs.declared.rule.Turn.TheVariants.{Rest, Tailed, Ready, Behind, Filling, Coming, Displacing, Headed, Written, Vacant, Emptying}
@@ -89,7 +89,7 @@ module _ {T W : Type 0} where
 
   -- that message is the oldest, so the ring is full; or it has left
   abbrev pub full_read : ℕ → ℕ → View T W → ℕ → Known T W → Type 0
-  full_read slots c v found m = ((found ≡ at_number slots c) × (m ≡ (came Rest (no_place v.calls) v.log v, []))) ⊎ ((found ≡ at_number slots c → ⊥) × (m ≡ rests v))
+  full_read slots c v found m = ((found ≡ at_number slots c) × (m ≡ (came Rest (no_place v.calls) (v.log ++ Saw Full ∷ []) v, []))) ⊎ ((found ≡ at_number slots c → ⊥) × (m ≡ rests v))
 
   -- the push won the place, and has its slot; or the tail has moved
   abbrev pub tail_moved : ℕ → ℕ → View T W → ℕ → Known T W → Type 0
@@ -129,7 +129,7 @@ module _ {T W : Type 0} where
   -- the ring is empty, and open; or empty, and closed; or the tail has moved
   abbrev pub end_read : ℕ → ℕ → View T W → ℕ → Known T W → Type 0
   end_read slots n v found m =
-      ((unmarked (ring_mark slots) found ≡ at_number slots n) × (is_marked (ring_mark slots) found ≡ false) × NotSeen v.log × (m ≡ (came Rest (no_message v.calls) v.log v, [])))
+      ((unmarked (ring_mark slots) found ≡ at_number slots n) × (is_marked (ring_mark slots) found ≡ false) × NotSeen v.log × (m ≡ (came Rest (no_message v.calls) (v.log ++ Saw Empty ∷ []) v, [])))
       ⊎ (((unmarked (ring_mark slots) found ≡ at_number slots n) × (is_marked (ring_mark slots) found ≡ true) × (m ≡ (came Rest (no_more v.calls) (v.log ++ Saw Drained ∷ []) v, [])))
       ⊎ ((unmarked (ring_mark slots) found ≡ at_number slots n → ⊥) × (m ≡ rests v)))
 

@@ -3,7 +3,7 @@ use Rattle.std.specs.Prelude.{◌≡◌, ◌⊎◌, ℕ, [], ◌∷◌, ◌++◌
 use Rattle.atomic_table.specs.Table.{Step}
 use Rattle.channel_wakeups.specs.declared.rule.View.{View}
 use Rattle.channel_wakeups.specs.declared.rule.Transfer.TheVariants.{Out, Saw}
-use Rattle.channel_wakeups.specs.declared.rule.Sight.TheVariants.{Shut, Seen, Drained}
+use Rattle.channel_wakeups.specs.declared.rule.Sight.TheVariants.{Shut, Seen, Drained, Full, Empty}
 use Rattle.concurrent_queue.specs.machine.Single.{clear}
 use Rattle.channel_wakeups.specs.Log.{PutBefore, TookBefore, NotSeen, NotDrained}
 use Rattle.channel_wakeups.specs.Views.{Side, won_place, no_place, no_send, won_message, no_message, no_more, settled, all_owing, still_open, found_closed, has_message, is_shut, AtHome, given, Known, HasAll, AtRest, stepped}
@@ -13,7 +13,7 @@ module _ {T W : Type 0} where
   abbrev pub MissesPlace : Known T W → ℕ → Known T W → Type 0
   MissesPlace m found m' =
       ((clear found 4 ≡ false) × (m' ≡ (stepped 0 (no_send m.0.calls) (m.0.log ++ Saw Seen ∷ []) m.0, [])))
-      ⊎ (((clear found 4 ≡ true) × (clear found 2 ≡ false) × AtHome found × NotSeen m.0.log × (m' ≡ (stepped 0 (no_place m.0.calls) m.0.log m.0, [])))
+      ⊎ (((clear found 4 ≡ true) × (clear found 2 ≡ false) × AtHome found × NotSeen m.0.log × (m' ≡ (stepped 0 (no_place m.0.calls) (m.0.log ++ Saw Full ∷ []) m.0, [])))
       ⊎ ((clear found 4 ≡ true) × (clear found 2 ≡ true) × AtHome found × (m' ≡ m)))
 
   -- what the steps on the word tell: a push won the empty slot, and answers for a message; where there was none to win, the call may
@@ -34,7 +34,7 @@ module _ {T W : Type 0} where
   abbrev pub MissesMessage : Known T W → ℕ → Known T W → Type 0
   MissesMessage m found m' =
       ((clear found 2 ≡ false) × ((bit_and found 18446744073709551614 ≡ 2) ⊎ (bit_and found 18446744073709551614 ≡ 6)) × (m' ≡ m))
-      ⊎ (((clear found 2 ≡ true) × (clear found 4 ≡ true) × NotSeen m.0.log × (m' ≡ (stepped 0 (no_message m.0.calls) m.0.log m.0, [])))
+      ⊎ (((clear found 2 ≡ true) × (clear found 4 ≡ true) × NotSeen m.0.log × (m' ≡ (stepped 0 (no_message m.0.calls) (m.0.log ++ Saw Empty ∷ []) m.0, [])))
       ⊎ ((clear found 2 ≡ true) × (clear found 4 ≡ false) × (m' ≡ (stepped 0 (no_more m.0.calls) (m.0.log ++ Saw Drained ∷ []) m.0, []))))
 
   -- the message is in the slot that was won from this word, and the call answers for a place, and has its listener in hand still

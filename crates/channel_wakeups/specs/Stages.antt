@@ -2,7 +2,7 @@
 use Rattle.std.specs.Prelude.{◌≡◌, ℕ, ◌<◌, List, [], ◌∷◌, ◌++◌, Option, None, Some}
 use Rattle.channel_wakeups.specs.declared.rule.View.{View}
 use Rattle.channel_wakeups.specs.declared.rule.Transfer.TheVariants.{Out, Saw}
-use Rattle.channel_wakeups.specs.declared.rule.Sight.TheVariants.{Seen, Drained}
+use Rattle.channel_wakeups.specs.declared.rule.Sight.TheVariants.{Seen, Drained, Full, Empty}
 use Rattle.channel_wakeups.specs.declared.stage.Stage.{Stage}
 use Rattle.channel_wakeups.specs.declared.stage.Stage.TheVariants.{Free, Won, Filled, Caught, Emptied, Seized}
 use Rattle.channel_wakeups.specs.Views.{won_place, no_place, no_send, won_message, no_message, no_more, stepped, Known, given}
@@ -12,12 +12,12 @@ module _ {T W : Type 0} where
   abbrev pub having : ℕ → View T W → View T W
   having n v = stepped n v.calls v.log v
 
-  -- a push won the slot, and answers for one message more; or was refused, and answers for no place any more
+  -- a push won the slot, and answers for one message more; or was refused, which its log has, and answers for no place any more
   abbrev pub filling : View T W → View T W
   filling v = stepped 3 (won_place v.calls) v.log v
 
   abbrev pub refused : View T W → View T W
-  refused v = stepped 0 (no_place v.calls) v.log v
+  refused v = stepped 0 (no_place v.calls) (v.log ++ Saw Full ∷ []) v
 
   -- or found the channel closed, and has its listener in hand still
   abbrev pub shut_out : View T W → View T W
@@ -27,12 +27,12 @@ module _ {T W : Type 0} where
   abbrev pub displacing : ℕ → T → View T W → View T W
   displacing k x v = stepped 3 (won_place v.calls) (v.log ++ Out k x ∷ []) v
 
-  -- a pop won this message, and answers for one place more; or found none, and answers for no message any more
+  -- a pop won this message, and answers for one place more; or found none, which its log has, and answers for no message any more
   abbrev pub taking : ℕ → T → View T W → View T W
   taking k x v = stepped 1 (won_message v.calls) (v.log ++ Out k x ∷ []) v
 
   abbrev pub resting : View T W → View T W
-  resting v = stepped 0 (no_message v.calls) v.log v
+  resting v = stepped 0 (no_message v.calls) (v.log ++ Saw Empty ∷ []) v
 
   -- or found none in a closed channel, and has its listener in hand still
   abbrev pub draining : View T W → View T W

@@ -1,9 +1,8 @@
 //! Calls that block their thread: tries, and then rounds of polls, between which the thread sleeps.
 
 ghost use Rattle.std.specs.Prelude.{◌≡◌, ◌<◌};
-ghost use Rattle.channel_wakeups.specs.Blocks.{TakenAtLast};
-ghost use Rattle.channel_wakeups.specs.Calls.{Found};
-ghost use Rattle.channel_wakeups.specs.Sends.{SentAtLastIn, SentIn};
+ghost use Rattle.channel_wakeups.specs.Blocks.{FoundSoon, TakenAtLast};
+ghost use Rattle.channel_wakeups.specs.Sends.{SentAtLastIn, SentSoonIn};
 
 use crate::channel::{Channel, Pass, Receive, Sending};
 use crate::form::Form;
@@ -16,6 +15,7 @@ use std::sync::Wait;
 
 impl<T: Drop, W: Wake, B: Room, F: Form> Channel<T, W, B, F> {
     /// Tries to send some times, with a pause between: a place mostly comes sooner than a listener would be in.
+    #[tactic(auto, using(crate::proofs::Looks::looks_none, crate::proofs::Tries::sent_soon))]
     fn send_soon<R: Wait>(
         &self,
         rt: &R,
@@ -23,7 +23,7 @@ impl<T: Drop, W: Wake, B: Room, F: Form> Channel<T, W, B, F> {
         message: T,
     ) -> Result<(), PushError<T>>
         ensures pass { pass.new.parts ≡ pass.old.parts }
-        ensures sent { SentIn F.ends message result pass.old.log pass.new.log }
+        ensures sent { SentSoonIn F.ends message result pass.old.log pass.new.log }
     {
         let mut message = message;
         let backoff = Backoff::new();
@@ -43,9 +43,10 @@ impl<T: Drop, W: Wake, B: Room, F: Form> Channel<T, W, B, F> {
     }
 
     /// Tries to receive some times, with a pause between.
+    #[tactic(auto, using(crate::proofs::Looks::looks_none, crate::proofs::Tries::found_soon))]
     fn receive_soon<R: Wait>(&self, rt: &R, pass: &mut Pass<T, W, B>) -> Result<T, PopError>
         ensures pass { pass.new.parts ≡ pass.old.parts }
-        ensures found { Found result pass.old.log pass.new.log }
+        ensures found { FoundSoon result pass.old.log pass.new.log }
     {
         let backoff = Backoff::new();
         for _ in rt.forever() {
@@ -67,6 +68,7 @@ impl<T: Drop, W: Sleeps, B: Room, F: Form> Channel<T, W, B, F> {
     /// Sends the message, as soon as there is a place. It tries some times first. Then each round polls the send with a task of this thread,
     /// which sleeps while the send is pending. `Closed` hands the message back: there will be no place. So does `NoMemory`, where there was
     /// none for a listener, or no further task. It may wait for ever.
+    #[tactic(auto, using(crate::proofs::Tries::sent_later))]
     pub fn send_blocking<R: Wait>(
         &self,
         rt: &R,
@@ -87,6 +89,7 @@ impl<T: Drop, W: Sleeps, B: Room, F: Form> Channel<T, W, B, F> {
     }
 
     /// The rounds of a send that found no place.
+    #[tactic(auto, using(crate::proofs::Looks::looks_none, crate::proofs::Looks::looks_both, crate::proofs::Tries::sent_later))]
     fn send_by_rounds<R: Wait>(
         &self,
         rt: &R,
@@ -119,6 +122,7 @@ impl<T: Drop, W: Sleeps, B: Room, F: Form> Channel<T, W, B, F> {
     /// Receives a message, as soon as there is one. It tries some times first. Then each round polls the receive with a task of this thread,
     /// which sleeps while the receive is pending. `Closed` where no message is left in a closed channel. `NoMemory` where there was none for
     /// a listener, or no further task. It may wait for ever.
+    #[tactic(auto, using(crate::proofs::Tries::taken_later))]
     pub fn recv_blocking<R: Wait>(
         &self,
         rt: &R,
@@ -137,6 +141,7 @@ impl<T: Drop, W: Sleeps, B: Room, F: Form> Channel<T, W, B, F> {
     }
 
     /// The rounds of a receive that found no message.
+    #[tactic(auto, using(crate::proofs::Looks::looks_none, crate::proofs::Looks::looks_both, crate::proofs::Tries::taken_later))]
     fn receive_by_rounds<R: Wait>(
         &self,
         rt: &R,

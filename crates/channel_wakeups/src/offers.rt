@@ -52,6 +52,7 @@ pub(crate) fn send<T: Drop, W: Wake, B: Room, F: Form, R: Wait>(
 }
 
 /// Tries to put the message in, listens where there was no place, and tries once more, so that no place that came meanwhile is missed.
+#[tactic(auto, using(crate::proofs::Tries::accepted_once, crate::proofs::Tries::accepted_again, crate::proofs::Tries::refused_once, crate::proofs::Tries::refused_again, crate::proofs::Tries::waits_again))]
 fn put_or_listen<T: Drop, W: Wake, B: Room, F: Form, R: Wait>(
     rt: &R,
     form: F,
@@ -107,6 +108,7 @@ fn put_or_listen<T: Drop, W: Wake, B: Room, F: Form, R: Wait>(
     }
 }
 
+#[tactic(auto, using(crate::proofs::Tries::waits_on))]
 pub(crate) fn offer<T: Drop, W: Wake, B: Room, F: Form, R: Wait>(
     rt: &R,
     form: F,

@@ -156,13 +156,15 @@ impl<W> Aim<W> for Brand {
 }
 
 /// What a pass saw of the closing: its own call closed the channel, or closed it since the positions of a ring ended, or found it closed, or
-/// found it closed and without a message. And what it did to a count of handles: it raised it, or lowered it, or lowered it to none; or it
-/// found none, or too many.
+/// found it closed and without a message. Or it saw that an open channel had no free place, or no message. And what it did to a count of
+/// handles: it raised it, or lowered it, or lowered it to none; or it found none, or too many.
 pub enum Sight {
     Shut,
     Ended,
     Seen,
     Drained,
+    Full,
+    Empty,
     Raised(Kind),
     Lowered(Kind),
     Last(Kind),
@@ -170,7 +172,8 @@ pub enum Sight {
     Crowded(Kind),
 }
 
-/// What was done with a pass: a message was put in or taken out, under its number, or something was seen of the closing.
+/// What was done with a pass: a message was put in or taken out, under its number, or something was seen of the closing, of places, or of
+/// messages.
 pub enum Transfer<T> {
     In(u64, T),
     Out(u64, T),

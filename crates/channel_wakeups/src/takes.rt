@@ -48,6 +48,7 @@ pub(crate) fn take<T: Drop, W: Wake, B: Room, F: Form, R: Wait>(
 }
 
 /// Tries, listens where there was nothing, and tries once more, so that no message that came meanwhile is missed.
+#[tactic(auto, using(crate::proofs::Tries::ready_once, crate::proofs::Tries::ready_again, crate::proofs::Tries::unseen_undrained, crate::proofs::Tries::over_once, crate::proofs::Tries::over_again, crate::proofs::Tries::waits_again))]
 fn try_or_listen<T: Drop, W: Wake, B: Room, F: Form, S: Taking, R: Wait>(
     rt: &R,
     form: F,
@@ -100,6 +101,7 @@ fn try_or_listen<T: Drop, W: Wake, B: Room, F: Form, S: Taking, R: Wait>(
 }
 
 /// Polls one who takes messages: a receive, or a stream.
+#[tactic(auto, using(crate::proofs::Tries::waits_on))]
 pub(crate) fn poll<T: Drop, W: Wake, B: Room, F: Form, S: Taking, R: Wait>(
     rt: &R,
     form: F,
