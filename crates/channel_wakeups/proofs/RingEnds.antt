@@ -15,7 +15,7 @@ use Rattle.channel_wakeups.specs.declared.rule.Kind.{Kind}
 use Rattle.channel_wakeups.specs.declared.rule.Kind.TheVariants.{OfSenders, OfReceivers}
 use Rattle.channel_wakeups.specs.declared.rule.Lines.{Lines}
 use Rattle.channel_wakeups.specs.declared.rule.Rolls.{Rolls}
-use Rattle.channel_wakeups.specs.declared.rule.Sight.TheVariants.{Ended, Seen, Shut}
+use Rattle.channel_wakeups.specs.declared.rule.Sight.TheVariants.{Ended, Seen}
 use Rattle.channel_wakeups.specs.declared.rule.Transfer.{Transfer}
 use Rattle.channel_wakeups.specs.declared.rule.Transfer.TheVariants.{Saw}
 use Rattle.channel_wakeups.specs.declared.rule.Turn.{Turn}

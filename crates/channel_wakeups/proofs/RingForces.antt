@@ -31,7 +31,7 @@ use Rattle.channel_wakeups.specs.Lists.{total}
 use Rattle.channel_wakeups.specs.Log.{PutBefore, TookBefore, EndsAt, Closings, of_closer, of_drained}
 use Rattle.channel_wakeups.specs.RingSteps.{won_ring_place, making_room, mark_set, oldest_won, tail_passed, message_stored, moved_on}
 use Rattle.channel_wakeups.specs.Turns.{action_of, phase_of, owed_by_turn}
-use Rattle.channel_wakeups.specs.Views.{Duty, count_of, settled, all_owing, only, sights_of, pass, turning, Picture, picture, at_number, of_ring, Law, RingCells, RingSeats, Ringed, Woken, Known, RingHistory}
+use Rattle.channel_wakeups.specs.Views.{count_of, settled, all_owing, only, sights_of, pass, turning, Picture, picture, at_number, of_ring, Law, RingCells, RingSeats, Ringed, Woken, Known, RingHistory}
 use Rattle.channel_wakeups.proofs.Hands.{carries_same, carries_more}
 use Rattle.channel_wakeups.proofs.Laws.{Turns, law_kept, same_turns, shuts_turns, settles}
 use Rattle.channel_wakeups.proofs.Logs.{not_seen, one_more, moved, sights_same, ends_later, ends_more}

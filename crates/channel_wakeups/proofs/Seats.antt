@@ -13,9 +13,9 @@ use Rattle.channel_wakeups.specs.declared.rule.Roll.{Roll}
 use Rattle.channel_wakeups.specs.declared.rule.Rolls.{Rolls}
 use Rattle.channel_wakeups.specs.declared.rule.View.{View}
 use Rattle.channel_wakeups.specs.Lists.{total, told, waits, listed}
-use Rattle.channel_wakeups.specs.Views.{in_hand, at_number, Picture, at_word, Law, one_slot, Knowing, AllKnow, owes_of, Side, of_receives, of_sends, of_streams, of_closings, Duty, to_one, to_all, of, roll, idle, idle_lines, no_roll, no_rolls, with_roll, calling, ticketed, nobody, pass, everything, entered, stays, comes_out, without, alone, absorbed, kept_half, given_half, one_ticket, ticket_is, no_ticket, ticket_of, with_ticket, only, is_key, parts_of, here_of, answered_of, holds_of, sights_of, locks_of, owns_of, waits_of, listed_of, tickets_of, puts_of, takes_of, wanted, Owed, empty, out, Ordered, Kept, Counted, handed, count_of, handles_of, closes_of, Woken, AllLogs, brings_of}
+use Rattle.channel_wakeups.specs.Views.{in_hand, at_number, Picture, at_word, Law, one_slot, Knowing, AllKnow, owes_of, Side, of_receives, of_sends, of_streams, of_closings, Duty, to_one, to_all, of, roll, idle, idle_lines, no_roll, no_rolls, with_roll, calling, ticketed, nobody, pass, everything, entered, stays, comes_out, without, alone, absorbed, kept_half, given_half, one_ticket, ticket_is, no_ticket, ticket_of, with_ticket, only, is_key, parts_of, here_of, answered_of, holds_of, sights_of, locks_of, owns_of, waits_of, listed_of, tickets_of, puts_of, takes_of, wanted, Owed, empty, Ordered, Kept, Counted, handed, count_of, handles_of, closes_of, Woken, AllLogs, brings_of}
 use Rattle.channel_wakeups.proofs.Sides.{of_with, roll_with, idle_ticket, none_there, which, Untouched}
-use Rattle.channel_wakeups.proofs.Sums.{at_nobody, balanced_by, closings_by, only_none, only_some, only_zero, owed_by, slot_by, others, total_set, total_snoc}
+use Rattle.channel_wakeups.proofs.Sums.{at_nobody, balanced_by, closings_by, only_none, only_some, only_zero, owed_by, slot_by, total_set, total_snoc}
 use Rattle.channel_wakeups.specs.Counts.{one_hand, fewer_hands, lone_handle, coupled, uncoupled}
 use Rattle.channel_wakeups.specs.Log.{Weight, numbered, PutBefore, TookBefore, puts, takes, sights, each, each_sight, raised_of, lowered_of, last_of, gone_of, Every, InHistory}
 use Rattle.channel_wakeups.specs.declared.rule.Sight.{Sight}

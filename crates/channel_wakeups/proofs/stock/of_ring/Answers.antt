@@ -1,5 +1,5 @@
 -- Both loads are of the same log.
-use Rattle.std.proofs.Common.{◌-◌, refl, arith}
+use Rattle.std.proofs.Common.{refl, arith}
 use Rattle.channel_wakeups.proofs.RingRest.{learns_head, learns_tail, both_learned}
 use Rattle.channel_wakeups.proofs.stock.of_ring.Goals as goal
 
