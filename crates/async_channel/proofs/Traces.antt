@@ -28,7 +28,7 @@ use Rattle.channel_calls.specs.Calls.{send_ask}
 use Rattle.channel_calls.specs.declared.ask.ChannelAsk.{ChannelAsk}
 use Rattle.channel_calls.specs.declared.ask.ChannelAsk.TheVariants as ask
 use Rattle.channel_calls.specs.declared.error.HandleError.{HandleError}
-use Rattle.channel_calls.specs.declared.stage.Line.{Line}
+use Rattle.channel_calls.specs.declared.stage.WaitList.{WaitList}
 use Rattle.channel_calls.specs.declared.stage.Side.{Side}
 use Rattle.channel_calls.specs.declared.blocked.Blocked.{Blocked}
 use Rattle.channel_calls.specs.declared.error.Refused.{Refused}
@@ -36,22 +36,22 @@ use Rattle.channel_calls.specs.declared.error.TryRecvError.{TryRecvError}
 use Rattle.channel_calls.specs.declared.reply.Reply.{Reply}
 use Rattle.channel_calls.specs.declared.reply.Reply.TheVariants as reply
 use Rattle.channel_calls.specs.declared.mark.Mark.{Mark}
-use Rattle.channel_calls.specs.declared.stage.Held.{Held}
-use Rattle.channel_calls.specs.declared.stage.Kept.{Kept}
+use Rattle.channel_calls.specs.declared.stage.ListenerRef.{ListenerRef}
+use Rattle.channel_calls.specs.declared.stage.Returned.{Returned}
 use Rattle.channel_calls.specs.declared.stage.Stage.{Stage}
 use Rattle.channel_calls.specs.declared.stage.Stage.TheVariants.{Trying, Working, Finished}
-use Rattle.channel_calls.specs.declared.stage.Turn.{Turn}
-use Rattle.channel_calls.specs.declared.stage.Work.{Work}
-use Rattle.channel_calls.specs.declared.stage.Work.TheVariants.{TellReceive, TellStreams, TellSend, TellSends, TakeRoom, TellAll, Insert, Register, Leave, Lower, Count, Load, Raise}
+use Rattle.channel_calls.specs.declared.stage.NextStep.{NextStep}
+use Rattle.channel_calls.specs.declared.stage.ListStep.{ListStep}
+use Rattle.channel_calls.specs.declared.stage.ListStep.TheVariants.{TellReceive, TellStreams, TellSend, TellSends, TakeRoom, TellAll, Insert, Register, Leave, Lower, Count, Load, Raise}
 
 -- what is done by the one relation is done by the other as it is seen, from a state of which this is so; no deed changes it
 module _ {T W X Y F : Type 0} (did : Deed T W → X → X → Type 0) (seen : Deed T W → Y → Y → Type 0) (view : X → Y) (of : X → F) (f : F)
     (keeps : (d : Deed T W) (s t : X) → did d s t → of t ≡ of s) (shows : (d : Deed T W) (s t : X) → of s ≡ f → did d s t → seen d (view s) (view t)) where
-  left_keeps : (held : Option Held) (s t : X) → Leaves did held s t → of t ≡ of s
+  left_keeps : (held : Option ListenerRef) (s t : X) → Leaves did held s t → of t ≡ of s
   left_keeps None s t e = ap of e
   left_keeps (Some held) s t (names, d) = keeps (taken_off held.line held.key names) s t d
 
-  work_keeps : (w : Work T W) (s t : X) (m : Mark) (next : Stage (QueueCall T) T W) (r : Option (Reply T)) → WorkMakes did w s t m next r → of t ≡ of s
+  work_keeps : (w : ListStep T W) (s t : X) (m : Mark) (next : Stage (QueueCall T) T W) (r : Option (Reply T)) → WorkMakes did w s t m next r → of t ≡ of s
   work_keeps (TellReceive e) s t m next r h = keeps _ s t h.1
   work_keeps (TellStreams e) s t m next r h = keeps _ s t h.1
   work_keeps (TellSend e) s t m next r h = keeps _ s t h.1
@@ -82,23 +82,23 @@ module _ {T W X Y F : Type 0} (did : Deed T W → X → X → Type 0) (seen : De
   leads_seen zero s a t b h (e, g) = (ap view e, g)
   leads_seen (suc n) s a t b h (x, y, m, step, path) = (view x, y, m, step_seen a s x m y None h step, leads_seen n x y t b (step_keeps a s x m y None step ∙ h) path)
 
-  walked_keeps : (a : Stage (QueueCall T) T W) (s : X) (r : Reply T) (kept : Kept T) (t : X) → Walked did a s r kept t → of t ≡ of s
+  walked_keeps : (a : Stage (QueueCall T) T W) (s : X) (r : Reply T) (kept : Returned T) (t : X) → Walked did a s r kept t → of t ≡ of s
   walked_keeps a s r kept t (n, x, b, m, c, path, last, left) = step_keeps b x t m c (Some r) last ∙ leads_keep n s a x b path
 
-  walked_seen : (a : Stage (QueueCall T) T W) (s : X) (r : Reply T) (kept : Kept T) (t : X) → of s ≡ f → Walked did a s r kept t → Walked seen a (view s) r kept (view t)
+  walked_seen : (a : Stage (QueueCall T) T W) (s : X) (r : Reply T) (kept : Returned T) (t : X) → of s ≡ f → Walked did a s r kept t → Walked seen a (view s) r kept (view t)
   walked_seen a s r kept t h (n, x, b, m, c, path, last, left) =
       (n, view x, b, m, c, leads_seen n s a x b h path, step_seen b x t m c (Some r) (leads_keep n s a x b path ∙ h) last, left)
 
-  from_keeps : (turn : Turn T W) (s : X) (r : Reply T) (kept : Kept T) (t : X) → WalkedFrom did turn s r kept t → of t ≡ of s
+  from_keeps : (turn : NextStep T W) (s : X) (r : Reply T) (kept : Returned T) (t : X) → WalkedFrom did turn s r kept t → of t ≡ of s
   from_keeps turn s r kept t (a, takes, walked) = walked_keeps a s r kept t walked
 
-  pub from_seen : (turn : Turn T W) (s : X) (r : Reply T) (kept : Kept T) (t : X) → of s ≡ f → WalkedFrom did turn s r kept t → WalkedFrom seen turn (view s) r kept (view t)
+  pub from_seen : (turn : NextStep T W) (s : X) (r : Reply T) (kept : Returned T) (t : X) → of s ≡ f → WalkedFrom did turn s r kept t → WalkedFrom seen turn (view s) r kept (view t)
   from_seen turn s r kept t h (a, takes, walked) = (a, takes, walked_seen a s r kept t h walked)
 
-  to_keeps : (turn : Turn T W) (s : X) (r : Reply T) (t : X) → WalkedTo did turn s r t → of t ≡ of s
+  to_keeps : (turn : NextStep T W) (s : X) (r : Reply T) (t : X) → WalkedTo did turn s r t → of t ≡ of s
   to_keeps turn s r t (kept, walked) = from_keeps turn s r kept t walked
 
-  pub to_seen : (turn : Turn T W) (s : X) (r : Reply T) (t : X) → of s ≡ f → WalkedTo did turn s r t → WalkedTo seen turn (view s) r (view t)
+  pub to_seen : (turn : NextStep T W) (s : X) (r : Reply T) (t : X) → of s ≡ f → WalkedTo did turn s r t → WalkedTo seen turn (view s) r (view t)
   to_seen turn s r t h (kept, walked) = (kept, from_seen turn s r kept t h walked)
 
   pub fills_seen : (room : ℕ) (before : List T) (s : X) (r : Result ℕ TryRecvError) (after : List T) (t : X) → of s ≡ f → Fills did room before s r after t → Fills seen room before (view s) r after (view t)
@@ -113,7 +113,7 @@ module _ {T W X Y F : Type 0} (did : Deed T W → X → X → Type 0) (seen : De
   looks_seen zero b s t h e = ap view e
   looks_seen (suc n) b s t h (x, looks, walked) = (view x, looks_seen n b s x h looks, to_seen _ x _ t (looks_keep n b s x looks ∙ h) walked)
 
-  begins_seen : (b : Blocked T) (s : X) (r : Reply T) (kept : Kept T) (t : X) → of s ≡ f → AnswersAtFirst did b s r kept t → AnswersAtFirst seen b (view s) r kept (view t)
+  begins_seen : (b : Blocked T) (s : X) (r : Reply T) (kept : Returned T) (t : X) → of s ≡ f → AnswersAtFirst did b s r kept t → AnswersAtFirst seen b (view s) r kept (view t)
   begins_seen b s r kept t h begins task = from_seen (again (waiting_of b) None task) s r kept t h (begins task)
 
   listens_seen : (b : Blocked T) (s : X) (key : Key) (t : X) → of s ≡ f → Listens did b s key t → Listens seen b (view s) key (view t)
@@ -144,18 +144,18 @@ module _ {T W X Y F : Type 0} (did : Deed T W → X → X → Type 0) (seen : De
     rounds_seen (suc n) b key s next t h (k, x, rounds, round) =
         (k, view x, rounds_seen n b key s k x h rounds, round_seen b k x next t (rounds_keep n b key s k x rounds ∙ h) round)
 
-    wakens_keep : (b : Blocked T) (key : Key) (s : X) (r : Reply T) (kept : Kept T) (t : X) → Wakens did asked slept b key s r kept t → of t ≡ of s
+    wakens_keep : (b : Blocked T) (key : Key) (s : X) (r : Reply T) (kept : Returned T) (t : X) → Wakens did asked slept b key s r kept t → of t ≡ of s
     wakens_keep b key s r kept t (inl (x, asks, walked)) =
         from_keeps (first (ask.RefusePoll (line_of (waiting_of b)) (message_of (waiting_of b)) (Some key))) x r kept t walked ∙ asked_keeps None s x asks
     wakens_keep b key s r kept t (inr (task, x, asks, walked, over)) = from_keeps (first (poll_woken b key task)) x r kept t walked ∙ asked_keeps (Some task) s x asks
 
-    wakens_seen : (b : Blocked T) (key : Key) (s : X) (r : Reply T) (kept : Kept T) (t : X) → of s ≡ f → Wakens did asked slept b key s r kept t → Wakens seen asked_seen slept_seen b key (view s) r kept (view t)
+    wakens_seen : (b : Blocked T) (key : Key) (s : X) (r : Reply T) (kept : Returned T) (t : X) → of s ≡ f → Wakens did asked slept b key s r kept t → Wakens seen asked_seen slept_seen b key (view s) r kept (view t)
     wakens_seen b key s r kept t h (inl (x, asks, walked)) =
         inl (view x, shows_asked None s x asks, from_seen (first (ask.RefusePoll (line_of (waiting_of b)) (message_of (waiting_of b)) (Some key))) x r kept t (asked_keeps None s x asks ∙ h) walked)
     wakens_seen b key s r kept t h (inr (task, x, asks, walked, over)) =
         inr (task, view x, shows_asked (Some task) s x asks, from_seen (first (poll_woken b key task)) x r kept t (asked_keeps (Some task) s x asks ∙ h) walked, over)
 
-    pub blocks_seen : (b : Blocked T) (s : X) (r : Reply T) (kept : Kept T) (t : X) → of s ≡ f → of t ≡ f → Blocks did asked slept b s r kept t → Blocks seen asked_seen slept_seen b (view s) r kept (view t)
+    pub blocks_seen : (b : Blocked T) (s : X) (r : Reply T) (kept : Returned T) (t : X) → of s ≡ f → of t ≡ f → Blocks did asked slept b s r kept t → Blocks seen asked_seen slept_seen b (view s) r kept (view t)
     blocks_seen b s r kept t h end (n, x, looks, inl begins) = (n, view x, looks_seen n b s x h looks, inl (begins_seen b x r kept t (looks_keep n b s x looks ∙ h) begins))
     blocks_seen b s r kept t h end (n, x, looks, inr (key, y, listens, (m, k, z, rounds, wakens))) =
         let late : of z ≡ f = sym (wakens_keep b k z r kept t wakens) ∙ end in
@@ -179,7 +179,7 @@ module _ {T C S : Type 0} (form : C → QueueForm) (beside : Deed T Task → C �
   told f d a b e h = subst (λ (g : QueueForm). Saw did shown g d a.trace b.trace) e h.2
 
   -- a question made over words, from the trace that was given to the one that is given back
-  asked_of : (f : QueueForm) (turn : Turn T Task) (s t : Seen C S) (r : Reply T) (x y : S) → form s.cells ≡ f → s.trace ≡ x → y ≡ t.trace → WalkedTo tells turn s r t → WalkedTo (Saw did shown f) turn x r y
+  asked_of : (f : QueueForm) (turn : NextStep T Task) (s t : Seen C S) (r : Reply T) (x y : S) → form s.cells ≡ f → s.trace ≡ x → y ≡ t.trace → WalkedTo tells turn s r t → WalkedTo (Saw did shown f) turn x r y
   asked_of f turn s t r x y is from to walked =
       between (λ a b. WalkedTo (Saw did shown f) turn a r b) s.trace t.trace x y from to
       (to_seen tells (Saw did shown f) (λ (z : Seen C S). z.trace) (λ (z : Seen C S). form z.cells) f (λ d a b h. h.0) (told f) turn s r t is walked)
@@ -192,7 +192,7 @@ module _ {T S : Type 0} (did : cell.Deed T → S → S → Type 0) (shown : Deed
   abbrev answers : Deed T Task → SharedWords T → SharedWords T → Type 0
   answers d a b = Unit {0}
 
-  pub asked : (f : QueueForm) (turn : Turn T Task) (s t : Seen (SharedWords T) S) (r : Reply T) (x y : S) → form_of s.cells.shared.now ≡ f → s.trace ≡ x → y ≡ t.trace → WalkedTo (tells words_form answers did shown) turn s r t → WalkedTo (Saw did shown f) turn x r y
+  pub asked : (f : QueueForm) (turn : NextStep T Task) (s t : Seen (SharedWords T) S) (r : Reply T) (x y : S) → form_of s.cells.shared.now ≡ f → s.trace ≡ x → y ≡ t.trace → WalkedTo (tells words_form answers did shown) turn s r t → WalkedTo (Saw did shown f) turn x r y
   asked f turn s t r x y is from to walked = asked_of words_form answers did shown f turn s t r x y is from to walked
 
 -- likewise the cells, with a sink that wakes at once
@@ -220,10 +220,10 @@ module _ {T R B L K S : Type 0} (did : cell.Deed T → S → S → Type 0) (show
   showed d a b e h = told cells_form sections did shown f d a.0 b.0 e h.0
 
   module _ (s t : Seen (SharedCells T R B L) S × K) (x y : S) (is : form_of s.0.cells.shared.now ≡ f) (from : s.0.trace ≡ x) (to : y ≡ t.0.trace) where
-    pub walked_from : (turn : Turn T Task) (r : Reply T) (kept : Kept T) → WalkedFrom sees turn s r kept t → WalkedFrom (Saw did shown f) turn x r kept y
+    pub walked_from : (turn : NextStep T Task) (r : Reply T) (kept : Returned T) → WalkedFrom sees turn s r kept t → WalkedFrom (Saw did shown f) turn x r kept y
     walked_from turn r kept walked = between (λ a b. WalkedFrom (Saw did shown f) turn a r kept b) s.0.trace t.0.trace x y from to (from_seen sees (Saw did shown f) trace_of of f kept_by showed turn s r kept t is walked)
 
-    pub walked_to : (turn : Turn T Task) (r : Reply T) → WalkedTo sees turn s r t → WalkedTo (Saw did shown f) turn x r y
+    pub walked_to : (turn : NextStep T Task) (r : Reply T) → WalkedTo sees turn s r t → WalkedTo (Saw did shown f) turn x r y
     walked_to turn r walked = between (λ a b. WalkedTo (Saw did shown f) turn a r b) s.0.trace t.0.trace x y from to (to_seen sees (Saw did shown f) trace_of of f kept_by showed turn s r t is walked)
 
     pub filled : (room : ℕ) (before after : List T) (r : Result ℕ TryRecvError) → Fills sees room before s r after t → Fills (Saw did shown f) room before x r after y
@@ -246,7 +246,7 @@ module _ {T R B L K S : Type 0} (did : cell.Deed T → S → S → Type 0) (show
       abbrev sleeps : Seen (SharedCells T R B L) S × K → Seen (SharedCells T R B L) S × K → Type 0
       sleeps = Slept (λ a b. (cells_form b.cells ≡ cells_form a.cells) × Unit {0} × slept a.trace b.trace)
 
-      pub blocked : (call : Blocked T) (r : Reply T) (kept : Kept T) → Blocks sees asks sleeps call s r kept t → Blocks (Saw did shown f) parked slept call x r kept y
+      pub blocked : (call : Blocked T) (r : Reply T) (kept : Returned T) → Blocks sees asks sleeps call s r kept t → Blocks (Saw did shown f) parked slept call x r kept y
       blocked call r kept blocks =
           between (λ a b. Blocks (Saw did shown f) parked slept call a r kept b) s.0.trace t.0.trace x y from to
           (blocks_seen sees (Saw did shown f) trace_of of f kept_by showed asks parked (λ o a b h. h.0.0) (λ o a b h. h.0.2) sleeps slept (λ a b h. h.0.0) (λ a b h. h.0.2) call s r kept t is end blocks)
@@ -266,7 +266,7 @@ module _ {T W X A : Type 0} (did : cell.Deed T → X → X → Type 0) (shown : 
 
 module _ {T W X : Type 0} where
   -- a poll that was left this listener, from one that it had
-  pub poll_kept : (saw : Deed T W → X → X → Type 0) (asks : Option Key → Option W → ChannelAsk T W) (k l : Option Key) (task : Option W) (s : X) (r : Reply T) (kept : Kept T) (next : Option Key) (t : X)
+  pub poll_kept : (saw : Deed T W → X → X → Type 0) (asks : Option Key → Option W → ChannelAsk T W) (k l : Option Key) (task : Option W) (s : X) (r : Reply T) (kept : Returned T) (next : Option Key) (t : X)
       → k ≡ l → next ≡ kept.key → WalkedFrom saw (first (asks k task)) s r kept t → PollsSend saw (asks l) s r next kept.message t
   poll_kept saw asks k l task s r kept next t is left walked =
       (task, subst (λ (n : Option Key). WalkedFrom saw (first (asks l task)) s r (leaving n kept.message) t) (sym left) (subst (λ (x : Option Key). WalkedFrom saw (first (asks x task)) s r kept t) is walked))
@@ -328,7 +328,7 @@ module _ {T W X : Type 0} (did : cell.Deed T → X → X → Type 0) (shown : De
         (subst (λ (x : Option Key). SeenOn did shown entered f (λ saw begin a end. PollsSend saw (send_ask n x) begin a next left end) s r t) e
         (subst (λ (x : Option T). SeenOn did shown entered f (λ saw begin a end. PollsSend saw (send_ask x k) begin a next left end) s r t) same h)))
 
-    pub left_of : (line : Line) (m n : Option T) (k l : Option Key) → m ≡ n → k ≡ l
+    pub left_of : (line : WaitList) (m n : Option T) (k l : Option Key) → m ≡ n → k ≡ l
         → SeenOn did shown entered f (λ saw. WalkedTo saw (first (ask.GiveUp line m k))) s r t → SeenOn did shown entered g (λ saw. WalkedTo saw (first (ask.GiveUp line n l))) s r t
     left_of line m n k l same e h =
         subst (λ (x : Handle). SeenOn did shown entered x (λ saw. WalkedTo saw (first (ask.GiveUp line n l))) s r t) is

@@ -3,7 +3,7 @@ use Rattle.std.specs.Prelude.{ℕ, Option, None, Some}
 use Rattle.concurrent_queue.specs.Deeds as cell
 use Rattle.concurrent_queue.specs.Walked.{StateMakes}
 use Rattle.concurrent_queue.specs.Walked as whole
-use Rattle.concurrent_queue.specs.machine.Ahead.{Leads}
+use Rattle.concurrent_queue.specs.machine.FastPath.{Leads}
 use Rattle.concurrent_queue.specs.declared.call.QueueReply.{QueueReply}
 use Rattle.concurrent_queue.specs.declared.cells.QueueForm.{QueueForm}
 use Rattle.concurrent_queue.specs.declared.queue_call.CallState.{CallState}

@@ -13,7 +13,7 @@ use crate::listeners::Listeners;
 use crate::seen::Trace;
 use crate::shared::Shared;
 use channel_calls::raised::Counters;
-use channel_calls::stage::{Line, Side};
+use channel_calls::stage::{Side, WaitList};
 use concurrent_queue::call::QueueReply;
 use concurrent_queue::queue_call::QueueCall;
 use event_listener::error::ListenError;
@@ -70,32 +70,32 @@ pub(crate) trait Places<T>: Drop {
         ensures form { form_of self.new ≡ form_of self.old };
 
     /// Adds a listener without a task.
-    fn insert(&mut self, line: Line) -> Result<Key, ListenError>
+    fn insert(&mut self, line: WaitList) -> Result<Key, ListenError>
         ensures deed { did (inserted line result) self.old self.new }
         ensures form { form_of self.new ≡ form_of self.old };
 
     /// Gives a waiting listener its task.
-    fn register(&mut self, line: Line, key: Key, task: Task) -> Option<Task>
+    fn register(&mut self, line: WaitList, key: Key, task: Task) -> Option<Task>
         ensures deed { did (registered line key task result) self.old self.new }
         ensures form { form_of self.new ≡ form_of self.old };
 
     /// Takes a listener off.
-    fn remove<K: Wakes<Task>>(&mut self, line: Line, key: Key, sink: &mut K)
+    fn remove<K: Wakes<Task>>(&mut self, line: WaitList, key: Key, sink: &mut K)
         ensures deed { (names : Names Waiter) × did (taken_off line key names) self.old self.new × Woken K.wakes sink.old names sink.new }
         ensures form { form_of self.new ≡ form_of self.old };
 
     /// Tells one more of those who wait.
-    fn tell_one<K: Wakes<Task>>(&mut self, line: Line, sink: &mut K)
+    fn tell_one<K: Wakes<Task>>(&mut self, line: WaitList, sink: &mut K)
         ensures deed { (names : Names Waiter) × did (one_told line names) self.old self.new × Woken K.wakes sink.old names sink.new }
         ensures form { form_of self.new ≡ form_of self.old };
 
     /// Tells so many more of those who wait, in one section.
-    fn tell_more<K: Wakes<Task>>(&mut self, line: Line, count: usize, sink: &mut K)
+    fn tell_more<K: Wakes<Task>>(&mut self, line: WaitList, count: usize, sink: &mut K)
         ensures deed { (names : Names Waiter) × did (more_told line count names) self.old self.new × Woken K.wakes sink.old names sink.new }
         ensures form { form_of self.new ≡ form_of self.old };
 
     /// Tells all who wait.
-    fn tell_all<K: Wakes<Task>>(&mut self, line: Line, sink: &mut K)
+    fn tell_all<K: Wakes<Task>>(&mut self, line: WaitList, sink: &mut K)
         ensures deed { (names : Names Waiter) × did (all_told line names) self.old self.new × Woken K.wakes sink.old names sink.new }
         ensures form { form_of self.new ≡ form_of self.old };
 
@@ -188,30 +188,30 @@ impl<'a, T: Drop, R: Wait, B: Drop, L: Listeners> Places<T> for SharedCells<'a, 
         Some(self.shared.queue.complete_told(self.rt, whole, trace))
     }
 
-    fn insert(&mut self, line: Line) -> Result<Key, ListenError> {
+    fn insert(&mut self, line: WaitList) -> Result<Key, ListenError> {
         self.shared.waiters(line).insert(self.rt)
     }
 
-    fn register(&mut self, line: Line, key: Key, task: Task) -> Option<Task> {
+    fn register(&mut self, line: WaitList, key: Key, task: Task) -> Option<Task> {
         self.shared.waiters(line).register(self.rt, key, task)
     }
 
-    fn remove<S: Wakes<Task>>(&mut self, line: Line, key: Key, sink: &mut S) {
+    fn remove<S: Wakes<Task>>(&mut self, line: WaitList, key: Key, sink: &mut S) {
         self.shared.waiters(line).remove(self.rt, key, sink);
     }
 
     #[inline(always)]
-    fn tell_one<S: Wakes<Task>>(&mut self, line: Line, sink: &mut S) {
+    fn tell_one<S: Wakes<Task>>(&mut self, line: WaitList, sink: &mut S) {
         self.shared.waiters(line).tell_one(self.rt, sink);
     }
 
     #[inline(always)]
-    fn tell_more<S: Wakes<Task>>(&mut self, line: Line, count: usize, sink: &mut S) {
+    fn tell_more<S: Wakes<Task>>(&mut self, line: WaitList, count: usize, sink: &mut S) {
         self.shared.waiters(line).tell_more(self.rt, count, sink);
     }
 
     #[inline(always)]
-    fn tell_all<S: Wakes<Task>>(&mut self, line: Line, sink: &mut S) {
+    fn tell_all<S: Wakes<Task>>(&mut self, line: WaitList, sink: &mut S) {
         self.shared.waiters(line).tell_all(self.rt, sink);
     }
 

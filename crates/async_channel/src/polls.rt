@@ -24,7 +24,7 @@ use channel_calls::error::{RecvError, Refused, SendError};
 use channel_calls::kind::OfReceivers;
 use channel_calls::polls;
 use channel_calls::raised::{self, Raised};
-use channel_calls::stage::Line;
+use channel_calls::stage::WaitList;
 use event_listener::error::ListenError;
 use event_listener::waking::WakeNow;
 use futures::task::{Context, Poll};
@@ -122,7 +122,7 @@ impl<T: Drop> Shared<T> {
     pub(crate) fn give_up<R: Wait, S: Trace<T>>(
         &self,
         rt: &R,
-        line: Line,
+        line: WaitList,
         message: Option<T>,
         waits: Waits,
         trace: S,
@@ -140,7 +140,7 @@ impl<T: Drop> Shared<T> {
     pub(crate) fn leave<R: Wait, S: Trace<T>>(
         &self,
         rt: &R,
-        line: Line,
+        line: WaitList,
         waits: Waits,
         trace: S,
     ) -> S

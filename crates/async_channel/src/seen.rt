@@ -11,7 +11,7 @@ use crate::cells::{Beds, Places, SharedCells, SharedWords, Words};
 use crate::shared::Shared;
 use channel_calls::cells::ChannelCells;
 use channel_calls::sleeps::Sleeps;
-use channel_calls::stage::{Line, Side};
+use channel_calls::stage::{Side, WaitList};
 use channel_calls::words::ChannelWords;
 use concurrent_queue::call::QueueReply;
 use concurrent_queue::queue_call::QueueCall;
@@ -40,7 +40,7 @@ pub struct Sight<S> {
 /// without whom they woke: those stay with the sink. Own to this project.
 pub trait Trace<T>: queue::Trace<T> {
     ghost use Rattle.std.specs.Prelude.{ℕ};
-    ghost use Rattle.channel_calls.specs.declared.stage.Line.{Line as Waits};
+    ghost use Rattle.channel_calls.specs.declared.stage.WaitList.{WaitList as Waits};
 
     /// Whether a call was seen to begin, between the two, on the channel with this seal.
     ghost entered: { ℕ → Self → Self → Type 0 };
@@ -62,31 +62,31 @@ pub trait Trace<T>: queue::Trace<T> {
         ensures { entered seal.now.id self.old self.new };
 
     /// A listener was added, or refused.
-    fn inserted(&mut self, sight: &Sight<Self>, line: Line, answer: Result<Key, ListenError>)
+    fn inserted(&mut self, sight: &Sight<Self>, line: WaitList, answer: Result<Key, ListenError>)
         ensures { shown (inserted line answer) self.old self.new };
 
     /// This task is brought to a listener. What came of it is said next, by `registered`.
-    fn offers(&mut self, sight: &Sight<Self>, line: Line, key: Key, task: &Task)
+    fn offers(&mut self, sight: &Sight<Self>, line: WaitList, key: Key, task: &Task)
         ensures { offering line key task.now self.old self.new };
 
     /// The task that was brought to the listener is kept, or came back.
-    fn registered(&mut self, sight: &Sight<Self>, line: Line, key: Key, answer: &Option<Task>)
+    fn registered(&mut self, sight: &Sight<Self>, line: WaitList, key: Key, answer: &Option<Task>)
         ensures { (before : Self) (task : Waiter) → offering line key task before self.old → shown (registered line key task answer.now) before self.new };
 
     /// A listener was taken off.
-    fn taken_off(&mut self, sight: &Sight<Self>, line: Line, key: Key)
+    fn taken_off(&mut self, sight: &Sight<Self>, line: WaitList, key: Key)
         ensures { (names : List Waiter) → shown (taken_off line key names) self.old self.new };
 
     /// One more of those who wait was told.
-    fn one_told(&mut self, sight: &Sight<Self>, line: Line)
+    fn one_told(&mut self, sight: &Sight<Self>, line: WaitList)
         ensures { (names : List Waiter) → shown (one_told line names) self.old self.new };
 
     /// So many more of those who wait were told.
-    fn more_told(&mut self, sight: &Sight<Self>, line: Line, count: usize)
+    fn more_told(&mut self, sight: &Sight<Self>, line: WaitList, count: usize)
         ensures { (names : List Waiter) → shown (more_told line count names) self.old self.new };
 
     /// All who wait were told.
-    fn all_told(&mut self, sight: &Sight<Self>, line: Line)
+    fn all_told(&mut self, sight: &Sight<Self>, line: WaitList)
         ensures { (names : List Waiter) → shown (all_told line names) self.old self.new };
 
     /// So many handles of this kind were counted.
@@ -178,7 +178,7 @@ impl<T, C: Places<T>, S: Trace<T>> ChannelCells<T, Task> for Seen<C, S> {
     }
 
     #[inline(always)]
-    fn insert(&mut self, line: Line) -> Result<Key, ListenError> {
+    fn insert(&mut self, line: WaitList) -> Result<Key, ListenError> {
         let answer = self.cells.insert(line);
         self.trace
             .inserted(&Sight { of: PhantomData }, line, answer);
@@ -186,7 +186,7 @@ impl<T, C: Places<T>, S: Trace<T>> ChannelCells<T, Task> for Seen<C, S> {
     }
 
     #[inline(always)]
-    fn register(&mut self, line: Line, key: Key, task: Task) -> Option<Task> {
+    fn register(&mut self, line: WaitList, key: Key, task: Task) -> Option<Task> {
         self.trace
             .offers(&Sight { of: PhantomData }, line, key, &task);
         let answer = self.cells.register(line, key, task);
@@ -196,26 +196,26 @@ impl<T, C: Places<T>, S: Trace<T>> ChannelCells<T, Task> for Seen<C, S> {
     }
 
     #[inline(always)]
-    fn remove<K: Wakes<Task>>(&mut self, line: Line, key: Key, sink: &mut K) {
+    fn remove<K: Wakes<Task>>(&mut self, line: WaitList, key: Key, sink: &mut K) {
         self.cells.remove(line, key, sink);
         self.trace.taken_off(&Sight { of: PhantomData }, line, key);
     }
 
     #[inline(always)]
-    fn tell_one<K: Wakes<Task>>(&mut self, line: Line, sink: &mut K) {
+    fn tell_one<K: Wakes<Task>>(&mut self, line: WaitList, sink: &mut K) {
         self.cells.tell_one(line, sink);
         self.trace.one_told(&Sight { of: PhantomData }, line);
     }
 
     #[inline(always)]
-    fn tell_more<K: Wakes<Task>>(&mut self, line: Line, count: usize, sink: &mut K) {
+    fn tell_more<K: Wakes<Task>>(&mut self, line: WaitList, count: usize, sink: &mut K) {
         self.cells.tell_more(line, count, sink);
         self.trace
             .more_told(&Sight { of: PhantomData }, line, count);
     }
 
     #[inline(always)]
-    fn tell_all<K: Wakes<Task>>(&mut self, line: Line, sink: &mut K) {
+    fn tell_all<K: Wakes<Task>>(&mut self, line: WaitList, sink: &mut K) {
         self.cells.tell_all(line, sink);
         self.trace.all_told(&Sight { of: PhantomData }, line);
     }

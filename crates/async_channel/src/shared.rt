@@ -13,10 +13,10 @@ use crate::bed::Bed;
 use crate::cells::{Counts, SharedCells, SharedWords};
 use crate::listeners::Listeners;
 use crate::seen::{Seen, Trace};
-use crate::waiters::{Turn, Waiters};
+use crate::waiters::{NextStep, Waiters};
 use channel_calls::questions;
 use channel_calls::raised::Counters;
-use channel_calls::stage::{Line, Side};
+use channel_calls::stage::{Side, WaitList};
 use concurrent_queue::shared::queue::ConcurrentQueue;
 use event_listener::list::List;
 use event_listener::waking::Task;
@@ -97,12 +97,12 @@ impl<T: Drop> Shared<T> {
 impl<T: Drop, L: Listeners> Shared<T, L> {
     /// The right to one section on the list of this kind.
     #[inline(always)]
-    pub(crate) fn waiters(&self, line: Line) -> Turn<'_, L> {
+    pub(crate) fn waiters(&self, line: WaitList) -> NextStep<'_, L> {
         match line {
-            Line::Sends => self.sends.turn(),
-            Line::Receives => self.receives.turn(),
-            Line::Streams => self.streams.turn(),
-            Line::Closings => self.closings.turn(),
+            WaitList::Sends => self.sends.turn(),
+            WaitList::Receives => self.receives.turn(),
+            WaitList::Streams => self.streams.turn(),
+            WaitList::Closings => self.closings.turn(),
         }
     }
 }

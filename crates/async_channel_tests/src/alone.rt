@@ -10,7 +10,7 @@ use crate::names::{Names, no_names};
 use crate::said::{Said, answer_of};
 use channel_calls::ask::{ChannelAsk, lent, woken};
 use channel_calls::plain::PlainChannel;
-use channel_calls::stage::{Line, Side};
+use channel_calls::stage::{Side, WaitList};
 use channel_steps::alone::run_alone;
 use concurrent_queue::cells::QueueForm;
 use event_listener::key::Key;
@@ -96,7 +96,7 @@ fn those_who_wait_are_told_in_order(rt: HostRuntime) -> Result<(), Fail> {
     let (stream, stream_key) = all.poll(ChannelAsk::PollNext(None, 3));
     let sent = all.call(ChannelAsk::TrySend(5));
     let by_the_send = all.names.woken.len();
-    let refuse = ChannelAsk::RefusePoll(Line::Receives, None, first_key);
+    let refuse = ChannelAsk::RefusePoll(WaitList::Receives, None, first_key);
     let refused = all.call(refuse);
     let by_the_refusal = all.names.woken.len();
     let next = all.call(ChannelAsk::PollNext(stream_key, 3));
@@ -154,7 +154,7 @@ fn a_full_channel_keeps_the_message_of_a_send(rt: HostRuntime) -> Result<(), Fai
     let (third, third_key) = all.poll(ChannelAsk::PollSend(3, lent(None), 3));
     let received = all.call(ChannelAsk::TryRecv);
     let by_the_receive = all.names.woken.len();
-    let give_up = ChannelAsk::GiveUp(Line::Sends, Some(2), second_key);
+    let give_up = ChannelAsk::GiveUp(WaitList::Sends, Some(2), second_key);
     let given_up = all.call(give_up);
     let last = all.call(ChannelAsk::PollSend(3, lent(third_key), 3));
     let Alone { channel, names } = all;

@@ -24,7 +24,7 @@ use crate::woken::Woken;
 use channel_calls::call::ChannelCall;
 use channel_calls::mark::Mark;
 use channel_calls::questions::is_closed;
-use channel_calls::stage::Line;
+use channel_calls::stage::WaitList;
 use event_listener::key::Key;
 use std::alloc::Global;
 use std::mem;
@@ -141,7 +141,7 @@ impl Events {
 }
 
 /// Whether somebody sleeps on this list beside what nobody who was woken answers for: a message, a free place or the closing.
-fn is_owed(line: Line, bound: usize, alloc: Global, cells: &mut Scarce) -> bool
+fn is_owed(line: WaitList, bound: usize, alloc: Global, cells: &mut Scarce) -> bool
     ensures { form_of cells.new.channel ≡ form_of cells.old.channel }
 {
     if cells.channel.waiting(line) == 0 {
@@ -155,9 +155,9 @@ fn is_owed(line: Line, bound: usize, alloc: Global, cells: &mut Scarce) -> bool
         return true;
     };
     match line {
-        Line::Sends => cells.woken.count(line) < bound.saturating_sub(held),
-        Line::Receives => cells.woken.count(line) < held,
-        Line::Streams => held > 0,
-        Line::Closings => false,
+        WaitList::Sends => cells.woken.count(line) < bound.saturating_sub(held),
+        WaitList::Receives => cells.woken.count(line) < held,
+        WaitList::Streams => held > 0,
+        WaitList::Closings => false,
     }
 }

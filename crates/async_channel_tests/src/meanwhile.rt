@@ -4,7 +4,7 @@
 use channel_calls::cells::ChannelCells;
 use channel_calls::notices;
 use channel_calls::sleeps::Sleeps;
-use channel_calls::stage::{Line, Side};
+use channel_calls::stage::{Side, WaitList};
 use concurrent_queue::call::QueueReply;
 use concurrent_queue::queue_call::QueueCall;
 use concurrent_queue::shared::queue::ConcurrentQueue;
@@ -99,44 +99,44 @@ impl<'a, R: Wait> ChannelCells<u64, u32> for Beside<'a, R> {
         Some(self.queue.complete(self.rt, whole))
     }
 
-    fn insert(&mut self, line: Line) -> Result<Key, ListenError> {
+    fn insert(&mut self, line: WaitList) -> Result<Key, ListenError> {
         match line {
-            Line::Sends => self.sends.insert(),
+            WaitList::Sends => self.sends.insert(),
             _ => self.others.insert(),
         }
     }
 
-    fn register(&mut self, line: Line, key: Key, task: u32) -> Option<u32> {
+    fn register(&mut self, line: WaitList, key: Key, task: u32) -> Option<u32> {
         match line {
-            Line::Sends => notices::register(&mut self.sends, key, task),
+            WaitList::Sends => notices::register(&mut self.sends, key, task),
             _ => notices::register(&mut self.others, key, task),
         }
     }
 
-    fn remove<S: Wakes<u32>>(&mut self, line: Line, key: Key, sink: &mut S) {
+    fn remove<S: Wakes<u32>>(&mut self, line: WaitList, key: Key, sink: &mut S) {
         let _ = match line {
-            Line::Sends => self.sends.remove(key, true, sink),
+            WaitList::Sends => self.sends.remove(key, true, sink),
             _ => self.others.remove(key, true, sink),
         };
     }
 
-    fn tell_one<S: Wakes<u32>>(&mut self, line: Line, sink: &mut S) {
+    fn tell_one<S: Wakes<u32>>(&mut self, line: WaitList, sink: &mut S) {
         match line {
-            Line::Sends => notices::tell_one(&mut self.sends, sink),
+            WaitList::Sends => notices::tell_one(&mut self.sends, sink),
             _ => notices::tell_one(&mut self.others, sink),
         }
     }
 
-    fn tell_more<S: Wakes<u32>>(&mut self, line: Line, count: usize, sink: &mut S) {
+    fn tell_more<S: Wakes<u32>>(&mut self, line: WaitList, count: usize, sink: &mut S) {
         match line {
-            Line::Sends => notices::tell_more(&mut self.sends, count, sink),
+            WaitList::Sends => notices::tell_more(&mut self.sends, count, sink),
             _ => notices::tell_more(&mut self.others, count, sink),
         }
     }
 
-    fn tell_all<S: Wakes<u32>>(&mut self, line: Line, sink: &mut S) {
+    fn tell_all<S: Wakes<u32>>(&mut self, line: WaitList, sink: &mut S) {
         match line {
-            Line::Sends => notices::tell_all(&mut self.sends, sink),
+            WaitList::Sends => notices::tell_all(&mut self.sends, sink),
             _ => notices::tell_all(&mut self.others, sink),
         }
     }

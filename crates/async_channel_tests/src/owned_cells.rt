@@ -17,7 +17,7 @@ use channel_calls::error::{RecvError, Refused, TrySendError};
 use channel_calls::plain::PlainChannel;
 use channel_calls::polls::poll_recv;
 use channel_calls::questions::capacity;
-use channel_calls::stage::Kept;
+use channel_calls::stage::Returned;
 use event_listener::key::Key;
 use event_listener::wakes::Wakes;
 use futures::task::Poll;
@@ -44,7 +44,7 @@ pub fn polls<T: Drop, W: Drop, R: Wait, S: Wakes<W>>(
     task: W,
     channel: &mut PlainChannel<T, W>,
     sink: &mut S,
-) -> (Poll<Result<T, Refused<RecvError>>>, Kept<T>)
+) -> (Poll<Result<T, Refused<RecvError>>>, Returned<T>)
     ensures { is_some result.1.key ≡ is_pending result.0 }
 {
     poll_recv(rt, key, Some(task), channel, sink)

@@ -6,7 +6,7 @@ ghost use Rattle.channel_calls.specs.Plain.{form_of, parts_of};
 use crate::woken::Woken;
 use channel_calls::cells::ChannelCells;
 use channel_calls::plain::PlainChannel;
-use channel_calls::stage::{Line, Side};
+use channel_calls::stage::{Side, WaitList};
 use concurrent_queue::call::QueueReply;
 use concurrent_queue::queue_call::QueueCall;
 use event_listener::error::ListenError;
@@ -52,7 +52,7 @@ impl ChannelCells<u64, u32> for Scarce {
         self.channel.step_queue(call)
     }
 
-    fn insert(&mut self, line: Line) -> Result<Key, ListenError> {
+    fn insert(&mut self, line: WaitList) -> Result<Key, ListenError> {
         if self.refused > 0 {
             self.refused = self.refused.saturating_sub(1);
             return Err(self.want);
@@ -60,7 +60,7 @@ impl ChannelCells<u64, u32> for Scarce {
         self.channel.insert(line)
     }
 
-    fn register(&mut self, line: Line, key: Key, task: u32) -> Option<u32> {
+    fn register(&mut self, line: WaitList, key: Key, task: u32) -> Option<u32> {
         let back = self.channel.register(line, key, task);
         if back.is_some() {
             // It was told and goes on, so the waking is used up.
@@ -69,19 +69,19 @@ impl ChannelCells<u64, u32> for Scarce {
         back
     }
 
-    fn remove<S: Wakes<u32>>(&mut self, line: Line, key: Key, _: &mut S) {
+    fn remove<S: Wakes<u32>>(&mut self, line: WaitList, key: Key, _: &mut S) {
         self.channel.remove(line, key, &mut self.woken)
     }
 
-    fn tell_one<S: Wakes<u32>>(&mut self, line: Line, _: &mut S) {
+    fn tell_one<S: Wakes<u32>>(&mut self, line: WaitList, _: &mut S) {
         self.channel.tell_one(line, &mut self.woken)
     }
 
-    fn tell_more<S: Wakes<u32>>(&mut self, line: Line, count: usize, _: &mut S) {
+    fn tell_more<S: Wakes<u32>>(&mut self, line: WaitList, count: usize, _: &mut S) {
         self.channel.tell_more(line, count, &mut self.woken)
     }
 
-    fn tell_all<S: Wakes<u32>>(&mut self, line: Line, _: &mut S) {
+    fn tell_all<S: Wakes<u32>>(&mut self, line: WaitList, _: &mut S) {
         self.channel.tell_all(line, &mut self.woken)
     }
 

@@ -4,7 +4,7 @@ use channel_calls::ask::{ChannelAsk, lent};
 use channel_calls::error::{Refused, TrySendError};
 use channel_calls::reply::Reply;
 use channel_calls::stage;
-use channel_calls::stage::{Line, Side};
+use channel_calls::stage::{Side, WaitList};
 use event_listener::key::Key;
 use futures::task::Poll;
 use worked_rows::{Said, Words};
@@ -33,7 +33,7 @@ impl Kept {
     }
 
     /// What a call leaves to this operation: whether that is a listener.
-    pub(crate) fn keep(&mut self, op: u32, kept: stage::Kept<u64>) -> bool {
+    pub(crate) fn keep(&mut self, op: u32, kept: stage::Returned<u64>) -> bool {
         self.keys[op as usize % 8] = kept.key;
         self.messages[op as usize % 8] = kept.message;
         kept.key.is_some()
@@ -53,8 +53,8 @@ fn ask_of_operation(
         "poll_recv" => ChannelAsk::PollRecv(lent(key), op),
         "poll_next" => ChannelAsk::PollNext(key, op),
         "poll_closed" => ChannelAsk::PollClosed(key, op),
-        "refuse_recv" => ChannelAsk::RefusePoll(Line::Receives, None, key),
-        "give_up_send" => ChannelAsk::GiveUp(Line::Sends, kept.message(op), key),
+        "refuse_recv" => ChannelAsk::RefusePoll(WaitList::Receives, None, key),
+        "give_up_send" => ChannelAsk::GiveUp(WaitList::Sends, kept.message(op), key),
         _ => return None,
     };
     Some((op, ask))

@@ -1,6 +1,6 @@
 //! Whom calls woke, by the list on which each waits.
 
-use channel_calls::stage::Line;
+use channel_calls::stage::WaitList;
 use event_listener::wakes::Wakes;
 
 /// So many tasks there are for each list.
@@ -10,25 +10,30 @@ const EACH: u32 = 8;
 const TASKS: usize = 32;
 
 /// The four lists.
-pub(crate) const LINES: [Line; 4] = [Line::Sends, Line::Receives, Line::Streams, Line::Closings];
+pub(crate) const LINES: [WaitList; 4] = [
+    WaitList::Sends,
+    WaitList::Receives,
+    WaitList::Streams,
+    WaitList::Closings,
+];
 
 /// The place of a list among the four.
-pub(crate) fn place_of(line: Line) -> usize {
+pub(crate) fn place_of(line: WaitList) -> usize {
     match line {
-        Line::Sends => 0,
-        Line::Receives => 1,
-        Line::Streams => 2,
-        Line::Closings => 3,
+        WaitList::Sends => 0,
+        WaitList::Receives => 1,
+        WaitList::Streams => 2,
+        WaitList::Closings => 3,
     }
 }
 
 /// The task of the one of this number who waits on this list.
-pub(crate) fn task_of(line: Line, who: u32) -> u32 {
+pub(crate) fn task_of(line: WaitList, who: u32) -> u32 {
     let first: u32 = match line {
-        Line::Sends => 0,
-        Line::Receives => 8,
-        Line::Streams => 16,
-        Line::Closings => 24,
+        WaitList::Sends => 0,
+        WaitList::Receives => 8,
+        WaitList::Streams => 16,
+        WaitList::Closings => 24,
     };
     first.wrapping_add(who)
 }
@@ -74,7 +79,7 @@ impl Woken {
     }
 
     /// How many were woken who wait on this list.
-    pub(crate) fn count(&self, line: Line) -> usize {
+    pub(crate) fn count(&self, line: WaitList) -> usize {
         let mut count: usize = 0;
         for who in 0..EACH {
             if self.is_woken(task_of(line, who)) {

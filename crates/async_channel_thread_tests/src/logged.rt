@@ -1,7 +1,7 @@
 //! What calls of handles do to their channel, as a trace of the caller's sees it: alone, and beside another thread.
 
 use crate::checks::expect_equal;
-use async_channel::{Line, Receiver, Refused, Sender, TryRecvError, TrySendError};
+use async_channel::{Receiver, Refused, Sender, TryRecvError, TrySendError, WaitList};
 use channel_test_helpers::log::{
     Did, Log, close_logged, recv_blocking_logged, try_recv_logged, try_send_logged,
 };
@@ -14,20 +14,20 @@ use std::thread::Threads;
 /// Those who wait for a message are told.
 const SENT: [Did; 3] = [
     Did::Operated,
-    Did::OneTold(Line::Receives),
-    Did::AllTold(Line::Streams),
+    Did::OneTold(WaitList::Receives),
+    Did::AllTold(WaitList::Streams),
 ];
 
 /// One who waits for a place is told.
-const RECEIVED: [Did; 2] = [Did::Operated, Did::OneTold(Line::Sends)];
+const RECEIVED: [Did; 2] = [Did::Operated, Did::OneTold(WaitList::Sends)];
 
 /// All who wait are told.
 const CLOSED: [Did; 5] = [
     Did::Operated,
-    Did::AllTold(Line::Sends),
-    Did::AllTold(Line::Receives),
-    Did::AllTold(Line::Streams),
-    Did::AllTold(Line::Closings),
+    Did::AllTold(WaitList::Sends),
+    Did::AllTold(WaitList::Receives),
+    Did::AllTold(WaitList::Streams),
+    Did::AllTold(WaitList::Closings),
 ];
 
 /// Nothing came of it but the answer.
@@ -170,7 +170,7 @@ fn waited<R: Wait + Copy>(r: &Receiver<u64, R>, alloc: Global) -> bool {
     let (received, log) = recv_blocking_logged(r, Log::new(alloc));
     let slept = log.lines.contains(&Did::Slept);
     let parked = log.lines.contains(&Did::Parked);
-    let last = log.lines.last() == Some(&Did::OneTold(Line::Sends));
+    let last = log.lines.last() == Some(&Did::OneTold(WaitList::Sends));
     let came = received.is_ok();
     drop((received, log));
     came && last && (parked || !slept)

@@ -1,7 +1,7 @@
 //! Two threads, one with the senders and one with the receivers of the same channels, as rows call them: the rows of
 //! [`pair_rows`](crate::pair_rows). Each thread makes its own lines of a row, and both begin the next row together.
 //!
-//! | Line | What it does | What it answers |
+//! | WaitList | What it does | What it answers |
 //! |---|---|---|
 //! | `bounded N`, `unbounded` | the row's channel, which is opened before the rows are played | |
 //! | `open N` | opens this gate of the row, and those before it | `ok` |

@@ -2,7 +2,8 @@
 
 use crate::checks::expect_equal;
 use async_channel::{
-    EventIds, Key, Line, ListenError, Receiver, Sender, Side, Sight, Task, Trace, bounded_watched,
+    EventIds, Key, ListenError, Receiver, Sender, Side, Sight, Task, Trace, WaitList,
+    bounded_watched,
 };
 use concurrent_queue::cells::{Slot, Word};
 use concurrent_queue::error::NoMemory;
@@ -103,29 +104,40 @@ impl Trace<u64> for Watcher<'_> {
         note(&self.tallies.beginnings);
     }
 
-    fn inserted(&mut self, _sight: &Sight<Self>, _line: Line, _answer: Result<Key, ListenError>) {
+    fn inserted(
+        &mut self,
+        _sight: &Sight<Self>,
+        _line: WaitList,
+        _answer: Result<Key, ListenError>,
+    ) {
         note(&self.tallies.sections);
     }
 
-    fn offers(&mut self, _sight: &Sight<Self>, _line: Line, _key: Key, _task: &Task) {}
+    fn offers(&mut self, _sight: &Sight<Self>, _line: WaitList, _key: Key, _task: &Task) {}
 
-    fn registered(&mut self, _sight: &Sight<Self>, _line: Line, _key: Key, _answer: &Option<Task>) {
+    fn registered(
+        &mut self,
+        _sight: &Sight<Self>,
+        _line: WaitList,
+        _key: Key,
+        _answer: &Option<Task>,
+    ) {
         note(&self.tallies.sections);
     }
 
-    fn taken_off(&mut self, _sight: &Sight<Self>, _line: Line, _key: Key) {
+    fn taken_off(&mut self, _sight: &Sight<Self>, _line: WaitList, _key: Key) {
         note(&self.tallies.sections);
     }
 
-    fn one_told(&mut self, _sight: &Sight<Self>, _line: Line) {
+    fn one_told(&mut self, _sight: &Sight<Self>, _line: WaitList) {
         note(&self.tallies.sections);
     }
 
-    fn more_told(&mut self, _sight: &Sight<Self>, _line: Line, _count: usize) {
+    fn more_told(&mut self, _sight: &Sight<Self>, _line: WaitList, _count: usize) {
         note(&self.tallies.sections);
     }
 
-    fn all_told(&mut self, _sight: &Sight<Self>, _line: Line) {
+    fn all_told(&mut self, _sight: &Sight<Self>, _line: WaitList) {
         note(&self.tallies.sections);
     }
 

@@ -18,18 +18,18 @@ use Rattle.channel_calls.specs.declared.ask.ChannelAsk.TheVariants as ask
 use Rattle.channel_calls.specs.declared.mark.Mark.TheVariants.{Nothing}
 use Rattle.channel_calls.specs.declared.reply.Reply.{Reply}
 use Rattle.channel_calls.specs.declared.reply.Reply.TheVariants as reply
-use Rattle.channel_calls.specs.declared.stage.Aim.{Aim}
-use Rattle.channel_calls.specs.declared.stage.Aim.TheVariants as aim
+use Rattle.channel_calls.specs.declared.stage.Purpose.{Purpose}
+use Rattle.channel_calls.specs.declared.stage.Purpose.TheVariants as aim
 use Rattle.channel_calls.specs.declared.stage.Side.{Side}
 use Rattle.channel_calls.specs.declared.stage.Stage.TheVariants.{Trying, Working, Finished}
-use Rattle.channel_calls.specs.declared.stage.Turn.{Turn}
-use Rattle.channel_calls.specs.declared.stage.Turn.TheVariants.{Tries, Ends}
-use Rattle.channel_calls.specs.declared.stage.Work.TheVariants.{Count}
+use Rattle.channel_calls.specs.declared.stage.NextStep.{NextStep}
+use Rattle.channel_calls.specs.declared.stage.NextStep.TheVariants.{Tries, Ends}
+use Rattle.channel_calls.specs.declared.stage.ListStep.TheVariants.{Count}
 use Rattle.channel_calls.proofs.BlockedPolls.{comes_ends}
 use Rattle.channel_calls.proofs.Walking.{leads_on, walks_on}
 
 module _ {T W X : Type 0} (did : Deed T W → X → X → Type 0) where
-  module _ (q : QueueAsk T) (a : Aim T W) (s : X) (call : QueueCall T) (starts : Starts call q) (asks : IsAsking call q) where
+  module _ (q : QueueAsk T) (a : Purpose T W) (s : X) (call : QueueCall T) (starts : Starts call q) (asks : IsAsking call q) where
     pub once : (after : QueueCall T) (y : QueueReply T) (t : X) → did (stepped call after (Some y)) s t → Comes did (Tries q a) s (answered_next a y) t
     once after y t deed =
         (Trying call a, (call, starts, asks, refl, refl), 0, s, Trying call a, mark_of_queue (mark_of after), (refl, refl), λ next r takes. (after, Some y, deed, refl, takes))
@@ -46,7 +46,7 @@ module _ {T W X : Type 0} (did : Deed T W → X → X → Type 0) where
       λ next r takes. (after, Some y, deed, refl, takes),
     )
 
-  ended : (turn : Turn T W) (s : X) (r : Reply T) (t : X) → Comes did turn s (Ends r nothing_kept) t → WalkedTo did turn s r t
+  ended : (turn : NextStep T W) (s : X) (r : Reply T) (t : X) → Comes did turn s (Ends r nothing_kept) t → WalkedTo did turn s r t
   ended turn s r t way = (nothing_kept, comes_ends did turn s r nothing_kept t way)
 
   pub flagged : (q : QueueAsk T) (s : X) (y : QueueReply T) (b : Bool) (t : X) → y ≡ Flag b → Comes did (Tries q aim.Ask) s (answered_next aim.Ask y) t → WalkedTo did (Tries q aim.Ask) s (reply.Flag b) t

@@ -19,7 +19,7 @@ use Rattle.channel_calls.specs.Blocks.{waiting_of, at_once, not_yet, poll_woken,
 use Rattle.channel_calls.specs.Deeds.{Deed, stepped, inserted, taken_off}
 use Rattle.channel_calls.specs.Listed.{pends}
 use Rattle.channel_calls.specs.Marks.{mark_of_queue}
-use Rattle.channel_calls.specs.Replies.{RefusesTrySend, MayGive, MayPoll}
+use Rattle.channel_calls.specs.Replies.{RefusesTrySend, ReplyAllowed, MayPoll}
 use Rattle.channel_calls.specs.Tried.{polled, IsOver, sent_by, received_by, tried_turn, Comes}
 use Rattle.channel_calls.specs.Turns.{line_of, message_of, leaving, nothing_kept, says, again, unlistened, refused_reply}
 use Rattle.channel_calls.specs.Walks.{Takes, ChannelMakes, Leads, WalkedFrom, WalkedTo}
@@ -38,20 +38,20 @@ use Rattle.channel_calls.specs.declared.mark.Mark.{Mark}
 use Rattle.channel_calls.specs.declared.mark.Mark.TheVariants.{Nothing}
 use Rattle.channel_calls.specs.declared.reply.Reply.{Reply}
 use Rattle.channel_calls.specs.declared.reply.Reply.TheVariants as reply
-use Rattle.channel_calls.specs.declared.stage.Aim.{Aim}
-use Rattle.channel_calls.specs.declared.stage.Aim.TheVariants as aim
-use Rattle.channel_calls.specs.declared.stage.Kept.{Kept}
-use Rattle.channel_calls.specs.declared.stage.Line.{Line}
-use Rattle.channel_calls.specs.declared.stage.Line.TheVariants.{Sends, Receives}
+use Rattle.channel_calls.specs.declared.stage.Purpose.{Purpose}
+use Rattle.channel_calls.specs.declared.stage.Purpose.TheVariants as aim
+use Rattle.channel_calls.specs.declared.stage.Returned.{Returned}
+use Rattle.channel_calls.specs.declared.stage.WaitList.{WaitList}
+use Rattle.channel_calls.specs.declared.stage.WaitList.TheVariants.{Sends, Receives}
 use Rattle.channel_calls.specs.declared.stage.Stage.{Stage}
 use Rattle.channel_calls.specs.declared.stage.Stage.TheVariants.{Trying, Working, Finished}
-use Rattle.channel_calls.specs.declared.stage.Turn.{Turn}
-use Rattle.channel_calls.specs.declared.stage.Turn.TheVariants.{Tries, Works, Ends}
+use Rattle.channel_calls.specs.declared.stage.NextStep.{NextStep}
+use Rattle.channel_calls.specs.declared.stage.NextStep.TheVariants.{Tries, Works, Ends}
 use Rattle.channel_calls.specs.declared.stage.Waiting.{Waiting}
 use Rattle.channel_calls.specs.declared.stage.Waiting.TheVariants as waiting
-use Rattle.channel_calls.specs.declared.stage.Work.{Work}
-use Rattle.channel_calls.specs.declared.stage.Work.TheVariants.{TellReceive, TellStreams, TellSend, Insert, Register, Leave}
-use Rattle.channel_calls.specs.declared.whole.Given.{Given}
+use Rattle.channel_calls.specs.declared.stage.ListStep.{ListStep}
+use Rattle.channel_calls.specs.declared.stage.ListStep.TheVariants.{TellReceive, TellStreams, TellSend, Insert, Register, Leave}
+use Rattle.channel_calls.specs.declared.whole.Given.{Completed}
 use Rattle.channel_calls.proofs.Listed.{TurnFair}
 use Rattle.channel_calls.proofs.Walking.{leads_on}
 
@@ -75,15 +75,15 @@ module _ {T : Type 0} where
 
 -- ---- ways of the machine put together
 module _ {T W X : Type 0} (did : Deed T W → X → X → Type 0) where
-  pub comes_ends : (turn : Turn T W) (s : X) (r : Reply T) (kept : Kept T) (t : X) → Comes did turn s (Ends r kept) t → WalkedFrom did turn s r kept t
+  pub comes_ends : (turn : NextStep T W) (s : X) (r : Reply T) (kept : Returned T) (t : X) → Comes did turn s (Ends r kept) t → WalkedFrom did turn s r kept t
   comes_ends turn s r kept t (a, takes, n, x, b, m, leads, made) = (a, takes, (n, x, b, m, Finished kept, leads, made (Finished kept) (Some r) (refl, refl), refl))
 
-  pub comes_before : (turn : Turn T W) (s : X) (w : Work T W) (t : X) → Comes did turn s (Works w) t
+  pub comes_before : (turn : NextStep T W) (s : X) (w : ListStep T W) (t : X) → Comes did turn s (Works w) t
       → (a : Stage (QueueCall T) T W) × Takes turn a None × (n : ℕ) × Leads did n s a t (Working w)
   comes_before turn s w t (a, takes, n, x, b, m, leads, made) = (a, takes, suc n, leads_on did n s a x b m t (Working w) leads (made (Working w) None (refl, refl)))
 
   -- a step on a list after it
-  pub comes_on : (turn : Turn T W) (s x : X) (w : Work T W) (then : Turn T W) (k : Mark) (t : X) → Comes did turn s (Works w) x
+  pub comes_on : (turn : NextStep T W) (s x : X) (w : ListStep T W) (then : NextStep T W) (k : Mark) (t : X) → Comes did turn s (Works w) x
       → ((next : Stage (QueueCall T) T W) (r : Option (Reply T)) → Takes then next r → ChannelMakes did (Working w) x t k next r) → Comes did turn s then t
   comes_on turn s x w then k t way step =
       let before = comes_before turn s w x way in
@@ -98,19 +98,19 @@ module _ {T W X : Type 0} (did : Deed T W → X → X → Type 0) where
       (suc w.0, (y, d, k, made, w.1))
 
   -- a further call of the queue after it
-  pub comes_then : (turn : Turn T W) (s x : X) (q : QueueAsk T) (a : Aim T W) (then : Turn T W) (t : X) → Comes did turn s (Tries q a) x → Comes did (Tries q a) x then t → Comes did turn s then t
+  pub comes_then : (turn : NextStep T W) (s x : X) (q : QueueAsk T) (a : Purpose T W) (then : NextStep T W) (t : X) → Comes did turn s (Tries q a) x → Comes did (Tries q a) x then t → Comes did turn s then t
   comes_then turn s x q a then t (b, takes, n, y, c, m, leads, made) (d, begins, l, z, e, k, on, makes) =
       let way = joined (suc n) s b x d l z e (leads_on did n s b y c m x d leads (made d None begins)) on in
       (b, takes, way.0, z, e, k, way.1, makes)
 
 -- ---- a send that doesn't wait
 module _ {T W X : Type 0} (did : Deed T W → X → X → Type 0) (key : Option Key) (task : W) where
-  abbrev Way : X → QueueCall T → Turn T W → X → Type 0
+  abbrev Way : X → QueueCall T → NextStep T W → X → Type 0
   Way s call then t =
       (n : ℕ) × (x : X) × (b : Stage (QueueCall T) T W) × (m : Mark) × Leads did n s (Trying call (aim.Poll Sends key task)) x b
       × ((next : Stage (QueueCall T) T W) (r : Option (Reply T)) → Takes then next r → ChannelMakes did b x t m next r)
 
-  abbrev SentTurn : Result Unit (Refused (TrySendError T) T) → Turn T W
+  abbrev SentTurn : Result Unit (Refused (TrySendError T) T) → NextStep T W
   SentTurn r = tried_turn Sends (sent_by r) key task
 
   same_turn : (r q : Result Unit (Refused (TrySendError T) T)) → Some (reply.TrySend r) ≡ Some (reply.TrySend q) → SentTurn q ≡ SentTurn r
@@ -139,7 +139,7 @@ module _ {T W X : Type 0} (did : Deed T W → X → X → Type 0) (key : Option 
         Trying call (aim.Poll Sends key task),
         mark_of_queue (mark_of after),
         (refl, refl),
-        λ next o there. (after, Some y, deed, refl, subst (λ (z : Turn T W). Takes z next o) (sym e) there),
+        λ next o there. (after, Some y, deed, refl, subst (λ (z : NextStep T W). Takes z next o) (sym e) there),
       )
 
   -- or has answered before, and whom the message is for is told
@@ -170,7 +170,7 @@ module _ {T W X : Type 0} (did : Deed T W → X → X → Type 0) (key : Option 
         λ next o there. (last.0, last.1, (refl, there)),
       )
       in
-      subst (λ (then : Turn T W). Way s call then t) (same_turn r (Ok tt) last.2.1.0) way
+      subst (λ (then : NextStep T W). Way s call then t) (same_turn r (Ok tt) last.2.1.0) way
   sent_then s call after u y deed (suc (suc n)) x b m t c r (z, d, k, (names, one, (mark, (none, at))), (w, g, j, second, rest)) made =
       let tells : Stage (QueueCall T) T W = Working (TellStreams (says (reply.TrySend (Ok tt)))) in
       let last : ChannelMakes did tells z w j g None = subst (λ (w' : Stage (QueueCall T) T W). ChannelMakes did w' z w j g None) at second in
@@ -210,12 +210,12 @@ module _ {T W X : Type 0} (did : Deed T W → X → X → Type 0) (key : Option 
 
 -- ---- a receive that doesn't wait
 module _ {T W X : Type 0} (did : Deed T W → X → X → Type 0) (key : Option Key) (task : W) where
-  abbrev Path : X → QueueCall T → Turn T W → X → Type 0
+  abbrev Path : X → QueueCall T → NextStep T W → X → Type 0
   Path s call then t =
       (n : ℕ) × (x : X) × (b : Stage (QueueCall T) T W) × (m : Mark) × Leads did n s (Trying call (aim.Poll Receives key task)) x b
       × ((next : Stage (QueueCall T) T W) (r : Option (Reply T)) → Takes then next r → ChannelMakes did b x t m next r)
 
-  abbrev GotTurn : Result T TryRecvError → Turn T W
+  abbrev GotTurn : Result T TryRecvError → NextStep T W
   GotTurn r = tried_turn Receives (received_by r) key task
 
   like_turn : (r q : Result T TryRecvError) → Some (reply.TryRecv r) ≡ Some (reply.TryRecv q) → GotTurn q ≡ GotTurn r
@@ -242,7 +242,7 @@ module _ {T W X : Type 0} (did : Deed T W → X → X → Type 0) (key : Option 
         Trying call (aim.Poll Receives key task),
         mark_of_queue (mark_of after),
         (refl, refl),
-        λ next o there. (after, Some y, deed, refl, subst (λ (z : Turn T W). Takes z next o) (sym e) there),
+        λ next o there. (after, Some y, deed, refl, subst (λ (z : NextStep T W). Takes z next o) (sym e) there),
       )
 
   got_then : (s : X) (call after : QueueCall T) (v : T) (y : X) → did (stepped call after (Some (Pop (Ok v)))) s y
@@ -263,7 +263,7 @@ module _ {T W X : Type 0} (did : Deed T W → X → X → Type 0) (key : Option 
         λ next o there. (last.0, last.1, (refl, there)),
       )
       in
-      subst (λ (then : Turn T W). Path s call then t) (like_turn r (Ok v) last.2.1.0) way
+      subst (λ (then : NextStep T W). Path s call then t) (like_turn r (Ok v) last.2.1.0) way
   got_then s call after v y deed (suc n) x b m t c r (z, d, k, (names, one, (mark, (none, at))), rest) made =
       absurd (let never : None ≡ Some (reply.TryRecv (Ok v)) = none in cc)
 
@@ -315,17 +315,17 @@ module _ {T W X : Type 0} (did : Deed T W → X → X → Type 0) (s t : X) wher
   got_looked (Err try_recv_error.Closed) walk = tt
 
 -- the same of a call and an answer by other names
-module _ {T W X : Type 0} (did : Deed T W → X → X → Type 0) (b c : Blocked T) (is : b ≡ c) (o q : Result (Given T) (Blocked T)) (same : o ≡ q) (s t : X) where
+module _ {T W X : Type 0} (did : Deed T W → X → X → Type 0) (b c : Blocked T) (is : b ≡ c) (o q : Result (Completed T) (Blocked T)) (same : o ≡ q) (s t : X) where
   pub tried_as : (key : Option Key) (task : W) → Comes did (again (waiting_of c) key task) s (tried_turn (line_of (waiting_of c)) q key task) t
       → Comes did (again (waiting_of b) key task) s (tried_turn (line_of (waiting_of b)) o key task) t
   tried_as key task h =
       subst (λ (z : Blocked T). Comes did (again (waiting_of z) key task) s (tried_turn (line_of (waiting_of z)) o key task) t) (sym is)
-      (subst (λ (z : Result (Given T) (Blocked T)). Comes did (again (waiting_of c) key task) s (tried_turn (line_of (waiting_of c)) z key task) t) (sym same) h)
+      (subst (λ (z : Result (Completed T) (Blocked T)). Comes did (again (waiting_of c) key task) s (tried_turn (line_of (waiting_of c)) z key task) t) (sym same) h)
 
   pub looked_as : IfErr q (λ left. WalkedTo did (first (at_once c)) s (not_yet c) t) → IfErr o (λ left. WalkedTo did (first (at_once b)) s (not_yet b) t)
   looked_as h =
       subst (λ (z : Blocked T). IfErr o (λ left. WalkedTo did (first (at_once z)) s (not_yet z) t)) (sym is)
-      (subst (λ (z : Result (Given T) (Blocked T)). IfErr z (λ left. WalkedTo did (first (at_once c)) s (not_yet c) t)) (sym same) h)
+      (subst (λ (z : Result (Completed T) (Blocked T)). IfErr z (λ left. WalkedTo did (first (at_once c)) s (not_yet c) t)) (sym same) h)
 
 -- ---- a look before a call that blocks
 module _ {T W X : Type 0} (did : Deed T W → X → X → Type 0) (b : Blocked T) (s x : X) (look : let a : ChannelAsk T W = at_once b in WalkedTo did (first a) s (not_yet b) x) where
@@ -333,18 +333,18 @@ module _ {T W X : Type 0} (did : Deed T W → X → X → Type 0) (b : Blocked T
   looks_on zero t e = (s, refl, subst (λ (z : X). let a : ChannelAsk T W = at_once b in WalkedTo did (first a) s (not_yet b) z) (sym e) look)
   looks_on (suc n) t (y, path, last) = (y, looks_on n y path, last)
 
-  pub blocks_on : (asked : Option W → X → X → Type 0) (slept : X → X → Type 0) (r : Reply T) (kept : Kept T) (t : X) → Blocks did asked slept b x r kept t → Blocks did asked slept b s r kept t
+  pub blocks_on : (asked : Option W → X → X → Type 0) (slept : X → X → Type 0) (r : Reply T) (kept : Returned T) (t : X) → Blocks did asked slept b x r kept t → Blocks did asked slept b s r kept t
   blocks_on asked slept r kept t (n, y, path, on) = (suc n, y, looks_on n y path, on)
 
 -- ---- a first poll
 module _ {T W X : Type 0} (did : Deed T W → X → X → Type 0) (b : Blocked T) where
-  abbrev pub TriesSo : X → Result (Given T) (Blocked T) → X → Type 0
+  abbrev pub TriesSo : X → Result (Completed T) (Blocked T) → X → Type 0
   TriesSo s o t = (key : Option Key) (task : W) → Comes did (again (waiting_of b) key task) s (tried_turn (line_of (waiting_of b)) o key task) t
 
-  with_kept : (turn : Turn T W) (s : X) (given : Given T) (t : X) → given.kept.key ≡ None → WalkedFrom did turn s given.reply (leaving None given.kept.message) t → WalkedFrom did turn s given.reply given.kept t
+  with_kept : (turn : NextStep T W) (s : X) (given : Completed T) (t : X) → given.kept.key ≡ None → WalkedFrom did turn s given.reply (leaving None given.kept.message) t → WalkedFrom did turn s given.reply given.kept t
   with_kept turn s given t none walk = subst (λ (k : Option Key). WalkedFrom did turn s given.reply (leaving k given.kept.message) t) (sym none) walk
 
-  pub begun_over : (s : X) (given : Given T) (t : X) → IsOver b given → TriesSo s (Ok given) t → AnswersAtFirst did b s given.reply given.kept t
+  pub begun_over : (s : X) (given : Completed T) (t : X) → IsOver b given → TriesSo s (Ok given) t → AnswersAtFirst did b s given.reply given.kept t
   begun_over s given t is tried task =
       let turn = again (waiting_of b) None task in
       with_kept turn s given t is.2 (comes_ends did turn s given.reply (leaving None given.kept.message) t (tried None task))
@@ -365,16 +365,16 @@ module _ {T W X : Type 0} (did : Deed T W → X → X → Type 0) (b : Blocked T
         comes_on did (again (waiting_of b) None task) s x (Insert (waiting_of b) task) (again (waiting_of b) (Some key) task) Nothing y (waited s left x same tried task)
         (λ next r takes. (Ok key, deed, (refl, takes)))
 
-    module _ (key : Key) (y : X) (deed : did (inserted (line_of (waiting_of b)) (Ok key)) x y) (o : Result (Given T) (Blocked T)) (z : X) (again_tried : TriesSo y o z) where
+    module _ (key : Key) (y : X) (deed : did (inserted (line_of (waiting_of b)) (Ok key)) x y) (o : Result (Completed T) (Blocked T)) (z : X) (again_tried : TriesSo y o z) where
       both : (task : W) → Comes did (again (waiting_of b) None task) s (tried_turn (line_of (waiting_of b)) o (Some key) task) z
       both task =
           comes_then did (again (waiting_of b) None task) s y _ _ (tried_turn (line_of (waiting_of b)) o (Some key) task) z (listed key y deed task) (again_tried (Some key) task)
 
-      pub begun_left : (given : Given T) (names : List W) (t : X) → o ≡ Ok given → IsOver b given → did (taken_off (line_of (waiting_of b)) key names) z t → AnswersAtFirst did b s given.reply given.kept t
+      pub begun_left : (given : Completed T) (names : List W) (t : X) → o ≡ Ok given → IsOver b given → did (taken_off (line_of (waiting_of b)) key names) z t → AnswersAtFirst did b s given.reply given.kept t
       begun_left given names t is done off task =
           let turn = again (waiting_of b) None task in
           let ended = over given.reply given.kept.message (line_of (waiting_of b)) (Some key) in
-          let way : Comes did turn s (Works (Leave ended)) z = subst (λ (q : Result (Given T) (Blocked T)). Comes did turn s (tried_turn (line_of (waiting_of b)) q (Some key) task) z) is (both task) in
+          let way : Comes did turn s (Works (Leave ended)) z = subst (λ (q : Result (Completed T) (Blocked T)). Comes did turn s (tried_turn (line_of (waiting_of b)) q (Some key) task) z) is (both task) in
           let last : Comes did turn s (Ends given.reply (leaving None given.kept.message)) t =
           comes_on did turn s z (Leave ended) (Ends given.reply (leaving None given.kept.message)) Nothing t way (λ next r takes. ((names, off), (refl, takes)))
           in
@@ -383,30 +383,30 @@ module _ {T W X : Type 0} (did : Deed T W → X → X → Type 0) (b : Blocked T
       pub begun_listens : (last : Blocked T) → o ≡ Err last → last ≡ b → Listens did b s key z
       begun_listens last is alike task =
           let turn = again (waiting_of b) None task in
-          let there : Comes did turn s (Works (Register (waiting_of last) key task)) z = subst (λ (q : Result (Given T) (Blocked T)). Comes did turn s (tried_turn (line_of (waiting_of b)) q (Some key) task) z) is (both task) in
+          let there : Comes did turn s (Works (Register (waiting_of last) key task)) z = subst (λ (q : Result (Completed T) (Blocked T)). Comes did turn s (tried_turn (line_of (waiting_of b)) q (Some key) task) z) is (both task) in
           comes_before did turn s (Register (waiting_of b) key task) z (subst (λ (l : Blocked T). Comes did turn s (Works (Register (waiting_of l) key task)) z) alike there)
 
 -- ---- a poll that registers first
-module _ {T : Type 0} (b : Blocked T) (given : Given T) where
-  abbrev pub Says : Result (Given T) (Blocked T × Key) → Type 0
+module _ {T : Type 0} (b : Blocked T) (given : Completed T) where
+  abbrev pub Says : Result (Completed T) (Blocked T × Key) → Type 0
   Says o = MatchResult o (λ over. (over ≡ given) × IsOver b over) (λ left. (left.0 ≡ b) × (given ≡ still_waits b left.1))
 
-  pub still_same : (o : Result (Given T) (Blocked T × Key)) → Says o → IfErr o (λ left. left.0 ≡ b)
+  pub still_same : (o : Result (Completed T) (Blocked T × Key)) → Says o → IfErr o (λ left. left.0 ≡ b)
   still_same (Ok over) h = tt
   still_same (Err left) h = h.0
 
-  pub still_over : (o : Result (Given T) (Blocked T × Key)) → Says o → IfOk o (λ over. IsOver b over)
+  pub still_over : (o : Result (Completed T) (Blocked T × Key)) → Says o → IfOk o (λ over. IsOver b over)
   still_over (Ok over) h = h.1
   still_over (Err left) h = tt
 
 module _ {T W X : Type 0} (did : Deed T W → X → X → Type 0) (b : Blocked T) where
-  abbrev pub Told : Given T → Result (Given T) (Blocked T × Key) → Type 0
+  abbrev pub Told : Completed T → Result (Completed T) (Blocked T × Key) → Type 0
   Told given o = MatchResult o (λ over. (over ≡ given) × IsOver b over) (λ left. (left.0 ≡ b) × (given ≡ still_waits b left.1))
 
-  pub still_walked : (turn : Turn T W) (s : X) (given : Given T) (t : X) (o : Result (Given T) (Blocked T × Key)) → Told given o → WalkedFrom did turn s given.reply given.kept t
+  pub still_walked : (turn : NextStep T W) (s : X) (given : Completed T) (t : X) (o : Result (Completed T) (Blocked T × Key)) → Told given o → WalkedFrom did turn s given.reply given.kept t
       → MatchResult o (λ over. WalkedFrom did turn s over.reply over.kept t) (λ left. WalkedFrom did turn s (still_waits b left.1).reply (still_waits b left.1).kept t)
-  still_walked turn s given t (Ok over) (same, is) walk = subst (λ (z : Given T). WalkedFrom did turn s z.reply z.kept t) (sym same) walk
-  still_walked turn s given t (Err left) (same, is) walk = subst (λ (z : Given T). WalkedFrom did turn s z.reply z.kept t) is walk
+  still_walked turn s given t (Ok over) (same, is) walk = subst (λ (z : Completed T). WalkedFrom did turn s z.reply z.kept t) (sym same) walk
+  still_walked turn s given t (Err left) (same, is) walk = subst (λ (z : Completed T). WalkedFrom did turn s z.reply z.kept t) is walk
 
 -- ---- a poll that asks its listener first, and one that is refused its task
 module _ {T : Type 0} (W : Type 0) where
@@ -414,7 +414,7 @@ module _ {T : Type 0} (W : Type 0) where
   woken_fair (Send v) key task = tt
   woken_fair Receive key task = tt
 
-  pub woken_may : (f : QueueForm) (b : Blocked T) (key : Key) (task : W) (r : Reply T) (m : Option T) → MayGive f (poll_woken b key task) r m → MayPoll (waiting_of b) r m
+  pub woken_may : (f : QueueForm) (b : Blocked T) (key : Key) (task : W) (r : Reply T) (m : Option T) → ReplyAllowed f (poll_woken b key task) r m → MayPoll (waiting_of b) r m
   woken_may f (Send v) key task r m may = may
   woken_may f Receive key task r m may = may
 
@@ -431,7 +431,7 @@ module _ {T : Type 0} where
   refused_poll (Send v) = (refl, refl)
   refused_poll Receive = (refl, refl)
 
-  pub refused_over : (b : Blocked T) (given : Given T) → given.reply ≡ refused_reply (line_of (waiting_of b)) listen_error.NoMemory → given.kept.message ≡ message_of (waiting_of b)
+  pub refused_over : (b : Blocked T) (given : Completed T) → given.reply ≡ refused_reply (line_of (waiting_of b)) listen_error.NoMemory → given.kept.message ≡ message_of (waiting_of b)
       → is_some given.kept.key ≡ pends given.reply → IsOver b given
   refused_over b given is left lists =
       let ready : pends given.reply ≡ false = ap (λ (r : Reply T). pends r) is ∙ (refused_poll b).1 in
@@ -448,20 +448,20 @@ module _ {T : Type 0} where
   unheard_over (Send v) listen_error.SerialsUsedUp = (refl, refl, refl)
   unheard_over Receive e = (refl, refl, refl)
 
-  pub unheard_given : (b left : Blocked T) → left ≡ b → (e : ListenError) (line : Line) → line ≡ line_of (waiting_of left) → (w : Waiting T) → w ≡ waiting_of left
-      → (m : Option T) → m ≡ message_of w → (r : Reply T) → r ≡ refused_reply line e → (given : Given T) → given ≡ polled r m
+  pub unheard_given : (b left : Blocked T) → left ≡ b → (e : ListenError) (line : WaitList) → line ≡ line_of (waiting_of left) → (w : Waiting T) → w ≡ waiting_of left
+      → (m : Option T) → m ≡ message_of w → (r : Reply T) → r ≡ refused_reply line e → (given : Completed T) → given ≡ polled r m
       → given ≡ polled (refused_reply (line_of (waiting_of b)) e) (message_of (waiting_of b))
   unheard_given b left same e line line_is w w_is m m_is r r_is given is =
       let message : m ≡ message_of (waiting_of b) = m_is ∙ ap (λ (z : Waiting T). message_of z) (w_is ∙ ap (λ (z : Blocked T). waiting_of z) same) in
-      let answer : r ≡ refused_reply (line_of (waiting_of b)) e = r_is ∙ ap (λ (z : Line). refused_reply z e) (line_is ∙ ap (λ (z : Blocked T). line_of (waiting_of z)) same) in
+      let answer : r ≡ refused_reply (line_of (waiting_of b)) e = r_is ∙ ap (λ (z : WaitList). refused_reply z e) (line_is ∙ ap (λ (z : Blocked T). line_of (waiting_of z)) same) in
       is ∙ ap (λ (z : Reply T). polled z m) answer ∙ ap (λ (z : Option T). polled (refused_reply (line_of (waiting_of b)) e) z) message
 
   -- ---- what is left of a call that is over
-  pub left_of : (b : Blocked T) (given : Given T) → IsOver b given → given.kept ≡ leaving None given.kept.message
+  pub left_of : (b : Blocked T) (given : Completed T) → IsOver b given → given.kept ≡ leaving None given.kept.message
   left_of b given is = ap (λ (k : Option Key). leaving k given.kept.message) is.2
 
   nothing_left : (r : Reply T) (p : Poll (Result T (Refused RecvError Unit))) → r ≡ reply.RecvPoll p → (m : Option T) → MayPoll waiting.Receive r m → m ≡ None
   nothing_left r p is m may = subst (λ (z : Reply T). MayPoll waiting.Receive z m) is may
 
-  pub received_left : (given : Given T) (p : Poll (Result T (Refused RecvError Unit))) → given.reply ≡ reply.RecvPoll p → IsOver Receive given → given.kept ≡ nothing_kept
+  pub received_left : (given : Completed T) (p : Poll (Result T (Refused RecvError Unit))) → given.reply ≡ reply.RecvPoll p → IsOver Receive given → given.kept ≡ nothing_kept
   received_left given p is done = left_of Receive given done ∙ ap (λ (m : Option T). leaving None m) (nothing_left given.reply p is given.kept.message done.0)

@@ -5,19 +5,19 @@ use Rattle.channel_calls.specs.Deeds.{Deed, taken_off}
 use Rattle.channel_calls.specs.Walks.{Leaves, WorkMakes, ChannelMakes}
 use Rattle.channel_calls.specs.declared.mark.Mark.{Mark}
 use Rattle.channel_calls.specs.declared.reply.Reply.{Reply}
-use Rattle.channel_calls.specs.declared.stage.Held.{Held}
+use Rattle.channel_calls.specs.declared.stage.ListenerRef.{ListenerRef}
 use Rattle.channel_calls.specs.declared.stage.Stage.{Stage}
 use Rattle.channel_calls.specs.declared.stage.Stage.TheVariants.{Trying, Working, Finished}
-use Rattle.channel_calls.specs.declared.stage.Work.{Work}
-use Rattle.channel_calls.specs.declared.stage.Work.TheVariants.{TellReceive, TellStreams, TellSend, TellSends, TakeRoom, TellAll, Insert, Register, Leave, Lower, Count, Load, Raise}
+use Rattle.channel_calls.specs.declared.stage.ListStep.{ListStep}
+use Rattle.channel_calls.specs.declared.stage.ListStep.TheVariants.{TellReceive, TellStreams, TellSend, TellSends, TakeRoom, TellAll, Insert, Register, Leave, Lower, Count, Load, Raise}
 
 module _ {T W X Y : Type 0} (did : Deed T W → X → X → Type 0) (does : Deed T W → Y → Y → Type 0) (s t : X) (u v : Y) (deed : (d : Deed T W) → did d s t → does d u v) (none : t ≡ s → v ≡ u) where
-  left : (held : Option Held) → Leaves did held s t → Leaves does held u v
+  left : (held : Option ListenerRef) → Leaves did held s t → Leaves does held u v
   left None h = none h
   left (Some held) (names, h) = (names, deed (taken_off held.line held.key names) h)
 
   module _ (m : Mark) (next : Stage (QueueCall T) T W) (r : Option (Reply T)) where
-    worked : (w : Work T W) → WorkMakes did w s t m next r → WorkMakes does w u v m next r
+    worked : (w : ListStep T W) → WorkMakes did w s t m next r → WorkMakes does w u v m next r
     worked (TellReceive e) (names, h, x) = (names, deed _ h, x)
     worked (TellStreams e) (names, h, x) = (names, deed _ h, x)
     worked (TellSend e) (names, h, x) = (names, deed _ h, x)

@@ -11,15 +11,15 @@ use Rattle.channel_calls.specs.Walks.{Takes, ChannelMakes, Leads, Walked, Walked
 use Rattle.channel_calls.specs.declared.mark.Mark.TheVariants.{Nothing}
 use Rattle.channel_calls.specs.declared.reply.Reply.{Reply}
 use Rattle.channel_calls.specs.declared.reply.Reply.TheVariants.{Made, TooMany, Unit}
-use Rattle.channel_calls.specs.declared.stage.Aim.TheVariants as aim
-use Rattle.channel_calls.specs.declared.stage.Kept.{Kept}
+use Rattle.channel_calls.specs.declared.stage.Purpose.TheVariants as aim
+use Rattle.channel_calls.specs.declared.stage.Returned.{Returned}
 use Rattle.channel_calls.specs.declared.stage.Making.TheVariants.{Clone}
 use Rattle.channel_calls.specs.declared.stage.Side.{Side}
 use Rattle.channel_calls.specs.declared.stage.Side.TheVariants.{Senders, Receivers}
 use Rattle.channel_calls.specs.declared.stage.Stage.{Stage}
 use Rattle.channel_calls.specs.declared.stage.Stage.TheVariants.{Working, Finished}
-use Rattle.channel_calls.specs.declared.stage.Turn.TheVariants.{Tries, Works, Ends}
-use Rattle.channel_calls.specs.declared.stage.Work.TheVariants.{Load, Raise, Lower}
+use Rattle.channel_calls.specs.declared.stage.NextStep.TheVariants.{Tries, Works, Ends}
+use Rattle.channel_calls.specs.declared.stage.ListStep.TheVariants.{Load, Raise, Lower}
 use Rattle.concurrent_queue.specs.declared.call.QueueAsk.TheVariants as queue_ask
 
 module _ {T W X : Type 0} (did : Deed T W → X → X → Type 0) (side : Side) (n : ℕ) where
@@ -56,7 +56,7 @@ module _ {T W X : Type 0} (did : Deed T W → X → X → Type 0) (side : Side) 
     )
 
     -- another handle came between, and the count is read again
-    pub again : did (raised side n false) x t → (r : Reply T) (kept : Kept T) (u : X) → Walked did (Working (Load side Clone)) t r kept u
+    pub again : did (raised side n false) x t → (r : Reply T) (kept : Returned T) (u : X) → Walked did (Working (Load side Clone)) t r kept u
         → WalkedTo did (Works (Load side Clone)) s r u
     again raises r kept u walk =
         let leads : Leads did 2 s (Working (Load side Clone)) t (Working (Load side Clone)) =
@@ -71,7 +71,7 @@ module _ {T W X : Type 0} (did : Deed T W → X → X → Type 0) (side : Side) 
         (kept_by c, (Working (Lower side key), (refl, refl), (0, s, Working (Lower side key), down side, c, (refl, refl), (n, deed, (refl, takes)), refl)))
 
     -- and one that goes on: the last one closes, and a listener leaves
-    pub lowers_on : (b : Stage (QueueCall T) T W) → Takes (lowered_next side key n) b None → (r : Reply T) (kept : Kept T) (u : X) → Walked did b t r kept u
+    pub lowers_on : (b : Stage (QueueCall T) T W) → Takes (lowered_next side key n) b None → (r : Reply T) (kept : Returned T) (u : X) → Walked did b t r kept u
         → WalkedTo did (Works (Lower side key)) s r u
     lowers_on b takes r kept u walk = (
       kept,

@@ -20,13 +20,13 @@ use Rattle.channel_calls.specs.declared.error.TryRecvError.{TryRecvError}
 use Rattle.channel_calls.specs.declared.error.TryRecvError.TheVariants as try_recv_error
 use Rattle.channel_calls.specs.declared.mark.Mark.TheVariants.{Nothing}
 use Rattle.channel_calls.specs.declared.reply.Reply.TheVariants as reply
-use Rattle.channel_calls.specs.declared.stage.Aim.TheVariants as aim
-use Rattle.channel_calls.specs.declared.stage.Line.TheVariants.{Sends}
+use Rattle.channel_calls.specs.declared.stage.Purpose.TheVariants as aim
+use Rattle.channel_calls.specs.declared.stage.WaitList.TheVariants.{Sends}
 use Rattle.channel_calls.specs.declared.stage.Stage.{Stage}
 use Rattle.channel_calls.specs.declared.stage.Stage.TheVariants.{Trying, Working, Finished}
-use Rattle.channel_calls.specs.declared.stage.Turn.{Turn}
-use Rattle.channel_calls.specs.declared.stage.Turn.TheVariants.{Ends}
-use Rattle.channel_calls.specs.declared.stage.Work.TheVariants.{TakeRoom, TellSends}
+use Rattle.channel_calls.specs.declared.stage.NextStep.{NextStep}
+use Rattle.channel_calls.specs.declared.stage.NextStep.TheVariants.{Ends}
+use Rattle.channel_calls.specs.declared.stage.ListStep.TheVariants.{TakeRoom, TellSends}
 use Rattle.channel_calls.proofs.Walking.{leads_on}
 
 module _ {T : Type 0} where
@@ -35,7 +35,7 @@ module _ {T : Type 0} where
 
 module _ {T W : Type 0} where
   -- what is answered where there is no further message
-  abbrev refusal : TryRecvError → Turn T W
+  abbrev refusal : TryRecvError → NextStep T W
   refusal e = Ends (reply.RecvMany (Err (Plain e))) nothing_kept
 
   -- none was taken, or some were
@@ -104,7 +104,7 @@ module _ {T W X : Type 0} (did : Deed T W → X → X → Type 0) where
       hands vs e names w told =
           let g = with_these taken more in
           let tells : Stage (QueueCall T) T W = Working (TellSends (length vs) (says (reply.RecvMany (Ok vs)))) in
-          let turn : Takes (several_next y g) tells None = subst (λ (z : Turn T W). Takes z tells None) (sym e) (refl, refl) in
+          let turn : Takes (several_next y g) tells None = subst (λ (z : NextStep T W). Takes z tells None) (sym e) (refl, refl) in
           let leads = leads_on did gathers.0 s (Working (TakeRoom room)) t (Trying call (aim.RecvMany g)) (mark_of_queue (mark_of after)) u tells gathers.1 (after, Some y, deed, refl, turn) in
           (nothing_kept, (Working (TakeRoom room), (refl, refl), (suc gathers.0, u, tells, Nothing, Finished nothing_kept, leads, (names, told, (refl, (refl, refl))), refl)))
 
@@ -112,5 +112,5 @@ module _ {T W X : Type 0} (did : Deed T W → X → X → Type 0) where
       pub finds_none : (e : TryRecvError) → several_next y (with_these taken more) ≡ refusal {W = W} e → WalkedTo did (first (ask.RecvMany room)) s (reply.RecvMany (Err (Plain e))) u
       finds_none e is =
           let g = with_these taken more in
-          let turn : Takes (several_next y g) (Finished nothing_kept) (Some (reply.RecvMany (Err (Plain e)))) = subst (λ (z : Turn T W). Takes z (Finished nothing_kept) (Some (reply.RecvMany (Err (Plain e))))) (sym is) (refl, refl) in
+          let turn : Takes (several_next y g) (Finished nothing_kept) (Some (reply.RecvMany (Err (Plain e)))) = subst (λ (z : NextStep T W). Takes z (Finished nothing_kept) (Some (reply.RecvMany (Err (Plain e))))) (sym is) (refl, refl) in
           (nothing_kept, (Working (TakeRoom room), (refl, refl), (gathers.0, t, Trying call (aim.RecvMany g), mark_of_queue (mark_of after), Finished nothing_kept, gathers.1, (after, Some y, deed, refl, turn), refl)))

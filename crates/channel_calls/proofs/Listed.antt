@@ -28,33 +28,33 @@ use Rattle.channel_calls.specs.declared.mark.Mark.{Mark}
 use Rattle.channel_calls.specs.declared.reply.Reply.{Reply}
 use Rattle.channel_calls.specs.declared.reply.Reply.TheVariants as reply
 use Rattle.concurrent_queue.specs.declared.call.QueueAsk.TheVariants as ask
-use Rattle.channel_calls.specs.declared.stage.Aim.{Aim}
-use Rattle.channel_calls.specs.declared.stage.Aim.TheVariants as aim
+use Rattle.channel_calls.specs.declared.stage.Purpose.{Purpose}
+use Rattle.channel_calls.specs.declared.stage.Purpose.TheVariants as aim
 use Rattle.channel_calls.specs.declared.stage.Closer.{Closer}
 use Rattle.channel_calls.specs.declared.stage.Closer.TheVariants as closer
 use Rattle.channel_calls.specs.declared.stage.Ending.{Ending}
-use Rattle.channel_calls.specs.declared.stage.Held.{Held}
-use Rattle.channel_calls.specs.declared.stage.Kept.{Kept}
-use Rattle.channel_calls.specs.declared.stage.Line.{Line}
-use Rattle.channel_calls.specs.declared.stage.Line.TheVariants.{Sends, Receives, Streams, Closings}
+use Rattle.channel_calls.specs.declared.stage.ListenerRef.{ListenerRef}
+use Rattle.channel_calls.specs.declared.stage.Returned.{Returned}
+use Rattle.channel_calls.specs.declared.stage.WaitList.{WaitList}
+use Rattle.channel_calls.specs.declared.stage.WaitList.TheVariants.{Sends, Receives, Streams, Closings}
 use Rattle.channel_calls.specs.declared.stage.Making.{Making}
 use Rattle.channel_calls.specs.declared.stage.Making.TheVariants as making
 use Rattle.channel_calls.specs.declared.stage.Side.{Side}
 use Rattle.channel_calls.specs.declared.stage.Stage.{Stage}
 use Rattle.channel_calls.specs.declared.stage.Stage.TheVariants.{Trying, Working, Finished}
-use Rattle.channel_calls.specs.declared.stage.Turn.{Turn}
-use Rattle.channel_calls.specs.declared.stage.Turn.TheVariants.{Tries, Works, Ends}
+use Rattle.channel_calls.specs.declared.stage.NextStep.{NextStep}
+use Rattle.channel_calls.specs.declared.stage.NextStep.TheVariants.{Tries, Works, Ends}
 use Rattle.channel_calls.specs.declared.stage.Waiting.{Waiting}
 use Rattle.channel_calls.specs.declared.stage.Waiting.TheVariants as waiting
-use Rattle.channel_calls.specs.declared.stage.Work.{Work}
-use Rattle.channel_calls.specs.declared.stage.Work.TheVariants.{TellReceive, TellStreams, TellSend, TellSends, TakeRoom, TellAll, Insert, Register, Leave, Lower, Count, Load, Raise}
+use Rattle.channel_calls.specs.declared.stage.ListStep.{ListStep}
+use Rattle.channel_calls.specs.declared.stage.ListStep.TheVariants.{TellReceive, TellStreams, TellSend, TellSends, TakeRoom, TellAll, Insert, Register, Leave, Lower, Count, Load, Raise}
 
-abbrev pub Leaves : {T : Type 0} → Reply T → Kept T → Type 0
+abbrev pub Leaves : {T : Type 0} → Reply T → Returned T → Type 0
 Leaves r kept = is_some kept.key ≡ pends r
 
 module _ {T W : Type 0} where
   -- what is still to be told or left ends with no waiting
-  abbrev pub EndsReady : Work T W → Type 0
+  abbrev pub EndsReady : ListStep T W → Type 0
   EndsReady (TellReceive e) = pends e.reply ≡ false
   EndsReady (TellStreams e) = pends e.reply ≡ false
   EndsReady (TellSend e) = pends e.reply ≡ false
@@ -67,7 +67,7 @@ module _ {T W : Type 0} where
   StageFair (Working w) = EndsReady w
   StageFair (Finished kept) = Unit {0}
 
-  abbrev pub TurnFair : Turn T W → Type 0
+  abbrev pub TurnFair : NextStep T W → Type 0
   TurnFair (Tries x aim) = Unit {0}
   TurnFair (Works w) = EndsReady w
   TurnFair (Ends x kept) = Leaves x kept
@@ -76,10 +76,10 @@ module _ {T W : Type 0} where
   After next r = MatchOption r (StageFair next) (λ x. Leaves x (kept_by next))
 
 module _ (T W : Type 0) where
-  abbrev Fair : Turn T W → Type 0
+  abbrev Fair : NextStep T W → Type 0
   Fair t = TurnFair t
 
-  taken : (turn : Turn T W) → Fair turn → (next : Stage (QueueCall T) T W) (r : Option (Reply T)) → Takes turn next r → After next r
+  taken : (turn : NextStep T W) → Fair turn → (next : Stage (QueueCall T) T W) (r : Option (Reply T)) → Takes turn next r → After next r
   taken (Tries x aim) fair next r (call, starts, asks, none, e) =
       let there : StageFair next = subst (λ (z : Stage (QueueCall T) T W). StageFair z) (sym e) tt in
       subst (λ (o : Option (Reply T)). After next o) (sym none) there
@@ -90,7 +90,7 @@ module _ (T W : Type 0) where
       let there : Leaves x (kept_by next) = subst (λ (z : Stage (QueueCall T) T W). Leaves x (kept_by z)) (sym e) fair in
       subst (λ (o : Option (Reply T)). After next o) (sym some) there
 
-  by_held : (held : Option Held) (r : Reply T) (m : Option T) → pends r ≡ false → Fair (ends_by (let e : Ending T = record { reply = r; message = m; held = held } in e))
+  by_held : (held : Option ListenerRef) (r : Reply T) (m : Option T) → pends r ≡ false → Fair (ends_by (let e : Ending T = record { reply = r; message = m; held = held } in e))
   by_held None r m ready = sym ready
   by_held (Some h) r m ready = ready
 
@@ -127,7 +127,7 @@ module _ (T W : Type 0) where
   closing (closer.Receiver None) b = refl
   closing (closer.Receiver (Some key)) b = refl
 
-  all_told : (line : Line) (c : Closer) → Fair (told_all_next line c)
+  all_told : (line : WaitList) (c : Closer) → Fair (told_all_next line c)
   all_told Sends c = tt
   all_told Receives c = tt
   all_told Streams c = tt
@@ -137,11 +137,11 @@ module _ (T W : Type 0) where
   room_of zero = refl
   room_of (suc n) = tt
 
-  room : (n : ℕ) (turn : Turn T W) → TakesRoom n turn → Fair turn
-  room n turn (inl e) = subst (λ (t : Turn T W). Fair t) (sym e) (room_of n)
-  room n turn (inr (some, e)) = subst (λ (t : Turn T W). Fair t) (sym e) refl
+  room : (n : ℕ) (turn : NextStep T W) → TakesRoom n turn → Fair turn
+  room n turn (inl e) = subst (λ (t : NextStep T W). Fair t) (sym e) (room_of n)
+  room n turn (inr (some, e)) = subst (λ (t : NextStep T W). Fair t) (sym e) refl
 
-  either : (b : Bool) (one other : Turn T W) → Fair one → Fair other → Fair (if b then one else other)
+  either : (b : Bool) (one other : NextStep T W) → Fair one → Fair other → Fair (if b then one else other)
   either true one other h k = h
   either false one other h k = k
 
@@ -259,7 +259,7 @@ module _ (T W : Type 0) where
     closing_poll (Count y) = refl
     closing_poll (Cap y) = refl
 
-    polled : (line : Line) (x : QueueReply T) → Fair (polled_next line x key task)
+    polled : (line : WaitList) (x : QueueReply T) → Fair (polled_next line x key task)
     polled Sends x = send x
     polled Receives x = receive x
     polled Streams x = stream x
@@ -304,7 +304,7 @@ module _ (T W : Type 0) where
   upgraded (Count y) side = refl
   upgraded (Cap y) side = refl
 
-  answered : (a : Aim T W) (x : QueueReply T) → Fair (answered_next a x)
+  answered : (a : Purpose T W) (x : QueueReply T) → Fair (answered_next a x)
   answered aim.TrySend x = sent x
   answered aim.ForceSend x = forced x
   answered aim.TryRecv x = received x
@@ -316,7 +316,7 @@ module _ (T W : Type 0) where
   answered (aim.Upgrade side) x = upgraded x side
 
 module _ {T W X : Type 0} (did : Deed T W → X → X → Type 0) (s t : X) (m : Mark) (next : Stage (QueueCall T) T W) (r : Option (Reply T)) where
-  worked : (w : Work T W) → EndsReady w → ChannelMakes did (Working w) s t m next r → After next r
+  worked : (w : ListStep T W) → EndsReady w → ChannelMakes did (Working w) s t m next r → After next r
   worked (TellReceive e) ready (names, deed, (mark, takes)) = taken T W (Works (TellStreams e)) ready next r takes
   worked (TellStreams e) ready (names, deed, (mark, takes)) = taken T W (ends_by e) (ends T W e ready) next r takes
   worked (TellSend e) ready (names, deed, (mark, takes)) = taken T W (ends_by e) (ends T W e ready) next r takes
@@ -331,7 +331,7 @@ module _ {T W X : Type 0} (did : Deed T W → X → X → Type 0) (s t : X) (m :
   worked (Load side making) ready (n, deed, (mark, takes)) = taken T W (loaded_next side making n) (loaded T W side making n) next r takes
   worked (Raise side n making) ready (b, deed, (mark, takes)) = taken T W (raised_next side making b) (raised T W side making b) next r takes
 
-  tried : (a : Aim T W) (call after : QueueCall T) (o : Option (QueueReply T)) → Heard a after o next r → After next r
+  tried : (a : Purpose T W) (call after : QueueCall T) (o : Option (QueueReply T)) → Heard a after o next r → After next r
   tried a call after None (e, none) =
       let there : StageFair next = subst (λ (z : Stage (QueueCall T) T W). StageFair z) (sym e) tt in
       subst (λ (x : Option (Reply T)). After next x) (sym none) there
@@ -349,20 +349,20 @@ module _ {T W X : Type 0} (did : Deed T W → X → X → Type 0) where
   leads zero a s b t fair (e, f) = subst (λ (z : Stage (QueueCall T) T W). StageFair z) (sym f) fair
   leads (suc n) a s b t fair (x, y, m, made, rest) = leads n y x b t (steps did s x m y None a fair made) rest
 
-  pub walked : (a : Stage (QueueCall T) T W) (s : X) (r : Reply T) (kept : Kept T) (t : X) → StageFair a → Walked did a s r kept t → is_some kept.key ≡ pends r
+  pub walked : (a : Stage (QueueCall T) T W) (s : X) (r : Reply T) (kept : Returned T) (t : X) → StageFair a → Walked did a s r kept t → is_some kept.key ≡ pends r
   walked a s r kept t fair (n, x, b, m, c, led, made, e) =
       let ends : is_some (kept_by c).key ≡ pends r = steps did x t m c (Some r) b (leads n a s b x fair led) made in
-      ap (λ (k : Kept T). is_some k.key) e ∙ ends
+      ap (λ (k : Returned T). is_some k.key) e ∙ ends
 
   -- of a call from its first turn
-  pub walked_from : (turn : Turn T W) (s : X) (r : Reply T) (kept : Kept T) (t : X) → TurnFair turn → WalkedFrom did turn s r kept t → is_some kept.key ≡ pends r
+  pub walked_from : (turn : NextStep T W) (s : X) (r : Reply T) (kept : Returned T) (t : X) → TurnFair turn → WalkedFrom did turn s r kept t → is_some kept.key ≡ pends r
   walked_from turn s r kept t fair (a, takes, walk) = walked a s r kept t (taken T W turn fair a None takes) walk
 
   -- a call that only leaves and answers leaves no listener to its operation
-  none_left : (e : Ending T) (a : Stage (QueueCall T) T W) → a ≡ Working (Leave e) → (s : X) (r : Reply T) (kept : Kept T) (t : X) → Walked did a s r kept t → kept.key ≡ None
+  none_left : (e : Ending T) (a : Stage (QueueCall T) T W) → a ≡ Working (Leave e) → (s : X) (r : Reply T) (kept : Returned T) (t : X) → Walked did a s r kept t → kept.key ≡ None
   none_left e a is s r kept t (zero, x, b, m, c, (same, at), made, k) =
       let last : ChannelMakes did (Working (Leave e)) x t m c (Some r) = subst (λ (z : Stage (QueueCall T) T W). ChannelMakes did z x t m c (Some r)) (at ∙ is) made in
-      ap (λ (z : Kept T). z.key) k ∙ ap (λ (z : Stage (QueueCall T) T W). (kept_by z).key) (last.1.1.1)
+      ap (λ (z : Returned T). z.key) k ∙ ap (λ (z : Stage (QueueCall T) T W). (kept_by z).key) (last.1.1.1)
   none_left e a is s r kept t (suc n, x, b, m, c, (y, d, j, begun, rest), made, k) =
       let step : ChannelMakes did (Working (Leave e)) s y j d None = subst (λ (z : Stage (QueueCall T) T W). ChannelMakes did z s y j d None) is begun in
       absurd (let never : None ≡ Some e.reply = step.1.1.0 in cc)
@@ -389,7 +389,7 @@ module _ (T W : Type 0) (key : Option Key) where
   next_fair None = refl
   next_fair (Some task) = by_key T W key task
 
-module _ {T W X : Type 0} (did : Deed T W → X → X → Type 0) (key : Option Key) (task : Option W) (s : X) (kept : Kept T) (t : X) where
+module _ {T W X : Type 0} (did : Deed T W → X → X → Type 0) (key : Option Key) (task : Option W) (s : X) (kept : Returned T) (t : X) where
   by_task : (task : Option W) (p : Poll (Result Unit (Refused (SendError T) Unit))) → WalkedFrom did (first (send_ask None key task)) s (reply.SendPoll p) kept t → kept.key ≡ None
   by_task None p (a, (none, is), walk) = none_left did (is_refused Sends None key) a is s (reply.SendPoll p) kept t walk
   by_task (Some w) p (a, (none, is), walk) = none_left did (says (reply.SendPoll Pending)) a is s (reply.SendPoll p) kept t walk

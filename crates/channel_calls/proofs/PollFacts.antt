@@ -9,16 +9,16 @@ use Rattle.channel_calls.specs.declared.error.RecvError.{RecvError}
 use Rattle.channel_calls.specs.declared.error.Refused.{Refused}
 use Rattle.channel_calls.specs.declared.error.SendError.{SendError}
 use Rattle.channel_calls.specs.Calls.{SendsOn, send_ask, recv_ask, closed_ask, next_ask}
-use Rattle.channel_calls.specs.Replies.{MayPoll, MayGive}
+use Rattle.channel_calls.specs.Replies.{MayPoll, ReplyAllowed}
 use Rattle.channel_calls.specs.declared.reply.Reply.{Reply}
 use Rattle.channel_calls.specs.declared.reply.Reply.TheVariants as reply
-use Rattle.channel_calls.specs.declared.stage.Line.{Line}
-use Rattle.channel_calls.specs.declared.stage.Line.TheVariants.{Sends, Receives, Streams, Closings}
+use Rattle.channel_calls.specs.declared.stage.WaitList.{WaitList}
+use Rattle.channel_calls.specs.declared.stage.WaitList.TheVariants.{Sends, Receives, Streams, Closings}
 use Rattle.channel_calls.specs.declared.stage.Waiting.TheVariants as waiting
 
 module _ {T : Type 0} where
   -- a reply of the kind of this operation
-  abbrev pub IsPollOf : Line → Reply T → Type 0
+  abbrev pub IsPollOf : WaitList → Reply T → Type 0
   IsPollOf Sends r = (p : Poll (Result Unit (Refused (SendError T) Unit))) × (r ≡ reply.SendPoll p)
   IsPollOf Receives r = (p : Poll (Result T (Refused RecvError Unit))) × (r ≡ reply.RecvPoll p)
   IsPollOf Streams r = (p : Poll (Option (Result T ListenError))) × (r ≡ reply.Next p)
@@ -45,29 +45,29 @@ module _ {T : Type 0} where
   closings _ m h = absurd h
 
 module _ {T W : Type 0} (f : QueueForm) (key : Option Key) where
-  pub send_polled : (m : Option T) (task : Option W) (r : Reply T) (left : Option T) → MayGive f (send_ask m key task) r left → IsPollOf Sends r
+  pub send_polled : (m : Option T) (task : Option W) (r : Reply T) (left : Option T) → ReplyAllowed f (send_ask m key task) r left → IsPollOf Sends r
   send_polled m None r left h = (_, h.0)
   send_polled None (Some task) r left h = (_, h.0)
   send_polled (Some w) (Some task) r left h = sends w r left h
 
-  pub recv_polled : (task : Option W) (r : Reply T) (left : Option T) → MayGive f (recv_ask key task) r left → IsPollOf {T = T} Receives r
+  pub recv_polled : (task : Option W) (r : Reply T) (left : Option T) → ReplyAllowed f (recv_ask key task) r left → IsPollOf {T = T} Receives r
   recv_polled None r left h = (_, h.0)
   recv_polled (Some task) r left h = receives r left h
 
-  pub closed_polled : (task : Option W) (r : Reply T) (left : Option T) → MayGive f (closed_ask key task) r left → IsPollOf {T = T} Closings r
+  pub closed_polled : (task : Option W) (r : Reply T) (left : Option T) → ReplyAllowed f (closed_ask key task) r left → IsPollOf {T = T} Closings r
   closed_polled None r left h = (_, h.0)
   closed_polled (Some task) r left h = closings r left h
 
-  pub next_polled : (task : Option W) (r : Reply T) (left : Option T) → MayGive f (next_ask key task) r left → IsPollOf {T = T} Streams r
+  pub next_polled : (task : Option W) (r : Reply T) (left : Option T) → ReplyAllowed f (next_ask key task) r left → IsPollOf {T = T} Streams r
   next_polled None r left h = (_, h.0)
   next_polled (Some task) r left h = streams r left h
 
   -- and what is left of a send's message
-  keeps : (m : Option T) (task : Option W) (left : Option T) (p : Poll (Result Unit (Refused (SendError T) Unit))) → MayGive f (send_ask m key task) (reply.SendPoll p) left → SendsOn m p left
+  keeps : (m : Option T) (task : Option W) (left : Option T) (p : Poll (Result Unit (Refused (SendError T) Unit))) → ReplyAllowed f (send_ask m key task) (reply.SendPoll p) left → SendsOn m p left
   keeps None None left p h = subst (λ (q : Poll (Result Unit (Refused (SendError T) Unit))). SendsOn None q left) (sym (ap (λ (x : Reply T). as_send x) h.0)) h.1
   keeps (Some v) None left p h = subst (λ (q : Poll (Result Unit (Refused (SendError T) Unit))). SendsOn (Some v) q left) (sym (ap (λ (x : Reply T). as_send x) h.0)) h.1
   keeps None (Some task) left p h = subst (λ (q : Poll (Result Unit (Refused (SendError T) Unit))). SendsOn None q left) (sym (ap (λ (x : Reply T). as_send x) h.0)) h.1
   keeps (Some v) (Some task) left p h = h
 
-  pub sends_on : (m : Option T) (task : Option W) (r : Reply T) (left : Option T) (p : Poll (Result Unit (Refused (SendError T) Unit))) → r ≡ reply.SendPoll p → MayGive f (send_ask m key task) r left → SendsOn m p left
-  sends_on m task r left p e h = keeps m task left p (subst (λ (x : Reply T). MayGive f (send_ask m key task) x left) e h)
+  pub sends_on : (m : Option T) (task : Option W) (r : Reply T) (left : Option T) (p : Poll (Result Unit (Refused (SendError T) Unit))) → r ≡ reply.SendPoll p → ReplyAllowed f (send_ask m key task) r left → SendsOn m p left
+  sends_on m task r left p e h = keeps m task left p (subst (λ (x : Reply T). ReplyAllowed f (send_ask m key task) x left) e h)

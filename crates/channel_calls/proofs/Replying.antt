@@ -15,26 +15,26 @@ use Rattle.channel_calls.specs.declared.error.Refused.TheVariants as refused
 use Rattle.channel_calls.specs.declared.error.TryRecvError.{TryRecvError}
 use Rattle.channel_calls.specs.Several.{Gathered, with_one}
 use Rattle.channel_calls.specs.declared.reply.Reply.{Reply}
-use Rattle.channel_calls.specs.declared.stage.Aim.{Aim}
-use Rattle.channel_calls.specs.declared.stage.Aim.TheVariants as aim
+use Rattle.channel_calls.specs.declared.stage.Purpose.{Purpose}
+use Rattle.channel_calls.specs.declared.stage.Purpose.TheVariants as aim
 use Rattle.channel_calls.specs.declared.stage.Closer.{Closer}
 use Rattle.channel_calls.specs.declared.stage.Closer.TheVariants as closer
-use Rattle.channel_calls.specs.declared.stage.Line.TheVariants.{Sends, Receives, Streams, Closings}
+use Rattle.channel_calls.specs.declared.stage.WaitList.TheVariants.{Sends, Receives, Streams, Closings}
 use Rattle.channel_calls.specs.declared.stage.Side.{Side}
-use Rattle.channel_calls.specs.declared.stage.Turn.{Turn}
+use Rattle.channel_calls.specs.declared.stage.NextStep.{NextStep}
 use Rattle.channel_calls.specs.declared.stage.Waiting.{Waiting}
 use Rattle.channel_calls.specs.declared.stage.Waiting.TheVariants as waiting
 use Rattle.channel_calls.specs.declared.stage.Ending.{Ending}
-use Rattle.channel_calls.specs.declared.stage.Held.{Held}
-use Rattle.channel_calls.specs.declared.stage.Line.{Line}
+use Rattle.channel_calls.specs.declared.stage.ListenerRef.{ListenerRef}
+use Rattle.channel_calls.specs.declared.stage.WaitList.{WaitList}
 use Rattle.channel_calls.specs.declared.stage.Making.{Making}
 use Rattle.channel_calls.specs.declared.stage.Making.TheVariants as making
 use Rattle.channel_calls.specs.declared.stage.Stage.{Stage}
 use Rattle.channel_calls.specs.declared.stage.Stage.TheVariants.{Trying, Working}
-use Rattle.channel_calls.specs.declared.stage.Work.{Work}
-use Rattle.channel_calls.specs.declared.stage.Turn.TheVariants.{Tries, Works, Ends}
+use Rattle.channel_calls.specs.declared.stage.ListStep.{ListStep}
+use Rattle.channel_calls.specs.declared.stage.NextStep.TheVariants.{Tries, Works, Ends}
 use Rattle.channel_calls.specs.declared.reply.Reply.TheVariants as reply
-use Rattle.channel_calls.specs.declared.stage.Work.TheVariants as work
+use Rattle.channel_calls.specs.declared.stage.ListStep.TheVariants as work
 use Rattle.channel_calls.specs.declared.ask.ChannelAsk.{ChannelAsk}
 use Rattle.channel_calls.specs.declared.ask.ChannelAsk.TheVariants as call
 use Rattle.channel_calls.specs.Asks.{asks_listener, first, kept_by}
@@ -45,7 +45,7 @@ use Rattle.concurrent_queue.specs.declared.cells.QueueForm.{QueueForm}
 use Rattle.channel_calls.specs.Walks.{Takes}
 use Rattle.channel_calls.specs.Turns.{most, again, ends_by, closer_ending, nothing_kept, told_all_next, room_next, TakesRoom, counted_next, loaded_next, raised_next, pends_by, unlistened}
 use Rattle.channel_calls.specs.Answered.{sent_next, forced_next, received_next, hands_out, gathered_next, short_next, several_next, send_next, receive_next, stream_next, closing_next, closed_next, asked_next, terminated_next, upgraded_next, answered_next}
-use Rattle.channel_calls.specs.Replies.{MayGive, EndsBy, MayEnd, FollowsTurn, FollowsStage, IsCount, SendsAtOnce, ForcesIn, IsTryRecv, GivesUpTo, IsFlag, IsClosing, IsMaking, MayPoll, MayTell, MayTry, MayTurn}
+use Rattle.channel_calls.specs.Replies.{ReplyAllowed, EndsBy, MayEnd, FollowsTurn, FollowsStage, IsCount, SendsAtOnce, ForcesIn, IsTryRecv, GivesUpTo, IsFlag, IsClosing, IsMaking, MayPoll, MayTell, MayTry, MayTurn}
 
 -- either may be made, or too many
 may_be_made : (T : Type 0) (k : Making) → IsMaking {T = T} k reply.Made
@@ -161,10 +161,10 @@ module _ {T : Type 0} (W : Type 0) (b : QueueForm) where
       let same : 0 + (n + 1) ≡ suc n = omega arith in
       subst (λ (k : ℕ). Several b k r m) same (t refl)
 
-  pub room_taken : (n : ℕ) (turn : Turn T W) → TakesRoom n turn → (r : Reply T) (m : Option T) → MayTurn b turn r m → Several b n r m
-  room_taken n turn (inl e) r m t = roomy n r m (subst (λ (x : Turn T W). MayTurn b x r m) e t)
+  pub room_taken : (n : ℕ) (turn : NextStep T W) → TakesRoom n turn → (r : Reply T) (m : Option T) → MayTurn b turn r m → Several b n r m
+  room_taken n turn (inl e) r m t = roomy n r m (subst (λ (x : NextStep T W). MayTurn b x r m) e t)
   room_taken n turn (inr (some, e)) r m t =
-      at_end (Several b n) (reply.RecvMany (Err (refused.NoMemory tt))) None (some, refl) r m (subst (λ (x : Turn T W). MayTurn b x r m) e t)
+      at_end (Several b n) (reply.RecvMany (Err (refused.NoMemory tt))) None (some, refl) r m (subst (λ (x : NextStep T W). MayTurn b x r m) e t)
 
   polled_send : (v : T) (key : Option Key) (task : W) (y : QueueReply T) → MayAnswer b (ask.Push v) y → (r : Reply T) (m : Option T) → MayTurn b (send_next y key task) r m → MayPoll (waiting.Send v) r m
   polled_send v key task (Push (Ok u)) h r m t = at_end (MayPoll (waiting.Send v)) _ _ refl r m t
@@ -327,7 +327,7 @@ module _ {T : Type 0} (W : Type 0) (b : QueueForm) where
   upgraded side (Count y) h r m t = absurd h
   upgraded side (Cap y) h r m t = absurd h
 
-  pub answered : (x : Aim T W) (a : QueueAsk T) (y : QueueReply T) → MayAnswer b a y → (r : Reply T) (m : Option T) → MayTurn b (answered_next x y) r m → MayTry b x a r m
+  pub answered : (x : Purpose T W) (a : QueueAsk T) (y : QueueReply T) → MayAnswer b a y → (r : Reply T) (m : Option T) → MayTurn b (answered_next x y) r m → MayTry b x a r m
   answered aim.TrySend a y h r m t = λ v e. sent v y (subst (λ (z : QueueAsk T). MayAnswer b z y) e h) r m t
   answered aim.ForceSend a y h r m t = λ v e. forced v y (subst (λ (z : QueueAsk T). MayAnswer b z y) e h) r m t
   answered aim.TryRecv a y h r m t = λ e. received y (subst (λ (z : QueueAsk T). MayAnswer b z y) e h) r m t
@@ -363,14 +363,14 @@ module _ {T : Type 0} (W : Type 0) (b : QueueForm) where
   unheard waiting.Closing e r m t = at_end (MayPoll waiting.Closing) _ _ refl r m t
 
   -- the call answers, or drops its listener before
-  ended_with : (x : Reply T) (n : Option T) (held : Option Held) (r : Reply T) (m : Option T) → MayTurn {T = T} {W = W} b (ends_by (record { reply = x; message = n; held = held })) r m → (r ≡ x) × (m ≡ n)
+  ended_with : (x : Reply T) (n : Option T) (held : Option ListenerRef) (r : Reply T) (m : Option T) → MayTurn {T = T} {W = W} b (ends_by (record { reply = x; message = n; held = held })) r m → (r ≡ x) × (m ≡ n)
   ended_with x n None r m t = t
   ended_with x n (Some held) r m t = t
 
   pub ended : (e : Ending T) (r : Reply T) (m : Option T) → MayTurn {T = T} {W = W} b (ends_by e) r m → EndsBy e r m
   ended e r m t = ended_with e.reply e.message e.held r m t
 
-  pub told_all : (line : Line) (c : Closer) (r : Reply T) (m : Option T) → MayTurn {T = T} {W = W} b (told_all_next line c) r m → EndsBy (closer_ending c true) r m
+  pub told_all : (line : WaitList) (c : Closer) (r : Reply T) (m : Option T) → MayTurn {T = T} {W = W} b (told_all_next line c) r m → EndsBy (closer_ending c true) r m
   told_all Sends c r m t = t
   told_all Receives c r m t = t
   told_all Streams c r m t = t
@@ -410,7 +410,7 @@ module _ {T : Type 0} (W : Type 0) (b : QueueForm) where
   received_by true None task r m t = t refl
   received_by true (Some key) task r m t = t
 
-  pub given : (a : ChannelAsk T W) (r : Reply T) (m : Option T) → MayTurn b (first a) r m → MayGive b a r m
+  pub given : (a : ChannelAsk T W) (r : Reply T) (m : Option T) → MayTurn b (first a) r m → ReplyAllowed b a r m
   given (call.TrySend v) r m t = t v refl
   given (call.ForceSend v) r m t = t v refl
   given call.TryRecv r m t = t refl
@@ -443,17 +443,17 @@ module _ {T : Type 0} (W : Type 0) (b : QueueForm) where
   -- ---- steps
 
   -- a step that takes this turn, which allows no more than the stage before
-  pub through : (turn turn' : Turn T W) → turn ≡ turn' → (stage s : Stage (QueueCall T) T W) (o : Option (Reply T)) → FollowsTurn b turn s o
+  pub through : (turn turn' : NextStep T W) → turn ≡ turn' → (stage s : Stage (QueueCall T) T W) (o : Option (Reply T)) → FollowsTurn b turn s o
       → ((r : Reply T) (m : Option T) → MayTurn b turn' r m → MayEnd b stage r m) → FollowsStage b stage s o
-  through turn turn' e stage s None h p = λ r m x. p r m (subst (λ (t : Turn T W). MayTurn b t r m) e (h r m x))
-  through turn turn' e stage s (Some r) h p = p r (kept_by s).message (subst (λ (t : Turn T W). MayTurn b t r (kept_by s).message) e h)
+  through turn turn' e stage s None h p = λ r m x. p r m (subst (λ (t : NextStep T W). MayTurn b t r m) e (h r m x))
+  through turn turn' e stage s (Some r) h p = p r (kept_by s).message (subst (λ (t : NextStep T W). MayTurn b t r (kept_by s).message) e h)
 
-  pub begun : (turn turn' : Turn T W) → turn ≡ turn' → (o : Option (Reply T)) (s : Stage (QueueCall T) T W) → Takes turn s o → FollowsTurn b turn s o
+  pub begun : (turn turn' : NextStep T W) → turn ≡ turn' → (o : Option (Reply T)) (s : Stage (QueueCall T) T W) → Takes turn s o → FollowsTurn b turn s o
       → (r : Reply T) (m : Option T) → MayEnd b s r m → MayTurn b turn' r m
   begun (Tries a x) turn' e o s taken h r m w =
-      subst (λ (t : Turn T W). MayTurn b t r m) e (subst (λ (z : Option (Reply T)). FollowsTurn b (Tries a x) s z) taken.3 h r m w)
+      subst (λ (t : NextStep T W). MayTurn b t r m) e (subst (λ (z : Option (Reply T)). FollowsTurn b (Tries a x) s z) taken.3 h r m w)
   begun (Works x) turn' e o s taken h r m w =
-      subst (λ (t : Turn T W). MayTurn b t r m) e (subst (λ (z : Option (Reply T)). FollowsTurn b (Works x) s z) taken.0 h r m w)
+      subst (λ (t : NextStep T W). MayTurn b t r m) e (subst (λ (z : Option (Reply T)). FollowsTurn b (Works x) s z) taken.0 h r m w)
   begun (Ends x kept) turn' e o s taken h r m w = absurd (subst (λ (z : Stage (QueueCall T) T W). MayEnd b z r m) taken.1 w)
 
   -- the same from the stage's own name
@@ -465,10 +465,10 @@ module _ {T : Type 0} (W : Type 0) (b : QueueForm) where
       let by_answer : FollowsStage b stage s0 o = subst (λ (z : Option (Reply T)). FollowsStage b stage s0 z) (sym g) h in
       subst (λ (z : Stage (QueueCall T) T W). FollowsStage b stage z o) (sym e) by_answer
 
-  pub at_work : (w w' : Work T W) → w ≡ w' → (s : Stage (QueueCall T) T W) (o : Option (Reply T)) → FollowsStage b (Working w') s o → FollowsStage b (Working w) s o
-  at_work w w' e s o h = subst (λ (z : Work T W). FollowsStage b (Working z) s o) (sym e) h
+  pub at_work : (w w' : ListStep T W) → w ≡ w' → (s : Stage (QueueCall T) T W) (o : Option (Reply T)) → FollowsStage b (Working w') s o → FollowsStage b (Working w) s o
+  at_work w w' e s o h = subst (λ (z : ListStep T W). FollowsStage b (Working z) s o) (sym e) h
 
-module _ {T W : Type 0} (f : QueueForm) (one one' : QueueCall T) (x : Aim T W) where
+module _ {T W : Type 0} (f : QueueForm) (one one' : QueueCall T) (x : Purpose T W) where
   -- the queue's one goes on
   pub goes_on : (o : Option (QueueReply T)) → o ≡ None → Follows f one one' o → FollowsStage {T = T} {W = W} f (Trying one x) (Trying one' x) None
   goes_on o e h =
@@ -476,7 +476,7 @@ module _ {T W : Type 0} (f : QueueForm) (one one' : QueueCall T) (x : Aim T W) w
       λ r m w a fits. w a (λ y may. fits y (now.0 f y may))
 
   -- or it has answered
-  pub answers : (o : Option (QueueReply T)) (y : QueueReply T) → o ≡ Some y → Follows f one one' o → (turn : Turn T W) → turn ≡ answered_next x y → (s : Stage (QueueCall T) T W) (r : Option (Reply T))
+  pub answers : (o : Option (QueueReply T)) (y : QueueReply T) → o ≡ Some y → Follows f one one' o → (turn : NextStep T W) → turn ≡ answered_next x y → (s : Stage (QueueCall T) T W) (r : Option (Reply T))
       → FollowsTurn f turn s r → FollowsStage f (Trying one x) s r
   answers o y e h turn same s r follows =
       let now : MayCall f one.state y = subst (λ (z : Option (QueueReply T)). Follows f one one' z) e h in

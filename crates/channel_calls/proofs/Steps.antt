@@ -3,7 +3,7 @@ use Rattle.std.proofs.Common.{◌≡◌, ℕ, ◌+◌, ◌-◌, Bool, true, fals
 use Rattle.concurrent_queue.specs.Contents.{Contents}
 use Rattle.concurrent_queue.specs.Queue.{Queue, Phase, after, asked}
 use Rattle.concurrent_queue.proofs.Callers.{itself}
-use Rattle.concurrent_queue.specs.Step.{Seat, FitsAt, chain_after, mark_of, IsQueueStep}
+use Rattle.concurrent_queue.specs.Step.{ActiveQueueCall, FitsAt, chain_after, mark_of, IsQueueStep}
 use Rattle.concurrent_queue.specs.declared.queue_call.QueueCall.{QueueCall}
 use Rattle.concurrent_queue.specs.declared.call.QueueReply.{QueueReply}
 use Rattle.event_listener.specs.Lists.{listened, registration, removed, removed_wakes}
@@ -14,25 +14,25 @@ use Rattle.channel_calls.specs.declared.mark.Mark.{Mark}
 use Rattle.channel_calls.specs.declared.mark.Mark.TheVariants.{Nothing}
 use Rattle.channel_calls.specs.declared.reply.Reply.{Reply}
 use Rattle.channel_calls.specs.declared.reply.Reply.TheVariants as reply
-use Rattle.channel_calls.specs.declared.stage.Aim.{Aim}
+use Rattle.channel_calls.specs.declared.stage.Purpose.{Purpose}
 use Rattle.channel_calls.specs.declared.stage.Ending.{Ending}
-use Rattle.channel_calls.specs.declared.stage.Held.{Held}
-use Rattle.channel_calls.specs.declared.stage.Kept.{Kept}
-use Rattle.channel_calls.specs.declared.stage.Line.{Line}
-use Rattle.channel_calls.specs.declared.stage.Line.TheVariants.{Sends, Receives, Streams}
+use Rattle.channel_calls.specs.declared.stage.ListenerRef.{ListenerRef}
+use Rattle.channel_calls.specs.declared.stage.Returned.{Returned}
+use Rattle.channel_calls.specs.declared.stage.WaitList.{WaitList}
+use Rattle.channel_calls.specs.declared.stage.WaitList.TheVariants.{Sends, Receives, Streams}
 use Rattle.channel_calls.specs.declared.stage.Making.{Making}
 use Rattle.channel_calls.specs.declared.stage.Side.{Side}
 use Rattle.channel_calls.specs.declared.stage.Stage.{Stage}
 use Rattle.channel_calls.specs.declared.stage.Stage.TheVariants.{Trying, Working, Finished}
-use Rattle.channel_calls.specs.declared.stage.Turn.{Turn}
-use Rattle.channel_calls.specs.declared.stage.Turn.TheVariants.{Tries, Works, Ends}
+use Rattle.channel_calls.specs.declared.stage.NextStep.{NextStep}
+use Rattle.channel_calls.specs.declared.stage.NextStep.TheVariants.{Tries, Works, Ends}
 use Rattle.channel_calls.specs.declared.stage.Waiting.{Waiting}
-use Rattle.channel_calls.specs.declared.stage.Work.{Work}
-use Rattle.channel_calls.specs.declared.stage.Work.TheVariants.{TellReceive, TellStreams, TellSend, TellSends, TakeRoom, TellAll, Insert, Register, Leave, Lower, Count, Load, Raise}
+use Rattle.channel_calls.specs.declared.stage.ListStep.{ListStep}
+use Rattle.channel_calls.specs.declared.stage.ListStep.TheVariants.{TellReceive, TellStreams, TellSend, TellSends, TakeRoom, TellAll, Insert, Register, Leave, Lower, Count, Load, Raise}
 use Rattle.channel_calls.specs.Deeds.{Deed, Done}
 use Rattle.channel_calls.specs.Effects.{Does, OnList}
 use Rattle.channel_calls.specs.Marks.{mark_of_queue, up, down}
-use Rattle.channel_calls.specs.Parts.{Parts, Roster, Listeners, with_cells, with_roster, listeners, count, with_count, is_raised, told_one, told_one_wakes, told_more, told_more_wakes, told_all, told_all_wakes, waits}
+use Rattle.channel_calls.specs.Parts.{Parts, WaitLists, Listeners, with_cells, with_roster, listeners, count, with_count, is_raised, told_one, told_one_wakes, told_more, told_more_wakes, told_all, told_all_wakes, waits}
 use Rattle.channel_calls.specs.Turns.{line_of, leaving, nothing_kept, ends_by, again, unlistened, pends_by, told_all_next, TakesRoom, lowered_next, loaded_next, raised_next}
 use Rattle.channel_calls.specs.Answered.{answered_next}
 use Rattle.channel_calls.specs.Moves.{Channel, Effect, channel, queued, untouched, on_line, on_count, leaves, Turned, TakesRoomFor, Worked, seats, phase, OnePlace, IsTaken, IsStepOver, IsChannelStep}
@@ -40,18 +40,18 @@ use Rattle.channel_calls.specs.Walks.{Marked, Heard, Leaves, WorkMakes, ChannelM
 
 module _ {T W : Type 0} where
   -- a turn that was taken: over cells that fit the other calls, the new call of the queue fits beside them
-  pub record Entered (turn : Turn T W) (blocks : List ℕ) (cells : Contents T) (q : Queue T) (left right : List (Seat T)) (r : Option (Reply T)) (s : Stage (QueueCall T) T W) : Type 0 where
+  pub record Entered (turn : NextStep T W) (blocks : List ℕ) (cells : Contents T) (q : Queue T) (left right : List (ActiveQueueCall T)) (r : Option (Reply T)) (s : Stage (QueueCall T) T W) : Type 0 where
     pub phase_now : Phase T
     pub turned : Turned turn r (phase phase_now s)
     pub fits : FitsAt blocks cells q (left ++ (seats phase_now s ++ right))
 
-  module _ (blocks : List ℕ) (cells : Contents T) (q : Queue T) (f : Phase T) (left right : List (Seat T)) (h : FitsAt blocks cells q (left ++ right)) where
+  module _ (blocks : List ℕ) (cells : Contents T) (q : Queue T) (f : Phase T) (left right : List (ActiveQueueCall T)) (h : FitsAt blocks cells q (left ++ right)) where
     fits_beside : (s stage : Stage (QueueCall T) T W) → s ≡ stage → seats f stage ≡ [] → FitsAt blocks cells q (left ++ (seats f s ++ right))
     fits_beside s stage e none =
         let same : seats f s ≡ [] = ap (λ (x : Stage (QueueCall T) T W). seats f x) e ∙ none in
-        subst (λ (ss : List (Seat T)). FitsAt blocks cells q (left ++ (ss ++ right))) (sym same) h
+        subst (λ (ss : List (ActiveQueueCall T)). FitsAt blocks cells q (left ++ (ss ++ right))) (sym same) h
 
-    entered : (turn : Turn T W) (r : Option (Reply T)) (s : Stage (QueueCall T) T W) → IsTaken turn r s → Entered turn blocks cells q left right r s
+    entered : (turn : NextStep T W) (r : Option (Reply T)) (s : Stage (QueueCall T) T W) → IsTaken turn r s → Entered turn blocks cells q left right r s
     entered (Tries x aim) r s (call, starts, none, e) =
         record {
           phase_now = asked x;
@@ -73,12 +73,12 @@ module _ {T W : Type 0} where
     -- ---- a step of the queue's call
 
     roster_stays : (q' : Queue T) (q : Queue T) → parts'.roster ≡ parts.roster → channel q' parts' ≡ record (channel q parts) { queue = q' }
-    roster_stays q' q e = ap (λ (a : Roster W). let c : Channel T W = record { queue = q'; roster = a } in c) e
+    roster_stays q' q e = ap (λ (a : WaitLists W). let c : Channel T W = record { queue = q'; roster = a } in c) e
 
     cells_only : parts'.roster ≡ parts.roster → parts' ≡ with_cells parts'.cells parts
-    cells_only e = ap (λ (a : Roster W). let p : Parts T W = record { cells = parts'.cells; roster = a } in p) e
+    cells_only e = ap (λ (a : WaitLists W). let p : Parts T W = record { cells = parts'.cells; roster = a } in p) e
 
-    module _ (call call' : QueueCall T) (aim : Aim T W) (roster : parts'.roster ≡ parts.roster) where
+    module _ (call call' : QueueCall T) (aim : Purpose T W) (roster : parts'.roster ≡ parts.roster) where
       queue_effect : (q : Queue T) (f : Phase T)
           → (let e : Effect T W = record { channel = channel (after f (mark_of call') q) parts'; mark = mark_of_queue (mark_of call'); woken = [] } in e) ≡ queued f (mark_of call') (channel q parts)
       queue_effect q f =
@@ -112,7 +112,7 @@ module _ {T W : Type 0} where
             moves = record { mark = mark_of call'; effect = queue_effect q f; how = inr (x, d.0, t.turned) };
           }
 
-    heard : (call after : QueueCall T) (aim : Aim T W) (o : Option (QueueReply T)) (m : Mark) (next : Stage (QueueCall T) T W) (r : Option (Reply T)) → IsQueueStep parts.cells call parts'.cells after o → parts'.roster ≡ parts.roster
+    heard : (call after : QueueCall T) (aim : Purpose T W) (o : Option (QueueReply T)) (m : Mark) (next : Stage (QueueCall T) T W) (r : Option (Reply T)) → IsQueueStep parts.cells call parts'.cells after o → parts'.roster ≡ parts.roster
         → m ≡ mark_of_queue (mark_of after) → Heard aim after o next r → IsStepOver parts (Trying call aim) [] parts' next m r
     heard call after aim None m next r step roster e (n, none) =
         at_next (Trying call aim) next (Trying after aim) m (mark_of_queue (mark_of after)) r None n e none (queue_goes call after aim roster step)
@@ -124,7 +124,7 @@ module _ {T W : Type 0} where
     same_blocks : (blocks : List ℕ) (c : Contents T) → chain_after blocks c c ≡ blocks
     same_blocks blocks c = rw (itself c.tail_block) refl
 
-    still_fits : (blocks : List ℕ) (q : Queue T) (ss : List (Seat T)) → parts'.cells ≡ parts.cells → FitsAt blocks parts.cells q ss
+    still_fits : (blocks : List ℕ) (q : Queue T) (ss : List (ActiveQueueCall T)) → parts'.cells ≡ parts.cells → FitsAt blocks parts.cells q ss
         → FitsAt (chain_after blocks parts.cells parts'.cells) parts'.cells q ss
     still_fits blocks q ss e h =
         subst (λ (c : Contents T). FitsAt (chain_after blocks parts.cells c) c q ss) (sym e)
@@ -135,7 +135,7 @@ module _ {T W : Type 0} where
     no_effect q e = ap (λ (p : Parts T W). let x : Effect T W = record { channel = channel q p; mark = Nothing; woken = [] } in x) e
 
     -- a call that has answered
-    rests : (kept : Kept T) → parts' ≡ parts → IsStepOver parts (Finished kept) [] parts' (Finished kept) Nothing None
+    rests : (kept : Returned T) → parts' ≡ parts → IsStepOver parts (Finished kept) [] parts' (Finished kept) Nothing None
     rests kept e blocks q f left right range fits =
         record {
           queue = q;
@@ -146,7 +146,7 @@ module _ {T W : Type 0} where
           moves = (no_effect q e, refl, refl);
         }
 
-    module _ (work : Work T W) (turn : Turn T W) (m : Mark) (next : Stage (QueueCall T) T W) (r : Option (Reply T)) where
+    module _ (work : ListStep T W) (turn : NextStep T W) (m : Mark) (next : Stage (QueueCall T) T W) (r : Option (Reply T)) where
       -- whatever it changed in the roster, a step beside the queue's cells takes its turn
       beside : (names : List W) (m0 : Mark) → parts'.cells ≡ parts.cells → OnePlace parts parts' → Marked m0 turn m next r
           → ((q : Queue T) (s : Stage (Phase T) T W) → Turned turn r s → Worked (channel q parts) work (record { channel = channel q parts'; mark = m0; woken = names }) r s)
@@ -163,7 +163,7 @@ module _ {T W : Type 0} where
 
       module _ {S : Type 0} (wakes : S → W → S → Type 0) (a b : S) where
         -- one section on a list
-        on_list : (line : Line) (l : Listeners W) (names names' : List W) → (names ≡ names') × OnList line l parts parts' → Woken wakes a names b → Marked Nothing turn m next r
+        on_list : (line : WaitList) (l : Listeners W) (names names' : List W) → (names ≡ names') × OnList line l parts parts' → Woken wakes a names b → Marked Nothing turn m next r
             → Follows (on_line line l names') → IsChannelStep wakes parts (Working work) a parts' next m r b
         on_list line l names names' (how, e) woken marked ok = (
           names',
@@ -194,25 +194,25 @@ module _ {T W S : Type 0} (wakes : S → W → S → Type 0) (p p' : Parts T W) 
   abbrev did : Deed T W → Parts T W × S → Parts T W × S → Type 0
   did = Done Does wakes
 
-  room_so : (n : ℕ) (turn : Turn T W) (r : Option (Reply T)) (s : Stage (Phase T) T W) → TakesRoom n turn → Turned turn r s → TakesRoomFor n r s
-  room_so n turn r s (inl e) h = inl (subst (λ (x : Turn T W). Turned x r s) e h)
-  room_so n turn r s (inr (some, e)) h = inr (some, subst (λ (x : Turn T W). Turned x r s) e h)
+  room_so : (n : ℕ) (turn : NextStep T W) (r : Option (Reply T)) (s : Stage (Phase T) T W) → TakesRoom n turn → Turned turn r s → TakesRoomFor n r s
+  room_so n turn r s (inl e) h = inl (subst (λ (x : NextStep T W). Turned x r s) e h)
+  room_so n turn r s (inr (some, e)) h = inr (some, subst (λ (x : NextStep T W). Turned x r s) e h)
 
   module _ (m : Mark) (next : Stage (QueueCall T) T W) (r : Option (Reply T)) where
     registers_so : (w : Waiting T) (key : Key) (task : W) (k : Bool) → waits key (listeners (line_of w) p.roster) ≡ k → OnList (line_of w) (registration key task (listeners (line_of w) p.roster)) p p' → b ≡ a
         → Marked Nothing (if k then pends_by w key else again w None task) m next r → IsChannelStep wakes p (Working (Register w key task)) a p' next m r b
     registers_so w key task k answer lists silent marked =
-        let turn : Bool → Turn T W = λ x. if x then pends_by w key else again w None task in
+        let turn : Bool → NextStep T W = λ x. if x then pends_by w key else again w None task in
         on_list p p' (Register w key task) (turn (waits key (listeners (line_of w) p.roster))) m next r wakes a b (line_of w) _ [] [] (refl, lists) silent
         (subst (λ (x : Bool). Marked Nothing (turn x) m next r) (sym answer) marked) (λ q e s effect turned. (effect, turned))
 
-    left : (e : Ending T) (held : Option Held) → e.held ≡ held → Leaves did held (p, a) (p', b) → Marked Nothing (Ends e.reply (leaving None e.message)) m next r → IsChannelStep wakes p (Working (Leave e)) a p' next m r b
+    left : (e : Ending T) (held : Option ListenerRef) → e.held ≡ held → Leaves did held (p, a) (p', b) → Marked Nothing (Ends e.reply (leaving None e.message)) m next r → IsChannelStep wakes p (Working (Leave e)) a p' next m r b
     left e None is h marked =
         on_nothing p p' (Leave e) (Ends e.reply (leaving None e.message)) m next r wakes a b (ap (λ (x : Parts T W × S). x.0) h) (ap (λ (x : Parts T W × S). x.1) h) marked
-        (λ q x s effect turned. (effect ∙ ap (λ (o : Option Held). leaves o (channel q p)) (sym is), turned))
+        (λ q x s effect turned. (effect ∙ ap (λ (o : Option ListenerRef). leaves o (channel q p)) (sym is), turned))
     left e (Some held) is (names, (deed, woken)) marked =
         on_list p p' (Leave e) (Ends e.reply (leaving None e.message)) m next r wakes a b held.line (removed held.key true (listeners held.line p.roster)) names (removed_wakes held.key true (listeners held.line p.roster)) deed woken marked
-        (λ q x s effect turned. (effect ∙ ap (λ (o : Option Held). leaves o (channel q p)) (sym is), turned))
+        (λ q x s effect turned. (effect ∙ ap (λ (o : Option ListenerRef). leaves o (channel q p)) (sym is), turned))
 
     raised_so : (side : Side) (n : ℕ) (making : Making) (k : Bool) → k ≡ is_raised side n p.roster → (q : Queue T) (e : Effect T W) (s : Stage (Phase T) T W)
         → e ≡ (if k then on_count side (n + 1) (up side) (channel q p) else untouched (channel q p)) → Turned (raised_next side making k) r s → Worked (channel q p) (Raise side n making) e r s
@@ -221,7 +221,7 @@ module _ {T W S : Type 0} (wakes : S → W → S → Type 0) (p p' : Parts T W) 
       subst (λ (x : Bool). Turned (raised_next side making x) r s) is turned,
     )
 
-    worked : (w : Work T W) → WorkMakes did w (p, a) (p', b) m next r → IsChannelStep wakes p (Working w) a p' next m r b
+    worked : (w : ListStep T W) → WorkMakes did w (p, a) (p', b) m next r → IsChannelStep wakes p (Working w) a p' next m r b
     worked (TellReceive e) (names, (deed, woken), marked) =
         on_list p p' (TellReceive e) (Works (TellStreams e)) m next r wakes a b Receives (told_one p.roster.receives) names (told_one_wakes p.roster.receives) deed woken marked (λ q x s effect turned. (effect, turned))
     worked (TellStreams e) (names, (deed, woken), marked) =
@@ -251,7 +251,7 @@ module _ {T W S : Type 0} (wakes : S → W → S → Type 0) (p p' : Parts T W) 
         in
         on_number p p' (Lower side key) (lowered_next side key k) m next r wakes a b side (k - 1) (down side) now.0 woken now.1 (λ q x s effect turned. (effect, turned))
     worked (Count side) (n, ((is, same), woken), marked) =
-        let turn : ℕ → Turn T W = λ i. Ends (reply.Count i) nothing_kept in
+        let turn : ℕ → NextStep T W = λ i. Ends (reply.Count i) nothing_kept in
         on_nothing p p' (Count side) (turn (count side p.roster)) m next r wakes a b same woken (subst (λ (i : ℕ). Marked Nothing (turn i) m next r) is marked) (λ q x s effect turned. (effect, turned))
     worked (Load side making) (n, ((is, same), woken), marked) =
         on_nothing p p' (Load side making) (loaded_next side making (count side p.roster)) m next r wakes a b same woken

@@ -5,7 +5,7 @@ use Rattle.concurrent_queue.specs.Step.{Starts, mark_of}
 use Rattle.concurrent_queue.specs.declared.call.QueueAsk.{QueueAsk}
 use Rattle.concurrent_queue.specs.declared.call.QueueReply.{QueueReply}
 use Rattle.concurrent_queue.specs.declared.queue_call.QueueCall.{QueueCall}
-use Rattle.channel_calls.proofs.AheadSteps.{KeepsNothing, Turned}
+use Rattle.channel_calls.proofs.FastPathSteps.{KeepsNothing, Turned}
 use Rattle.channel_calls.specs.Answered.{answered_next}
 use Rattle.channel_calls.specs.Asks.{kept_by}
 use Rattle.channel_calls.specs.Deeds.{Deed, stepped}
@@ -16,15 +16,15 @@ use Rattle.channel_calls.specs.Walks.{Takes, ChannelMakes, Leads, Walked, Walked
 use Rattle.channel_calls.specs.declared.call.ChannelCall.{ChannelCall}
 use Rattle.channel_calls.specs.declared.mark.Mark.{Mark}
 use Rattle.channel_calls.specs.declared.reply.Reply.{Reply}
-use Rattle.channel_calls.specs.declared.stage.Aim.{Aim}
-use Rattle.channel_calls.specs.declared.stage.Kept.{Kept}
+use Rattle.channel_calls.specs.declared.stage.Purpose.{Purpose}
+use Rattle.channel_calls.specs.declared.stage.Returned.{Returned}
 use Rattle.channel_calls.specs.declared.stage.Stage.{Stage}
 use Rattle.channel_calls.specs.declared.stage.Stage.TheVariants.{Trying}
-use Rattle.channel_calls.specs.declared.stage.Turn.{Turn}
-use Rattle.channel_calls.specs.declared.stage.Turn.TheVariants.{Tries, Works, Ends}
+use Rattle.channel_calls.specs.declared.stage.NextStep.{NextStep}
+use Rattle.channel_calls.specs.declared.stage.NextStep.TheVariants.{Tries, Works, Ends}
 
 module _ {T W : Type 0} where
-  pub taken_of : (turn : Turn T W) (s : Stage (QueueCall T) T W) (r : Option (Reply T)) → Takes turn s r → IsTaken turn r s
+  pub taken_of : (turn : NextStep T W) (s : Stage (QueueCall T) T W) (r : Option (Reply T)) → Takes turn s r → IsTaken turn r s
   taken_of (Tries x aim) s r (call, starts, asks, none, e) = (call, starts, none, e)
   taken_of (Works w) s r h = h
   taken_of (Ends x kept) s r h = h
@@ -44,7 +44,7 @@ module _ {T W X : Type 0} (did : Deed T W → X → X → Type 0) where
   leads_on (suc n) s a x b m t c (y, d, k, first, rest) step = (y, d, k, first, leads_on n y d x b m t c rest step)
 
   -- steps that lead on to a walk
-  pub walks_on : (n : ℕ) (a : Stage (QueueCall T) T W) (s : X) (b : Stage (QueueCall T) T W) (x : X) (r : Reply T) (kept : Kept T) (t : X)
+  pub walks_on : (n : ℕ) (a : Stage (QueueCall T) T W) (s : X) (b : Stage (QueueCall T) T W) (x : X) (r : Reply T) (kept : Returned T) (t : X)
       → Leads did n s a x b → Walked did b x r kept t → Walked did a s r kept t
   walks_on zero a s b x r kept t (e, f) walk =
       subst (λ (z : Stage (QueueCall T) T W). Walked did z s r kept t) f (subst (λ (z : X). Walked did b z r kept t) e walk)
@@ -53,29 +53,29 @@ module _ {T W X : Type 0} (did : Deed T W → X → X → Type 0) where
       (suc w.0, w.1, w.2, w.3, w.4, (y, d, k, first, w.5), w.6, w.7)
 
   -- a call that is handed on, and is walked to its end
-  pub handed_on : (turn : Turn T W) (s x t : X) (call : ChannelCall T W) (r : Reply T) (kept : Kept T)
+  pub handed_on : (turn : NextStep T W) (s x t : X) (call : ChannelCall T W) (r : Reply T) (kept : Returned T)
       → WalkedOn did turn s (Err call) x → Walked did call.stage x r kept t → WalkedTo did turn s r t
   handed_on turn s x t call r kept (a, takes, n, leads) walk = (kept, (a, takes, walks_on n a s call.stage x r kept t leads walk))
 
   -- an answer by another name
-  pub answered_as : (turn : Turn T W) (s t : X) (r r' : Reply T) (kept : Kept T) → r ≡ r' → WalkedFrom did turn s r kept t → WalkedFrom did turn s r' kept t
+  pub answered_as : (turn : NextStep T W) (s t : X) (r r' : Reply T) (kept : Returned T) → r ≡ r' → WalkedFrom did turn s r kept t → WalkedFrom did turn s r' kept t
   answered_as turn s t r r' kept e h = subst (λ (z : Reply T). WalkedFrom did turn s z kept t) e h
 
   -- a call of the queue that was asked, and answered or goes on
-  module _ (s t : X) (x : QueueAsk T) (aim : Aim T W) (one two : QueueCall T) (starts : Starts one x) (asks : IsAsking one x) (o : Option (QueueReply T)) (deed : did (stepped one two o) s t) where
+  module _ (s t : X) (x : QueueAsk T) (aim : Purpose T W) (one two : QueueCall T) (starts : Starts one x) (asks : IsAsking one x) (o : Option (QueueReply T)) (deed : did (stepped one two o) s t) where
     pub goes_on : o ≡ None → (m : Mark) → WalkedOn did (Tries x aim) s (Err (record { stage = Trying two aim; mark = m })) t
     goes_on none m =
         let d : did (stepped one two None) s t = subst (λ (z : Option (QueueReply T)). did (stepped one two z) s t) none deed in
         (Trying one aim, (one, starts, asks, refl, refl), 1, (t, Trying two aim, mark_of_queue (mark_of two), (two, None, d, refl, (refl, refl)), (refl, refl)))
 
-    pub answers : (y : QueueReply T) → o ≡ Some y → (turn : Turn T W) → turn ≡ answered_next aim y → KeepsNothing turn
+    pub answers : (y : QueueReply T) → o ≡ Some y → (turn : NextStep T W) → turn ≡ answered_next aim y → KeepsNothing turn
         → (result : Result (Reply T) (ChannelCall T W)) → Turned turn result → WalkedOn did (Tries x aim) s result t
     answers y some turn next keeps (Ok r) (c, takes, follows) =
         let d : did (stepped one two (Some y)) s t = subst (λ (z : Option (QueueReply T)). did (stepped one two z) s t) some deed in
-        let now : Takes (answered_next aim y) c (Some r) = subst (λ (z : Turn T W). Takes z c (Some r)) next takes in
+        let now : Takes (answered_next aim y) c (Some r) = subst (λ (z : NextStep T W). Takes z c (Some r)) next takes in
         let none : nothing_kept ≡ kept_by c = sym (ap (λ (z : Stage (QueueCall T) T W). kept_by z) (keeps r c takes)) in
         (Trying one aim, (one, starts, asks, refl, refl), (0, s, Trying one aim, mark_of_queue (mark_of two), c, (refl, refl), (two, Some y, d, refl, now), none))
     answers y some turn next keeps (Err call) (takes, follows) =
         let d : did (stepped one two (Some y)) s t = subst (λ (z : Option (QueueReply T)). did (stepped one two z) s t) some deed in
-        let now : Takes (answered_next aim y) call.stage None = subst (λ (z : Turn T W). Takes z call.stage None) next takes in
+        let now : Takes (answered_next aim y) call.stage None = subst (λ (z : NextStep T W). Takes z call.stage None) next takes in
         (Trying one aim, (one, starts, asks, refl, refl), 1, (t, call.stage, mark_of_queue (mark_of two), (two, Some y, d, refl, now), (refl, refl)))

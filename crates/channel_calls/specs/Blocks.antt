@@ -16,13 +16,13 @@ use Rattle.channel_calls.specs.declared.error.TryRecvError.TheVariants.{Empty}
 use Rattle.channel_calls.specs.declared.error.TrySendError.TheVariants.{Full}
 use Rattle.channel_calls.specs.declared.reply.Reply.{Reply}
 use Rattle.channel_calls.specs.declared.reply.Reply.TheVariants as reply
-use Rattle.channel_calls.specs.declared.stage.Kept.{Kept}
+use Rattle.channel_calls.specs.declared.stage.Returned.{Returned}
 use Rattle.channel_calls.specs.declared.stage.Stage.{Stage}
 use Rattle.channel_calls.specs.declared.stage.Stage.TheVariants.{Working}
 use Rattle.channel_calls.specs.declared.stage.Waiting.{Waiting}
 use Rattle.channel_calls.specs.declared.stage.Waiting.TheVariants as waiting
-use Rattle.channel_calls.specs.declared.stage.Work.TheVariants.{Register}
-use Rattle.channel_calls.specs.declared.whole.Given.{Given}
+use Rattle.channel_calls.specs.declared.stage.ListStep.TheVariants.{Register}
+use Rattle.channel_calls.specs.declared.whole.Given.{Completed}
 
 module _ {T : Type 0} where
   -- the operation whose polls it makes
@@ -45,7 +45,7 @@ module _ {T : Type 0} where
   poll_woken Receive key task = PollRecv (woken key) task
 
   -- a poll of it waits, and this is its listener
-  abbrev pub still_waits : Blocked T → Key → Given T
+  abbrev pub still_waits : Blocked T → Key → Completed T
   still_waits b key = record { reply = pending_reply (line_of (waiting_of b)); kept = leaving (Some key) (message_of (waiting_of b)) }
 
 -- a task was asked for, or the thread slept; nobody was woken
@@ -62,7 +62,7 @@ module _ {T W X : Type 0} (did : Deed T W → X → X → Type 0) where
   Looks (suc n) b s t = (x : X) × Looks n b s x × WalkedTo did (first (at_once b)) x (not_yet b) t
 
   -- a first poll of it, whichever its task, comes to this answer
-  abbrev pub AnswersAtFirst : Blocked T → X → Reply T → Kept T → X → Type 0
+  abbrev pub AnswersAtFirst : Blocked T → X → Reply T → Returned T → X → Type 0
   AnswersAtFirst b s r kept t = (task : W) → WalkedFrom did (again (waiting_of b) None task) s r kept t
 
   -- or comes to where it is next to register this listener
@@ -84,16 +84,16 @@ module _ {T W X : Type 0} (did : Deed T W → X → X → Type 0) (asked : Optio
   Rounds (suc n) b key s next t = (k : Key) × (x : X) × Rounds n b key s k x × Round b k x next t
 
   -- at last it gets no task, and its listener leaves; or the poll that registers is over
-  abbrev pub Wakens : Blocked T → Key → X → Reply T → Kept T → X → Type 0
+  abbrev pub Wakens : Blocked T → Key → X → Reply T → Returned T → X → Type 0
   Wakens b key s r kept t =
       ((x : X) × asked None s x × WalkedFrom did (first (RefusePoll (line_of (waiting_of b)) (message_of (waiting_of b)) (Some key))) x r kept t)
       ⊎ ((task : W) × (x : X) × asked (Some task) s x × WalkedFrom did (first (poll_woken b key task)) x r kept t × (pends r ≡ false))
 
-  abbrev pub SleepsOn : Blocked T → Key → X → Reply T → Kept T → X → Type 0
+  abbrev pub SleepsOn : Blocked T → Key → X → Reply T → Returned T → X → Type 0
   SleepsOn b key s r kept t = (n : ℕ) × (k : Key) × (x : X) × Rounds n b key s k x × Wakens b k x r kept t
 
   -- it looks some times, and begins; where its first poll listens, it sleeps
-  abbrev pub Blocks : Blocked T → X → Reply T → Kept T → X → Type 0
+  abbrev pub Blocks : Blocked T → X → Reply T → Returned T → X → Type 0
   Blocks b s r kept t =
       (n : ℕ) × (x : X) × Looks did n b s x
       × (AnswersAtFirst did b x r kept t ⊎ ((key : Key) × (y : X) × Listens did b x key y × SleepsOn b key y r kept t))

@@ -6,18 +6,18 @@ use Rattle.concurrent_queue.specs.declared.call.QueueReply.{QueueReply}
 use Rattle.event_listener.specs.Notices.{Woken}
 use Rattle.event_listener.specs.declared.key.Key.{Key}
 use Rattle.event_listener.specs.declared.error.ListenError.{ListenError}
-use Rattle.channel_calls.specs.declared.stage.Line.{Line}
+use Rattle.channel_calls.specs.declared.stage.WaitList.{WaitList}
 use Rattle.channel_calls.specs.declared.stage.Side.{Side}
 
 -- a deed, with its answer. A telling and a removal answer whom they woke, in order
 pub data Deed (T W : Type 0) : Type 0 where
   stepped : QueueCall T → QueueCall T → Option (QueueReply T) → Deed T W
-  inserted : Line → Result Key ListenError → Deed T W
-  registered : Line → Key → W → Option W → Deed T W
-  taken_off : Line → Key → List W → Deed T W
-  one_told : Line → List W → Deed T W
-  more_told : Line → ℕ → List W → Deed T W
-  all_told : Line → List W → Deed T W
+  inserted : WaitList → Result Key ListenError → Deed T W
+  registered : WaitList → Key → W → Option W → Deed T W
+  taken_off : WaitList → Key → List W → Deed T W
+  one_told : WaitList → List W → Deed T W
+  more_told : WaitList → ℕ → List W → Deed T W
+  all_told : WaitList → List W → Deed T W
   counted : Side → ℕ → Deed T W
   lowered : Side → ℕ → Deed T W
   raised : Side → ℕ → Bool → Deed T W

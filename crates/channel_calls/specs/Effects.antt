@@ -4,11 +4,11 @@ use Rattle.concurrent_queue.specs.Step.{IsQueueStep}
 use Rattle.event_listener.specs.Lists.{kind_of, listened, registration, removed, removed_wakes}
 use Rattle.channel_calls.specs.Deeds.{Deed, stepped, inserted, registered, taken_off, one_told, more_told, all_told, counted, lowered, raised}
 use Rattle.channel_calls.specs.Parts.{Parts, Listeners, with_roster, listeners, with_listeners, count, with_count, is_raised, told_one, told_one_wakes, told_more, told_more_wakes, told_all, told_all_wakes, Registers}
-use Rattle.channel_calls.specs.declared.stage.Line.{Line}
+use Rattle.channel_calls.specs.declared.stage.WaitList.{WaitList}
 
 module _ {T W : Type 0} where
   -- one list is this after it, and nothing else differs
-  abbrev pub OnList : Line → Listeners W → Parts T W → Parts T W → Type 0
+  abbrev pub OnList : WaitList → Listeners W → Parts T W → Parts T W → Type 0
   OnList line l p q = q ≡ with_roster (with_listeners line l p.roster) p
 
   abbrev pub Does : Deed T W → Parts T W → Parts T W → Type 0

@@ -2,7 +2,7 @@
 use Rattle.std.specs.Prelude.{◌≡◌, ℕ, ◌+◌, ◌-◌, ◌<◌, true, if◌then◌else◌, List, [], ◌∷◌, ◌++◌, Option, None, Some, ◌⊎◌}
 use Rattle.concurrent_queue.specs.Contents.{Contents}
 use Rattle.concurrent_queue.specs.Queue.{Queue, Phase, opened, after, asked, Continues, Answers, IsInRange}
-use Rattle.concurrent_queue.specs.Step.{Seat, seat, FitsAt, chain_after, Starts, OneCell, PhasesQuiet, phases, rank}
+use Rattle.concurrent_queue.specs.Step.{ActiveQueueCall, seat, FitsAt, chain_after, Starts, OneCell, PhasesQuiet, phases, rank}
 use Rattle.concurrent_queue.specs.declared.queue_call.QueueCall.{QueueCall}
 use Rattle.concurrent_queue.specs.declared.call.QueueMark.{QueueMark}
 use Rattle.concurrent_queue.specs.declared.call.QueueReply.{QueueReply}
@@ -15,27 +15,27 @@ use Rattle.channel_calls.specs.declared.mark.Mark.{Mark}
 use Rattle.channel_calls.specs.declared.mark.Mark.TheVariants as mark
 use Rattle.channel_calls.specs.declared.reply.Reply.{Reply}
 use Rattle.channel_calls.specs.declared.reply.Reply.TheVariants as reply
-use Rattle.channel_calls.specs.declared.stage.Aim.{Aim}
-use Rattle.channel_calls.specs.declared.stage.Held.{Held}
-use Rattle.channel_calls.specs.declared.stage.Line.{Line}
-use Rattle.channel_calls.specs.declared.stage.Line.TheVariants.{Sends, Receives, Streams}
+use Rattle.channel_calls.specs.declared.stage.Purpose.{Purpose}
+use Rattle.channel_calls.specs.declared.stage.ListenerRef.{ListenerRef}
+use Rattle.channel_calls.specs.declared.stage.WaitList.{WaitList}
+use Rattle.channel_calls.specs.declared.stage.WaitList.TheVariants.{Sends, Receives, Streams}
 use Rattle.channel_calls.specs.declared.stage.Side.{Side}
 use Rattle.channel_calls.specs.declared.stage.Stage.{Stage}
 use Rattle.channel_calls.specs.declared.stage.Stage.TheVariants.{Trying, Working, Finished}
-use Rattle.channel_calls.specs.declared.stage.Turn.{Turn}
-use Rattle.channel_calls.specs.declared.stage.Turn.TheVariants.{Tries, Works, Ends}
+use Rattle.channel_calls.specs.declared.stage.NextStep.{NextStep}
+use Rattle.channel_calls.specs.declared.stage.NextStep.TheVariants.{Tries, Works, Ends}
 use Rattle.channel_calls.specs.declared.stage.Waiting.{Waiting}
-use Rattle.channel_calls.specs.declared.stage.Work.{Work}
-use Rattle.channel_calls.specs.declared.stage.Work.TheVariants.{TellReceive, TellStreams, TellSend, TellSends, TakeRoom, TellAll, Insert, Register, Leave, Lower, Count, Load, Raise}
+use Rattle.channel_calls.specs.declared.stage.ListStep.{ListStep}
+use Rattle.channel_calls.specs.declared.stage.ListStep.TheVariants.{TellReceive, TellStreams, TellSend, TellSends, TakeRoom, TellAll, Insert, Register, Leave, Lower, Count, Load, Raise}
 use Rattle.channel_calls.specs.Marks.{mark_of_queue, up, down}
-use Rattle.channel_calls.specs.Parts.{Parts, Roster, Listeners, new_roster, with_cells, with_roster, listeners, with_listeners, count, with_count, is_raised, told_one, told_one_wakes, told_more, told_more_wakes, told_all, told_all_wakes, waits}
+use Rattle.channel_calls.specs.Parts.{Parts, WaitLists, Listeners, new_roster, with_cells, with_roster, listeners, with_listeners, count, with_count, is_raised, told_one, told_one_wakes, told_more, told_more_wakes, told_all, told_all_wakes, waits}
 use Rattle.channel_calls.specs.Turns.{line_of, leaving, nothing_kept, ends_by, again, pends_by, unlistened, told_all_next, room_next, roomless, lowered_next, loaded_next, raised_next}
 use Rattle.channel_calls.specs.Answered.{answered_next}
 
 -- a channel at one moment: its queue, its lists of listeners and its counts of handles
 pub record Channel (T W : Type 0) : Type 0 where
   pub queue : Queue T
-  pub roster : Roster W
+  pub roster : WaitLists W
 
 -- what a step did: the channel after it, its mark, and the tasks that it woke in order
 pub record Effect (T W : Type 0) : Type 0 where
@@ -62,33 +62,33 @@ module _ {T W : Type 0} where
   untouched c = record { channel = c; mark = mark.Nothing; woken = [] }
 
   -- on one list, which wakes these
-  abbrev pub on_line : Line → Listeners W → List W → Channel T W → Effect T W
+  abbrev pub on_line : WaitList → Listeners W → List W → Channel T W → Effect T W
   on_line line l names c = record { channel = record c { roster = with_listeners line l c.roster }; mark = mark.Nothing; woken = names }
 
   -- on one count, with this mark
   abbrev pub on_count : Side → ℕ → Mark → Channel T W → Effect T W
   on_count side n m c = record { channel = record c { roster = with_count side n c.roster }; mark = m; woken = [] }
 
-  abbrev pub tells_one : Line → Channel T W → Effect T W
+  abbrev pub tells_one : WaitList → Channel T W → Effect T W
   tells_one line c = on_line line (told_one (listeners line c.roster)) (told_one_wakes (listeners line c.roster)) c
 
-  abbrev pub tells_more : ℕ → Line → Channel T W → Effect T W
+  abbrev pub tells_more : ℕ → WaitList → Channel T W → Effect T W
   tells_more n line c = on_line line (told_more n (listeners line c.roster)) (told_more_wakes n (listeners line c.roster)) c
 
-  abbrev pub tells_all : Line → Channel T W → Effect T W
+  abbrev pub tells_all : WaitList → Channel T W → Effect T W
   tells_all line c = on_line line (told_all (listeners line c.roster)) (told_all_wakes (listeners line c.roster)) c
 
-  abbrev pub listens : Line → Key → Channel T W → Effect T W
+  abbrev pub listens : WaitList → Key → Channel T W → Effect T W
   listens line key c = on_line line (listened key (listeners line c.roster)) [] c
 
-  abbrev pub registers : Line → Key → W → Channel T W → Effect T W
+  abbrev pub registers : WaitList → Key → W → Channel T W → Effect T W
   registers line key task c = on_line line (registration key task (listeners line c.roster)) [] c
 
   -- a listener leaves, and passes on the notice that it was told
-  abbrev pub removes : Held → Channel T W → Effect T W
+  abbrev pub removes : ListenerRef → Channel T W → Effect T W
   removes h c = on_line h.line (removed h.key true (listeners h.line c.roster)) (removed_wakes h.key true (listeners h.line c.roster)) c
 
-  abbrev pub leaves : Option Held → Channel T W → Effect T W
+  abbrev pub leaves : Option ListenerRef → Channel T W → Effect T W
   leaves None c = untouched c
   leaves (Some h) c = removes h c
 
@@ -101,13 +101,13 @@ module _ {T W : Type 0} where
   -- ---- what comes after
 
   -- the turn is taken: a new call of the queue begins, or a list or a count comes next, or the call answers
-  abbrev pub Turned : Turn T W → Option (Reply T) → Stage (Phase T) T W → Type 0
+  abbrev pub Turned : NextStep T W → Option (Reply T) → Stage (Phase T) T W → Type 0
   Turned (Tries x aim) r s = (r ≡ None) × (s ≡ Trying (asked x) aim)
   Turned (Works w) r s = (r ≡ None) × (s ≡ Working w)
   Turned (Ends x kept) r s = (r ≡ Some x) × (s ≡ Finished kept)
 
   -- a step of the queue's call: it goes on, or it answers and the turn is taken that its aim gives
-  pub record Tried (c : Channel T W) (f : Phase T) (aim : Aim T W) (e : Effect T W) (r : Option (Reply T)) (s : Stage (Phase T) T W) : Type 0 where
+  pub record Tried (c : Channel T W) (f : Phase T) (aim : Purpose T W) (e : Effect T W) (r : Option (Reply T)) (s : Stage (Phase T) T W) : Type 0 where
     pub mark : QueueMark
     pub effect : e ≡ queued f mark c
     pub how :
@@ -125,7 +125,7 @@ module _ {T W : Type 0} where
   TakesRoomFor n r s = Turned (room_next n) r s ⊎ ((0 < n) × Turned roomless r s)
 
   -- a step on a list or a count: what it does, and what comes after
-  abbrev pub Worked : Channel T W → Work T W → Effect T W → Option (Reply T) → Stage (Phase T) T W → Type 0
+  abbrev pub Worked : Channel T W → ListStep T W → Effect T W → Option (Reply T) → Stage (Phase T) T W → Type 0
   Worked c (TellReceive x) e r s = (e ≡ tells_one Receives c) × Turned (Works (TellStreams x)) r s
   Worked c (TellStreams x) e r s = (e ≡ tells_all Streams c) × Turned (ends_by x) r s
   Worked c (TellSend x) e r s = (e ≡ tells_one Sends c) × Turned (ends_by x) r s
@@ -151,7 +151,7 @@ module _ {T W : Type 0} where
   -- ---- the code's stages
 
   -- the calls of the queue that a call of the channel has under way
-  abbrev pub seats : Phase T → Stage (QueueCall T) T W → List (Seat T)
+  abbrev pub seats : Phase T → Stage (QueueCall T) T W → List (ActiveQueueCall T)
   seats f (Trying call aim) = seat call f ∷ []
   seats f (Working w) = []
   seats f (Finished kept) = []
@@ -166,11 +166,11 @@ module _ {T W : Type 0} where
   abbrev pub OnePlace : Parts T W → Parts T W → Type 0
   OnePlace parts parts' =
       ((parts' ≡ with_cells parts'.cells parts) × OneCell parts.cells parts'.cells)
-      ⊎ (((line : Line) × (l : Listeners W) × (parts' ≡ with_roster (with_listeners line l parts.roster) parts))
+      ⊎ (((line : WaitList) × (l : Listeners W) × (parts' ≡ with_roster (with_listeners line l parts.roster) parts))
       ⊎ ((side : Side) × (n : ℕ) × (parts' ≡ with_roster (with_count side n parts.roster) parts)))
 
   -- the code has taken the turn: where the queue is asked, by a call that may come in among any others
-  abbrev pub IsTaken : Turn T W → Option (Reply T) → Stage (QueueCall T) T W → Type 0
+  abbrev pub IsTaken : NextStep T W → Option (Reply T) → Stage (QueueCall T) T W → Type 0
   IsTaken (Tries x aim) r s = (call : QueueCall T) × Starts call x × (r ≡ None) × (s ≡ Trying call aim)
   IsTaken (Works w) r s = (r ≡ None) × (s ≡ Working w)
   IsTaken (Ends x kept) r s = (r ≡ Some x) × (s ≡ Finished kept)
@@ -183,7 +183,7 @@ module _ {T W : Type 0} where
   Hastens c q f _ d r stage' = Unit {0}
 
   -- one step over the queue q, which has used these blocks, beside any other calls of the queue
-  pub record Made (parts : Parts T W) (stage : Stage (QueueCall T) T W) (names : List W) (parts' : Parts T W) (stage' : Stage (QueueCall T) T W) (m : Mark) (r : Option (Reply T)) (blocks : List ℕ) (q : Queue T) (f : Phase T) (left right : List (Seat T)) : Type 0 where
+  pub record Made (parts : Parts T W) (stage : Stage (QueueCall T) T W) (names : List W) (parts' : Parts T W) (stage' : Stage (QueueCall T) T W) (m : Mark) (r : Option (Reply T)) (blocks : List ℕ) (q : Queue T) (f : Phase T) (left right : List (ActiveQueueCall T)) : Type 0 where
     pub queue : Queue T
     pub phase_now : Phase T
     pub one_place : OnePlace parts parts'
@@ -194,7 +194,7 @@ module _ {T W : Type 0} where
   -- for every queue, its blocks, phase, and other calls of the queue that the cells may stand for
   abbrev pub IsStepOver : Parts T W → Stage (QueueCall T) T W → List W → Parts T W → Stage (QueueCall T) T W → Mark → Option (Reply T) → Type 0
   IsStepOver parts stage names parts' stage' m r =
-      (blocks : List ℕ) (q : Queue T) (f : Phase T) (left right : List (Seat T)) → IsInRange q
+      (blocks : List ℕ) (q : Queue T) (f : Phase T) (left right : List (ActiveQueueCall T)) → IsInRange q
       → FitsAt blocks parts.cells q (left ++ (seats f stage ++ right)) → Made parts stage names parts' stage' m r blocks q f left right
 
   -- the same, with the tasks woken
@@ -205,5 +205,5 @@ module _ {T W : Type 0} where
   -- ---- a call's beginning
 
   -- a call that has made no step, and has only taken this turn
-  abbrev pub IsNewCall : ChannelCall T W → Turn T W → Type 0
+  abbrev pub IsNewCall : ChannelCall T W → NextStep T W → Type 0
   IsNewCall call turn = (r : Option (Reply T)) × IsTaken turn r call.stage

@@ -3,8 +3,8 @@ use Rattle.std.specs.Prelude.{◌≡◌, ℕ, zero, suc, ◌-◌, ◌^◌, ◌==
 use Rattle.concurrent_queue.specs.Contents.{Contents}
 use Rattle.event_listener.specs.Lists.{Lists, kind_of, told_with, tasks_of, passed, passed_wakes}
 use Rattle.event_listener.specs.declared.key.Key.{Key}
-use Rattle.channel_calls.specs.declared.stage.Line.{Line}
-use Rattle.channel_calls.specs.declared.stage.Line.TheVariants.{Sends, Receives, Streams, Closings}
+use Rattle.channel_calls.specs.declared.stage.WaitList.{WaitList}
+use Rattle.channel_calls.specs.declared.stage.WaitList.TheVariants.{Sends, Receives, Streams, Closings}
 use Rattle.channel_calls.specs.declared.stage.Side.{Side}
 use Rattle.channel_calls.specs.declared.stage.Side.TheVariants.{Senders, Receivers}
 
@@ -13,7 +13,7 @@ abbrev pub Listeners : Type 0 → Type 0
 Listeners W = Lists Unit W
 
 -- the lists and the counts
-pub record Roster (W : Type 0) : Type 0 where
+pub record WaitLists (W : Type 0) : Type 0 where
   pub sends : Listeners W
   pub receives : Listeners W
   pub streams : Listeners W
@@ -24,13 +24,13 @@ pub record Roster (W : Type 0) : Type 0 where
 -- what a queue's cells hold, with the lists and the counts
 pub record Parts (T W : Type 0) : Type 0 where
   pub cells : Contents T
-  pub roster : Roster W
+  pub roster : WaitLists W
 
 module _ {T W : Type 0} where
   abbrev pub with_cells : Contents T → Parts T W → Parts T W
   with_cells cells p = record p { cells = cells }
 
-  abbrev pub with_roster : Roster W → Parts T W → Parts T W
+  abbrev pub with_roster : WaitLists W → Parts T W → Parts T W
   with_roster roster p = record p { roster = roster }
 
 module _ {W : Type 0} where
@@ -38,32 +38,32 @@ module _ {W : Type 0} where
   nobody_listens = record { told = []; waiting = [] }
 
   -- one handle of each kind, and no listeners
-  abbrev pub new_roster : Roster W
+  abbrev pub new_roster : WaitLists W
   new_roster =
       record { sends = nobody_listens; receives = nobody_listens; streams = nobody_listens; closings = nobody_listens; senders = 1; receivers = 1 }
 
-  abbrev pub listeners : Line → Roster W → Listeners W
+  abbrev pub listeners : WaitList → WaitLists W → Listeners W
   listeners Sends a = a.sends
   listeners Receives a = a.receives
   listeners Streams a = a.streams
   listeners Closings a = a.closings
 
-  abbrev pub with_listeners : Line → Listeners W → Roster W → Roster W
+  abbrev pub with_listeners : WaitList → Listeners W → WaitLists W → WaitLists W
   with_listeners Sends l a = record a { sends = l }
   with_listeners Receives l a = record a { receives = l }
   with_listeners Streams l a = record a { streams = l }
   with_listeners Closings l a = record a { closings = l }
 
-  abbrev pub count : Side → Roster W → ℕ
+  abbrev pub count : Side → WaitLists W → ℕ
   count Senders a = a.senders
   count Receivers a = a.receivers
 
-  abbrev pub with_count : Side → ℕ → Roster W → Roster W
+  abbrev pub with_count : Side → ℕ → WaitLists W → WaitLists W
   with_count Senders n a = record a { senders = n }
   with_count Receivers n a = record a { receivers = n }
 
   -- whether a count is this, and can be raised by one
-  abbrev pub is_raised : Side → ℕ → Roster W → Bool
+  abbrev pub is_raised : Side → ℕ → WaitLists W → Bool
   is_raised side n a = (count side a == n) && nat_lt n (2 ^ 64 - 1)
 
   -- one more waiting listener is told, whoever is told already

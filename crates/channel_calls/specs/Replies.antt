@@ -19,22 +19,22 @@ use Rattle.channel_calls.specs.declared.error.TrySendError.{TrySendError}
 use Rattle.channel_calls.specs.declared.error.TrySendError.TheVariants as try_send_error
 use Rattle.channel_calls.specs.declared.reply.Reply.{Reply}
 use Rattle.channel_calls.specs.declared.reply.Reply.TheVariants as reply
-use Rattle.channel_calls.specs.declared.stage.Aim.{Aim}
-use Rattle.channel_calls.specs.declared.stage.Aim.TheVariants as aim
+use Rattle.channel_calls.specs.declared.stage.Purpose.{Purpose}
+use Rattle.channel_calls.specs.declared.stage.Purpose.TheVariants as aim
 use Rattle.channel_calls.specs.declared.stage.Closer.{Closer}
 use Rattle.channel_calls.specs.declared.stage.Closer.TheVariants as closer
 use Rattle.channel_calls.specs.declared.stage.Ending.{Ending}
-use Rattle.channel_calls.specs.declared.stage.Line.TheVariants.{Sends, Receives, Streams, Closings}
+use Rattle.channel_calls.specs.declared.stage.WaitList.TheVariants.{Sends, Receives, Streams, Closings}
 use Rattle.channel_calls.specs.declared.stage.Making.{Making}
 use Rattle.channel_calls.specs.declared.stage.Making.TheVariants as making
 use Rattle.channel_calls.specs.declared.stage.Stage.{Stage}
 use Rattle.channel_calls.specs.declared.stage.Stage.TheVariants.{Trying, Working, Finished}
-use Rattle.channel_calls.specs.declared.stage.Turn.{Turn}
-use Rattle.channel_calls.specs.declared.stage.Turn.TheVariants.{Tries, Works, Ends}
+use Rattle.channel_calls.specs.declared.stage.NextStep.{NextStep}
+use Rattle.channel_calls.specs.declared.stage.NextStep.TheVariants.{Tries, Works, Ends}
 use Rattle.channel_calls.specs.declared.stage.Waiting.{Waiting}
 use Rattle.channel_calls.specs.declared.stage.Waiting.TheVariants as waiting
-use Rattle.channel_calls.specs.declared.stage.Work.{Work}
-use Rattle.channel_calls.specs.declared.stage.Work.TheVariants.{TellReceive, TellStreams, TellSend, TellSends, TakeRoom, TellAll, Insert, Register, Leave, Lower, Count, Load, Raise}
+use Rattle.channel_calls.specs.declared.stage.ListStep.{ListStep}
+use Rattle.channel_calls.specs.declared.stage.ListStep.TheVariants.{TellReceive, TellStreams, TellSend, TellSends, TakeRoom, TellAll, Insert, Register, Leave, Lower, Count, Load, Raise}
 use Rattle.channel_calls.specs.Asks.{kept_by}
 use Rattle.channel_calls.specs.Errors.{unsent}
 use Rattle.channel_calls.specs.Turns.{closer_ending, refused_reply}
@@ -144,7 +144,7 @@ module _ {T : Type 0} where
   MayTell _ r = Unit {0}
 
   -- a call of the queue that is made for this, and asks that
-  abbrev pub MayTry : {W : Type 0} → QueueForm → Aim T W → QueueAsk T → Reply T → Option T → Type 0
+  abbrev pub MayTry : {W : Type 0} → QueueForm → Purpose T W → QueueAsk T → Reply T → Option T → Type 0
   MayTry b aim.TrySend a r m = (v : T) → a ≡ ask.Push v → SendsAtOnce (is_bounded b) v r × (m ≡ None)
   MayTry b aim.ForceSend a r m = (v : T) → a ≡ ask.ForcePush v → ForcesIn (is_bounded b) v r × (m ≡ None)
   MayTry b aim.TryRecv a r m = a ≡ ask.Pop → IsTryRecv r × (m ≡ None)
@@ -158,7 +158,7 @@ module _ {T : Type 0} where
   MayTry b aim.IsTerminated a r m = a ≡ ask.IsClosed → IsFlag r × (m ≡ None)
   MayTry b (aim.Upgrade side) a r m = a ≡ ask.IsClosed → IsUpgrading r × (m ≡ None)
 
-  abbrev pub MayWork : {W : Type 0} → Work T W → Reply T → Option T → Type 0
+  abbrev pub MayWork : {W : Type 0} → ListStep T W → Reply T → Option T → Type 0
   MayWork (TellReceive e) r m = EndsBy e r m
   MayWork (TellStreams e) r m = EndsBy e r m
   MayWork (TellSend e) r m = EndsBy e r m
@@ -173,7 +173,7 @@ module _ {T : Type 0} where
   MayWork (Load side k) r m = IsMaking k r × (m ≡ None)
   MayWork (Raise side from k) r m = IsMaking k r × (m ≡ None)
 
-  abbrev pub MayTurn : {W : Type 0} → QueueForm → Turn T W → Reply T → Option T → Type 0
+  abbrev pub MayTurn : {W : Type 0} → QueueForm → NextStep T W → Reply T → Option T → Type 0
   MayTurn b (Tries a x) r m = MayTry b x a r m
   MayTurn b (Works w) r m = MayWork w r m
   MayTurn b (Ends x kept) r m = (r ≡ x) × (m ≡ kept.message)
@@ -185,7 +185,7 @@ module _ {T : Type 0} where
   MayEnd b (Finished kept) r m = ⊥
 
   -- what may come after this turn or stage might have come before, and so might the answer
-  abbrev pub FollowsTurn : {W : Type 0} → QueueForm → Turn T W → Stage (QueueCall T) T W → Option (Reply T) → Type 0
+  abbrev pub FollowsTurn : {W : Type 0} → QueueForm → NextStep T W → Stage (QueueCall T) T W → Option (Reply T) → Type 0
   FollowsTurn b turn s answer =
       MatchOption answer ((r : Reply T) (m : Option T) → MayEnd b s r m → MayTurn b turn r m) (λ r. MayTurn b turn r (kept_by s).message)
 
@@ -194,31 +194,31 @@ module _ {T : Type 0} where
       MatchOption answer ((r : Reply T) (m : Option T) → MayEnd b s' r m → MayEnd b s r m) (λ r. MayEnd b s r (kept_by s').message)
 
   -- what may be answered to this, and the message that is left to its operation
-  abbrev pub MayGive : {W : Type 0} → QueueForm → ChannelAsk T W → Reply T → Option T → Type 0
-  MayGive b (call.TrySend v) r m = SendsAtOnce (is_bounded b) v r × (m ≡ None)
-  MayGive b (call.ForceSend v) r m = ForcesIn (is_bounded b) v r × (m ≡ None)
-  MayGive b call.TryRecv r m = IsTryRecv r × (m ≡ None)
-  MayGive b (call.RecvMany n) r m = GivesUpTo n r × (m ≡ None)
-  MayGive b call.Close r m = IsClosing closer.Call r × (m ≡ None)
-  MayGive b (call.PollSend v key task) r m = MayPoll (waiting.Send v) r m
-  MayGive b call.PollFinishedSend r m = (r ≡ reply.SendPoll poll.Pending) × (m ≡ None)
-  MayGive b (call.PollRecv key task) r m = MayPoll waiting.Receive r m
-  MayGive b (call.PollClosed key task) r m = MayPoll waiting.Closing r m
-  MayGive b (call.PollNext key task) r m = MayPoll waiting.Stream r m
-  MayGive b (call.RefusePoll line v key) r m = (r ≡ refused_reply line listen_error.NoMemory) × (m ≡ v)
-  MayGive b (call.GiveUp line v key) r m = (r ≡ reply.GivenUp v) × (m ≡ None)
-  MayGive b call.DropSender r m = Unit {0}
-  MayGive b (call.DropReceiver key) r m = Unit {0}
-  MayGive b (call.CloneHandle side) r m = IsCloning r × (m ≡ None)
-  MayGive b (call.Upgrade side) r m = IsUpgrading r × (m ≡ None)
-  MayGive b (call.HandleCount side) r m = IsCount r × (m ≡ None)
-  MayGive b call.IsClosed r m = IsFlag r × (m ≡ None)
-  MayGive b call.IsEmpty r m = IsFlag r × (m ≡ None)
-  MayGive b call.IsFull r m = IsFlag r × (m ≡ None)
-  MayGive b call.Len r m = IsCount r × (m ≡ None)
-  MayGive b call.Capacity r m = IsCap r × (m ≡ None)
-  MayGive b call.IsTerminated r m = IsFlag r × (m ≡ None)
-  MayGive b (call.SendIsTerminated x) r m = (r ≡ reply.Flag x) × (m ≡ None)
-  MayGive b (call.SameChannel x) r m = (r ≡ reply.Flag x) × (m ≡ None)
-  MayGive b call.Make r m = (r ≡ reply.Made) × (m ≡ None)
-  MayGive b call.DropWeak r m = (r ≡ reply.Unit) × (m ≡ None)
+  abbrev pub ReplyAllowed : {W : Type 0} → QueueForm → ChannelAsk T W → Reply T → Option T → Type 0
+  ReplyAllowed b (call.TrySend v) r m = SendsAtOnce (is_bounded b) v r × (m ≡ None)
+  ReplyAllowed b (call.ForceSend v) r m = ForcesIn (is_bounded b) v r × (m ≡ None)
+  ReplyAllowed b call.TryRecv r m = IsTryRecv r × (m ≡ None)
+  ReplyAllowed b (call.RecvMany n) r m = GivesUpTo n r × (m ≡ None)
+  ReplyAllowed b call.Close r m = IsClosing closer.Call r × (m ≡ None)
+  ReplyAllowed b (call.PollSend v key task) r m = MayPoll (waiting.Send v) r m
+  ReplyAllowed b call.PollFinishedSend r m = (r ≡ reply.SendPoll poll.Pending) × (m ≡ None)
+  ReplyAllowed b (call.PollRecv key task) r m = MayPoll waiting.Receive r m
+  ReplyAllowed b (call.PollClosed key task) r m = MayPoll waiting.Closing r m
+  ReplyAllowed b (call.PollNext key task) r m = MayPoll waiting.Stream r m
+  ReplyAllowed b (call.RefusePoll line v key) r m = (r ≡ refused_reply line listen_error.NoMemory) × (m ≡ v)
+  ReplyAllowed b (call.GiveUp line v key) r m = (r ≡ reply.GivenUp v) × (m ≡ None)
+  ReplyAllowed b call.DropSender r m = Unit {0}
+  ReplyAllowed b (call.DropReceiver key) r m = Unit {0}
+  ReplyAllowed b (call.CloneHandle side) r m = IsCloning r × (m ≡ None)
+  ReplyAllowed b (call.Upgrade side) r m = IsUpgrading r × (m ≡ None)
+  ReplyAllowed b (call.HandleCount side) r m = IsCount r × (m ≡ None)
+  ReplyAllowed b call.IsClosed r m = IsFlag r × (m ≡ None)
+  ReplyAllowed b call.IsEmpty r m = IsFlag r × (m ≡ None)
+  ReplyAllowed b call.IsFull r m = IsFlag r × (m ≡ None)
+  ReplyAllowed b call.Len r m = IsCount r × (m ≡ None)
+  ReplyAllowed b call.Capacity r m = IsCap r × (m ≡ None)
+  ReplyAllowed b call.IsTerminated r m = IsFlag r × (m ≡ None)
+  ReplyAllowed b (call.SendIsTerminated x) r m = (r ≡ reply.Flag x) × (m ≡ None)
+  ReplyAllowed b (call.SameChannel x) r m = (r ≡ reply.Flag x) × (m ≡ None)
+  ReplyAllowed b call.Make r m = (r ≡ reply.Made) × (m ≡ None)
+  ReplyAllowed b call.DropWeak r m = (r ≡ reply.Unit) × (m ≡ None)

@@ -18,17 +18,17 @@ use Rattle.channel_calls.specs.declared.mark.Mark.{Mark}
 use Rattle.channel_calls.specs.declared.mark.Mark.TheVariants.{Nothing}
 use Rattle.channel_calls.specs.declared.reply.Reply.{Reply}
 use Rattle.channel_calls.specs.declared.reply.Reply.TheVariants as reply
-use Rattle.channel_calls.specs.declared.stage.Aim.{Aim}
-use Rattle.channel_calls.specs.declared.stage.Held.{Held}
-use Rattle.channel_calls.specs.declared.stage.Kept.{Kept}
-use Rattle.channel_calls.specs.declared.stage.Line.TheVariants.{Sends, Receives, Streams}
+use Rattle.channel_calls.specs.declared.stage.Purpose.{Purpose}
+use Rattle.channel_calls.specs.declared.stage.ListenerRef.{ListenerRef}
+use Rattle.channel_calls.specs.declared.stage.Returned.{Returned}
+use Rattle.channel_calls.specs.declared.stage.WaitList.TheVariants.{Sends, Receives, Streams}
 use Rattle.channel_calls.specs.declared.stage.Side.{Side}
 use Rattle.channel_calls.specs.declared.stage.Stage.{Stage}
 use Rattle.channel_calls.specs.declared.stage.Stage.TheVariants.{Trying, Working, Finished}
-use Rattle.channel_calls.specs.declared.stage.Turn.{Turn}
-use Rattle.channel_calls.specs.declared.stage.Turn.TheVariants.{Tries, Works, Ends}
-use Rattle.channel_calls.specs.declared.stage.Work.{Work}
-use Rattle.channel_calls.specs.declared.stage.Work.TheVariants.{TellReceive, TellStreams, TellSend, TellSends, TakeRoom, TellAll, Insert, Register, Leave, Lower, Count, Load, Raise}
+use Rattle.channel_calls.specs.declared.stage.NextStep.{NextStep}
+use Rattle.channel_calls.specs.declared.stage.NextStep.TheVariants.{Tries, Works, Ends}
+use Rattle.channel_calls.specs.declared.stage.ListStep.{ListStep}
+use Rattle.channel_calls.specs.declared.stage.ListStep.TheVariants.{TellReceive, TellStreams, TellSend, TellSends, TakeRoom, TellAll, Insert, Register, Leave, Lower, Count, Load, Raise}
 
 -- a count that was raised is marked
 abbrev pub raised_mark : Side → Bool → Mark
@@ -37,33 +37,33 @@ raised_mark side false = Nothing
 
 module _ {T W : Type 0} where
   -- the turn is taken: the queue is asked by a call that has made no step, or a list or a count comes next, or this is the answer
-  abbrev pub Takes : Turn T W → Stage (QueueCall T) T W → Option (Reply T) → Type 0
+  abbrev pub Takes : NextStep T W → Stage (QueueCall T) T W → Option (Reply T) → Type 0
   Takes (Tries x aim) next r = (call : QueueCall T) × Starts call x × IsAsking call x × (r ≡ None) × (next ≡ Trying call aim)
   Takes (Works w) next r = (r ≡ None) × (next ≡ Working w)
   Takes (Ends x kept) next r = (r ≡ Some x) × (next ≡ Finished kept)
 
   -- after a step that has this mark
-  abbrev pub Marked : Mark → Turn T W → Mark → Stage (QueueCall T) T W → Option (Reply T) → Type 0
+  abbrev pub Marked : Mark → NextStep T W → Mark → Stage (QueueCall T) T W → Option (Reply T) → Type 0
   Marked m0 turn m next r = (m ≡ m0) × Takes turn next r
 
   -- the queue's call goes on, or has answered
-  abbrev pub Heard : Aim T W → QueueCall T → Option (QueueReply T) → Stage (QueueCall T) T W → Option (Reply T) → Type 0
+  abbrev pub Heard : Purpose T W → QueueCall T → Option (QueueReply T) → Stage (QueueCall T) T W → Option (Reply T) → Type 0
   Heard aim after None next r = (next ≡ Trying after aim) × (r ≡ None)
   Heard aim after (Some x) next r = Takes (answered_next aim x) next r
 
 module _ {T W X : Type 0} (did : Deed T W → X → X → Type 0) where
   -- a listener is taken off, where one is held
-  abbrev pub Leaves : Option Held → X → X → Type 0
+  abbrev pub Leaves : Option ListenerRef → X → X → Type 0
   Leaves None s t = t ≡ s
   Leaves (Some held) s t = (names : List W) × did (taken_off held.line held.key names) s t
 
   -- a step on a list or on a count
-  abbrev pub WorkMakes : Work T W → X → X → Mark → Stage (QueueCall T) T W → Option (Reply T) → Type 0
+  abbrev pub WorkMakes : ListStep T W → X → X → Mark → Stage (QueueCall T) T W → Option (Reply T) → Type 0
   WorkMakes (TellReceive e) s t m next r = (names : List W) × did (one_told Receives names) s t × Marked Nothing (Works (TellStreams e)) m next r
   WorkMakes (TellStreams e) s t m next r = (names : List W) × did (all_told Streams names) s t × Marked Nothing (ends_by e) m next r
   WorkMakes (TellSend e) s t m next r = (names : List W) × did (one_told Sends names) s t × Marked Nothing (ends_by e) m next r
   WorkMakes (TellSends n e) s t m next r = (names : List W) × did (more_told Sends n names) s t × Marked Nothing (ends_by e) m next r
-  WorkMakes (TakeRoom n) s t m next r = (turn : Turn T W) × (t ≡ s) × TakesRoom n turn × Marked Nothing turn m next r
+  WorkMakes (TakeRoom n) s t m next r = (turn : NextStep T W) × (t ≡ s) × TakesRoom n turn × Marked Nothing turn m next r
   WorkMakes (TellAll line c) s t m next r = (names : List W) × did (all_told line names) s t × Marked Nothing (told_all_next line c) m next r
   WorkMakes (Insert w task) s t m next r =
       (o : Result Key ListenError) × did (inserted (line_of w) o) s t × Marked Nothing (inserted_next w task o) m next r
@@ -89,20 +89,20 @@ module _ {T W X : Type 0} (did : Deed T W → X → X → Type 0) where
   Leads (suc n) s a t b = (x : X) × (y : Stage (QueueCall T) T W) × (m : Mark) × ChannelMakes a s x m y None × Leads n x y t b
 
   -- steps of a call from this stage lead to this answer, with this left to the call's operation
-  abbrev pub Walked : Stage (QueueCall T) T W → X → Reply T → Kept T → X → Type 0
+  abbrev pub Walked : Stage (QueueCall T) T W → X → Reply T → Returned T → X → Type 0
   Walked a s r kept t =
       (n : ℕ) × (x : X) × (b : Stage (QueueCall T) T W) × (m : Mark) × (c : Stage (QueueCall T) T W)
       × Leads n s a x b × ChannelMakes b x t m c (Some r) × (kept ≡ kept_by c)
 
   -- the same of a call that begins with this turn
-  abbrev pub WalkedFrom : Turn T W → X → Reply T → Kept T → X → Type 0
+  abbrev pub WalkedFrom : NextStep T W → X → Reply T → Returned T → X → Type 0
   WalkedFrom turn s r kept t = (a : Stage (QueueCall T) T W) × Takes turn a None × Walked a s r kept t
 
   -- and of one that no operation makes, whatever it leaves
-  abbrev pub WalkedTo : Turn T W → X → Reply T → X → Type 0
-  WalkedTo turn s r t = (kept : Kept T) × WalkedFrom turn s r kept t
+  abbrev pub WalkedTo : NextStep T W → X → Reply T → X → Type 0
+  WalkedTo turn s r t = (kept : Returned T) × WalkedFrom turn s r kept t
 
   -- and of one that hands on the call that is to be stepped on, or leaves nothing to an operation
-  abbrev pub WalkedOn : Turn T W → X → Result (Reply T) (ChannelCall T W) → X → Type 0
+  abbrev pub WalkedOn : NextStep T W → X → Result (Reply T) (ChannelCall T W) → X → Type 0
   WalkedOn turn s (Ok r) t = WalkedFrom turn s r nothing_kept t
   WalkedOn turn s (Err call) t = (a : Stage (QueueCall T) T W) × Takes turn a None × (n : ℕ) × Leads n s a t call.stage

@@ -7,7 +7,9 @@ ghost use Rattle.channel_calls.specs.Answered.{lost, sent_next, forced_next, rec
 use crate::error::{RecvError, Refused, SendError, TryRecvError, TrySendError};
 use crate::reply::Reply;
 use crate::several::{Gathering, Messages};
-use crate::stage::{Aim, Closer, Ending, Kept, Line, Making, Side, Turn, Waiting, Work};
+use crate::stage::{
+    Closer, Ending, ListStep, Making, NextStep, Purpose, Returned, Side, WaitList, Waiting,
+};
 use crate::turn::{closer_ending, ends_by, held_on, refused_next, says};
 use concurrent_queue::call::{QueueAsk, QueueReply};
 use concurrent_queue::error::{ForcePushError, PopError, PushError};
@@ -15,19 +17,21 @@ use event_listener::key::Key;
 use futures::task::Poll;
 
 /// The queue answers each call in its own kind, so this is never reached where its contents are known.
-fn lost<T, W>() -> Turn<T, W>
+fn lost<T, W>() -> NextStep<T, W>
     ensures { result ≡ lost }
 {
-    Turn::Ends(Reply::Unit, Kept::nothing())
+    NextStep::Ends(Reply::Unit, Returned::nothing())
 }
 
 /// A send that doesn't wait.
 #[inline(always)]
-pub(crate) fn sent_next<T: Drop, W>(answer: QueueReply<T>) -> Turn<T, W>
+pub(crate) fn sent_next<T: Drop, W>(answer: QueueReply<T>) -> NextStep<T, W>
     ensures { result ≡ sent_next answer }
 {
     match answer {
-        QueueReply::Push(Ok(())) => Turn::Works(Work::TellReceive(says(Reply::TrySend(Ok(()))))),
+        QueueReply::Push(Ok(())) => NextStep::Works(ListStep::TellReceive(says(Reply::TrySend(Ok(
+            (),
+        ))))),
         QueueReply::Push(Err(PushError::Full(message))) => {
             let error = Refused::Plain(TrySendError::Full(message));
             ends_by(says(Reply::TrySend(Err(error))))
@@ -45,12 +49,12 @@ pub(crate) fn sent_next<T: Drop, W>(answer: QueueReply<T>) -> Turn<T, W>
 
 /// A send that displaces. It tells no send, since it makes no room.
 #[inline(always)]
-pub(crate) fn forced_next<T: Drop, W>(answer: QueueReply<T>) -> Turn<T, W>
+pub(crate) fn forced_next<T: Drop, W>(answer: QueueReply<T>) -> NextStep<T, W>
     ensures { result ≡ forced_next answer }
 {
     match answer {
         QueueReply::Force(Ok(displaced)) => {
-            Turn::Works(Work::TellReceive(says(Reply::ForceSend(Ok(displaced)))))
+            NextStep::Works(ListStep::TellReceive(says(Reply::ForceSend(Ok(displaced)))))
         }
         QueueReply::Force(Err(ForcePushError::Closed(message))) => {
             let error = Refused::Plain(SendError(message));
@@ -65,12 +69,12 @@ pub(crate) fn forced_next<T: Drop, W>(answer: QueueReply<T>) -> Turn<T, W>
 
 /// A receive that doesn't wait.
 #[inline(always)]
-pub(crate) fn received_next<T: Drop, W>(answer: QueueReply<T>) -> Turn<T, W>
+pub(crate) fn received_next<T: Drop, W>(answer: QueueReply<T>) -> NextStep<T, W>
     ensures { result ≡ received_next answer }
 {
     match answer {
         QueueReply::Pop(Ok(message)) => {
-            Turn::Works(Work::TellSend(says(Reply::TryRecv(Ok(message)))))
+            NextStep::Works(ListStep::TellSend(says(Reply::TryRecv(Ok(message)))))
         }
         QueueReply::Pop(Err(PopError::Empty)) => {
             ends_by(says(Reply::TryRecv(Err(TryRecvError::Empty))))
@@ -83,25 +87,25 @@ pub(crate) fn received_next<T: Drop, W>(answer: QueueReply<T>) -> Turn<T, W>
 }
 
 /// Several messages are handed out, and as many more sends are told.
-fn hands_out<T: Drop, W>(messages: Messages<T>) -> Turn<T, W>
+fn hands_out<T: Drop, W>(messages: Messages<T>) -> NextStep<T, W>
     ensures { result ≡ hands_out messages }
 {
     let count = messages.as_slice().len();
-    Turn::Works(Work::TellSends(count, says(Reply::RecvMany(Ok(messages)))))
+    NextStep::Works(ListStep::TellSends(count, says(Reply::RecvMany(Ok(messages)))))
 }
 
 /// One more of several messages was taken: the next one is tried for, or all are handed out.
-fn gathered_next<T: Drop, W>(gathering: Gathering<T>, message: T) -> Turn<T, W>
+fn gathered_next<T: Drop, W>(gathering: Gathering<T>, message: T) -> NextStep<T, W>
     ensures { result ≡ gathered_next (with_one gathering message) }
 {
     match gathering.with(message) {
-        Ok(gathering) => Turn::Tries(QueueAsk::Pop, Aim::RecvMany(gathering)),
+        Ok(gathering) => NextStep::Tries(QueueAsk::Pop, Purpose::RecvMany(gathering)),
         Err(messages) => hands_out(messages),
     }
 }
 
 /// There is no further message: those that were taken are handed out, or this is the answer.
-fn short_next<T: Drop, W>(gathering: Gathering<T>, error: TryRecvError) -> Turn<T, W>
+fn short_next<T: Drop, W>(gathering: Gathering<T>, error: TryRecvError) -> NextStep<T, W>
     ensures { result ≡ short_next gathering.taken error }
 {
     if gathering.is_empty() {
@@ -112,7 +116,7 @@ fn short_next<T: Drop, W>(gathering: Gathering<T>, error: TryRecvError) -> Turn<
 }
 
 /// A receive of several messages that doesn't wait.
-fn several_next<T: Drop, W>(answer: QueueReply<T>, gathering: Gathering<T>) -> Turn<T, W>
+fn several_next<T: Drop, W>(answer: QueueReply<T>, gathering: Gathering<T>) -> NextStep<T, W>
     ensures { result ≡ several_next answer gathering }
 {
     match answer {
@@ -125,12 +129,12 @@ fn several_next<T: Drop, W>(answer: QueueReply<T>, gathering: Gathering<T>) -> T
 
 /// A try of a polled send. A message that wasn't sent into a closed channel is in the error; one for which there was no
 /// memory stays with the send.
-fn send_next<T: Drop, W: Drop>(answer: QueueReply<T>, key: Option<Key>, task: W) -> Turn<T, W>
+fn send_next<T: Drop, W: Drop>(answer: QueueReply<T>, key: Option<Key>, task: W) -> NextStep<T, W>
     ensures { result ≡ send_next answer key task }
 {
-    let held = held_on(Line::Sends, key);
+    let held = held_on(WaitList::Sends, key);
     match answer {
-        QueueReply::Push(Ok(())) => Turn::Works(Work::TellReceive(Ending {
+        QueueReply::Push(Ok(())) => NextStep::Works(ListStep::TellReceive(Ending {
             reply: Reply::SendPoll(Poll::Ready(Ok(()))),
             message: None,
             held,
@@ -153,12 +157,16 @@ fn send_next<T: Drop, W: Drop>(answer: QueueReply<T>, key: Option<Key>, task: W)
 }
 
 /// A try of a polled receive.
-fn receive_next<T: Drop, W: Drop>(answer: QueueReply<T>, key: Option<Key>, task: W) -> Turn<T, W>
+fn receive_next<T: Drop, W: Drop>(
+    answer: QueueReply<T>,
+    key: Option<Key>,
+    task: W,
+) -> NextStep<T, W>
     ensures { result ≡ receive_next answer key task }
 {
-    let held = held_on(Line::Receives, key);
+    let held = held_on(WaitList::Receives, key);
     match answer {
-        QueueReply::Pop(Ok(message)) => Turn::Works(Work::TellSend(Ending {
+        QueueReply::Pop(Ok(message)) => NextStep::Works(ListStep::TellSend(Ending {
             reply: Reply::RecvPoll(Poll::Ready(Ok(message))),
             message: None,
             held,
@@ -174,12 +182,12 @@ fn receive_next<T: Drop, W: Drop>(answer: QueueReply<T>, key: Option<Key>, task:
 }
 
 /// A try of a polled stream.
-fn stream_next<T: Drop, W: Drop>(answer: QueueReply<T>, key: Option<Key>, task: W) -> Turn<T, W>
+fn stream_next<T: Drop, W: Drop>(answer: QueueReply<T>, key: Option<Key>, task: W) -> NextStep<T, W>
     ensures { result ≡ stream_next answer key task }
 {
-    let held = held_on(Line::Streams, key);
+    let held = held_on(WaitList::Streams, key);
     match answer {
-        QueueReply::Pop(Ok(message)) => Turn::Works(Work::TellSend(Ending {
+        QueueReply::Pop(Ok(message)) => NextStep::Works(ListStep::TellSend(Ending {
             reply: Reply::Next(Poll::Ready(Some(Ok(message)))),
             message: None,
             held,
@@ -195,14 +203,18 @@ fn stream_next<T: Drop, W: Drop>(answer: QueueReply<T>, key: Option<Key>, task: 
 }
 
 /// A try of a polled wait for the closing.
-fn closing_next<T: Drop, W: Drop>(answer: QueueReply<T>, key: Option<Key>, task: W) -> Turn<T, W>
+fn closing_next<T: Drop, W: Drop>(
+    answer: QueueReply<T>,
+    key: Option<Key>,
+    task: W,
+) -> NextStep<T, W>
     ensures { result ≡ closing_next answer key task }
 {
     match answer {
         QueueReply::Flag(true) => ends_by(Ending {
             reply: Reply::ClosedPoll(Poll::Ready(Ok(()))),
             message: None,
-            held: held_on(Line::Closings, key),
+            held: held_on(WaitList::Closings, key),
         }),
         QueueReply::Flag(false) => refused_next(Waiting::Closing, key, task),
         _ => lost(),
@@ -212,27 +224,27 @@ fn closing_next<T: Drop, W: Drop>(answer: QueueReply<T>, key: Option<Key>, task:
 /// A try of a polled operation of this kind.
 #[inline(always)]
 fn polled_next<T: Drop, W: Drop>(
-    line: Line,
+    line: WaitList,
     answer: QueueReply<T>,
     key: Option<Key>,
     task: W,
-) -> Turn<T, W>
+) -> NextStep<T, W>
     ensures { result ≡ polled_next line answer key task }
 {
     match line {
-        Line::Sends => send_next(answer, key, task),
-        Line::Receives => receive_next(answer, key, task),
-        Line::Streams => stream_next(answer, key, task),
-        Line::Closings => closing_next(answer, key, task),
+        WaitList::Sends => send_next(answer, key, task),
+        WaitList::Receives => receive_next(answer, key, task),
+        WaitList::Streams => stream_next(answer, key, task),
+        WaitList::Closings => closing_next(answer, key, task),
     }
 }
 
 /// A closing: it tells all only where this call closed the channel.
-fn closed_next<T: Drop, W>(answer: QueueReply<T>, closer: Closer) -> Turn<T, W>
+fn closed_next<T: Drop, W>(answer: QueueReply<T>, closer: Closer) -> NextStep<T, W>
     ensures { result ≡ closed_next answer closer }
 {
     match answer {
-        QueueReply::Close(true) => Turn::Works(Work::TellAll(Line::Sends, closer)),
+        QueueReply::Close(true) => NextStep::Works(ListStep::TellAll(WaitList::Sends, closer)),
         QueueReply::Close(false) => ends_by(closer_ending(closer, false)),
         _ => lost(),
     }
@@ -240,7 +252,7 @@ fn closed_next<T: Drop, W>(answer: QueueReply<T>, closer: Closer) -> Turn<T, W>
 
 /// A question.
 #[inline(always)]
-pub(crate) fn asked_next<T: Drop, W>(answer: QueueReply<T>) -> Turn<T, W>
+pub(crate) fn asked_next<T: Drop, W>(answer: QueueReply<T>) -> NextStep<T, W>
     ensures { result ≡ asked_next answer }
 {
     match answer {
@@ -253,41 +265,44 @@ pub(crate) fn asked_next<T: Drop, W>(answer: QueueReply<T>) -> Turn<T, W>
 
 /// Whether a receiver has got its last message: an open channel has more to come, a closed one is asked whether it is
 /// empty.
-fn terminated_next<T: Drop, W>(answer: QueueReply<T>) -> Turn<T, W>
+fn terminated_next<T: Drop, W>(answer: QueueReply<T>) -> NextStep<T, W>
     ensures { result ≡ terminated_next answer }
 {
     match answer {
-        QueueReply::Flag(true) => Turn::Tries(QueueAsk::IsEmpty, Aim::Ask),
+        QueueReply::Flag(true) => NextStep::Tries(QueueAsk::IsEmpty, Purpose::Ask),
         QueueReply::Flag(false) => ends_by(says(Reply::Flag(false))),
         _ => lost(),
     }
 }
 
 /// An upgrade: none on a closed channel.
-fn upgraded_next<T: Drop, W>(answer: QueueReply<T>, side: Side) -> Turn<T, W>
+fn upgraded_next<T: Drop, W>(answer: QueueReply<T>, side: Side) -> NextStep<T, W>
     ensures { result ≡ upgraded_next answer side }
 {
     match answer {
         QueueReply::Flag(true) => ends_by(says(Reply::NotMade)),
-        QueueReply::Flag(false) => Turn::Works(Work::Load(side, Making::Upgrade)),
+        QueueReply::Flag(false) => NextStep::Works(ListStep::Load(side, Making::Upgrade)),
         _ => lost(),
     }
 }
 
 /// What comes after the queue's answer to a call with this aim.
 #[inline(always)]
-pub(crate) fn answered_next<T: Drop, W: Drop>(aim: Aim<T, W>, answer: QueueReply<T>) -> Turn<T, W>
+pub(crate) fn answered_next<T: Drop, W: Drop>(
+    aim: Purpose<T, W>,
+    answer: QueueReply<T>,
+) -> NextStep<T, W>
     ensures { result ≡ answered_next aim answer }
 {
     match aim {
-        Aim::TrySend => sent_next(answer),
-        Aim::ForceSend => forced_next(answer),
-        Aim::TryRecv => received_next(answer),
-        Aim::RecvMany(gathering) => several_next(answer, gathering),
-        Aim::Poll(line, key, task) => polled_next(line, answer, key, task),
-        Aim::Close(closer) => closed_next(answer, closer),
-        Aim::Ask => asked_next(answer),
-        Aim::IsTerminated => terminated_next(answer),
-        Aim::Upgrade(side) => upgraded_next(answer, side),
+        Purpose::TrySend => sent_next(answer),
+        Purpose::ForceSend => forced_next(answer),
+        Purpose::TryRecv => received_next(answer),
+        Purpose::RecvMany(gathering) => several_next(answer, gathering),
+        Purpose::Poll(line, key, task) => polled_next(line, answer, key, task),
+        Purpose::Close(closer) => closed_next(answer, closer),
+        Purpose::Ask => asked_next(answer),
+        Purpose::IsTerminated => terminated_next(answer),
+        Purpose::Upgrade(side) => upgraded_next(answer, side),
     }
 }

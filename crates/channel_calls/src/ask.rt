@@ -6,7 +6,7 @@ ghost use Rattle.channel_calls.specs.Turns.{says};
 
 use crate::reply::Reply;
 use crate::several::Limit;
-use crate::stage::{Aim, Closer, Ending, Line, Making, Side, Turn, Waiting, Work};
+use crate::stage::{Closer, Ending, ListStep, Making, NextStep, Purpose, Side, WaitList, Waiting};
 use crate::turn::{again, held_on, refused_reply, says};
 use concurrent_queue::call::QueueAsk;
 use event_listener::error::ListenError;
@@ -68,10 +68,10 @@ pub enum ChannelAsk<T, W> {
     PollNext(Option<Key>, W),
     /// A poll of an operation of this kind for which there was no copy of the waker: it drops the listener that it holds
     /// and is refused for memory. A send keeps its message.
-    RefusePoll(Line, Option<T>, Option<Key>),
+    RefusePoll(WaitList, Option<T>, Option<Key>),
     /// The giving up of an operation of this kind, which drops the listener that it holds and hands back the message of an
     /// unfinished send.
-    GiveUp(Line, Option<T>, Option<Key>),
+    GiveUp(WaitList, Option<T>, Option<Key>),
     /// The drop of a sender. The last one closes.
     DropSender,
     /// The drop of a receiver, which may hold a listener as a stream. The last one closes, before that listener leaves.
@@ -105,17 +105,17 @@ pub enum ChannelAsk<T, W> {
 }
 
 /// A poll that asks its listener before it tries; without one it tries.
-fn asks_listener<T, W>(waiting: Waiting<T>, key: Option<Key>, task: W) -> Turn<T, W>
+fn asks_listener<T, W>(waiting: Waiting<T>, key: Option<Key>, task: W) -> NextStep<T, W>
     ensures { result ≡ asks_listener waiting key task }
 {
     match key {
-        Some(key) => Turn::Works(Work::Register(waiting, key, task)),
+        Some(key) => NextStep::Works(ListStep::Register(waiting, key, task)),
         None => again(waiting, None, task),
     }
 }
 
 /// A poll of a send or a receive.
-fn begins<T, W>(waiting: Waiting<T>, loan: Loan, task: W) -> Turn<T, W>
+fn begins<T, W>(waiting: Waiting<T>, loan: Loan, task: W) -> NextStep<T, W>
     ensures { result ≡ begins waiting loan task }
 {
     if loan.asks_first {
@@ -126,17 +126,17 @@ fn begins<T, W>(waiting: Waiting<T>, loan: Loan, task: W) -> Turn<T, W>
 }
 
 /// A call that only answers: nothing is touched.
-fn only_says<T, W>(reply: Reply<T>) -> Turn<T, W>
-    ensures { result ≡ Turn.Works (Work.Leave (says reply)) }
+fn only_says<T, W>(reply: Reply<T>) -> NextStep<T, W>
+    ensures { result ≡ NextStep.Works (ListStep.Leave (says reply)) }
 {
-    Turn::Works(Work::Leave(says(reply)))
+    NextStep::Works(ListStep::Leave(says(reply)))
 }
 
 /// An operation is given up.
-fn gives_up<T, W>(line: Line, message: Option<T>, key: Option<Key>) -> Turn<T, W>
-    ensures { result ≡ Turn.Works (Work.Leave (gives_up line message key)) }
+fn gives_up<T, W>(line: WaitList, message: Option<T>, key: Option<Key>) -> NextStep<T, W>
+    ensures { result ≡ NextStep.Works (ListStep.Leave (gives_up line message key)) }
 {
-    Turn::Works(Work::Leave(Ending {
+    NextStep::Works(ListStep::Leave(Ending {
         reply: Reply::GivenUp(message),
         message: None,
         held: held_on(line, key),
@@ -144,10 +144,10 @@ fn gives_up<T, W>(line: Line, message: Option<T>, key: Option<Key>) -> Turn<T, W
 }
 
 /// A poll is refused the copy of its waker.
-fn is_refused<T, W>(line: Line, message: Option<T>, key: Option<Key>) -> Turn<T, W>
-    ensures { result ≡ Turn.Works (Work.Leave (is_refused line message key)) }
+fn is_refused<T, W>(line: WaitList, message: Option<T>, key: Option<Key>) -> NextStep<T, W>
+    ensures { result ≡ NextStep.Works (ListStep.Leave (is_refused line message key)) }
 {
-    Turn::Works(Work::Leave(Ending {
+    NextStep::Works(ListStep::Leave(Ending {
         reply: refused_reply(line, ListenError::NoMemory),
         message,
         held: held_on(line, key),
@@ -157,17 +157,20 @@ fn is_refused<T, W>(line: Line, message: Option<T>, key: Option<Key>) -> Turn<T,
 impl<T, W> ChannelAsk<T, W> {
     /// The call's first turn. Who asks for one call has its turn alone.
     #[inline(always)]
-    pub(crate) fn first(self) -> Turn<T, W>
+    pub(crate) fn first(self) -> NextStep<T, W>
         ensures { result ≡ first self }
     {
         match self {
-            ChannelAsk::TrySend(message) => Turn::Tries(QueueAsk::Push(message), Aim::TrySend),
+            ChannelAsk::TrySend(message) => NextStep::Tries(
+                QueueAsk::Push(message),
+                Purpose::TrySend,
+            ),
             ChannelAsk::ForceSend(message) => {
-                Turn::Tries(QueueAsk::ForcePush(message), Aim::ForceSend)
+                NextStep::Tries(QueueAsk::ForcePush(message), Purpose::ForceSend)
             }
-            ChannelAsk::TryRecv => Turn::Tries(QueueAsk::Pop, Aim::TryRecv),
-            ChannelAsk::RecvMany(limit) => Turn::Works(Work::TakeRoom(limit)),
-            ChannelAsk::Close => Turn::Tries(QueueAsk::Close, Aim::Close(Closer::Call)),
+            ChannelAsk::TryRecv => NextStep::Tries(QueueAsk::Pop, Purpose::TryRecv),
+            ChannelAsk::RecvMany(limit) => NextStep::Works(ListStep::TakeRoom(limit)),
+            ChannelAsk::Close => NextStep::Tries(QueueAsk::Close, Purpose::Close(Closer::Call)),
             ChannelAsk::PollSend(message, loan, task) => begins(Waiting::Send(message), loan, task),
             ChannelAsk::PollFinishedSend => only_says(Reply::SendPoll(Poll::Pending)),
             ChannelAsk::PollRecv(loan, task) => begins(Waiting::Receive, loan, task),
@@ -175,17 +178,20 @@ impl<T, W> ChannelAsk<T, W> {
             ChannelAsk::PollNext(key, task) => asks_listener(Waiting::Stream, key, task),
             ChannelAsk::RefusePoll(line, message, key) => is_refused(line, message, key),
             ChannelAsk::GiveUp(line, message, key) => gives_up(line, message, key),
-            ChannelAsk::DropSender => Turn::Works(Work::Lower(Side::Senders, None)),
-            ChannelAsk::DropReceiver(key) => Turn::Works(Work::Lower(Side::Receivers, key)),
-            ChannelAsk::CloneHandle(side) => Turn::Works(Work::Load(side, Making::Clone)),
-            ChannelAsk::Upgrade(side) => Turn::Tries(QueueAsk::IsClosed, Aim::Upgrade(side)),
-            ChannelAsk::HandleCount(side) => Turn::Works(Work::Count(side)),
-            ChannelAsk::IsClosed => Turn::Tries(QueueAsk::IsClosed, Aim::Ask),
-            ChannelAsk::IsEmpty => Turn::Tries(QueueAsk::IsEmpty, Aim::Ask),
-            ChannelAsk::IsFull => Turn::Tries(QueueAsk::IsFull, Aim::Ask),
-            ChannelAsk::Len => Turn::Tries(QueueAsk::Len, Aim::Ask),
-            ChannelAsk::Capacity => Turn::Tries(QueueAsk::Capacity, Aim::Ask),
-            ChannelAsk::IsTerminated => Turn::Tries(QueueAsk::IsClosed, Aim::IsTerminated),
+            ChannelAsk::DropSender => NextStep::Works(ListStep::Lower(Side::Senders, None)),
+            ChannelAsk::DropReceiver(key) => NextStep::Works(ListStep::Lower(Side::Receivers, key)),
+            ChannelAsk::CloneHandle(side) => NextStep::Works(ListStep::Load(side, Making::Clone)),
+            ChannelAsk::Upgrade(side) => NextStep::Tries(
+                QueueAsk::IsClosed,
+                Purpose::Upgrade(side),
+            ),
+            ChannelAsk::HandleCount(side) => NextStep::Works(ListStep::Count(side)),
+            ChannelAsk::IsClosed => NextStep::Tries(QueueAsk::IsClosed, Purpose::Ask),
+            ChannelAsk::IsEmpty => NextStep::Tries(QueueAsk::IsEmpty, Purpose::Ask),
+            ChannelAsk::IsFull => NextStep::Tries(QueueAsk::IsFull, Purpose::Ask),
+            ChannelAsk::Len => NextStep::Tries(QueueAsk::Len, Purpose::Ask),
+            ChannelAsk::Capacity => NextStep::Tries(QueueAsk::Capacity, Purpose::Ask),
+            ChannelAsk::IsTerminated => NextStep::Tries(QueueAsk::IsClosed, Purpose::IsTerminated),
             ChannelAsk::SendIsTerminated(finished) => only_says(Reply::Flag(finished)),
             ChannelAsk::SameChannel(same) => only_says(Reply::Flag(same)),
             ChannelAsk::Make => only_says(Reply::Made),

@@ -5,7 +5,7 @@ ghost use Rattle.channel_calls.specs.Blocks.{poll_woken, waiting_of};
 ghost use Rattle.channel_calls.specs.Turns.{line_of};
 
 use crate::ask::{ChannelAsk, woken};
-use crate::stage::{Line, Waiting};
+use crate::stage::{WaitList, Waiting};
 use event_listener::key::Key;
 
 /// A call that blocks its thread. Own to this project.
@@ -39,12 +39,12 @@ impl<T> Blocked<T> {
     }
 
     /// The list on which it waits.
-    pub(crate) fn line(&self) -> Line
+    pub(crate) fn line(&self) -> WaitList
         ensures { result ≡ line_of (waiting_of self.now) }
     {
         match self {
-            Blocked::Send(_) => Line::Sends,
-            Blocked::Receive => Line::Receives,
+            Blocked::Send(_) => WaitList::Sends,
+            Blocked::Receive => WaitList::Receives,
         }
     }
 }

@@ -28,9 +28,9 @@ use crate::calls::{try_recv, try_send};
 use crate::error::{RecvError, Refused, SendError, TryRecvError, TrySendError};
 use crate::reply::Reply;
 use crate::sleeps::Sleeps;
-use crate::stage::Kept;
+use crate::stage::Returned;
 use crate::turn::refused_reply;
-use crate::whole::{Given, make};
+use crate::whole::{Completed, make};
 use crossbeam_utils::Backoff;
 use event_listener::key::Key;
 use event_listener::wakes::Wakes;
@@ -38,16 +38,18 @@ use futures::task::Poll;
 use std::sync::Wait;
 
 /// A poll that is over: its answer, and the message that stays with it.
-fn polled<T>(reply: Reply<T>, message: Option<T>) -> Given<T>
+fn polled<T>(reply: Reply<T>, message: Option<T>) -> Completed<T>
     ensures { result ≡ polled reply message }
 {
-    let kept = Kept { key: None, message };
-    Given { reply, kept }
+    let kept = Returned { key: None, message };
+    Completed { reply, kept }
 }
 
 /// What a poll's try of a send comes to, by what a send answers that doesn't wait.
 #[inline(always)]
-fn sent_by<T: Drop>(sent: Result<(), Refused<TrySendError<T>, T>>) -> Result<Given<T>, Blocked<T>>
+fn sent_by<T: Drop>(
+    sent: Result<(), Refused<TrySendError<T>, T>>,
+) -> Result<Completed<T>, Blocked<T>>
     ensures { result ≡ sent_by sent }
 {
     let (answer, message) = match sent {
@@ -64,7 +66,7 @@ fn sent_by<T: Drop>(sent: Result<(), Refused<TrySendError<T>, T>>) -> Result<Giv
 
 /// What a poll's try of a receive comes to, by what a receive answers that doesn't wait.
 #[inline(always)]
-fn received_by<T: Drop>(received: Result<T, TryRecvError>) -> Result<Given<T>, Blocked<T>>
+fn received_by<T: Drop>(received: Result<T, TryRecvError>) -> Result<Completed<T>, Blocked<T>>
     ensures { result ≡ received_by received }
 {
     let answer = match received {
@@ -82,7 +84,7 @@ fn tries_to_send<T: Drop, W: Drop, R: Wait, C: Sleeps<T, W>, S: Wakes<W>>(
     message: T,
     cells: &mut C,
     sink: &mut S,
-) -> Result<Given<T>, Blocked<T>>
+) -> Result<Completed<T>, Blocked<T>>
     requires form { (f : QueueForm) × C.has_form cells.old f }
     ensures comes { (key : Option Name) (task : W) → Comes (Done C.did S.wakes) (again (waiting_of (blocking.Send message)) key task) (cells.old, sink.old) (tried_turn (line_of (waiting_of (blocking.Send message))) result key task) (cells.new, sink.new) }
     ensures looked { IfErr result (λ left. WalkedTo (Done C.did S.wakes) (first (at_once (blocking.Send message))) (cells.old, sink.old) (not_yet (blocking.Send message)) (cells.new, sink.new)) }
@@ -99,7 +101,7 @@ fn tries_to_receive<T: Drop, W: Drop, R: Wait, C: Sleeps<T, W>, S: Wakes<W>>(
     rt: &R,
     cells: &mut C,
     sink: &mut S,
-) -> Result<Given<T>, Blocked<T>>
+) -> Result<Completed<T>, Blocked<T>>
     requires form { (f : QueueForm) × C.has_form cells.old f }
     ensures comes { (key : Option Name) (task : W) → Comes (Done C.did S.wakes) (again (waiting_of {T = T} blocking.Receive) key task) (cells.old, sink.old) (tried_turn (line_of (waiting_of {T = T} blocking.Receive)) result key task) (cells.new, sink.new) }
     ensures looked { IfErr result (λ left. WalkedTo (Done C.did S.wakes) (first (at_once {T = T} blocking.Receive)) (cells.old, sink.old) (not_yet {T = T} blocking.Receive) (cells.new, sink.new)) }
@@ -116,7 +118,7 @@ fn tries<T: Drop, W: Drop, R: Wait, C: Sleeps<T, W>, S: Wakes<W>>(
     call: Blocked<T>,
     cells: &mut C,
     sink: &mut S,
-) -> Result<Given<T>, Blocked<T>>
+) -> Result<Completed<T>, Blocked<T>>
     requires form { (f : QueueForm) × C.has_form cells.old f }
     ensures comes { (key : Option Name) (task : W) → Comes (Done C.did S.wakes) (again (waiting_of call) key task) (cells.old, sink.old) (tried_turn (line_of (waiting_of call)) result key task) (cells.new, sink.new) }
     ensures looked { IfErr result (λ left. WalkedTo (Done C.did S.wakes) (first (at_once call)) (cells.old, sink.old) (not_yet call) (cells.new, sink.new)) }
@@ -137,7 +139,7 @@ fn looks<T: Drop, W: Drop, R: Wait, C: Sleeps<T, W>, S: Wakes<W>>(
     call: Blocked<T>,
     cells: &mut C,
     sink: &mut S,
-) -> Result<Given<T>, Blocked<T>>
+) -> Result<Completed<T>, Blocked<T>>
     requires form { (f : QueueForm) × C.has_form cells.old f }
     ensures looks { (n : ℕ) × (x : C × S) × Looks (Done C.did S.wakes) n call (cells.old, sink.old) x
         × MatchResult result (λ given. AnswersAtFirst (Done C.did S.wakes) call x given.reply given.kept (cells.new, sink.new)) (λ left. (cells.new, sink.new) ≡ x) }
@@ -166,7 +168,7 @@ fn begins<T: Drop, W: Drop, R: Wait, C: Sleeps<T, W>, S: Wakes<W>>(
     call: Blocked<T>,
     cells: &mut C,
     sink: &mut S,
-) -> Result<Given<T>, (Blocked<T>, Key)>
+) -> Result<Completed<T>, (Blocked<T>, Key)>
     requires form { (f : QueueForm) × C.has_form cells.old f }
     ensures begins { MatchResult result (λ given. AnswersAtFirst (Done C.did S.wakes) call (cells.old, sink.old) given.reply given.kept (cells.new, sink.new))
         (λ left. Listens (Done C.did S.wakes) call (cells.old, sink.old) left.1 (cells.new, sink.new)) }
@@ -197,19 +199,19 @@ fn begins<T: Drop, W: Drop, R: Wait, C: Sleeps<T, W>, S: Wakes<W>>(
 }
 
 /// What a poll left that is pending, or the poll that is over.
-fn still<T: Drop>(given: Given<T>) -> Result<Given<T>, (Blocked<T>, Key)>
+fn still<T: Drop>(given: Completed<T>) -> Result<Completed<T>, (Blocked<T>, Key)>
     ensures waits { (b : Blocking T) → MayPoll (waiting_of b) given.reply given.kept.message → is_some given.kept.key ≡ pends given.reply → MatchResult result (λ over. (over ≡ given) × IsOver b over) (λ left. (left.0 ≡ b) × (given ≡ still_waits b left.1)) }
 {
-    let Given { reply, kept } = given;
-    let Kept { key, message } = kept;
+    let Completed { reply, kept } = given;
+    let Returned { key, message } = kept;
     match (reply, key, message) {
         (Reply::SendPoll(Poll::Pending), Some(key), Some(message)) => {
             Err((Blocked::Send(message), key))
         }
         (Reply::RecvPoll(Poll::Pending), Some(key), None) => Err((Blocked::Receive, key)),
         (reply, key, message) => {
-            let kept = Kept { key, message };
-            Ok(Given { reply, kept })
+            let kept = Returned { key, message };
+            Ok(Completed { reply, kept })
         }
     }
 }
@@ -222,7 +224,7 @@ fn registers<T: Drop, W: Drop, R: Wait, C: Sleeps<T, W>, S: Wakes<W>>(
     task: W,
     cells: &mut C,
     sink: &mut S,
-) -> Result<Given<T>, (Blocked<T>, Key)>
+) -> Result<Completed<T>, (Blocked<T>, Key)>
     requires form { (f : QueueForm) × C.has_form cells.old f }
     ensures registers { MatchResult result (λ given. WalkedFrom (Done C.did S.wakes) (first (poll_woken call key task)) (cells.old, sink.old) given.reply given.kept (cells.new, sink.new))
         (λ left. let waits = still_waits call left.1 in WalkedFrom (Done C.did S.wakes) (first (poll_woken call key task)) (cells.old, sink.old) waits.reply waits.kept (cells.new, sink.new)) }
@@ -240,7 +242,7 @@ fn refused<T: Drop, W: Drop, R: Wait, C: Sleeps<T, W>, S: Wakes<W>>(
     key: Key,
     cells: &mut C,
     sink: &mut S,
-) -> Given<T>
+) -> Completed<T>
     requires form { (f : QueueForm) × C.has_form cells.old f }
     ensures leaves { WalkedFrom (Done C.did S.wakes) (first (ask.RefusePoll (line_of (waiting_of call)) (message_of (waiting_of call)) (Some key))) (cells.old, sink.old) result.reply result.kept (cells.new, sink.new) }
     ensures over { IsOver call result }
@@ -263,7 +265,7 @@ fn sleeps<T: Drop, W: Drop, R: Wait, C: Sleeps<T, W>, S: Wakes<W>>(
     key: Key,
     cells: &mut C,
     sink: &mut S,
-) -> Given<T>
+) -> Completed<T>
     requires form { (f : QueueForm) × C.has_form cells.old f }
     ensures sleeps { SleepsOn (Done C.did S.wakes) (Asked C.parked) (Slept C.slept) call key (cells.old, sink.old) result.reply result.kept (cells.new, sink.new) }
     ensures over { IsOver call result }
@@ -293,7 +295,7 @@ fn blocks<T: Drop, W: Drop, R: Wait, C: Sleeps<T, W>, S: Wakes<W>>(
     call: Blocked<T>,
     cells: &mut C,
     sink: &mut S,
-) -> Given<T>
+) -> Completed<T>
     requires form { (f : QueueForm) × C.has_form cells.old f }
     ensures deeds { Blocks (Done C.did S.wakes) (Asked C.parked) (Slept C.slept) call (cells.old, sink.old) result.reply result.kept (cells.new, sink.new) }
     ensures over { IsOver call result }
@@ -330,13 +332,13 @@ fn answered<T: Drop>(
 
 /// What a send that blocks answers, by its last poll.
 #[inline(always)]
-fn sent<T: Drop>(given: Given<T>) -> Result<(), Refused<SendError<T>, T>>
+fn sent<T: Drop>(given: Completed<T>) -> Result<(), Refused<SendError<T>, T>>
     requires over { (v : T) × IsOver (blocking.Send v) given }
     ensures reply { sent_reply result ≡ given.reply }
     ensures left { sent_left result ≡ given.kept }
     ensures back { (v : T) → IsOver (blocking.Send v) given → IfErr result (λ e. handed_back e ≡ v) }
 {
-    let Given { reply, kept } = given;
+    let Completed { reply, kept } = given;
     match reply {
         Reply::SendPoll(Poll::Ready(answer)) => answered(answer, kept.message),
         _ => unreachable!(),
@@ -345,12 +347,12 @@ fn sent<T: Drop>(given: Given<T>) -> Result<(), Refused<SendError<T>, T>>
 
 /// What a receive that blocks answers, by its last poll.
 #[inline(always)]
-fn taken<T: Drop>(given: Given<T>) -> Result<T, Refused<RecvError>>
+fn taken<T: Drop>(given: Completed<T>) -> Result<T, Refused<RecvError>>
     requires over { IsOver blocking.Receive given }
     ensures reply { reply.RecvPoll (poll.Ready result) ≡ given.reply }
     ensures left { given.kept ≡ nothing_kept }
 {
-    let Given { reply, kept } = given;
+    let Completed { reply, kept } = given;
     drop(kept);
     match reply {
         Reply::RecvPoll(Poll::Ready(answer)) => answer,

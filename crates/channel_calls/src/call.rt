@@ -12,7 +12,7 @@ use crate::ask::ChannelAsk;
 use crate::cells::ChannelCells;
 use crate::mark::Mark;
 use crate::reply::Reply;
-use crate::stage::{Kept, Stage};
+use crate::stage::{Returned, Stage};
 use crate::step::{Stepped, stage_step, takes};
 use concurrent_queue::queue_call::QueueCall;
 use event_listener::wakes::Wakes;
@@ -63,7 +63,7 @@ impl<T: Drop, W: Drop> ChannelCall<T, W> {
         ensures form { (f : QueueForm) → C.has_form cells.old f → C.has_form cells.new f }
         ensures raises { is_up self.new.mark ≡ true → result ≡ Some Reply.Made }
     {
-        let stage = mem::replace(&mut self.stage, Stage::Finished(Kept::nothing()));
+        let stage = mem::replace(&mut self.stage, Stage::Finished(Returned::nothing()));
         let stepped = stage_step(stage, cells, sink);
         drop(mem::replace(&mut self.stage, stepped.stage));
         self.mark = stepped.mark;
@@ -74,7 +74,7 @@ impl<T: Drop, W: Drop> ChannelCall<T, W> {
 impl<T: Drop, W: Drop> ChannelCall<T, W> {
     ghost use Rattle.channel_calls.specs.Asks.{first, kept_by};
     ghost use Rattle.std.specs.Prelude.{Bool, Option};
-    ghost use Rattle.channel_calls.specs.Replies.{MayEnd, MayGive};
+    ghost use Rattle.channel_calls.specs.Replies.{MayEnd, ReplyAllowed};
     ghost use Rattle.channel_calls.specs.declared.reply.Reply.{Reply};
 
     /// The call that is asked for. It has made no step.
@@ -82,7 +82,7 @@ impl<T: Drop, W: Drop> ChannelCall<T, W> {
     pub fn new(ask: ChannelAsk<T, W>) -> ChannelCall<T, W>
         ensures begins { IsNewCall result (first ask) }
         ensures takes { Takes (first ask) result.stage None }
-        ensures answers { (b : QueueForm) (r : Reply T) (m : Option T) → MayEnd b result.stage r m → MayGive b ask r m }
+        ensures answers { (b : QueueForm) (r : Reply T) (m : Option T) → MayEnd b result.stage r m → ReplyAllowed b ask r m }
         ensures unmarked { result.mark ≡ Mark.Nothing }
     {
         let begun = takes(ask.first(), Mark::Nothing);
@@ -94,7 +94,7 @@ impl<T: Drop, W: Drop> ChannelCall<T, W> {
     /// What a call that has answered leaves to its operation: the listener of a pending one, the message of an unfinished
     /// send. A call that has not answered is let go, with what it holds.
     #[inline(always)]
-    pub fn into_kept(self) -> Kept<T>
+    pub fn into_kept(self) -> Returned<T>
         ensures { result ≡ kept_by self.stage }
     {
         let ChannelCall { stage, mark: _ } = self;
@@ -102,7 +102,7 @@ impl<T: Drop, W: Drop> ChannelCall<T, W> {
             Stage::Finished(kept) => kept,
             stage => {
                 drop(stage);
-                Kept::nothing()
+                Returned::nothing()
             }
         }
     }

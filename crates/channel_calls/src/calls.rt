@@ -9,15 +9,15 @@ ghost use Rattle.concurrent_queue.specs.Replies.{is_bounded, room_of};
 ghost use Rattle.concurrent_queue.specs.declared.cells.QueueForm.{QueueForm};
 ghost use Rattle.channel_calls.specs.Asks.{first};
 ghost use Rattle.channel_calls.specs.Deeds.{Done};
-ghost use Rattle.channel_calls.specs.Replies.{GivesUpTo, MayGive, RefusesTrySend, RefusesForceSend};
+ghost use Rattle.channel_calls.specs.Replies.{GivesUpTo, ReplyAllowed, RefusesTrySend, RefusesForceSend};
 ghost use Rattle.channel_calls.specs.Walks.{WalkedTo};
 ghost use Rattle.channel_calls.specs.declared.ask.ChannelAsk.TheVariants as ask;
 ghost use Rattle.channel_calls.specs.declared.reply.Reply.TheVariants as reply;
 
-use crate::ahead::{displace_ahead, length_ahead, receive_ahead, send_ahead};
 use crate::ask::ChannelAsk;
 use crate::cells::ChannelCells;
 use crate::error::{Refused, SendError, TryRecvError, TrySendError};
+use crate::fast_path::{displace_fast, length_fast, receive_fast, send_fast};
 use crate::filling::recv_many_into;
 use crate::reply::Reply;
 use crate::whole::{complete, make};
@@ -34,10 +34,10 @@ fn sent<T: Drop, W: Drop, R: Wait, C: ChannelCells<T, W>, S: Wakes<W>>(
     sink: &mut S,
 ) -> Reply<T>
     ensures deeds { WalkedTo (Done C.did S.wakes) (first (ask.TrySend message)) (cells.old, sink.old) result (cells.new, sink.new) }
-    ensures answers { (f : QueueForm) → C.has_form cells.old f → MayGive {W = W} f (ask.TrySend message) result None }
+    ensures answers { (f : QueueForm) → C.has_form cells.old f → ReplyAllowed {W = W} f (ask.TrySend message) result None }
     ensures form { (f : QueueForm) → C.has_form cells.old f → C.has_form cells.new f }
 {
-    match send_ahead(message, cells, sink) {
+    match send_fast(message, cells, sink) {
         Ok(reply) => reply,
         Err(call) => complete(rt, call, cells, sink).reply,
     }
@@ -52,10 +52,10 @@ fn displaced<T: Drop, W: Drop, R: Wait, C: ChannelCells<T, W>, S: Wakes<W>>(
     sink: &mut S,
 ) -> Reply<T>
     ensures deeds { WalkedTo (Done C.did S.wakes) (first (ask.ForceSend message)) (cells.old, sink.old) result (cells.new, sink.new) }
-    ensures answers { (f : QueueForm) → C.has_form cells.old f → MayGive {W = W} f (ask.ForceSend message) result None }
+    ensures answers { (f : QueueForm) → C.has_form cells.old f → ReplyAllowed {W = W} f (ask.ForceSend message) result None }
     ensures form { (f : QueueForm) → C.has_form cells.old f → C.has_form cells.new f }
 {
-    match displace_ahead(message, cells, sink) {
+    match displace_fast(message, cells, sink) {
         Ok(reply) => reply,
         Err(call) => complete(rt, call, cells, sink).reply,
     }
@@ -69,10 +69,10 @@ fn received<T: Drop, W: Drop, R: Wait, C: ChannelCells<T, W>, S: Wakes<W>>(
     sink: &mut S,
 ) -> Reply<T>
     ensures deeds { WalkedTo (Done C.did S.wakes) (first ask.TryRecv) (cells.old, sink.old) result (cells.new, sink.new) }
-    ensures answers { (f : QueueForm) → C.has_form cells.old f → MayGive {W = W} f ask.TryRecv result None }
+    ensures answers { (f : QueueForm) → C.has_form cells.old f → ReplyAllowed {W = W} f ask.TryRecv result None }
     ensures form { (f : QueueForm) → C.has_form cells.old f → C.has_form cells.new f }
 {
-    match receive_ahead(cells, sink) {
+    match receive_fast(cells, sink) {
         Ok(reply) => reply,
         Err(call) => complete(rt, call, cells, sink).reply,
     }
@@ -86,10 +86,10 @@ fn counted<T: Drop, W: Drop, R: Wait, C: ChannelCells<T, W>, S: Wakes<W>>(
     sink: &mut S,
 ) -> Reply<T>
     ensures deeds { WalkedTo (Done C.did S.wakes) (first ask.Len) (cells.old, sink.old) result (cells.new, sink.new) }
-    ensures answers { (f : QueueForm) → C.has_form cells.old f → MayGive {W = W} f ask.Len result None }
+    ensures answers { (f : QueueForm) → C.has_form cells.old f → ReplyAllowed {W = W} f ask.Len result None }
     ensures form { (f : QueueForm) → C.has_form cells.old f → C.has_form cells.new f }
 {
-    match length_ahead(cells, sink) {
+    match length_fast(cells, sink) {
         Ok(reply) => reply,
         Err(call) => complete(rt, call, cells, sink).reply,
     }

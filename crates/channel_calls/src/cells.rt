@@ -7,7 +7,7 @@ ghost use Rattle.channel_calls.specs.Parts.{Parts};
 ghost use Rattle.channel_calls.specs.Deeds.{Deed, stepped, inserted, registered, taken_off, one_told, more_told, all_told, counted, lowered, raised};
 ghost use Rattle.channel_calls.specs.Effects.{IsExact};
 
-use crate::stage::{Line, Side};
+use crate::stage::{Side, WaitList};
 use concurrent_queue::call::QueueReply;
 use concurrent_queue::queue_call::QueueCall;
 use event_listener::error::ListenError;
@@ -47,32 +47,32 @@ pub trait ChannelCells<T, W> {
         ensures form { (f : QueueForm) → has_form self.old f → has_form self.new f };
 
     /// Adds a listener without a task, or is refused for memory or for serials with nothing changed.
-    fn insert(&mut self, line: Line) -> Result<Key, ListenError>
+    fn insert(&mut self, line: WaitList) -> Result<Key, ListenError>
         ensures deed { did (inserted line result) self.old self.new }
         ensures form { (f : QueueForm) → has_form self.old f → has_form self.new f };
 
     /// Gives a waiting listener its task. One that was told is gone after it, and the task comes back.
-    fn register(&mut self, line: Line, key: Key, task: W) -> Option<W>
+    fn register(&mut self, line: WaitList, key: Key, task: W) -> Option<W>
         ensures deed { did (registered line key task result) self.old self.new }
         ensures form { (f : QueueForm) → has_form self.old f → has_form self.new f };
 
     /// Takes a listener off. One that was told passes its notice on.
-    fn remove<S: Wakes<W>>(&mut self, line: Line, key: Key, sink: &mut S)
+    fn remove<S: Wakes<W>>(&mut self, line: WaitList, key: Key, sink: &mut S)
         ensures deed { (names : List W) × did (taken_off line key names) self.old self.new × Woken S.wakes sink.old names sink.new }
         ensures form { (f : QueueForm) → has_form self.old f → has_form self.new f };
 
     /// Tells one more of those who wait.
-    fn tell_one<S: Wakes<W>>(&mut self, line: Line, sink: &mut S)
+    fn tell_one<S: Wakes<W>>(&mut self, line: WaitList, sink: &mut S)
         ensures deed { (names : List W) × did (one_told line names) self.old self.new × Woken S.wakes sink.old names sink.new }
         ensures form { (f : QueueForm) → has_form self.old f → has_form self.new f };
 
     /// Tells so many more of those who wait, in one section.
-    fn tell_more<S: Wakes<W>>(&mut self, line: Line, count: usize, sink: &mut S)
+    fn tell_more<S: Wakes<W>>(&mut self, line: WaitList, count: usize, sink: &mut S)
         ensures deed { (names : List W) × did (more_told line count names) self.old self.new × Woken S.wakes sink.old names sink.new }
         ensures form { (f : QueueForm) → has_form self.old f → has_form self.new f };
 
     /// Tells all who wait.
-    fn tell_all<S: Wakes<W>>(&mut self, line: Line, sink: &mut S)
+    fn tell_all<S: Wakes<W>>(&mut self, line: WaitList, sink: &mut S)
         ensures deed { (names : List W) × did (all_told line names) self.old self.new × Woken S.wakes sink.old names sink.new }
         ensures form { (f : QueueForm) → has_form self.old f → has_form self.new f };
 

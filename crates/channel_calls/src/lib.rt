@@ -2,7 +2,6 @@
 //! are under way. Their tests stand in `async_channel_tests`.
 #![tactic(auto)]
 
-pub mod ahead;
 mod answered;
 pub mod ask;
 pub mod blocked;
@@ -11,6 +10,7 @@ pub mod call;
 pub mod calls;
 pub mod cells;
 pub mod error;
+pub mod fast_path;
 pub mod filling;
 pub mod kind;
 pub mod mark;

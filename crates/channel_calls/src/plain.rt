@@ -2,7 +2,7 @@
 
 use crate::cells::ChannelCells;
 use crate::notices::{register, tell_all, tell_more, tell_one};
-use crate::stage::{Line, Side};
+use crate::stage::{Side, WaitList};
 use crate::words::ChannelWords;
 use concurrent_queue::call::QueueReply;
 use concurrent_queue::cells::{Cells, QueueForm};
@@ -66,14 +66,14 @@ impl<T: Drop, W: Drop> PlainChannel<T, W> {
     }
 
     /// How many listeners of this list wait untold.
-    pub fn waiting(&self, line: Line) -> usize
+    pub fn waiting(&self, line: WaitList) -> usize
         ensures { result ≡ length (listeners line (parts_of self.now).roster).waiting }
     {
         match line {
-            Line::Sends => self.sends.total() - self.sends.told(),
-            Line::Receives => self.receives.total() - self.receives.told(),
-            Line::Streams => self.streams.total() - self.streams.told(),
-            Line::Closings => self.closings.total() - self.closings.told(),
+            WaitList::Sends => self.sends.total() - self.sends.told(),
+            WaitList::Receives => self.receives.total() - self.receives.told(),
+            WaitList::Streams => self.streams.total() - self.streams.told(),
+            WaitList::Closings => self.closings.total() - self.closings.told(),
         }
     }
 
@@ -125,12 +125,12 @@ impl<T: Drop, W: Drop> PlainChannel<T, W> {
     ghost use Rattle.std.specs.Prelude.{◌≤◌, length};
     ghost use Rattle.channel_calls.specs.Parts.{listeners};
     ghost use Rattle.channel_calls.specs.Plain.{parts_of};
-    ghost use Rattle.channel_calls.specs.declared.stage.Line.{Line};
+    ghost use Rattle.channel_calls.specs.declared.stage.WaitList.{WaitList};
 
     /// A number that none of the four lists of listeners is longer than: how many listen on the longest. So no step wakes
     /// more. Own to this project.
     pub fn most_listeners(&self) -> usize
-        ensures { (line : Line) → length (listeners line (parts_of self.now).roster).waiting ≤ result }
+        ensures { (line : WaitList) → length (listeners line (parts_of self.now).roster).waiting ≤ result }
     {
         self.sends
             .total()
@@ -158,57 +158,57 @@ impl<T: Drop, W: Drop> ChannelCells<T, W> for PlainChannel<T, W> {
         call.step(&mut self.cells)
     }
 
-    fn insert(&mut self, line: Line) -> Result<Key, ListenError> {
+    fn insert(&mut self, line: WaitList) -> Result<Key, ListenError> {
         match line {
-            Line::Sends => self.sends.insert(),
-            Line::Receives => self.receives.insert(),
-            Line::Streams => self.streams.insert(),
-            Line::Closings => self.closings.insert(),
+            WaitList::Sends => self.sends.insert(),
+            WaitList::Receives => self.receives.insert(),
+            WaitList::Streams => self.streams.insert(),
+            WaitList::Closings => self.closings.insert(),
         }
     }
 
-    fn register(&mut self, line: Line, key: Key, task: W) -> Option<W> {
+    fn register(&mut self, line: WaitList, key: Key, task: W) -> Option<W> {
         match line {
-            Line::Sends => register(&mut self.sends, key, task),
-            Line::Receives => register(&mut self.receives, key, task),
-            Line::Streams => register(&mut self.streams, key, task),
-            Line::Closings => register(&mut self.closings, key, task),
+            WaitList::Sends => register(&mut self.sends, key, task),
+            WaitList::Receives => register(&mut self.receives, key, task),
+            WaitList::Streams => register(&mut self.streams, key, task),
+            WaitList::Closings => register(&mut self.closings, key, task),
         }
     }
 
-    fn remove<S: Wakes<W>>(&mut self, line: Line, key: Key, sink: &mut S) {
+    fn remove<S: Wakes<W>>(&mut self, line: WaitList, key: Key, sink: &mut S) {
         let _ = match line {
-            Line::Sends => self.sends.remove(key, true, sink),
-            Line::Receives => self.receives.remove(key, true, sink),
-            Line::Streams => self.streams.remove(key, true, sink),
-            Line::Closings => self.closings.remove(key, true, sink),
+            WaitList::Sends => self.sends.remove(key, true, sink),
+            WaitList::Receives => self.receives.remove(key, true, sink),
+            WaitList::Streams => self.streams.remove(key, true, sink),
+            WaitList::Closings => self.closings.remove(key, true, sink),
         };
     }
 
-    fn tell_one<S: Wakes<W>>(&mut self, line: Line, sink: &mut S) {
+    fn tell_one<S: Wakes<W>>(&mut self, line: WaitList, sink: &mut S) {
         match line {
-            Line::Sends => tell_one(&mut self.sends, sink),
-            Line::Receives => tell_one(&mut self.receives, sink),
-            Line::Streams => tell_one(&mut self.streams, sink),
-            Line::Closings => tell_one(&mut self.closings, sink),
+            WaitList::Sends => tell_one(&mut self.sends, sink),
+            WaitList::Receives => tell_one(&mut self.receives, sink),
+            WaitList::Streams => tell_one(&mut self.streams, sink),
+            WaitList::Closings => tell_one(&mut self.closings, sink),
         }
     }
 
-    fn tell_more<S: Wakes<W>>(&mut self, line: Line, count: usize, sink: &mut S) {
+    fn tell_more<S: Wakes<W>>(&mut self, line: WaitList, count: usize, sink: &mut S) {
         match line {
-            Line::Sends => tell_more(&mut self.sends, count, sink),
-            Line::Receives => tell_more(&mut self.receives, count, sink),
-            Line::Streams => tell_more(&mut self.streams, count, sink),
-            Line::Closings => tell_more(&mut self.closings, count, sink),
+            WaitList::Sends => tell_more(&mut self.sends, count, sink),
+            WaitList::Receives => tell_more(&mut self.receives, count, sink),
+            WaitList::Streams => tell_more(&mut self.streams, count, sink),
+            WaitList::Closings => tell_more(&mut self.closings, count, sink),
         }
     }
 
-    fn tell_all<S: Wakes<W>>(&mut self, line: Line, sink: &mut S) {
+    fn tell_all<S: Wakes<W>>(&mut self, line: WaitList, sink: &mut S) {
         match line {
-            Line::Sends => tell_all(&mut self.sends, sink),
-            Line::Receives => tell_all(&mut self.receives, sink),
-            Line::Streams => tell_all(&mut self.streams, sink),
-            Line::Closings => tell_all(&mut self.closings, sink),
+            WaitList::Sends => tell_all(&mut self.sends, sink),
+            WaitList::Receives => tell_all(&mut self.receives, sink),
+            WaitList::Streams => tell_all(&mut self.streams, sink),
+            WaitList::Closings => tell_all(&mut self.closings, sink),
         }
     }
 

@@ -14,14 +14,14 @@ ghost use Rattle.channel_calls.specs.Walks.{WalkedFrom, WalkedTo};
 ghost use Rattle.channel_calls.specs.declared.ask.ChannelAsk.TheVariants as ask;
 ghost use Rattle.channel_calls.specs.declared.reply.Reply.{Reply as Answer};
 ghost use Rattle.channel_calls.specs.declared.reply.Reply.TheVariants as reply;
-ghost use Rattle.channel_calls.specs.declared.stage.Kept.{Kept as Left};
+ghost use Rattle.channel_calls.specs.declared.stage.Returned.{Returned as Left};
 
 use crate::ask::{ChannelAsk, lent};
 use crate::cells::ChannelCells;
 use crate::error::{RecvError, Refused, SendError};
 use crate::reply::Reply;
-use crate::stage::{Kept, Line};
-use crate::whole::{Given, make};
+use crate::stage::{Returned, WaitList};
+use crate::whole::{Completed, make};
 use event_listener::error::ListenError;
 use event_listener::key::Key;
 use event_listener::wakes::Wakes;
@@ -37,7 +37,7 @@ fn send_ask<T: Drop, W: Drop>(
     ensures { result ≡ send_ask message key task }
 {
     let Some(task) = task else {
-        return ChannelAsk::RefusePoll(Line::Sends, message, key);
+        return ChannelAsk::RefusePoll(WaitList::Sends, message, key);
     };
     match message {
         Some(message) => ChannelAsk::PollSend(message, lent(key), task),
@@ -54,7 +54,7 @@ fn recv_ask<T, W: Drop>(key: Option<Key>, task: Option<W>) -> ChannelAsk<T, W>
 {
     match task {
         Some(task) => ChannelAsk::PollRecv(lent(key), task),
-        None => ChannelAsk::RefusePoll(Line::Receives, None, key),
+        None => ChannelAsk::RefusePoll(WaitList::Receives, None, key),
     }
 }
 
@@ -64,7 +64,7 @@ fn closed_ask<T, W>(key: Option<Key>, task: Option<W>) -> ChannelAsk<T, W>
 {
     match task {
         Some(task) => ChannelAsk::PollClosed(key, task),
-        None => ChannelAsk::RefusePoll(Line::Closings, None, key),
+        None => ChannelAsk::RefusePoll(WaitList::Closings, None, key),
     }
 }
 
@@ -74,7 +74,7 @@ fn next_ask<T, W>(key: Option<Key>, task: Option<W>) -> ChannelAsk<T, W>
 {
     match task {
         Some(task) => ChannelAsk::PollNext(key, task),
-        None => ChannelAsk::RefusePoll(Line::Streams, None, key),
+        None => ChannelAsk::RefusePoll(WaitList::Streams, None, key),
     }
 }
 
@@ -86,7 +86,7 @@ pub fn poll_send<T: Drop, W: Drop, R: Wait, C: ChannelCells<T, W>, S: Wakes<W>>(
     task: Option<W>,
     cells: &mut C,
     sink: &mut S,
-) -> (Poll<Result<(), Refused<SendError<T>>>>, Kept<T>)
+) -> (Poll<Result<(), Refused<SendError<T>>>>, Returned<T>)
     requires form { (f : QueueForm) × C.has_form cells.old f }
     ensures deeds { WalkedFrom (Done C.did S.wakes) (first (send_ask message key task)) (cells.old, sink.old) (reply.SendPoll result.0) result.1 (cells.new, sink.new) }
     ensures message { SendsOn message result.0 result.1.message }
@@ -95,7 +95,7 @@ pub fn poll_send<T: Drop, W: Drop, R: Wait, C: ChannelCells<T, W>, S: Wakes<W>>(
 {
     let ask = send_ask(message, key, task);
     let given = make(rt, ask, cells, sink);
-    let Given { reply, kept } = given;
+    let Completed { reply, kept } = given;
     match reply {
         Reply::SendPoll(polled) => (polled, kept),
         _ => unreachable!(),
@@ -109,7 +109,7 @@ pub fn poll_recv<T: Drop, W: Drop, R: Wait, C: ChannelCells<T, W>, S: Wakes<W>>(
     task: Option<W>,
     cells: &mut C,
     sink: &mut S,
-) -> (Poll<Result<T, Refused<RecvError>>>, Kept<T>)
+) -> (Poll<Result<T, Refused<RecvError>>>, Returned<T>)
     requires form { (f : QueueForm) × C.has_form cells.old f }
     ensures deeds { WalkedFrom (Done C.did S.wakes) (first (recv_ask key task)) (cells.old, sink.old) (reply.RecvPoll result.0) result.1 (cells.new, sink.new) }
     ensures listed { is_some result.1.key ≡ is_pending result.0 }
@@ -117,7 +117,7 @@ pub fn poll_recv<T: Drop, W: Drop, R: Wait, C: ChannelCells<T, W>, S: Wakes<W>>(
 {
     let ask = recv_ask(key, task);
     let given = make(rt, ask, cells, sink);
-    let Given { reply, kept } = given;
+    let Completed { reply, kept } = given;
     match reply {
         Reply::RecvPoll(polled) => (polled, kept),
         _ => unreachable!(),
@@ -131,7 +131,7 @@ pub fn poll_closed<T: Drop, W: Drop, R: Wait, C: ChannelCells<T, W>, S: Wakes<W>
     task: Option<W>,
     cells: &mut C,
     sink: &mut S,
-) -> (Poll<Result<(), ListenError>>, Kept<T>)
+) -> (Poll<Result<(), ListenError>>, Returned<T>)
     requires form { (f : QueueForm) × C.has_form cells.old f }
     ensures deeds { WalkedFrom (Done C.did S.wakes) (first (closed_ask key task)) (cells.old, sink.old) (reply.ClosedPoll result.0) result.1 (cells.new, sink.new) }
     ensures listed { is_some result.1.key ≡ is_pending result.0 }
@@ -139,7 +139,7 @@ pub fn poll_closed<T: Drop, W: Drop, R: Wait, C: ChannelCells<T, W>, S: Wakes<W>
 {
     let ask = closed_ask(key, task);
     let given = make(rt, ask, cells, sink);
-    let Given { reply, kept } = given;
+    let Completed { reply, kept } = given;
     match reply {
         Reply::ClosedPoll(polled) => (polled, kept),
         _ => unreachable!(),
@@ -153,7 +153,7 @@ pub fn poll_next<T: Drop, W: Drop, R: Wait, C: ChannelCells<T, W>, S: Wakes<W>>(
     task: Option<W>,
     cells: &mut C,
     sink: &mut S,
-) -> (Poll<Option<Result<T, ListenError>>>, Kept<T>)
+) -> (Poll<Option<Result<T, ListenError>>>, Returned<T>)
     requires form { (f : QueueForm) × C.has_form cells.old f }
     ensures deeds { WalkedFrom (Done C.did S.wakes) (first (next_ask key task)) (cells.old, sink.old) (reply.Next result.0) result.1 (cells.new, sink.new) }
     ensures listed { is_some result.1.key ≡ is_pending result.0 }
@@ -161,7 +161,7 @@ pub fn poll_next<T: Drop, W: Drop, R: Wait, C: ChannelCells<T, W>, S: Wakes<W>>(
 {
     let ask = next_ask(key, task);
     let given = make(rt, ask, cells, sink);
-    let Given { reply, kept } = given;
+    let Completed { reply, kept } = given;
     match reply {
         Reply::Next(polled) => (polled, kept),
         _ => unreachable!(),
@@ -171,7 +171,7 @@ pub fn poll_next<T: Drop, W: Drop, R: Wait, C: ChannelCells<T, W>, S: Wakes<W>>(
 /// An operation of this kind is given up: the message of an unfinished send comes back.
 pub fn give_up<T: Drop, W: Drop, R: Wait, C: ChannelCells<T, W>, S: Wakes<W>>(
     rt: &R,
-    line: Line,
+    line: WaitList,
     message: Option<T>,
     key: Option<Key>,
     cells: &mut C,
@@ -183,7 +183,7 @@ pub fn give_up<T: Drop, W: Drop, R: Wait, C: ChannelCells<T, W>, S: Wakes<W>>(
     ensures form { (f : QueueForm) → C.has_form cells.old f → C.has_form cells.new f }
 {
     let ask = ChannelAsk::GiveUp(line, message, key);
-    let Given { reply, kept } = make(rt, ask, cells, sink);
+    let Completed { reply, kept } = make(rt, ask, cells, sink);
     drop(kept);
     match reply {
         Reply::GivenUp(message) => message,

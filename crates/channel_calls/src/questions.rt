@@ -12,8 +12,8 @@ ghost use Rattle.channel_calls.specs.Tried.{Comes};
 ghost use Rattle.channel_calls.specs.Walks.{WalkedTo};
 ghost use Rattle.channel_calls.specs.declared.ask.ChannelAsk.TheVariants as ask;
 ghost use Rattle.channel_calls.specs.declared.reply.Reply.TheVariants as reply;
-ghost use Rattle.channel_calls.specs.declared.stage.Aim.{Aim};
-ghost use Rattle.channel_calls.specs.declared.stage.Turn.TheVariants as turn;
+ghost use Rattle.channel_calls.specs.declared.stage.Purpose.{Purpose};
+ghost use Rattle.channel_calls.specs.declared.stage.NextStep.TheVariants as turn;
 
 use crate::stage::Side;
 use crate::words::ChannelWords;
@@ -28,7 +28,7 @@ fn asks<T: Drop, W: Drop, C: ChannelWords<T, W>>(
 ) -> QueueReply<T>
     requires words { AsksWords question }
     requires form { (f : QueueForm) × C.has_form words.old f }
-    ensures comes { (aim : Aim T W) → Comes C.did (turn.Tries question aim) words.old (answered_next aim result) words.new }
+    ensures comes { (aim : Purpose T W) → Comes C.did (turn.Tries question aim) words.old (answered_next aim result) words.new }
     ensures answers { (f : QueueForm) → C.has_form words.old f → MayAnswer f question result }
     ensures form { (f : QueueForm) → C.has_form words.old f → C.has_form words.new f }
 {

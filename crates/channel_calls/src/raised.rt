@@ -13,19 +13,19 @@ ghost use Rattle.channel_calls.specs.Deeds.{Done};
 ghost use Rattle.channel_calls.specs.Walks.{Walked, WalkedTo};
 ghost use Rattle.channel_calls.specs.declared.ask.ChannelAsk.TheVariants as ask;
 ghost use Rattle.channel_calls.specs.declared.reply.Reply.{Reply as Answer};
-ghost use Rattle.channel_calls.specs.declared.stage.Kept.{Kept as Left};
+ghost use Rattle.channel_calls.specs.declared.stage.Returned.{Returned as Left};
 
-use crate::ahead::turned;
 use crate::ask::ChannelAsk;
 use crate::call::ChannelCall;
 use crate::cells::ChannelCells;
 use crate::error::HandleError;
+use crate::fast_path::turned;
 use crate::kind::{Kind, OfReceivers, OfSenders};
 use crate::mark::Mark;
 use crate::reply::Reply;
-use crate::stage::{Making, Side, Stage, Turn, Work};
+use crate::stage::{ListStep, Making, NextStep, Side, Stage};
 use crate::turn::{is_too_many, lowered_next};
-use crate::whole::{Given, complete, make};
+use crate::whole::{Completed, complete, make};
 use crossbeam_utils::CachePadded;
 use event_listener::key::Key;
 use event_listener::wakes::Wakes;
@@ -133,13 +133,13 @@ fn count_again<T: Drop, W: Drop, R: Wait, C: ChannelCells<T, W>, S: Wakes<W>>(
     cells: &mut C,
     sink: &mut S,
 ) -> Reply<T>
-    ensures deeds { (kept : Left T) × Walked (Done C.did S.wakes) (Stage.Working (Work.Load side Making.Clone)) (cells.old, sink.old) result kept (cells.new, sink.new) }
+    ensures deeds { (kept : Left T) × Walked (Done C.did S.wakes) (Stage.Working (ListStep.Load side Making.Clone)) (cells.old, sink.old) result kept (cells.new, sink.new) }
 {
     let call = ChannelCall {
-        stage: Stage::Working(Work::Load(side, Making::Clone)),
+        stage: Stage::Working(ListStep::Load(side, Making::Clone)),
         mark: Mark::Nothing,
     };
-    let Given { reply, kept } = complete(rt, call, cells, sink);
+    let Completed { reply, kept } = complete(rt, call, cells, sink);
     drop(kept);
     reply
 }
@@ -187,7 +187,7 @@ fn lowered<T: Drop, W: Drop, R: Wait, C: ChannelCells<T, W>, S: Wakes<W>>(
     cells: &mut C,
     sink: &mut S,
 )
-    ensures deeds { (r : Answer T) × WalkedTo (Done C.did S.wakes) (Turn.Works (Work.Lower side stream_key)) (cells.old, sink.old) r (cells.new, sink.new) }
+    ensures deeds { (r : Answer T) × WalkedTo (Done C.did S.wakes) (NextStep.Works (ListStep.Lower side stream_key)) (cells.old, sink.old) r (cells.new, sink.new) }
 {
     let before = cells.lower(side);
     if before != 1 && stream_key.is_none() {

@@ -7,7 +7,7 @@ use event_listener::key::Key;
 
 /// One of a channel's four lists of listeners, and so one of the four kinds of waiting operations.
 #[derive(Clone, Copy, PartialEq, Eq, Debug)]
-pub enum Line {
+pub enum WaitList {
     /// Sends, which wait for a free place.
     Sends,
     /// Receives, which wait for a message.
@@ -29,9 +29,9 @@ pub enum Side {
 
 /// A listener that an operation holds.
 #[derive(Clone, Copy, PartialEq, Eq, Debug)]
-pub struct Held {
+pub struct ListenerRef {
     /// The list that it is on.
-    pub line: Line,
+    pub line: WaitList,
     /// Its name there.
     pub key: Key,
 }
@@ -44,12 +44,12 @@ pub struct Ending<T> {
     /// The message that stays with a send.
     pub message: Option<T>,
     /// The listener to be dropped.
-    pub held: Option<Held>,
+    pub held: Option<ListenerRef>,
 }
 
 /// What a call that has answered leaves to its operation.
 #[derive(Drop)]
-pub struct Kept<T> {
+pub struct Returned<T> {
     /// The listener of an operation that is pending.
     pub key: Option<Key>,
     /// The message of a send that isn't finished.
@@ -91,7 +91,7 @@ pub enum Making {
 
 /// What a call of the queue is made for.
 #[derive(Drop)]
-pub enum Aim<T, W> {
+pub enum Purpose<T, W> {
     /// A send that doesn't wait.
     TrySend,
     /// A send that displaces.
@@ -101,7 +101,7 @@ pub enum Aim<T, W> {
     /// A receive of several messages that doesn't wait: those that it has, and how many more it may take.
     RecvMany(Gathering<T>),
     /// A try of a polled operation of this kind, which may hold a listener, and its task.
-    Poll(Line, Option<Key>, W),
+    Poll(WaitList, Option<Key>, W),
     /// A closing.
     Close(Closer),
     /// A question that the queue's answer answers.
@@ -114,7 +114,7 @@ pub enum Aim<T, W> {
 
 /// A step on a list or on a count that is made next, and why.
 #[derive(Drop)]
-pub enum Work<T, W> {
+pub enum ListStep<T, W> {
     /// A message is in: one more receive is told, the streams next.
     TellReceive(Ending<T>),
     /// All streams are told.
@@ -126,7 +126,7 @@ pub enum Work<T, W> {
     /// Room is taken for as many messages as are wanted at most.
     TakeRoom(Limit),
     /// The channel is closed: all of this list are told, those of the later lists next.
-    TellAll(Line, Closer),
+    TellAll(WaitList, Closer),
     /// An operation that was refused listens, and tries again.
     Insert(Waiting<T>, W),
     /// An operation that was refused asks its listener: told, it tries again; else its poll ends.
@@ -147,20 +147,20 @@ pub enum Work<T, W> {
 #[derive(Drop)]
 pub enum Stage<Q, T, W> {
     /// The queue's call has the next step.
-    Trying(Q, Aim<T, W>),
+    Trying(Q, Purpose<T, W>),
     /// A list or a count has the next step.
-    Working(Work<T, W>),
+    Working(ListStep<T, W>),
     /// The call has answered.
-    Finished(Kept<T>),
+    Finished(Returned<T>),
 }
 
 /// What comes after a step on a list or a count, or after an answer of the queue.
 #[derive(Drop)]
-pub enum Turn<T, W> {
+pub enum NextStep<T, W> {
     /// A new call of the queue.
-    Tries(QueueAsk<T>, Aim<T, W>),
+    Tries(QueueAsk<T>, Purpose<T, W>),
     /// A step on a list or a count.
-    Works(Work<T, W>),
+    Works(ListStep<T, W>),
     /// The answer.
-    Ends(Reply<T>, Kept<T>),
+    Ends(Reply<T>, Returned<T>),
 }

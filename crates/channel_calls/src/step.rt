@@ -12,7 +12,9 @@ use crate::answered::answered_next;
 use crate::cells::ChannelCells;
 use crate::mark::Mark;
 use crate::reply::Reply;
-use crate::stage::{Aim, Ending, Kept, Line, Making, Side, Stage, Turn, Waiting, Work};
+use crate::stage::{
+    Ending, ListStep, Making, NextStep, Purpose, Returned, Side, Stage, WaitList, Waiting,
+};
 use crate::turn::{
     again, ends_by, loaded_next, lowered_next, pends_by, raised_next, room_next, told_all_next,
     unlistened,
@@ -32,24 +34,24 @@ pub(crate) struct Stepped<T, W> {
 
 /// Takes the turn after a step with this mark.
 #[inline(always)]
-pub(crate) fn takes<T: Drop, W: Drop>(turn: Turn<T, W>, mark: Mark) -> Stepped<T, W>
+pub(crate) fn takes<T: Drop, W: Drop>(turn: NextStep<T, W>, mark: Mark) -> Stepped<T, W>
     requires raises { is_up mark ≡ true → is_made (answer_of turn) ≡ true }
     ensures goes { Takes turn result.stage result.reply }
     ensures mark { result.mark ≡ mark }
     ensures follows { (b : QueueForm) → FollowsTurn b turn result.stage result.reply }
 {
     match turn {
-        Turn::Tries(ask, aim) => Stepped {
+        NextStep::Tries(ask, aim) => Stepped {
             stage: Stage::Trying(QueueCall::new(ask), aim),
             mark,
             reply: None,
         },
-        Turn::Works(work) => Stepped {
+        NextStep::Works(work) => Stepped {
             stage: Stage::Working(work),
             mark,
             reply: None,
         },
-        Turn::Ends(reply, kept) => Stepped {
+        NextStep::Ends(reply, kept) => Stepped {
             stage: Stage::Finished(kept),
             mark,
             reply: Some(reply),
@@ -76,7 +78,7 @@ fn goes_on<T, W>(stage: Stage<QueueCall<T>, T, W>, mark: Mark) -> Stepped<T, W>
 #[inline(always)]
 fn try_step<T: Drop, W: Drop, C: ChannelCells<T, W>>(
     mut call: QueueCall<T>,
-    aim: Aim<T, W>,
+    aim: Purpose<T, W>,
     cells: &mut C,
 ) -> Stepped<T, W>
     ensures deed { ChannelMakes C.did (Stage.Trying call aim) cells.old cells.new result.mark result.stage result.reply }
@@ -100,8 +102,8 @@ fn insert<T: Drop, W: Drop, C: ChannelCells<T, W>>(
     task: W,
     cells: &mut C,
 ) -> Stepped<T, W>
-    ensures deed { ChannelMakes C.did (Stage.Working (Work.Insert waiting task)) cells.old cells.new result.mark result.stage result.reply }
-    ensures answers { (b : QueueForm) → FollowsStage b (Stage.Working (Work.Insert waiting task)) result.stage result.reply }
+    ensures deed { ChannelMakes C.did (Stage.Working (ListStep.Insert waiting task)) cells.old cells.new result.mark result.stage result.reply }
+    ensures answers { (b : QueueForm) → FollowsStage b (Stage.Working (ListStep.Insert waiting task)) result.stage result.reply }
     ensures form { (f : QueueForm) → C.has_form cells.old f → C.has_form cells.new f }
 {
     match cells.insert(waiting.line()) {
@@ -117,8 +119,8 @@ fn register<T: Drop, W: Drop, C: ChannelCells<T, W>>(
     task: W,
     cells: &mut C,
 ) -> Stepped<T, W>
-    ensures deed { ChannelMakes C.did (Stage.Working (Work.Register waiting key task)) cells.old cells.new result.mark result.stage result.reply }
-    ensures answers { (b : QueueForm) → FollowsStage b (Stage.Working (Work.Register waiting key task)) result.stage result.reply }
+    ensures deed { ChannelMakes C.did (Stage.Working (ListStep.Register waiting key task)) cells.old cells.new result.mark result.stage result.reply }
+    ensures answers { (b : QueueForm) → FollowsStage b (Stage.Working (ListStep.Register waiting key task)) result.stage result.reply }
     ensures form { (f : QueueForm) → C.has_form cells.old f → C.has_form cells.new f }
 {
     match cells.register(waiting.line(), key, task) {
@@ -129,15 +131,15 @@ fn register<T: Drop, W: Drop, C: ChannelCells<T, W>>(
 
 /// A call answers, with nothing more to do.
 fn answers<T: Drop, W: Drop>(ending: Ending<T>) -> Stepped<T, W>
-    ensures goes { Takes (Turn.Ends ending.reply (leaving None ending.message)) result.stage result.reply }
+    ensures goes { Takes (NextStep.Ends ending.reply (leaving None ending.message)) result.stage result.reply }
     ensures mark { result.mark ≡ Mark.Nothing }
-    ensures follows { (b : QueueForm) → FollowsTurn b (Turn.Ends ending.reply (leaving None ending.message)) result.stage result.reply }
+    ensures follows { (b : QueueForm) → FollowsTurn b (NextStep.Ends ending.reply (leaving None ending.message)) result.stage result.reply }
 {
-    let kept = Kept {
+    let kept = Returned {
         key: None,
         message: ending.message,
     };
-    takes(Turn::Ends(ending.reply, kept), Mark::Nothing)
+    takes(NextStep::Ends(ending.reply, kept), Mark::Nothing)
 }
 
 /// A call drops the listener that it holds, and answers.
@@ -146,8 +148,8 @@ fn leave<T: Drop, W: Drop, C: ChannelCells<T, W>, S: Wakes<W>>(
     cells: &mut C,
     sink: &mut S,
 ) -> Stepped<T, W>
-    ensures deed { ChannelMakes (Done C.did S.wakes) (Stage.Working (Work.Leave ending)) (cells.old, sink.old) (cells.new, sink.new) result.mark result.stage result.reply }
-    ensures answers { (b : QueueForm) → FollowsStage b (Stage.Working (Work.Leave ending)) result.stage result.reply }
+    ensures deed { ChannelMakes (Done C.did S.wakes) (Stage.Working (ListStep.Leave ending)) (cells.old, sink.old) (cells.new, sink.new) result.mark result.stage result.reply }
+    ensures answers { (b : QueueForm) → FollowsStage b (Stage.Working (ListStep.Leave ending)) result.stage result.reply }
     ensures form { (f : QueueForm) → C.has_form cells.old f → C.has_form cells.new f }
 {
     match ending.held {
@@ -165,8 +167,8 @@ fn lower<T: Drop, W: Drop, C: ChannelCells<T, W>>(
     key: Option<Key>,
     cells: &mut C,
 ) -> Stepped<T, W>
-    ensures deed { ChannelMakes C.did (Stage.Working (Work.Lower side key)) cells.old cells.new result.mark result.stage result.reply }
-    ensures answers { (b : QueueForm) → FollowsStage b (Stage.Working (Work.Lower side key)) result.stage result.reply }
+    ensures deed { ChannelMakes C.did (Stage.Working (ListStep.Lower side key)) cells.old cells.new result.mark result.stage result.reply }
+    ensures answers { (b : QueueForm) → FollowsStage b (Stage.Working (ListStep.Lower side key)) result.stage result.reply }
     ensures form { (f : QueueForm) → C.has_form cells.old f → C.has_form cells.new f }
 {
     let before = cells.lower(side);
@@ -180,8 +182,8 @@ fn raise<T: Drop, W: Drop, C: ChannelCells<T, W>>(
     making: Making,
     cells: &mut C,
 ) -> Stepped<T, W>
-    ensures deed { ChannelMakes C.did (Stage.Working (Work.Raise side from making)) cells.old cells.new result.mark result.stage result.reply }
-    ensures answers { (b : QueueForm) → FollowsStage b (Stage.Working (Work.Raise side from making)) result.stage result.reply }
+    ensures deed { ChannelMakes C.did (Stage.Working (ListStep.Raise side from making)) cells.old cells.new result.mark result.stage result.reply }
+    ensures answers { (b : QueueForm) → FollowsStage b (Stage.Working (ListStep.Raise side from making)) result.stage result.reply }
     ensures form { (f : QueueForm) → C.has_form cells.old f → C.has_form cells.new f }
 {
     if cells.raise(side, from) {
@@ -194,7 +196,7 @@ fn raise<T: Drop, W: Drop, C: ChannelCells<T, W>>(
 /// One step on a list or a count.
 #[inline(always)]
 fn work_step<T: Drop, W: Drop, C: ChannelCells<T, W>, S: Wakes<W>>(
-    work: Work<T, W>,
+    work: ListStep<T, W>,
     cells: &mut C,
     sink: &mut S,
 ) -> Stepped<T, W>
@@ -203,43 +205,46 @@ fn work_step<T: Drop, W: Drop, C: ChannelCells<T, W>, S: Wakes<W>>(
     ensures form { (f : QueueForm) → C.has_form cells.old f → C.has_form cells.new f }
 {
     match work {
-        Work::TellReceive(ending) => {
-            cells.tell_one(Line::Receives, sink);
-            takes(Turn::Works(Work::TellStreams(ending)), Mark::Nothing)
-        }
-        Work::TellStreams(ending) => {
-            cells.tell_all(Line::Streams, sink);
-            takes(ends_by(ending), Mark::Nothing)
-        }
-        Work::TellSend(ending) => {
-            cells.tell_one(Line::Sends, sink);
-            takes(ends_by(ending), Mark::Nothing)
-        }
-        Work::TellSends(count, ending) => {
-            cells.tell_more(Line::Sends, count, sink);
-            takes(ends_by(ending), Mark::Nothing)
-        }
-        Work::TakeRoom(limit) => takes(room_next(limit), Mark::Nothing),
-        Work::TellAll(line, closer) => {
-            cells.tell_all(line, sink);
-            takes(told_all_next(line, closer), Mark::Nothing)
-        }
-        Work::Insert(waiting, task) => insert(waiting, task, cells),
-        Work::Register(waiting, key, task) => register(waiting, key, task, cells),
-        Work::Leave(ending) => leave(ending, cells, sink),
-        Work::Lower(side, key) => lower(side, key, cells),
-        Work::Count(side) => {
-            let count = cells.count(side);
+        ListStep::TellReceive(ending) => {
+            cells.tell_one(WaitList::Receives, sink);
             takes(
-                Turn::Ends(Reply::Count(count), Kept::nothing()),
+                NextStep::Works(ListStep::TellStreams(ending)),
                 Mark::Nothing,
             )
         }
-        Work::Load(side, making) => {
+        ListStep::TellStreams(ending) => {
+            cells.tell_all(WaitList::Streams, sink);
+            takes(ends_by(ending), Mark::Nothing)
+        }
+        ListStep::TellSend(ending) => {
+            cells.tell_one(WaitList::Sends, sink);
+            takes(ends_by(ending), Mark::Nothing)
+        }
+        ListStep::TellSends(count, ending) => {
+            cells.tell_more(WaitList::Sends, count, sink);
+            takes(ends_by(ending), Mark::Nothing)
+        }
+        ListStep::TakeRoom(limit) => takes(room_next(limit), Mark::Nothing),
+        ListStep::TellAll(line, closer) => {
+            cells.tell_all(line, sink);
+            takes(told_all_next(line, closer), Mark::Nothing)
+        }
+        ListStep::Insert(waiting, task) => insert(waiting, task, cells),
+        ListStep::Register(waiting, key, task) => register(waiting, key, task, cells),
+        ListStep::Leave(ending) => leave(ending, cells, sink),
+        ListStep::Lower(side, key) => lower(side, key, cells),
+        ListStep::Count(side) => {
+            let count = cells.count(side);
+            takes(
+                NextStep::Ends(Reply::Count(count), Returned::nothing()),
+                Mark::Nothing,
+            )
+        }
+        ListStep::Load(side, making) => {
             let count = cells.count(side);
             takes(loaded_next(side, making, count), Mark::Nothing)
         }
-        Work::Raise(side, from, making) => raise(side, from, making, cells),
+        ListStep::Raise(side, from, making) => raise(side, from, making, cells),
     }
 }
 

@@ -6,7 +6,10 @@ ghost use Rattle.channel_calls.specs.Turns.{most, line_of, message_of, ask_of, n
 use crate::error::Refused;
 use crate::reply::Reply;
 use crate::several::Limit;
-use crate::stage::{Aim, Closer, Ending, Held, Kept, Line, Making, Side, Turn, Waiting, Work};
+use crate::stage::{
+    Closer, Ending, ListStep, ListenerRef, Making, NextStep, Purpose, Returned, Side, WaitList,
+    Waiting,
+};
 use concurrent_queue::call::QueueAsk;
 use event_listener::error::ListenError;
 use event_listener::key::Key;
@@ -17,14 +20,14 @@ const MOST: usize = usize::MAX / 2;
 
 impl<T> Waiting<T> {
     /// The list on which the operation waits.
-    pub(crate) fn line(&self) -> Line
+    pub(crate) fn line(&self) -> WaitList
         ensures { result ≡ line_of self.now }
     {
         match self {
-            Waiting::Send(_) => Line::Sends,
-            Waiting::Receive => Line::Receives,
-            Waiting::Stream => Line::Streams,
-            Waiting::Closing => Line::Closings,
+            Waiting::Send(_) => WaitList::Sends,
+            Waiting::Receive => WaitList::Receives,
+            Waiting::Stream => WaitList::Streams,
+            Waiting::Closing => WaitList::Closings,
         }
     }
 
@@ -53,12 +56,12 @@ impl<T> Waiting<T> {
     }
 }
 
-impl<T> Kept<T> {
+impl<T> Returned<T> {
     /// A call that leaves nothing.
-    pub(crate) fn nothing() -> Kept<T>
+    pub(crate) fn nothing() -> Returned<T>
         ensures { result ≡ nothing_kept }
     {
-        Kept {
+        Returned {
             key: None,
             message: None,
         }
@@ -78,70 +81,70 @@ pub(crate) fn says<T>(reply: Reply<T>) -> Ending<T>
 }
 
 /// The listener under this key on this list, where there is one.
-pub(crate) fn held_on(line: Line, key: Option<Key>) -> Option<Held>
+pub(crate) fn held_on(line: WaitList, key: Option<Key>) -> Option<ListenerRef>
     ensures { result ≡ held_on line key }
 {
     match key {
         None => None,
-        Some(key) => Some(Held { line, key }),
+        Some(key) => Some(ListenerRef { line, key }),
     }
 }
 
 /// The call answers, or drops the listener that it holds and answers then.
 #[inline(always)]
-pub(crate) fn ends_by<T, W>(ending: Ending<T>) -> Turn<T, W>
+pub(crate) fn ends_by<T, W>(ending: Ending<T>) -> NextStep<T, W>
     ensures { result ≡ ends_by ending }
 {
     match ending.held {
-        None => Turn::Ends(
+        None => NextStep::Ends(
             ending.reply,
-            Kept {
+            Returned {
                 key: None,
                 message: ending.message,
             },
         ),
-        Some(_) => Turn::Works(Work::Leave(ending)),
+        Some(_) => NextStep::Works(ListStep::Leave(ending)),
     }
 }
 
 /// A poll tries once more.
-pub(crate) fn again<T, W>(waiting: Waiting<T>, key: Option<Key>, task: W) -> Turn<T, W>
+pub(crate) fn again<T, W>(waiting: Waiting<T>, key: Option<Key>, task: W) -> NextStep<T, W>
     ensures { result ≡ again waiting key task }
 {
     let line = waiting.line();
-    Turn::Tries(waiting.ask(), Aim::Poll(line, key, task))
+    NextStep::Tries(waiting.ask(), Purpose::Poll(line, key, task))
 }
 
 /// A poll was refused by the channel: it listens, or asks the listener that it holds.
-pub(crate) fn refused_next<T, W>(waiting: Waiting<T>, key: Option<Key>, task: W) -> Turn<T, W>
+pub(crate) fn refused_next<T, W>(waiting: Waiting<T>, key: Option<Key>, task: W) -> NextStep<T, W>
     ensures { result ≡ refused_next waiting key task }
 {
     match key {
-        None => Turn::Works(Work::Insert(waiting, task)),
-        Some(key) => Turn::Works(Work::Register(waiting, key, task)),
+        None => NextStep::Works(ListStep::Insert(waiting, task)),
+        Some(key) => NextStep::Works(ListStep::Register(waiting, key, task)),
     }
 }
 
 /// What a poll of this kind answers while it waits.
-fn pending_reply<T>(line: Line) -> Reply<T>
+fn pending_reply<T>(line: WaitList) -> Reply<T>
     ensures { result ≡ pending_reply line }
 {
     match line {
-        Line::Sends => Reply::SendPoll(Poll::Pending),
-        Line::Receives => Reply::RecvPoll(Poll::Pending),
-        Line::Streams => Reply::Next(Poll::Pending),
-        Line::Closings => Reply::ClosedPoll(Poll::Pending),
+        WaitList::Sends => Reply::SendPoll(Poll::Pending),
+        WaitList::Receives => Reply::RecvPoll(Poll::Pending),
+        WaitList::Streams => Reply::Next(Poll::Pending),
+        WaitList::Closings => Reply::ClosedPoll(Poll::Pending),
     }
 }
 
 /// A poll ends pending: its operation keeps its listener, and its message.
-pub(crate) fn pends_by<T, W>(waiting: Waiting<T>, key: Key) -> Turn<T, W>
+pub(crate) fn pends_by<T, W>(waiting: Waiting<T>, key: Key) -> NextStep<T, W>
     ensures { result ≡ pends_by waiting key }
 {
     let reply = pending_reply(waiting.line());
-    Turn::Ends(
+    NextStep::Ends(
         reply,
-        Kept {
+        Returned {
             key: Some(key),
             message: waiting.message(),
         },
@@ -159,25 +162,25 @@ fn want<E>(error: ListenError) -> Refused<E>
 }
 
 /// What a poll of this kind answers where memory or a serial was refused.
-pub(crate) fn refused_reply<T>(line: Line, error: ListenError) -> Reply<T>
+pub(crate) fn refused_reply<T>(line: WaitList, error: ListenError) -> Reply<T>
     ensures { result ≡ refused_reply line error }
 {
     match line {
-        Line::Sends => Reply::SendPoll(Poll::Ready(Err(want(error)))),
-        Line::Receives => Reply::RecvPoll(Poll::Ready(Err(want(error)))),
-        Line::Streams => Reply::Next(Poll::Ready(Some(Err(error)))),
-        Line::Closings => Reply::ClosedPoll(Poll::Ready(Err(error))),
+        WaitList::Sends => Reply::SendPoll(Poll::Ready(Err(want(error)))),
+        WaitList::Receives => Reply::RecvPoll(Poll::Ready(Err(want(error)))),
+        WaitList::Streams => Reply::Next(Poll::Ready(Some(Err(error)))),
+        WaitList::Closings => Reply::ClosedPoll(Poll::Ready(Err(error))),
     }
 }
 
 /// A poll that wasn't let listen ends: its operation is not pending, and keeps its message.
-pub(crate) fn unlistened<T, W>(waiting: Waiting<T>, error: ListenError) -> Turn<T, W>
+pub(crate) fn unlistened<T, W>(waiting: Waiting<T>, error: ListenError) -> NextStep<T, W>
     ensures { result ≡ unlistened waiting error }
 {
     let reply = refused_reply(waiting.line(), error);
-    Turn::Ends(
+    NextStep::Ends(
         reply,
-        Kept {
+        Returned {
             key: None,
             message: waiting.message(),
         },
@@ -194,20 +197,20 @@ pub(crate) fn closer_ending<T>(closer: Closer, closed: bool) -> Ending<T>
         Closer::Receiver(key) => Ending {
             reply: Reply::Unit,
             message: None,
-            held: held_on(Line::Streams, key),
+            held: held_on(WaitList::Streams, key),
         },
     }
 }
 
 /// A closing tells sends, receives, streams and those who wait for it, in this order.
-pub(crate) fn told_all_next<T, W>(line: Line, closer: Closer) -> Turn<T, W>
+pub(crate) fn told_all_next<T, W>(line: WaitList, closer: Closer) -> NextStep<T, W>
     ensures { result ≡ told_all_next line closer }
 {
     match line {
-        Line::Sends => Turn::Works(Work::TellAll(Line::Receives, closer)),
-        Line::Receives => Turn::Works(Work::TellAll(Line::Streams, closer)),
-        Line::Streams => Turn::Works(Work::TellAll(Line::Closings, closer)),
-        Line::Closings => ends_by(closer_ending(closer, true)),
+        WaitList::Sends => NextStep::Works(ListStep::TellAll(WaitList::Receives, closer)),
+        WaitList::Receives => NextStep::Works(ListStep::TellAll(WaitList::Streams, closer)),
+        WaitList::Streams => NextStep::Works(ListStep::TellAll(WaitList::Closings, closer)),
+        WaitList::Closings => ends_by(closer_ending(closer, true)),
     }
 }
 
@@ -222,26 +225,26 @@ pub(crate) fn dropper(side: Side, key: Option<Key>) -> Closer
 }
 
 /// A handle was dropped where so many lived: the last one closes.
-pub(crate) fn lowered_next<T, W>(side: Side, key: Option<Key>, before: usize) -> Turn<T, W>
+pub(crate) fn lowered_next<T, W>(side: Side, key: Option<Key>, before: usize) -> NextStep<T, W>
     ensures { result ≡ lowered_next side key before }
 {
     let closer = dropper(side, key);
     if before == 1 {
-        Turn::Tries(QueueAsk::Close, Aim::Close(closer))
+        NextStep::Tries(QueueAsk::Close, Purpose::Close(closer))
     } else {
         ends_by(closer_ending(closer, false))
     }
 }
 
 /// Room is taken for as many messages as are wanted at most: the first one is tried for. Where none is wanted, none is taken.
-pub(crate) fn room_next<T: Drop, W>(limit: Limit) -> Turn<T, W>
+pub(crate) fn room_next<T: Drop, W>(limit: Limit) -> NextStep<T, W>
     ensures { TakesRoom limit result }
 {
     if limit.is_zero() {
         return ends_by(says(Reply::RecvMany(Ok(limit.nothing()))));
     }
     match limit.room() {
-        Some(gathering) => Turn::Tries(QueueAsk::Pop, Aim::RecvMany(gathering)),
+        Some(gathering) => NextStep::Tries(QueueAsk::Pop, Purpose::RecvMany(gathering)),
         None => ends_by(says(Reply::RecvMany(Err(Refused::NoMemory(()))))),
     }
 }
@@ -255,25 +258,25 @@ pub(crate) fn is_too_many(count: usize) -> bool
 }
 
 /// A count was read that is to be raised.
-pub(crate) fn loaded_next<T, W>(side: Side, making: Making, count: usize) -> Turn<T, W>
+pub(crate) fn loaded_next<T, W>(side: Side, making: Making, count: usize) -> NextStep<T, W>
     ensures { result ≡ loaded_next side making count }
 {
     if making == Making::Upgrade && count == 0 {
-        return Turn::Ends(Reply::NotMade, Kept::nothing());
+        return NextStep::Ends(Reply::NotMade, Returned::nothing());
     }
     if is_too_many(count) {
-        return Turn::Ends(Reply::TooMany, Kept::nothing());
+        return NextStep::Ends(Reply::TooMany, Returned::nothing());
     }
-    Turn::Works(Work::Raise(side, count, making))
+    NextStep::Works(ListStep::Raise(side, count, making))
 }
 
 /// A count was raised, or another call came between and it is read again.
-pub(crate) fn raised_next<T, W>(side: Side, making: Making, raised: bool) -> Turn<T, W>
+pub(crate) fn raised_next<T, W>(side: Side, making: Making, raised: bool) -> NextStep<T, W>
     ensures { result ≡ raised_next side making raised }
 {
     if raised {
-        Turn::Ends(Reply::Made, Kept::nothing())
+        NextStep::Ends(Reply::Made, Returned::nothing())
     } else {
-        Turn::Works(Work::Load(side, making))
+        NextStep::Works(ListStep::Load(side, making))
     }
 }

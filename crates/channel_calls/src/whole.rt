@@ -3,24 +3,24 @@
 ghost use Rattle.concurrent_queue.specs.declared.cells.QueueForm.{QueueForm};
 ghost use Rattle.channel_calls.specs.Asks.{first};
 ghost use Rattle.channel_calls.specs.Deeds.{Done};
-ghost use Rattle.channel_calls.specs.Replies.{MayEnd, MayGive};
+ghost use Rattle.channel_calls.specs.Replies.{MayEnd, ReplyAllowed};
 ghost use Rattle.channel_calls.specs.Walks.{Walked, WalkedFrom};
 
 use crate::ask::ChannelAsk;
 use crate::call::ChannelCall;
 use crate::cells::ChannelCells;
 use crate::reply::Reply;
-use crate::stage::Kept;
+use crate::stage::Returned;
 use event_listener::wakes::Wakes;
 use std::sync::Wait;
 
 /// What a call answers, and what it leaves to its operation. Own to this project.
 #[derive(Drop)]
-pub struct Given<T> {
+pub struct Completed<T> {
     /// What it answers.
     pub reply: Reply<T>,
     /// What it leaves.
-    pub kept: Kept<T>,
+    pub kept: Returned<T>,
 }
 
 /// Makes the steps of a call up to its answer. With a call that has answered before it never returns. Own to this project.
@@ -32,7 +32,7 @@ pub fn complete<T: Drop, W: Drop, R: Wait, C: ChannelCells<T, W>, S: Wakes<W>>(
     call: ChannelCall<T, W>,
     cells: &mut C,
     sink: &mut S,
-) -> Given<T>
+) -> Completed<T>
     ensures deeds { Walked (Done C.did S.wakes) call.stage (cells.old, sink.old) result.reply result.kept (cells.new, sink.new) }
     ensures answers { (f : QueueForm) → C.has_form cells.old f → MayEnd f call.stage result.reply result.kept.message }
     ensures form { (f : QueueForm) → C.has_form cells.old f → C.has_form cells.new f }
@@ -42,7 +42,7 @@ pub fn complete<T: Drop, W: Drop, R: Wait, C: ChannelCells<T, W>, S: Wakes<W>>(
         let answer = call.step(cells, sink);
         if let Some(reply) = answer {
             let kept = call.into_kept();
-            return Given { reply, kept };
+            return Completed { reply, kept };
         }
     }
     unreachable!()
@@ -55,9 +55,9 @@ pub fn make<T: Drop, W: Drop, R: Wait, C: ChannelCells<T, W>, S: Wakes<W>>(
     ask: ChannelAsk<T, W>,
     cells: &mut C,
     sink: &mut S,
-) -> Given<T>
+) -> Completed<T>
     ensures deeds { WalkedFrom (Done C.did S.wakes) (first ask) (cells.old, sink.old) result.reply result.kept (cells.new, sink.new) }
-    ensures answers { (f : QueueForm) → C.has_form cells.old f → MayGive f ask result.reply result.kept.message }
+    ensures answers { (f : QueueForm) → C.has_form cells.old f → ReplyAllowed f ask result.reply result.kept.message }
     ensures form { (f : QueueForm) → C.has_form cells.old f → C.has_form cells.new f }
 {
     complete(rt, ChannelCall::new(ask), cells, sink)

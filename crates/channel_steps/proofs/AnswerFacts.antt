@@ -1,7 +1,7 @@
 -- The queue answers, and what is known of the call after that.
 use Rattle.std.proofs.lemmas.List.{length-append}
 use Rattle.std.proofs.Common.{append-nil, zero, suc, ◌≡◌, ℕ, ◌+◌, ◌<◌, ◌≤◌, ◌==◌, true, false, List, [], ◌∷◌, ◌++◌, length, Option, None, Some, Ok, Err, ◌⊎◌, ⊎_elim, inl, inr, refl, sym, ap, ◌∙◌, subst, arith}
-use Rattle.channel_steps.proofs.Words.{trying, appended, taken, read, measured, is_full_at, AnswersTo, QueueAsk, QueueMark, Nothing, Close, QueueReply, Key, gathered_next, short_next, closed_next, answered_next, mark_of_queue, down, Channel, leaving, closer_ending, ChannelAsk, Mark, TryRecvError, with_last, Aim, Kept, Sends, Receives, Streams, Closings, Side, Senders, Receivers, Turn, AnswersClose, Push, Force, Pop, Flag, Cap, over, hands_out, SeveralRow, Ready, MarkedMoment, with_marked, Open, HasRoom, HasMessage, is_empty, Once, Appended, Took, TookAll, RanOut, Drained, Replaced, Displaced, LeftLast, TriesFor, HasTaken, AreBehind, TriesAt, all_from, IsBalanced, Telling, one_of, more_of, all_of, owed_for, owed_takings, with_taking, takings, owed_besides, owed}
+use Rattle.channel_steps.proofs.Words.{trying, appended, taken, read, measured, is_full_at, AnswersTo, QueueAsk, QueueMark, Nothing, Close, QueueReply, Key, gathered_next, short_next, closed_next, answered_next, mark_of_queue, down, Channel, leaving, closer_ending, ChannelAsk, Mark, TryRecvError, with_last, Purpose, Returned, Sends, Receives, Streams, Closings, Side, Senders, Receivers, NextStep, AnswersClose, Push, Force, Pop, Flag, Cap, over, hands_out, SeveralRow, Ready, MarkedMoment, with_marked, Open, HasRoom, HasMessage, is_empty, Once, Appended, Took, TookAll, RanOut, Drained, Replaced, Displaced, LeftLast, TriesFor, HasTaken, AreBehind, TriesAt, all_from, IsBalanced, Telling, one_of, more_of, all_of, owed_for, owed_takings, with_taking, takings, owed_besides, owed}
 use Rattle.concurrent_queue.specs.Queue as queue
 use Rattle.concurrent_queue.specs.declared.call.QueueAsk.TheVariants as ask
 use Rattle.concurrent_queue.specs.declared.call.QueueReply.TheVariants.{Count}
@@ -13,7 +13,7 @@ use Rattle.channel_calls.specs.declared.ask.ChannelAsk.TheVariants as channel
 use Rattle.channel_calls.specs.declared.error.Refused.TheVariants as refused
 use Rattle.channel_calls.specs.declared.error.TryRecvError.TheVariants as try_recv_error
 use Rattle.channel_calls.specs.declared.reply.Reply.TheVariants as reply
-use Rattle.channel_calls.specs.declared.stage.Aim.TheVariants as aim
+use Rattle.channel_calls.specs.declared.stage.Purpose.TheVariants as aim
 use Rattle.channel_calls.specs.declared.stage.Closer.TheVariants as closer
 use Rattle.channel_steps.proofs.TryFacts.{ne_of, refusal_seen, full_once, unbounded_once, open_once, next_channel, behind_more}
 use Rattle.channel_steps.proofs.TurnFacts.{TurnAt, owes_nothing, ended}
@@ -84,7 +84,7 @@ module _ {T W : Type 0} where
 
   module _ (c : Channel T W) (seen : List (Channel T W)) where
     -- what is known once the turn after an answer is taken; nobody has been told before
-    abbrev pub Then : ChannelAsk T W → QueueAsk T → queue.Stage T → QueueMark → List (MarkedMoment T W) → Turn T W → Type 0
+    abbrev pub Then : ChannelAsk T W → QueueAsk T → queue.Stage T → QueueMark → List (MarkedMoment T W) → NextStep T W → Type 0
     Then x a st m ds turn = TurnAt (next_channel a st m c) x [] (with_marked ds (mark_of_queue m) c seen) (next_channel a st m c ∷ seen) turn
 
     -- ---- several receives at once
@@ -164,7 +164,7 @@ module _ {T W : Type 0} where
 
     -- ---- by what the call asks, and what its queue's call is made for
 
-    pub answered : (ds : List (MarkedMoment T W)) → IsBalanced c.queue → (x : ChannelAsk T W) (y : Aim T W) (a : QueueAsk T) (m : QueueMark) (r : QueueReply T) (st : queue.Stage T)
+    pub answered : (ds : List (MarkedMoment T W)) → IsBalanced c.queue → (x : ChannelAsk T W) (y : Purpose T W) (a : QueueAsk T) (m : QueueMark) (r : QueueReply T) (st : queue.Stage T)
         → TriesFor x y a ds seen → TriesAt c y a st ds seen → AnswersTo c.queue a m r st → Then x a st m ds (answered_next y r)
     answered ds bal (channel.TrySend msg) aim.TrySend (ask.Push v) Nothing (Push (Ok u)) (appended None) e ev h = ((([], c ∷ seen, refl, ev), refl), owed_appended ds ev)
     answered ds bal (channel.TrySend msg) aim.TrySend (ask.Push v) Nothing (Push (Err (push_error.Full w))) (trying b) e ev h = ((([], c ∷ seen, refl, (h.0 ∙ e, ev.0, full_once c.queue.capacity c.queue.items (c ∷ seen) h.1 (refusal_seen b c seen ev.1 h.2))), refl), owes_nothing ds ev.0)
@@ -199,7 +199,7 @@ module _ {T W : Type 0} where
         (([], c ∷ seen, refl, (h.0 ∙ e, ev.0, inl h.1)), refl) (owes_nothing ds ev.0)
     answered ds bal (channel.PollSend msg k t) (aim.Poll Sends key task) (ask.Push v) Nothing (Push (Err (push_error.NoMemory w))) (trying b) e ev h =
         ended c (channel.PollSend msg k t) [] ds (c ∷ seen) (over (reply.SendPoll (Ready (Err (refused.NoMemory tt)))) (Some w) Sends key)
-        (([], c ∷ seen, refl, (ev.0, open_once c.queue.capacity (c ∷ seen) (refusal_seen b c seen ev.1 h.2))), ap (λ (z : T). let kept : Kept T = leaving None (Some z) in kept) (h.0 ∙ e)) (owes_nothing ds ev.0)
+        (([], c ∷ seen, refl, (ev.0, open_once c.queue.capacity (c ∷ seen) (refusal_seen b c seen ev.1 h.2))), ap (λ (z : T). let kept : Returned T = leaving None (Some z) in kept) (h.0 ∙ e)) (owes_nothing ds ev.0)
     answered ds bal (channel.PollSend msg k t) (aim.Poll Sends key task) (ask.Push v) m r st e ev h = absurd h
     answered ds bal (channel.PollRecv k t) (aim.Poll Receives key task) ask.Pop Nothing (Pop (Ok w)) (taken v) f ev h = ((([], c ∷ seen, refl, subst (λ (z : T). Took ds z) (sym h) ev), refl), owed_took ds v ev)
     answered ds bal (channel.PollRecv k t) (aim.Poll Receives None task) ask.Pop Nothing (Pop (Err pop_error.Empty)) (trying b) f ev h = ((tt, ev, inl h), owes_nothing ds ev)

@@ -1,7 +1,7 @@
 -- A step of one party among all.
 use Rattle.std.proofs.Common.{◌≡◌, ℕ, zero, suc, ◌+◌, ◌<◌, unwrap_or, List, [], ◌∷◌, ◌++◌, map, length, slice_get, slice_set, Option, None, Some, refl, sym, ap, ◌∙◌, subst, append_assoc}
 use Rattle.std.specs.List.{remove}
-use Rattle.channel_steps.proofs.Words.{Queue, Phase, IsInRange, Contents, Seat, chain_after, PhasesQuiet, phases, QueueForm, Bounded, Unbounded, Parts, QueueCall, Channel, Effect, channel, seats, phase, Made, ChannelCall, Mark, Reply, kept_by, Kept, Stage, Trying, Working, Finished, FitsForm, IsStepOver, IsChannelStep, OnePlace, Party, Entry, StageAt, party_left, all_left, left_at, MarkedMoment, with_marked, ActiveCall, Configuration, MayHave, blocks_after, sees, does, gone_by, came_by, Known, AllKnown, IsBalanced, OthersQuiet, ActiveCallWitness, active_call_of, seats_of, all_seats, Represents, parties_in, unless_answered, parties_after, left_by, StepsNearer, SteppedAt, StepsAt, telling}
+use Rattle.channel_steps.proofs.Words.{Queue, Phase, IsInRange, Contents, ActiveQueueCall, chain_after, PhasesQuiet, phases, QueueForm, Bounded, Unbounded, Parts, QueueCall, Channel, Effect, channel, seats, phase, Made, ChannelCall, Mark, Reply, kept_by, Returned, Stage, Trying, Working, Finished, FitsForm, IsStepOver, IsChannelStep, OnePlace, Party, Entry, StageAt, party_left, all_left, left_at, MarkedMoment, with_marked, ActiveCall, Configuration, MayHave, blocks_after, sees, does, gone_by, came_by, Known, AllKnown, IsBalanced, OthersQuiet, ActiveCallWitness, active_call_of, seats_of, all_seats, Represents, parties_in, unless_answered, parties_after, left_by, StepsNearer, SteppedAt, StepsAt, telling}
 use Rattle.concurrent_queue.specs.Step.{FitsAt}
 use Rattle.concurrent_queue.proofs.Callers.{itself}
 use Rattle.channel_steps.proofs.IdleFacts.{idle_holds}
@@ -77,12 +77,12 @@ length-images g (x ∷ xs) = ap (λ n. suc n) (length-images g xs)
 module _ {T : Type 0} where
   -- ---- the blocks
 
-  fits_by : (form : QueueForm) (blocks : List ℕ) (c d : Contents T) (q : Queue T) (ss : List (Seat T))
+  fits_by : (form : QueueForm) (blocks : List ℕ) (c d : Contents T) (q : Queue T) (ss : List (ActiveQueueCall T))
       → FitsForm form (chain_after blocks c d) d q ss → FitsForm form (blocks_after form blocks c d) d q ss
   fits_by (Bounded capacity) blocks c d q ss fits = fits
   fits_by Unbounded blocks c d q ss fits = fits
 
-  pub fits_after : (blocks : List ℕ) (c d : Contents T) (q : Queue T) (ss : List (Seat T)) → FitsAt (chain_after blocks c d) d q ss
+  pub fits_after : (blocks : List ℕ) (c d : Contents T) (q : Queue T) (ss : List (ActiveQueueCall T)) → FitsAt (chain_after blocks c d) d q ss
       → FitsAt (blocks_after d.form blocks c d) d q ss
   unfolding FitsAt
   fits_after blocks c d q ss fits = fits_by d.form blocks c d q ss fits
@@ -109,11 +109,11 @@ module _ {T W : Type 0} where
 
   pub seats_append : (l r : List (ActiveCallWitness T W)) → all_seats (l ++ r) ≡ all_seats l ++ all_seats r
   seats_append [] r = refl
-  seats_append (x ∷ l) r = ap (λ (zs : List (Seat T)). seats_of x ++ zs) (seats_append l r) ∙ sym (append_assoc (seats_of x) (all_seats l) (all_seats r))
+  seats_append (x ∷ l) r = ap (λ (zs : List (ActiveQueueCall T)). seats_of x ++ zs) (seats_append l r) ∙ sym (append_assoc (seats_of x) (all_seats l) (all_seats r))
 
   seats_saw : (q : Channel T W) (l : List (ActiveCallWitness T W)) → all_seats (map (saw q) l) ≡ all_seats l
   seats_saw q [] = refl
-  seats_saw q (x ∷ l) = ap (λ (zs : List (Seat T)). seats_of x ++ zs) (seats_saw q l)
+  seats_saw q (x ∷ l) = ap (λ (zs : List (ActiveQueueCall T)). seats_of x ++ zs) (seats_saw q l)
 
   active_call_saw : (q : Channel T W) (l : List (ActiveCallWitness T W)) → map active_call_of (map (saw q) l) ≡ map (sees q) (map active_call_of l)
   active_call_saw q [] = refl
@@ -148,7 +148,7 @@ module _ {T W : Type 0} where
   module _ (parts parts' : Parts T W) (l r : List (ActiveCallWitness T W)) (x : ActiveCallWitness T W) (q : Queue T) (p' : Party T W) (m : Mark) (names : List W) (id : p'.id ≡ x.party.id)
       (blocks : List ℕ) (range : IsInRange q) (fits : FitsAt blocks parts.cells q (all_seats (l ++ (x ∷ r)))) (known : AllKnown (channel q parts) (map active_call_of (l ++ (x ∷ r)))) (bal : IsBalanced q) (gone came : List T) where
     round : FitsAt blocks parts.cells q (all_seats l ++ (seats_of x ++ all_seats r))
-    round = subst (λ (ss : List (Seat T)). FitsAt blocks parts.cells q ss) (seats_append l (x ∷ r)) fits
+    round = subst (λ (ss : List (ActiveQueueCall T)). FitsAt blocks parts.cells q ss) (seats_append l (x ∷ r)) fits
 
     abbrev before_it : Channel T W
     before_it = channel q parts
@@ -176,7 +176,7 @@ module _ {T W : Type 0} where
         let both = map-round active_call_of l r in
         let others : AllKnown before_it (map active_call_of (l ++ r)) =
         subst (λ (us : List (ActiveCall T W)). AllKnown before_it us) (sym both) (known_both before_it (map active_call_of l) (map active_call_of r) left_known right_known) in
-        subst (λ (ss : List (Seat T)). PhasesQuiet q (phases ss)) (seats_append l r)
+        subst (λ (ss : List (ActiveQueueCall T)). PhasesQuiet q (phases ss)) (seats_append l r)
         (idle_holds before_it (l ++ r) others (subst (λ (us : List (ActiveCall T W)). OthersQuiet before_it us) (sym both) hold))
 
     comes_nearer : Made parts x.party.call.stage names parts' p'.call.stage m None blocks q x.inner (all_seats l) (all_seats r)
@@ -210,7 +210,7 @@ module _ {T W : Type 0} where
         let next : ActiveCallWitness T W = record { party = p'; inner = made.phase_now; ask = x.ask; seen = now ∷ x.seen; marks = with_marked x.marks m before_it x.seen; told = x.told ++ telling at0; made = x.made + 1 } in
         let after_all : List (ActiveCallWitness T W) = map (saw now) l ++ (next ∷ map (saw now) r) in
         let seats_are : all_seats after_all ≡ all_seats l ++ (seats made.phase_now p'.call.stage ++ all_seats r) =
-        seats_append (map (saw now) l) (next ∷ map (saw now) r) ∙ (ap (λ (zs : List (Seat T)). zs ++ (seats made.phase_now p'.call.stage ++ all_seats (map (saw now) r))) (seats_saw now l) ∙ ap (λ (zs : List (Seat T)). all_seats l ++ (seats made.phase_now p'.call.stage ++ zs)) (seats_saw now r)) in
+        seats_append (map (saw now) l) (next ∷ map (saw now) r) ∙ (ap (λ (zs : List (ActiveQueueCall T)). zs ++ (seats made.phase_now p'.call.stage ++ all_seats (map (saw now) r))) (seats_saw now l) ∙ ap (λ (zs : List (ActiveQueueCall T)). all_seats l ++ (seats made.phase_now p'.call.stage ++ zs)) (seats_saw now r)) in
         let parties_are : slice_set (map party_of (l ++ (x ∷ r))) (length l) p' ≡ map party_of after_all =
         set-round party_of l x r p' ∙ (ap (λ (zs : List (Party T W)). zs ++ (p' ∷ map party_of r)) (sym (party_saw now l)) ∙ (ap (λ (zs : List (Party T W)). map party_of (map (saw now) l) ++ (p' ∷ zs)) (sym (party_saw now r)) ∙ sym (map-round party_of (map (saw now) l) (next ∷ map (saw now) r)))) in
         let mine_after : ActiveCall T W = active_call_of next in
@@ -248,7 +248,7 @@ module _ {T W : Type 0} where
             parties_are = parties_are;
             under_way = refl;
             now = refl;
-            fits = subst (λ (ss : List (Seat T)). FitsAt blocks_now parts'.cells q' ss) (sym seats_are)
+            fits = subst (λ (ss : List (ActiveQueueCall T)). FitsAt blocks_now parts'.cells q' ss) (sym seats_are)
                 (fits_after blocks parts.cells parts'.cells q' (all_seats l ++ (seats made.phase_now p'.call.stage ++ all_seats r)) made.fits);
             bare = none_after parts'.cells.form blocks parts.cells parts'.cells;
             known = subst (λ (us : List (ActiveCall T W)). AllKnown now us) (sym active_calls_are) all_known;
@@ -269,9 +269,9 @@ module _ {T W : Type 0} where
         answered_alone before_it at0 e y made.phase_now p'.call.stage made.moves in
         let after_all : List (ActiveCallWitness T W) = map (saw now) l ++ map (saw now) r in
         let fits' : FitsAt (chain_after blocks parts.cells parts'.cells) parts'.cells q' (all_seats l ++ all_seats r) =
-        subst (λ (ss : List (Seat T)). FitsAt (chain_after blocks parts.cells parts'.cells) parts'.cells q' (all_seats l ++ (ss ++ all_seats r))) alone made.fits in
+        subst (λ (ss : List (ActiveQueueCall T)). FitsAt (chain_after blocks parts.cells parts'.cells) parts'.cells q' (all_seats l ++ (ss ++ all_seats r))) alone made.fits in
         let seats_are : all_seats after_all ≡ all_seats l ++ all_seats r =
-        seats_append (map (saw now) l) (map (saw now) r) ∙ (ap (λ (zs : List (Seat T)). zs ++ all_seats (map (saw now) r)) (seats_saw now l) ∙ ap (λ (zs : List (Seat T)). all_seats l ++ zs) (seats_saw now r)) in
+        seats_append (map (saw now) l) (map (saw now) r) ∙ (ap (λ (zs : List (ActiveQueueCall T)). zs ++ all_seats (map (saw now) r)) (seats_saw now l) ∙ ap (λ (zs : List (ActiveQueueCall T)). all_seats l ++ zs) (seats_saw now r)) in
         let parties_are : remove (map party_of (l ++ (x ∷ r))) (length l) ≡ map party_of after_all =
         remove-round party_of l x r ∙ (ap (λ (zs : List (Party T W)). zs ++ map party_of r) (sym (party_saw now l)) ∙ (ap (λ (zs : List (Party T W)). map party_of (map (saw now) l) ++ zs) (sym (party_saw now r)) ∙ sym (map-round party_of (map (saw now) l) (map (saw now) r)))) in
         let active_calls_are : map active_call_of after_all ≡ map (sees now) (map active_call_of l) ++ map (sees now) (map active_call_of r) =
@@ -305,7 +305,7 @@ module _ {T W : Type 0} where
             parties_are = parties_are;
             under_way = refl;
             now = refl;
-            fits = subst (λ (ss : List (Seat T)). FitsAt blocks_now parts'.cells q' ss) (sym seats_are)
+            fits = subst (λ (ss : List (ActiveQueueCall T)). FitsAt blocks_now parts'.cells q' ss) (sym seats_are)
                 (fits_after blocks parts.cells parts'.cells q' (all_seats l ++ all_seats r) fits');
             bare = none_after parts'.cells.form blocks parts.cells parts'.cells;
             known = subst (λ (us : List (ActiveCall T W)). AllKnown now us) (sym active_calls_are) all_known;
@@ -340,7 +340,7 @@ module _ {T W : Type 0} where
       let first : List ℕ = all_left parts (map party_of (l ++ (x ∷ r))) in
       let last : List ℕ = all_left parts' (parties_after (map party_of (l ++ (x ∷ r))) (length l) c.0 e.reply) in
       let of_entry : StepsNearer (length l) first last before_all x.party.id e names t =
-      subst (λ (kept : Option (Kept T)). StepsNearer (length l) first last before_all x.party.id (record { mark = e.mark; reply = e.reply; kept = kept }) names t) (sym c.3) o.1 in
+      subst (λ (kept : Option (Returned T)). StepsNearer (length l) first last before_all x.party.id (record { mark = e.mark; reply = e.reply; kept = kept }) names t) (sym c.3) o.1 in
       let of_party : StepsNearer (length l) first last s p.id e names t =
       subst (λ (n : ℕ). StepsNearer (length l) first last s n e names t) (ap (λ (y : Party T W). y.id) d.4)
       (subst (λ (z : Configuration T W). StepsNearer (length l) first last z x.party.id e names t) configuration_is of_entry) in
@@ -361,7 +361,7 @@ module _ {T W : Type 0} where
       }
 
   pub made_at : {S : Type 0} (wakes : S → W → S → Type 0) (parts parts' : Parts T W) (parties parties' : List (Party T W)) (k : ℕ) (sink sink' : S) (x : Party T W) (next : ChannelCall T W) (m : Mark) (r : Option (Reply T))
-      (kept : Option (Kept T)) → slice_get parties k ≡ Some x → m ≡ next.mark → IsChannelStep wakes parts x.call.stage sink parts' next.stage next.mark r sink'
+      (kept : Option (Returned T)) → slice_get parties k ≡ Some x → m ≡ next.mark → IsChannelStep wakes parts x.call.stage sink parts' next.stage next.mark r sink'
       → kept ≡ left_by (record { id = x.id; call = next }) r → parties' ≡ parties_after parties k (record { id = x.id; call = next }) r
       → SteppedAt wakes parts parties k sink (record { mark = m; reply = r; kept = kept }) parts' parties' sink'
   made_at wakes parts parts' parties parties' k sink sink' x next m r kept there e step given left p there' =

@@ -1,20 +1,20 @@
 -- No call under way has more than `most_left` steps left where the others are quiet.
 use Rattle.std.proofs.Common.{arith, ◌≡◌, ◌≤◌, ℕ, zero, suc, List, [], ◌∷◌, ◌++◌, map, slice_get, Some, sym, subst, append_assoc}
-use Rattle.channel_steps.proofs.Words.{Queue, Seat, Fits, Parts, Phase, QueueAsk, QueueCall, Channel, phase, ChannelAsk, Aim, Stage, Trying, Working, Finished, Work, TakeRoom, party_left, all_left, most_left, most_wanted, MarkedMoment, TriesFor, WorkAt, StageAt, ActiveCall, Configuration, ActiveCallWitness, active_call_of, seats_of, all_seats, AllKnown, wanted_at, Represents, Party}
+use Rattle.channel_steps.proofs.Words.{Queue, ActiveQueueCall, Fits, Parts, Phase, QueueAsk, QueueCall, Channel, phase, ChannelAsk, Purpose, Stage, Trying, Working, Finished, ListStep, TakeRoom, party_left, all_left, most_left, most_wanted, MarkedMoment, TriesFor, WorkAt, StageAt, ActiveCall, Configuration, ActiveCallWitness, active_call_of, seats_of, all_seats, AllKnown, wanted_at, Represents, Party}
 use Rattle.channel_steps.proofs.LeftFacts.{wanted_after, wanted_by, wanted}
 use Rattle.concurrent_queue.specs.declared.call.QueueAsk.TheVariants as ask
 use Rattle.channel_calls.specs.declared.ask.ChannelAsk.TheVariants as channel
-use Rattle.channel_calls.specs.declared.stage.Aim.TheVariants as aim
+use Rattle.channel_calls.specs.declared.stage.Purpose.TheVariants as aim
 use Rattle.channel_steps.proofs.LeftFacts as left_facts
 
 module _ {T W : Type 0} where
   -- no more messages are wanted than the call asked for
-  aimed : (x : ChannelAsk T W) (y : Aim T W) (a : QueueAsk T) (ds : List (MarkedMoment T W)) (seen : List (Channel T W)) → TriesFor x y a ds seen → wanted_after y ≤ most_wanted x
+  aimed : (x : ChannelAsk T W) (y : Purpose T W) (a : QueueAsk T) (ds : List (MarkedMoment T W)) (seen : List (Channel T W)) → TriesFor x y a ds seen → wanted_after y ≤ most_wanted x
   aimed (channel.RecvMany n) (aim.RecvMany g) ask.Pop ds seen h = omega (arith, h)
   aimed x (aim.RecvMany g) a ds seen h = absurd h
   aimed x y a ds seen h = omega arith
 
-  worked : (x : ChannelAsk T W) (w : Work T W) (ds : List (MarkedMoment T W)) (seen : List (Channel T W)) → WorkAt x w ds seen → wanted_by w ≤ most_wanted x
+  worked : (x : ChannelAsk T W) (w : ListStep T W) (ds : List (MarkedMoment T W)) (seen : List (Channel T W)) → WorkAt x w ds seen → wanted_by w ≤ most_wanted x
   worked x (TakeRoom n) ds seen h = subst (λ (z : ChannelAsk T W). n ≤ most_wanted z) (sym h.0) (omega arith)
   worked x w ds seen h = omega arith
 
@@ -24,7 +24,7 @@ module _ {T W : Type 0} where
   wants now x f (Finished kept) ds seen h = absurd h
 
 module _ {T W : Type 0} (parts : Parts T W) (q : Queue T) (now : Channel T W) where
-  few_behind : (l : List (Seat T)) (xs : List (ActiveCallWitness T W)) → Fits parts.cells q (l ++ all_seats xs)
+  few_behind : (l : List (ActiveQueueCall T)) (xs : List (ActiveCallWitness T W)) → Fits parts.cells q (l ++ all_seats xs)
       → AllKnown now (map active_call_of xs) → (k n : ℕ) → slice_get (map (party_left parts) (map (λ (x : ActiveCallWitness T W). x.party) xs)) k ≡ Some n → n ≤ most_left (wanted_at k (map active_call_of xs))
   few_behind l [] fits known k n there = absurd cc
   few_behind l (x ∷ xs) fits known zero n there =
@@ -34,7 +34,7 @@ module _ {T W : Type 0} (parts : Parts T W) (q : Queue T) (now : Channel T W) wh
       let w = wants now x.ask x.inner x.party.call.stage x.marks x.seen k.stands in
       omega (arith, first, few, w)
   few_behind l (x ∷ xs) fits known (suc k) n there =
-      few_behind (l ++ seats_of x) xs (subst (λ (ss : List (Seat T)). Fits parts.cells q ss) (sym (append_assoc l (seats_of x) (all_seats xs))) fits) known.1 k n there
+      few_behind (l ++ seats_of x) xs (subst (λ (ss : List (ActiveQueueCall T)). Fits parts.cells q ss) (sym (append_assoc l (seats_of x) (all_seats xs))) fits) known.1 k n there
 
 module _ {T W : Type 0} where
   pub few_left : (parts : Parts T W) (parties : List (Party T W)) (s : Configuration T W) → Represents parts parties s

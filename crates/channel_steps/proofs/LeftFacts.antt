@@ -1,7 +1,7 @@
 -- How many steps a call still makes at most where the others are quiet.
 use Rattle.std.proofs.Common.{◌≡◌, ◌≤◌, ◌<◌, ◌+◌, ◌-◌, ◌*◌, ◌^◌, ◌==◌, ◌&&◌, nat_lt, ℕ, zero, suc, Bool, true, false, if◌then◌else◌, List, [], ◌∷◌, ◌++◌, Option, None, Some, Ok, Err, inl, inr, refl, sym, ap, ◌∙◌, subst, arith}
 use Rattle.std.proofs.lemmas.Bool.Decides.{nat_tests}
-use Rattle.channel_steps.proofs.Words.{Contents, Queue, Phase, asked, Seat, Fits, PhasesQuiet, phases, QueueReply, QueueCall, Key, kind_of, listened, with_last, TryRecvError, Mark, Reply, Aim, Closer, Ending, Held, Line, Sends, Receives, Streams, Closings, Making, Side, Stage, Trying, Working, Finished, Turn, Tries, Works, Ends, Waiting, Work, TellReceive, TellStreams, TellSend, TellSends, TakeRoom, TellAll, Insert, Register, Leave, Lower, Count, Load, Raise, Parts, Roster, Listeners, listeners, with_listeners, waits, count, is_raised, most, line_of, leaving, nothing_kept, ends_by, again, pends_by, unlistened, closer_ending, dropper, told_all_next, room_next, roomless, lowered_next, counted_next, loaded_next, raised_next, gathered_next, short_next, answered_next, Channel, Effect, channel, Turned, Worked, Tried, seats, phase, IsTaken, Made, refused_next, Hastens, left_to_tell, one_try, listening_try, told_try, most_left, left_after_try, left_to_work, steps_left}
+use Rattle.channel_steps.proofs.Words.{Contents, Queue, Phase, asked, ActiveQueueCall, Fits, PhasesQuiet, phases, QueueReply, QueueCall, Key, kind_of, listened, with_last, TryRecvError, Mark, Reply, Purpose, Closer, Ending, ListenerRef, WaitList, Sends, Receives, Streams, Closings, Making, Side, Stage, Trying, Working, Finished, NextStep, Tries, Works, Ends, Waiting, ListStep, TellReceive, TellStreams, TellSend, TellSends, TakeRoom, TellAll, Insert, Register, Leave, Lower, Count, Load, Raise, Parts, WaitLists, Listeners, listeners, with_listeners, waits, count, is_raised, most, line_of, leaving, nothing_kept, ends_by, again, pends_by, unlistened, closer_ending, dropper, told_all_next, room_next, roomless, lowered_next, counted_next, loaded_next, raised_next, gathered_next, short_next, answered_next, Channel, Effect, channel, Turned, Worked, Tried, seats, phase, IsTaken, Made, refused_next, Hastens, left_to_tell, one_try, listening_try, told_try, most_left, left_after_try, left_to_work, steps_left}
 use Rattle.concurrent_queue.specs.declared.call.QueueAsk.TheVariants as ask
 use Rattle.concurrent_queue.specs.declared.call.QueueReply.TheVariants as answer
 use Rattle.concurrent_queue.specs.declared.error.PushError.TheVariants as push_error
@@ -10,7 +10,7 @@ use Rattle.concurrent_queue.specs.declared.error.PopError.TheVariants as pop_err
 use Rattle.concurrent_queue.proofs.Interface.{ranks}
 use Rattle.channel_calls.specs.declared.error.TryRecvError.TheVariants as try_recv_error
 use Rattle.channel_calls.specs.declared.reply.Reply.TheVariants as reply
-use Rattle.channel_calls.specs.declared.stage.Aim.TheVariants as aim
+use Rattle.channel_calls.specs.declared.stage.Purpose.TheVariants as aim
 use Rattle.channel_calls.specs.declared.stage.Making.TheVariants as making
 use Rattle.channel_calls.specs.declared.stage.Waiting.TheVariants as waiting
 use Rattle.channel_steps.proofs.LineFacts.{fresh_waits, same_line}
@@ -20,7 +20,7 @@ use Rattle.channel_steps.proofs.StageFacts.{phase_try, phase_work, phase_end}
 
 module _ {T W : Type 0} where
   -- a call of the queue answers by its 64th step where the others are quiet
-  abbrev pub left_to_turn : Roster W → Turn T W → ℕ
+  abbrev pub left_to_turn : WaitLists W → NextStep T W → ℕ
   left_to_turn a (Tries x aim) = one_try + left_after_try a aim
   left_to_turn a (Works w) = left_to_work a w
   left_to_turn a (Ends x kept) = 0
@@ -29,22 +29,22 @@ few_or : (b : Bool) (n i j : ℕ) → i ≤ n → j ≤ n → (if b then i else 
 few_or true n i j h k = h
 few_or false n i j h k = k
 
-few_to_tell : (line : Line) → left_to_tell line ≤ 5
+few_to_tell : (line : WaitList) → left_to_tell line ≤ 5
 few_to_tell Sends = omega arith
 few_to_tell line = omega arith
 
 -- how many more messages a call may take after the next one
-abbrev pub wanted_after : {T W : Type 0} → Aim T W → ℕ
+abbrev pub wanted_after : {T W : Type 0} → Purpose T W → ℕ
 wanted_after (aim.RecvMany g) = g.more
 wanted_after x = 0
 
-few_after : {T W : Type 0} (a : Roster W) (x : Aim T W) → left_after_try a x ≤ told_try + one_try * wanted_after x
+few_after : {T W : Type 0} (a : WaitLists W) (x : Purpose T W) → left_after_try a x ≤ told_try + one_try * wanted_after x
 few_after a (aim.Poll line None task) = omega arith
 few_after a (aim.Poll line (Some key) task) = few_or (waits key (listeners line a)) told_try 3 told_try (omega arith) (omega arith)
 few_after a x = omega arith
 
 module _ {T W : Type 0} where
-  abbrev pub wanted_by : Work T W → ℕ
+  abbrev pub wanted_by : ListStep T W → ℕ
   wanted_by (TakeRoom n) = n
   wanted_by w = 0
 
@@ -54,14 +54,14 @@ module _ {T W : Type 0} where
   wanted (Working w) = wanted_by w
   wanted (Finished kept) = 0
 
-  few_to_work : (a : Roster W) (w : Work T W) → left_to_work a w ≤ told_try + one_try * wanted_by w
+  few_to_work : (a : WaitLists W) (w : ListStep T W) → left_to_work a w ≤ told_try + one_try * wanted_by w
   few_to_work a (TellAll line c) = let h = few_to_tell line in omega (arith, h)
   few_to_work a (Register w key task) = few_or (waits key (listeners (line_of w) a)) told_try 1 told_try (omega arith) (omega arith)
   few_to_work a (Raise side n m) = few_or (is_raised side n a) told_try 1 3 (omega arith) (omega arith)
   few_to_work a w = omega arith
 
   -- no call has more left where the others are quiet, by how many further messages it may take
-  pub few_left : (c : Contents T) (a : Roster W) (q : Queue T) (f : Phase T) (s : Stage (QueueCall T) T W) (l r : List (Seat T))
+  pub few_left : (c : Contents T) (a : WaitLists W) (q : Queue T) (f : Phase T) (s : Stage (QueueCall T) T W) (l r : List (ActiveQueueCall T))
       → Fits c q (l ++ (seats f s ++ r)) → steps_left c a s ≤ most_left (wanted s)
   few_left c a q f (Trying call aim) l r fits =
       let h = ranks c q f call l r fits in
@@ -80,39 +80,39 @@ at_least : (b : Bool) (n i j : ℕ) → n ≤ i → n ≤ j → n ≤ (if b then
 at_least true n i j h k = h
 at_least false n i j h k = k
 
-module _ (T : Type 0) {W : Type 0} (a : Roster W) where
-  some_to_poll : (line : Line) (key : Option Key) (task : W) (n : ℕ) → n ≤ 3 → n ≤ left_after_try {T = T} a (aim.Poll line key task)
+module _ (T : Type 0) {W : Type 0} (a : WaitLists W) where
+  some_to_poll : (line : WaitList) (key : Option Key) (task : W) (n : ℕ) → n ≤ 3 → n ≤ left_after_try {T = T} a (aim.Poll line key task)
   some_to_poll line None task n h = omega (arith, h)
   some_to_poll line (Some key) task n h = at_least (waits key (listeners line a)) n 3 told_try h (omega (arith, h))
 
-module _ {T W : Type 0} (a : Roster W) where
-  ended : (x : Reply T) (message : Option T) (held : Option Held)
-      → left_to_turn a (let t : Turn T W = ends_by (record { reply = x; message = message; held = held }) in t) ≤ 1
+module _ {T W : Type 0} (a : WaitLists W) where
+  ended : (x : Reply T) (message : Option T) (held : Option ListenerRef)
+      → left_to_turn a (let t : NextStep T W = ends_by (record { reply = x; message = message; held = held }) in t) ≤ 1
   ended x message None = omega arith
   ended x message (Some h) = omega arith
 
-  ends_soon : (x : Ending T) → left_to_turn a (let t : Turn T W = ends_by x in t) ≤ 1
+  ends_soon : (x : Ending T) → left_to_turn a (let t : NextStep T W = ends_by x in t) ≤ 1
   ends_soon x = ended x.reply x.message x.held
 
-  refused_left : (w : Waiting T) (line : Line) (key : Option Key) (task : W) → line_of w ≡ line
+  refused_left : (w : Waiting T) (line : WaitList) (key : Option Key) (task : W) → line_of w ≡ line
       → left_to_turn a (refused_next w key task) ≤ left_after_try {T = T} a (aim.Poll line key task)
   refused_left w line None task e = omega arith
   refused_left w line (Some key) task e =
-      subst (λ (l : Line). (if waits key (listeners (line_of w) a) then 1 else told_try) ≤ (if waits key (listeners l a) then 3 else told_try)) e
+      subst (λ (l : WaitList). (if waits key (listeners (line_of w) a) then 1 else told_try) ≤ (if waits key (listeners l a) then 3 else told_try)) e
       (register_or_try (waits key (listeners (line_of w) a)))
 
-  gathered_left : (vs : List T) (k : ℕ) → left_to_turn a (let t : Turn T W = gathered_next (with_last vs k) in t) ≤ 2 + one_try * k
+  gathered_left : (vs : List T) (k : ℕ) → left_to_turn a (let t : NextStep T W = gathered_next (with_last vs k) in t) ≤ 2 + one_try * k
   gathered_left vs zero = omega arith
   gathered_left vs (suc k) = omega arith
 
-  short_left : (vs : List T) (e : TryRecvError) → left_to_turn a (let t : Turn T W = short_next vs e in t) ≤ 2
+  short_left : (vs : List T) (e : TryRecvError) → left_to_turn a (let t : NextStep T W = short_next vs e in t) ≤ 2
   short_left [] e = omega arith
   short_left (v ∷ vs) e = omega arith
 
-  soon : (key : Option Key) (task : W) (line : Line) (x : Ending T) → left_to_turn a (let t : Turn T W = ends_by x in t) ≤ left_after_try {T = T} a (aim.Poll line key task)
+  soon : (key : Option Key) (task : W) (line : WaitList) (x : Ending T) → left_to_turn a (let t : NextStep T W = ends_by x in t) ≤ left_after_try {T = T} a (aim.Poll line key task)
   soon key task line x = let h = ends_soon x in let k = some_to_poll T a line key task 1 (omega arith) in omega (arith, h, k)
 
-  pub answered_left : (x : Aim T W) (y : QueueReply T) → left_to_turn a (answered_next x y) ≤ left_after_try a x
+  pub answered_left : (x : Purpose T W) (y : QueueReply T) → left_to_turn a (answered_next x y) ≤ left_after_try a x
   answered_left aim.TrySend (answer.Push (Err (push_error.Full m))) = omega arith
   answered_left aim.TrySend y = omega arith
   answered_left aim.ForceSend (answer.Force (Err (force_error.Closed m))) = omega arith
@@ -153,13 +153,13 @@ raised_now n e = grind (arith, nat_tests)
 
 module _ {T W : Type 0} where
   -- the turn that a step of this work takes, after which less is left
-  pub record Lessens (c : Channel T W) (w : Work T W) (e : Effect T W) (r : Option (Reply T)) (s : Stage (Phase T) T W) : Type 0 where
-    pub turn : Turn T W
+  pub record Lessens (c : Channel T W) (w : ListStep T W) (e : Effect T W) (r : Option (Reply T)) (s : Stage (Phase T) T W) : Type 0 where
+    pub turn : NextStep T W
     pub turned : Turned turn r s
     pub less : left_to_turn e.channel.roster turn < left_to_work c.roster w
 
   module _ (c : Channel T W) (e : Effect T W) (r : Option (Reply T)) (s : Stage (Phase T) T W) where
-    told_left : (line : Line) (by : Closer) → left_to_turn e.channel.roster (let t : Turn T W = told_all_next line by in t) < left_to_tell line
+    told_left : (line : WaitList) (by : Closer) → left_to_turn e.channel.roster (let t : NextStep T W = told_all_next line by in t) < left_to_tell line
     told_left Closings by = let h = ends_soon {T = T} e.channel.roster (closer_ending by true) in omega (arith, h)
     told_left w by = omega arith
 
@@ -172,7 +172,7 @@ module _ {T W : Type 0} where
         → left_to_turn e.channel.roster (again w (Some key) task) < listening_try
     inserted_less w task key l none same =
         let waiting : waits key (listeners (line_of w) e.channel.roster) ≡ true =
-        ap (λ (a : Roster W). waits key (listeners (line_of w) a)) same
+        ap (λ (a : WaitLists W). waits key (listeners (line_of w) a)) same
         ∙ (ap (λ (x : Listeners W). waits key x) (same_line (line_of w) (listened key l) c.roster) ∙ fresh_waits key l none) in
         try_less (waits key (listeners (line_of w) e.channel.roster)) waiting
 
@@ -182,7 +182,7 @@ module _ {T W : Type 0} where
     registered_less false w key task = omega arith
 
     lowered_less : (b : Bool) (by : Closer)
-        → left_to_turn e.channel.roster (let t : Turn T W = if b then Tries ask.Close (aim.Close by) else ends_by (closer_ending by false) in t) < 1 + one_try + 5
+        → left_to_turn e.channel.roster (let t : NextStep T W = if b then Tries ask.Close (aim.Close by) else ends_by (closer_ending by false) in t) < 1 + one_try + 5
     lowered_less true by = omega arith
     lowered_less false by = let x : Ending T = closer_ending by false in let h = ends_soon e.channel.roster x in omega (arith, h)
 
@@ -191,31 +191,31 @@ module _ {T W : Type 0} where
     raised_soon false h = absurd cc
 
     counted_less : (b : Bool) (side : Side) (m : Making) → b ≡ nat_lt most (count side c.roster)
-        → left_to_turn c.roster (let t : Turn T W = if b then Ends reply.TooMany nothing_kept else Works (Raise side (count side c.roster) m) in t) < 2
+        → left_to_turn c.roster (let t : NextStep T W = if b then Ends reply.TooMany nothing_kept else Works (Raise side (count side c.roster) m) in t) < 2
     counted_less true side m h = omega arith
     counted_less false side m h = raised_soon (is_raised side (count side c.roster) c.roster) (raised_now (count side c.roster) (sym h))
 
     upgraded_less : (b : Bool) (side : Side)
-        → left_to_turn c.roster (let t : Turn T W = if b then Ends reply.NotMade nothing_kept else counted_next side making.Upgrade (count side c.roster) in t) < 2
+        → left_to_turn c.roster (let t : NextStep T W = if b then Ends reply.NotMade nothing_kept else counted_next side making.Upgrade (count side c.roster) in t) < 2
     upgraded_less true side = omega arith
     upgraded_less false side = counted_less (nat_lt most (count side c.roster)) side making.Upgrade refl
 
-    loaded_less : (side : Side) (m : Making) → left_to_turn c.roster (let t : Turn T W = loaded_next side m (count side c.roster) in t) < 2
+    loaded_less : (side : Side) (m : Making) → left_to_turn c.roster (let t : NextStep T W = loaded_next side m (count side c.roster) in t) < 2
     loaded_less side making.Clone = counted_less (nat_lt most (count side c.roster)) side making.Clone refl
     loaded_less side making.Upgrade = upgraded_less (count side c.roster == 0) side
 
-    raised_less : (b : Bool) (side : Side) (m : Making) → left_to_turn e.channel.roster (let t : Turn T W = raised_next side m b in t) < (if b then 1 else 3)
+    raised_less : (b : Bool) (side : Side) (m : Making) → left_to_turn e.channel.roster (let t : NextStep T W = raised_next side m b in t) < (if b then 1 else 3)
     raised_less true side m = omega arith
     raised_less false side m = omega arith
 
-    roomed_less : (n : ℕ) → left_to_turn e.channel.roster (let t : Turn T W = room_next n in t) < 3 + one_try * n
+    roomed_less : (n : ℕ) → left_to_turn e.channel.roster (let t : NextStep T W = room_next n in t) < 3 + one_try * n
     roomed_less zero = omega arith
     roomed_less (suc n) = omega arith
 
     roster_of : {e0 : Effect T W} → e ≡ e0 → e.channel.roster ≡ e0.channel.roster
     roster_of h = ap (λ (x : Effect T W). x.channel.roster) h
 
-    pub work_lessens : (w : Work T W) → Worked c w e r s → Lessens c w e r s
+    pub work_lessens : (w : ListStep T W) → Worked c w e r s → Lessens c w e r s
     work_lessens (TellReceive x) h = record { turn = Works (TellStreams x); turned = h.1; less = omega arith }
     work_lessens (TellStreams x) h = record { turn = ends_by x; turned = h.1; less = (let k = ends_soon {W = W} e.channel.roster x in omega (arith, k)) }
     work_lessens (TellSend x) h = record { turn = ends_by x; turned = h.1; less = (let k = ends_soon {W = W} e.channel.roster x in omega (arith, k)) }
@@ -237,7 +237,7 @@ module _ {T W : Type 0} where
         record {
           turn = loaded_next side m (count side c.roster);
           turned = h.1;
-          less = subst (λ (a : Roster W). left_to_turn a (let t : Turn T W = loaded_next side m (count side c.roster) in t) < 2) (sym (roster_of h.0)) (loaded_less side m);
+          less = subst (λ (a : WaitLists W). left_to_turn a (let t : NextStep T W = loaded_next side m (count side c.roster) in t) < 2) (sym (roster_of h.0)) (loaded_less side m);
         }
     work_lessens (Raise side n m) h =
         let b = is_raised side n c.roster in
@@ -246,19 +246,19 @@ module _ {T W : Type 0} where
   -- ---- a step of a call, beside others that are quiet
 
   -- a turn that was taken leaves no more than it says
-  module _ (c : Contents T) (a : Roster W) (q : Queue T) (f : Phase T) (l r : List (Seat T)) where
-    tries_left : (call : QueueCall T) (aim : Aim T W) (s : Stage (QueueCall T) T W) → s ≡ Trying call aim → Fits c q (l ++ (seats f s ++ r))
+  module _ (c : Contents T) (a : WaitLists W) (q : Queue T) (f : Phase T) (l r : List (ActiveQueueCall T)) where
+    tries_left : (call : QueueCall T) (aim : Purpose T W) (s : Stage (QueueCall T) T W) → s ≡ Trying call aim → Fits c q (l ++ (seats f s ++ r))
         → steps_left c a s ≤ one_try + left_after_try a aim
     tries_left call aim s same =
         subst (λ (z : Stage (QueueCall T) T W). Fits c q (l ++ (seats f z ++ r)) → steps_left c a z ≤ one_try + left_after_try a aim) (sym same)
         (λ fits. let h = ranks c q f call l r fits in omega (arith, h))
 
-    taken_left : (turn : Turn T W) (x : Option (Reply T)) (s : Stage (QueueCall T) T W) → Fits c q (l ++ (seats f s ++ r)) → IsTaken turn x s → steps_left c a s ≤ left_to_turn a turn
+    taken_left : (turn : NextStep T W) (x : Option (Reply T)) (s : Stage (QueueCall T) T W) → Fits c q (l ++ (seats f s ++ r)) → IsTaken turn x s → steps_left c a s ≤ left_to_turn a turn
     taken_left (Tries y aim) x s fits (call, starts, none, same) = tries_left call aim s same fits
     taken_left (Works w) x s fits (none, same) = subst (λ (z : Stage (QueueCall T) T W). steps_left c a z ≤ left_to_work a w) (sym same) (omega arith)
     taken_left (Ends y kept) x s fits (some, same) = subst (λ (z : Stage (QueueCall T) T W). steps_left c a z ≤ 0) (sym same) (omega arith)
 
-    turned_left : (turn : Turn T W) (x : Option (Reply T)) (s : Stage (QueueCall T) T W) → Fits c q (l ++ (seats f s ++ r)) → Turned turn x (phase f s) → steps_left c a s ≤ left_to_turn a turn
+    turned_left : (turn : NextStep T W) (x : Option (Reply T)) (s : Stage (QueueCall T) T W) → Fits c q (l ++ (seats f s ++ r)) → Turned turn x (phase f s) → steps_left c a s ≤ left_to_turn a turn
     turned_left (Tries y aim) x s fits (none, same) = let t = phase_try f (asked y) aim s same in tries_left t.0 aim s t.1 fits
     turned_left (Works w) x s fits (none, same) = subst (λ (z : Stage (QueueCall T) T W). steps_left c a z ≤ left_to_work a w) (sym (phase_work f w s same)) (omega arith)
     turned_left (Ends y kept) x s fits (some, same) = subst (λ (z : Stage (QueueCall T) T W). steps_left c a z ≤ 0) (sym (phase_end f kept s same)) (omega arith)
@@ -270,8 +270,8 @@ module _ {T W : Type 0} where
   IsAtWork (Finished kept) = ⊥
 
   module _ (parts parts' : Parts T W) (names : List W) (stage' : Stage (QueueCall T) T W) (m : Mark) (x : Option (Reply T))
-      (blocks : List ℕ) (q : Queue T) (f : Phase T) (l r : List (Seat T)) where
-    tried_less : (call : QueueCall T) (y : Aim T W) (made : Made parts (Trying call y) names parts' stage' m x blocks q f l r)
+      (blocks : List ℕ) (q : Queue T) (f : Phase T) (l r : List (ActiveQueueCall T)) where
+    tried_less : (call : QueueCall T) (y : Purpose T W) (made : Made parts (Trying call y) names parts' stage' m x blocks q f l r)
         → Hastens parts.cells q f (Trying call y) parts'.cells x stage'
         → steps_left parts'.cells parts'.roster stage' < steps_left parts.cells parts.roster (Trying call y)
     tried_less call y made (inl (call', same, less)) =

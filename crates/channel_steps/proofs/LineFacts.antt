@@ -2,7 +2,7 @@
 use Rattle.std.proofs.Common.{◌≡◌, not, Bool, true, false, if◌then◌else◌, List, [], ◌∷◌, ◌++◌, Option, None, Some, is_some, refl, sym, subst, arith}
 use Rattle.std.proofs.lemmas.Bool.Decides.{nat_tests}
 use Rattle.std.specs.Map.{lookup}
-use Rattle.channel_steps.proofs.Words.{Key, kind_of, listened, Listeners, Roster, listeners, with_listeners, waits, Line, Sends, told_as, waits_as, same_key}
+use Rattle.channel_steps.proofs.Words.{Key, kind_of, listened, Listeners, WaitLists, listeners, with_listeners, waits, WaitList, Sends, told_as, waits_as, same_key}
 
 same_as_itself : (key : Key) → same_key key key ≡ true
 same_as_itself key = grind (arith, nat_tests)
@@ -32,6 +32,6 @@ module _ {W : Type 0} where
       let k : kind_of (listened key l) key ≡ Some false = waits_by (is_some (told_as l key)) (is_some (waits_as (listened key l) key)) a b in
       subst (λ (x : Option Bool). (elim x [ Some told ↦ not told | None ↦ false ]) ≡ true) (sym k) refl
 
-  pub same_line : (line : Line) (l : Listeners W) (a : Roster W) → listeners line (with_listeners line l a) ≡ l
+  pub same_line : (line : WaitList) (l : Listeners W) (a : WaitLists W) → listeners line (with_listeners line l a) ≡ l
   same_line Sends l a = refl
   same_line line l a = refl

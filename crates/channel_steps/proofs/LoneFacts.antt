@@ -1,6 +1,6 @@
 -- A step of the only call under way, from how its stage moves.
 use Rattle.std.proofs.Common.{◌≡◌, ℕ, List, [], ◌∷◌, ◌++◌, Option, None, Some, refl, sym, append-nil}
-use Rattle.channel_steps.proofs.Words.{Phase, Channel, Effect, Moves, Mark, Reply, Kept, Stage, Finished, ActiveCall, Configuration, does, gone_by, came_by, unless_ended, Known, IsBalanced, MayFinish, Steps}
+use Rattle.channel_steps.proofs.Words.{Phase, Channel, Effect, Moves, Mark, Reply, Returned, Stage, Finished, ActiveCall, Configuration, does, gone_by, came_by, unless_ended, Known, IsBalanced, MayFinish, Steps}
 use Rattle.channel_steps.proofs.OwnFacts.{names_of, moves_held, own_finishes, own_in_time}
 
 module _ {T W : Type 0} where
@@ -20,7 +20,7 @@ module _ {T W : Type 0} where
     abbrev effect : Effect T W
     effect = record { channel = d; mark = m; woken = names }
 
-    lone : (r : Option (Reply T)) (left : Option (Kept T)) → MayFinish (does u at m s.now d) r left → Moves s.now u.at effect r at
+    lone : (r : Option (Reply T)) (left : Option (Returned T)) → MayFinish (does u at m s.now d) r left → Moves s.now u.at effect r at
         → Steps s u.party (record { mark = m; reply = r; kept = left }) names (after_lone s u at m r blocks d)
     lone r left ends moves =
         record {
@@ -46,7 +46,7 @@ module _ {T W : Type 0} where
     lone_goes moves = lone None None refl moves
 
     -- one that answers, and leaves this to its operation
-    pub lone_ends : (y : Reply T) (left : Kept T) → ((kept : Kept T) → at ≡ Finished kept → left ≡ kept)
+    pub lone_ends : (y : Reply T) (left : Returned T) → ((kept : Returned T) → at ≡ Finished kept → left ≡ kept)
         → Moves s.now u.at effect (Some y) at
         → Steps s u.party (record { mark = m; reply = Some y; kept = Some left }) names (after_lone s u at m (Some y) blocks d)
     lone_ends y left same moves = lone (Some y) (Some left) (own_finishes s.now u bal known m d names at y left same moves) moves

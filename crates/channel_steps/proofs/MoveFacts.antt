@@ -1,6 +1,6 @@
 -- What every step of a call leaves as it is, and where it ends.
 use Rattle.std.proofs.Common.{◌≡◌, List, ℕ, suc, ◌+◌, ◌≤◌, [], Bool, true, false, if◌then◌else◌, Option, None, Some, ⊎_elim, inl, inr, refl, sym, ap, ◌∙◌, subst, arith}
-use Rattle.channel_steps.proofs.Words.{Queue, Phase, IsInRange, QueueCall, Reply, Held, Kept, Side, Senders, Receivers, Mark, Stage, Trying, Working, Finished, Turn, Tries, Works, Ends, Work, Insert, Leave, Lower, Raise, kept_by, up, down, is_raised, Channel, Effect, untouched, on_count, leaves, Turned, Worked, Moves, seats, phase, HasRange, ChannelAsk, gone_by, came_by}
+use Rattle.channel_steps.proofs.Words.{Queue, Phase, IsInRange, QueueCall, Reply, ListenerRef, Returned, Side, Senders, Receivers, Mark, Stage, Trying, Working, Finished, NextStep, Tries, Works, Ends, ListStep, Insert, Leave, Lower, Raise, kept_by, up, down, is_raised, Channel, Effect, untouched, on_count, leaves, Turned, Worked, Moves, seats, phase, HasRange, ChannelAsk, gone_by, came_by}
 use Rattle.channel_calls.specs.declared.mark.Mark.TheVariants as mark
 use Rattle.channel_steps.specs.every_run.Ends.{IsStill}
 use Rattle.channel_steps.proofs.LeftFacts.{work_lessens}
@@ -36,7 +36,7 @@ module _ {T W : Type 0} where
   spares_as : (c : Channel T W) (e e' : Effect T W) → e ≡ e' → Spares c e' → Spares c e
   spares_as c e e' same h = subst (λ (x : Effect T W). Spares c x) (sym same) h
 
-  leaves_spares : (h : Option Held) (c : Channel T W) → Spares c (leaves h c)
+  leaves_spares : (h : Option ListenerRef) (c : Channel T W) → Spares c (leaves h c)
   leaves_spares None c = (refl, tt)
   leaves_spares (Some h) c = (refl, tt)
 
@@ -44,7 +44,7 @@ module _ {T W : Type 0} where
   raises_spares true side n c = (refl, other_up side)
   raises_spares false side n c = (refl, tt)
 
-  pub worked_spares : (c : Channel T W) (w : Work T W) (e : Effect T W) (r : Option (Reply T)) (s : Stage (Phase T) T W) → Worked c w e r s → Spares c e
+  pub worked_spares : (c : Channel T W) (w : ListStep T W) (e : Effect T W) (r : Option (Reply T)) (s : Stage (Phase T) T W) → Worked c w e r s → Spares c e
   worked_spares c (Insert w task) e r s (inl h) = spares_as c e _ h.2 (refl, tt)
   worked_spares c (Insert w task) e r s (inr h) = spares_as c e _ h.1 (refl, tt)
   worked_spares c (Leave x) e r s h = spares_as c e _ h.0 (leaves_spares x.held c)
@@ -54,18 +54,18 @@ module _ {T W : Type 0} where
 
   -- ---- where a call ends
 
-  turned_ends : (turn : Turn T W) (y : Reply T) (s : Stage (Phase T) T W) → Turned turn (Some y) s → (kept : Kept T) × (s ≡ Finished kept)
+  turned_ends : (turn : NextStep T W) (y : Reply T) (s : Stage (Phase T) T W) → Turned turn (Some y) s → (kept : Returned T) × (s ≡ Finished kept)
   turned_ends (Tries x aim) y s h = absurd (let no : Some y ≡ None = h.0 in cc)
   turned_ends (Works w) y s h = absurd (let no : Some y ≡ None = h.0 in cc)
   turned_ends (Ends x kept) y s h = (kept, h.1)
 
-  moves_end : (c : Channel T W) (at : Stage (Phase T) T W) (e : Effect T W) (y : Reply T) (s : Stage (Phase T) T W) → Moves c at e (Some y) s → (kept : Kept T) × (s ≡ Finished kept)
+  moves_end : (c : Channel T W) (at : Stage (Phase T) T W) (e : Effect T W) (y : Reply T) (s : Stage (Phase T) T W) → Moves c at e (Some y) s → (kept : Returned T) × (s ≡ Finished kept)
   moves_end c (Trying f aim) e y s h =
       ⊎_elim (λ k. absurd (let no : Some y ≡ None = k.2 in cc)) (λ k. turned_ends _ y s k.2) h.how
   moves_end c (Working w) e y s h = let b = work_lessens c e (Some y) s w h in turned_ends b.turn y s b.turned
   moves_end c (Finished kept) e y s h = absurd (let no : Some y ≡ None = h.1 in cc)
 
-  pub kept_at : (f : Phase T) (s : Stage (QueueCall T) T W) (kept : Kept T) → phase f s ≡ Finished kept → kept_by s ≡ kept
+  pub kept_at : (f : Phase T) (s : Stage (QueueCall T) T W) (kept : Returned T) → phase f s ≡ Finished kept → kept_by s ≡ kept
   kept_at f s kept e = ap (λ (z : Stage (QueueCall T) T W). kept_by z) (phase_end f kept s e)
 
   -- a call that has answered has no call of the queue under way

@@ -1,6 +1,6 @@
 -- A step of a call: what is known of it after, whom it wakes, and what it takes and brings.
 use Rattle.std.proofs.Common.{◌≡◌, map, ℕ, ◌+◌, ◌<◌, ◌≤◌, Bool, true, false, if◌then◌else◌, List, [], ◌∷◌, ◌++◌, take, drop, Option, None, Some, ◌⊎◌, inl, inr, refl, sym, ap, ◌∙◌, subst, arith, append-nil, append_assoc}
-use Rattle.channel_steps.proofs.Words.{Queue, Phase, after, message, ContinuesBy, QueueAsk, QueueMark, QueueReply, Key, answered_next, first, mark_of_queue, up, Channel, Effect, untouched, on_count, leaves, Turned, Tried, Worked, Moves, listeners, is_raised, again, ChannelAsk, Loan, Mark, Reply, Aim, Held, Kept, Sends, Receives, Side, Stage, Trying, Working, Finished, Turn, Tries, Works, Ends, Work, TellReceive, TellSend, Insert, Leave, Raise, Continues, Answers, asks_listener, told_one_wakes, MarkedMoment, with_marked, TriesFor, TriesAt, StageAt, ToldAt, IsQuick, quick_steps_left, call_begun, ActiveCall, sees, does, Finishes, EndsInTime, brought, gone_by, came_by, Known, AllKnown, IsBalanced, Telling, telling, dropping, WokenBy}
+use Rattle.channel_steps.proofs.Words.{Queue, Phase, after, message, ContinuesBy, QueueAsk, QueueMark, QueueReply, Key, answered_next, first, mark_of_queue, up, Channel, Effect, untouched, on_count, leaves, Turned, Tried, Worked, Moves, listeners, is_raised, again, ChannelAsk, Loan, Mark, Reply, Purpose, ListenerRef, Returned, Sends, Receives, Side, Stage, Trying, Working, Finished, NextStep, Tries, Works, Ends, ListStep, TellReceive, TellSend, Insert, Leave, Raise, Continues, Answers, asks_listener, told_one_wakes, MarkedMoment, with_marked, TriesFor, TriesAt, StageAt, ToldAt, IsQuick, quick_steps_left, call_begun, ActiveCall, sees, does, Finishes, EndsInTime, brought, gone_by, came_by, Known, AllKnown, IsBalanced, Telling, telling, dropping, WokenBy}
 use Rattle.concurrent_queue.specs.Queue as queue
 use Rattle.concurrent_queue.specs.declared.call.QueueAsk.TheVariants as ask
 use Rattle.concurrent_queue.specs.declared.call.QueueMark.TheVariants as queue_mark
@@ -29,7 +29,7 @@ module _ {T W : Type 0} where
   -- ---- what is known of the call after its step
 
   module _ (c : Channel T W) (x : ChannelAsk T W) (told : List Telling) (ds : List (MarkedMoment T W)) (seen : List (Channel T W)) (bal : IsBalanced c.queue) where
-    went : (f f' : Phase T) (y : Aim T W) (m : QueueMark) → TriesFor x y f.ask ds seen → TriesAt c y f.ask f.stage ds seen → Continues c.queue f m f'
+    went : (f f' : Phase T) (y : Purpose T W) (m : QueueMark) → TriesFor x y f.ask ds seen → TriesAt c y f.ask f.stage ds seen → Continues c.queue f m f'
         → After (next_channel f.ask f.stage m c) x [] (with_marked ds (mark_of_queue m) c seen) (next_channel f.ask f.stage m c ∷ seen) None (Trying f' y)
     went f f' y m tf ta g =
         let d : Channel T W = next_channel f.ask f.stage m c in
@@ -39,7 +39,7 @@ module _ {T W : Type 0} where
           refl,
         )
 
-    tried_by : (f : Phase T) (y : Aim T W) (m : QueueMark) (r : Option (Reply T)) (s : Stage (Phase T) T W) → TriesFor x y f.ask ds seen → TriesAt c y f.ask f.stage ds seen
+    tried_by : (f : Phase T) (y : Purpose T W) (m : QueueMark) (r : Option (Reply T)) (s : Stage (Phase T) T W) → TriesFor x y f.ask ds seen → TriesAt c y f.ask f.stage ds seen
         → ((f' : Phase T) × Continues c.queue f m f' × (r ≡ None) × (s ≡ Trying f' y)) ⊎ ((z : QueueReply T) × Answers c.queue f m z × Turned (answered_next y z) r s)
         → After (next_channel f.ask f.stage m c) x [] (with_marked ds (mark_of_queue m) c seen) (next_channel f.ask f.stage m c ∷ seen) r s
     tried_by f y m r s tf ta (inl h) =
@@ -51,7 +51,7 @@ module _ {T W : Type 0} where
         let d : Channel T W = next_channel f.ask f.stage m c in
         turned_at d x [] (with_marked ds (mark_of_queue m) c seen) (d ∷ seen) (answered_next y h.0) r s h.2 (answered c seen ds bal x y f.ask m h.0 f.stage tf ta h.1)
 
-    tried : (f : Phase T) (y : Aim T W) (e : Effect T W) (r : Option (Reply T)) (s : Stage (Phase T) T W) → TriesFor x y f.ask ds seen → TriesAt c y f.ask f.stage ds seen → told ≡ [] → Tried c f y e r s
+    tried : (f : Phase T) (y : Purpose T W) (e : Effect T W) (r : Option (Reply T)) (s : Stage (Phase T) T W) → TriesFor x y f.ask ds seen → TriesAt c y f.ask f.stage ds seen → told ≡ [] → Tried c f y e r s
         → After e.channel x (told ++ []) (with_marked ds e.mark c seen) (e.channel ∷ seen) r s
     tried f y e r s tf ta none h =
         subst (λ (z : Effect T W). After z.channel x (told ++ []) (with_marked ds z.mark c seen) (z.channel ∷ seen) r s) (sym h.effect)
@@ -72,7 +72,7 @@ module _ {T W : Type 0} where
 
   -- ---- whom it wakes
 
-  left_names : (o : Option Held) (c : Channel T W) (e : Effect T W) → e ≡ leaves o c → WokenBy [] o c e.woken
+  left_names : (o : Option ListenerRef) (c : Channel T W) (e : Effect T W) → e ≡ leaves o c → WokenBy [] o c e.woken
   left_names None c e h = ap (λ (z : Effect T W). z.woken) h
   left_names (Some held) c e h = ap (λ (z : Effect T W). z.woken) h
 
@@ -80,7 +80,7 @@ module _ {T W : Type 0} where
   raised_names true side n c e h = ap (λ (z : Effect T W). z.woken) h
   raised_names false side n c e h = ap (λ (z : Effect T W). z.woken) h
 
-  work_names : (c : Channel T W) (w : Work T W) (e : Effect T W) (r : Option (Reply T)) (s : Stage (Phase T) T W) → Worked c w e r s → WokenBy (telling (Working w)) (dropping (Working w)) c e.woken
+  work_names : (c : Channel T W) (w : ListStep T W) (e : Effect T W) (r : Option (Reply T)) (s : Stage (Phase T) T W) → Worked c w e r s → WokenBy (telling (Working w)) (dropping (Working w)) c e.woken
   work_names c (TellReceive y) e r s h = ap (λ (z : Effect T W). z.woken) h.0 ∙ sym (append-nil (told_one_wakes (listeners Receives c.roster)))
   work_names c (TellSend y) e r s h = ap (λ (z : Effect T W). z.woken) h.0 ∙ sym (append-nil (told_one_wakes (listeners Sends c.roster)))
   work_names c (Insert w task) e r s (inl h) = ap (λ (z : Effect T W). z.woken) h.2
@@ -148,10 +148,10 @@ module _ {T W : Type 0} where
         let h = own c u.ask u.told u.marks u.seen bal u.at effect None s k.stands k.tells g in
         record { older = u.seen; latest = refl; stands = h.0; tells = h.1; quick = λ q. (let i = k.quick q in let j = quick_moves c u.ask u.at effect s u.marks u.seen k.stands q g in omega (arith, i, j)) }
 
-    pub own_finishes : (r : Reply T) (left : Kept T) → ((kept : Kept T) → s ≡ Finished kept → left ≡ kept) → Moves c u.at effect (Some r) s → Finishes (does u s m c d) r (Some left)
+    pub own_finishes : (r : Reply T) (left : Returned T) → ((kept : Returned T) → s ≡ Finished kept → left ≡ kept) → Moves c u.at effect (Some r) s → Finishes (does u s m c d) r (Some left)
     own_finishes r left same g =
         let h = own c u.ask u.told u.marks u.seen bal u.at effect (Some r) s k.stands k.tells g in
-        record { kept = h.0; at_end = h.1; given = ap (λ (z : Kept T). Some z) (same h.0 h.1); met = h.2; keeps = h.3; all_told = h.4 }
+        record { kept = h.0; at_end = h.1; given = ap (λ (z : Returned T). Some z) (same h.0 h.1); met = h.2; keeps = h.3; all_told = h.4 }
 
     pub own_in_time : (r : Option (Reply T)) → Moves c u.at effect r s → IsQuick u.ask → EndsInTime u.made r
     own_in_time None g q =
@@ -167,19 +167,19 @@ module _ {T W : Type 0} where
   -- ---- a call that begins
 
   -- a call has something to do
-  abbrev GoesOnAt : Turn T W → Type 0
+  abbrev GoesOnAt : NextStep T W → Type 0
   GoesOnAt (Tries a y) = Unit {0}
   GoesOnAt (Works w) = Unit {0}
   GoesOnAt (Ends y kept) = ⊥
 
   sent_at : (c : Channel T W) (m : T) (l : Loan) (t : W) (b : Bool) (k : Option Key) → l.asks_first ≡ b
-      → let turn : Turn T W = if b then asks_listener (waiting.Send m) k t else again (waiting.Send m) k t in TurnAt c (channel.PollSend m l t) [] [] (c ∷ []) turn × GoesOnAt turn
+      → let turn : NextStep T W = if b then asks_listener (waiting.Send m) k t else again (waiting.Send m) k t in TurnAt c (channel.PollSend m l t) [] [] (c ∷ []) turn × GoesOnAt turn
   sent_at c m l t false k is = (((refl, (refl, λ e. absurd (let no : false ≡ true = e in cc))), refl), tt)
   sent_at c m l t true None is = (((refl, (refl, λ e. absurd (let no : false ≡ true = e in cc))), refl), tt)
   sent_at c m l t true (Some key) is = (((refl, refl, λ no. absurd (let z : true ≡ false = sym is ∙ no in cc)), refl), tt)
 
   received_at : (c : Channel T W) (l : Loan) (t : W) (b : Bool) (k : Option Key) → l.asks_first ≡ b
-      → let turn : Turn T W = if b then asks_listener waiting.Receive k t else again waiting.Receive k t in TurnAt c (channel.PollRecv l t) [] [] (c ∷ []) turn × GoesOnAt turn
+      → let turn : NextStep T W = if b then asks_listener waiting.Receive k t else again waiting.Receive k t in TurnAt c (channel.PollRecv l t) [] [] (c ∷ []) turn × GoesOnAt turn
   received_at c l t false k is = (((tt, refl), refl), tt)
   received_at c l t true None is = (((tt, refl), refl), tt)
   received_at c l t true (Some key) is = (((tt, refl, λ no. absurd (let z : true ≡ false = sym is ∙ no in cc)), refl), tt)
@@ -204,12 +204,12 @@ module _ {T W : Type 0} where
   begins_at c channel.DropWeak = (((([], c ∷ [], refl, (refl, refl)), refl), refl), tt)
   begins_at c w = (((tt, refl), refl), tt)
 
-  known_at : (c : Channel T W) (p : ℕ) (x : ChannelAsk T W) (turn : Turn T W) (r : Option (Reply T)) (at : Stage (Phase T) T W) → r ≡ None → TurnAt c x [] [] (c ∷ []) turn → Turned turn r at → Known c (call_begun p x at c)
+  known_at : (c : Channel T W) (p : ℕ) (x : ChannelAsk T W) (turn : NextStep T W) (r : Option (Reply T)) (at : Stage (Phase T) T W) → r ≡ None → TurnAt c x [] [] (c ∷ []) turn → Turned turn r at → Known c (call_begun p x at c)
   known_at c p x turn r at none h t =
       let k : After c x [] [] (c ∷ []) None at = subst (λ (z : Option (Reply T)). After c x [] [] (c ∷ []) z at) none (turned_at c x [] [] (c ∷ []) turn r at t h) in
       record { older = []; latest = refl; stands = k.0; tells = k.1; quick = λ q. (let i = few_left at in omega (arith, i)) }
 
-  first_known : (c : Channel T W) (p : ℕ) (x : ChannelAsk T W) (turn : Turn T W) (r : Option (Reply T)) (at : Stage (Phase T) T W) → TurnAt c x [] [] (c ∷ []) turn → GoesOnAt turn → Turned turn r at → Known c (call_begun p x at c)
+  first_known : (c : Channel T W) (p : ℕ) (x : ChannelAsk T W) (turn : NextStep T W) (r : Option (Reply T)) (at : Stage (Phase T) T W) → TurnAt c x [] [] (c ∷ []) turn → GoesOnAt turn → Turned turn r at → Known c (call_begun p x at c)
   first_known c p x (Tries a y) r at h o t = known_at c p x (Tries a y) r at t.0 h t
   first_known c p x (Works w) r at h o t = known_at c p x (Works w) r at t.0 h t
   first_known c p x (Ends y kept) r at h o t = absurd o

@@ -1,6 +1,6 @@
 -- What a step of a call does to the queue: what its mark says, or nothing.
 use Rattle.std.proofs.Common.{⊎_elim, ◌≡◌, ◌+◌, ◌≤◌, Bool, true, false, List, [], ◌∷◌, length, drop, Option, Some, ◌⊎◌, inl, inr, refl, sym, ap, subst, arith}
-use Rattle.channel_steps.proofs.Words.{Queue, Phase, displaced, trying, after, marked, message, is_filled, is_displaced, IsOpen, IsOldest, ContinuesBy, AnswersTo, QueueAsk, QueueMark, Nothing, Append, Take, TakeDisplaced, Replace, Close, QueueReply, mark_of_queue, Channel, Effect, Tried, Moves, Mark, Reply, Aim, Stage, Trying, Working, Finished}
+use Rattle.channel_steps.proofs.Words.{Queue, Phase, displaced, trying, after, marked, message, is_filled, is_displaced, IsOpen, IsOldest, ContinuesBy, AnswersTo, QueueAsk, QueueMark, Nothing, Append, Take, TakeDisplaced, Replace, Close, QueueReply, mark_of_queue, Channel, Effect, Tried, Moves, Mark, Reply, Purpose, Stage, Trying, Working, Finished}
 use Rattle.concurrent_queue.specs.Queue as queue
 use Rattle.concurrent_queue.specs.declared.call.QueueAsk.TheVariants as ask
 use Rattle.concurrent_queue.specs.declared.call.QueueReply.TheVariants as answer
@@ -61,14 +61,14 @@ module _ {T : Type 0} where
   one_message a = omega arith
 
 module _ {T W : Type 0} (c : Channel T W) where
-  tried_says : (f : Phase T) (y : Aim T W) (e : Effect T W) (r : Option (Reply T)) (s : Stage (Phase T) T W) (h : Tried c f y e r s) → Says f.ask f.stage h.mark c.queue
+  tried_says : (f : Phase T) (y : Purpose T W) (e : Effect T W) (r : Option (Reply T)) (s : Stage (Phase T) T W) (h : Tried c f y e r s) → Says f.ask f.stage h.mark c.queue
   tried_says f y e r s h =
       ⊎_elim (λ k. goes_says c.queue f.ask h.mark f.stage k.0.stage k.1.1)
       (λ k. answered_by c.queue (λ z. Says f.ask f.stage z c.queue) tt (λ was. was) f.ask h.mark k.0 f.stage k.1) h.how
 
   -- what holds of each mark of a step of the queue's call, and where the queue is as it was, holds of any step
   pub moves_by : (at : Stage (Phase T) T W) (P : Mark → Queue T → Type 0)
-      → ((f : Phase T) (y : Aim T W) (m : QueueMark) → at ≡ Trying f y → Says f.ask f.stage m c.queue → P (mark_of_queue m) (after f m c.queue))
+      → ((f : Phase T) (y : Purpose T W) (m : QueueMark) → at ≡ Trying f y → Says f.ask f.stage m c.queue → P (mark_of_queue m) (after f m c.queue))
       → ((m : Mark) → IsStill m → P m c.queue)
       → (e : Effect T W) (r : Option (Reply T)) (s : Stage (Phase T) T W) → Moves c at e r s → P e.mark e.channel.queue
   moves_by (Trying f y) P tried still e r s h =

@@ -1,6 +1,6 @@
 -- Beginning a call, and how far the positions last.
 use Rattle.std.proofs.Common.{◌≡◌, ℕ, suc, List, [], ◌∷◌, ◌++◌, Option, None, refl, sym, ap, ◌∙◌, subst, append-nil, arith}
-use Rattle.channel_steps.proofs.Words.{Queue, Phase, asked, Seat, QueueCall, Parts, first, Channel, seats, phase, Turned, IsTaken, ChannelAsk, ChannelCall, Reply, Stage, Turn, Tries, Works, Ends, IsNewCall, Party, Entry, Step, ActiveCall, Configuration, ActiveCallWitness, active_call_of, all_seats, HasBegun, Next, HasRange}
+use Rattle.channel_steps.proofs.Words.{Queue, Phase, asked, ActiveQueueCall, QueueCall, Parts, first, Channel, seats, phase, Turned, IsTaken, ChannelAsk, ChannelCall, Reply, Stage, NextStep, Tries, Works, Ends, IsNewCall, Party, Entry, Step, ActiveCall, Configuration, ActiveCallWitness, active_call_of, all_seats, HasBegun, Next, HasRange}
 use Rattle.concurrent_queue.specs.Step.{FitsAt}
 use Rattle.channel_calls.specs.declared.mark.Mark.TheVariants.{Nothing}
 use Rattle.channel_steps.specs.declared.run.Step.TheVariants as step
@@ -11,16 +11,16 @@ use Rattle.channel_steps.proofs.ConfigurationFacts.{map-round, seats_append, par
 
 module _ {T W : Type 0} where
   -- a new call has its first turn taken, and its call of the queue comes in beside all others
-  pub record Came (turn : Turn T W) (blocks : List ℕ) (parts : Parts T W) (q : Queue T) (others : List (Seat T)) (s : Stage (QueueCall T) T W) (r : Option (Reply T)) : Type 0 where
+  pub record Came (turn : NextStep T W) (blocks : List ℕ) (parts : Parts T W) (q : Queue T) (others : List (ActiveQueueCall T)) (s : Stage (QueueCall T) T W) (r : Option (Reply T)) : Type 0 where
     pub inner : Phase T
     pub turned : Turned turn r (phase inner s)
     pub fits : FitsAt blocks parts.cells q (others ++ (seats inner s ++ []))
 
-  module _ (blocks : List ℕ) (parts : Parts T W) (q : Queue T) (others : List (Seat T)) (fits : FitsAt blocks parts.cells q others) (any : Phase T) where
+  module _ (blocks : List ℕ) (parts : Parts T W) (q : Queue T) (others : List (ActiveQueueCall T)) (fits : FitsAt blocks parts.cells q others) (any : Phase T) where
     round : FitsAt blocks parts.cells q (others ++ [])
-    round = subst (λ (ss : List (Seat T)). FitsAt blocks parts.cells q ss) (sym (append-nil others)) fits
+    round = subst (λ (ss : List (ActiveQueueCall T)). FitsAt blocks parts.cells q ss) (sym (append-nil others)) fits
 
-    pub came : (turn : Turn T W) (s : Stage (QueueCall T) T W) (r : Option (Reply T)) → IsTaken turn r s → Came turn blocks parts q others s r
+    pub came : (turn : NextStep T W) (s : Stage (QueueCall T) T W) (r : Option (Reply T)) → IsTaken turn r s → Came turn blocks parts q others s r
     came (Tries x aim) s r (call, starts, none, e) =
         record {
           inner = asked x;
@@ -49,7 +49,7 @@ module _ {T W : Type 0} where
         let mine : ActiveCallWitness T W = record { party = record { id = p; call = call }; inner = k.inner; ask = ask; seen = s.now ∷ []; marks = []; told = []; made = 0 } in
         let all : List (ActiveCallWitness T W) = sh.witnesses ++ (mine ∷ []) in
         let seats_are : all_seats all ≡ all_seats sh.witnesses ++ (seats k.inner call.stage ++ []) = seats_append sh.witnesses (mine ∷ []) in
-        let fits : FitsAt s.blocks parts.cells sh.queue (all_seats all) = subst (λ (ss : List (Seat T)). FitsAt s.blocks parts.cells sh.queue ss) (sym seats_are) k.fits in
+        let fits : FitsAt s.blocks parts.cells sh.queue (all_seats all) = subst (λ (ss : List (ActiveQueueCall T)). FitsAt s.blocks parts.cells sh.queue ss) (sym seats_are) k.fits in
         let t : Configuration T W = record { now = s.now; blocks = s.blocks; under_way = s.under_way ++ (active_call_of mine ∷ []); gone = s.gone; came = s.came } in
         record {
           after = t;

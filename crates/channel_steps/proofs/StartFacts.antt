@@ -1,7 +1,7 @@
 -- A channel that was just opened, and the number of calls under way.
 use Rattle.std.proofs.Common.{◌≡◌, ℕ, ◌==◌, Bool, true, false, List, [], ◌∷◌, map, length, refl, sym, ap, ◌∙◌, arith}
 use Rattle.std.proofs.lemmas.Bool.Decides.{nat_tests}
-use Rattle.channel_steps.proofs.Words.{QueueForm, Bounded, Unbounded, channel, Parts, Roster, capacity_of, IsNew, opened, new_roster, Party, new_configuration, Configuration, ActiveCallWitness, active_call_of, Represents, MayHave, IsQuietOrNot, EachConfigurationTellsQuiet}
+use Rattle.channel_steps.proofs.Words.{QueueForm, Bounded, Unbounded, channel, Parts, WaitLists, capacity_of, IsNew, opened, new_roster, Party, new_configuration, Configuration, ActiveCallWitness, active_call_of, Represents, MayHave, IsQuietOrNot, EachConfigurationTellsQuiet}
 
 long_as : {A B : Type 0} (g : A → B) (xs : List A) → length (map g xs) ≡ length xs
 long_as g [] = refl
@@ -23,7 +23,7 @@ module _ {T W : Type 0} where
         queue = opened (capacity_of form);
         parties_are = none;
         under_way = refl;
-        now = sym (ap (λ (a : Roster W). channel (opened (capacity_of form)) (record { cells = parts.cells; roster = a })) roster);
+        now = sym (ap (λ (a : WaitLists W). channel (opened (capacity_of form)) (record { cells = parts.cells; roster = a })) roster);
         fits = new.1;
         bare = none_at_first parts.cells.form;
         known = tt;

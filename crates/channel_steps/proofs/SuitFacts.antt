@@ -1,9 +1,9 @@
 -- What a call of the queue is that is made for a call of the channel: one table, from which all else is read off.
 use Rattle.std.proofs.Common.{◌≡◌, List, ◌∷◌, [], inr, refl, sym, ap, ◌∙◌, subst}
-use Rattle.channel_steps.proofs.Words.{message, QueueAsk, Channel, ChannelAsk, Aim, Sends, Receives, Streams, Closings, Side, Senders, Receivers, MarkedMoment, LeftLast, IsQuick, TriesFor, brought}
+use Rattle.channel_steps.proofs.Words.{message, QueueAsk, Channel, ChannelAsk, Purpose, Sends, Receives, Streams, Closings, Side, Senders, Receivers, MarkedMoment, LeftLast, IsQuick, TriesFor, brought}
 use Rattle.concurrent_queue.specs.declared.call.QueueAsk.TheVariants as ask
 use Rattle.channel_calls.specs.declared.ask.ChannelAsk.TheVariants as channel
-use Rattle.channel_calls.specs.declared.stage.Aim.TheVariants as aim
+use Rattle.channel_calls.specs.declared.stage.Purpose.TheVariants as aim
 use Rattle.channel_calls.specs.declared.stage.Closer.TheVariants as closer
 use Rattle.channel_steps.specs.every_run.Streams.{IsSending}
 
@@ -44,19 +44,19 @@ module _ {T W : Type 0} where
   Takes x = ⊥
 
   -- a close, or what is left of a drop of the last handle
-  abbrev pub IsClose : Aim T W → Type 0
+  abbrev pub IsClose : Purpose T W → Type 0
   IsClose (aim.Close c) = Unit {0}
   IsClose y = ⊥
 
   -- what a quick call asks it for
-  abbrev pub IsQuickAim : Aim T W → QueueAsk T → Type 0
+  abbrev pub IsQuickAim : Purpose T W → QueueAsk T → Type 0
   IsQuickAim (aim.Close c) ask.Close = Unit {0}
   IsQuickAim aim.IsTerminated ask.IsClosed = Unit {0}
   IsQuickAim aim.Ask a = Unit {0}
   IsQuickAim y a = ⊥
 
   -- a push is a sending call's, a pop one that takes, and a close a closing one's
-  abbrev Fits : ChannelAsk T W → Aim T W → QueueAsk T → Type 0
+  abbrev Fits : ChannelAsk T W → Purpose T W → QueueAsk T → Type 0
   Fits x y (ask.Push v) = IsSending x
   Fits x y (ask.ForcePush v) = IsSending x × Takes x
   Fits x y ask.Pop = Takes x
@@ -65,7 +65,7 @@ module _ {T W : Type 0} where
 
   -- It brings the message of its call, and fits it; it is quick where that one is; and at a new moment it is made for it still, where a
   -- closing one has the same marks.
-  abbrev Suits : ChannelAsk T W → Aim T W → QueueAsk T → List (MarkedMoment T W) → List (Channel T W) → Type 0
+  abbrev Suits : ChannelAsk T W → Purpose T W → QueueAsk T → List (MarkedMoment T W) → List (Channel T W) → Type 0
   Suits x y a ds seen =
       (message a ≡ brought x) × Fits x y a × (IsQuick x → IsQuickTry a × IsQuickAim y a)
       × ((c : Channel T W) (es : List (MarkedMoment T W)) → (IsClosing a → es ≡ ds) → TriesFor x y a es (c ∷ seen))
@@ -75,7 +75,7 @@ module _ {T W : Type 0} where
       subst (λ (xs : List (MarkedMoment T W)). LeftLast side xs (c ∷ seen)) (sym e) (h.0, h.1, c ∷ h.2, ap (λ (cs : List (Channel T W)). c ∷ cs) h.3)
   last_left side c x es seen e h = absurd h
 
-  suits : (x : ChannelAsk T W) (y : Aim T W) (a : QueueAsk T) (ds : List (MarkedMoment T W)) (seen : List (Channel T W)) → TriesFor x y a ds seen → Suits x y a ds seen
+  suits : (x : ChannelAsk T W) (y : Purpose T W) (a : QueueAsk T) (ds : List (MarkedMoment T W)) (seen : List (Channel T W)) → TriesFor x y a ds seen → Suits x y a ds seen
   suits (channel.TrySend m) aim.TrySend (ask.Push v) ds seen h = (ap (λ (z : T). z ∷ []) h, tt, λ q. absurd q, λ c es e. h)
   suits (channel.ForceSend m) aim.ForceSend (ask.ForcePush v) ds seen h = (ap (λ (z : T). z ∷ []) h, (tt, tt), λ q. absurd q, λ c es e. h)
   suits channel.TryRecv aim.TryRecv ask.Pop ds seen h = (refl, tt, λ q. absurd q, λ c es e. h)
@@ -97,7 +97,7 @@ module _ {T W : Type 0} where
   suits channel.IsTerminated aim.Ask ask.IsEmpty ds seen h = (refl, tt, λ q. (tt, tt), λ c es e. inr h)
   suits x y a ds seen h = absurd h
 
-  module _ (x : ChannelAsk T W) (y : Aim T W) (ds : List (MarkedMoment T W)) (seen : List (Channel T W)) where
+  module _ (x : ChannelAsk T W) (y : Purpose T W) (ds : List (MarkedMoment T W)) (seen : List (Channel T W)) where
     pub brings_own : (a : QueueAsk T) → TriesFor x y a ds seen → message a ≡ brought x
     brings_own a h = let k = suits x y a ds seen h in k.0
 

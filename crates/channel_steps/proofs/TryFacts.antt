@@ -1,10 +1,10 @@
 -- A step of the queue's call that goes on, and what is known of the channel's call after it.
 use Rattle.std.proofs.Common.{append_assoc, ◌≡◌, ℕ, zero, suc, ◌+◌, ◌≤◌, ◌==◌, Bool, true, false, if◌then◌else◌, List, [], ◌∷◌, ◌++◌, length, drop, Option, None, Some, ◌⊎◌, ⊎_elim, inl, inr, refl, sym, ap, ◌∙◌, subst, arith, length-append}
 use Rattle.std.proofs.lemmas.Bool.Decides.{nat_tests}
-use Rattle.channel_steps.proofs.Words.{Queue, trying, displaced, appended, taken, read, measured, is_full_at, message, ContinuesBy, QueueAsk, QueueMark, Nothing, Append, Take, TakeDisplaced, Replace, Close, mark_of_queue, Channel, Aim, Mark, is_filled, IsOldest, marked, is_displaced, may_refuse_at, seen_after, MarkedMoment, with_marked, Open, HasRoom, Crowded, Refuses, HasMessage, Once, MadeRoom, Displaced, TryAt, HasTaken, AreBehind, TriesAt, IsBalanced}
+use Rattle.channel_steps.proofs.Words.{Queue, trying, displaced, appended, taken, read, measured, is_full_at, message, ContinuesBy, QueueAsk, QueueMark, Nothing, Append, Take, TakeDisplaced, Replace, Close, mark_of_queue, Channel, Purpose, Mark, is_filled, IsOldest, marked, is_displaced, may_refuse_at, seen_after, MarkedMoment, with_marked, Open, HasRoom, Crowded, Refuses, HasMessage, Once, MadeRoom, Displaced, TryAt, HasTaken, AreBehind, TriesAt, IsBalanced}
 use Rattle.concurrent_queue.specs.Queue as queue
 use Rattle.concurrent_queue.specs.declared.call.QueueAsk.TheVariants as ask
-use Rattle.channel_calls.specs.declared.stage.Aim.TheVariants as aim
+use Rattle.channel_calls.specs.declared.stage.Purpose.TheVariants as aim
 use Rattle.channel_steps.specs.Moments.{Unbounded}
 use Rattle.channel_steps.proofs.QueueFacts.{Says, one_fewer}
 use Rattle.channel_calls.specs.declared.mark.Mark.TheVariants as mark
@@ -171,7 +171,7 @@ module _ {T W : Type 0} where
         behind = behind_next ds m c seen d t.behind;
       }
 
-  pub goes_at : (c : Channel T W) (seen : List (Channel T W)) (y : Aim T W) (a : QueueAsk T) (m : QueueMark) (s t : queue.Stage T) (ds : List (MarkedMoment T W))
+  pub goes_at : (c : Channel T W) (seen : List (Channel T W)) (y : Purpose T W) (a : QueueAsk T) (m : QueueMark) (s t : queue.Stage T) (ds : List (MarkedMoment T W))
       → ContinuesBy c.queue a m s t → IsBalanced c.queue → TriesAt c y a s ds seen
       → TriesAt (next_channel a s m c) y a t (with_marked ds (mark_of_queue m) c seen) (next_channel a s m c ∷ seen)
   goes_at c seen (aim.RecvMany r) a m s t ds g h ev =
@@ -214,7 +214,7 @@ module _ {T W : Type 0} where
     try_stays ask.Capacity (trying b) ds ev = ev
     try_stays a s ds ev = absurd ev
 
-    pub tries_stay : (y : Aim T W) (a : QueueAsk T) (s : queue.Stage T) (ds : List (MarkedMoment T W)) → TriesAt c y a s ds seen → TriesAt c' y a s ds (c' ∷ seen)
+    pub tries_stay : (y : Purpose T W) (a : QueueAsk T) (s : queue.Stage T) (ds : List (MarkedMoment T W)) → TriesAt c y a s ds seen → TriesAt c' y a s ds (c' ∷ seen)
     tries_stay (aim.RecvMany r) a s ds ev =
         let t = ev.1 in
         (ev.0, record { before = t.before; all = t.all; took = t.took; behind = behind_more ds seen c' t.behind }, try_stays a s ev.0 ev.2)

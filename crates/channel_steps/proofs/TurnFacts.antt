@@ -1,13 +1,13 @@
 -- What is known of a call once it has taken its turn.
 use Rattle.std.proofs.Common.{◌≡◌, true, false, List, [], ◌∷◌, ◌++◌, Option, None, Some, refl, sym, ap, ◌∙◌, subst, append-nil}
-use Rattle.channel_steps.proofs.Words.{Phase, trying, Channel, Turned, leaving, ends_by, again, ChannelAsk, Reply, Ending, Held, Kept, Stage, Finished, Turn, Tries, Works, Ends, Waiting, Leave, Key, MarkedMoment, Keeps, Row, Met, TriesFor, TriesAt, IsFor, Answered, WorkAt, StageAt, to_tell, ToldAt, Telling, owed}
+use Rattle.channel_steps.proofs.Words.{Phase, trying, Channel, Turned, leaving, ends_by, again, ChannelAsk, Reply, Ending, ListenerRef, Returned, Stage, Finished, NextStep, Tries, Works, Ends, Waiting, Leave, Key, MarkedMoment, Keeps, Row, Met, TriesFor, TriesAt, IsFor, Answered, WorkAt, StageAt, to_tell, ToldAt, Telling, owed}
 use Rattle.channel_calls.specs.declared.ask.ChannelAsk.TheVariants as channel
 use Rattle.channel_calls.specs.declared.stage.Waiting.TheVariants as waiting
 
 module _ {T W : Type 0} where
   module _ (c : Channel T W) (x : ChannelAsk T W) (told : List Telling) (ds : List (MarkedMoment T W)) (seen : List (Channel T W)) where
     -- what is known of a call that takes this turn
-    abbrev pub TurnAt : Turn T W → Type 0
+    abbrev pub TurnAt : NextStep T W → Type 0
     TurnAt (Tries a aim) = (TriesFor x aim a ds seen × TriesAt c aim a (trying false) ds seen) × (told ≡ [])
     TurnAt (Works w) = WorkAt x w ds seen × (told ++ to_tell w ≡ owed ds)
     TurnAt (Ends y kept) = (Met x ds seen y × Keeps x y kept) × (told ++ [] ≡ owed ds)
@@ -15,9 +15,9 @@ module _ {T W : Type 0} where
     -- and of it at its stage, or at its end
     abbrev pub After : Option (Reply T) → Stage (Phase T) T W → Type 0
     After None s = StageAt c x s ds seen × ToldAt told s ds
-    After (Some y) s = (kept : Kept T) × (s ≡ Finished kept) × Met x ds seen y × Keeps x y kept × (told ≡ owed ds)
+    After (Some y) s = (kept : Returned T) × (s ≡ Finished kept) × Met x ds seen y × Keeps x y kept × (told ≡ owed ds)
 
-    pub turned_at : (turn : Turn T W) (r : Option (Reply T)) (s : Stage (Phase T) T W) → Turned turn r s → TurnAt turn → After r s
+    pub turned_at : (turn : NextStep T W) (r : Option (Reply T)) (s : Stage (Phase T) T W) → Turned turn r s → TurnAt turn → After r s
     turned_at (Tries a aim) None s h k =
         subst (λ (z : Stage (Phase T) T W). StageAt c x z ds seen × ToldAt told z ds) (sym h.1) k
     turned_at (Tries a aim) (Some y) s h k = absurd (let no : Some y ≡ None = h.0 in cc)
@@ -30,7 +30,7 @@ module _ {T W : Type 0} where
         let e : z ≡ y = cc in
         (kept, h.1, subst (λ (v : Reply T). Met x ds seen v) (sym e) k.0.0, subst (λ (v : Reply T). Keeps x v kept) (sym e) k.0.1, sym (append-nil told) ∙ k.1)
 
-    held_or_not : (e : Ending T) (o : Option Held) → Answered x e ds seen → told ++ [] ≡ owed ds
+    held_or_not : (e : Ending T) (o : Option ListenerRef) → Answered x e ds seen → told ++ [] ≡ owed ds
         → TurnAt (elim o [ None ↦ Ends e.reply (leaving None e.message) | Some held ↦ Works (Leave e) ])
     held_or_not e None h k = (h, k)
     held_or_not e (Some held) h k = (h, k)

@@ -3,7 +3,7 @@ pub use Rattle.channel_calls.specs.Answered.{answered_next, asked_next, closed_n
 pub use Rattle.channel_calls.specs.Asks.{asks_listener, first, kept_by}
 pub use Rattle.channel_calls.specs.Marks.{down, mark_of_queue, up}
 pub use Rattle.channel_calls.specs.Moves.{Channel, Effect, Hastens, IsChannelStep, IsNewCall, IsStepOver, IsTaken, Made, Moves, OnePlace, TakesRoomFor, Tried, Turned, Worked, channel, leaves, on_count, phase, seats, untouched}
-pub use Rattle.channel_calls.specs.Parts.{Listeners, Parts, Roster, count, is_raised, listeners, new_roster, told_one_wakes, waits, with_listeners}
+pub use Rattle.channel_calls.specs.Parts.{Listeners, Parts, WaitLists, count, is_raised, listeners, new_roster, told_one_wakes, waits, with_listeners}
 pub use Rattle.channel_calls.specs.Several.{Gathered, with_last}
 pub use Rattle.channel_calls.specs.Turns.{again, closer_ending, counted_next, dropper, ends_by, leaving, line_of, loaded_next, lowered_next, most, nothing_kept, pends_by, raised_next, refused_next, room_next, roomless, told_all_next, unlistened}
 pub use Rattle.channel_calls.specs.declared.ask.ChannelAsk.{ChannelAsk}
@@ -12,23 +12,23 @@ pub use Rattle.channel_calls.specs.declared.call.ChannelCall.{ChannelCall}
 pub use Rattle.channel_calls.specs.declared.error.TryRecvError.{TryRecvError}
 pub use Rattle.channel_calls.specs.declared.mark.Mark.{Mark}
 pub use Rattle.channel_calls.specs.declared.reply.Reply.{Reply}
-pub use Rattle.channel_calls.specs.declared.stage.Aim.{Aim}
+pub use Rattle.channel_calls.specs.declared.stage.Purpose.{Purpose}
 pub use Rattle.channel_calls.specs.declared.stage.Closer.{Closer}
 pub use Rattle.channel_calls.specs.declared.stage.Ending.{Ending}
-pub use Rattle.channel_calls.specs.declared.stage.Held.{Held}
-pub use Rattle.channel_calls.specs.declared.stage.Kept.{Kept}
-pub use Rattle.channel_calls.specs.declared.stage.Line.{Line}
-pub use Rattle.channel_calls.specs.declared.stage.Line.TheVariants.{Closings, Receives, Sends, Streams}
+pub use Rattle.channel_calls.specs.declared.stage.ListenerRef.{ListenerRef}
+pub use Rattle.channel_calls.specs.declared.stage.Returned.{Returned}
+pub use Rattle.channel_calls.specs.declared.stage.WaitList.{WaitList}
+pub use Rattle.channel_calls.specs.declared.stage.WaitList.TheVariants.{Closings, Receives, Sends, Streams}
 pub use Rattle.channel_calls.specs.declared.stage.Making.{Making}
 pub use Rattle.channel_calls.specs.declared.stage.Side.{Side}
 pub use Rattle.channel_calls.specs.declared.stage.Side.TheVariants.{Receivers, Senders}
 pub use Rattle.channel_calls.specs.declared.stage.Stage.{Stage}
 pub use Rattle.channel_calls.specs.declared.stage.Stage.TheVariants.{Finished, Trying, Working}
-pub use Rattle.channel_calls.specs.declared.stage.Turn.{Turn}
-pub use Rattle.channel_calls.specs.declared.stage.Turn.TheVariants.{Ends, Tries, Works}
+pub use Rattle.channel_calls.specs.declared.stage.NextStep.{NextStep}
+pub use Rattle.channel_calls.specs.declared.stage.NextStep.TheVariants.{Ends, Tries, Works}
 pub use Rattle.channel_calls.specs.declared.stage.Waiting.{Waiting}
-pub use Rattle.channel_calls.specs.declared.stage.Work.{Work}
-pub use Rattle.channel_calls.specs.declared.stage.Work.TheVariants.{Count, Insert, Leave, Load, Lower, Raise, Register, TakeRoom, TellAll, TellReceive, TellSend, TellSends, TellStreams}
+pub use Rattle.channel_calls.specs.declared.stage.ListStep.{ListStep}
+pub use Rattle.channel_calls.specs.declared.stage.ListStep.TheVariants.{Count, Insert, Leave, Load, Lower, Raise, Register, TakeRoom, TellAll, TellReceive, TellSend, TellSends, TellStreams}
 pub use Rattle.channel_steps.specs.Answers.{Keeps, Met, Row, SeveralRow, WaitsFor, asks_first}
 pub use Rattle.channel_steps.specs.Count.{brought_in, counted, taken_out}
 pub use Rattle.channel_steps.specs.Known.{Answered, AreBehind, HasTaken, IsDropOf, IsFor, IsQuick, Makes, MayRaise, StageAt, ToldAt, TriesAt, TriesFor, TryAt, WorkAt, all_from, left_to_tell, left_to_try, quick_left_to_work, quick_steps_left, to_tell}
@@ -45,7 +45,7 @@ pub use Rattle.concurrent_queue.specs.Capacity.{capacity_of}
 pub use Rattle.concurrent_queue.specs.Contents.{Contents}
 pub use Rattle.concurrent_queue.specs.Made.{IsNew}
 pub use Rattle.concurrent_queue.specs.Queue.{Answers, AnswersCapacity, AnswersClose, AnswersEmpty, AnswersForce, AnswersFull, AnswersLen, AnswersPop, AnswersPush, AnswersShut, AnswersTo, Continues, ContinuesBy, ContinuesForce, ContinuesPop, ContinuesPush, IsInRange, IsOldest, IsOpen, Phase, Queue, after, appended, asked, displaced, is_displaced, is_filled, is_full_at, marked, may_refuse_at, measured, message, opened, read, seen_after, taken, trying}
-pub use Rattle.concurrent_queue.specs.Step.{AllQuiet, Fits, FitsForm, IsQuiet, PhasesQuiet, Seat, chain_after, phases}
+pub use Rattle.concurrent_queue.specs.Step.{AllQuiet, Fits, FitsForm, IsQuiet, PhasesQuiet, ActiveQueueCall, chain_after, phases}
 pub use Rattle.concurrent_queue.specs.declared.call.QueueAsk.{QueueAsk}
 pub use Rattle.concurrent_queue.specs.declared.call.QueueMark.{QueueMark}
 pub use Rattle.concurrent_queue.specs.declared.call.QueueMark.TheVariants.{Append, Close, Nothing, Replace, Take, TakeDisplaced}

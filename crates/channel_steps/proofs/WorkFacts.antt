@@ -1,13 +1,13 @@
 -- A step on a list or on a count, and what is known of the call after it.
 use Rattle.std.proofs.Common.{zero, suc, ◌≡◌, ℕ, ◌+◌, ◌<◌, ◌≤◌, ◌==◌, ◌&&◌, nat_lt, ◌^◌, ◌-◌, Bool, true, false, if◌then◌else◌, List, [], ◌∷◌, ◌++◌, Option, None, Some, inl, inr, refl, sym, ap, ◌∙◌, subst, arith, append-nil, append_assoc}
 use Rattle.std.proofs.lemmas.Bool.Decides.{nat_tests}
-use Rattle.channel_steps.proofs.Words.{Phase, Key, up, down, Channel, Effect, untouched, on_count, leaves, Turned, Worked, Roster, listeners, count, is_raised, waits, most, line_of, leaving, nothing_kept, closer_ending, dropper, ends_by, again, pends_by, unlistened, told_all_next, room_next, roomless, lowered_next, counted_next, loaded_next, raised_next, ChannelAsk, Mark, Reply, Closer, Ending, Held, Kept, Line, Sends, Receives, Streams, Closings, Making, Side, Senders, Receivers, Stage, Working, Turn, Tries, Works, Ends, Waiting, Work, TellReceive, TellStreams, TellSend, TellSends, TakeRoom, TellAll, Insert, Register, Leave, Lower, Count, Load, Raise, ListenError, TakesRoomFor, MarkedMoment, with_marked, Open, Once, TookAll, WaitsFor, asks_first, AreBehind, IsFor, Makes, IsDropOf, MayRaise, Answered, WorkAt, to_tell, Telling, one_of, more_of, all_of, owed, telling}
+use Rattle.channel_steps.proofs.Words.{Phase, Key, up, down, Channel, Effect, untouched, on_count, leaves, Turned, Worked, WaitLists, listeners, count, is_raised, waits, most, line_of, leaving, nothing_kept, closer_ending, dropper, ends_by, again, pends_by, unlistened, told_all_next, room_next, roomless, lowered_next, counted_next, loaded_next, raised_next, ChannelAsk, Mark, Reply, Closer, Ending, ListenerRef, Returned, WaitList, Sends, Receives, Streams, Closings, Making, Side, Senders, Receivers, Stage, Working, NextStep, Tries, Works, Ends, Waiting, ListStep, TellReceive, TellStreams, TellSend, TellSends, TakeRoom, TellAll, Insert, Register, Leave, Lower, Count, Load, Raise, ListenError, TakesRoomFor, MarkedMoment, with_marked, Open, Once, TookAll, WaitsFor, asks_first, AreBehind, IsFor, Makes, IsDropOf, MayRaise, Answered, WorkAt, to_tell, Telling, one_of, more_of, all_of, owed, telling}
 use Rattle.concurrent_queue.specs.declared.call.QueueAsk.TheVariants as ask
 use Rattle.event_listener.specs.declared.error.ListenError.TheVariants as listen_error
 use Rattle.channel_calls.specs.declared.ask.ChannelAsk.TheVariants as channel
 use Rattle.channel_calls.specs.declared.mark.Mark.TheVariants.{Nothing}
 use Rattle.channel_calls.specs.declared.reply.Reply.TheVariants as reply
-use Rattle.channel_calls.specs.declared.stage.Aim.TheVariants as aim
+use Rattle.channel_calls.specs.declared.stage.Purpose.TheVariants as aim
 use Rattle.channel_calls.specs.declared.stage.Making.TheVariants as making
 use Rattle.channel_calls.specs.declared.stage.Waiting.TheVariants as waiting
 use Rattle.channel_steps.proofs.TryFacts.{eq_of, open_once}
@@ -29,7 +29,7 @@ not_one : (n : ℕ) → (n == 1) ≡ false → n ≡ 1 → ⊥
 not_one n e h = absurd (grind (arith, nat_tests))
 
 module _ {T W : Type 0} where
-  waits_more : (line : Line) (c : Channel T W) (seen : List (Channel T W)) → WaitsFor line seen → WaitsFor line (c ∷ seen)
+  waits_more : (line : WaitList) (c : Channel T W) (seen : List (Channel T W)) → WaitsFor line seen → WaitsFor line (c ∷ seen)
   waits_more Streams c seen h = tt
   waits_more w c seen h = inr h
 
@@ -41,7 +41,7 @@ module _ {T W : Type 0} where
   pub answered_more : (x : ChannelAsk T W) (e : Ending T) (c : Channel T W) (ds : List (MarkedMoment T W)) (seen : List (Channel T W)) → Answered x e ds seen → Answered x e ds (c ∷ seen)
   answered_more x e c ds seen h = (met_more c x ds seen e.reply h.0, h.1)
 
-  pub work_more : (x : ChannelAsk T W) (w : Work T W) (c : Channel T W) (ds : List (MarkedMoment T W)) (seen : List (Channel T W)) → WorkAt x w ds seen → WorkAt x w ds (c ∷ seen)
+  pub work_more : (x : ChannelAsk T W) (w : ListStep T W) (c : Channel T W) (ds : List (MarkedMoment T W)) (seen : List (Channel T W)) → WorkAt x w ds seen → WorkAt x w ds (c ∷ seen)
   work_more x (TellReceive e) c ds seen h = answered_more x e c ds seen h
   work_more x (TellStreams e) c ds seen h = answered_more x e c ds seen h
   work_more x (TellSend e) c ds seen h = answered_more x e c ds seen h
@@ -59,8 +59,8 @@ module _ {T W : Type 0} where
 
     -- it was not let listen
     not_listening : (x : ChannelAsk T W) (w : Waiting T) (error : ListenError) → IsFor x w → ds ≡ [] → WaitsFor (line_of w) (d ∷ seen) → TurnAt d x [] ds (d ∷ seen) (unlistened w error)
-    not_listening (channel.PollSend m k t) (waiting.Send v) listen_error.NoMemory h e n = ((([], d ∷ seen, refl, (e, open_once (Some 0) (d ∷ seen) n)), ap (λ (z : T). let kept : Kept T = leaving None (Some z) in kept) h), owes_nothing ds e)
-    not_listening (channel.PollSend m k t) (waiting.Send v) listen_error.SerialsUsedUp h e n = ((([], d ∷ seen, refl, (e, n)), ap (λ (z : T). let kept : Kept T = leaving None (Some z) in kept) h), owes_nothing ds e)
+    not_listening (channel.PollSend m k t) (waiting.Send v) listen_error.NoMemory h e n = ((([], d ∷ seen, refl, (e, open_once (Some 0) (d ∷ seen) n)), ap (λ (z : T). let kept : Returned T = leaving None (Some z) in kept) h), owes_nothing ds e)
+    not_listening (channel.PollSend m k t) (waiting.Send v) listen_error.SerialsUsedUp h e n = ((([], d ∷ seen, refl, (e, n)), ap (λ (z : T). let kept : Returned T = leaving None (Some z) in kept) h), owes_nothing ds e)
     not_listening (channel.PollRecv k t) waiting.Receive listen_error.NoMemory h e n = ((([], d ∷ seen, refl, (e, n)), refl), owes_nothing ds e)
     not_listening (channel.PollRecv k t) waiting.Receive listen_error.SerialsUsedUp h e n = ((([], d ∷ seen, refl, (e, n)), refl), owes_nothing ds e)
     not_listening (channel.PollNext k t) waiting.Stream error h e n = ((([], d ∷ seen, refl, e), refl), owes_nothing ds e)
@@ -97,7 +97,7 @@ module _ {T W : Type 0} where
 
     same_roster : (P : ℕ → Type 0) (side s : Side) → side ≡ s → d.roster ≡ c.roster → P (count side c.roster) → P (count s d.roster)
     same_roster P side s e f h =
-        subst (λ (z : Side). P (count z d.roster)) e (subst (λ (a : Roster W). P (count side a)) (sym f) h)
+        subst (λ (z : Side). P (count z d.roster)) e (subst (λ (a : WaitLists W). P (count side a)) (sym f) h)
 
     cloned_at : (ds : List (MarkedMoment T W)) (s side : Side) (b : Bool) → nat_lt most (count side c.roster) ≡ b → side ≡ s → d.roster ≡ c.roster → ds ≡ []
         → TurnAt d (channel.CloneHandle s) [] ds (d ∷ seen) (if b then Ends reply.TooMany nothing_kept else Works (Raise side (count side c.roster) making.Clone))
@@ -148,14 +148,14 @@ module _ {T W : Type 0} where
     AfterWork ts e r s = After e.channel x (told ++ ts) (with_marked ds e.mark c seen) (e.channel ∷ seen) r s
 
     -- a step that told somebody
-    telling_step : (ts : List Telling) (e : Effect T W) (r : Option (Reply T)) (s : Stage (Phase T) T W) (turn : Turn T W) → e.mark ≡ Nothing → Turned turn r s
+    telling_step : (ts : List Telling) (e : Effect T W) (r : Option (Reply T)) (s : Stage (Phase T) T W) (turn : NextStep T W) → e.mark ≡ Nothing → Turned turn r s
         → TurnAt e.channel x (told ++ ts) ds (e.channel ∷ seen) turn → AfterWork ts e r s
     telling_step ts e r s turn m t h =
         subst (λ (z : Mark). After e.channel x (told ++ ts) (with_marked ds z c seen) (e.channel ∷ seen) r s) (sym m)
         (turned_at e.channel x (told ++ ts) ds (e.channel ∷ seen) turn r s t h)
 
     -- a step of a call that has told nobody
-    first_step : (m : Mark) (e : Effect T W) (r : Option (Reply T)) (s : Stage (Phase T) T W) (turn : Turn T W) → e.mark ≡ m → told ≡ [] → Turned turn r s
+    first_step : (m : Mark) (e : Effect T W) (r : Option (Reply T)) (s : Stage (Phase T) T W) (turn : NextStep T W) → e.mark ≡ m → told ≡ [] → Turned turn r s
         → TurnAt e.channel x [] (with_marked ds m c seen) (e.channel ∷ seen) turn → AfterWork [] e r s
     first_step m e r s turn same none t h =
         subst (λ (z : Mark). After e.channel x (told ++ []) (with_marked ds z c seen) (e.channel ∷ seen) r s) (sym same)
@@ -168,15 +168,15 @@ module _ {T W : Type 0} where
     roster_is : (e f : Effect T W) → e ≡ f → e.channel.roster ≡ f.channel.roster
     roster_is e f h = ap (λ (z : Effect T W). z.channel.roster) h
 
-    left_mark : (o : Option Held) → (leaves o c).mark ≡ Nothing
+    left_mark : (o : Option ListenerRef) → (leaves o c).mark ≡ Nothing
     left_mark None = refl
     left_mark (Some h) = refl
 
     then_tell : (t : Telling) (ts : List Telling) → told ++ (t ∷ ts) ≡ owed ds → (told ++ t ∷ []) ++ ts ≡ owed ds
     then_tell t ts h = append_assoc told (t ∷ []) ts ∙ h
 
-    told_all : (line : Line) (closer : Closer) (e : Effect T W) (r : Option (Reply T)) (s : Stage (Phase T) T W) → e.mark ≡ Nothing → Turned (told_all_next line closer) r s
-        → Answered x (closer_ending closer true) ds seen → (let w : Work T W = TellAll line closer in told ++ to_tell w ≡ owed ds) → AfterWork (all_of line ∷ []) e r s
+    told_all : (line : WaitList) (closer : Closer) (e : Effect T W) (r : Option (Reply T)) (s : Stage (Phase T) T W) → e.mark ≡ Nothing → Turned (told_all_next line closer) r s
+        → Answered x (closer_ending closer true) ds seen → (let w : ListStep T W = TellAll line closer in told ++ to_tell w ≡ owed ds) → AfterWork (all_of line ∷ []) e r s
     told_all Sends closer e r s m t h k = telling_step _ e r s (Works (TellAll Receives closer)) m t (answered_more x (closer_ending closer true) e.channel ds seen h, then_tell _ _ k)
     told_all Receives closer e r s m t h k = telling_step _ e r s (Works (TellAll Streams closer)) m t (answered_more x (closer_ending closer true) e.channel ds seen h, then_tell _ _ k)
     told_all Streams closer e r s m t h k = telling_step _ e r s (Works (TellAll Closings closer)) m t (answered_more x (closer_ending closer true) e.channel ds seen h, then_tell _ _ k)
@@ -195,7 +195,7 @@ module _ {T W : Type 0} where
         → TurnAt e.channel x [] ds (e.channel ∷ seen) (Ends (reply.Count (count side c.roster)) nothing_kept)
     counted side e f h k =
         subst (λ (y : ChannelAsk T W). TurnAt e.channel y [] ds (e.channel ∷ seen) (Ends (reply.Count (count side c.roster)) nothing_kept)) (sym h)
-        ((([], e.channel ∷ seen, refl, (k, inl (ap (λ (a : Roster W). count side a) f))), refl), owes_nothing ds k)
+        ((([], e.channel ∷ seen, refl, (k, inl (ap (λ (a : WaitLists W). count side a) f))), refl), owes_nothing ds k)
 
     raising : (side : Side) (n : ℕ) (m : Making) (b : Bool) (e : Effect T W) (r : Option (Reply T)) (s : Stage (Phase T) T W) → is_raised side n c.roster ≡ b
         → e ≡ (if b then on_count side (n + 1) (up side) c else untouched c) → Turned (raised_next side m b) r s → Makes x side m seen → ds ≡ [] → MayRaise m n → told ≡ [] → AfterWork [] e r s
@@ -219,7 +219,7 @@ module _ {T W : Type 0} where
         first_step Nothing e r s roomless m none t.1
         (subst (λ (y : ChannelAsk T W). TurnAt e.channel y [] ds (e.channel ∷ seen) roomless) (sym is) ((([], e.channel ∷ seen, refl, (k, t.0)), refl), owes_nothing ds k))
 
-    pub worked : (w : Work T W) (e : Effect T W) (r : Option (Reply T)) (s : Stage (Phase T) T W) → WorkAt x w ds seen → told ++ to_tell w ≡ owed ds → Worked c w e r s → AfterWork (telling (Working w)) e r s
+    pub worked : (w : ListStep T W) (e : Effect T W) (r : Option (Reply T)) (s : Stage (Phase T) T W) → WorkAt x w ds seen → told ++ to_tell w ≡ owed ds → Worked c w e r s → AfterWork (telling (Working w)) e r s
     worked (TellReceive y) e r s h k g =
         telling_step _ e r s (Works (TellStreams y)) (mark_is e _ g.0) g.1 (answered_more x y e.channel ds seen h, then_tell _ _ k)
     worked (TellStreams y) e r s h k g =

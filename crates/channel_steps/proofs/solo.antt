@@ -9,4 +9,4 @@ pub mod FirstFacts
 pub mod AloneFacts
 pub mod ConfigurationLoop
 pub mod AmpleFacts
-pub mod AheadFacts
+pub mod FastPathFacts

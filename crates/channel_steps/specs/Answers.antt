@@ -14,9 +14,9 @@ use Rattle.channel_calls.specs.declared.error.TrySendError.TheVariants as try_se
 use Rattle.channel_calls.specs.declared.error.TryRecvError.TheVariants as try_recv_error
 use Rattle.channel_calls.specs.declared.reply.Reply.{Reply}
 use Rattle.channel_calls.specs.declared.reply.Reply.TheVariants as reply
-use Rattle.channel_calls.specs.declared.stage.Kept.{Kept}
-use Rattle.channel_calls.specs.declared.stage.Line.{Line}
-use Rattle.channel_calls.specs.declared.stage.Line.TheVariants.{Sends, Receives, Streams, Closings}
+use Rattle.channel_calls.specs.declared.stage.Returned.{Returned}
+use Rattle.channel_calls.specs.declared.stage.WaitList.{WaitList}
+use Rattle.channel_calls.specs.declared.stage.WaitList.TheVariants.{Sends, Receives, Streams, Closings}
 use Rattle.channel_calls.specs.declared.stage.Side.{Side}
 use Rattle.channel_calls.specs.declared.stage.Side.TheVariants.{Senders, Receivers}
 use Rattle.channel_steps.specs.Moments.{MarkedMoment, Open, Shut, Crowded, Bare, Spent, Unbounded, is_empty, TooManyOf, Once, Since, Appended, Took, Replaced, Displaced, TookAll, RanOut, ClosedIt, CountRaised, Upgraded, Dropped}
@@ -24,7 +24,7 @@ use Rattle.channel_steps.specs.Moments.{MarkedMoment, Open, Shut, Crowded, Bare,
 module _ {T : Type 0} where
   -- what a finished poll leaves to its operation, whose message is m
   -- a pending one keeps its listener and its message; one that is refused for memory or serials its message alone
-  abbrev pub PollKeeps : Option T → Reply T → Kept T → Type 0
+  abbrev pub PollKeeps : Option T → Reply T → Returned T → Type 0
   PollKeeps m (reply.SendPoll Pending) k = IsSome k.key × (k.message ≡ m)
   PollKeeps m (reply.RecvPoll Pending) k = IsSome k.key × (k.message ≡ m)
   PollKeeps m (reply.ClosedPoll Pending) k = IsSome k.key × (k.message ≡ m)
@@ -35,7 +35,7 @@ module _ {T : Type 0} where
 
 module _ {T W : Type 0} where
   -- what an operation of this kind waits for did not hold at a moment of its poll; of a stream nothing is said
-  abbrev pub WaitsFor : Line → List (Channel T W) → Type 0
+  abbrev pub WaitsFor : WaitList → List (Channel T W) → Type 0
   WaitsFor Sends seen = Once Crowded seen
   WaitsFor Receives seen = Once Bare seen
   WaitsFor Streams seen = Unit {0}
@@ -178,7 +178,7 @@ module _ {T W : Type 0} where
 
   -- ---- what a finished call leaves to its operation
 
-  abbrev pub Keeps : ChannelAsk T W → Reply T → Kept T → Type 0
+  abbrev pub Keeps : ChannelAsk T W → Reply T → Returned T → Type 0
   Keeps (PollSend m l task) r k = PollKeeps (Some m) r k
   Keeps (PollRecv l task) r k = PollKeeps None r k
   Keeps (PollClosed key task) r k = PollKeeps None r k

@@ -3,7 +3,7 @@ use Rattle.std.specs.Prelude.{◌≡◌, ℕ, ◌+◌, ◌<◌, ◌≤◌, ◌�
 use Rattle.std.specs.List.{remove}
 use Rattle.concurrent_queue.specs.Queue.{Queue, Phase, IsInRange}
 use Rattle.concurrent_queue.specs.Contents.{Contents}
-use Rattle.concurrent_queue.specs.Step.{Seat, FitsAt, chain_after}
+use Rattle.concurrent_queue.specs.Step.{ActiveQueueCall, FitsAt, chain_after}
 use Rattle.concurrent_queue.specs.declared.cells.QueueForm.{QueueForm}
 use Rattle.concurrent_queue.specs.declared.cells.QueueForm.TheVariants.{Bounded, Unbounded}
 use Rattle.event_listener.specs.Notices.{Woken}
@@ -16,7 +16,7 @@ use Rattle.channel_calls.specs.declared.call.ChannelCall.{ChannelCall}
 use Rattle.channel_calls.specs.declared.mark.Mark.{Mark}
 use Rattle.channel_calls.specs.declared.mark.Mark.TheVariants.{Append, Take, TakeDisplaced, Replace}
 use Rattle.channel_calls.specs.declared.reply.Reply.{Reply}
-use Rattle.channel_calls.specs.declared.stage.Kept.{Kept}
+use Rattle.channel_calls.specs.declared.stage.Returned.{Returned}
 use Rattle.channel_calls.specs.declared.stage.Stage.{Stage}
 use Rattle.channel_calls.specs.declared.stage.Stage.TheVariants.{Finished}
 use Rattle.channel_steps.specs.Answers.{Met, Keeps}
@@ -107,8 +107,8 @@ module _ {T W : Type 0} where
 
   -- a call that ends with this reply: its marks and moments are what the reply says, all that its marks owe was told, and it
   -- leaves to its operation what it has to
-  pub record Finishes (u : ActiveCall T W) (r : Reply T) (left : Option (Kept T)) : Type 0 where
-    pub kept : Kept T
+  pub record Finishes (u : ActiveCall T W) (r : Reply T) (left : Option (Returned T)) : Type 0 where
+    pub kept : Returned T
     pub at_end : u.at ≡ Finished kept
     pub given : left ≡ Some kept
     pub met : Met u.ask u.marks u.seen r
@@ -116,7 +116,7 @@ module _ {T W : Type 0} where
     pub all_told : u.told ≡ owed u.marks
 
   -- a call that goes on gives nothing yet
-  abbrev pub MayFinish : ActiveCall T W → Option (Reply T) → Option (Kept T) → Type 0
+  abbrev pub MayFinish : ActiveCall T W → Option (Reply T) → Option (Returned T) → Type 0
   MayFinish u None left = left ≡ None
   MayFinish u (Some r) left = Finishes u r left
 
@@ -195,10 +195,10 @@ module _ {T W : Type 0} where
         made = x.made;
       }
 
-  abbrev pub seats_of : ActiveCallWitness T W → List (Seat T)
+  abbrev pub seats_of : ActiveCallWitness T W → List (ActiveQueueCall T)
   seats_of x = seats x.inner x.party.call.stage
 
-  abbrev pub all_seats : List (ActiveCallWitness T W) → List (Seat T)
+  abbrev pub all_seats : List (ActiveCallWitness T W) → List (ActiveQueueCall T)
   all_seats [] = []
   all_seats (x ∷ xs) = seats_of x ++ all_seats xs
 
@@ -227,10 +227,10 @@ module _ {T W : Type 0} where
   parties_after parties k q (Some r) = remove parties k
 
   -- what the call of the k-th party leaves to its operation
-  abbrev pub IsLeftBy : List (Party T W) → ℕ → Kept T → Type 0
+  abbrev pub IsLeftBy : List (Party T W) → ℕ → Returned T → Type 0
   IsLeftBy parties k kept = (p : Party T W) → slice_get parties k ≡ Some p → kept ≡ kept_by p.call.stage
 
-  abbrev pub left_by : Party T W → Option (Reply T) → Option (Kept T)
+  abbrev pub left_by : Party T W → Option (Reply T) → Option (Returned T)
   left_by p None = None
   left_by p (Some r) = Some (kept_by p.call.stage)
 

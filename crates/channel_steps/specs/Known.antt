@@ -8,12 +8,12 @@ use Rattle.channel_calls.specs.Moves.{Channel}
 use Rattle.channel_calls.specs.Turns.{most, line_of, leaving, closer_ending}
 use Rattle.channel_calls.specs.declared.ask.ChannelAsk.{ChannelAsk}
 use Rattle.channel_calls.specs.declared.ask.ChannelAsk.TheVariants.{TrySend, ForceSend, TryRecv, RecvMany, Close, PollSend, PollFinishedSend, PollRecv, PollClosed, PollNext, RefusePoll, GiveUp, DropSender, DropReceiver, CloneHandle, Upgrade, HandleCount, IsClosed, IsEmpty, IsFull, Len, Capacity, IsTerminated, SendIsTerminated, SameChannel, Make, DropWeak}
-use Rattle.channel_calls.specs.declared.stage.Aim.{Aim}
-use Rattle.channel_calls.specs.declared.stage.Aim.TheVariants as aim
+use Rattle.channel_calls.specs.declared.stage.Purpose.{Purpose}
+use Rattle.channel_calls.specs.declared.stage.Purpose.TheVariants as aim
 use Rattle.channel_calls.specs.declared.stage.Closer.TheVariants as closer
 use Rattle.channel_calls.specs.declared.stage.Ending.{Ending}
-use Rattle.channel_calls.specs.declared.stage.Line.{Line}
-use Rattle.channel_calls.specs.declared.stage.Line.TheVariants.{Sends, Receives, Streams, Closings}
+use Rattle.channel_calls.specs.declared.stage.WaitList.{WaitList}
+use Rattle.channel_calls.specs.declared.stage.WaitList.TheVariants.{Sends, Receives, Streams, Closings}
 use Rattle.channel_calls.specs.declared.stage.Making.{Making}
 use Rattle.channel_calls.specs.declared.stage.Making.TheVariants as making
 use Rattle.channel_calls.specs.declared.stage.Side.{Side}
@@ -22,8 +22,8 @@ use Rattle.channel_calls.specs.declared.stage.Stage.{Stage}
 use Rattle.channel_calls.specs.declared.stage.Stage.TheVariants.{Trying, Working, Finished}
 use Rattle.channel_calls.specs.declared.stage.Waiting.{Waiting}
 use Rattle.channel_calls.specs.declared.stage.Waiting.TheVariants as waiting
-use Rattle.channel_calls.specs.declared.stage.Work.{Work}
-use Rattle.channel_calls.specs.declared.stage.Work.TheVariants.{TellReceive, TellStreams, TellSend, TellSends, TakeRoom, TellAll, Insert, Register, Leave, Lower, Count, Load, Raise}
+use Rattle.channel_calls.specs.declared.stage.ListStep.{ListStep}
+use Rattle.channel_calls.specs.declared.stage.ListStep.TheVariants.{TellReceive, TellStreams, TellSend, TellSends, TakeRoom, TellAll, Insert, Register, Leave, Lower, Count, Load, Raise}
 use Rattle.channel_steps.specs.Moments.{MarkedMoment, Open, Shut, HasRoom, Refuses, HasMessage, Once, Appended, Took, TookAll, Replaced, MadeRoom, Displaced, LeftLast}
 use Rattle.channel_steps.specs.Answers.{WaitsFor, asks_first, Keeps, Met}
 use Rattle.channel_steps.specs.Tellings.{Telling, one_of, more_of, all_of, owed}
@@ -34,14 +34,14 @@ MayRaise making.Clone n = n ≤ most
 MayRaise making.Upgrade n = (0 < n) × (n ≤ most)
 
 -- a closing tells all of this list and of those after it
-abbrev pub all_from : Line → List Telling
+abbrev pub all_from : WaitList → List Telling
 all_from Sends = all_of Sends ∷ all_of Receives ∷ all_of Streams ∷ all_of Closings ∷ []
 all_from Receives = all_of Receives ∷ all_of Streams ∷ all_of Closings ∷ []
 all_from Streams = all_of Streams ∷ all_of Closings ∷ []
 all_from Closings = all_of Closings ∷ []
 
 -- and so it has these steps left, with one to drop its listener
-abbrev pub left_to_tell : Line → ℕ
+abbrev pub left_to_tell : WaitList → ℕ
 left_to_tell Sends = 5
 left_to_tell Receives = 4
 left_to_tell Streams = 3
@@ -62,7 +62,7 @@ module _ {T W : Type 0} where
   -- ---- while the queue has the next step
 
   -- the queue's call is one of this call, made for this
-  abbrev pub TriesFor : ChannelAsk T W → Aim T W → QueueAsk T → List (MarkedMoment T W) → List (Channel T W) → Type 0
+  abbrev pub TriesFor : ChannelAsk T W → Purpose T W → QueueAsk T → List (MarkedMoment T W) → List (Channel T W) → Type 0
   TriesFor (TrySend m) aim.TrySend (ask.Push v) ds seen = v ≡ m
   TriesFor (ForceSend m) aim.ForceSend (ask.ForcePush v) ds seen = v ≡ m
   TriesFor TryRecv aim.TryRecv ask.Pop ds seen = Unit {0}
@@ -118,7 +118,7 @@ module _ {T W : Type 0} where
     pub took : TookAll before taken
     pub behind : AreBehind ds seen
 
-  abbrev pub TriesAt : Channel T W → Aim T W → QueueAsk T → queue.Stage T → List (MarkedMoment T W) → List (Channel T W) → Type 0
+  abbrev pub TriesAt : Channel T W → Purpose T W → QueueAsk T → queue.Stage T → List (MarkedMoment T W) → List (Channel T W) → Type 0
   TriesAt now (aim.RecvMany g) a s ds seen = (mine : List (MarkedMoment T W)) × HasTaken g.taken ds mine seen × TryAt now a s mine seen
   TriesAt now _ a s ds seen = TryAt now a s ds seen
 
@@ -148,7 +148,7 @@ module _ {T W : Type 0} where
   abbrev pub Answered : ChannelAsk T W → Ending T → List (MarkedMoment T W) → List (Channel T W) → Type 0
   Answered ask x ds seen = Met ask ds seen x.reply × Keeps ask x.reply (leaving None x.message)
 
-  abbrev pub WorkAt : ChannelAsk T W → Work T W → List (MarkedMoment T W) → List (Channel T W) → Type 0
+  abbrev pub WorkAt : ChannelAsk T W → ListStep T W → List (MarkedMoment T W) → List (Channel T W) → Type 0
   WorkAt ask (TellReceive x) ds seen = Answered ask x ds seen
   WorkAt ask (TellStreams x) ds seen = Answered ask x ds seen
   WorkAt ask (TellSend x) ds seen = Answered ask x ds seen
@@ -171,7 +171,7 @@ module _ {T W : Type 0} where
 
   -- ---- what is left to be told
 
-  abbrev pub to_tell : Work T W → List Telling
+  abbrev pub to_tell : ListStep T W → List Telling
   to_tell (TellReceive x) = one_of Receives ∷ all_of Streams ∷ []
   to_tell (TellStreams x) = all_of Streams ∷ []
   to_tell (TellSend x) = one_of Sends ∷ []
@@ -207,7 +207,7 @@ module _ {T W : Type 0} where
   IsQuick Make = Unit {0}
   IsQuick ask = ⊥
 
-  abbrev pub quick_left_to_work : Work T W → ℕ
+  abbrev pub quick_left_to_work : ListStep T W → ℕ
   quick_left_to_work (TellReceive x) = 3
   quick_left_to_work (TellStreams x) = 2
   quick_left_to_work (TellSend x) = 2

@@ -3,16 +3,16 @@ use Rattle.std.specs.Prelude.{ℕ, ◌+◌, ◌*◌, if◌then◌else◌, List, 
 use Rattle.concurrent_queue.specs.Contents.{Contents}
 use Rattle.concurrent_queue.specs.Step.{rank}
 use Rattle.concurrent_queue.specs.declared.queue_call.QueueCall.{QueueCall}
-use Rattle.channel_calls.specs.Parts.{Parts, Roster, listeners, waits, is_raised}
+use Rattle.channel_calls.specs.Parts.{Parts, WaitLists, listeners, waits, is_raised}
 use Rattle.channel_calls.specs.Turns.{line_of}
 use Rattle.channel_calls.specs.declared.ask.ChannelAsk.{ChannelAsk}
 use Rattle.channel_calls.specs.declared.ask.ChannelAsk.TheVariants.{RecvMany}
-use Rattle.channel_calls.specs.declared.stage.Aim.{Aim}
-use Rattle.channel_calls.specs.declared.stage.Aim.TheVariants as aim
+use Rattle.channel_calls.specs.declared.stage.Purpose.{Purpose}
+use Rattle.channel_calls.specs.declared.stage.Purpose.TheVariants as aim
 use Rattle.channel_calls.specs.declared.stage.Stage.{Stage}
 use Rattle.channel_calls.specs.declared.stage.Stage.TheVariants.{Trying, Working, Finished}
-use Rattle.channel_calls.specs.declared.stage.Work.{Work}
-use Rattle.channel_calls.specs.declared.stage.Work.TheVariants.{TellReceive, TellStreams, TellSend, TellSends, TakeRoom, TellAll, Insert, Register, Leave, Lower, Count, Load, Raise}
+use Rattle.channel_calls.specs.declared.stage.ListStep.{ListStep}
+use Rattle.channel_calls.specs.declared.stage.ListStep.TheVariants.{TellReceive, TellStreams, TellSend, TellSends, TakeRoom, TellAll, Insert, Register, Leave, Lower, Count, Load, Raise}
 use Rattle.channel_steps.specs.Known.{left_to_tell}
 use Rattle.channel_steps.specs.declared.party.Party.{Party}
 
@@ -39,7 +39,7 @@ most_left more = one_try + told_try + one_try * more
 
 -- after a call of the queue, by what that is for: a poll that holds no listener listens and tries once more; one whose listener
 -- waits ends pending; one whose listener was told goes on without it. For each further message there is one more call of the queue.
-abbrev pub left_after_try : {T W : Type 0} → Roster W → Aim T W → ℕ
+abbrev pub left_after_try : {T W : Type 0} → WaitLists W → Purpose T W → ℕ
 left_after_try a (aim.Poll line None task) = listening_try
 left_after_try a (aim.Poll line (Some key) task) = if waits key (listeners line a) then 3 else told_try
 left_after_try a aim.TrySend = 3
@@ -53,7 +53,7 @@ left_after_try a (aim.Upgrade side) = 2
 
 module _ {T W : Type 0} where
   -- on a list or a count, and after that
-  abbrev pub left_to_work : Roster W → Work T W → ℕ
+  abbrev pub left_to_work : WaitLists W → ListStep T W → ℕ
   left_to_work a (TellReceive x) = 3
   left_to_work a (TellStreams x) = 2
   left_to_work a (TellSend x) = 2
@@ -69,7 +69,7 @@ module _ {T W : Type 0} where
   left_to_work a (Raise side n m) = if is_raised side n a then 1 else 3
 
   -- by its stage
-  abbrev pub steps_left : Contents T → Roster W → Stage (QueueCall T) T W → ℕ
+  abbrev pub steps_left : Contents T → WaitLists W → Stage (QueueCall T) T W → ℕ
   steps_left c a (Trying call aim) = rank c call + 1 + left_after_try a aim
   steps_left c a (Working w) = left_to_work a w
   steps_left c a (Finished kept) = 0

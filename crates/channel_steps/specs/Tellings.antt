@@ -6,20 +6,20 @@ use Rattle.channel_calls.specs.Moves.{Channel}
 use Rattle.channel_calls.specs.Parts.{Listeners, listeners, told_more_wakes, told_all_wakes}
 use Rattle.channel_calls.specs.declared.mark.Mark.{Mark}
 use Rattle.channel_calls.specs.declared.mark.Mark.TheVariants.{Append, Take, Replace, Close}
-use Rattle.channel_calls.specs.declared.stage.Held.{Held}
-use Rattle.channel_calls.specs.declared.stage.Line.{Line}
-use Rattle.channel_calls.specs.declared.stage.Line.TheVariants.{Sends, Receives, Streams, Closings}
+use Rattle.channel_calls.specs.declared.stage.ListenerRef.{ListenerRef}
+use Rattle.channel_calls.specs.declared.stage.WaitList.{WaitList}
+use Rattle.channel_calls.specs.declared.stage.WaitList.TheVariants.{Sends, Receives, Streams, Closings}
 use Rattle.channel_calls.specs.declared.stage.Stage.{Stage}
 use Rattle.channel_calls.specs.declared.stage.Stage.TheVariants.{Working}
-use Rattle.channel_calls.specs.declared.stage.Work.TheVariants.{TellReceive, TellStreams, TellSend, TellSends, TellAll, Leave}
+use Rattle.channel_calls.specs.declared.stage.ListStep.TheVariants.{TellReceive, TellStreams, TellSend, TellSends, TellAll, Leave}
 use Rattle.channel_steps.specs.Moments.{MarkedMoment}
 
 -- a telling: so many more of a list, or all of it
 pub data Telling : Type 0 where
-  more_of : ℕ → Line → Telling
-  all_of : Line → Telling
+  more_of : ℕ → WaitList → Telling
+  all_of : WaitList → Telling
 
-abbrev pub one_of : Line → Telling
+abbrev pub one_of : WaitList → Telling
 one_of line = more_of 1 line
 
 -- what a mark has to be followed by: a message tells one more receive and then all streams, a closing all of each list in this
@@ -63,19 +63,19 @@ module _ {T W : Type 0} where
   telling _ = []
 
   -- the listener of its own that the next step of a call drops
-  abbrev pub dropping : Stage (Phase T) T W → Option Held
+  abbrev pub dropping : Stage (Phase T) T W → Option ListenerRef
   dropping (Working (Leave x)) = x.held
   dropping _ = None
 
   -- whom the removal of a listener wakes, which passes its notice on
-  abbrev pub passed_on_by : Held → Channel T W → List W
+  abbrev pub passed_on_by : ListenerRef → Channel T W → List W
   passed_on_by h c =
       let l : Listeners W = listeners h.line c.roster in
       elim (told_as l h.key) [ Some notice ↦ passed_wakes notice (without h.key l) | None ↦ [] ]
 
   -- whom a step wakes: those whom its telling finds waiting, in order, or him to whom the listener that it drops passes its
   -- notice on; any other step wakes nobody
-  abbrev pub WokenBy : List Telling → Option Held → Channel T W → List W → Type 0
+  abbrev pub WokenBy : List Telling → Option ListenerRef → Channel T W → List W → Type 0
   WokenBy (more_of n line ∷ ts) h c names = names ≡ told_more_wakes n (listeners line c.roster)
   WokenBy (all_of line ∷ ts) h c names = names ≡ told_all_wakes (listeners line c.roster)
   WokenBy [] (Some h) c names = names ≡ passed_on_by h c

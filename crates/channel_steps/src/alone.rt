@@ -6,13 +6,13 @@ ghost use Rattle.channel_steps.specs.solo.Ample.{lacks_memory, HasNode};
 ghost use Rattle.channel_steps.specs.solo.Run.{IsAtRest, AnswersAlone};
 ghost use Rattle.channel_steps.specs.solo.Configurations.{RunsInConfigurations};
 
-use crate::ahead::{receive_alone, send_alone};
 use crate::count::counted;
+use crate::fast_path::{receive_alone, send_alone};
 use channel_calls::ask::ChannelAsk;
 use channel_calls::call::ChannelCall;
 use channel_calls::plain::PlainChannel;
 use channel_calls::reply::Reply;
-use channel_calls::stage::Kept;
+use channel_calls::stage::Returned;
 use event_listener::wakes::Wakes;
 
 /// What a call left at its end.
@@ -21,7 +21,7 @@ pub struct Done<T> {
     /// What it answers.
     pub reply: Reply<T>,
     /// What it leaves to its operation.
-    pub kept: Kept<T>,
+    pub kept: Returned<T>,
 }
 
 /// Makes a call from its beginning to its end, and chooses each of its steps.

@@ -5,9 +5,9 @@
 //! work (`specs/solo`).
 #![tactic(auto)]
 
-mod ahead;
 pub mod alone;
 pub mod count;
+mod fast_path;
 pub mod laws;
 pub mod party;
 pub mod run;

@@ -10,7 +10,7 @@ use channel_calls::call::ChannelCall;
 use channel_calls::cells::ChannelCells;
 use channel_calls::mark::Mark;
 use channel_calls::reply::Reply;
-use channel_calls::stage::Kept;
+use channel_calls::stage::Returned;
 use event_listener::wakes::Wakes;
 
 /// A party with its call under way. Own to this project.
@@ -28,7 +28,7 @@ pub struct Entry<T> {
     /// What the call answers, where this was its last step.
     pub reply: Option<Reply<T>>,
     /// What it leaves to its operation then: the listener of a pending one, the message of an unfinished send.
-    pub kept: Option<Kept<T>>,
+    pub kept: Option<Returned<T>>,
 }
 
 /// Appends within the room that was taken.
@@ -62,7 +62,7 @@ pub fn begin<T: Drop, W: Drop>(
 }
 
 /// Takes the k-th party out, whose call has answered, with what it leaves to its operation.
-fn leave<T: Drop, W: Drop>(parties: &mut Vec<Party<T, W>>, k: usize) -> Kept<T>
+fn leave<T: Drop, W: Drop>(parties: &mut Vec<Party<T, W>>, k: usize) -> Returned<T>
     requires { k < vec_len parties.old }
     ensures parties { parties.new.items ≡ remove parties.old.items k }
     ensures kept { IsLeftBy parties.old.items k result }

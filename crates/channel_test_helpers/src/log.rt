@@ -15,8 +15,8 @@ ghost use Rattle.async_channel.specs.Saw.{SeenOn};
 ghost use Rattle.channel_test_helpers.specs.declared.log.Did.TheVariants as did;
 
 use async_channel::{
-    Key, Line, ListenError, Receiver, RecvError, Refused, Sender, Side, Sight, Task, Trace,
-    TryRecvError, TrySendError,
+    Key, ListenError, Receiver, RecvError, Refused, Sender, Side, Sight, Task, Trace, TryRecvError,
+    TrySendError, WaitList,
 };
 use concurrent_queue::cells::{Slot, Word};
 use concurrent_queue::error::NoMemory;
@@ -31,17 +31,17 @@ pub enum Did {
     /// One operation was made on a cell of the queue, or several in a row.
     Operated,
     /// A listener was added, or refused.
-    Inserted(Line),
+    Inserted(WaitList),
     /// A listener was asked, and has its task or was told.
-    Registered(Line),
+    Registered(WaitList),
     /// A listener was taken off.
-    TakenOff(Line),
+    TakenOff(WaitList),
     /// One more was told.
-    OneTold(Line),
+    OneTold(WaitList),
     /// So many more were told.
-    MoreTold(Line, usize),
+    MoreTold(WaitList, usize),
     /// All were told.
-    AllTold(Line),
+    AllTold(WaitList),
     /// A count was read.
     Counted(Side),
     /// A count was lowered.
@@ -167,29 +167,40 @@ impl Trace<u64> for Log {
 
     fn enters(&mut self, _sight: &Sight<Self>, _seal: &Source) {}
 
-    fn inserted(&mut self, _sight: &Sight<Self>, line: Line, _answer: Result<Key, ListenError>) {
+    fn inserted(
+        &mut self,
+        _sight: &Sight<Self>,
+        line: WaitList,
+        _answer: Result<Key, ListenError>,
+    ) {
         self.note(Did::Inserted(line));
     }
 
-    fn offers(&mut self, _sight: &Sight<Self>, _line: Line, _key: Key, _task: &Task) {}
+    fn offers(&mut self, _sight: &Sight<Self>, _line: WaitList, _key: Key, _task: &Task) {}
 
-    fn registered(&mut self, _sight: &Sight<Self>, line: Line, _key: Key, _answer: &Option<Task>) {
+    fn registered(
+        &mut self,
+        _sight: &Sight<Self>,
+        line: WaitList,
+        _key: Key,
+        _answer: &Option<Task>,
+    ) {
         self.note(Did::Registered(line));
     }
 
-    fn taken_off(&mut self, _sight: &Sight<Self>, line: Line, _key: Key) {
+    fn taken_off(&mut self, _sight: &Sight<Self>, line: WaitList, _key: Key) {
         self.note(Did::TakenOff(line));
     }
 
-    fn one_told(&mut self, _sight: &Sight<Self>, line: Line) {
+    fn one_told(&mut self, _sight: &Sight<Self>, line: WaitList) {
         self.note(Did::OneTold(line));
     }
 
-    fn more_told(&mut self, _sight: &Sight<Self>, line: Line, count: usize) {
+    fn more_told(&mut self, _sight: &Sight<Self>, line: WaitList, count: usize) {
         self.note(Did::MoreTold(line, count));
     }
 
-    fn all_told(&mut self, _sight: &Sight<Self>, line: Line) {
+    fn all_told(&mut self, _sight: &Sight<Self>, line: WaitList) {
         self.note(Did::AllTold(line));
     }
 

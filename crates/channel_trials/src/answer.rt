@@ -3,7 +3,7 @@
 use crate::plan::Kind;
 use channel_calls::error::{RecvError, Refused, SendError, TryRecvError, TrySendError};
 use channel_calls::several::Messages;
-use channel_calls::stage::Line;
+use channel_calls::stage::WaitList;
 use channel_world::call::Reply;
 use event_listener::error::ListenError;
 use futures::task::Poll;
@@ -17,7 +17,7 @@ pub enum Form {
     /// A receive of several.
     Several,
     /// A poll of an operation, or of a stream, on this line.
-    Poll(Line),
+    Poll(WaitList),
     Closed,
     Flag,
     Count,
@@ -73,7 +73,7 @@ pub enum Answer {
 }
 
 /// The kind of the replies of a call of this kind, whose operation waits on this line.
-pub fn form_of(kind: Kind, line: Line) -> Form {
+pub fn form_of(kind: Kind, line: WaitList) -> Form {
     match kind {
         Kind::TrySend => Form::TrySend,
         Kind::ForceSend => Form::ForceSend,
@@ -172,10 +172,10 @@ pub fn read(reply: &Reply<u64>) -> (Form, Answer) {
         Reply::ForceSend(answer) => (Form::ForceSend, force_send(answer)),
         Reply::TryRecv(answer) => (Form::TryRecv, try_recv(answer)),
         Reply::RecvMany(answer) => (Form::Several, recv_many(answer)),
-        Reply::SendPoll(poll) => (Form::Poll(Line::Sends), send_poll(poll)),
-        Reply::RecvPoll(poll) => (Form::Poll(Line::Receives), recv_poll(poll)),
-        Reply::ClosedPoll(poll) => (Form::Poll(Line::Closings), closed_poll(poll)),
-        Reply::Next(poll) => (Form::Poll(Line::Streams), next(poll)),
+        Reply::SendPoll(poll) => (Form::Poll(WaitList::Sends), send_poll(poll)),
+        Reply::RecvPoll(poll) => (Form::Poll(WaitList::Receives), recv_poll(poll)),
+        Reply::ClosedPoll(poll) => (Form::Poll(WaitList::Closings), closed_poll(poll)),
+        Reply::Next(poll) => (Form::Poll(WaitList::Streams), next(poll)),
         Reply::Closed(closed) => (Form::Closed, Answer::Closed(*closed)),
         Reply::Flag(flag) => (Form::Flag, Answer::Flag(*flag)),
         Reply::Count(count) => (Form::Count, Answer::Count(*count)),

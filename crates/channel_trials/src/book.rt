@@ -13,7 +13,7 @@ use crate::takings::Takings;
 use crate::under_way::UnderWay;
 use crate::waiting::{Came, Waiting};
 use channel_calls::mark::Mark;
-use channel_calls::stage::Line;
+use channel_calls::stage::WaitList;
 use channel_world::call::{Done, Reply, WorldRefusal};
 use channel_world::name::{HandleKind, Waiter};
 use std::alloc::Global;
@@ -81,7 +81,7 @@ impl Book {
             return Some(WorldRefusal::UnknownName);
         };
         match (plan.kind, operation.line, operation.is_polled) {
-            (Kind::SendIsTerminated, Line::Sends, _) => None,
+            (Kind::SendIsTerminated, WaitList::Sends, _) => None,
             (Kind::SendIsTerminated, _, _) => Some(WorldRefusal::WrongKind),
             (_, _, true) => Some(WorldRefusal::OpUnderWay),
             (_, _, false) => None,
@@ -172,7 +172,7 @@ impl Book {
 
     /// This one was woken, by a step of the party's call.
     pub fn wake_one(&mut self, party: u32, name: Waiter) -> Result<(), Differs> {
-        if self.waiting.wake(name)? == Line::Sends {
+        if self.waiting.wake(name)? == WaitList::Sends {
             if let Some(call) = find_mut(self.calls.as_mut_slice(), party) {
                 call.has_told = call.received > 0;
             }
@@ -254,7 +254,7 @@ impl Book {
         };
         let kept = self.waiting.remove(name);
         let line = call.subject.line;
-        let is_finished = line == Line::Sends && call.subject.message.is_none();
+        let is_finished = line == WaitList::Sends && call.subject.message.is_none();
         if answer == Answer::Pending && !is_finished {
             let came = kept.unwrap_or(Came {
                 from: call.begun,

@@ -6,16 +6,16 @@ use crate::plan::Kind;
 use crate::several::several_is_due;
 use crate::under_way::UnderWay;
 use channel_calls::mark::Mark;
-use channel_calls::stage::{Line, Side};
+use channel_calls::stage::{Side, WaitList};
 
 /// A poll ends pending: a send's beside no free place, a receive's beside no message, a wait's while the channel is open. A
 /// finished send's and a stream's need nothing.
 fn pending_is_due(call: &UnderWay) -> bool {
     match call.subject.line {
-        Line::Sends => call.saw.crowded || call.subject.message.is_none(),
-        Line::Receives => call.saw.bare,
-        Line::Closings => call.saw.open,
-        Line::Streams => true,
+        WaitList::Sends => call.saw.crowded || call.subject.message.is_none(),
+        WaitList::Receives => call.saw.bare,
+        WaitList::Closings => call.saw.open,
+        WaitList::Streams => true,
     }
 }
 

@@ -5,7 +5,7 @@ use crate::differs::Differs;
 use crate::named::{Named, find, find_mut, remove};
 use crate::plan::{Kind, Plan, Target, made_kind};
 use crate::under_way::Subject;
-use channel_calls::stage::{Line, Side};
+use channel_calls::stage::{Side, WaitList};
 use channel_world::name::{HandleId, HandleKind, OpId, Waiter};
 use std::alloc::Global;
 
@@ -23,7 +23,7 @@ pub struct Handle {
 pub struct Operation {
     pub name: u32,
     /// The line on which it waits, which says what it is.
-    pub line: Line,
+    pub line: WaitList,
     pub handle: u32,
     /// Of a send that isn't finished.
     pub message: Option<u64>,
@@ -72,12 +72,12 @@ fn side_of(kind: HandleKind) -> Option<Side> {
 }
 
 /// The line of the operation that a call of this kind makes, or of its receiver's stream.
-fn line_of(kind: Kind) -> Line {
+fn line_of(kind: Kind) -> WaitList {
     match kind {
-        Kind::NewSend => Line::Sends,
-        Kind::NewRecv => Line::Receives,
-        Kind::PollNext | Kind::Drop => Line::Streams,
-        _ => Line::Closings,
+        Kind::NewSend => WaitList::Sends,
+        Kind::NewRecv => WaitList::Receives,
+        Kind::PollNext | Kind::Drop => WaitList::Streams,
+        _ => WaitList::Closings,
     }
 }
 

@@ -2,7 +2,7 @@
 
 use crate::book::Book;
 use crate::under_way::Part;
-use channel_calls::stage::Line;
+use channel_calls::stage::WaitList;
 
 /// What calls under way answer for.
 #[derive(Clone, Copy)]
@@ -37,7 +37,7 @@ fn at_work(book: &Book) -> AtWork {
 
 /// Whether at most so many of these have nobody who answers for them: of those who wait on this line and were woken, each answers
 /// for one, and the calls under way answer for so many. Where nobody sleeps, nobody has to.
-fn are_answered_for(book: &Book, line: Line, number: usize, by_calls: usize) -> bool {
+fn are_answered_for(book: &Book, line: WaitList, number: usize, by_calls: usize) -> bool {
     let answering = book
         .waiting
         .number(Some(line), true)
@@ -48,7 +48,7 @@ fn are_answered_for(book: &Book, line: Line, number: usize, by_calls: usize) -> 
 /// Whether each free place of an open channel beside a send that sleeps has a call under way that answers for it by these.
 fn places_are_told(book: &Book, by_calls: usize) -> bool {
     let places = book.count.free_places();
-    book.count.closed || are_answered_for(book, Line::Sends, places, by_calls)
+    book.count.closed || are_answered_for(book, WaitList::Sends, places, by_calls)
 }
 
 /// Whether free places would be answered for if each call under way that sends or receives answered for one. A receive of several
@@ -66,9 +66,9 @@ pub fn is_nothing_owed(book: &Book) -> bool {
     let messages = book.count.messages();
     let busy = at_work.sending.saturating_add(at_work.receiving);
     let places = at_work.sending.saturating_add(at_work.untold);
-    let streams = book.waiting.number(Some(Line::Streams), false) == 0;
+    let streams = book.waiting.number(Some(WaitList::Streams), false) == 0;
     let closing = !book.count.closed || book.waiting.number(None, false) == 0;
-    are_answered_for(book, Line::Receives, messages, busy)
+    are_answered_for(book, WaitList::Receives, messages, busy)
         && places_are_told(book, places)
         && (streams || messages == 0 || at_work.sending > 0)
         && (closing || at_work.has_closed)

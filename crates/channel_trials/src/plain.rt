@@ -2,7 +2,7 @@
 
 use crate::answer::Answer;
 use crate::differs::Differs;
-use channel_calls::stage::Line;
+use channel_calls::stage::WaitList;
 use channel_world::name::Waiter;
 use std::alloc::Global;
 
@@ -10,7 +10,7 @@ use std::alloc::Global;
 #[derive(Clone, Copy)]
 struct Sleeper {
     name: Waiter,
-    line: Line,
+    line: WaitList,
     /// What it sends, of a send.
     message: u64,
 }
@@ -72,7 +72,7 @@ impl Plain {
     }
 
     /// The place of the first one on a line; past all where there is none.
-    fn first_on(&self, line: Line) -> usize {
+    fn first_on(&self, line: WaitList) -> usize {
         let mut place = 0usize;
         for sleeper in &self.untold {
             if sleeper.line == line {
@@ -84,7 +84,7 @@ impl Plain {
     }
 
     /// Tells the first one on a line.
-    fn tell_one(&mut self, line: Line) -> Result<(), Differs> {
+    fn tell_one(&mut self, line: WaitList) -> Result<(), Differs> {
         let place = self.first_on(line);
         if place >= self.untold.len() {
             return Ok(());
@@ -94,7 +94,7 @@ impl Plain {
     }
 
     /// Tells all on a line.
-    fn tell_all(&mut self, line: Line) -> Result<(), Differs> {
+    fn tell_all(&mut self, line: WaitList) -> Result<(), Differs> {
         for _ in 0..self.untold.len() {
             self.tell_one(line)?;
         }
@@ -112,8 +112,8 @@ impl Plain {
         if self.held.push(message).is_err() {
             return Err(Differs::NoMemory);
         }
-        self.tell_one(Line::Receives)?;
-        self.tell_all(Line::Streams)?;
+        self.tell_one(WaitList::Receives)?;
+        self.tell_all(WaitList::Streams)?;
         Ok(Answer::Sent)
     }
 
@@ -132,7 +132,7 @@ impl Plain {
             return Ok(self.why_none());
         }
         let message = self.held.remove(0);
-        self.tell_one(Line::Sends)?;
+        self.tell_one(WaitList::Sends)?;
         Ok(Answer::Received(message))
     }
 
@@ -158,7 +158,7 @@ impl Plain {
         if self.taken.push(message).is_err() {
             return Err(Differs::NoMemory);
         }
-        self.tell_one(Line::Sends)
+        self.tell_one(WaitList::Sends)
     }
 
     /// It is closed, if it was not.
@@ -167,7 +167,12 @@ impl Plain {
             return Ok(Answer::Closed(false));
         }
         self.is_closed = true;
-        for line in [Line::Sends, Line::Receives, Line::Streams, Line::Closings] {
+        for line in [
+            WaitList::Sends,
+            WaitList::Receives,
+            WaitList::Streams,
+            WaitList::Closings,
+        ] {
             self.tell_all(line)?;
         }
         Ok(Answer::Closed(true))
@@ -176,10 +181,10 @@ impl Plain {
     /// What one tries that is polled.
     fn try_once(&mut self, sleeper: Sleeper) -> Result<Answer, Differs> {
         match sleeper.line {
-            Line::Sends => self.send(sleeper.message),
-            Line::Receives | Line::Streams => self.receive(),
-            Line::Closings if self.is_closed => Ok(Answer::HasClosed),
-            Line::Closings => Ok(Answer::Empty),
+            WaitList::Sends => self.send(sleeper.message),
+            WaitList::Receives | WaitList::Streams => self.receive(),
+            WaitList::Closings if self.is_closed => Ok(Answer::HasClosed),
+            WaitList::Closings => Ok(Answer::Empty),
         }
     }
 
@@ -191,14 +196,19 @@ impl Plain {
             add(&mut self.untold, sleeper)?;
             return Ok(Answer::Pending);
         }
-        if was_told && sleeper.line != Line::Streams {
+        if was_told && sleeper.line != WaitList::Streams {
             self.tell_one(sleeper.line)?;
         }
         Ok(answer)
     }
 
     /// The first poll of one that waits on this line; a send brings this message.
-    pub fn poll_new(&mut self, name: Waiter, line: Line, message: u64) -> Result<Answer, Differs> {
+    pub fn poll_new(
+        &mut self,
+        name: Waiter,
+        line: WaitList,
+        message: u64,
+    ) -> Result<Answer, Differs> {
         self.poll_one(
             Sleeper {
                 name,

@@ -6,7 +6,7 @@ use crate::form::Form;
 use crate::plain::Plain;
 use crate::plan::{Kind, Plan};
 use crate::random::Random;
-use channel_calls::stage::Line;
+use channel_calls::stage::WaitList;
 use channel_world::call::{Call, Reply};
 use channel_world::name::{HandleId, OpId, Waiter};
 use channel_world::settle::Settled;
@@ -87,19 +87,19 @@ impl Twin {
     }
 
     /// A new operation, or the stream of a new receiver, is polled.
-    fn poll(&mut self, line: Line) -> Result<(), Differs> {
+    fn poll(&mut self, line: WaitList) -> Result<(), Differs> {
         self.message = self.message.wrapping_add(1);
         let (op, new) = (self.next, self.handle);
         self.next = op.wrapping_add(1);
         self.handle = new.wrapping_add(1);
         match line {
-            Line::Sends => self.call(Kind::NewSend, SENDER, op, Answer::Made),
-            Line::Receives => self.call(Kind::NewRecv, RECEIVER, op, Answer::Made),
-            Line::Closings => self.call(Kind::NewClosed, SENDER, op, Answer::Made),
-            Line::Streams => self.call(Kind::TryClone, RECEIVER, new, Answer::Made),
+            WaitList::Sends => self.call(Kind::NewSend, SENDER, op, Answer::Made),
+            WaitList::Receives => self.call(Kind::NewRecv, RECEIVER, op, Answer::Made),
+            WaitList::Closings => self.call(Kind::NewClosed, SENDER, op, Answer::Made),
+            WaitList::Streams => self.call(Kind::TryClone, RECEIVER, new, Answer::Made),
         }?;
         let (kind, name) = match line {
-            Line::Streams => (Kind::PollNext, Waiter::Stream(HandleId(new))),
+            WaitList::Streams => (Kind::PollNext, Waiter::Stream(HandleId(new))),
             _ => (Kind::Poll, Waiter::Op(OpId(op))),
         };
         let want = self.plain.poll_new(name, line, self.message)?;
@@ -130,10 +130,10 @@ impl Twin {
     /// A poll or a call without waiting.
     fn turn(&mut self) -> Result<(), Differs> {
         match self.random.below(8) {
-            0 => self.poll(Line::Closings),
-            1 => self.poll(Line::Streams),
-            2..4 => self.poll(Line::Sends),
-            4..6 => self.poll(Line::Receives),
+            0 => self.poll(WaitList::Closings),
+            1 => self.poll(WaitList::Streams),
+            2..4 => self.poll(WaitList::Sends),
+            4..6 => self.poll(WaitList::Receives),
             _ => self.act(),
         }
     }

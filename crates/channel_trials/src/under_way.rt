@@ -6,14 +6,14 @@ use crate::named::Named;
 use crate::plan::{Kind, Plan};
 use crate::saw::Saw;
 use channel_calls::mark::Mark;
-use channel_calls::stage::{Line, Side};
+use channel_calls::stage::{Side, WaitList};
 use channel_world::name::Waiter;
 
 /// What a call has to do with, as it begins.
 #[derive(Clone, Copy)]
 pub struct Subject {
     /// The line of its operation or of its receiver's stream, if it has to do with one.
-    pub line: Line,
+    pub line: WaitList,
     /// The task of the operation that it polls or gives up, or of the receiver that it polls as a stream or drops.
     pub waiter: Option<Waiter>,
     /// Which strong handles are one more or one fewer by it.
@@ -140,8 +140,8 @@ impl UnderWay {
         match (self.plan.kind, self.subject.line) {
             (Kind::TrySend | Kind::ForceSend, _) => Part::Sending,
             (Kind::TryRecv | Kind::RecvMany | Kind::PollNext, _) => Part::Receiving,
-            (Kind::Poll | Kind::PollRefused | Kind::GiveUp, Line::Sends) => Part::Sending,
-            (Kind::Poll | Kind::PollRefused | Kind::GiveUp, Line::Receives) => Part::Receiving,
+            (Kind::Poll | Kind::PollRefused | Kind::GiveUp, WaitList::Sends) => Part::Sending,
+            (Kind::Poll | Kind::PollRefused | Kind::GiveUp, WaitList::Receives) => Part::Receiving,
             _ => Part::Neither,
         }
     }

@@ -1,7 +1,7 @@
 //! Who waits: a plain list of the names that are pending.
 
 use crate::differs::Differs;
-use channel_calls::stage::Line;
+use channel_calls::stage::WaitList;
 use channel_world::name::Waiter;
 use std::alloc::Global;
 
@@ -16,7 +16,7 @@ pub struct Came {
 #[derive(Clone, Copy)]
 struct Sleeper {
     name: Waiter,
-    line: Line,
+    line: WaitList,
     came: Came,
     /// Whether it was named by a step since.
     is_woken: bool,
@@ -39,7 +39,7 @@ impl Waiting {
     }
 
     /// A poll of it ended pending. It came to the line then.
-    pub fn add(&mut self, name: Waiter, line: Line, came: Came) -> Result<(), Differs> {
+    pub fn add(&mut self, name: Waiter, line: WaitList, came: Came) -> Result<(), Differs> {
         let sleeper = Sleeper {
             name,
             line,
@@ -99,7 +99,7 @@ impl Waiting {
 
     /// It was woken, as nobody is who doesn't wait, was woken before, or came to its line after one who waits there unwoken. The
     /// line on which it waits.
-    pub fn wake(&mut self, name: Waiter) -> Result<Line, Differs> {
+    pub fn wake(&mut self, name: Waiter) -> Result<WaitList, Differs> {
         let place = self.place_of(name).unwrap_or(usize::MAX);
         let Some(woken) = self.sleepers.get(place).copied() else {
             return Err(Differs::Woken);
@@ -114,7 +114,7 @@ impl Waiting {
     }
 
     /// How many are pending on this line, or on all lines, that were woken, or that were not.
-    pub fn number(&self, line: Option<Line>, is_woken: bool) -> usize {
+    pub fn number(&self, line: Option<WaitList>, is_woken: bool) -> usize {
         let mut number = 0usize;
         for sleeper in &self.sleepers {
             let is_on = line.is_none() || line == Some(sleeper.line);

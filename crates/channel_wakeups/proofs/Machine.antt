@@ -3,7 +3,7 @@
 use Rattle.std.proofs.Common.{◌⊎◌, inl, inr, ◌≡◌, ℕ, zero, suc, List, [], ◌∷◌, ◌++◌, Bool, true, false, Option, None, Some, Result, Ok, Err, MatchOption, sym, refl, ap, ◌∙◌, subst}
 use Rattle.std.specs.Prelude.{bit_and, bit_or, not, if◌then◌else◌}
 use Rattle.concurrent_queue.specs.Deeds.{exchanged, bits_kept, did_put, did_take}
-use Rattle.concurrent_queue.specs.machine.Ahead.{Leads}
+use Rattle.concurrent_queue.specs.machine.FastPath.{Leads}
 use Rattle.concurrent_queue.specs.machine.Single.{clear, finishes as ends, stays as goes, after_push, after_force, after_pop, after_close, after_put, after_take}
 use Rattle.concurrent_queue.specs.Walked.{StateMakes, WalkedFrom}
 use Rattle.concurrent_queue.specs.declared.call.QueueAsk.{QueueAsk}

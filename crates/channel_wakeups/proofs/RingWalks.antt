@@ -5,7 +5,7 @@ use Rattle.std.proofs.lemmas.Bool.Decides.{nat_tests}
 use Rattle.atomic_table.specs.Seated.{TableId}
 use Rattle.concurrent_queue.specs.Deeds.{Deed}
 use Rattle.concurrent_queue.specs.Walked.{StateMakes, MakesRing, MakesBounded}
-use Rattle.concurrent_queue.specs.machine.Ahead.{Leads, Ends}
+use Rattle.concurrent_queue.specs.machine.FastPath.{Leads, Ends}
 use Rattle.concurrent_queue.specs.machine.Dispatch.{in_ring}
 use Rattle.concurrent_queue.specs.machine.RingWords.{cap_of, ring_start}
 use Rattle.concurrent_queue.specs.declared.bounded.RingAction.{RingAction}

@@ -8,7 +8,7 @@ use Rattle.channel_calls.specs.declared.ask.ChannelAsk.{ChannelAsk}
 use Rattle.channel_calls.specs.declared.ask.ChannelAsk.TheVariants.{RefusePoll}
 use Rattle.channel_calls.specs.declared.blocked.Blocked.{Blocked}
 use Rattle.channel_calls.specs.declared.blocked.Blocked.TheVariants.{Send, Receive}
-use Rattle.channel_calls.specs.declared.stage.Line.TheVariants.{Sends, Receives}
+use Rattle.channel_calls.specs.declared.stage.WaitList.TheVariants.{Sends, Receives}
 use Rattle.channel_steps.specs.every_run.BridgeBlocks.{first_poll, poll_refused}
 use Rattle.channel_world_model.specs.Asked.{poll_asked, refusal_asked}
 use Rattle.channel_world_model.specs.declared.call.Call.TheVariants.{Poll, PollRefused}

@@ -3,8 +3,8 @@ use Rattle.std.proofs.Common.{arith, ◌≡◌, ◌⊎◌, ◌≤◌, ◌+◌, �
 use Rattle.std.specs.Option.{option_map_or}
 use Rattle.std.specs.Prelude.{slice_get}
 use Rattle.std.proofs.lemmas.Bool.{eqb-false, ltb-false, ltb-true}
-use Rattle.channel_calls.specs.declared.stage.Line.{Line}
-use Rattle.channel_calls.specs.declared.stage.Line.TheVariants.{Sends, Receives, Streams}
+use Rattle.channel_calls.specs.declared.stage.WaitList.{WaitList}
+use Rattle.channel_calls.specs.declared.stage.WaitList.TheVariants.{Sends, Receives, Streams}
 use Rattle.channel_world_model.specs.Answer.{Answer, first, found_in}
 use Rattle.channel_world_model.specs.Awake.{AwakeIn, Kind}
 use Rattle.channel_world_model.specs.Channel.{ModelChannel, is_full}
@@ -78,7 +78,7 @@ module _ {T : Type 0} where
   HoldsWithin s = IfSome s.channel.capacity (λ capacity. length s.channel.messages ≤ capacity)
 
   -- how many are pending whose operation belongs to this line
-  of_line : Line → State T → ℕ
+  of_line : WaitList → State T → ℕ
   of_line line s = count_all (on (line_at s.names) line) s.waiting
 
   -- how many messages come in while it goes on
@@ -102,18 +102,18 @@ module _ {T : Type 0} where
     k = line_at s.names
 
     -- those of a line whom the poll leaves
-    abbrev those : Line → ℕ
+    abbrev those : WaitList → ℕ
     those line = count_all (on k line) a.after.waiting
 
-    own_line : (line : Line) → k w ≡ Some line → is_line line (Some line) ≡ true → one_if (is_line line (k w)) ≡ 1
-    own_line line own same = ap (λ (o : Option Line). one_if (is_line line o)) own ∙ ap (λ (b : Bool). one_if b) same
+    own_line : (line : WaitList) → k w ≡ Some line → is_line line (Some line) ≡ true → one_if (is_line line (k w)) ≡ 1
+    own_line line own same = ap (λ (o : Option WaitList). one_if (is_line line o)) own ∙ ap (λ (b : Bool). one_if b) same
 
-    came_so : (line : Line) → k w ≡ Some line → Comes s line w a
+    came_so : (line : WaitList) → k w ≡ Some line → Comes s line w a
         → came_in a.reply + most_in a.after.channel (those Sends) (those Receives + those Streams) ≤ still_in s
     unfolding still_in of_line
     came_so line own c =
         let free = opens s.channel.closed (is_full s.channel) c.fits in
-        let mine = own_line Sends (own ∙ ap (λ (l : Line). Some l) c.line_is) refl in
+        let mine = own_line Sends (own ∙ ap (λ (l : WaitList). Some l) c.line_is) refl in
         let left = c.left in
         let sends = left.fewer (on k Sends) in
         let receives = left.fewer (on k Receives) in
@@ -130,20 +130,20 @@ module _ {T : Type 0} where
         (sym c.channel) so in
         omega (arith, one, there)
 
-    takers_less : (line : Line) → k w ≡ Some line → (line ≡ Receives) ⊎ (line ≡ Streams) → Left w line s.waiting a.after.waiting a.woken
+    takers_less : (line : WaitList) → k w ≡ Some line → (line ≡ Receives) ⊎ (line ≡ Streams) → Left w line s.waiting a.after.waiting a.woken
         → suc (those Receives + those Streams) ≤ count_all (on k Receives) s.waiting + count_all (on k Streams) s.waiting
     takers_less line own (inl e) left =
-        let mine = own_line Receives (own ∙ ap (λ (l : Line). Some l) e) refl in
+        let mine = own_line Receives (own ∙ ap (λ (l : WaitList). Some l) e) refl in
         let receives = left.fewer (on k Receives) in
         let streams = left.fewer (on k Streams) in
         omega (arith, mine, receives, streams)
     takers_less line own (inr e) left =
-        let mine = own_line Streams (own ∙ ap (λ (l : Line). Some l) e) refl in
+        let mine = own_line Streams (own ∙ ap (λ (l : WaitList). Some l) e) refl in
         let receives = left.fewer (on k Receives) in
         let streams = left.fewer (on k Streams) in
         omega (arith, mine, receives, streams)
 
-    took_so : (line : Line) → k w ≡ Some line → Takes s line w a
+    took_so : (line : WaitList) → k w ≡ Some line → Takes s line w a
         → came_in a.reply + most_in a.after.channel (those Sends) (those Receives + those Streams) ≤ still_in s
     unfolding still_in of_line
     took_so line own c =
@@ -158,11 +158,11 @@ module _ {T : Type 0} where
         (sym c.channel) most in
         omega (arith, none, there)
 
-    no_more_of : (line : Line) (of : Line) → LeftOrStood w line s.waiting a.after.waiting a.woken → those of ≤ count_all (on k of) s.waiting
+    no_more_of : (line : WaitList) (of : WaitList) → LeftOrStood w line s.waiting a.after.waiting a.woken → those of ≤ count_all (on k of) s.waiting
     no_more_of line of (inl left) = let fewer = left.fewer (on k of) in omega (arith, fewer)
     no_more_of line of (inr stood_so) = stood_so.same (on k of)
 
-    stayed_so : (line : Line) → LeftOrStood w line s.waiting a.after.waiting a.woken → Stays s a
+    stayed_so : (line : WaitList) → LeftOrStood w line s.waiting a.after.waiting a.woken → Stays s a
         → came_in a.reply + most_in a.after.channel (those Sends) (those Receives + those Streams) ≤ still_in s
     unfolding still_in of_line
     stayed_so line lors c =
@@ -177,7 +177,7 @@ module _ {T : Type 0} where
         (sym c.channel) most in
         omega (arith, none, there)
 
-    does_so : (line : Line) → k w ≡ Some line → LeftOrStood w line s.waiting a.after.waiting a.woken → Does s line w a
+    does_so : (line : WaitList) → k w ≡ Some line → LeftOrStood w line s.waiting a.after.waiting a.woken → Does s line w a
         → came_in a.reply + most_in a.after.channel (those Sends) (those Receives + those Streams) ≤ still_in s
     does_so line own lors (inl c) = came_so line own c
     does_so line own lors (inr (inl c)) = took_so line own c
@@ -190,7 +190,7 @@ module _ {T : Type 0} where
         let p = polled_on s awake w (first_there w s.waiting.woken front) in
         let so = polled_so s awake w a p answers in
         let most = does_so p.line p.own so.0 so.2 in
-        let more : (line : Line) → of_line line a.after ≤ those line =
+        let more : (line : WaitList) → of_line line a.after ≤ those line =
         λ line. count_more (on (line_at a.after.names) line) (on k line) (λ v e. so.1 line v e) a.after.waiting in
         let sends = more Sends in
         let receives = more Receives in

@@ -8,8 +8,8 @@ use Rattle.channel_calls.specs.Turns.{closer_ending}
 use Rattle.channel_calls.specs.declared.ask.ChannelAsk.{ChannelAsk}
 use Rattle.channel_calls.specs.declared.ask.ChannelAsk.TheVariants as ask
 use Rattle.channel_calls.specs.declared.reply.Reply.{Reply}
-use Rattle.channel_calls.specs.declared.stage.Aim.{Aim}
-use Rattle.channel_calls.specs.declared.stage.Aim.TheVariants as aim
+use Rattle.channel_calls.specs.declared.stage.Purpose.{Purpose}
+use Rattle.channel_calls.specs.declared.stage.Purpose.TheVariants as aim
 use Rattle.channel_calls.specs.declared.stage.Closer.{Closer}
 use Rattle.channel_calls.specs.declared.stage.Closer.TheVariants as closer
 use Rattle.channel_calls.specs.declared.stage.Ending.{Ending}
@@ -19,8 +19,8 @@ use Rattle.channel_calls.specs.declared.stage.Side.TheVariants.{Senders, Receive
 use Rattle.channel_calls.specs.declared.stage.Stage.{Stage}
 use Rattle.channel_calls.specs.declared.stage.Stage.TheVariants.{Trying, Working, Finished}
 use Rattle.channel_calls.specs.declared.stage.Waiting.{Waiting}
-use Rattle.channel_calls.specs.declared.stage.Work.{Work}
-use Rattle.channel_calls.specs.declared.stage.Work.TheVariants.{TellReceive, TellStreams, TellSend, TellSends, TakeRoom, TellAll, Insert, Register, Leave, Lower, Count, Load, Raise}
+use Rattle.channel_calls.specs.declared.stage.ListStep.{ListStep}
+use Rattle.channel_calls.specs.declared.stage.ListStep.TheVariants.{TellReceive, TellStreams, TellSend, TellSends, TakeRoom, TellAll, Insert, Register, Leave, Lower, Count, Load, Raise}
 use Rattle.channel_world_model.specs.declared.name.Waiter.{Waiter}
 use Rattle.channel_steps.specs.Answers.{Met}
 use Rattle.channel_steps.specs.Known.{TriesFor, WorkAt, StageAt, IsFor, Makes}
@@ -83,7 +83,7 @@ module _ (T : Type 0) where
   unmet Receivers (ask.DropReceiver key) ds seen y d none (newer, older, same, row) = no_deeds Receivers ds older none row.0
   unmet side x ds seen y d none m = absurd d
 
-  untried : (side : Side) (x : ChannelAsk T Waiter) (a : Aim T Waiter) (q : QueueAsk T) (ds : Deeds) (seen : Seen) → Drops side x
+  untried : (side : Side) (x : ChannelAsk T Waiter) (a : Purpose T Waiter) (q : QueueAsk T) (ds : Deeds) (seen : Seen) → Drops side x
       → ds ≡ [] → TriesFor x a q ds seen → ⊥
   untried Senders ask.DropSender (aim.Close closer.Sender) queue.Close ds seen d none k = no_last Senders ds seen none k
   untried Receivers (ask.DropReceiver key) (aim.Close (closer.Receiver own)) queue.Close ds seen d none k =
@@ -117,7 +117,7 @@ module _ (T : Type 0) where
   asks_none Senders s d = d
   asks_none Receivers s d = d
 
-  works : (side : Side) (x : ChannelAsk T Waiter) (w : Work T Waiter) (ds : Deeds) (seen : Seen) → WorkAt x w ds seen → Drops side x
+  works : (side : Side) (x : ChannelAsk T Waiter) (w : ListStep T Waiter) (ds : Deeds) (seen : Seen) → WorkAt x w ds seen → Drops side x
       → ds ≡ [] → (let at : Stage (Phase T) T Waiter = Working w in is_lowering side at ≡ true)
   works side x (TellReceive y) ds seen k d none = absurd (unmet side x ds seen y.reply d none k.0)
   works side x (TellStreams y) ds seen k d none = absurd (unmet side x ds seen y.reply d none k.0)

@@ -8,12 +8,12 @@ use Rattle.concurrent_queue.specs.declared.queue_call.QueueCall.{QueueCall}
 use Rattle.concurrent_queue.proofs.Interface.{shows}
 use Rattle.channel_calls.specs.Moves.{Channel, phase}
 use Rattle.channel_calls.specs.Parts.{count}
-use Rattle.channel_calls.specs.declared.stage.Aim.TheVariants as aim
+use Rattle.channel_calls.specs.declared.stage.Purpose.TheVariants as aim
 use Rattle.channel_calls.specs.declared.stage.Side.{Side}
 use Rattle.channel_calls.specs.declared.stage.Side.TheVariants.{Senders, Receivers}
 use Rattle.channel_calls.specs.declared.stage.Stage.{Stage}
 use Rattle.channel_calls.specs.declared.stage.Stage.TheVariants.{Trying, Working, Finished}
-use Rattle.channel_calls.specs.declared.stage.Work.TheVariants.{Lower}
+use Rattle.channel_calls.specs.declared.stage.ListStep.TheVariants.{Lower}
 use Rattle.channel_world_model.specs.Handles.{is_of, live_of}
 use Rattle.channel_world_model.specs.Names.{Directory}
 use Rattle.channel_world_model.specs.Refusal.{are_alike}

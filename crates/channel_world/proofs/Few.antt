@@ -3,8 +3,8 @@ use Rattle.std.proofs.Common.{arith, ◌≡◌, ◌≤◌, ◌+◌, ℕ, List, [
 use Rattle.std.specs.List.{list_any}
 use Rattle.channel_calls.specs.declared.error.Refused.TheVariants.{NoMemory}
 use Rattle.channel_calls.specs.declared.reply.Reply.TheVariants as reply
-use Rattle.channel_calls.specs.declared.stage.Line.{Line}
-use Rattle.channel_calls.specs.declared.stage.Line.TheVariants.{Sends, Receives, Streams, Closings}
+use Rattle.channel_calls.specs.declared.stage.WaitList.{WaitList}
+use Rattle.channel_calls.specs.declared.stage.WaitList.TheVariants.{Sends, Receives, Streams, Closings}
 use Rattle.channel_world_model.specs.Answer.{Answer, answer, replying, after_telling, space_of, Found, first, none_yet, none_ever, found, displacing, next_answer, strong_handles, dropped, one_more, news_without_one, drop_one, drop_answer, poll_answer, poll_refused_answer, give_up_answer, send_poll_answer, recv_poll_answer, try_send_answer, force_send_answer, try_recv_answer, recv_many_answer, clone_answer, downgrade_answer, upgrade_answer, close_answer, shut, strong_of}
 use Rattle.channel_world_model.specs.Channel.{ModelChannel}
 use Rattle.channel_world_model.specs.Lines.{Waiting, untold, told_by, after_news, told_by_rooms, gone, passed_on, told_after, is_among, is_stream, without_waiter}
@@ -31,11 +31,11 @@ first_one : (ws : List Waiter) → length (take 1 ws) ≤ 1
 first_one [] = omega arith
 first_one (w ∷ ws) = omega arith
 
-few_first : (b : Bool) (line : Line) (w : Waiter) (l : Waiting) → length (told_by (if b then NextIn line else Nothing) l) ≤ 1
+few_first : (b : Bool) (line : WaitList) (w : Waiter) (l : Waiting) → length (told_by (if b then NextIn line else Nothing) l) ≤ 1
 few_first true line w l = first_one (untold line l)
 few_first false line w l = omega arith
 
-few_passed : (line : Line) (w : Waiter) (l m : Waiting) → length (told_by (passed_on line w l) m) ≤ 1
+few_passed : (line : WaitList) (w : Waiter) (l m : Waiting) → length (told_by (passed_on line w l) m) ≤ 1
 few_passed Sends w l m = few_first (is_among w l.woken) Sends w m
 few_passed Receives w l m = few_first (is_among w l.woken) Receives w m
 few_passed Streams w l m = few_first (is_among w l.woken && not (list_any is_stream (without_waiter w l.woken))) Streams w m
@@ -115,7 +115,7 @@ module _ {T : Type 0} where
   few_tell_room : (s : State T) (l : Waiting) → length (told_by Room l) ≤ 2 + length s.waiting.streams
   few_tell_room s l = let f = first_one l.sends in omega (arith, f)
 
-  few_leave_nothing : (line : Line) (w : Waiter) (s : State T) → length (told_after Nothing line w s.waiting) ≤ 2 + length s.waiting.streams
+  few_leave_nothing : (line : WaitList) (w : Waiter) (s : State T) → length (told_after Nothing line w s.waiting) ≤ 2 + length s.waiting.streams
   few_leave_nothing line w s =
       let told = after_news Nothing s.waiting in
       let f = few_passed line w told (gone w told) in
@@ -123,7 +123,7 @@ module _ {T : Type 0} where
       let z = no_news s.waiting in
       omega (arith, f, e, z)
 
-  few_leave_room : (line : Line) (w : Waiter) (s : State T) → length (told_after Room line w s.waiting) ≤ 2 + length s.waiting.streams
+  few_leave_room : (line : WaitList) (w : Waiter) (s : State T) → length (told_after Room line w s.waiting) ≤ 2 + length s.waiting.streams
   few_leave_room line w s =
       let told = after_news Room s.waiting in
       let f = few_passed line w told (gone w told) in
@@ -131,7 +131,7 @@ module _ {T : Type 0} where
       let e = length-append (told_by Room s.waiting) (told_by (passed_on line w told) (gone w told)) in
       omega (arith, f, g, e)
 
-  few_leave_message : (line : Line) (w : Waiter) (s : State T) → length (told_after Message line w s.waiting) ≤ 2 + length s.waiting.streams
+  few_leave_message : (line : WaitList) (w : Waiter) (s : State T) → length (told_after Message line w s.waiting) ≤ 2 + length s.waiting.streams
   few_leave_message line w s =
       let told = after_news Message s.waiting in
       let f = few_passed line w told (gone w told) in

@@ -10,7 +10,7 @@ use Rattle.channel_world_model.specs.Lines.{is_among, untold, gone}
 use Rattle.channel_world_model.specs.Names.{ModelOperation, send, recv, closing, at}
 use Rattle.channel_world_model.specs.Refused.{Answers, Lack, memory, serials, answer_without, not_held, not_received, send_not_polled, recv_not_polled, not_polled, next_not_polled}
 use Rattle.channel_world_model.specs.State.{State, with_waiting}
-use Rattle.channel_calls.specs.declared.stage.Line.TheVariants.{Sends, Receives, Streams, Closings}
+use Rattle.channel_calls.specs.declared.stage.WaitList.TheVariants.{Sends, Receives, Streams, Closings}
 use Rattle.channel_world_model.specs.declared.call.Call.{Call}
 use Rattle.channel_world_model.specs.declared.call.Call.TheVariants as call
 use Rattle.channel_world_model.specs.declared.name.Handle.{Handle}

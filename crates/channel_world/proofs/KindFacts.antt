@@ -7,11 +7,11 @@ use Rattle.std.proofs.lemmas.Map.Views.{lookup-from_Contains}
 use Rattle.lru.proofs.Splits.{all_from}
 use Rattle.event_listener.specs.declared.key.Key.{Key}
 use Rattle.concurrent_queue.specs.declared.queue_call.QueueCall.{QueueCall}
-use Rattle.channel_calls.specs.declared.stage.Line.{Line}
-use Rattle.channel_calls.specs.declared.stage.Line.TheVariants.{Sends, Receives, Streams, Closings}
+use Rattle.channel_calls.specs.declared.stage.WaitList.{WaitList}
+use Rattle.channel_calls.specs.declared.stage.WaitList.TheVariants.{Sends, Receives, Streams, Closings}
 use Rattle.channel_calls.specs.declared.stage.Stage.{Stage}
 use Rattle.channel_calls.specs.declared.stage.Stage.TheVariants.{Working}
-use Rattle.channel_calls.specs.declared.stage.Work.TheVariants.{Leave}
+use Rattle.channel_calls.specs.declared.stage.ListStep.TheVariants.{Leave}
 use Rattle.channel_world_model.specs.Laws.{same_line}
 use Rattle.channel_world_model.specs.Names.{Directory}
 use Rattle.channel_world_model.specs.declared.name.Waiter.{Waiter}
@@ -68,32 +68,32 @@ module _ {T : Type 0} (test : NameStatus → Bool) (r : NameTable T) (apart : Ar
 
 -- ---- who is woken is pending; who sleeps is pending and was not woken
 
-woken_pends : (line : Line) (p : NameStatus) → is_woken_on line p ≡ true → is_pending_on line p ≡ true
+woken_pends : (line : WaitList) (p : NameStatus) → is_woken_on line p ≡ true → is_pending_on line p ≡ true
 woken_pends line (waits h true) e = e
 woken_pends line (waits h false) e = cc e
 woken_pends line p e = cc e
 
-same_self : (line : Line) → same_line line line ≡ true
+same_self : (line : WaitList) → same_line line line ≡ true
 same_self Sends = refl
 same_self Receives = refl
 same_self Streams = refl
 same_self Closings = refl
 
-abbrev stream_woken : Line → Option HandleEntry → Bool
+abbrev stream_woken : WaitList → Option HandleEntry → Bool
 stream_woken line o = is_woken_on line (stream_stance o)
 
-abbrev stream_pends : Line → Option HandleEntry → Bool
+abbrev stream_pends : WaitList → Option HandleEntry → Bool
 stream_pends line o = is_pending_on line (stream_stance o)
 
 module _ {T : Type 0} where
-  abbrev entry_woken : Line → Option (Operation T) → Bool
+  abbrev entry_woken : WaitList → Option (Operation T) → Bool
   entry_woken line o = is_woken_on line (operation_stance o)
 
-  abbrev entry_pends : Line → Option (Operation T) → Bool
+  abbrev entry_pends : WaitList → Option (Operation T) → Bool
   entry_pends line o = is_pending_on line (operation_stance o)
 
   -- where one of a line sleeps more are pending on it than are woken
-  more_of_line : (line : Line) (name : Waiter) (r : NameTable T) → AreApart r → IsUnwoken line name r → suc (woken_on line r) ≤ pending_on_line line r
+  more_of_line : (line : WaitList) (name : Waiter) (r : NameTable T) → AreApart r → IsUnwoken line name r → suc (woken_on line r) ≤ pending_on_line line r
   more_of_line line name r apart asleep = by name asleep
     where
       woken : woken_on line r ≡ count_by (λ (e : ℕ × Option (Operation T)). entry_woken line e.1) r.operations

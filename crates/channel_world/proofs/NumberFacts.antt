@@ -4,8 +4,8 @@ use Rattle.std.specs.Map.{lookup}
 use Rattle.std.specs.Option.{option_map_or}
 use Rattle.std.proofs.Common.{arith, ◌≡◌, ◌⊎◌, ℕ, ◌+◌, ◌≤◌, nat_eq, Bool, true, false, List, [], ◌∷◌, ◌++◌, length, Option, None, Some, is_some, inl, inr, refl, sym, ap, ◌∙◌, length-append}
 use Rattle.event_listener.specs.declared.key.Key.{Key}
-use Rattle.channel_calls.specs.declared.stage.Line.{Line}
-use Rattle.channel_calls.specs.declared.stage.Line.TheVariants.{Sends, Receives, Streams, Closings}
+use Rattle.channel_calls.specs.declared.stage.WaitList.{WaitList}
+use Rattle.channel_calls.specs.declared.stage.WaitList.TheVariants.{Sends, Receives, Streams, Closings}
 use Rattle.channel_world_model.specs.Awake.{times, times_in}
 use Rattle.channel_world_model.specs.Lines.{Waiting, is_among, same_waiter, untold}
 use Rattle.channel_world_model.specs.Names.{at}
@@ -149,7 +149,7 @@ module _ {T : Type 0} (r : NameTable T) where
 
   -- ---- who was woken
 
-  woken_on : (line : Line) (s : PollState) → is_woken s ≡ was_woken (status_on line s)
+  woken_on : (line : WaitList) (s : PollState) → is_woken s ≡ was_woken (status_on line s)
   woken_on line Rests = refl
   woken_on line (Waits key b) = refl
   woken_on line (IsPolled brings) = refl
@@ -296,7 +296,7 @@ module _ {T : Type 0} (b : NameState T) (s : Configuration T Waiter) (kept : Wor
   pub woken_number : how_many is_woken b.name_table ≡ length who.woken
   woken_number = counted_so is_woken b.name_table apart who.woken told_once told_so told_there
 
-  line_so : (line : Line) (w : Waiter) → is_among w (untold line who) ≡ true → stands_so stands_pending b.name_table w ≡ true
+  line_so : (line : WaitList) (w : Waiter) → is_among w (untold line who) ≡ true → stands_so stands_pending b.name_table w ≡ true
   line_so line w i =
       let shown = world.shows in
       let own = shown.lines line in

@@ -2,10 +2,10 @@
 use Rattle.std.proofs.Common.{arith, ◌≡◌, ◌≤◌, ◌+◌, ◌-◌, ℕ, suc, List, [], ◌∷◌, length, Option, true, refl, sym, ap, subst, ◌∙◌}
 use Rattle.event_listener.specs.declared.key.Key.{Key}
 use Rattle.channel_calls.specs.Moves.{Channel}
-use Rattle.channel_calls.specs.Parts.{Roster, listeners}
+use Rattle.channel_calls.specs.Parts.{WaitLists, listeners}
 use Rattle.channel_calls.specs.declared.reply.Reply.{Reply}
-use Rattle.channel_calls.specs.declared.stage.Line.{Line}
-use Rattle.channel_calls.specs.declared.stage.Line.TheVariants.{Sends, Receives, Streams, Closings}
+use Rattle.channel_calls.specs.declared.stage.WaitList.{WaitList}
+use Rattle.channel_calls.specs.declared.stage.WaitList.TheVariants.{Sends, Receives, Streams, Closings}
 use Rattle.channel_steps.specs.solo.Alone.{Outcome, Alone}
 use Rattle.channel_world_runs.proofs.Interface.{none_under_way, no_agents}
 use Rattle.channel_world_runs.specs.Bookkeeping.{asks}
@@ -42,16 +42,16 @@ as_many held (e ∷ es) (w ∷ ws) h = ap suc (as_many held es ws h.1)
 
 module _ {T : Type 0} (f : WorldState T) (kept : IsKept f) (quiet : IsQuiet f) where
   -- as many stand untold in a line as wait on its list, where no call is under way
-  pub as_many_wait : RestIsAWorld T → (line : Line)
+  pub as_many_wait : RestIsAWorld T → (line : WaitList)
       → length (listeners line (parts_in f).roster).waiting ≡ length (untold line (at_rest f).waiting)
   as_many_wait rests line =
       let k = kept.listeners in
-      subst (λ (r : Roster Waiter). length (listeners line r).waiting ≡ length (untold line (at_rest f).waiting))
+      subst (λ (r : WaitLists Waiter). length (listeners line r).waiting ≡ length (untold line (at_rest f).waiting))
       (ap (λ (c : Channel T Waiter). c.roster) k.shown.shows.now)
       (subst (λ (s : State T). length (listeners line k.configuration.now.roster).waiting ≡ length (untold line s.waiting))
       (sym (at_rest_is f k.configuration k.shown quiet)) (shown k.configuration (rests (name_state_of f) k.configuration k.kept (none_under_way f k.configuration quiet k.shown)) line))
     where
-      shown : (s : Configuration T Waiter) → IsWorld (name_state_of f) s → (l : Line)
+      shown : (s : Configuration T Waiter) → IsWorld (name_state_of f) s → (l : WaitList)
           → length (listeners l s.now.roster).waiting ≡ length (untold l (state_at (name_state_of f) s).waiting)
       shown s world Sends = let own = world.shows.lines Sends in as_many (held_of f.name_table) _ _ own.untold
       shown s world Receives = let own = world.shows.lines Receives in as_many (held_of f.name_table) _ _ own.untold

@@ -4,7 +4,7 @@ use Rattle.std.proofs.lemmas.List.{length-map, map-append}
 use Rattle.std.specs.List.{list_any}
 use Rattle.channel_steps.specs.solo.Ample.{lacks_memory}
 use Rattle.channel_calls.specs.declared.reply.Reply.{Reply}
-use Rattle.channel_calls.specs.declared.stage.Line.TheVariants.{Sends, Receives, Streams}
+use Rattle.channel_calls.specs.declared.stage.WaitList.TheVariants.{Sends, Receives, Streams}
 use Rattle.channel_world_model.specs.Answer.{Answer}
 use Rattle.channel_world_model.specs.Awake.{AwakeIn}
 use Rattle.channel_world_model.specs.Lines.{is_among}

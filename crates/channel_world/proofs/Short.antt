@@ -4,8 +4,8 @@ use Rattle.std.proofs.Common.{arith, ◌≡◌, ◌⊎◌, ◌≤◌, ◌+◌, �
 use Rattle.std.specs.Prelude.{slice_get}
 use Rattle.channel_calls.specs.declared.reply.Reply.{Reply}
 use Rattle.channel_calls.specs.declared.reply.Reply.TheVariants as reply
-use Rattle.channel_calls.specs.declared.stage.Line.{Line}
-use Rattle.channel_calls.specs.declared.stage.Line.TheVariants.{Sends, Receives, Streams, Closings}
+use Rattle.channel_calls.specs.declared.stage.WaitList.{WaitList}
+use Rattle.channel_calls.specs.declared.stage.WaitList.TheVariants.{Sends, Receives, Streams, Closings}
 use Rattle.channel_world_model.specs.Answer.{Answer, answer, replying, after_leaving, pending, space_of, Found, first, none_yet, none_ever, found, send_poll_answer, recv_poll_answer, next_answer, closed_poll_answer, poll_answer}
 use Rattle.channel_world_model.specs.Awake.{AwakeIn, Kind, Placed}
 use Rattle.channel_world_model.specs.Channel.{appended, with_messages}
@@ -34,14 +34,14 @@ use Rattle.channel_world.proofs.Weights.{on, weight, no_more, by_one, by_send, b
 -- ---- one poll
 
 -- whom one of this line wakes at most as it leaves, beside so many streams
-abbrev most_told : Line → ℕ → ℕ
+abbrev most_told : WaitList → ℕ → ℕ
 most_told Sends n = 2 + n
 most_told Receives n = 2
 most_told Streams n = 1
 most_told Closings n = 0
 
 -- one of this line left: of each sort one fewer is pending if it is of it, and no more else
-pub record Left (w : Waiter) (line : Line) (l m : Waiting) (names : List Waiter) : Type 0 where
+pub record Left (w : Waiter) (line : WaitList) (l m : Waiting) (names : List Waiter) : Type 0 where
   pub fewer : (p : Waiter → Bool) → count_all p m + one_if (p w) ≤ count_all p l
   pub few : length names ≤ most_told line (length l.streams)
 
@@ -50,11 +50,11 @@ pub record Stood (l m : Waiting) (names : List Waiter) : Type 0 where
   pub same : (p : Waiter → Bool) → count_all p m ≤ count_all p l
   pub none : names ≡ []
 
-abbrev pub LeftOrStood : Waiter → Line → Waiting → Waiting → List Waiter → Type 0
+abbrev pub LeftOrStood : Waiter → WaitList → Waiting → Waiting → List Waiter → Type 0
 LeftOrStood w line l m names = Left w line l m names ⊎ Stood l m names
 
 module _ (k : Kind) (w : Waiter) (l : Waiting) (placed : Placed k l) (e : is_among w l.woken ≡ true) where
-  fewer_left : (news : News) (line : Line) (p : Waiter → Bool) → count_all p (left_after news line w l) + one_if (p w) ≤ count_all p l
+  fewer_left : (news : News) (line : WaitList) (p : Waiter → Bool) → count_all p (left_after news line w l) + one_if (p w) ≤ count_all p l
   fewer_left news line p =
       let told = after_news news l in
       let one = count_gone_one p w told (front_stays w l.woken (told_by news l) e) in
@@ -63,13 +63,13 @@ module _ (k : Kind) (w : Waiter) (l : Waiting) (placed : Placed k l) (e : is_amo
       omega (arith, one, passed, first)
 
   -- it tells nothing new
-  few_passed_on : (line : Line) → length (told_after Nothing line w l) ≤ most_told line (length l.streams)
+  few_passed_on : (line : WaitList) → length (told_after Nothing line w l) ≤ most_told line (length l.streams)
   few_passed_on Sends = let f = few_passed Sends w (after_news Nothing l) (gone w (after_news Nothing l)) in omega (arith, f)
   few_passed_on Receives = let f = few_passed Receives w (after_news Nothing l) (gone w (after_news Nothing l)) in omega (arith, f)
   few_passed_on Streams = let f = few_passed Streams w (after_news Nothing l) (gone w (after_news Nothing l)) in omega (arith, f)
   few_passed_on Closings = omega arith
 
-  leaves : (line : Line) → LeftOrStood w line l (left_after Nothing line w l) (told_after Nothing line w l)
+  leaves : (line : WaitList) → LeftOrStood w line l (left_after Nothing line w l) (told_after Nothing line w l)
   leaves line = inl (record { fewer = fewer_left Nothing line; few = few_passed_on line })
 
   -- a send's message is accepted
@@ -98,10 +98,10 @@ module _ (k : Kind) (w : Waiter) (l : Waiting) (placed : Placed k l) (e : is_amo
     few = first_one (gone w l).sends;
   }
 
-  is_gone : (line : Line) → LeftOrStood w line l (gone w l) []
+  is_gone : (line : WaitList) → LeftOrStood w line l (gone w l) []
   is_gone line = inl (record { fewer = λ p. count_gone_one p w l e; few = omega arith })
 
-  stood : (line other : Line) → LeftOrStood w line l (standing other w l) []
+  stood : (line other : WaitList) → LeftOrStood w line l (standing other w l) []
   stood line other = rw (not_untold k other w l placed e) (inr (record {
     same = λ p. let end = count_end p other w l in let one = count_gone_one p w l e in omega (arith, end, one);
     none = refl;
@@ -120,22 +120,22 @@ module _ (k : Kind) (w : Waiter) (l : Waiting) (placed : Placed k l) (e : is_amo
 
 module _ (k : Kind) (w : Waiter) (l m : Waiting) (names : List Waiter) (streams : length l.streams ≤ count_all (on k Streams) l)
     (woken : length m.woken + 1 ≡ length l.woken + length names) where
-  nearer_left : (line : Line) → k w ≡ Some line → Left w line l m names → suc (weight k m) ≤ weight k l
+  nearer_left : (line : WaitList) → k w ≡ Some line → Left w line l m names → suc (weight k m) ≤ weight k l
   nearer_left Sends own x =
-      let one : one_if (is_line Sends (k w)) ≡ 1 = ap (λ (o : Option Line). one_if (is_line Sends o)) own in
+      let one : one_if (is_line Sends (k w)) ≡ 1 = ap (λ (o : Option WaitList). one_if (is_line Sends o)) own in
       let s = x.fewer (on k Sends) in
       let r = x.fewer (on k Receives) in
       let n = x.fewer (on k Streams) in
       let few = x.few in
       by_send _ _ _ _ _ _ _ _ (length names) woken (omega (arith, few, streams)) (omega (arith, s, one)) (omega (arith, r)) (omega (arith, n))
   nearer_left Receives own x =
-      let one : one_if (is_line Receives (k w)) ≡ 1 = ap (λ (o : Option Line). one_if (is_line Receives o)) own in
+      let one : one_if (is_line Receives (k w)) ≡ 1 = ap (λ (o : Option WaitList). one_if (is_line Receives o)) own in
       let s = x.fewer (on k Sends) in
       let r = x.fewer (on k Receives) in
       let n = x.fewer (on k Streams) in
       by_receive _ _ _ _ _ _ _ _ (length names) woken x.few (omega (arith, s)) (omega (arith, r, one)) (omega (arith, n))
   nearer_left Streams own x =
-      let one : one_if (is_line Streams (k w)) ≡ 1 = ap (λ (o : Option Line). one_if (is_line Streams o)) own in
+      let one : one_if (is_line Streams (k w)) ≡ 1 = ap (λ (o : Option WaitList). one_if (is_line Streams o)) own in
       let s = x.fewer (on k Sends) in
       let r = x.fewer (on k Receives) in
       let n = x.fewer (on k Streams) in
@@ -147,7 +147,7 @@ module _ (k : Kind) (w : Waiter) (l m : Waiting) (names : List Waiter) (streams 
       let few = x.few in
       by_one _ _ _ _ _ _ _ _ (omega (arith, woken, few)) (omega (arith, s)) (omega (arith, r)) (omega (arith, n))
 
-  nearer : (line : Line) → k w ≡ Some line → LeftOrStood w line l m names → suc (weight k m) ≤ weight k l
+  nearer : (line : WaitList) → k w ≡ Some line → LeftOrStood w line l m names → suc (weight k m) ≤ weight k l
   nearer line own (inl x) = nearer_left line own x
   nearer line own (inr x) =
       let none = ap (λ (ws : List Waiter). length ws) x.none in
@@ -167,10 +167,10 @@ module _ {T : Type 0} where
   module _ (s : State T) where
     -- who belongs to a line after it belonged to it before
     abbrev pub KeepsLines : Names T → Type 0
-    KeepsLines names = (line : Line) (v : Waiter) → is_line line (line_at names v) ≡ true → is_line line (line_at s.names v) ≡ true
+    KeepsLines names = (line : WaitList) (v : Waiter) → is_line line (line_at names v) ≡ true → is_line line (line_at s.names v) ≡ true
 
     -- a send left, and its message came in where a place was free
-    pub record Comes (line : Line) (w : Waiter) (a : Answer T) : Type 0 where
+    pub record Comes (line : WaitList) (w : Waiter) (a : Answer T) : Type 0 where
       pub line_is : line ≡ Sends
       pub left : Left w line s.waiting a.after.waiting a.woken
       pub came : came_in a.reply ≡ 1
@@ -179,7 +179,7 @@ module _ {T : Type 0} where
       pub channel : a.after.channel ≡ appended s.channel message
 
     -- one that takes a message left with the oldest
-    pub record Takes (line : Line) (w : Waiter) (a : Answer T) : Type 0 where
+    pub record Takes (line : WaitList) (w : Waiter) (a : Answer T) : Type 0 where
       pub line_is : (line ≡ Receives) ⊎ (line ≡ Streams)
       pub left : Left w line s.waiting a.after.waiting a.woken
       pub came : came_in a.reply ≡ 0
@@ -193,14 +193,14 @@ module _ {T : Type 0} where
       pub came : came_in a.reply ≡ 0
       pub channel : a.after.channel ≡ s.channel
 
-    abbrev pub Does : Line → Waiter → Answer T → Type 0
+    abbrev pub Does : WaitList → Waiter → Answer T → Type 0
     Does line w a = Comes line w a ⊎ Takes line w a ⊎ Stays a
 
     -- so a poll of one of this line leaves those who wait, the names, and the channel
-    abbrev pub Polled : Line → Waiter → Answer T → Type 0
+    abbrev pub Polled : WaitList → Waiter → Answer T → Type 0
     Polled line w a = LeftOrStood w line s.waiting a.after.waiting a.woken × KeepsLines a.after.names × Does line w a
 
-    stays : (line : Line) (w : Waiter) (a : Answer T) → came_in a.reply ≡ 0 → a.after.channel ≡ s.channel → Does line w a
+    stays : (line : WaitList) (w : Waiter) (a : Answer T) → came_in a.reply ≡ 0 → a.after.channel ≡ s.channel → Does line w a
     stays line w a came same = inr (inr (record { came = came; channel = same }))
 
     kept : KeepsLines s.names
@@ -221,18 +221,18 @@ module _ {T : Type 0} where
               (set_elsewhere op.0 other.0 (Some (send handle None)) s.names.operations named t)) ∙ e
         ]
 
-    pub AllPolled : Line → Waiter → Option (Answer T) → Type 0
+    pub AllPolled : WaitList → Waiter → Option (Answer T) → Type 0
     AllPolled line w o = (a : Answer T) → o ≡ Some a → Polled line w a
 
-    none_polled : (line : Line) (w : Waiter) → AllPolled line w None
+    none_polled : (line : WaitList) (w : Waiter) → AllPolled line w None
     unfolding AllPolled
     none_polled line w a e = cc e
 
-    one_polled : (line : Line) (w : Waiter) (x : Answer T) → Polled line w x → AllPolled line w (Some x)
+    one_polled : (line : WaitList) (w : Waiter) (x : Answer T) → Polled line w x → AllPolled line w (Some x)
     unfolding AllPolled
     one_polled line w x h a e = let same : x ≡ a = cc e in subst (λ (y : Answer T). Polled line w y) same h
 
-    either_polled : (line : Line) (w : Waiter) (b : Bool) (x y : Option (Answer T)) → AllPolled line w x → AllPolled line w y
+    either_polled : (line : WaitList) (w : Waiter) (b : Bool) (x y : Option (Answer T)) → AllPolled line w x → AllPolled line w y
         → AllPolled line w (if b then x else y)
     either_polled line w true x y f g = f
     either_polled line w false x y f g = g
@@ -241,12 +241,12 @@ module _ {T : Type 0} where
       abbrev k : Kind
       k = line_at s.names
 
-      out_of_line : (line : Line) (r : Reply T) → came_in r ≡ 0 → AllPolled line w (not_standing line w s r)
+      out_of_line : (line : WaitList) (r : Reply T) → came_in r ≡ 0 → AllPolled line w (not_standing line w s r)
       out_of_line line r none =
           either_polled line w (is_among w (untold line s.waiting)) None (Some (replying (with_waiting (gone w s.waiting) s) r)) (none_polled line w)
           (one_polled line w _ (is_gone k w s.waiting awake.placed e line, kept, stays line w _ none refl))
 
-      unheld : (line : Line) (lack : Lack) (x : Space) (a : Answer T) → Polled line w a → AllPolled line w (not_held lack s.channel x a)
+      unheld : (line : WaitList) (lack : Lack) (x : Space) (a : Answer T) → Polled line w a → AllPolled line w (not_held lack s.channel x a)
       unheld line memory Open a h = either_polled line w (is_none s.channel.capacity) (Some a) None (one_polled line w a h) (none_polled line w)
       unheld line memory Filled a h = none_polled line w
       unheld line memory Shut a h = none_polled line w
@@ -304,7 +304,7 @@ module _ {T : Type 0} where
 
     -- of one that belongs to this line
     pub record PolledOn (w : Waiter) : Type 0 where
-      pub line : Line
+      pub line : WaitList
       pub own : line_at s.names w ≡ Some line
       pub ample : Polled line w (answer s (poll_of w))
       pub lacking : (lack : Lack) → AllPolled line w (answer_without lack s (poll_of w))

@@ -6,7 +6,7 @@ use Rattle.channel_calls.specs.declared.mark.Mark.{Mark}
 use Rattle.channel_calls.specs.declared.mark.Mark.TheVariants.{Nothing, Close}
 use Rattle.channel_calls.specs.declared.reply.Reply.{Reply}
 use Rattle.channel_calls.specs.declared.reply.Reply.TheVariants as reply
-use Rattle.channel_calls.specs.declared.stage.Kept.{Kept}
+use Rattle.channel_calls.specs.declared.stage.Returned.{Returned}
 use Rattle.channel_steps.specs.every_run.Bounds.{SaysFull, NoneFull, AllOf, BoundSound, one_if_closed}
 use Rattle.channel_steps.specs.every_run.Ends.{Each, Replies}
 use Rattle.channel_steps.proofs.every_run.BoundMoves.{SaysOf, FlagOf}
@@ -78,7 +78,7 @@ module _ {T : Type 0} where
   closed_deeds (d ∷ e ∷ ds) h = absurd h
 
   -- a call that says that it closed the channel has the mark, and is under way no more
-  ended : (u : ActiveCall T Waiter) (r : Option (Reply T)) (left : Option (Kept T)) → MayFinish u r left
+  ended : (u : ActiveCall T Waiter) (r : Option (Reply T)) (left : Option (Returned T)) → MayFinish u r left
       → one_if_closed r + tally has_closed (unless_ended u r) ≤ one_if (any_close u.marks)
   ended u None left h = omega arith
   ended u (Some (reply.Closed true)) left h =

@@ -8,8 +8,8 @@ use Rattle.std.proofs.lemmas.List.Sums.{count_by-le-length}
 use Rattle.std.proofs.lemmas.Map.Views.{lookup-from_Contains}
 use Rattle.lru.proofs.Splits.{all_from}
 use Rattle.event_listener.specs.declared.key.Key.{Key}
-use Rattle.channel_calls.specs.declared.stage.Line.{Line}
-use Rattle.channel_calls.specs.declared.stage.Line.TheVariants.{Sends, Receives, Streams}
+use Rattle.channel_calls.specs.declared.stage.WaitList.{WaitList}
+use Rattle.channel_calls.specs.declared.stage.WaitList.TheVariants.{Sends, Receives, Streams}
 use Rattle.channel_steps.specs.every_run.Sends.{HasPlaces}
 use Rattle.channel_world_model.specs.Laws.{same_line}
 use Rattle.channel_world_model.specs.Names.{Directory}
@@ -109,17 +109,17 @@ woken_first : (a b : Bool) → (a && b) ≡ true → a ≡ true
 woken_first true b e = refl
 woken_first false b e = e
 
-woken_status : (line own : Line) (s : PollState) → is_woken_on line (status_on own s) ≡ true → is_woken s ≡ true
+woken_status : (line own : WaitList) (s : PollState) → is_woken_on line (status_on own s) ≡ true → is_woken s ≡ true
 woken_status line own Rests e = no e
 woken_status line own (Waits key woken) e = woken_first woken (same_line line own) e
 woken_status line own (IsPolled brings) e = no e
 
-woken_off : (line : Line) (s : PollState) → is_woken_on line (no_stream_status s) ≡ true → is_woken s ≡ true
+woken_off : (line : WaitList) (s : PollState) → is_woken_on line (no_stream_status s) ≡ true → is_woken s ≡ true
 woken_off line Rests e = no e
 woken_off line (Waits key woken) e = no e
 woken_off line (IsPolled brings) e = no e
 
-woken_stream : (line : Line) (k : HandleKind) (s : PollState) → is_woken_on line (stream_status k s) ≡ true → is_woken s ≡ true
+woken_stream : (line : WaitList) (k : HandleKind) (s : PollState) → is_woken_on line (stream_status k s) ≡ true → is_woken s ≡ true
 woken_stream line handle_kind.Receiver s e = woken_status line Streams s e
 woken_stream line handle_kind.Sender s e = woken_off line s e
 woken_stream line handle_kind.WeakSender s e = woken_off line s e
@@ -128,27 +128,27 @@ woken_stream line handle_kind.WeakReceiver s e = woken_off line s e
 abbrev handle_seen : Option (Option HandleEntry) → NameStatus
 handle_seen o = status_by (λ (x : HandleEntry). stream_status x.handle.kind x.poll_state) o
 
-woken_handle : (line : Line) (o : Option HandleEntry) → is_woken_on line (handle_seen (Some o)) ≡ true → stream_stands is_woken o ≡ true
+woken_handle : (line : WaitList) (o : Option HandleEntry) → is_woken_on line (handle_seen (Some o)) ≡ true → stream_stands is_woken o ≡ true
 woken_handle line None e = no e
 woken_handle line (Some x) e = woken_stream line x.handle.kind x.poll_state e
 
 -- ---- who is pending and was not woken
 
-abbrev Sleeps : Line → Key → NameStatus → Type 0
+abbrev Sleeps : WaitList → Key → NameStatus → Type 0
 Sleeps line key p = p ≡ waits (record { line = line; key = key }) false
 
-asleep_status : (line own : Line) (key : Key) (s : PollState) → Sleeps line key (status_on own s) → (is_woken s ≡ false) × (stands_pending s ≡ true)
+asleep_status : (line own : WaitList) (key : Key) (s : PollState) → Sleeps line key (status_on own s) → (is_woken s ≡ false) × (stands_pending s ≡ true)
 asleep_status line own key Rests e = cc e
 asleep_status line own key (Waits k true) e = cc e
 asleep_status line own key (Waits k false) e = (refl, refl)
 asleep_status line own key (IsPolled brings) e = cc e
 
-asleep_off : (line : Line) (key : Key) (s : PollState) → Sleeps line key (no_stream_status s) → (is_woken s ≡ false) × (stands_pending s ≡ true)
+asleep_off : (line : WaitList) (key : Key) (s : PollState) → Sleeps line key (no_stream_status s) → (is_woken s ≡ false) × (stands_pending s ≡ true)
 asleep_off line key Rests e = cc e
 asleep_off line key (Waits k woken) e = cc e
 asleep_off line key (IsPolled brings) e = cc e
 
-asleep_stream : (line : Line) (key : Key) (k : HandleKind) (s : PollState) → Sleeps line key (stream_status k s)
+asleep_stream : (line : WaitList) (key : Key) (k : HandleKind) (s : PollState) → Sleeps line key (stream_status k s)
     → (is_woken s ≡ false) × (stands_pending s ≡ true)
 asleep_stream line key handle_kind.Receiver s e = asleep_status line Streams key s e
 asleep_stream line key handle_kind.Sender s e = asleep_off line key s e
@@ -197,23 +197,23 @@ module _ {T : Type 0} where
   abbrev operation_seen : Option (Option (Operation T)) → NameStatus
   operation_seen o = status_by (λ (x : Operation T). operation_status x.kind x.message x.poll_state) o
 
-  woken_send : (line : Line) (m : Option T) (s : PollState) → is_woken_on line (send_status m s) ≡ true → is_woken s ≡ true
+  woken_send : (line : WaitList) (m : Option T) (s : PollState) → is_woken_on line (send_status m s) ≡ true → is_woken s ≡ true
   woken_send line None Rests e = no e
   woken_send line None (Waits key woken) e = no e
   woken_send line None (IsPolled brings) e = no e
   woken_send line (Some m) s e = woken_status line Sends s e
 
-  woken_kind : (line : Line) (k : OperationKind) (m : Option T) (s : PollState) → is_woken_on line (operation_status k m s) ≡ true → is_woken s ≡ true
+  woken_kind : (line : WaitList) (k : OperationKind) (m : Option T) (s : PollState) → is_woken_on line (operation_status k m s) ≡ true → is_woken s ≡ true
   woken_kind line kind.Send m s e = woken_send line m s e
   woken_kind line kind.Receive m s e = woken_status line Receives s e
   woken_kind line kind.Closing m s e = woken_status line _ s e
 
-  woken_operation : (line : Line) (o : Option (Operation T)) → is_woken_on line (operation_seen (Some o)) ≡ true → operation_stands is_woken o ≡ true
+  woken_operation : (line : WaitList) (o : Option (Operation T)) → is_woken_on line (operation_seen (Some o)) ≡ true → operation_stands is_woken o ≡ true
   woken_operation line None e = no e
   woken_operation line (Some x) e = woken_kind line x.kind x.message x.poll_state e
 
   -- those of a line who are woken are no more than all who are
-  few_woken : (line : Line) (r : NameTable T) → AreApart r → woken_on line r ≤ how_many is_woken r
+  few_woken : (line : WaitList) (r : NameTable T) → AreApart r → woken_on line r ≤ how_many is_woken r
   few_woken line r apart =
       let p : Waiter → Bool = λ w. is_woken_on line (status r w) in
       let op_name : ℕ → Waiter = λ n. Op (record { 0 = n }) in
@@ -229,7 +229,7 @@ module _ {T : Type 0} where
       let both = count_both p (map op_name (keys_of r.operations)) (map stream_name (keys_of r.handles)) in
       omega (arith, a, b, both)
 
-  asleep_kind : (line : Line) (key : Key) (k : OperationKind) (m : Option T) (s : PollState) → Sleeps line key (operation_status k m s)
+  asleep_kind : (line : WaitList) (key : Key) (k : OperationKind) (m : Option T) (s : PollState) → Sleeps line key (operation_status k m s)
       → (is_woken s ≡ false) × (stands_pending s ≡ true)
   asleep_kind line key kind.Send None Rests e = cc e
   asleep_kind line key kind.Send None (Waits k woken) e = cc e
@@ -243,7 +243,7 @@ module _ {T : Type 0} where
   woken_stands (Some x) e = pends x.poll_state e
 
   -- so more are pending than were woken
-  more_pending : (line : Line) (name : Waiter) (r : NameTable T) → IsUnwoken line name r → suc (how_many is_woken r) ≤ how_many stands_pending r
+  more_pending : (line : WaitList) (name : Waiter) (r : NameTable T) → IsUnwoken line name r → suc (how_many is_woken r) ≤ how_many stands_pending r
   more_pending line (Op op) r (key, e) = by (lookup (nat_eq op.0) r.operations) refl e
     where
       by : (o : Option (Option (Operation T))) → lookup (nat_eq op.0) r.operations ≡ o → Sleeps line key (operation_seen o)

@@ -10,7 +10,7 @@ use Rattle.channel_calls.specs.declared.error.Refused.TheVariants as refused
 use Rattle.channel_calls.specs.declared.error.TrySendError.TheVariants as try_send
 use Rattle.channel_calls.specs.declared.reply.Reply.{Reply}
 use Rattle.channel_calls.specs.declared.reply.Reply.TheVariants as reply
-use Rattle.channel_calls.specs.declared.stage.Kept.{Kept}
+use Rattle.channel_calls.specs.declared.stage.Returned.{Returned}
 use Rattle.channel_world_model.specs.State.{State}
 use Rattle.channel_world_model.specs.declared.name.Waiter.{Waiter}
 use Rattle.channel_steps.specs.Answers.{Row, Keeps}
@@ -87,7 +87,7 @@ module _ {T : Type 0} where
 
   -- ---- a call that refuses its message
 
-  out_of : (a : ChannelAsk T Waiter) (ds : List (MarkedMoment T Waiter)) (seen : List (Channel T Waiter)) (r : Reply T) (k : Kept T)
+  out_of : (a : ChannelAsk T Waiter) (ds : List (MarkedMoment T Waiter)) (seen : List (Channel T Waiter)) (r : Reply T) (k : Returned T)
       → Row a ds seen r → Keeps a r k → KeepsItOut a ds r k
   out_of (ask.TrySend m) ds seen (reply.TrySend (Err (refused.Plain (try_send.Full v)))) k h keeps = (h.1, h.0)
   out_of (ask.TrySend m) ds seen (reply.TrySend (Err (refused.Plain (try_send.Closed v)))) k h keeps = (h.1, h.0)
@@ -98,15 +98,15 @@ module _ {T : Type 0} where
   out_of (ask.ForceSend m) ds seen (reply.ForceSend (Err (refused.SerialsUsedUp v))) k h keeps = absurd h
   out_of (ask.PollSend m key task) ds seen (reply.SendPoll (Ready (Err (refused.Plain e)))) k h keeps = (h.1, h.0)
   out_of (ask.PollSend m key task) ds seen (reply.SendPoll (Ready (Err (refused.NoMemory u)))) k h keeps =
-      (h.0, ap (λ (x : Kept T). x.message) keeps)
+      (h.0, ap (λ (x : Returned T). x.message) keeps)
   out_of (ask.PollSend m key task) ds seen (reply.SendPoll (Ready (Err (refused.SerialsUsedUp u)))) k h keeps =
-      (h.0, ap (λ (x : Kept T). x.message) keeps)
+      (h.0, ap (λ (x : Returned T). x.message) keeps)
   out_of (ask.PollSend m key task) ds seen (reply.SendPoll Pending) k h keeps = (h.0, keeps.1)
-  out_of (ask.RefusePoll line message key) ds seen r k h keeps = (h.0, ap (λ (x : Kept T). x.message) keeps)
+  out_of (ask.RefusePoll line message key) ds seen r k h keeps = (h.0, ap (λ (x : Returned T). x.message) keeps)
   out_of a ds seen r k h keeps = tt
 
-  ends_out : (u : ActiveCall T Waiter) (o : Option (Reply T)) (left : Option (Kept T)) → MayFinish u o left
-      → (r : Reply T) → o ≡ Some r → (k : Kept T) × (left ≡ Some k) × KeepsItOut u.ask u.marks r k
+  ends_out : (u : ActiveCall T Waiter) (o : Option (Reply T)) (left : Option (Returned T)) → MayFinish u o left
+      → (r : Reply T) → o ≡ Some r → (k : Returned T) × (left ≡ Some k) × KeepsItOut u.ask u.marks r k
   ends_out u None left f r e = absurd (let no : None ≡ Some r = e in cc)
   ends_out u (Some x) left f r e =
       let same : x ≡ r = cc e in

@@ -3,8 +3,8 @@ use Rattle.std.proofs.Common.{arith, ◌≡◌, ◌≤◌, ◌+◌, ◌*◌, ℕ
 use Rattle.std.proofs.Math.Nat.{suc-mul, mul-le-mul}
 use Rattle.std.specs.List.{filter}
 use Rattle.std.proofs.lemmas.List.Sums.{count_by-le-length, length-filter}
-use Rattle.channel_calls.specs.declared.stage.Line.{Line}
-use Rattle.channel_calls.specs.declared.stage.Line.TheVariants.{Sends, Receives, Streams, Closings}
+use Rattle.channel_calls.specs.declared.stage.WaitList.{WaitList}
+use Rattle.channel_calls.specs.declared.stage.WaitList.TheVariants.{Sends, Receives, Streams, Closings}
 use Rattle.channel_world_model.specs.Awake.{Kind, Placed}
 use Rattle.channel_world_model.specs.Laws.{count_of, is_line}
 use Rattle.channel_world_model.specs.Lines.{Waiting, same_waiter, is_among, untold}
@@ -14,7 +14,7 @@ use Rattle.channel_world_model.proofs.Settle.{count_all}
 use Rattle.channel_world_model.proofs.WaiterLemmas.{decided}
 
 -- whether a name belongs to the line
-abbrev pub on : Kind → Line → Waiter → Bool
+abbrev pub on : Kind → WaitList → Waiter → Bool
 on k line = λ w. is_line line (k w)
 
 -- how many polls are to come at most, where so many are woken and so many sends, receives and streams are pending
@@ -59,24 +59,24 @@ by_stream a b s t r q n m names woken few sends receives streams =
 
 -- ---- the names of a line
 
-same_self : (line : Line) → is_line line (Some line) ≡ true
+same_self : (line : WaitList) → is_line line (Some line) ≡ true
 same_self Sends = refl
 same_self Receives = refl
 same_self Streams = refl
 same_self Closings = refl
 
-all_on : (k : Kind) (line : Line) (ws : List Waiter) → ((w : Waiter) → is_among w ws ≡ true → k w ≡ Some line) → length ws ≤ length (filter (on k line) ws)
+all_on : (k : Kind) (line : WaitList) (ws : List Waiter) → ((w : Waiter) → is_among w ws ≡ true → k w ≡ Some line) → length ws ≤ length (filter (on k line) ws)
 all_on k line [] h = omega arith
 all_on k line (v ∷ ws) h =
-    let own : is_line line (k v) ≡ true = ap (λ (o : Option Line). is_line line o) (h v (among_self v ws)) ∙ same_self line in
+    let own : is_line line (k v) ≡ true = ap (λ (o : Option WaitList). is_line line o) (h v (among_self v ws)) ∙ same_self line in
     let rest = all_on k line ws (λ w e. h w (or_right (same_waiter w v) (is_among w ws) e)) in
     rw own (omega (arith, rest))
 
-none_on : (k : Kind) (line other : Line) (ws : List Waiter) → is_line line (Some other) ≡ false
+none_on : (k : Kind) (line other : WaitList) (ws : List Waiter) → is_line line (Some other) ≡ false
     → ((w : Waiter) → is_among w ws ≡ true → k w ≡ Some other) → length (filter (on k line) ws) ≡ 0
 none_on k line other [] apart h = refl
 none_on k line other (v ∷ ws) apart h =
-    let off : is_line line (k v) ≡ false = ap (λ (o : Option Line). is_line line o) (h v (among_self v ws)) ∙ apart in
+    let off : is_line line (k v) ≡ false = ap (λ (o : Option WaitList). is_line line o) (h v (among_self v ws)) ∙ apart in
     rw off (none_on k line other ws apart (λ w e. h w (or_right (same_waiter w v) (is_among w ws) e)))
 
 filtered : (p : Waiter → Bool) (ws : List Waiter) → length (filter p ws) ≤ length ws
@@ -84,7 +84,7 @@ filtered p ws = let same = length-filter p ws in let few = count_by-le-length p 
 
 module _ (k : Kind) (l : Waiting) (placed : Placed k l) where
   -- those of a line who are pending stand untold in it, or were woken
-  pub count_on : (line : Line) → count_all (on k line) l ≤ length (untold line l) + count_of k line l.woken
+  pub count_on : (line : WaitList) → count_all (on k line) l ≤ length (untold line l) + count_of k line l.woken
   count_on Sends =
       let a = filtered (on k Sends) l.sends in
       let b = none_on k Sends Receives l.receives refl (placed.lines Receives) in
@@ -133,7 +133,7 @@ module _ (p q : Waiter → Bool) (h : (w : Waiter) → p w ≡ true → q w ≡ 
       let e = filter_more l.woken in
       omega (arith, a, b, c, d, e)
 
-pub fewer_kinds : (k j : Kind) (l : Waiting) → ((line : Line) (w : Waiter) → is_line line (j w) ≡ true → is_line line (k w) ≡ true) → weight j l ≤ weight k l
+pub fewer_kinds : (k j : Kind) (l : Waiting) → ((line : WaitList) (w : Waiter) → is_line line (j w) ≡ true → is_line line (k w) ≡ true) → weight j l ≤ weight k l
 fewer_kinds k j l h =
     no_more (length l.woken) _ _ _ _ _ _ (count_more (on j Sends) (on k Sends) (h Sends) l) (count_more (on j Receives) (on k Receives) (h Receives) l)
     (count_more (on j Streams) (on k Streams) (h Streams) l)

@@ -1,7 +1,7 @@
 -- Who sleeps in a world, pending and not woken since the last poll, and what answers for it: calls under way or not.
 use Rattle.std.specs.Prelude.{◌≡◌, ℕ, ◌+◌, ◌<◌, ◌≤◌, true, false, [], Option, None, Some}
-use Rattle.channel_calls.specs.declared.stage.Line.{Line}
-use Rattle.channel_calls.specs.declared.stage.Line.TheVariants.{Sends, Receives, Streams}
+use Rattle.channel_calls.specs.declared.stage.WaitList.{WaitList}
+use Rattle.channel_calls.specs.declared.stage.WaitList.TheVariants.{Sends, Receives, Streams}
 use Rattle.channel_steps.specs.every_run.Sends.{HasPlaces}
 use Rattle.channel_world_model.specs.Laws.{NobodyIsLeft}
 use Rattle.channel_world_model.specs.Lines.{untold}
@@ -26,7 +26,7 @@ module _ {T : Type 0} where
   woken_among w = how_many is_woken (names_in w)
 
   -- nobody sleeps on this line
-  pub record NobodySleeps (line : Line) (w : WorldView T) : Type 0 where
+  pub record NobodySleeps (line : WaitList) (w : WorldView T) : Type 0 where
     pub none : (name : Waiter) → IsUnwoken line name (names_in w) → ⊥
 
   -- ---- what answers for who sleeps, in the numbers that a world tells
@@ -49,7 +49,7 @@ module _ {T : Type 0} where
   -- and where anybody sleeps on a closed channel
   abbrev pub ClosingIsAnswered : WorldView T → Type 0
   ClosingIsAnswered w =
-      (line : Line) (name : Waiter) → IsUnwoken line name (names_in w) → is_closed w ≡ true → 0 < calls_in w
+      (line : WaitList) (name : Waiter) → IsUnwoken line name (names_in w) → is_closed w ≡ true → 0 < calls_in w
 
   -- ---- by kind, in the numbers that a world tells of it
 
@@ -71,11 +71,11 @@ module _ {T : Type 0} where
 
   -- nobody on a closed channel where no call has closed it,
   abbrev pub NobodySleepsWhereClosed : WorldView T → Type 0
-  NobodySleepsWhereClosed w = (observation_of w).closers ≡ 0 → is_closed w ≡ true → (line : Line) → NobodySleeps line w
+  NobodySleepsWhereClosed w = (observation_of w).closers ≡ 0 → is_closed w ≡ true → (line : WaitList) → NobodySleeps line w
 
   -- and nobody on a line of which as many are woken as are pending
   abbrev pub ALineIsAwake : WorldView T → Type 0
-  ALineIsAwake w = (line : Line) → pending_on_line line (names_in w) ≡ woken_on line (names_in w) → NobodySleeps line w
+  ALineIsAwake w = (line : WaitList) → pending_on_line line (names_in w) ≡ woken_on line (names_in w) → NobodySleeps line w
 
   -- ---- with no call under way
 
@@ -95,11 +95,11 @@ module _ {T : Type 0} where
 
   -- and nobody on a closed one
   abbrev pub NobodySleepsOnAClosed : WorldView T → Type 0
-  NobodySleepsOnAClosed w = calls_in w ≡ 0 → is_closed w ≡ true → (line : Line) → NobodySleeps line w
+  NobodySleepsOnAClosed w = calls_in w ≡ 0 → is_closed w ≡ true → (line : WaitList) → NobodySleeps line w
 
   -- where as many are woken as are pending, nobody sleeps
   abbrev pub AllAreAwake : WorldView T → Type 0
-  AllAreAwake w = pending_in w ≡ woken_among w → (line : Line) → NobodySleeps line w
+  AllAreAwake w = pending_in w ≡ woken_among w → (line : WaitList) → NobodySleeps line w
 
   -- ---- the state that it is then: whom a message, a free place or a closing lets go on
 
@@ -118,7 +118,7 @@ module _ {T : Type 0} where
 
   -- where it is closed nobody is pending
   abbrev pub NobodyPendsOnAClosed : WorldView T → Type 0
-  NobodyPendsOnAClosed w = (at_rest w).channel.closed ≡ true → (line : Line) → untold line (at_rest w).waiting ≡ []
+  NobodyPendsOnAClosed w = (at_rest w).channel.closed ≡ true → (line : WaitList) → untold line (at_rest w).waiting ≡ []
 
   -- beside one who was not woken no message, free place or closing but such as the woken ones answer for
   abbrev pub NobodyIsLeftAtRest : WorldView T → Type 0

@@ -8,7 +8,7 @@ use Rattle.channel_calls.specs.declared.ask.ChannelAsk.TheVariants as ask
 use Rattle.channel_calls.specs.declared.error.Refused.TheVariants as refused
 use Rattle.channel_calls.specs.declared.reply.Reply.{Reply}
 use Rattle.channel_calls.specs.declared.reply.Reply.TheVariants as reply
-use Rattle.channel_calls.specs.declared.stage.Kept.{Kept}
+use Rattle.channel_calls.specs.declared.stage.Returned.{Returned}
 use Rattle.channel_world_model.specs.State.{State}
 use Rattle.channel_world_model.specs.declared.name.Waiter.{Waiter}
 use Rattle.channel_steps.specs.Moments.{MarkedMoment, with_marked}
@@ -36,7 +36,7 @@ module _ {T : Type 0} where
 
   -- A call that asks this and refuses its message with this reply, or goes on waiting with it, has made no mark, so it let nothing
   -- in; and the message is handed back, or left to its operation.
-  abbrev pub KeepsItOut : ChannelAsk T Waiter → List (MarkedMoment T Waiter) → Reply T → Kept T → Type 0
+  abbrev pub KeepsItOut : ChannelAsk T Waiter → List (MarkedMoment T Waiter) → Reply T → Returned T → Type 0
   KeepsItOut (ask.TrySend m) ds (reply.TrySend (Err e)) k = (ds ≡ []) × (try_handed_back e ≡ m)
   KeepsItOut (ask.ForceSend m) ds (reply.ForceSend (Err e)) k = (ds ≡ []) × (handed_back e ≡ m)
   KeepsItOut (ask.PollSend m key task) ds (reply.SendPoll (Ready (Err (refused.Plain e)))) k = (ds ≡ []) × (unsent e ≡ m)
@@ -52,7 +52,7 @@ module _ {T : Type 0} where
   EndsWithItOut s (step.Begin p a) e names t n = Unit {0}
   EndsWithItOut s (step.Step p) e names t n =
       (r : Reply T) → e.reply ≡ Some r
-      → (k : Kept T) × (e.kept ≡ Some k) × KeepsItOut n.mine.ask (with_marked n.mine.marks e.mark s.now n.mine.seen) r k
+      → (k : Returned T) × (e.kept ≡ Some k) × KeepsItOut n.mine.ask (with_marked n.mine.marks e.mark s.now n.mine.seen) r k
 
   -- ---- a run: what all of its steps let in, what they take out, and that each refused send is kept out
 

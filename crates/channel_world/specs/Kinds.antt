@@ -1,7 +1,7 @@
 -- Who is pending on which line, and how many messages calls under way have taken: numbers that a world tells.
 use Rattle.std.specs.Prelude.{ℕ, ◌+◌, Bool, false, true, List, [], ◌∷◌, Option, Some, is_some}
 use Rattle.std.specs.List.{count_by}
-use Rattle.channel_calls.specs.declared.stage.Line.{Line}
+use Rattle.channel_calls.specs.declared.stage.WaitList.{WaitList}
 use Rattle.channel_world_model.specs.Laws.{same_line}
 use Rattle.channel_world_runs.specs.Owed.{all_names}
 use Rattle.channel_world_runs.specs.Owners.{NameStatus, waits, status_by, operation_status, stream_status, status}
@@ -13,7 +13,7 @@ use Rattle.channel_world_runs.specs.declared.names.OperationKind.TheVariants.{Se
 use Rattle.channel_world_runs.specs.declared.name_table.NameTable.{NameTable}
 
 -- whether one that stands so is pending on this line, woken or not
-abbrev pub is_pending_on : Line → NameStatus → Bool
+abbrev pub is_pending_on : WaitList → NameStatus → Bool
 is_pending_on line (waits h is_woken) = same_line line h.line
 is_pending_on line other = false
 
@@ -37,5 +37,5 @@ module _ {T : Type 0} where
   may_pend kind m = true
 
   -- how many are pending on this line
-  abbrev pub pending_on_line : Line → NameTable T → ℕ
+  abbrev pub pending_on_line : WaitList → NameTable T → ℕ
   pending_on_line line r = count_by (λ w. is_pending_on line (status r w)) (all_names r)

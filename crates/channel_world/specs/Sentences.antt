@@ -4,7 +4,7 @@ use Rattle.std.specs.Prelude.{◌≡◌, ℕ, ◌<◌, ◌≤◌, false, List, [
 use Rattle.concurrent_queue.specs.Queue.{Phase}
 use Rattle.channel_calls.specs.Moves.{OnePlace}
 use Rattle.channel_calls.specs.declared.mark.Mark.TheVariants.{Nothing}
-use Rattle.channel_calls.specs.declared.stage.Kept.{Kept}
+use Rattle.channel_calls.specs.declared.stage.Returned.{Returned}
 use Rattle.channel_calls.specs.declared.stage.Stage.{Stage}
 use Rattle.channel_steps.specs.every_run.Ends.{Each, IsStill, SaysTheEnd, GivesMessage, Replies}
 use Rattle.channel_steps.specs.every_run.Over.{AllSpent}
@@ -96,7 +96,7 @@ module _ {T : Type 0} where
     pub goes_on : n.configuration.under_way ≡ map (sees n.configuration.now) before ++ (unless_ended after e.reply ++ map (sees n.configuration.now) behind)
     pub work : WorkDoes m call e n
     -- where it ends its call; what the call leaves is what the names get back
-    pub left : Option (Kept T)
+    pub left : Option (Returned T)
     pub ends : IfSome e.reply (λ r. EndSays after r left)
     pub name_state : IsNameStateAfter (step.Step p) e left m.name_state n.name_state
     -- a short call ends within eight steps of its own, whatever others do

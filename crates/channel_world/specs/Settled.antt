@@ -5,8 +5,8 @@ use Rattle.std.specs.Option.{option_map_or}
 use Rattle.channel_steps.specs.solo.Ample.{lacks_memory}
 use Rattle.channel_world_language.specs.Text.{wants_growth}
 use Rattle.channel_calls.specs.declared.reply.Reply.{Reply}
-use Rattle.channel_calls.specs.declared.stage.Line.{Line}
-use Rattle.channel_calls.specs.declared.stage.Line.TheVariants.{Sends, Receives, Streams}
+use Rattle.channel_calls.specs.declared.stage.WaitList.{WaitList}
+use Rattle.channel_calls.specs.declared.stage.WaitList.TheVariants.{Sends, Receives, Streams}
 use Rattle.channel_world_runs.specs.Positions.{accepted_by, brings}
 use Rattle.channel_world_model.specs.Answer.{Answer}
 use Rattle.channel_world_model.specs.Awake.{AwakeIn}
@@ -39,7 +39,7 @@ module _ {T : Type 0} where
 
 module _ {T : Type 0} where
   -- how many are pending on this line: they stand untold in it, or were woken
-  abbrev pub pending_on : Line → State T → ℕ
+  abbrev pub pending_on : WaitList → State T → ℕ
   pending_on line s = length (untold line s.waiting) + woken_of_line line s
 
   -- Settling makes no more polls: one for each who is woken, and for each who is pending as many as it may wake when it leaves: a send

@@ -3,7 +3,7 @@ use Rattle.std.specs.Prelude.{ℕ, ◌+◌, List, length}
 use Rattle.concurrent_queue.specs.Capacity.{capacity_of}
 use Rattle.concurrent_queue.specs.Step.{items_in, closed_in}
 use Rattle.event_listener.specs.Lists.{tasks_of}
-use Rattle.channel_calls.specs.Parts.{Parts, Roster}
+use Rattle.channel_calls.specs.Parts.{Parts, WaitLists}
 use Rattle.channel_world_model.specs.Channel.{ModelChannel}
 use Rattle.channel_world_model.specs.Lines.{Waiting}
 use Rattle.channel_world_model.specs.State.{State}
@@ -16,7 +16,7 @@ use Rattle.channel_world_runs.specs.NameTable.{names_of}
 use Rattle.channel_world_runs.specs.declared.world_state.WorldState.{WorldState}
 
 -- those who wait in each list, and the woken
-abbrev pub waiting_in : Roster Waiter → List Waiter → Waiting
+abbrev pub waiting_in : WaitLists Waiter → List Waiter → Waiting
 waiting_in r woken = record {
   sends = tasks_of r.sends.waiting;
   receives = tasks_of r.receives.waiting;

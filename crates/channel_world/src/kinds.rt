@@ -7,38 +7,38 @@ ghost use Rattle.channel_world_model.specs.Laws.{same_line};
 ghost use Rattle.channel_world.specs.Kinds.{is_pending_on, may_pend, operation_stance, stream_stance, takings_of};
 
 use super::world::World;
-use channel_calls::stage::Line;
+use channel_calls::stage::WaitList;
 use channel_world_model::name::HandleKind;
 use channel_world_runs::doing::Doing;
 use channel_world_runs::names::{HandleEntry, Operation, OperationKind, PollState};
 
 /// Whether an operation of this kind waits on this line.
-fn waits_on(line: Line, kind: OperationKind) -> bool
+fn waits_on(line: WaitList, kind: OperationKind) -> bool
     ensures { result ≡ same_line line (line_of_kind kind) }
 {
     match kind {
         OperationKind::Send => match line {
-            Line::Sends => true,
-            Line::Receives | Line::Streams | Line::Closings => false,
+            WaitList::Sends => true,
+            WaitList::Receives | WaitList::Streams | WaitList::Closings => false,
         },
         OperationKind::Receive => match line {
-            Line::Receives => true,
-            Line::Sends | Line::Streams | Line::Closings => false,
+            WaitList::Receives => true,
+            WaitList::Sends | WaitList::Streams | WaitList::Closings => false,
         },
         OperationKind::Closing => match line {
-            Line::Closings => true,
-            Line::Sends | Line::Receives | Line::Streams => false,
+            WaitList::Closings => true,
+            WaitList::Sends | WaitList::Receives | WaitList::Streams => false,
         },
     }
 }
 
 /// Whether streams wait on this line.
-fn is_of_streams(line: Line) -> bool
-    ensures { result ≡ same_line line Line.Streams }
+fn is_of_streams(line: WaitList) -> bool
+    ensures { result ≡ same_line line WaitList.Streams }
 {
     match line {
-        Line::Streams => true,
-        Line::Sends | Line::Receives | Line::Closings => false,
+        WaitList::Streams => true,
+        WaitList::Sends | WaitList::Receives | WaitList::Closings => false,
     }
 }
 
@@ -53,7 +53,7 @@ fn may_pend<T>(operation: &Operation<T>) -> bool
 }
 
 /// Whether an operation is pending on this line.
-fn pends_on<T>(line: Line, operation: &Option<Operation<T>>) -> bool
+fn pends_on<T>(line: WaitList, operation: &Option<Operation<T>>) -> bool
     ensures { result ≡ is_pending_on line (operation_stance operation.now) }
 {
     match operation {
@@ -66,7 +66,7 @@ fn pends_on<T>(line: Line, operation: &Option<Operation<T>>) -> bool
 }
 
 /// Whether an operation is pending on this line and was woken.
-fn is_woken_on<T>(line: Line, operation: &Option<Operation<T>>) -> bool
+fn is_woken_on<T>(line: WaitList, operation: &Option<Operation<T>>) -> bool
     ensures { result ≡ is_woken_on line (operation_stance operation.now) }
 {
     match operation {
@@ -81,7 +81,7 @@ fn is_woken_on<T>(line: Line, operation: &Option<Operation<T>>) -> bool
 }
 
 /// Whether a receiver's stream is pending on this line.
-fn streams_on(line: Line, handle_entry: &Option<HandleEntry>) -> bool
+fn streams_on(line: WaitList, handle_entry: &Option<HandleEntry>) -> bool
     ensures { result ≡ is_pending_on line (stream_stance handle_entry.now) }
 {
     match handle_entry {
@@ -94,7 +94,7 @@ fn streams_on(line: Line, handle_entry: &Option<HandleEntry>) -> bool
 }
 
 /// Whether a receiver's stream is pending on this line and was woken.
-fn is_stream_woken_on(line: Line, handle_entry: &Option<HandleEntry>) -> bool
+fn is_stream_woken_on(line: WaitList, handle_entry: &Option<HandleEntry>) -> bool
     ensures { result ≡ is_woken_on line (stream_stance handle_entry.now) }
 {
     match handle_entry {
@@ -128,7 +128,7 @@ impl<T: Drop> World<T> {
 
     /// How many are pending on this line: they live, their last poll ended so, and no poll of them is under way. A walk over all
     /// names. Own to this project.
-    pub fn pending_of(&self, line: Line) -> usize
+    pub fn pending_of(&self, line: WaitList) -> usize
         ensures { result ≡ pending_on_line line (names_in self.now) }
     {
         self.keeps_names();
@@ -140,7 +140,7 @@ impl<T: Drop> World<T> {
     }
 
     /// How many of those who are pending on this line were woken since their last poll. A walk over all names. Own to this project.
-    pub fn woken_of(&self, line: Line) -> usize
+    pub fn woken_of(&self, line: WaitList) -> usize
         ensures { result ≡ woken_on line (names_in self.now) }
     {
         self.keeps_names();

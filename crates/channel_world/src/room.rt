@@ -1,7 +1,7 @@
 //! Room for a call, reckoned before it begins.
 use super::call::Call;
 use super::world::World;
-use channel_calls::stage::Line;
+use channel_calls::stage::WaitList;
 
 impl<T: Drop> World<T> {
     ghost use Rattle.std.specs.Prelude.{◌≤◌, IfSome};
@@ -12,10 +12,10 @@ impl<T: Drop> World<T> {
     pub(crate) fn untold_count(&self) -> Option<usize>
         ensures { IfSome result (λ n. untold_count (at_rest self.now).waiting ≤ n) }
     {
-        let sends = self.world_state.channel.waiting(Line::Sends);
-        let receives = self.world_state.channel.waiting(Line::Receives);
-        let streams = self.world_state.channel.waiting(Line::Streams);
-        let closings = self.world_state.channel.waiting(Line::Closings);
+        let sends = self.world_state.channel.waiting(WaitList::Sends);
+        let receives = self.world_state.channel.waiting(WaitList::Receives);
+        let streams = self.world_state.channel.waiting(WaitList::Streams);
+        let closings = self.world_state.channel.waiting(WaitList::Closings);
         let messengers = sends.checked_add(receives)?;
         let listening = streams.checked_add(closings)?;
         messengers.checked_add(listening)
@@ -27,11 +27,11 @@ impl<T: Drop> World<T> {
     {
         match call {
             Call::Close { .. } | Call::Drop { .. } => self.untold_count(),
-            Call::RecvMany { .. } => Some(self.world_state.channel.waiting(Line::Sends)),
+            Call::RecvMany { .. } => Some(self.world_state.channel.waiting(WaitList::Sends)),
             _ => self
                 .world_state
                 .channel
-                .waiting(Line::Streams)
+                .waiting(WaitList::Streams)
                 .checked_add(2),
         }
     }

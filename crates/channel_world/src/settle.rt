@@ -5,7 +5,7 @@ ghost use Rattle.std.specs.Prelude.{◌≡◌, ◌≤◌, [], vec_capacity, IfSo
 use super::call::Reply;
 use super::name::Waiter;
 use super::world::World;
-use channel_calls::stage::Line;
+use channel_calls::stage::WaitList;
 use channel_world_runs::rest_laws::{
     a_channel_at_rest_is_a_world, a_poll_of_settling_is_the_models,
 };
@@ -61,14 +61,14 @@ impl<T: Drop> World<T> {
     ghost use Rattle.channel_world.specs.View.{names_in, at_rest, has_one_place, accepted_by_now, IsQuiet, LeadsOn};
 
     /// Whether what has this name belongs to this line.
-    fn is_on(&self, line: Line, name: Waiter) -> bool
+    fn is_on(&self, line: WaitList, name: Waiter) -> bool
         ensures { result ≡ is_line line (line_at (at_rest self.now).names name) }
     {
         self.world_state.name_table.is_on(line, name)
     }
 
     /// How many of these names belong to this line. None where there is no such number.
-    fn count_on(&self, line: Line, names: &Vec<Waiter>) -> Option<usize>
+    fn count_on(&self, line: WaitList, names: &Vec<Waiter>) -> Option<usize>
         ensures { IfSome result (λ n. n ≡ count_of (line_at (at_rest self.now).names) line names.now.items) }
     {
         let mut count = 0usize;
@@ -81,7 +81,7 @@ impl<T: Drop> World<T> {
     }
 
     /// How many are pending on this line, where these are woken. None where there is no such number.
-    fn pending_on(&self, line: Line, woken: &Vec<Waiter>) -> Option<usize>
+    fn pending_on(&self, line: WaitList, woken: &Vec<Waiter>) -> Option<usize>
         requires quiet { IsQuiet self.now }
         requires woken { woken.now.items ≡ (at_rest self.now).waiting.woken }
         ensures { IfSome result (λ n. n ≡ pending_on line (at_rest self.now)) }
@@ -98,9 +98,9 @@ impl<T: Drop> World<T> {
         requires woken { woken.now.items ≡ (at_rest self.now).waiting.woken }
         ensures { IfSome result (λ n. n ≡ most_polls (at_rest self.now)) }
     {
-        let sends = self.pending_on(Line::Sends, woken)?;
-        let receives = self.pending_on(Line::Receives, woken)?;
-        let streams = self.pending_on(Line::Streams, woken)?;
+        let sends = self.pending_on(WaitList::Sends, woken)?;
+        let receives = self.pending_on(WaitList::Receives, woken)?;
+        let streams = self.pending_on(WaitList::Streams, woken)?;
         let each = streams.checked_add(2)?;
         let by_sends = sends.checked_mul(each)?;
         let by_receives = receives.checked_mul(2)?;
@@ -121,12 +121,12 @@ impl<T: Drop> World<T> {
         if self.is_closed() {
             return Some(0);
         }
-        let sends = self.pending_on(Line::Sends, woken)?;
+        let sends = self.pending_on(WaitList::Sends, woken)?;
         let Some(capacity) = self.capacity() else {
             return Some(sends);
         };
-        let receives = self.pending_on(Line::Receives, woken)?;
-        let streams = self.pending_on(Line::Streams, woken)?;
+        let receives = self.pending_on(WaitList::Receives, woken)?;
+        let streams = self.pending_on(WaitList::Streams, woken)?;
         let takers = receives.checked_add(streams)?;
         let free = (capacity as u64).saturating_sub(self.messages()) as usize;
         let places = free.checked_add(takers)?;

@@ -1,22 +1,22 @@
 -- What keeps everybody awake, whatever the names are: how many messages and free places there are, and who waits.
-use Rattle.channel_world_model.proofs.Words.{zero, suc, arith, ◌≡◌, ◌⊎◌, ◌≤◌, ◌+◌, ◌-◌, ℕ, List, [], ◌∷◌, ◌++◌, length, take, drop, Bool, true, false, cond, if◌then◌else◌, Option, None, Some, IsSome, refl, sym, ap, subst, ◌∙◌, inl, inr, filter, Waiting, same_waiter, is_among, untold, told_by, after_news, after_rooms, without_waiter, gone, passed_on, at_end, standing, Kind, Enough, times_in, Placed, Awake, same_line, is_line, count_of, free_places, Waiter, Line, Sends, Receives, Streams, Closings, News, Nothing, Message, Room, Closing, NextIn}
+use Rattle.channel_world_model.proofs.Words.{zero, suc, arith, ◌≡◌, ◌⊎◌, ◌≤◌, ◌+◌, ◌-◌, ℕ, List, [], ◌∷◌, ◌++◌, length, take, drop, Bool, true, false, cond, if◌then◌else◌, Option, None, Some, IsSome, refl, sym, ap, subst, ◌∙◌, inl, inr, filter, Waiting, same_waiter, is_among, untold, told_by, after_news, after_rooms, without_waiter, gone, passed_on, at_end, standing, Kind, Enough, times_in, Placed, Awake, same_line, is_line, count_of, free_places, Waiter, WaitList, Sends, Receives, Streams, Closings, News, Nothing, Message, Room, Closing, NextIn}
 use Rattle.channel_world_model.proofs.Counting.{count_gone, count_news, one_if, count_end, count_append, count_without, count_without_other, times_self, among_counts, absent_counts, among_append, among_drop, among_take, among_self, or_right}
 use Rattle.channel_world_model.proofs.WaiterLemmas.{same_sound, decided, or_true, left_among, untold_gone}
 
 -- ---- lines
 
-pub line_sound : (a b : Line) → same_line a b ≡ true → a ≡ b
+pub line_sound : (a b : WaitList) → same_line a b ≡ true → a ≡ b
 line_sound Sends Sends e = refl
 line_sound Receives Receives e = refl
 line_sound Streams Streams e = refl
 line_sound Closings Closings e = refl
 line_sound a b e = cc e
 
-pub line_refl : (a : Line) → same_line a a ≡ true
+pub line_refl : (a : WaitList) → same_line a a ≡ true
 line_refl Sends = refl
 line_refl a = refl
 
-pub enough_less : (k : Kind) (line : Line) (m n : ℕ) (l : Waiting) → m ≤ n → Enough k line n l → Enough k line m l
+pub enough_less : (k : Kind) (line : WaitList) (m n : ℕ) (l : Waiting) → m ≤ n → Enough k line n l → Enough k line m l
 enough_less k line m n l le (inl e) = inl e
 enough_less k line m n l le (inr h) = inr (omega (arith, le, h))
 
@@ -26,14 +26,14 @@ enough_less k line m n l le (inr h) = inr (omega (arith, le, h))
 abbrev Shrinks : List Waiter → List Waiter → Type 0
 Shrinks before after = (after ≡ before) ⊎ ((after ≡ drop 1 before) ⊎ (after ≡ []))
 
-next_shrinks : (told line : Line) (l : Waiting) → Shrinks (untold line l) (untold line (after_news (NextIn told) l))
+next_shrinks : (told line : WaitList) (l : Waiting) → Shrinks (untold line l) (untold line (after_news (NextIn told) l))
 next_shrinks Sends Sends l = inr (inl refl)
 next_shrinks Receives Receives l = inr (inl refl)
 next_shrinks Streams Streams l = inr (inl refl)
 next_shrinks Closings Closings l = inr (inl refl)
 next_shrinks told line l = inl refl
 
-shrinks : (news : News) (line : Line) (l : Waiting) → Shrinks (untold line l) (untold line (after_news news l))
+shrinks : (news : News) (line : WaitList) (l : Waiting) → Shrinks (untold line l) (untold line (after_news news l))
 shrinks Message Receives l = inr (inl refl)
 shrinks Message Streams l = inr (inr refl)
 shrinks Room Sends l = inr (inl refl)
@@ -53,11 +53,11 @@ empty_shrunk before after (inl e) h = e ∙ h
 empty_shrunk before after (inr (inl e)) h = e ∙ ap (λ (xs : List Waiter). drop 1 xs) h
 empty_shrunk before after (inr (inr e)) h = e
 
-pub empty_news : (news : News) (line : Line) (l : Waiting) → untold line l ≡ [] → untold line (after_news news l) ≡ []
+pub empty_news : (news : News) (line : WaitList) (l : Waiting) → untold line l ≡ [] → untold line (after_news news l) ≡ []
 empty_news news line l e = empty_shrunk (untold line l) (untold line (after_news news l)) (shrinks news line l) e
 
 -- those told stood untold
-pub told_stood : (news : News) (w : Waiter) (l : Waiting) → is_among w (told_by news l) ≡ true → (line : Line) × (is_among w (untold line l) ≡ true)
+pub told_stood : (news : News) (w : Waiter) (l : Waiting) → is_among w (told_by news l) ≡ true → (line : WaitList) × (is_among w (untold line l) ≡ true)
 told_stood Nothing w l e = cc e
 told_stood Message w l e = elim (among_append w (take 1 l.receives) l.streams e) [
   | inl t ↦ (Receives, among_take w l.receives t)
@@ -80,7 +80,7 @@ told_stood (NextIn line) w l e = (line, among_take w (untold line l) e)
 pub times_news : (news : News) (w : Waiter) (l : Waiting) → times_in w (after_news news l) ≡ times_in w l
 times_news news w l = count_news (same_waiter w) news l
 
-some_kind : (o : Option Line) (line : Line) → o ≡ Some line → IsSome o
+some_kind : (o : Option WaitList) (line : WaitList) → o ≡ Some line → IsSome o
 some_kind None line e = cc e
 some_kind (Some other) line e = refl
 
@@ -94,12 +94,12 @@ placed_news k news l p = record {
   once = λ w. omega (arith, times_news news w l, p.once w);
 }
 
-pub enough_news : (k : Kind) (news : News) (line : Line) (n : ℕ) (l : Waiting) → Enough k line n l → Enough k line n (after_news news l)
+pub enough_news : (k : Kind) (news : News) (line : WaitList) (n : ℕ) (l : Waiting) → Enough k line n l → Enough k line n (after_news news l)
 enough_news k news line n l (inl e) = inl (empty_news news line l e)
 enough_news k news line n l (inr h) = inr (omega (arith, h, count_append (λ (w : Waiter). is_line line (k w)) l.woken (told_by news l)))
 
 -- the first of a line is one of it
-first_counts : (k : Kind) (line : Line) (xs : List Waiter) → ((w : Waiter) → is_among w xs ≡ true → k w ≡ Some line) → (xs ≡ []) ⊎ (count_of k line (take 1 xs) ≡ 1)
+first_counts : (k : Kind) (line : WaitList) (xs : List Waiter) → ((w : Waiter) → is_among w xs ≡ true → k w ≡ Some line) → (xs ≡ []) ⊎ (count_of k line (take 1 xs) ≡ 1)
 first_counts k line [] h = inl refl
 first_counts k line (x ∷ xs) h = inr (rw (h x (among_self x xs)) (rw (line_refl line) refl))
 
@@ -125,7 +125,7 @@ gain_room k n m l p le (inr h) = elim (first_counts k Sends l.sends (p.lines Sen
   | inr one ↦ inr (omega (arith, le, h, one, count_append (λ (w : Waiter). is_line Sends (k w)) l.woken (take 1 l.sends)))
 ]
 
-pub gain_next : (k : Kind) (line : Line) (n m : ℕ) (l : Waiting) → Placed k l → m ≤ n + 1 → Enough k line n l → Enough k line m (after_news (NextIn line) l)
+pub gain_next : (k : Kind) (line : WaitList) (n m : ℕ) (l : Waiting) → Placed k l → m ≤ n + 1 → Enough k line n l → Enough k line m (after_news (NextIn line) l)
 gain_next k line n m l p le (inl e) = inl (empty_news (NextIn line) line l e)
 gain_next k line n m l p le (inr h) = elim (first_counts k line (untold line l) (p.lines line)) [
   | inl e ↦ inl (empty_news (NextIn line) line l e)
@@ -134,7 +134,7 @@ gain_next k line n m l p le (inr h) = elim (first_counts k line (untold line l) 
 
 -- ---- one who is gone
 
-pub empty_gone : (line : Line) (w : Waiter) (l : Waiting) → untold line l ≡ [] → untold line (gone w l) ≡ []
+pub empty_gone : (line : WaitList) (w : Waiter) (l : Waiting) → untold line l ≡ [] → untold line (gone w l) ≡ []
 empty_gone line w l e = untold_gone line w l ∙ ap (λ (xs : List Waiter). without_waiter w xs) e
 
 pub times_gone : (v w : Waiter) (l : Waiting) → times_in v (gone w l) ≤ times_in v l
@@ -151,47 +151,47 @@ placed_gone k w l p = record {
 }
 
 -- one of another line
-gone_other : (k : Kind) (line : Line) (w : Waiter) (n : ℕ) (l : Waiting) → is_line line (k w) ≡ false → Enough k line n l → Enough k line n (gone w l)
+gone_other : (k : Kind) (line : WaitList) (w : Waiter) (n : ℕ) (l : Waiting) → is_line line (k w) ≡ false → Enough k line n l → Enough k line n (gone w l)
 gone_other k line w n l off (inl e) = inl (empty_gone line w l e)
 gone_other k line w n l off (inr h) = inr (omega (arith, h, count_without_other (λ (v : Waiter). is_line line (k v)) w off l.woken))
 
 -- one who isn't woken
-gone_unwoken : (k : Kind) (line : Line) (w : Waiter) (n : ℕ) (l : Waiting) → is_among w l.woken ≡ false → Enough k line n l → Enough k line n (gone w l)
+gone_unwoken : (k : Kind) (line : WaitList) (w : Waiter) (n : ℕ) (l : Waiting) → is_among w l.woken ≡ false → Enough k line n l → Enough k line n (gone w l)
 gone_unwoken k line w n l off (inl e) = inl (empty_gone line w l e)
 gone_unwoken k line w n l off (inr h) = inr (omega (arith, h, count_without (λ (v : Waiter). is_line line (k v)) w l.woken, absent_counts w l.woken off))
 
 -- anybody: at most one fewer is woken
-gone_one : (k : Kind) (line : Line) (w : Waiter) (n : ℕ) (l : Waiting) → Placed k l → Enough k line n l → Enough k line (n - 1) (gone w l)
+gone_one : (k : Kind) (line : WaitList) (w : Waiter) (n : ℕ) (l : Waiting) → Placed k l → Enough k line n l → Enough k line (n - 1) (gone w l)
 gone_one k line w n l p (inl e) = inl (empty_gone line w l e)
 gone_one k line w n l p (inr h) = inr (omega (arith, h, count_without (λ (v : Waiter). is_line line (k v)) w l.woken, p.once w))
 
 -- ---- one who leaves and passes on what it was told
 
-abbrev pub leave : Line → Waiter → Waiting → Waiting
+abbrev pub leave : WaitList → Waiter → Waiting → Waiting
 leave line w l = after_news (passed_on line w l) (gone w l)
 
 -- one of this line: a woken one wakes the next in its place
-leave_same : (k : Kind) (line : Line) (w : Waiter) (n : ℕ) (l : Waiting) (news : News) → news ≡ (if is_among w l.woken then NextIn line else Nothing)
+leave_same : (k : Kind) (line : WaitList) (w : Waiter) (n : ℕ) (l : Waiting) (news : News) → news ≡ (if is_among w l.woken then NextIn line else Nothing)
     → Placed k l → Enough k line n l → Enough k line n (after_news news (gone w l))
 leave_same k line w n l news e p h = elim (decided (is_among w l.woken)) [
   | inl t ↦ rw (e, t) (gain_next k line (n - 1) n (gone w l) (placed_gone k w l p) (omega arith) (gone_one k line w n l p h))
   | inr t ↦ rw (e, t) (enough_news k Nothing line n (gone w l) (gone_unwoken k line w n l t h))
 ]
 
-leave_other : (k : Kind) (own line : Line) (w : Waiter) (n : ℕ) (l : Waiting) → k w ≡ Some own → same_line line own ≡ false → Enough k line n l → Enough k line n (leave own w l)
+leave_other : (k : Kind) (own line : WaitList) (w : Waiter) (n : ℕ) (l : Waiting) → k w ≡ Some own → same_line line own ≡ false → Enough k line n l → Enough k line n (leave own w l)
 leave_other k own line w n l e off h =
     let other : is_line line (k w) ≡ false = rw e off in
     enough_news k (passed_on own w l) line n (gone w l) (gone_other k line w n l other h)
 
-leave_receives : (k : Kind) (own : Line) (w : Waiter) (n : ℕ) (l : Waiting) → k w ≡ Some own → Placed k l → Enough k Receives n l → Enough k Receives n (leave own w l)
+leave_receives : (k : Kind) (own : WaitList) (w : Waiter) (n : ℕ) (l : Waiting) → k w ≡ Some own → Placed k l → Enough k Receives n l → Enough k Receives n (leave own w l)
 leave_receives k Receives w n l e p h = leave_same k Receives w n l (passed_on Receives w l) refl p h
 leave_receives k own w n l e p h = leave_other k own Receives w n l e refl h
 
-leave_sends : (k : Kind) (own : Line) (w : Waiter) (n : ℕ) (l : Waiting) → k w ≡ Some own → Placed k l → Enough k Sends n l → Enough k Sends n (leave own w l)
+leave_sends : (k : Kind) (own : WaitList) (w : Waiter) (n : ℕ) (l : Waiting) → k w ≡ Some own → Placed k l → Enough k Sends n l → Enough k Sends n (leave own w l)
 leave_sends k Sends w n l e p h = leave_same k Sends w n l (passed_on Sends w l) refl p h
 leave_sends k own w n l e p h = leave_other k own Sends w n l e refl h
 
-empty_leave : (own line : Line) (w : Waiter) (l : Waiting) → untold line l ≡ [] → untold line (leave own w l) ≡ []
+empty_leave : (own line : WaitList) (w : Waiter) (l : Waiting) → untold line l ≡ [] → untold line (leave own w l) ≡ []
 empty_leave own line w l e = empty_news (passed_on own w l) line (gone w l) (empty_gone line w l e)
 
 keep_streams : (n : ℕ) (before after : List Waiter) → (before ≡ [] → after ≡ []) → (before ≡ []) ⊎ (n ≡ 0) → (after ≡ []) ⊎ (n ≡ 0)
@@ -200,7 +200,7 @@ keep_streams n before after h (inr e) = inr e
 
 -- ---- one who stands at the end of its line
 
-untold_end : (own line : Line) (w : Waiter) (l : Waiting) → ((line ≡ own) × (untold line (at_end own w l) ≡ untold own (gone w l) ++ w ∷ [])) ⊎ (untold line (at_end own w l) ≡ untold line (gone w l))
+untold_end : (own line : WaitList) (w : Waiter) (l : Waiting) → ((line ≡ own) × (untold line (at_end own w l) ≡ untold own (gone w l) ++ w ∷ [])) ⊎ (untold line (at_end own w l) ≡ untold line (gone w l))
 untold_end Sends Sends w l = inl (refl, refl)
 untold_end Receives Receives w l = inl (refl, refl)
 untold_end Streams Streams w l = inl (refl, refl)
@@ -213,16 +213,16 @@ among_one v w e = elim (or_true (same_waiter v w) false e) [
   | inr t ↦ cc t
 ]
 
-lines_end : (k : Kind) (own line : Line) (w v : Waiter) (l : Waiting) → k w ≡ Some own → Placed k l → is_among v (untold line (at_end own w l)) ≡ true → k v ≡ Some line
+lines_end : (k : Kind) (own line : WaitList) (w v : Waiter) (l : Waiting) → k w ≡ Some own → Placed k l → is_among v (untold line (at_end own w l)) ≡ true → k v ≡ Some line
 lines_end k own line w v l e p h = elim (untold_end own line w l) [
   | inr same ↦ (placed_gone k w l p).lines line v (subst (λ (xs : List Waiter). is_among v xs ≡ true) same h)
   | inl here ↦ elim (among_append v (untold own (gone w l)) (w ∷ []) (subst (λ (xs : List Waiter). is_among v xs ≡ true) here.1 h)) [
-    | inl t ↦ (placed_gone k w l p).lines own v t ∙ ap (λ (x : Line). Some x) (sym here.0)
-    | inr t ↦ ap (λ (x : Waiter). k x) (among_one v w t) ∙ (e ∙ ap (λ (x : Line). Some x) (sym here.0))
+    | inl t ↦ (placed_gone k w l p).lines own v t ∙ ap (λ (x : WaitList). Some x) (sym here.0)
+    | inr t ↦ ap (λ (x : Waiter). k x) (among_one v w t) ∙ (e ∙ ap (λ (x : WaitList). Some x) (sym here.0))
   ]
 ]
 
-once_end : (own : Line) (v w : Waiter) (l : Waiting) → times_in v l ≤ 1 → times_in v (at_end own w l) ≤ 1
+once_end : (own : WaitList) (v w : Waiter) (l : Waiting) → times_in v l ≤ 1 → times_in v (at_end own w l) ≤ 1
 once_end own v w l h = elim (decided (same_waiter v w)) [
   | inl t ↦
       let one : one_if (same_waiter v w) ≡ 1 = rw t refl in
@@ -233,11 +233,11 @@ once_end own v w l h = elim (decided (same_waiter v w)) [
       omega (arith, count_end (same_waiter v) own w l, none, times_gone v w l, h)
 ]
 
-pub woken_end : (own : Line) (w : Waiter) (l : Waiting) → (at_end own w l).woken ≡ (gone w l).woken
+pub woken_end : (own : WaitList) (w : Waiter) (l : Waiting) → (at_end own w l).woken ≡ (gone w l).woken
 woken_end Sends w l = refl
 woken_end own w l = refl
 
-placed_end : (k : Kind) (own : Line) (w : Waiter) (l : Waiting) → k w ≡ Some own → Placed k l → Placed k (at_end own w l)
+placed_end : (k : Kind) (own : WaitList) (w : Waiter) (l : Waiting) → k w ≡ Some own → Placed k l → Placed k (at_end own w l)
 placed_end k own w l e p = record {
   lines = λ line v h. lines_end k own line w v l e p h;
   wakes = λ v h. (placed_gone k w l p).wakes v (subst (λ (xs : List Waiter). is_among v xs ≡ true) (woken_end own w l) h);
@@ -251,7 +251,7 @@ chosen_same false x ys zs h = h
 -- ---- the changes of a channel
 
 module _ (k : Kind) (capacity : Option ℕ) where
-  pub awake_leave : (closed : Bool) (n : ℕ) (own : Line) (w : Waiter) (l : Waiting) → k w ≡ Some own → Awake k capacity closed n l → Awake k capacity closed n (leave own w l)
+  pub awake_leave : (closed : Bool) (n : ℕ) (own : WaitList) (w : Waiter) (l : Waiting) → k w ≡ Some own → Awake k capacity closed n l → Awake k capacity closed n (leave own w l)
   awake_leave closed n own w l e a = record {
     placed = placed_news k (passed_on own w l) (gone w l) (placed_gone k w l a.placed);
     receives = leave_receives k own w n l e a.placed a.receives;
@@ -262,7 +262,7 @@ module _ (k : Kind) (capacity : Option ℕ) where
   }
 
   -- one that belongs to no line leaves nothing behind
-  pub awake_leave_spent : (closed : Bool) (n : ℕ) (own : Line) (w : Waiter) (l : Waiting) → k w ≡ None → Awake k capacity closed n l → Awake k capacity closed n (leave own w l)
+  pub awake_leave_spent : (closed : Bool) (n : ℕ) (own : WaitList) (w : Waiter) (l : Waiting) → k w ≡ None → Awake k capacity closed n l → Awake k capacity closed n (leave own w l)
   awake_leave_spent closed n own w l e a = record {
     placed = placed_news k (passed_on own w l) (gone w l) (placed_gone k w l a.placed);
     receives = enough_news k (passed_on own w l) Receives n (gone w l) (gone_other k Receives w n l (rw e refl) a.receives);
@@ -323,7 +323,7 @@ module _ (k : Kind) (capacity : Option ℕ) where
   awake_rooms closed (suc i) n m l e a =
       awake_rooms closed i (m + i) m (after_news Room l) refl (awake_room closed n (m + i) l (omega (arith, e)) a)
 
-  all_empty : (line : Line) (l : Waiting) → untold line (after_news Closing l) ≡ []
+  all_empty : (line : WaitList) (l : Waiting) → untold line (after_news Closing l) ≡ []
   all_empty Sends l = refl
   all_empty line l = refl
 
@@ -339,21 +339,21 @@ module _ (k : Kind) (capacity : Option ℕ) where
   }
 
   -- when one of this line may stand, or be out of it, without a notice being passed on
-  abbrev pub Idle : Line → ℕ → Type 0
+  abbrev pub Idle : WaitList → ℕ → Type 0
   Idle Sends n = (free_places capacity n ≡ 0) × (capacity ≡ None → ⊥)
   Idle Receives n = n ≡ 0
   Idle Streams n = n ≡ 0
   Idle Closings n = Unit {0}
 
-  gone_receives : (own : Line) (w : Waiter) (n : ℕ) (l : Waiting) → k w ≡ Some own → Idle own n → Enough k Receives n l → Enough k Receives n (gone w l)
+  gone_receives : (own : WaitList) (w : Waiter) (n : ℕ) (l : Waiting) → k w ≡ Some own → Idle own n → Enough k Receives n l → Enough k Receives n (gone w l)
   gone_receives Receives w n l e i h = inr (omega (arith, i))
   gone_receives own w n l e i h = gone_other k Receives w n l (rw e refl) h
 
-  gone_sends : (own : Line) (w : Waiter) (n : ℕ) (l : Waiting) → k w ≡ Some own → Idle own n → Enough k Sends (free_places capacity n) l → Enough k Sends (free_places capacity n) (gone w l)
+  gone_sends : (own : WaitList) (w : Waiter) (n : ℕ) (l : Waiting) → k w ≡ Some own → Idle own n → Enough k Sends (free_places capacity n) l → Enough k Sends (free_places capacity n) (gone w l)
   gone_sends Sends w n l e i h = let zero_free = i.0 in inr (omega (arith, zero_free))
   gone_sends own w n l e i h = gone_other k Sends w (free_places capacity n) l (rw e refl) h
 
-  pub awake_gone : (closed : Bool) (n : ℕ) (own : Line) (w : Waiter) (l : Waiting) → k w ≡ Some own → Idle own n → Awake k capacity closed n l → Awake k capacity closed n (gone w l)
+  pub awake_gone : (closed : Bool) (n : ℕ) (own : WaitList) (w : Waiter) (l : Waiting) → k w ≡ Some own → Idle own n → Awake k capacity closed n l → Awake k capacity closed n (gone w l)
   awake_gone closed n own w l e i a = record {
     placed = placed_gone k w l a.placed;
     receives = gone_receives own w n l e i a.receives;
@@ -375,19 +375,19 @@ module _ (k : Kind) (capacity : Option ℕ) where
   }
 
   -- one who stands at the end of its line, of an open channel
-  end_receives : (own : Line) (w : Waiter) (n : ℕ) (l : Waiting) → k w ≡ Some own → Idle own n → Enough k Receives n l → Enough k Receives n (at_end own w l)
+  end_receives : (own : WaitList) (w : Waiter) (n : ℕ) (l : Waiting) → k w ≡ Some own → Idle own n → Enough k Receives n l → Enough k Receives n (at_end own w l)
   end_receives Receives w n l e i h = inr (omega (arith, i))
   end_receives own w n l e i h = gone_receives own w n l e i h
 
-  end_sends : (own : Line) (w : Waiter) (n : ℕ) (l : Waiting) → k w ≡ Some own → Idle own n → Enough k Sends (free_places capacity n) l → Enough k Sends (free_places capacity n) (at_end own w l)
+  end_sends : (own : WaitList) (w : Waiter) (n : ℕ) (l : Waiting) → k w ≡ Some own → Idle own n → Enough k Sends (free_places capacity n) l → Enough k Sends (free_places capacity n) (at_end own w l)
   end_sends Sends w n l e i h = let zero_free = i.0 in inr (omega (arith, zero_free))
   end_sends own w n l e i h = gone_sends own w n l e i h
 
-  end_unbounded : (own : Line) (w : Waiter) (n : ℕ) (l : Waiting) → Idle own n → (capacity ≡ None → l.sends ≡ []) → capacity ≡ None → (at_end own w l).sends ≡ []
+  end_unbounded : (own : WaitList) (w : Waiter) (n : ℕ) (l : Waiting) → Idle own n → (capacity ≡ None → l.sends ≡ []) → capacity ≡ None → (at_end own w l).sends ≡ []
   end_unbounded Sends w n l i h o = absurd (i.1 o)
   end_unbounded own w n l i h o = empty_gone Sends w l (h o)
 
-  end_streams : (own : Line) (w : Waiter) (n : ℕ) (l : Waiting) → Idle own n → (l.streams ≡ []) ⊎ (n ≡ 0) → ((at_end own w l).streams ≡ []) ⊎ (n ≡ 0)
+  end_streams : (own : WaitList) (w : Waiter) (n : ℕ) (l : Waiting) → Idle own n → (l.streams ≡ []) ⊎ (n ≡ 0) → ((at_end own w l).streams ≡ []) ⊎ (n ≡ 0)
   end_streams Receives w n l i h = inr i
   end_streams Streams w n l i h = inr i
   end_streams own w n l i h = keep_streams n l.streams (gone w l).streams (empty_gone Streams w l) h
@@ -395,7 +395,7 @@ module _ (k : Kind) (capacity : Option ℕ) where
   not_open : {A : Type 0} → false ≡ true → A
   not_open e = cc e
 
-  pub awake_end : (n : ℕ) (own : Line) (w : Waiter) (l : Waiting) → k w ≡ Some own → Idle own n → Awake k capacity false n l → Awake k capacity false n (at_end own w l)
+  pub awake_end : (n : ℕ) (own : WaitList) (w : Waiter) (l : Waiting) → k w ≡ Some own → Idle own n → Awake k capacity false n l → Awake k capacity false n (at_end own w l)
   awake_end n own w l e i a = record {
     placed = placed_end k own w l e a.placed;
     receives = end_receives own w n l e i a.receives;
@@ -405,7 +405,7 @@ module _ (k : Kind) (capacity : Option ℕ) where
     opened = λ o line. not_open o;
   }
 
-  pub awake_standing : (n : ℕ) (own : Line) (w : Waiter) (l : Waiting) → k w ≡ Some own → Idle own n → Awake k capacity false n l → Awake k capacity false n (standing own w l)
+  pub awake_standing : (n : ℕ) (own : WaitList) (w : Waiter) (l : Waiting) → k w ≡ Some own → Idle own n → Awake k capacity false n l → Awake k capacity false n (standing own w l)
   awake_standing n own w l e i a = elim (decided (is_among w (untold own l))) [
     | inl t ↦ rw t a
     | inr t ↦ rw t (awake_end n own w l e i a)
@@ -437,25 +437,25 @@ count_same p q [] h = refl
 count_same p q (x ∷ xs) h =
     rw (h x (among_self x xs)) (chosen_same (q x) x (filter p xs) (filter q xs) (count_same p q xs (λ y e. h y (or_right (same_waiter y x) (is_among y xs) e))))
 
-among_times : (line : Line) (w : Waiter) (l : Waiting) → is_among w (untold line l) ≡ true → 1 ≤ times_in w l
+among_times : (line : WaitList) (w : Waiter) (l : Waiting) → is_among w (untold line l) ≡ true → 1 ≤ times_in w l
 among_times Sends w l e = omega (arith, among_counts w l.sends e)
 among_times line w l e = omega (arith, among_counts w (untold line l) e)
 
-enough_renamed : (k k' : Kind) (line : Line) (n : ℕ) (l : Waiting) → ((w : Waiter) → 1 ≤ times_in w l → k' w ≡ k w) → Enough k line n l → Enough k' line n l
+enough_renamed : (k k' : Kind) (line : WaitList) (n : ℕ) (l : Waiting) → ((w : Waiter) → 1 ≤ times_in w l → k' w ≡ k w) → Enough k line n l → Enough k' line n l
 enough_renamed k k' line n l same (inl e) = inl e
 enough_renamed k k' line n l same (inr h) =
     inr (omega (
       arith,
       h,
       count_same (λ (w : Waiter). is_line line (k' w)) (λ (w : Waiter). is_line line (k w)) l.woken
-          (λ w e. ap (λ (o : Option Line). is_line line o) (same w (omega (arith, among_counts w l.woken e)))),
+          (λ w e. ap (λ (o : Option WaitList). is_line line o) (same w (omega (arith, among_counts w l.woken e)))),
     ))
 
 pub awake_renamed : (k k' : Kind) (capacity : Option ℕ) (closed : Bool) (n : ℕ) (l : Waiting) → ((w : Waiter) → 1 ≤ times_in w l → k' w ≡ k w) → Awake k capacity closed n l → Awake k' capacity closed n l
 awake_renamed k k' capacity closed n l same a = record {
   placed = record {
     lines = λ line w e. same w (among_times line w l e) ∙ a.placed.lines line w e;
-    wakes = λ w e. subst (λ (o : Option Line). IsSome o) (sym (same w (omega (arith, among_counts w l.woken e)))) (a.placed.wakes w e);
+    wakes = λ w e. subst (λ (o : Option WaitList). IsSome o) (sym (same w (omega (arith, among_counts w l.woken e)))) (a.placed.wakes w e);
     once = a.placed.once;
   };
   receives = enough_renamed k k' Receives n l same a.receives;
@@ -466,5 +466,5 @@ awake_renamed k k' capacity closed n l same a = record {
 }
 
 -- one who left stands nowhere
-pub left_nowhere : (own : Line) (w : Waiter) (l : Waiting) → times_in w (leave own w l) ≡ 0
+pub left_nowhere : (own : WaitList) (w : Waiter) (l : Waiting) → times_in w (leave own w l) ≡ 0
 left_nowhere own w l = times_news (passed_on own w l) w (gone w l) ∙ times_gone_self w l

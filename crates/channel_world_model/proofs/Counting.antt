@@ -1,5 +1,5 @@
 -- Counting names in lists.
-use Rattle.channel_world_model.proofs.Words.{Waiting, after_news, gone, at_end, untold, same_waiter, is_among, without_waiter, News, Nothing, Message, Room, Closing, NextIn, sym, if◌then◌else◌, arith, ◌≡◌, ◌⊎◌, ◌≤◌, ◌+◌, ℕ, List, [], ◌∷◌, ◌++◌, length, take, drop, Bool, true, false, cond, refl, ap, subst, ◌∙◌, inl, inr, length-append, Line, Sends, or_left, filter, filter-append, times, Waiter}
+use Rattle.channel_world_model.proofs.Words.{Waiting, after_news, gone, at_end, untold, same_waiter, is_among, without_waiter, News, Nothing, Message, Room, Closing, NextIn, sym, if◌then◌else◌, arith, ◌≡◌, ◌⊎◌, ◌≤◌, ◌+◌, ℕ, List, [], ◌∷◌, ◌++◌, length, take, drop, Bool, true, false, cond, refl, ap, subst, ◌∙◌, inl, inr, length-append, WaitList, Sends, or_left, filter, filter-append, times, Waiter}
 use Rattle.std.proofs.lemmas.List.Folds.{list_any-append}
 pub use Rattle.std.proofs.lemmas.Bool.{or_right}
 use Rattle.channel_world_model.proofs.WaiterLemmas.{same_refl, same_sound, decided, or_true}
@@ -129,6 +129,6 @@ pub count_gone_one : (p : Waiter → Bool) (w : Waiter) (l : Waiting) → is_amo
 count_gone_one p w l e =
     omega (arith, count_fewer p w l.sends, count_fewer p w l.receives, count_fewer p w l.streams, count_fewer p w l.closings, count_fewer_one p w l.woken e)
 
-pub count_end : (p : Waiter → Bool) (line : Line) (w : Waiter) (l : Waiting) → count_all p (at_end line w l) ≡ count_all p (gone w l) + one_if (p w)
+pub count_end : (p : Waiter → Bool) (line : WaitList) (w : Waiter) (l : Waiting) → count_all p (at_end line w l) ≡ count_all p (gone w l) + one_if (p w)
 count_end p Sends w l = omega (arith, count_append p (without_waiter w l.sends) (w ∷ []), count_head p w [])
 count_end p line w l = omega (arith, count_append p (without_waiter w (untold line l)) (w ∷ []), count_head p w [])

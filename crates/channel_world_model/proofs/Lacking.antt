@@ -1,5 +1,5 @@
 -- What a call may answer where the one growth that it needs is refused, case by case.
-use Rattle.channel_world_model.proofs.Words.{◌∙◌, subst, ◌≡◌, ℕ, suc, List, [], ◌∷◌, Bool, true, false, Option, None, Some, is_none, Err, refl, sym, inl, inr, cond-false, NoMemory, Reply, Line, Sends, Receives, Streams, Closings, Answer, replying, after_leaving, space_of, Found, first, none_yet, found_in, found, is_among, untold, gone, ModelOperation, send, recv, closing, at, Lack, memory, refused, not_listening, not_standing, not_held, send_not_polled, recv_not_polled, not_polled, next_not_polled, not_received, answer_without, State, with_waiting, Call, HandleId, OpId, Waiter, Op, Stream, Nothing, Space, Open, Filled, Ready}
+use Rattle.channel_world_model.proofs.Words.{◌∙◌, subst, ◌≡◌, ℕ, suc, List, [], ◌∷◌, Bool, true, false, Option, None, Some, is_none, Err, refl, sym, inl, inr, cond-false, NoMemory, Reply, WaitList, Sends, Receives, Streams, Closings, Answer, replying, after_leaving, space_of, Found, first, none_yet, found_in, found, is_among, untold, gone, ModelOperation, send, recv, closing, at, Lack, memory, refused, not_listening, not_standing, not_held, send_not_polled, recv_not_polled, not_polled, next_not_polled, not_received, answer_without, State, with_waiting, Call, HandleId, OpId, Waiter, Op, Stream, Nothing, Space, Open, Filled, Ready}
 use Rattle.channel_calls.specs.declared.reply.Reply.TheVariants as reply
 use Rattle.channel_world_model.specs.declared.call.Call.TheVariants as call
 use Rattle.channel_world_model.proofs.WaiterLemmas.{decided}
@@ -37,7 +37,7 @@ module _ {T : Type 0} (s : State T) where
   held_is memory Open y a e = elim (decided (is_none s.channel.capacity)) [ inl t ↦ cc (rw t at e) | inr t ↦ cc (rw t at e) ]
   held_is lack x y a e = cc e
 
-  out_is : (line : Line) (w : Waiter) (r : Reply T) (a : Answer T) → not_standing line w s r ≡ Some a → out w r ≡ a
+  out_is : (line : WaitList) (w : Waiter) (r : Reply T) (a : Answer T) → not_standing line w s r ≡ Some a → out w r ≡ a
   out_is line w r a e = elim (decided (is_among w (untold line s.waiting))) [ inl t ↦ cc (rw t at e) | inr t ↦ cc (rw t at e) ]
 
   module _ (P : Call T → Answer T → Type 0) (h : Lacking P) where

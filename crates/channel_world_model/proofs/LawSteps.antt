@@ -1,5 +1,5 @@
 -- Each call, one at a time, keeps the accounts of messages and leaves nobody asleep.
-use Rattle.channel_world_model.proofs.Words.{cond_both, take-append-drop, zero, suc, take, drop, arith, ◌≡◌, ◌⊎◌, ◌≤◌, ◌+◌, ◌-◌, ◌^◌, ◌==◌, ℕ, nat_eq, nat_lt, List, [], ◌∷◌, ◌++◌, length, Bool, true, false, ◌||◌, ◌&&◌, not, if◌then◌else◌, Option, None, Some, IsSome, is_some, Ok, Err, refl, sym, ap, subst, ◌∙◌, inl, inr, append-nil, append_assoc, length-append, nat_eq_equiv, list_all, option_map_or, option_to_list, lookup, set_value, ModelChannel, is_full, Names, Directory, ModelOperation, send, recv, closing, at, is_taken, with_new_operation, with_operation_changed, without_operation, Waiting, nobody, is_among, untold, after_news, gone, left_after, standing, State, start, with_channel, with_names, with_waiting, Call, Reply, Answer, replying, after_telling, after_leaving, pending, space_of, Found, first, none_yet, none_ever, found_in, found, try_send_answer, force_send_answer, displacing, send_poll_answer, try_recv_answer, recv_many_answer, recv_poll_answer, next_answer, poll_next_answer, close_answer, shut, closed_poll_answer, poll_answer, poll_refused_answer, give_up_answer, given_up, new_answer, drop_one, dropped, drop_answer, made, spent, weak_of, clone_answer, downgrade_answer, upgrade_answer, one_more, strong_of, strong_handles, with_strong_handles, news_without_one, answer, memory, refused, not_listening, Answers, refusal, is_live, uses, are_fit, takes_borrowed, names_taken, removed_by, brought_by_call, sends_after, removed, accepted, line_of_operation, line_at, free_places, NobodyIsLeft, Awake, AwakeIn, times_in, Runs, poll_of, Done, WorldRefusal, Line, Sends, Receives, Streams, Closings, Nothing, Message, Room, Closing, Space, Open, Filled, Shut, Waiter, Op, Stream, OpId, HandleId, HandleKind, Sender, Receiver, WeakSender, WeakReceiver, Handle, UnknownName, WrongKind, Borrowed, NameTaken, NoMemory, Ready, Pending}
+use Rattle.channel_world_model.proofs.Words.{cond_both, take-append-drop, zero, suc, take, drop, arith, ◌≡◌, ◌⊎◌, ◌≤◌, ◌+◌, ◌-◌, ◌^◌, ◌==◌, ℕ, nat_eq, nat_lt, List, [], ◌∷◌, ◌++◌, length, Bool, true, false, ◌||◌, ◌&&◌, not, if◌then◌else◌, Option, None, Some, IsSome, is_some, Ok, Err, refl, sym, ap, subst, ◌∙◌, inl, inr, append-nil, append_assoc, length-append, nat_eq_equiv, list_all, option_map_or, option_to_list, lookup, set_value, ModelChannel, is_full, Names, Directory, ModelOperation, send, recv, closing, at, is_taken, with_new_operation, with_operation_changed, without_operation, Waiting, nobody, is_among, untold, after_news, gone, left_after, standing, State, start, with_channel, with_names, with_waiting, Call, Reply, Answer, replying, after_telling, after_leaving, pending, space_of, Found, first, none_yet, none_ever, found_in, found, try_send_answer, force_send_answer, displacing, send_poll_answer, try_recv_answer, recv_many_answer, recv_poll_answer, next_answer, poll_next_answer, close_answer, shut, closed_poll_answer, poll_answer, poll_refused_answer, give_up_answer, given_up, new_answer, drop_one, dropped, drop_answer, made, spent, weak_of, clone_answer, downgrade_answer, upgrade_answer, one_more, strong_of, strong_handles, with_strong_handles, news_without_one, answer, memory, refused, not_listening, Answers, refusal, is_live, uses, are_fit, takes_borrowed, names_taken, removed_by, brought_by_call, sends_after, removed, accepted, line_of_operation, line_at, free_places, NobodyIsLeft, Awake, AwakeIn, times_in, Runs, poll_of, Done, WorldRefusal, WaitList, Sends, Receives, Streams, Closings, Nothing, Message, Room, Closing, Space, Open, Filled, Shut, Waiter, Op, Stream, OpId, HandleId, HandleKind, Sender, Receiver, WeakSender, WeakReceiver, Handle, UnknownName, WrongKind, Borrowed, NameTaken, NoMemory, Ready, Pending}
 use Rattle.std.proofs.lemmas.Map.{lookup-set_value}
 pub use Rattle.std.proofs.lemmas.Bool.{cond-false as chosen_no, cond-true as chosen_yes}
 use Rattle.channel_world_model.specs.declared.call.Call.TheVariants as call
@@ -9,7 +9,7 @@ use Rattle.channel_world_model.proofs.Lacking.{Lacking, lacking, out, found_firs
 use Rattle.channel_world_model.proofs.WaiterLemmas.{decided, same_number}
 use Rattle.channel_world_model.proofs.Awake.{awake_leave, awake_leave_spent, awake_nothing, awake_message, awake_room, awake_rooms, awake_closing, awake_gone, awake_without_stream, awake_standing, Idle, awake_renamed, stands, left_nowhere}
 
-no_line : {A : Type 0} (o : Option Line) → IsSome o → o ≡ None → A
+no_line : {A : Type 0} (o : Option WaitList) → IsSome o → o ≡ None → A
 no_line None h e = cc h
 no_line (Some l) h e = cc e
 
@@ -204,14 +204,14 @@ module _ {T : Type 0} where
     -- ---- operations
 
     -- one of this line leaves, and passes on what it was told
-    awake_left : (own : Line) (w : Waiter) → line_at s.names w ≡ Some own → Awake (line_at s.names) s.channel.capacity s.channel.closed (length s.channel.messages) (left_after Nothing own w s.waiting)
+    awake_left : (own : WaitList) (w : Waiter) → line_at s.names w ≡ Some own → Awake (line_at s.names) s.channel.capacity s.channel.closed (length s.channel.messages) (left_after Nothing own w s.waiting)
     awake_left own w e = awake_leave (line_at s.names) s.channel.capacity s.channel.closed (length s.channel.messages) own w (after_news Nothing s.waiting) e awake_still
 
-    awake_left_spent : (own : Line) (w : Waiter) → line_at s.names w ≡ None → Awake (line_at s.names) s.channel.capacity s.channel.closed (length s.channel.messages) (left_after Nothing own w s.waiting)
+    awake_left_spent : (own : WaitList) (w : Waiter) → line_at s.names w ≡ None → Awake (line_at s.names) s.channel.capacity s.channel.closed (length s.channel.messages) (left_after Nothing own w s.waiting)
     awake_left_spent own w e = awake_leave_spent (line_at s.names) s.channel.capacity s.channel.closed (length s.channel.messages) own w (after_news Nothing s.waiting) e awake_still
 
     -- one of this line stands
-    awake_pending : (own : Line) (w : Waiter) (r : Reply T) → line_at s.names w ≡ Some own → s.channel.closed ≡ false → Idle (line_at s.names) s.channel.capacity own (length s.channel.messages) → AwakeIn (pending own w s r).after
+    awake_pending : (own : WaitList) (w : Waiter) (r : Reply T) → line_at s.names w ≡ Some own → s.channel.closed ≡ false → Idle (line_at s.names) s.channel.capacity own (length s.channel.messages) → AwakeIn (pending own w s r).after
     awake_pending own w r e o i =
         subst (λ (b : Bool). Awake (line_at s.names) s.channel.capacity b (length s.channel.messages) (pending own w s r).after.waiting) (sym o)
         (awake_standing (line_at s.names) s.channel.capacity (length s.channel.messages) own w s.waiting e i (awake_open o))
@@ -274,7 +274,7 @@ module _ {T : Type 0} where
     poll op None there = stay (call.Poll op) reply.Unit refl refl refl
 
     -- an operation of this line, and a finished send, leaves
-    refused_poll : (op : OpId) (own : Line) (r : Reply T) → (line_at s.names (Op op) ≡ Some own) ⊎ (line_at s.names (Op op) ≡ None) → removed_by r ≡ [] → brought_by_call sends (call.PollRefused op) r ≡ []
+    refused_poll : (op : OpId) (own : WaitList) (r : Reply T) → (line_at s.names (Op op) ≡ Some own) ⊎ (line_at s.names (Op op) ≡ None) → removed_by r ≡ [] → brought_by_call sends (call.PollRefused op) r ≡ []
         → Good sends s (call.PollRefused op) (after_leaving Nothing own (Op op) s r)
     refused_poll op own r (inl e) f g = good (call.PollRefused op) (after_leaving Nothing own (Op op) s r) (awake_left own (Op op) e) (nothing_moved (call.PollRefused op) r f g) refl refl
     refused_poll op own r (inr e) f g = good (call.PollRefused op) (after_leaving Nothing own (Op op) s r) (awake_left_spent own (Op op) e) (nothing_moved (call.PollRefused op) r f g) refl refl
@@ -286,7 +286,7 @@ module _ {T : Type 0} where
     poll_refused op (Some (closing handle)) there = refused_poll op Closings (reply.ClosedPoll (Ready (Err listen.NoMemory))) (inl (ap line_of_operation there)) refl refl
     poll_refused op None there = stay (call.PollRefused op) reply.Unit refl refl refl
 
-    given : (op : OpId) (x : ModelOperation T) (own : Line) (r : Reply T) → at op.0 s.names.operations ≡ Some x → removed_by r ≡ [] → brought_by_call sends (call.GiveUp op) r ≡ []
+    given : (op : OpId) (x : ModelOperation T) (own : WaitList) (r : Reply T) → at op.0 s.names.operations ≡ Some x → removed_by r ≡ [] → brought_by_call sends (call.GiveUp op) r ≡ []
         → Awake (line_at s.names) s.channel.capacity s.channel.closed (length s.channel.messages) (left_after Nothing own (Op op) s.waiting)
         → Good sends s (call.GiveUp op) (after_leaving Nothing own (Op op) (given_up s op x) r)
     given op x own r there f g w = record {
@@ -519,7 +519,7 @@ module _ {T : Type 0} where
     -- ---- a call whose one growth is refused
 
     -- one that would stand is out of its line
-    out_of_line : (c : Call T) (own : Line) (w : Waiter) (r : Reply T) → sends_after sends c ≡ sends → removed_by r ≡ [] → brought_by_call sends c r ≡ []
+    out_of_line : (c : Call T) (own : WaitList) (w : Waiter) (r : Reply T) → sends_after sends c ≡ sends → removed_by r ≡ [] → brought_by_call sends c r ≡ []
         → line_at s.names w ≡ Some own → Idle (line_at s.names) s.channel.capacity own (length s.channel.messages) → Good sends s c (out s w r)
     out_of_line c own w r still f g e i =
         good c (out s w r) (awake_gone (line_at s.names) s.channel.capacity s.channel.closed (length s.channel.messages) own w s.waiting e i awake) (nothing_moved c r f g) refl still
@@ -603,11 +603,11 @@ module _ {T : Type 0} where
     };
     keeps = λ n h m e. cc e;
   } where
-    none_untold : (line : Line) → untold line nobody ≡ []
+    none_untold : (line : WaitList) → untold line nobody ≡ []
     none_untold Sends = refl
     none_untold line = refl
 
-    nobody_untold : (line : Line) (w : Waiter) → is_among w (untold line nobody) ≡ true → line_at (start {T = T} capacity).names w ≡ Some line
+    nobody_untold : (line : WaitList) (w : Waiter) → is_among w (untold line nobody) ≡ true → line_at (start {T = T} capacity).names w ≡ Some line
     nobody_untold Sends w e = cc e
     nobody_untold line w e = cc e
 

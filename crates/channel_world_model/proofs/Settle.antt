@@ -1,5 +1,5 @@
 -- Settling ends: each poll of the oldest woken one brings it nearer, and with w pending it makes no more than w(w+1)/2 polls.
-use Rattle.channel_world_model.proofs.Words.{cond_both, false_from_ne_true, arith, ◌≡◌, ◌⊎◌, ◌≤◌, ◌+◌, ◌*◌, ℕ, zero, suc, List, [], ◌∷◌, ◌++◌, length, take, drop, Bool, true, false, if◌then◌else◌, not, Option, Some, IsSome, Ok, refl, sym, ap, subst, ◌∙◌, ◌&&◌, inl, inr, append-nil, append_assoc, filter, list_any, filter-append, slice_get, Answer, after_leaving, pending, space_of, Found, first, none_yet, none_ever, found, send_poll_answer, recv_poll_answer, next_answer, closed_poll_answer, poll_answer, answer, AwakeIn, Enough, Kind, Placed, times, count_of, free_places, line_at, line_of_operation, Waiting, same_waiter, is_among, untold, told_by, after_news, without_waiter, gone, passed_on, left_after, told_after, at_end, standing, is_stream, ModelOperation, send, recv, closing, at, Lack, answer_without, Answers, Call, poll_of, Settles, SettlesTo, NobodyGoesOn, pending_count, pairs, polls_left, State, with_waiting, Reply, Line, Sends, Receives, Streams, Closings, News, Nothing, Message, Room, Closing, NextIn, Space, Open, Filled, Shut, Waiter, Op, Stream, OpId, HandleId, Ready, Pending}
+use Rattle.channel_world_model.proofs.Words.{cond_both, false_from_ne_true, arith, ◌≡◌, ◌⊎◌, ◌≤◌, ◌+◌, ◌*◌, ℕ, zero, suc, List, [], ◌∷◌, ◌++◌, length, take, drop, Bool, true, false, if◌then◌else◌, not, Option, Some, IsSome, Ok, refl, sym, ap, subst, ◌∙◌, ◌&&◌, inl, inr, append-nil, append_assoc, filter, list_any, filter-append, slice_get, Answer, after_leaving, pending, space_of, Found, first, none_yet, none_ever, found, send_poll_answer, recv_poll_answer, next_answer, closed_poll_answer, poll_answer, answer, AwakeIn, Enough, Kind, Placed, times, count_of, free_places, line_at, line_of_operation, Waiting, same_waiter, is_among, untold, told_by, after_news, without_waiter, gone, passed_on, left_after, told_after, at_end, standing, is_stream, ModelOperation, send, recv, closing, at, Lack, answer_without, Answers, Call, poll_of, Settles, SettlesTo, NobodyGoesOn, pending_count, pairs, polls_left, State, with_waiting, Reply, WaitList, Sends, Receives, Streams, Closings, News, Nothing, Message, Room, Closing, NextIn, Space, Open, Filled, Shut, Waiter, Op, Stream, OpId, HandleId, Ready, Pending}
 use Rattle.std.proofs.Math.Nat.{suc-mul, mul-suc}
 use Rattle.channel_world_model.specs.declared.call.Call.TheVariants as call
 use Rattle.channel_calls.specs.declared.reply.Reply.TheVariants as reply
@@ -42,7 +42,7 @@ woken_gone : (w : Waiter) (l : Waiting) → is_among w l.woken ≡ true → suc 
 unfolding every
 woken_gone w l e = omega (arith, count_gone_one every w l e, size_is l, size_is (gone w l))
 
-size_end : (line : Line) (w : Waiter) (l : Waiting) → pending_count (at_end line w l) ≡ suc (pending_count (gone w l))
+size_end : (line : WaitList) (w : Waiter) (l : Waiting) → pending_count (at_end line w l) ≡ suc (pending_count (gone w l))
 unfolding every
 size_end line w l = omega (arith, count_end every line w l, size_is (at_end line w l), size_is (gone w l))
 
@@ -60,7 +60,7 @@ front_stays w (x ∷ xs) ys e = elim (decided (same_waiter w x)) [
 ]
 
 -- one who leaves
-left_nearer : (news : News) (line : Line) (w : Waiter) (l : Waiting) → is_among w l.woken ≡ true → Nearer l (left_after news line w l)
+left_nearer : (news : News) (line : WaitList) (w : Waiter) (l : Waiting) → is_among w l.woken ≡ true → Nearer l (left_after news line w l)
 unfolding Nearer
 left_nearer news line w l e =
     let told = after_news news l in
@@ -83,7 +83,7 @@ unfolding Nearer
 just_gone w l e = inl (woken_gone w l e)
 
 -- one who stands again
-end_nearer : (line : Line) (w : Waiter) (l : Waiting) → is_among w l.woken ≡ true → Nearer l (at_end line w l)
+end_nearer : (line : WaitList) (w : Waiter) (l : Waiting) → is_among w l.woken ≡ true → Nearer l (at_end line w l)
 unfolding Nearer
 end_nearer line w l e =
     let a = size_end line w l in
@@ -91,7 +91,7 @@ end_nearer line w l e =
     let c = one_fewer w l.woken e in
     inr (omega (arith, a, b), subst (λ (ws : List Waiter). suc (length ws) ≤ length l.woken) (sym (woken_end line w l)) c)
 
-standing_nearer : (line : Line) (w : Waiter) (l : Waiting) → is_among w l.woken ≡ true → is_among w (untold line l) ≡ false
+standing_nearer : (line : WaitList) (w : Waiter) (l : Waiting) → is_among w l.woken ≡ true → is_among w (untold line l) ≡ false
     → Nearer l (standing line w l)
 standing_nearer line w l e off = rw off (end_nearer line w l e)
 
@@ -108,13 +108,13 @@ again_nearer w l e =
     rw off (inr (omega (arith, a, b, d), omega (arith, c, f)))
 
 -- one who is woken is not untold
-pub not_untold : (k : Kind) (line : Line) (w : Waiter) (l : Waiting) → Placed k l → is_among w l.woken ≡ true → is_among w (untold line l) ≡ false
+pub not_untold : (k : Kind) (line : WaitList) (w : Waiter) (l : Waiting) → Placed k l → is_among w l.woken ≡ true → is_among w (untold line l) ≡ false
 not_untold k line w l p e = false_from_ne_true (is_among w (untold line l)) (λ t. twice line t)
   where
     once : times w l.sends + times w l.receives + times w l.streams + times w l.closings + times w l.woken ≤ 1
     once = p.once w
 
-    twice : (own : Line) → is_among w (untold own l) ≡ true → ⊥
+    twice : (own : WaitList) → is_among w (untold own l) ≡ true → ⊥
     twice Sends t = omega (arith, once, among_counts w l.sends t, among_counts w l.woken e)
     twice own t = omega (arith, once, among_counts w (untold own l) t, among_counts w l.woken e)
 
@@ -131,9 +131,9 @@ IsBrief (NextIn line) = ⊥
 -- what a poll may leave of those who wait, and whom it may wake
 pub record Cases (w : Waiter) (l : Waiting) (P : Waiting → List Waiter → Type 0) : Type 0 where
   -- it leaves its line, after these news, and passes on what it was told
-  pub left : (news : News) → IsBrief news → (line : Line) → P (left_after news line w l) (told_after news line w l)
+  pub left : (news : News) → IsBrief news → (line : WaitList) → P (left_after news line w l) (told_after news line w l)
   -- it stands in its line again
-  pub stands : (line : Line) → P (standing line w l) []
+  pub stands : (line : WaitList) → P (standing line w l) []
   -- a stream leaves, with a message or without
   pub takes : P (after_news Room (gone w l)) (told_by Room (gone w l))
   pub leaves : P (gone w l) []
@@ -251,7 +251,7 @@ not_told k news w l p e = by (decided (is_among w (told_by news l)))
     by (inl t) = let stood = told_stood news w l t in never (is_among w (untold stood.0 l)) stood.1 (not_untold k stood.0 w l p e)
 
 module _ (k : Kind) (w : Waiter) (l : Waiting) (placed : Placed k l) (e : is_among w l.woken ≡ true) where
-  left_follows : (news : News) (line : Line) → Follows w l (left_after news line w l) (told_after news line w l)
+  left_follows : (news : News) (line : WaitList) → Follows w l (left_after news line w l) (told_after news line w l)
   unfolding Follows
   left_follows news line =
       let told = after_news news l in
@@ -261,7 +261,7 @@ module _ (k : Kind) (w : Waiter) (l : Waiting) (placed : Placed k l) (e : is_amo
       ap (λ (ws : List Waiter). ws ++ more) (filter-append (λ (v : Waiter). not (same_waiter w v)) l.woken new)
       ∙ (ap (λ (ws : List Waiter). (without_waiter w l.woken ++ ws) ++ more) kept ∙ append_assoc (without_waiter w l.woken) new more)
 
-  stands_follows : (line : Line) → Follows w l (standing line w l) []
+  stands_follows : (line : WaitList) → Follows w l (standing line w l) []
   unfolding Follows
   stands_follows line = rw (not_untold k line w l placed e) (woken_end line w l ∙ sym (append-nil (without_waiter w l.woken)))
 
@@ -316,11 +316,11 @@ pub first_one : (ws : List Waiter) → length (take 1 ws) ≤ 1
 first_one [] = omega arith
 first_one (w ∷ ws) = omega arith
 
-pub few_first : (b : Bool) (line : Line) (l : Waiting) → length (told_by (if b then NextIn line else Nothing) l) ≤ 1
+pub few_first : (b : Bool) (line : WaitList) (l : Waiting) → length (told_by (if b then NextIn line else Nothing) l) ≤ 1
 few_first true line l = first_one (untold line l)
 few_first false line l = omega arith
 
-pub few_passed : (line : Line) (w : Waiter) (l m : Waiting) → length (told_by (passed_on line w l) m) ≤ 1
+pub few_passed : (line : WaitList) (w : Waiter) (l m : Waiting) → length (told_by (passed_on line w l) m) ≤ 1
 few_passed Sends w l m = few_first (is_among w l.woken) Sends m
 few_passed Receives w l m = few_first (is_among w l.woken) Receives m
 few_passed Streams w l m = few_first (is_among w l.woken && not (list_any is_stream (without_waiter w l.woken))) Streams m
@@ -355,7 +355,7 @@ fewer_left l m some (inl h) =
     let q = woken_few m in
     omega (arith, p, q, some)
 
-few_woken : (k : Kind) (line : Line) (n : ℕ) (l : Waiting) → l.woken ≡ [] → Enough k line n l → (untold line l ≡ []) ⊎ (n ≡ 0)
+few_woken : (k : Kind) (line : WaitList) (n : ℕ) (l : Waiting) → l.woken ≡ [] → Enough k line n l → (untold line l ≡ []) ⊎ (n ≡ 0)
 few_woken k line n l none (inl e) = inl e
 few_woken k line n l none (inr h) =
     let nobody = ap (λ (ws : List Waiter). count_of k line ws) none in inr (omega (arith, h, nobody))

@@ -12,8 +12,8 @@ pub use Rattle.std.specs.Prelude.{IfNone, slice_get}
 pub use Rattle.futures.specs.declared.task.Poll.TheVariants.{Ready, Pending}
 pub use Rattle.channel_calls.specs.declared.error.Refused.TheVariants.{NoMemory}
 pub use Rattle.channel_calls.specs.declared.reply.Reply.{Reply}
-pub use Rattle.channel_calls.specs.declared.stage.Line.{Line}
-pub use Rattle.channel_calls.specs.declared.stage.Line.TheVariants.{Sends, Receives, Streams, Closings}
+pub use Rattle.channel_calls.specs.declared.stage.WaitList.{WaitList}
+pub use Rattle.channel_calls.specs.declared.stage.WaitList.TheVariants.{Sends, Receives, Streams, Closings}
 pub use Rattle.channel_world_model.specs.Answer.{Answer, replying, space_of, try_send_answer, force_send_answer, strong_handles, with_strong_handles, without_one, shut, after_telling, after_leaving, pending, Found, first, none_yet, none_ever, found_in, found, displacing, send_poll_answer, try_recv_answer, recv_many_answer, recv_poll_answer, next_answer, poll_next_answer, close_answer, closed_poll_answer, poll_answer, poll_refused_answer, give_up_answer, new_answer, drop_one, dropped, drop_answer, made, spent, weak_of, clone_answer, downgrade_answer, upgrade_answer, one_more, strong_of, answer, upgrade_to, given_up, news_without_one}
 pub use Rattle.channel_world_model.specs.Awake.{Kind, Enough, times, times_in, Placed, Awake, AwakeIn}
 pub use Rattle.channel_world_model.specs.Bounds.{EachDone, says_full, says_closed}

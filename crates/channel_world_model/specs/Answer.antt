@@ -8,8 +8,8 @@ use Rattle.channel_world_model.specs.declared.call.Call.{Call}
 use Rattle.channel_world_model.specs.declared.call.Call.TheVariants as call
 use Rattle.channel_calls.specs.declared.reply.Reply.{Reply}
 use Rattle.channel_calls.specs.declared.reply.Reply.TheVariants as reply
-use Rattle.channel_calls.specs.declared.stage.Line.{Line}
-use Rattle.channel_calls.specs.declared.stage.Line.TheVariants.{Sends, Receives, Streams, Closings}
+use Rattle.channel_calls.specs.declared.stage.WaitList.{WaitList}
+use Rattle.channel_calls.specs.declared.stage.WaitList.TheVariants.{Sends, Receives, Streams, Closings}
 use Rattle.channel_world_model.specs.declared.news.News.{News}
 use Rattle.channel_world_model.specs.declared.news.News.TheVariants.{Nothing, Message, Room, Closing}
 use Rattle.channel_world_model.specs.declared.space.Space.{Space}
@@ -44,7 +44,7 @@ abbrev pub after_telling : {T : Type 0} → News → State T → Reply T → Ans
 after_telling news s r = record { after = with_waiting (after_news news s.waiting) s; reply = r; woken = told_by news s.waiting }
 
 -- these news are told, and then w leaves its line and passes on what it was told
-abbrev pub after_leaving : {T : Type 0} → News → Line → Waiter → State T → Reply T → Answer T
+abbrev pub after_leaving : {T : Type 0} → News → WaitList → Waiter → State T → Reply T → Answer T
 after_leaving news line w s r = record { after = with_waiting (left_after news line w s.waiting) s; reply = r; woken = told_after news line w s.waiting }
 
 -- so many places became free at once
@@ -52,7 +52,7 @@ abbrev pub telling_rooms : {T : Type 0} → ℕ → State T → Reply T → Answ
 telling_rooms n s r = record { after = with_waiting (after_rooms n s.waiting) s; reply = r; woken = told_by_rooms n s.waiting }
 
 -- w stands in its line
-abbrev pub pending : {T : Type 0} → Line → Waiter → State T → Reply T → Answer T
+abbrev pub pending : {T : Type 0} → WaitList → Waiter → State T → Reply T → Answer T
 pending line w s r = replying (with_waiting (standing line w s.waiting) s) r
 
 -- ---- what a sending and a taking find

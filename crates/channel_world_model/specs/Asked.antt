@@ -3,7 +3,7 @@ use Rattle.std.specs.Prelude.{true, Option, None, Some}
 use Rattle.channel_calls.specs.Asks.{lent}
 use Rattle.channel_calls.specs.declared.ask.ChannelAsk.{ChannelAsk}
 use Rattle.channel_calls.specs.declared.ask.ChannelAsk.TheVariants as ask
-use Rattle.channel_calls.specs.declared.stage.Line.TheVariants as list
+use Rattle.channel_calls.specs.declared.stage.WaitList.TheVariants as list
 use Rattle.channel_calls.specs.declared.stage.Side.TheVariants.{Senders, Receivers}
 use Rattle.channel_world_model.specs.Names.{Names, ModelOperation, send, recv, closing, at}
 use Rattle.channel_world_model.specs.Answer.{is_finished}

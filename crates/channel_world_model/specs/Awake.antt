@@ -5,15 +5,15 @@ use Rattle.channel_world_model.specs.Lines.{Waiting, same_waiter, is_among, unto
 use Rattle.channel_world_model.specs.Laws.{count_of, free_places, line_at}
 use Rattle.channel_world_model.specs.State.{State}
 use Rattle.channel_world_model.specs.declared.name.Waiter.{Waiter}
-use Rattle.channel_calls.specs.declared.stage.Line.{Line}
-use Rattle.channel_calls.specs.declared.stage.Line.TheVariants.{Sends, Receives}
+use Rattle.channel_calls.specs.declared.stage.WaitList.{WaitList}
+use Rattle.channel_calls.specs.declared.stage.WaitList.TheVariants.{Sends, Receives}
 
 -- the line that a pending name belongs to
 abbrev pub Kind : Type 0
-Kind = Waiter → Option Line
+Kind = Waiter → Option WaitList
 
 -- where somebody of the line is untold, at least n of it are woken
-abbrev pub Enough : Kind → Line → ℕ → Waiting → Type 0
+abbrev pub Enough : Kind → WaitList → ℕ → Waiting → Type 0
 Enough k line n l = (untold line l ≡ []) ⊎ (n ≤ count_of k line l.woken)
 
 -- how often a name stands in a list
@@ -25,7 +25,7 @@ times_in w l = times w l.sends + times w l.receives + times w l.streams + times 
 
 -- each untold name stands in its own line, each woken one belongs to some line, and none stands twice
 pub record Placed (k : Kind) (l : Waiting) : Type 0 where
-  pub lines : (line : Line) (w : Waiter) → is_among w (untold line l) ≡ true → k w ≡ Some line
+  pub lines : (line : WaitList) (w : Waiter) → is_among w (untold line l) ≡ true → k w ≡ Some line
   pub wakes : (w : Waiter) → is_among w l.woken ≡ true → IsSome (k w)
   pub once : (w : Waiter) → times_in w l ≤ 1
 
@@ -35,7 +35,7 @@ pub record Awake (k : Kind) (capacity : Option ℕ) (closed : Bool) (n : ℕ) (l
   pub sends : closed ≡ false → Enough k Sends (free_places capacity n) l
   pub unbounded : capacity ≡ None → l.sends ≡ []
   pub streams : (l.streams ≡ []) ⊎ (n ≡ 0)
-  pub opened : closed ≡ true → (line : Line) → untold line l ≡ []
+  pub opened : closed ≡ true → (line : WaitList) → untold line l ≡ []
 
 -- of a whole state: a name that waits belongs to the line of its live operation, a finished send to none
 abbrev pub AwakeIn : {T : Type 0} → State T → Type 0

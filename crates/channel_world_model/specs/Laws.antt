@@ -15,8 +15,8 @@ use Rattle.channel_world_model.specs.declared.run.Done.{Done}
 use Rattle.channel_world_model.specs.declared.refusal.WorldRefusal.{WorldRefusal}
 use Rattle.channel_world_model.specs.declared.name.Waiter.{Waiter}
 use Rattle.channel_world_model.specs.declared.name.Waiter.TheVariants.{Op, Stream}
-use Rattle.channel_calls.specs.declared.stage.Line.{Line}
-use Rattle.channel_calls.specs.declared.stage.Line.TheVariants.{Sends, Receives, Streams, Closings}
+use Rattle.channel_calls.specs.declared.stage.WaitList.{WaitList}
+use Rattle.channel_calls.specs.declared.stage.WaitList.TheVariants.{Sends, Receives, Streams, Closings}
 use Rattle.futures.specs.declared.task.Poll.TheVariants.{Ready}
 
 -- ---- nothing is lost, doubled or reordered
@@ -63,34 +63,34 @@ NothingIsLost T =
 -- ---- nobody is left asleep
 
 -- the line that an operation belongs to while it is pending; a finished send is never pending
-abbrev pub line_of_operation : {T : Type 0} → Option (ModelOperation T) → Option Line
+abbrev pub line_of_operation : {T : Type 0} → Option (ModelOperation T) → Option WaitList
 line_of_operation (Some (send handle (Some m))) = Some Sends
 line_of_operation (Some (send handle None)) = None
 line_of_operation (Some (recv handle)) = Some Receives
 line_of_operation (Some (closing handle)) = Some Closings
 line_of_operation None = None
 
-abbrev pub line_at : {T : Type 0} → Names T → Waiter → Option Line
+abbrev pub line_at : {T : Type 0} → Names T → Waiter → Option WaitList
 line_at names (Op op) = line_of_operation (at op.0 names.operations)
 line_at names (Stream receiver) = Some Streams
 
-abbrev pub same_line : Line → Line → Bool
+abbrev pub same_line : WaitList → WaitList → Bool
 same_line Sends Sends = true
 same_line Receives Receives = true
 same_line Streams Streams = true
 same_line Closings Closings = true
 same_line a b = false
 
-abbrev pub is_line : Line → Option Line → Bool
+abbrev pub is_line : WaitList → Option WaitList → Bool
 is_line line None = false
 is_line line (Some other) = same_line line other
 
 -- how many of these names belong to the line
-abbrev pub count_of : (Waiter → Option Line) → Line → List Waiter → ℕ
+abbrev pub count_of : (Waiter → Option WaitList) → WaitList → List Waiter → ℕ
 count_of kind line ws = length (filter (λ w. is_line line (kind w)) ws)
 
 -- how many pending names of a line are woken
-abbrev pub woken_of_line : {T : Type 0} → Line → State T → ℕ
+abbrev pub woken_of_line : {T : Type 0} → WaitList → State T → ℕ
 woken_of_line line s = count_of (line_at s.names) line s.waiting.woken
 
 -- how many more messages fit; of an unbounded channel none is counted, since no send ever waits there
@@ -109,7 +109,7 @@ pub record NobodyIsLeft {T : Type 0} (s : State T) : Type 0 where
   -- beside an unwoken stream there is no message
   pub streams : (s.waiting.streams ≡ []) ⊎ (length s.channel.messages ≡ 0)
   -- whoever is unwoken waits on an open channel
-  pub opened : s.channel.closed ≡ true → (line : Line) → untold line s.waiting ≡ []
+  pub opened : s.channel.closed ≡ true → (line : WaitList) → untold line s.waiting ≡ []
 
 abbrev pub NobodyIsLeftAsleep : Type 0 → Type 0
 NobodyIsLeftAsleep T =

@@ -3,8 +3,8 @@ use Rattle.std.specs.Prelude.{ℕ, zero, suc, ◌==◌, ◌&&◌, List, [], ◌�
 use Rattle.std.specs.List.{list_any, filter}
 use Rattle.channel_world_model.specs.declared.name.Waiter.{Waiter}
 use Rattle.channel_world_model.specs.declared.name.Waiter.TheVariants.{Op, Stream}
-use Rattle.channel_calls.specs.declared.stage.Line.{Line}
-use Rattle.channel_calls.specs.declared.stage.Line.TheVariants.{Sends, Receives, Streams, Closings}
+use Rattle.channel_calls.specs.declared.stage.WaitList.{WaitList}
+use Rattle.channel_calls.specs.declared.stage.WaitList.TheVariants.{Sends, Receives, Streams, Closings}
 use Rattle.channel_world_model.specs.declared.news.News.{News}
 use Rattle.channel_world_model.specs.declared.news.News.TheVariants.{Nothing, Message, Room, Closing, NextIn}
 
@@ -35,13 +35,13 @@ is_stream (Op a) = false
 is_stream (Stream a) = true
 
 -- the untold of a line
-abbrev pub untold : Line → Waiting → List Waiter
+abbrev pub untold : WaitList → Waiting → List Waiter
 untold Sends l = l.sends
 untold Receives l = l.receives
 untold Streams l = l.streams
 untold Closings l = l.closings
 
-abbrev pub with_untold : Line → List Waiter → Waiting → Waiting
+abbrev pub with_untold : WaitList → List Waiter → Waiting → Waiting
 with_untold Sends ws l = record l { sends = ws }
 with_untold Receives ws l = record l { receives = ws }
 with_untold Streams ws l = record l { streams = ws }
@@ -83,7 +83,7 @@ gone w l = record {
 
 -- What one who leaves passes on: a told send or receive tells one more of its line, a told stream tells one more only
 -- where no other stream is told, and a told closed notice tells nobody.
-abbrev pub passed_on : Line → Waiter → Waiting → News
+abbrev pub passed_on : WaitList → Waiter → Waiting → News
 passed_on Sends w l = if is_among w l.woken then NextIn Sends else Nothing
 passed_on Receives w l = if is_among w l.woken then NextIn Receives else Nothing
 passed_on Streams w l =
@@ -91,11 +91,11 @@ passed_on Streams w l =
 passed_on Closings w l = Nothing
 
 -- news are told, and then w leaves its line and passes on what it was told
-abbrev pub left_after : News → Line → Waiter → Waiting → Waiting
+abbrev pub left_after : News → WaitList → Waiter → Waiting → Waiting
 left_after news line w l = let told = after_news news l in after_news (passed_on line w told) (gone w told)
 
 -- who is told by that, in order
-abbrev pub told_after : News → Line → Waiter → Waiting → List Waiter
+abbrev pub told_after : News → WaitList → Waiter → Waiting → List Waiter
 told_after news line w l = let told = after_news news l in told_by news l ++ told_by (passed_on line w told) (gone w told)
 
 -- So many places became free at once: as many more sends are told, one after another.
@@ -109,13 +109,13 @@ told_by_rooms zero l = []
 told_by_rooms (suc n) l = told_by Room l ++ told_by_rooms n (after_news Room l)
 
 -- w stands at the end of its line, and nowhere else
-abbrev pub at_end : Line → Waiter → Waiting → Waiting
+abbrev pub at_end : WaitList → Waiter → Waiting → Waiting
 at_end line w l = let left = gone w l in with_untold line (untold line left ++ w ∷ []) left
 
 -- a poll that ends pending: in its old place where it was untold, at the end, untold, where it is new or was told
-abbrev pub standing : Line → Waiter → Waiting → Waiting
+abbrev pub standing : WaitList → Waiter → Waiting → Waiting
 standing line w l = if is_among w (untold line l) then l else at_end line w l
 
 -- all of a line are told
-abbrev pub all_told : Line → Waiting → Waiting
+abbrev pub all_told : WaitList → Waiting → Waiting
 all_told line l = record (with_untold line [] l) { woken = l.woken ++ untold line l }

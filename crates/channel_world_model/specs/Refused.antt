@@ -9,8 +9,8 @@ use Rattle.channel_world_model.specs.declared.call.Call.{Call}
 use Rattle.channel_world_model.specs.declared.call.Call.TheVariants as call
 use Rattle.channel_calls.specs.declared.reply.Reply.{Reply}
 use Rattle.channel_calls.specs.declared.reply.Reply.TheVariants as reply
-use Rattle.channel_calls.specs.declared.stage.Line.{Line}
-use Rattle.channel_calls.specs.declared.stage.Line.TheVariants.{Sends, Receives, Streams, Closings}
+use Rattle.channel_calls.specs.declared.stage.WaitList.{WaitList}
+use Rattle.channel_calls.specs.declared.stage.WaitList.TheVariants.{Sends, Receives, Streams, Closings}
 use Rattle.channel_world_model.specs.declared.news.News.TheVariants.{Nothing}
 use Rattle.channel_world_model.specs.declared.space.Space.{Space}
 use Rattle.channel_world_model.specs.declared.space.Space.TheVariants.{Open, Filled, Shut}
@@ -37,7 +37,7 @@ not_listening memory = listen.NoMemory
 not_listening serials = listen.SerialsUsedUp
 
 -- one that would stand in its line, new or again, is out of it and tells nobody
-abbrev pub not_standing : {T : Type 0} → Line → Waiter → State T → Reply T → Option (Answer T)
+abbrev pub not_standing : {T : Type 0} → WaitList → Waiter → State T → Reply T → Option (Answer T)
 not_standing line w s r =
     if is_among w (untold line s.waiting) then None else Some (replying (with_waiting (gone w s.waiting) s) r)
 

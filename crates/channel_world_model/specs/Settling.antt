@@ -4,7 +4,7 @@ use Rattle.std.specs.Option.{option_map_or}
 use Rattle.channel_world_model.specs.Awake.{AwakeIn}
 use Rattle.channel_world_model.specs.Laws.{free_places}
 use Rattle.channel_world_model.specs.Lines.{Waiting, untold}
-use Rattle.channel_calls.specs.declared.stage.Line.{Line}
+use Rattle.channel_calls.specs.declared.stage.WaitList.{WaitList}
 use Rattle.channel_world_model.specs.State.{State}
 use Rattle.channel_world_model.specs.Refusal.{refusal}
 use Rattle.channel_world_model.specs.Answer.{answer}
@@ -60,7 +60,7 @@ pub record NobodyGoesOn {T : Type 0} (s : State T) : Type 0 where
   pub sends : s.channel.closed ≡ false → (s.waiting.sends ≡ []) ⊎ (free_places s.channel.capacity (length s.channel.messages) ≡ 0)
   pub unbounded : s.channel.capacity ≡ None → s.waiting.sends ≡ []
   pub streams : (s.waiting.streams ≡ []) ⊎ (length s.channel.messages ≡ 0)
-  pub opened : s.channel.closed ≡ true → (line : Line) → untold line s.waiting ≡ []
+  pub opened : s.channel.closed ≡ true → (line : WaitList) → untold line s.waiting ≡ []
 
 -- After settling nobody is woken and pending, and nobody pending could go on.
 abbrev pub SettlingRests : Type 0 → Type 0

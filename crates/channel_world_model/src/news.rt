@@ -1,6 +1,6 @@
 //! What those who wait are told.
 
-use channel_calls::stage::Line;
+use channel_calls::stage::WaitList;
 
 /// What is told. Own to this project.
 #[derive(Clone, Copy, Debug, PartialEq, Eq)]
@@ -14,5 +14,5 @@ pub enum News {
     /// The channel was closed: all are told.
     Closing,
     /// One more of this line is told.
-    NextIn(Line),
+    NextIn(WaitList),
 }

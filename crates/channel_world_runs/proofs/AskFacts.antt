@@ -4,8 +4,8 @@ use Rattle.event_listener.specs.declared.key.Key.{Key}
 use Rattle.channel_calls.specs.Asks.{lent}
 use Rattle.channel_calls.specs.declared.ask.ChannelAsk.{ChannelAsk}
 use Rattle.channel_calls.specs.declared.ask.ChannelAsk.TheVariants as ask
-use Rattle.channel_calls.specs.declared.stage.Line.{Line}
-use Rattle.channel_calls.specs.declared.stage.Line.TheVariants.{Sends, Receives, Closings}
+use Rattle.channel_calls.specs.declared.stage.WaitList.{WaitList}
+use Rattle.channel_calls.specs.declared.stage.WaitList.TheVariants.{Sends, Receives, Closings}
 use Rattle.channel_calls.specs.declared.stage.Side.{Side}
 use Rattle.channel_calls.specs.declared.stage.Side.TheVariants.{Senders, Receivers}
 use Rattle.channel_world_model.specs.Asked.{KeysHeld, poll_asked, refusal_asked, giving_up_asked, drop_asked, clone_asked, upgrade_asked}
@@ -28,14 +28,14 @@ module _ {T : Type 0} (P : ChannelAsk T Waiter → Type 0) (make : P ask.Make) w
   of_polls sends done receives closes held op (Some (closing handle)) = closes (held (Op op)) (Op op)
   of_polls sends done receives closes held op None = make
 
-  pub of_refused : ((line : Line) (m : Option T) (key : Option Key) → P (ask.RefusePoll line m key))
+  pub of_refused : ((line : WaitList) (m : Option T) (key : Option Key) → P (ask.RefusePoll line m key))
       → (held : KeysHeld) (op : OpId) (o : Option (ModelOperation T)) → P (refusal_asked held op o)
   of_refused refuses held op (Some (send handle m)) = refuses Sends m (held (Op op))
   of_refused refuses held op (Some (recv handle)) = refuses Receives None (held (Op op))
   of_refused refuses held op (Some (closing handle)) = refuses Closings None (held (Op op))
   of_refused refuses held op None = make
 
-  pub of_given_up : ((line : Line) (m : Option T) (key : Option Key) → P (ask.GiveUp line m key))
+  pub of_given_up : ((line : WaitList) (m : Option T) (key : Option Key) → P (ask.GiveUp line m key))
       → (held : KeysHeld) (op : OpId) (o : Option (ModelOperation T)) → P (giving_up_asked held op o)
   of_given_up gives held op (Some (send handle m)) = gives Sends m (held (Op op))
   of_given_up gives held op (Some (recv handle)) = gives Receives None (held (Op op))

@@ -10,29 +10,29 @@ use Rattle.channel_calls.specs.Turns.{again, held_on, line_of as waits_on}
 use Rattle.channel_calls.specs.declared.ask.ChannelAsk.{ChannelAsk}
 use Rattle.channel_calls.specs.declared.ask.ChannelAsk.TheVariants as ask
 use Rattle.channel_calls.specs.declared.reply.Reply.{Reply}
-use Rattle.channel_calls.specs.declared.stage.Held.{Held}
-use Rattle.channel_calls.specs.declared.stage.Line.{Line}
-use Rattle.channel_calls.specs.declared.stage.Line.TheVariants.{Sends, Receives, Streams, Closings}
+use Rattle.channel_calls.specs.declared.stage.ListenerRef.{ListenerRef}
+use Rattle.channel_calls.specs.declared.stage.WaitList.{WaitList}
+use Rattle.channel_calls.specs.declared.stage.WaitList.TheVariants.{Sends, Receives, Streams, Closings}
 use Rattle.channel_calls.specs.declared.stage.Side.{Side}
 use Rattle.channel_calls.specs.declared.stage.Side.TheVariants.{Senders, Receivers}
 use Rattle.channel_calls.specs.declared.stage.Stage.{Stage}
 use Rattle.channel_calls.specs.declared.stage.Stage.TheVariants.{Trying, Working}
-use Rattle.channel_calls.specs.declared.stage.Turn.{Turn}
-use Rattle.channel_calls.specs.declared.stage.Turn.TheVariants.{Tries, Works, Ends}
+use Rattle.channel_calls.specs.declared.stage.NextStep.{NextStep}
+use Rattle.channel_calls.specs.declared.stage.NextStep.TheVariants.{Tries, Works, Ends}
 use Rattle.channel_calls.specs.declared.stage.Waiting.{Waiting}
 use Rattle.channel_calls.specs.declared.stage.Waiting.TheVariants as waiting
 use Rattle.channel_world_runs.specs.AskedBy.{listening_first, IsOrListens}
 use Rattle.channel_world_runs.specs.Counted.{same_side, is_lowering, is_raising}
 use Rattle.channel_world_runs.specs.Owners.{holding, task_at, wait_of, line_asked, Bears}
 
-line_on : (line : Line) (key : Option Key) (h : Held) → held_on line key ≡ Some h → let o : Option Line = Some line in
+line_on : (line : WaitList) (key : Option Key) (h : ListenerRef) → held_on line key ≡ Some h → let o : Option WaitList = Some line in
     o ≡ Some h.line
 line_on line None h e = absurd (let no : None ≡ Some h = e in cc)
-line_on line (Some key) h e = ap (λ (o : Option Held). option_map (λ (i : Held). i.line) o) e
+line_on line (Some key) h e = ap (λ (o : Option ListenerRef). option_map (λ (i : ListenerRef). i.line) o) e
 
 module _ {T W : Type 0} where
   -- the listener with which a call begins
-  abbrev pub ask_holds : ChannelAsk T W → Option Held
+  abbrev pub ask_holds : ChannelAsk T W → Option ListenerRef
   ask_holds (ask.PollSend m l task) = held_on Sends l.key
   ask_holds (ask.PollRecv l task) = held_on Receives l.key
   ask_holds (ask.PollClosed key task) = held_on Closings key
@@ -54,7 +54,7 @@ module _ {T W : Type 0} where
   asks_raising side (ask.Upgrade s) = same_side side s
   asks_raising side a = false
 
-  pub line_held : (a : ChannelAsk T W) (h : Held) → ask_holds a ≡ Some h → line_asked a ≡ Some h.line
+  pub line_held : (a : ChannelAsk T W) (h : ListenerRef) → ask_holds a ≡ Some h → line_asked a ≡ Some h.line
   line_held (ask.PollSend m l task) h e = line_on Sends l.key h e
   line_held (ask.PollRecv l task) h e = line_on Receives l.key h e
   line_held (ask.PollClosed key task) h e = line_on Closings key h e
@@ -64,11 +64,11 @@ module _ {T W : Type 0} where
   line_held (ask.DropReceiver key) h e = line_on Streams key h e
   line_held a h e = absurd (let no : None ≡ Some h = e in cc)
 
-  pub line_waits : (a : ChannelAsk T W) (line : Line) (task : W) → wait_of a ≡ Some (line, task) → line_asked a ≡ Some line
-  line_waits (ask.PollSend m key t) line task e = ap (λ (o : Option (Line × W)). option_map (λ (x : Line × W). x.0) o) e
-  line_waits (ask.PollRecv key t) line task e = ap (λ (o : Option (Line × W)). option_map (λ (x : Line × W). x.0) o) e
-  line_waits (ask.PollClosed key t) line task e = ap (λ (o : Option (Line × W)). option_map (λ (x : Line × W). x.0) o) e
-  line_waits (ask.PollNext key t) line task e = ap (λ (o : Option (Line × W)). option_map (λ (x : Line × W). x.0) o) e
+  pub line_waits : (a : ChannelAsk T W) (line : WaitList) (task : W) → wait_of a ≡ Some (line, task) → line_asked a ≡ Some line
+  line_waits (ask.PollSend m key t) line task e = ap (λ (o : Option (WaitList × W)). option_map (λ (x : WaitList × W). x.0) o) e
+  line_waits (ask.PollRecv key t) line task e = ap (λ (o : Option (WaitList × W)). option_map (λ (x : WaitList × W). x.0) o) e
+  line_waits (ask.PollClosed key t) line task e = ap (λ (o : Option (WaitList × W)). option_map (λ (x : WaitList × W). x.0) o) e
+  line_waits (ask.PollNext key t) line task e = ap (λ (o : Option (WaitList × W)). option_map (λ (x : WaitList × W). x.0) o) e
   line_waits a line task e = absurd (let no : None ≡ Some (line, task) = e in cc)
 
   -- ---- with its listener asked first all of this is the same
@@ -101,12 +101,12 @@ module _ {T W : Type 0} where
   Starts a s = (holding s ≡ ask_holds a) × Bears (task_at s) (wait_of a)
       × ((side : Side) → is_lowering side s ≡ asks_lowering side a) × ((side : Side) → is_raising side s ≡ asks_raising side a)
 
-  abbrev TurnStarts : ChannelAsk T W → Turn T W → Type 0
+  abbrev TurnStarts : ChannelAsk T W → NextStep T W → Type 0
   TurnStarts a (Tries x aim) = (p : Phase T) → Starts a (Trying p aim)
   TurnStarts a (Works w) = (p : Phase T) → Starts a (Working w)
   TurnStarts a (Ends x kept) = ⊥
 
-  taken : (a : ChannelAsk T W) (t : Turn T W) (r : Option (Reply T)) (s : Stage (Phase T) T W) → Turned t r s
+  taken : (a : ChannelAsk T W) (t : NextStep T W) (r : Option (Reply T)) (s : Stage (Phase T) T W) → Turned t r s
       → TurnStarts a t → Starts a s
   taken a (Tries x aim) r s h k = subst (λ (z : Stage (Phase T) T W). Starts a z) (sym h.1) (k (asked x))
   taken a (Works w) r s h k = subst (λ (z : Stage (Phase T) T W). Starts a z) (sym h.1) (k (asked queue.Pop))

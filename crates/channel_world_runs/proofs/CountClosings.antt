@@ -16,15 +16,15 @@ use Rattle.channel_calls.specs.Turns.{dropper, closer_ending, ends_by}
 use Rattle.channel_calls.specs.declared.ask.ChannelAsk.{ChannelAsk}
 use Rattle.channel_calls.specs.declared.ask.ChannelAsk.TheVariants as ask
 use Rattle.channel_calls.specs.declared.reply.Reply.{Reply}
-use Rattle.channel_calls.specs.declared.stage.Aim.TheVariants as aim
+use Rattle.channel_calls.specs.declared.stage.Purpose.TheVariants as aim
 use Rattle.channel_calls.specs.declared.stage.Closer.{Closer}
 use Rattle.channel_calls.specs.declared.stage.Closer.TheVariants as closer
 use Rattle.channel_calls.specs.declared.stage.Side.{Side}
 use Rattle.channel_calls.specs.declared.stage.Side.TheVariants.{Senders, Receivers}
 use Rattle.channel_calls.specs.declared.stage.Stage.{Stage}
 use Rattle.channel_calls.specs.declared.stage.Stage.TheVariants.{Trying, Working}
-use Rattle.channel_calls.specs.declared.stage.Turn.TheVariants.{Tries}
-use Rattle.channel_calls.specs.declared.stage.Work.TheVariants.{Lower}
+use Rattle.channel_calls.specs.declared.stage.NextStep.TheVariants.{Tries}
+use Rattle.channel_calls.specs.declared.stage.ListStep.TheVariants.{Lower}
 use Rattle.channel_steps.specs.Known.{TriesFor, StageAt}
 use Rattle.channel_steps.specs.Moments.{MarkedMoment, Shut}
 use Rattle.channel_world_runs.specs.Counted.{is_last_of, is_lowering, is_closing}

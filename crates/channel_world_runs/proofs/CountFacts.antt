@@ -7,7 +7,7 @@ use Rattle.channel_calls.specs.Parts.{count}
 use Rattle.channel_calls.specs.declared.ask.ChannelAsk.{ChannelAsk}
 use Rattle.channel_calls.specs.declared.mark.Mark.{Mark}
 use Rattle.channel_calls.specs.declared.reply.Reply.{Reply}
-use Rattle.channel_calls.specs.declared.stage.Kept.{Kept}
+use Rattle.channel_calls.specs.declared.stage.Returned.{Returned}
 use Rattle.channel_calls.specs.declared.stage.Side.{Side}
 use Rattle.channel_calls.specs.declared.stage.Side.TheVariants.{Senders, Receivers}
 use Rattle.channel_calls.specs.declared.stage.Stage.{Stage}
@@ -157,7 +157,7 @@ module _ {T : Type 0} where
   known_of now [] u vs h = h.0
   known_of now (x ∷ us) u vs h = known_of now us u vs h.1
 
-  module _ (b : NameState T) (s t : Configuration T Waiter) (p : ℕ) (m : Mark) (r : Option (Reply T)) (kp : Option (Kept T)) (names : List Waiter)
+  module _ (b : NameState T) (s t : Configuration T Waiter) (p : ℕ) (m : Mark) (r : Option (Reply T)) (kp : Option (Returned T)) (names : List Waiter)
       (o : Owned b s) (known : AllKnown s.now s.under_way) (st : Steps s p (record { mark = m; reply = r; kept = kp }) names t)
       (stays : Shut s.now → Shut t.now) (counted : Counted b s) (side : Side) where
     abbrev effect : Effect T Waiter
@@ -269,7 +269,7 @@ module _ {T : Type 0} where
         ∙ (was.makers ∙ ap (λ (us : List (ActiveCall T Waiter)). map may us) st.there))
 
   -- it goes on
-  counted_goes : (b : NameState T) (s t : Configuration T Waiter) (p : ℕ) (m : Mark) (kp : Option (Kept T)) (names : List Waiter) (o : Owned b s)
+  counted_goes : (b : NameState T) (s t : Configuration T Waiter) (p : ℕ) (m : Mark) (kp : Option (Returned T)) (names : List Waiter) (o : Owned b s)
       (known : AllKnown s.now s.under_way) (st : Steps s p (record { mark = m; reply = None; kept = kp }) names t)
       → (Shut s.now → Shut t.now) → Counted b s → Counted (with_woken names b) t
   counted_goes b s t p m kp names o known st stays counted side =
@@ -303,9 +303,9 @@ module _ {T : Type 0} where
           ∙ ap (λ (l : List Bool). map may st.before ++ (is_raising side st.at_now ∷ l)) (map_seen (λ at. is_raising side at) t.now st.behind)))
 
   -- it ends, and writes back what it has to
-  counted_ends : (b : NameState T) (s t : Configuration T Waiter) (p : ℕ) (m : Mark) (y : Reply T) (kp : Option (Kept T)) (names : List Waiter)
+  counted_ends : (b : NameState T) (s t : Configuration T Waiter) (p : ℕ) (m : Mark) (y : Reply T) (kp : Option (Returned T)) (names : List Waiter)
       (o : Owned b s) (known : AllKnown s.now s.under_way) (st : Steps s p (record { mark = m; reply = Some y; kept = kp }) names t)
-      (kept : Kept T) (order : List Waiter) → (Shut s.now → Shut t.now) → Counted b s
+      (kept : Returned T) (order : List Waiter) → (Shut s.now → Shut t.now) → Counted b s
       → (let pt = parts b s t p m (Some y) kp names o known st in
       Counted (record { name_table = written_back pt.agent.on_return y kept (all_woken names b.name_table); order = order; agents = pt.front ++ pt.back }) t)
   counted_ends b s t p m y kp names o known st kept order stays counted side =
@@ -351,7 +351,7 @@ module _ {T : Type 0} where
 
   -- ---- any step
 
-  pub counted_step : (b c : NameState T) (s t : Configuration T Waiter) (q : PartyId) (m : Mark) (r : Option (Reply T)) (kp : Option (Kept T))
+  pub counted_step : (b c : NameState T) (s t : Configuration T Waiter) (q : PartyId) (m : Mark) (r : Option (Reply T)) (kp : Option (Returned T))
       (names : List Waiter) → Owned b s → AllKnown s.now s.under_way
       → Steps s q.0 (record { mark = m; reply = r; kept = kp }) names t → IsAfter b q r kp names c
       → (Shut s.now → Shut t.now) → Counted b s → Counted c t

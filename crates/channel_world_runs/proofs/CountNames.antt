@@ -5,8 +5,8 @@ use Rattle.std.specs.Option.{option_map_or}
 use Rattle.channel_calls.specs.Marks.{is_made}
 use Rattle.channel_calls.specs.declared.reply.Reply.{Reply}
 use Rattle.channel_calls.specs.declared.reply.Reply.TheVariants as reply
-use Rattle.channel_calls.specs.declared.stage.Kept.{Kept}
-use Rattle.channel_calls.specs.declared.stage.Line.{Line}
+use Rattle.channel_calls.specs.declared.stage.Returned.{Returned}
+use Rattle.channel_calls.specs.declared.stage.WaitList.{WaitList}
 use Rattle.channel_calls.specs.declared.stage.Side.{Side}
 use Rattle.channel_world_model.specs.Names.{Directory, at, with_spent, with_changed, without_name}
 use Rattle.channel_world_model.specs.declared.name.HandleId.{HandleId}
@@ -159,7 +159,7 @@ module _ {T : Type 0} where
       let none : bit (is_strong side kind && false) ≡ 0 = ap bit (and_false (is_strong side kind)) in
       omega (arith, none)
 
-  pub settled_live : (side : Side) (e : OnReturn T) (y : Reply T) (kept : Kept T) (wait : Option (Line × Waiter)) (r : NameTable T)
+  pub settled_live : (side : Side) (e : OnReturn T) (y : Reply T) (kept : Returned T) (wait : Option (WaitList × Waiter)) (r : NameTable T)
       → Suits (status r) e wait
       → live_on side (written_back e y kept r).handles ≡ live_on side r.handles + bit (makes_strong side e && is_made (Some y))
   settled_live side (on_return.Leave handle) y kept wait r f = let same = back_live side handle r in omega (arith, same)

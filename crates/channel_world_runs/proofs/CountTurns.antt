@@ -8,27 +8,27 @@ use Rattle.event_listener.specs.declared.key.Key.{Key}
 use Rattle.channel_calls.specs.Answered.{answered_next}
 use Rattle.channel_calls.specs.Marks.{up, is_made}
 use Rattle.channel_calls.specs.Moves.{Channel, Effect, queued, untouched, on_line, on_count, leaves, Turned, TakesRoomFor, Inserts, Worked, Moves}
-use Rattle.channel_calls.specs.Parts.{Roster, Listeners, listeners, with_listeners, with_count, count, is_raised, waits}
+use Rattle.channel_calls.specs.Parts.{WaitLists, Listeners, listeners, with_listeners, with_count, count, is_raised, waits}
 use Rattle.channel_calls.specs.Turns.{line_of, leaving, nothing_kept, ends_by, again, pends_by, unlistened, told_all_next, room_next, roomless, lowered_next, loaded_next, raised_next}
 use Rattle.channel_calls.specs.declared.ask.ChannelAsk.{ChannelAsk}
 use Rattle.channel_calls.specs.declared.reply.Reply.{Reply}
 use Rattle.channel_calls.specs.declared.reply.Reply.TheVariants as reply
-use Rattle.channel_calls.specs.declared.stage.Aim.{Aim}
-use Rattle.channel_calls.specs.declared.stage.Aim.TheVariants as aim
+use Rattle.channel_calls.specs.declared.stage.Purpose.{Purpose}
+use Rattle.channel_calls.specs.declared.stage.Purpose.TheVariants as aim
 use Rattle.channel_calls.specs.declared.stage.Ending.{Ending}
-use Rattle.channel_calls.specs.declared.stage.Held.{Held}
-use Rattle.channel_calls.specs.declared.stage.Line.{Line}
-use Rattle.channel_calls.specs.declared.stage.Line.TheVariants.{Sends, Receives, Streams, Closings}
+use Rattle.channel_calls.specs.declared.stage.ListenerRef.{ListenerRef}
+use Rattle.channel_calls.specs.declared.stage.WaitList.{WaitList}
+use Rattle.channel_calls.specs.declared.stage.WaitList.TheVariants.{Sends, Receives, Streams, Closings}
 use Rattle.channel_calls.specs.declared.stage.Making.{Making}
 use Rattle.channel_calls.specs.declared.stage.Side.{Side}
 use Rattle.channel_calls.specs.declared.stage.Side.TheVariants.{Senders, Receivers}
 use Rattle.channel_calls.specs.declared.stage.Stage.{Stage}
 use Rattle.channel_calls.specs.declared.stage.Stage.TheVariants.{Trying, Working, Finished}
-use Rattle.channel_calls.specs.declared.stage.Turn.{Turn}
-use Rattle.channel_calls.specs.declared.stage.Turn.TheVariants.{Tries, Works, Ends}
+use Rattle.channel_calls.specs.declared.stage.NextStep.{NextStep}
+use Rattle.channel_calls.specs.declared.stage.NextStep.TheVariants.{Tries, Works, Ends}
 use Rattle.channel_calls.specs.declared.stage.Waiting.{Waiting}
-use Rattle.channel_calls.specs.declared.stage.Work.{Work}
-use Rattle.channel_calls.specs.declared.stage.Work.TheVariants.{TellReceive, TellStreams, TellSend, TellSends, TakeRoom, TellAll, Insert, Register, Leave, Lower, Count, Load, Raise}
+use Rattle.channel_calls.specs.declared.stage.ListStep.{ListStep}
+use Rattle.channel_calls.specs.declared.stage.ListStep.TheVariants.{TellReceive, TellStreams, TellSend, TellSends, TakeRoom, TellAll, Insert, Register, Leave, Lower, Count, Load, Raise}
 use Rattle.channel_steps.specs.Known.{StageAt}
 use Rattle.channel_steps.specs.Moments.{MarkedMoment}
 use Rattle.channel_world_runs.specs.Counted.{same_side, is_lowering, is_raising}
@@ -38,7 +38,7 @@ use Rattle.channel_world_runs.proofs.OwnerTurns.{Stays, ends_has, told_all_has, 
 -- ---- a count
 
 module _ {W : Type 0} where
-  lines_count : (side : Side) (line : Line) (l : Listeners W) (r : Roster W) → count side (with_listeners line l r) ≡ count side r
+  lines_count : (side : Side) (line : WaitList) (l : Listeners W) (r : WaitLists W) → count side (with_listeners line l r) ≡ count side r
   lines_count Senders Sends l r = refl
   lines_count Senders Receives l r = refl
   lines_count Senders Streams l r = refl
@@ -49,7 +49,7 @@ module _ {W : Type 0} where
   lines_count Receivers Closings l r = refl
 
   -- a count that is lowered by one
-  lowered_count : (side s : Side) (r : Roster W) → bit (same_side side s) ≤ count side r
+  lowered_count : (side s : Side) (r : WaitLists W) → bit (same_side side s) ≤ count side r
       → count side (with_count s (count s r - 1) r) + bit (same_side side s) ≡ count side r
   lowered_count Senders Senders r h = omega (arith, h)
   lowered_count Receivers Receivers r h = omega (arith, h)
@@ -57,21 +57,21 @@ module _ {W : Type 0} where
   lowered_count Receivers Senders r h = omega arith
 
   -- or raised, where it is still the one that was read
-  raised_count : (side s : Side) (n : ℕ) (r : Roster W) → count s r ≡ n
+  raised_count : (side s : Side) (n : ℕ) (r : WaitLists W) → count s r ≡ n
       → count side (with_count s (n + 1) r) ≡ count side r + bit (same_side side s && true)
   raised_count Senders Senders n r h = omega (arith, h)
   raised_count Receivers Receivers n r h = omega (arith, h)
   raised_count Senders Receivers n r h = omega arith
   raised_count Receivers Senders n r h = omega arith
 
-  was_read : (s : Side) (n : ℕ) (r : Roster W) → is_raised s n r ≡ true → count s r ≡ n
+  was_read : (s : Side) (n : ℕ) (r : WaitLists W) → is_raised s n r ≡ true → count s r ≡ n
   was_read s n r h = by (count s r == n) refl h where
     by : (b : Bool) → (count s r == n) ≡ b → (b && nat_lt n (2 ^ 64 - 1)) ≡ true → count s r ≡ n
     by true e g = grind (arith, nat_tests, e)
     by false e g = absurd (let no : false ≡ true = g in cc)
 
 module _ (T W : Type 0) where
-  abbrev works_at : Work T W → Stage (Phase T) T W
+  abbrev works_at : ListStep T W → Stage (Phase T) T W
   works_at w = Working w
 
   -- ---- steps
@@ -81,7 +81,7 @@ module _ (T W : Type 0) where
   Turns side at n None s m = (m + bit (is_lowering side at) ≡ n + bit (is_lowering side s)) × (is_raising side s ≡ is_raising side at)
   Turns side at n (Some y) s m = m + bit (is_lowering side at) ≡ n + bit (is_raising side at && is_made (Some y))
 
-  taken : (side : Side) (at : Stage (Phase T) T W) (t : Turn T W) (r : Option (Reply T)) (s : Stage (Phase T) T W) (n m : ℕ)
+  taken : (side : Side) (at : Stage (Phase T) T W) (t : NextStep T W) (r : Option (Reply T)) (s : Stage (Phase T) T W) (n m : ℕ)
       → Turned t r s → Stays T W side (is_raising side at) t → m + bit (is_lowering side at) ≡ n → Turns side at n r s m
   taken side at (Tries x a) None s n m h k e =
       subst (λ (z : Stage (Phase T) T W). Turns side at n None z m) (sym h.1) (omega (arith, e), k)
@@ -108,7 +108,7 @@ module _ (T W : Type 0) where
     as_it at r s e e' same h = subst (λ (y : Effect T W). Out at r s y) (sym same) h
 
     -- a step on a list
-    lists : (at : Stage (Phase T) T W) (t : Turn T W) (r : Option (Reply T)) (s : Stage (Phase T) T W) (line : Line) (l : Listeners W)
+    lists : (at : Stage (Phase T) T W) (t : NextStep T W) (r : Option (Reply T)) (s : Stage (Phase T) T W) (line : WaitList) (l : Listeners W)
         → is_lowering side at ≡ false → Turned t r s → Stays T W side (is_raising side at) t
         → Turns side at was r s (count side (with_listeners line l c.roster))
     lists at t r s line l low h k =
@@ -117,13 +117,13 @@ module _ (T W : Type 0) where
         taken side at t r s was _ h k (omega (arith, same, none))
 
     -- or on nothing
-    still : (at : Stage (Phase T) T W) (t : Turn T W) (r : Option (Reply T)) (s : Stage (Phase T) T W)
+    still : (at : Stage (Phase T) T W) (t : NextStep T W) (r : Option (Reply T)) (s : Stage (Phase T) T W)
         → is_lowering side at ≡ false → Turned t r s → Stays T W side (is_raising side at) t → Turns side at was r s was
     still at t r s low h k =
         let none : bit (is_lowering side at) ≡ 0 = ap bit low in
         taken side at t r s was was h k (omega (arith, none))
 
-    left : (y : Ending T) (o : Option Held) (r : Option (Reply T)) (s : Stage (Phase T) T W)
+    left : (y : Ending T) (o : Option ListenerRef) (r : Option (Reply T)) (s : Stage (Phase T) T W)
         → Turned (Ends y.reply (leaving None y.message)) r s → Out (Working (Leave y)) r s (leaves o c)
     left y None r s h = still (Working (Leave y)) (Ends y.reply (leaving None y.message)) r s refl h refl
     left y (Some k) r s h =
@@ -158,7 +158,7 @@ module _ (T W : Type 0) where
         omega (arith, more, made)
     raised s n m false r at e h = still (Working (Raise s n m)) (Works (Load s m)) r at refl h (refl, refl)
 
-    works : (w : Work T W) (e : Effect T W) (r : Option (Reply T)) (s : Stage (Phase T) T W)
+    works : (w : ListStep T W) (e : Effect T W) (r : Option (Reply T)) (s : Stage (Phase T) T W)
         → bit (is_lowering side (works_at w)) ≤ was → Worked c w e r s → Out (Working w) r s e
     works (TellReceive y) e r s low h =
         as_it (Working (TellReceive y)) r s e _ h.0 (lists (Working (TellReceive y)) (Works (TellStreams y)) r s Receives _ refl h.1 (refl, refl))
@@ -188,11 +188,11 @@ module _ (T W : Type 0) where
     works (Raise s n m) e r at low h =
         as_it (Working (Raise s n m)) r at e _ h.0 (raised s n m (is_raised s n c.roster) r at refl h.1)
 
-    goes_on : (f f' : Phase T) (a : Aim T W) → is_raising side (Trying f' a) ≡ is_raising side (Trying f a)
+    goes_on : (f f' : Phase T) (a : Purpose T W) → is_raising side (Trying f' a) ≡ is_raising side (Trying f a)
     goes_on f f' aim.TrySend = refl
     goes_on f f' x = refl
 
-    continues : (f f' : Phase T) (a : Aim T W) (r : Option (Reply T)) (s : Stage (Phase T) T W) → r ≡ None → s ≡ Trying f' a
+    continues : (f f' : Phase T) (a : Purpose T W) (r : Option (Reply T)) (s : Stage (Phase T) T W) → r ≡ None → s ≡ Trying f' a
         → Turns side (Trying f a) was r s was
     continues f f' a None s none same =
         subst (λ (z : Stage (Phase T) T W). Turns side (Trying f a) was None z was) (sym same) (refl, goes_on f f' a)

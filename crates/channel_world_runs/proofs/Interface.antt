@@ -3,7 +3,7 @@
 -- that only sends bring messages.
 use Rattle.std.proofs.Common.{◌≡◌, false, true, List, [], ◌∷◌, ◌++◌, None, subst}
 use Rattle.channel_calls.specs.declared.reply.Reply.{Reply}
-use Rattle.channel_calls.specs.declared.stage.Line.TheVariants.{Sends}
+use Rattle.channel_calls.specs.declared.stage.WaitList.TheVariants.{Sends}
 use Rattle.channel_world_model.specs.Laws.{is_line, line_at}
 use Rattle.channel_world_model.specs.Settling.{poll_of}
 use Rattle.channel_world_model.specs.declared.call.Call.{Call}

@@ -7,12 +7,12 @@ use Rattle.concurrent_queue.proofs.Interface.{shows}
 use Rattle.event_listener.specs.Lists.{Notice, kind_of, told_as, waits_as, same_key}
 use Rattle.event_listener.specs.declared.key.Key.{Key}
 use Rattle.channel_calls.specs.Moves.{Channel}
-use Rattle.channel_calls.specs.Parts.{Parts, Listeners, Roster, listeners}
+use Rattle.channel_calls.specs.Parts.{Parts, Listeners, WaitLists, listeners}
 use Rattle.channel_calls.specs.declared.ask.ChannelAsk.{ChannelAsk}
 use Rattle.channel_calls.specs.declared.reply.Reply.{Reply}
-use Rattle.channel_calls.specs.declared.stage.Held.{Held}
-use Rattle.channel_calls.specs.declared.stage.Line.{Line}
-use Rattle.channel_calls.specs.declared.stage.Line.TheVariants.{Sends, Receives, Streams, Closings}
+use Rattle.channel_calls.specs.declared.stage.ListenerRef.{ListenerRef}
+use Rattle.channel_calls.specs.declared.stage.WaitList.{WaitList}
+use Rattle.channel_calls.specs.declared.stage.WaitList.TheVariants.{Sends, Receives, Streams, Closings}
 use Rattle.channel_steps.specs.solo.Ample.{lacks_memory, IsOnList, HasNode}
 use Rattle.channel_steps.specs.every_run.Unlisted.{NoSendListens}
 use Rattle.channel_world_model.specs.Asked.{poll_asked}
@@ -56,10 +56,10 @@ told_there key (x ∷ xs) (inr i) = by (same_key key x.0) (told_there key xs i) 
   by false more = more
 
 -- this listener is on its list
-abbrev IsThere : Held → Roster Waiter → Type 0
+abbrev IsThere : ListenerRef → WaitLists Waiter → Type 0
 IsThere h a = is_some (kind_of (listeners h.line a) h.key) ≡ true
 
-told_listed : (h : Held) (a : Roster Waiter) → IsAmong h.key (keys_of (listeners h.line a).told) → IsThere h a
+told_listed : (h : ListenerRef) (a : WaitLists Waiter) → IsAmong h.key (keys_of (listeners h.line a).told) → IsThere h a
 told_listed h a i =
     let l = listeners h.line a in by (is_some (told_as l h.key)) (is_some (waits_as l h.key)) (told_there h.key l.told i)
   where
@@ -68,21 +68,21 @@ told_listed h a i =
     by false waiting e = cc e
 
 -- what is no receiver is pending as no stream
-no_stream : (s : PollState) (h : Held) → no_stream_status s ≡ waits h true → ⊥
+no_stream : (s : PollState) (h : ListenerRef) → no_stream_status s ≡ waits h true → ⊥
 no_stream Rests h e = let no : rests Streams ≡ waits h true = e in cc
 no_stream x h e = let no : invalid ≡ waits h true = e in cc
 
 -- who waits with this listener holds it, on its own line
-same_held : (line : Line) (key : Key) (z : Bool) (h : Held) → waits (record { line = line; key = key }) z ≡ waits h true
-    → (let mine : Held = record { line = line; key = key } in mine) ≡ h
+same_held : (line : WaitList) (key : Key) (z : Bool) (h : ListenerRef) → waits (record { line = line; key = key }) z ≡ waits h true
+    → (let mine : ListenerRef = record { line = line; key = key } in mine) ≡ h
 same_held line key z h e = cc e
 
 module _ {T : Type 0} where
   -- a send that may be woken is on a channel with a bound
-  abbrev pub MayWait : Held → Parts T Waiter → Type 0
+  abbrev pub MayWait : ListenerRef → Parts T Waiter → Type 0
   MayWait h p = h.line ≡ Sends → is_some (capacity_of p.cells.form) ≡ true
 
-  module _ (p : Parts T Waiter) (h : Held) (there : IsThere h p.roster) (bound : MayWait h p) where
+  module _ (p : Parts T Waiter) (h : ListenerRef) (there : IsThere h p.roster) (bound : MayWait h p) where
     by_kind : (held : model.KeysHeld) (op : OpId) (handle : HandleId) (k : OperationKind) (m : Option T) (s : PollState)
         → held (Op op) ≡ key_of s → operation_status k m s ≡ waits h true
         → HasNode (poll_asked held op (Some (operation_of (record { kind = k; handle = handle; message = m; poll_state = s })))) p
@@ -93,15 +93,15 @@ module _ {T : Type 0} where
     by_kind held op handle kind.Send (Some m) (IsPolled z) e f = absurd (let no : polled Sends ≡ waits h true = f in cc)
     by_kind held op handle kind.Send (Some m) (Waits key z) e f =
         let same = same_held Sends key z h f in
-        (rw e (subst (λ (x : Held). IsThere x p.roster) (sym same) there), bound (ap (λ (x : Held). x.line) (sym same)))
+        (rw e (subst (λ (x : ListenerRef). IsThere x p.roster) (sym same) there), bound (ap (λ (x : ListenerRef). x.line) (sym same)))
     by_kind held op handle kind.Receive m Rests e f = absurd (let no : rests Receives ≡ waits h true = f in cc)
     by_kind held op handle kind.Receive m (IsPolled z) e f = absurd (let no : polled Receives ≡ waits h true = f in cc)
     by_kind held op handle kind.Receive m (Waits key z) e f =
-        rw e (subst (λ (x : Held). IsThere x p.roster) (sym (same_held Receives key z h f)) there)
+        rw e (subst (λ (x : ListenerRef). IsThere x p.roster) (sym (same_held Receives key z h f)) there)
     by_kind held op handle kind.Closing m Rests e f = absurd (let no : rests Closings ≡ waits h true = f in cc)
     by_kind held op handle kind.Closing m (IsPolled z) e f = absurd (let no : polled Closings ≡ waits h true = f in cc)
     by_kind held op handle kind.Closing m (Waits key z) e f =
-        rw e (subst (λ (x : Held). IsThere x p.roster) (sym (same_held Closings key z h f)) there)
+        rw e (subst (λ (x : ListenerRef). IsThere x p.roster) (sym (same_held Closings key z h f)) there)
 
     operation_node : (r : NameTable T) (op : OpId) (o : Option (Option (Operation T))) → lookup (nat_eq op.0) r.operations ≡ o
         → status_by (λ (x : Operation T). operation_status x.kind x.message x.poll_state) o ≡ waits h true → HasNode (asks r (call.Poll op)) p
@@ -119,7 +119,7 @@ module _ {T : Type 0} where
     by_stream handle_kind.Receiver Rests key e f = absurd (let no : rests Streams ≡ waits h true = f in cc)
     by_stream handle_kind.Receiver (IsPolled z) key e f = absurd (let no : polled Streams ≡ waits h true = f in cc)
     by_stream handle_kind.Receiver (Waits own z) key e f =
-        rw e (subst (λ (x : Held). IsThere x p.roster) (sym (same_held Streams own z h f)) there)
+        rw e (subst (λ (x : ListenerRef). IsThere x p.roster) (sym (same_held Streams own z h f)) there)
     by_stream x s key e f = absurd (no_stream s h f)
 
     stream_node : (r : NameTable T) (receiver : HandleId) (o : Option (Option HandleEntry)) → lookup (nat_eq receiver.0) r.handles ≡ o
@@ -136,7 +136,7 @@ module _ {T : Type 0} where
     woken_node r (Stream receiver) f = stream_node r receiver (lookup (nat_eq receiver.0) r.handles) refl f
 
   -- where a send was told the channel has a bound
-  may_wait : (f : WorldState T) (s : Configuration T Waiter) → Shown f s → NoSendListens s.now → (h : Held) → IsTold h s.now → MayWait h (parts_in f)
+  may_wait : (f : WorldState T) (s : Configuration T Waiter) → Shown f s → NoSendListens s.now → (h : ListenerRef) → IsTold h s.now → MayWait h (parts_in f)
   may_wait f s sh unlisted h told line = by s.now.queue.capacity refl
     where
       same : s.now.queue.capacity ≡ capacity_of (parts_in f).cells.form
@@ -147,7 +147,7 @@ module _ {T : Type 0} where
       by (Some n) e = ap (λ (o : Option ℕ). is_some o) (sym same ∙ e)
       by None e =
           let sent : IsAmong h.key (keys_of s.now.roster.sends.told) =
-          subst (λ (l : Line). IsAmong h.key (keys_of (listeners l s.now.roster).told)) line told in
+          subst (λ (l : WaitList). IsAmong h.key (keys_of (listeners l s.now.roster).told)) line told in
           absurd (subst (λ (l : Listeners Waiter). IsAmong h.key (keys_of l.told)) (unlisted e) sent)
 
   -- what is pending and was woken
@@ -159,7 +159,7 @@ module _ {T : Type 0} where
       let lists : s.now.roster ≡ (parts_in f).roster = ap (λ (c : Channel T Waiter). c.roster) sh.shows.now in
       woken_node (parts_in f) h.0
       (told_listed h.0 (parts_in f).roster
-      (subst (λ (a : Roster Waiter). IsAmong h.0.key (keys_of (listeners h.0.line a).told)) lists told))
+      (subst (λ (a : WaitLists Waiter). IsAmong h.0.key (keys_of (listeners h.0.line a).told)) lists told))
       (may_wait f s sh kept.sound.unlisted.unlisted h.0 told) f.name_table w h.1
 
   -- so its poll, made alone, is refused no memory

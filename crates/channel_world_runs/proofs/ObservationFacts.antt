@@ -11,10 +11,10 @@ use Rattle.channel_calls.specs.declared.mark.Mark.{Mark}
 use Rattle.channel_calls.specs.declared.mark.Mark.TheVariants.{Close}
 use Rattle.channel_calls.specs.declared.plain.PlainChannel.{PlainChannel}
 use Rattle.channel_calls.specs.Plain.{parts_of}
-use Rattle.channel_calls.specs.declared.stage.Line.TheVariants.{Sends}
+use Rattle.channel_calls.specs.declared.stage.WaitList.TheVariants.{Sends}
 use Rattle.channel_calls.specs.declared.stage.Stage.{Stage}
 use Rattle.channel_calls.specs.declared.stage.Stage.TheVariants.{Working}
-use Rattle.channel_calls.specs.declared.stage.Work.TheVariants.{Leave}
+use Rattle.channel_calls.specs.declared.stage.ListStep.TheVariants.{Leave}
 use Rattle.channel_steps.specs.every_run.Closings.{HasClosed}
 use Rattle.channel_steps.specs.every_run.Sends.{HasPlaces}
 use Rattle.channel_steps.specs.every_run.Sound.{WakeInvariant}

@@ -3,8 +3,8 @@ use Rattle.std.specs.Prelude.{◌≡◌, ℕ, ◌+◌, ◌≤◌, Bool, true, fa
 use Rattle.std.specs.List.{count_by}
 use Rattle.event_listener.specs.declared.key.Key.{Key}
 use Rattle.channel_calls.specs.declared.ask.ChannelAsk.{ChannelAsk}
-use Rattle.channel_calls.specs.declared.stage.Held.{Held}
-use Rattle.channel_calls.specs.declared.stage.Line.TheVariants.{Sends, Receives, Streams}
+use Rattle.channel_calls.specs.declared.stage.ListenerRef.{ListenerRef}
+use Rattle.channel_calls.specs.declared.stage.WaitList.TheVariants.{Sends, Receives, Streams}
 use Rattle.channel_world_model.specs.declared.name.Waiter.{Waiter}
 use Rattle.channel_steps.specs.Moments.{Open, Shut}
 use Rattle.channel_steps.specs.Configuration.{ActiveCall, Configuration}
@@ -43,4 +43,4 @@ module _ {T : Type 0} where
     pub streams :
         (w : Waiter) (key : Key) → status b.name_table w ≡ waits (record { line = Streams; key = key }) false
         → (s.now.queue.items ≡ []) ⊎ AnyOf (λ u. is_sending u.ask ≡ true) s.under_way
-    pub closing : (w : Waiter) (h : Held) → status b.name_table w ≡ waits h false → Shut s.now → AnyOf (λ u. HasClosed u.marks) s.under_way
+    pub closing : (w : Waiter) (h : ListenerRef) → status b.name_table w ≡ waits h false → Shut s.now → AnyOf (λ u. HasClosed u.marks) s.under_way

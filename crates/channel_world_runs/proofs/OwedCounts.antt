@@ -14,13 +14,13 @@ use Rattle.channel_calls.specs.declared.mark.Mark.TheVariants.{Append, Replace, 
 use Rattle.channel_calls.specs.Parts.{listeners}
 use Rattle.channel_calls.specs.declared.ask.ChannelAsk.{ChannelAsk}
 use Rattle.channel_calls.specs.declared.ask.ChannelAsk.TheVariants as ask
-use Rattle.channel_calls.specs.declared.stage.Aim.TheVariants as aim
-use Rattle.channel_calls.specs.declared.stage.Held.{Held}
-use Rattle.channel_calls.specs.declared.stage.Line.{Line}
-use Rattle.channel_calls.specs.declared.stage.Line.TheVariants.{Sends, Receives, Streams, Closings}
+use Rattle.channel_calls.specs.declared.stage.Purpose.TheVariants as aim
+use Rattle.channel_calls.specs.declared.stage.ListenerRef.{ListenerRef}
+use Rattle.channel_calls.specs.declared.stage.WaitList.{WaitList}
+use Rattle.channel_calls.specs.declared.stage.WaitList.TheVariants.{Sends, Receives, Streams, Closings}
 use Rattle.channel_calls.specs.declared.stage.Stage as stage
 use Rattle.channel_calls.specs.declared.stage.Stage.TheVariants.{Trying, Working}
-use Rattle.channel_calls.specs.declared.stage.Work.TheVariants.{TellReceive, TellSend, TellSends}
+use Rattle.channel_calls.specs.declared.stage.ListStep.TheVariants.{TellReceive, TellSend, TellSends}
 use Rattle.channel_world_model.proofs.Awake.{line_sound, line_refl}
 use Rattle.channel_world_model.specs.Laws.{same_line}
 use Rattle.channel_world_model.specs.Names.{Directory}
@@ -86,11 +86,11 @@ count_first test x xs = sum_by-cons (λ y. one_if (test y)) x xs
 
 -- ---- the keys of those who are woken, and of calls
 
-abbrev hand_key : Line → Option Held → List Key
+abbrev hand_key : WaitList → Option ListenerRef → List Key
 hand_key line None = []
 hand_key line (Some h) = if same_line line h.line then h.key ∷ [] else []
 
-abbrev pub in_hand : Line → Option Held → ℕ
+abbrev pub in_hand : WaitList → Option ListenerRef → ℕ
 in_hand line None = 0
 in_hand line (Some h) = one_if (same_line line h.line)
 
@@ -98,11 +98,11 @@ one_key : (b : Bool) (k : Key) → length (if b then k ∷ [] else []) ≡ one_i
 one_key true k = refl
 one_key false k = refl
 
-woken_key_length : (line : Line) (x : NameStatus) → length (woken_key line x) ≡ one_if (is_woken_on line x)
+woken_key_length : (line : WaitList) (x : NameStatus) → length (woken_key line x) ≡ one_if (is_woken_on line x)
 woken_key_length line (waits h true) = one_key (same_line line h.line) h.key
 woken_key_length line x = refl
 
-hand_key_length : (line : Line) (o : Option Held) → length (hand_key line o) ≡ in_hand line o
+hand_key_length : (line : WaitList) (o : Option ListenerRef) → length (hand_key line o) ≡ in_hand line o
 hand_key_length line None = refl
 hand_key_length line (Some h) = one_key (same_line line h.line) h.key
 
@@ -112,11 +112,11 @@ there_if false k e = absurd (let no : false ≡ true = e in cc)
 
 -- ---- names
 
-is_named : {X : Type 0} (p : X → NameStatus) (n : ℕ) (d : Directory X) (h : Held) (b : Bool) → status_by p (lookup (nat_eq n) d) ≡ waits h b → IsAmong n (keys_of d)
+is_named : {X : Type 0} (p : X → NameStatus) (n : ℕ) (d : Directory X) (h : ListenerRef) (b : Bool) → status_by p (lookup (nat_eq n) d) ≡ waits h b → IsAmong n (keys_of d)
 is_named p n [] h b e = absurd (let no : free ≡ waits h b = e in cc)
 is_named p n (f ∷ d) h b e = at p n (nat_eq n f.0) f d h b refl (is_named p n d h b) e
   where
-    at : {X : Type 0} (p : X → NameStatus) (n : ℕ) (t : Bool) (f : ℕ × Option X) (d : Directory X) (h : Held) (b : Bool) → nat_eq n f.0 ≡ t → (status_by p (lookup (nat_eq n) d) ≡ waits h b → IsAmong n (keys_of d))
+    at : {X : Type 0} (p : X → NameStatus) (n : ℕ) (t : Bool) (f : ℕ × Option X) (d : Directory X) (h : ListenerRef) (b : Bool) → nat_eq n f.0 ≡ t → (status_by p (lookup (nat_eq n) d) ≡ waits h b → IsAmong n (keys_of d))
         → status_by p (cond t (Some f.1) (lookup (nat_eq n) d)) ≡ waits h b → IsAmong n (keys_of (f ∷ d))
     at p n true f d h b same on e = inl (sym (same_number n f.0 same))
       where
@@ -133,20 +133,20 @@ one_most : (b : Bool) → one_if b ≤ 1
 one_most true = omega arith
 one_most false = omega arith
 
-hand_most : (line : Line) (o : Option Held) → in_hand line o ≤ 1
+hand_most : (line : WaitList) (o : Option ListenerRef) → in_hand line o ≤ 1
 hand_most line None = omega arith
 hand_most line (Some h) = one_most (same_line line h.line)
 
 -- a call of another list has none of this one in hand
-abbrev Lined : Option Line → Option Held → Type 0
-Lined l o = (h : Held) → o ≡ Some h → l ≡ Some h.line
+abbrev Lined : Option WaitList → Option ListenerRef → Type 0
+Lined l o = (h : ListenerRef) → o ≡ Some h → l ≡ Some h.line
 
-no_hand : (line : Line) (l : Option Line) (o : Option Held) → Lined l o → (l ≡ Some line → ⊥) → in_hand line o ≡ 0
+no_hand : (line : WaitList) (l : Option WaitList) (o : Option ListenerRef) → Lined l o → (l ≡ Some line → ⊥) → in_hand line o ≡ 0
 no_hand line l None f g = refl
 no_hand line l (Some h) f g = by (same_line line h.line) refl
   where
     by : (t : Bool) → same_line line h.line ≡ t → one_if (same_line line h.line) ≡ 0
-    by true e = absurd (g (f h refl ∙ ap (λ (x : Line). let o : Option Line = Some x in o) (sym (line_sound line h.line e))))
+    by true e = absurd (g (f h refl ∙ ap (λ (x : WaitList). let o : Option WaitList = Some x in o) (sym (line_sound line h.line e))))
     by false e = ap one_if e
 
 -- ---- what was taken and not announced
@@ -171,16 +171,16 @@ untold n k told e h = subst (λ (ts : List Telling). n ≤ unless_told ts k) (sy
 module _ {T : Type 0} where
   -- ---- calls under way
 
-  abbrev hand_keys : Line → List (ActiveCall T Waiter) → List Key
+  abbrev hand_keys : WaitList → List (ActiveCall T Waiter) → List Key
   hand_keys line [] = []
   hand_keys line (u ∷ us) = hand_key line (holding u.at) ++ hand_keys line us
 
   -- the listeners of this list that calls have in hand
-  abbrev pub hands : Line → List (ActiveCall T Waiter) → ℕ
+  abbrev pub hands : WaitList → List (ActiveCall T Waiter) → ℕ
   hands line [] = 0
   hands line (u ∷ us) = in_hand line (holding u.at) + hands line us
 
-  hands_length : (line : Line) (us : List (ActiveCall T Waiter)) → length (hand_keys line us) ≡ hands line us
+  hands_length : (line : WaitList) (us : List (ActiveCall T Waiter)) → length (hand_keys line us) ≡ hands line us
   hands_length line [] = refl
   hands_length line (u ∷ us) =
       let both = length-append (hand_key line (holding u.at)) (hand_keys line us) in
@@ -188,21 +188,21 @@ module _ {T : Type 0} where
       let rest = hands_length line us in
       omega (arith, both, one, rest)
 
-  in_hands : (line : Line) (k : Key) (q : ℕ) (us : List (ActiveCall T Waiter)) → AnyOf (HasIt q (record { line = line; key = k })) us → IsAmong k (hand_keys line us)
+  in_hands : (line : WaitList) (k : Key) (q : ℕ) (us : List (ActiveCall T Waiter)) → AnyOf (HasIt q (record { line = line; key = k })) us → IsAmong k (hand_keys line us)
   in_hands line k q [] i = i
-  in_hands line k q (u ∷ us) (inl i) = among_left k (hand_key line (holding u.at)) (hand_keys line us) (subst (λ (o : Option Held). IsAmong k (hand_key line o)) (sym i.1) (there_if (same_line line line) k (line_refl line)))
+  in_hands line k q (u ∷ us) (inl i) = among_left k (hand_key line (holding u.at)) (hand_keys line us) (subst (λ (o : Option ListenerRef). IsAmong k (hand_key line o)) (sym i.1) (there_if (same_line line line) k (line_refl line)))
   in_hands line k q (u ∷ us) (inr i) = among_right k (hand_key line (holding u.at)) (hand_keys line us) (in_hands line k q us i)
 
   -- ---- names that are woken
 
-  named_there : (r : NameTable T) (w : Waiter) (h : Held) (b : Bool) → status r w ≡ waits h b → IsAmong w (all_names r)
+  named_there : (r : NameTable T) (w : Waiter) (h : ListenerRef) (b : Bool) → status r w ≡ waits h b → IsAmong w (all_names r)
   named_there r (Op op) h b e =
       among_left (Op op) (map (λ n. Op (record { 0 = n })) (keys_of r.operations)) (map (λ n. Stream (record { 0 = n })) (keys_of r.handles)) (among_map (λ n. Op (record { 0 = n })) op.0 (keys_of r.operations) (is_named _ op.0 r.operations h b e))
   named_there r (Stream handle) h b e =
       among_right (Stream handle) (map (λ n. Op (record { 0 = n })) (keys_of r.operations)) (map (λ n. Stream (record { 0 = n })) (keys_of r.handles)) (among_map (λ n. Stream (record { 0 = n })) handle.0 (keys_of r.handles) (is_named _ handle.0 r.handles h b e))
 
   -- they are as many as those of these names who are pending on this line and were woken
-  woken_length : (line : Line) (r : NameTable T) (ws : List Waiter)
+  woken_length : (line : WaitList) (r : NameTable T) (ws : List Waiter)
       → length (woken_keys line r ws) ≡ count_by (λ w. is_woken_on line (status r w)) ws
   woken_length line r [] = refl
   woken_length line r (w ∷ ws) =
@@ -213,7 +213,7 @@ module _ {T : Type 0} where
       omega (arith, both, one, rest, first)
 
   -- the listener of one who is pending and was woken is among those of its line
-  pub in_woken : (line : Line) (k : Key) (r : NameTable T) (w : Waiter) (ws : List Waiter) → IsAmong w ws
+  pub in_woken : (line : WaitList) (k : Key) (r : NameTable T) (w : Waiter) (ws : List Waiter) → IsAmong w ws
       → status r w ≡ waits (record { line = line; key = k }) true → IsAmong k (woken_keys line r ws)
   in_woken line k r w [] i e = absurd i
   in_woken line k r w (v ∷ ws) (inl same) e =
@@ -224,7 +224,7 @@ module _ {T : Type 0} where
       among_right k (woken_key line (status r v)) (woken_keys line r ws) (in_woken line k r w ws i e)
 
   -- the told listeners of a list are no more than its woken pending names and the calls that have one of it in hand
-  pub told_few : (b : NameState T) (s : Configuration T Waiter) (line : Line) → Owned b s → length (listeners line s.now.roster).told ≤ woken_on line b.name_table + hands line s.under_way
+  pub told_few : (b : NameState T) (s : Configuration T Waiter) (line : WaitList) → Owned b s → length (listeners line s.now.roster).told ≤ woken_on line b.name_table + hands line s.under_way
   told_few b s line o =
       let l = listeners line s.now.roster in
       let parts = none_parts (keys_of l.told) (keys_of l.waiting) (o.once line) in
@@ -247,7 +247,7 @@ module _ {T : Type 0} where
       held_so : (k : Key) → IsAmong k (keys_of (listeners line s.now.roster).told) → IsAmong k (woken_keys line b.name_table (all_names b.name_table) ++ hand_keys line s.under_way)
       held_so k i = by (o.held h (among_left k (keys_of (listeners line s.now.roster).told) (keys_of (listeners line s.now.roster).waiting) i))
         where
-          h : Held
+          h : ListenerRef
           h = record { line = line; key = k }
 
           at_name : (w : Waiter) (x : Bool) → status b.name_table w ≡ waits (record { line = line; key = k }) x → IsAmong k (woken_keys line b.name_table (all_names b.name_table) ++ hand_keys line s.under_way)
@@ -266,7 +266,7 @@ module _ {T : Type 0} where
   trying_most (trying b) = omega arith
   trying_most x = omega arith
 
-  anew : (line : Line) (at : stage.Stage (Phase T) T Waiter) → is_trying_anew at + in_hand line (holding at) ≤ 1
+  anew : (line : WaitList) (at : stage.Stage (Phase T) T Waiter) → is_trying_anew at + in_hand line (holding at) ≤ 1
   anew line (Trying f (aim.Poll l None task)) = omega (arith, trying_most f.stage)
   anew line at = let h = hand_most line (holding at) in omega (arith, h)
 
@@ -388,10 +388,10 @@ module _ {T : Type 0} where
     send_weight a s t f = let h = no_hand Sends None (holding at) f (λ e. absurd (let no : None ≡ Some Sends = e in cc)) in omega (arith, h)
 
   -- all calls under way
-  abbrev Weighs : Line → (ChannelAsk T Waiter → stage.Stage (Phase T) T Waiter → ℕ) → Type 0
+  abbrev Weighs : WaitList → (ChannelAsk T Waiter → stage.Stage (Phase T) T Waiter → ℕ) → Type 0
   Weighs line weigh = (a : ChannelAsk T Waiter) (at : stage.Stage (Phase T) T Waiter) → Lined (line_asked a) (holding at) → weigh a at + in_hand line (holding at) ≤ May a
 
-  all_weigh : (line : Line) (weigh : ChannelAsk T Waiter → stage.Stage (Phase T) T Waiter → ℕ) → Weighs line weigh → (p : Waiter → NameStatus) (agents : List (Agent T)) (us : List (ActiveCall T Waiter)) → Together p agents us
+  all_weigh : (line : WaitList) (weigh : ChannelAsk T Waiter → stage.Stage (Phase T) T Waiter → ℕ) → Weighs line weigh → (p : Waiter → NameStatus) (agents : List (Agent T)) (us : List (ActiveCall T Waiter)) → Together p agents us
       → total weigh us + hands line us
       ≤ count_by (λ (u : ActiveCall T Waiter). is_sending u.ask) us + count_by (λ (u : ActiveCall T Waiter). is_receiving u.ask) us
   all_weigh line weigh f p [] [] t = omega arith

@@ -5,13 +5,13 @@ use Rattle.event_listener.specs.declared.key.Key.{Key}
 use Rattle.channel_calls.specs.Parts.{listeners}
 use Rattle.channel_calls.specs.declared.ask.ChannelAsk.{ChannelAsk}
 use Rattle.channel_calls.specs.declared.ask.ChannelAsk.TheVariants as ask
-use Rattle.channel_calls.specs.declared.stage.Aim.TheVariants as aim
-use Rattle.channel_calls.specs.declared.stage.Held.{Held}
-use Rattle.channel_calls.specs.declared.stage.Line.{Line}
-use Rattle.channel_calls.specs.declared.stage.Line.TheVariants.{Sends, Receives, Streams}
+use Rattle.channel_calls.specs.declared.stage.Purpose.TheVariants as aim
+use Rattle.channel_calls.specs.declared.stage.ListenerRef.{ListenerRef}
+use Rattle.channel_calls.specs.declared.stage.WaitList.{WaitList}
+use Rattle.channel_calls.specs.declared.stage.WaitList.TheVariants.{Sends, Receives, Streams}
 use Rattle.channel_calls.specs.declared.stage.Stage.{Stage}
 use Rattle.channel_calls.specs.declared.stage.Stage.TheVariants.{Trying, Working}
-use Rattle.channel_calls.specs.declared.stage.Work.TheVariants.{TellReceive, TellStreams, TellSend, Leave}
+use Rattle.channel_calls.specs.declared.stage.ListStep.TheVariants.{TellReceive, TellStreams, TellSend, Leave}
 use Rattle.channel_world_model.specs.declared.name.Waiter.{Waiter}
 use Rattle.channel_steps.specs.Moments.{Open, Shut}
 use Rattle.channel_steps.specs.Configuration.{ActiveCall, Configuration}
@@ -30,11 +30,11 @@ use Rattle.channel_world_runs.proofs.OwedCounts.{told_few, receives_weigh, sends
 use Rattle.channel_world_runs.proofs.OwnerSteps.{apart}
 use Rattle.channel_world_runs.proofs.OwnerTogether.{HasIt}
 
-abbrev this : Line → Key → Held
+abbrev this : WaitList → Key → ListenerRef
 this line key = record { line = line; key = key }
 
-both : (a b : Line) (j k : Key) → a ≡ b → j ≡ k → (let x : Option Held = Some (this a j) in x) ≡ Some (this b k)
-both a b j k e f = ap (λ (l : Line). let x : Option Held = Some (this l j) in x) e ∙ ap (λ (i : Key). let x : Option Held = Some (this b i) in x) f
+both : (a b : WaitList) (j k : Key) → a ≡ b → j ≡ k → (let x : Option ListenerRef = Some (this a j) in x) ≡ Some (this b k)
+both a b j k e f = ap (λ (l : WaitList). let x : Option ListenerRef = Some (this l j) in x) e ∙ ap (λ (i : Key). let x : Option ListenerRef = Some (this b i) in x) f
 
 is_in : (key : Key) (w : Waiter) (ws : List (Key × Option Waiter)) → IsAmong (key, Some w) ws → IsIn key ws
 is_in key w [] i = i
@@ -48,7 +48,7 @@ places (Some c) m n e h = omega (arith, e, h)
 module _ {T : Type 0} where
   -- ---- what is in hand
 
-  listener_held : (line : Line) (key : Key) (at : Stage (Phase T) T Waiter) → HoldsListener line key at → holding at ≡ Some (this line key)
+  listener_held : (line : WaitList) (key : Key) (at : Stage (Phase T) T Waiter) → HoldsListener line key at → holding at ≡ Some (this line key)
   listener_held line key (Trying f (aim.Poll l (Some k) task)) h = both l line k key h.0 h.1
   listener_held line key (Working (TellReceive x)) h = h
   listener_held line key (Working (TellStreams x)) h = h
@@ -56,7 +56,7 @@ module _ {T : Type 0} where
   listener_held line key (Working (Leave x)) h = h
   listener_held line key at h = absurd h
 
-  looks_held : (line : Line) (key : Key) (at : Stage (Phase T) T Waiter) → LooksAgain line key at → holding at ≡ Some (this line key)
+  looks_held : (line : WaitList) (key : Key) (at : Stage (Phase T) T Waiter) → LooksAgain line key at → holding at ≡ Some (this line key)
   looks_held line key (Trying f (aim.Poll l (Some k) task)) h = both l line k key h.0 h.1
   looks_held line key (Working (TellSend x)) h = h
   looks_held line key (Working (Leave x)) h = h
@@ -68,7 +68,7 @@ module _ {T : Type 0} where
   stream_held key (Working (Leave x)) h = h
   stream_held key at h = absurd h
 
-  one_holds : (P : ActiveCall T Waiter → Type 0) (h : Held) → ((u : ActiveCall T Waiter) → P u → holding u.at ≡ Some h) → (us : List (ActiveCall T Waiter)) → Any P us → (q : ℕ) × AnyOf (HasIt q h) us
+  one_holds : (P : ActiveCall T Waiter → Type 0) (h : ListenerRef) → ((u : ActiveCall T Waiter) → P u → holding u.at ≡ Some h) → (us : List (ActiveCall T Waiter)) → Any P us → (q : ℕ) × AnyOf (HasIt q h) us
   one_holds P h f [] i = absurd i
   one_holds P h f (u ∷ us) (inl i) = (u.party, inl (refl, f u i))
   one_holds P h f (u ∷ us) (inr i) = let r = one_holds P h f us i in (r.0, inr r.1)
@@ -95,10 +95,10 @@ module _ {T : Type 0} where
 
   module _ (b : NameState T) (s : Configuration T Waiter) (o : Owned b s) (sound : WakeInvariant s) where
     -- the listener of one that is pending waits, and no call has it in hand
-    waiting : (line : Line) (w : Waiter) (key : Key) → status b.name_table w ≡ waits (this line key) false → Waits line key s.now
+    waiting : (line : WaitList) (w : Waiter) (key : Key) → status b.name_table w ≡ waits (this line key) false → Waits line key s.now
     waiting line w key e = is_in key w (listeners line s.now.roster).waiting (o.unwoken w (this line key) e)
 
-    in_no_hand : (P : ActiveCall T Waiter → Type 0) (line : Line) (w : Waiter) (key : Key) → status b.name_table w ≡ waits (this line key) false → ((u : ActiveCall T Waiter) → P u → holding u.at ≡ Some (this line key)) → Any P s.under_way → ⊥
+    in_no_hand : (P : ActiveCall T Waiter → Type 0) (line : WaitList) (w : Waiter) (key : Key) → status b.name_table w ≡ waits (this line key) false → ((u : ActiveCall T Waiter) → P u → holding u.at ≡ Some (this line key)) → Any P s.under_way → ⊥
     in_no_hand P line w key e f i =
         let one = one_holds P (this line key) f s.under_way i in
         apart w one.0 (o.alone (named w) (calling one.0) (this line key) (false, e) one.1)
@@ -139,7 +139,7 @@ module _ {T : Type 0} where
         by (inl none) = inl none
         by (inr i) = last (either (AnswersFor key) (λ u. is_sending u.ask ≡ true) (λ u. HasInHand key u.at) pick s.under_way i)
 
-    closing : (w : Waiter) (h : Held) → status b.name_table w ≡ waits h false → Shut s.now → AnyOf (λ u. HasClosed u.marks) s.under_way
+    closing : (w : Waiter) (h : ListenerRef) → status b.name_table w ≡ waits h false → Shut s.now → AnyOf (λ u. HasClosed u.marks) s.under_way
     closing w h e shut = last (either (AnswersClosed h.line h.key) (λ u. HasClosed u.marks) (λ u. LooksAgain h.line h.key u.at) pick s.under_way (let r = sound.closing in r.owed h.line h.key shut (waiting h.line w h.key e)))
       where
         pick : (u : ActiveCall T Waiter) → AnswersClosed h.line h.key u → HasClosed u.marks ⊎ LooksAgain h.line h.key u.at

@@ -9,8 +9,8 @@ use Rattle.channel_calls.specs.declared.mark.Mark.{Mark}
 use Rattle.channel_calls.specs.declared.mark.Mark.TheVariants.{Nothing, Append, Take, Close}
 use Rattle.channel_calls.specs.declared.reply.Reply.{Reply}
 use Rattle.channel_calls.specs.declared.reply.Reply.TheVariants as reply
-use Rattle.channel_calls.specs.declared.stage.Kept.{Kept}
-use Rattle.channel_calls.specs.declared.stage.Line.TheVariants.{Receives}
+use Rattle.channel_calls.specs.declared.stage.Returned.{Returned}
+use Rattle.channel_calls.specs.declared.stage.WaitList.TheVariants.{Receives}
 use Rattle.channel_world_model.specs.declared.call.Call.{Call}
 use Rattle.channel_world_model.specs.declared.call.Call.TheVariants as call
 use Rattle.channel_world_model.specs.declared.name.HandleId.{HandleId}
@@ -55,7 +55,7 @@ abbrev idle : Doing
 idle = record { role = Other; has_closed = false; taken = 0 }
 
 -- the k-th call under way answers, and leaves this to its operation
-abbrev answered : ℕ → Reply ℕ → Kept ℕ → Played → Played
+abbrev answered : ℕ → Reply ℕ → Returned ℕ → Played → Played
 answered k x kept w = record {
   name_state = name_state_ended k (slice_index_or w.name_state.agents k nobody) (Some x) (Some kept) w.name_state;
   doings = remove w.doings k;

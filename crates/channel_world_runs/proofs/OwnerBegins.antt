@@ -8,9 +8,9 @@ use Rattle.channel_calls.specs.Asks.{lent}
 use Rattle.channel_calls.specs.Turns.{held_on}
 use Rattle.channel_calls.specs.declared.ask.ChannelAsk.{ChannelAsk}
 use Rattle.channel_calls.specs.declared.ask.ChannelAsk.TheVariants as ask
-use Rattle.channel_calls.specs.declared.stage.Held.{Held}
-use Rattle.channel_calls.specs.declared.stage.Line.{Line}
-use Rattle.channel_calls.specs.declared.stage.Line.TheVariants.{Sends, Receives, Closings}
+use Rattle.channel_calls.specs.declared.stage.ListenerRef.{ListenerRef}
+use Rattle.channel_calls.specs.declared.stage.WaitList.{WaitList}
+use Rattle.channel_calls.specs.declared.stage.WaitList.TheVariants.{Sends, Receives, Closings}
 use Rattle.channel_world_model.specs.Asked.{KeysHeld as HeldBy, poll_asked}
 use Rattle.channel_world_model.specs.Lines.{without_waiter}
 use Rattle.channel_world_model.specs.Names.{Directory, at, is_taken}
@@ -53,7 +53,7 @@ IsLoose (rests line) = Unit {0}
 IsLoose (waits h is_woken) = Unit {0}
 IsLoose p = ⊥
 
-abbrev pub held_in : NameStatus → Option Held
+abbrev pub held_in : NameStatus → Option ListenerRef
 held_in (waits h is_woken) = Some h
 held_in p = None
 
@@ -82,7 +82,7 @@ untaken {X} p n d h = by (lookup (nat_eq n) d) h
     by None e = refl
     by (Some x) e = absurd (let no : true ≡ false = e in cc)
 
-pub on_line : (line : Line) (s : PollState) → is_polled s ≡ false
+pub on_line : (line : WaitList) (s : PollState) → is_polled s ≡ false
     → (held_on line (key_of s) ≡ held_in (status_on line s)) × IsLoose (status_on line s)
 on_line line (IsPolled b) e = absurd (let no : true ≡ false = e in cc)
 on_line line x e = (refl, tt)
@@ -112,7 +112,7 @@ module _ {T : Type 0} where
     pub takes : ask_holds a ≡ held_in (p name)
     pub suits : Suits p' e (wait_of a)
     pub whose : (subject e ≡ None) ⊎ (subject e ≡ Some name)
-    pub works : (line : Line) → now ≡ polled line → subject e ≡ Some name
+    pub works : (line : WaitList) → now ≡ polled line → subject e ≡ Some name
     pub order : Ordered name now f
 
   -- ---- what lives under a name

@@ -6,9 +6,9 @@ use Rattle.event_listener.specs.declared.key.Key.{Key}
 use Rattle.channel_calls.specs.Turns.{held_on}
 use Rattle.channel_calls.specs.declared.ask.ChannelAsk.{ChannelAsk}
 use Rattle.channel_calls.specs.declared.ask.ChannelAsk.TheVariants as ask
-use Rattle.channel_calls.specs.declared.stage.Held.{Held}
-use Rattle.channel_calls.specs.declared.stage.Line.{Line}
-use Rattle.channel_calls.specs.declared.stage.Line.TheVariants.{Sends, Receives, Streams, Closings}
+use Rattle.channel_calls.specs.declared.stage.ListenerRef.{ListenerRef}
+use Rattle.channel_calls.specs.declared.stage.WaitList.{WaitList}
+use Rattle.channel_calls.specs.declared.stage.WaitList.TheVariants.{Sends, Receives, Streams, Closings}
 use Rattle.channel_world_model.specs.Answer.{weak_of, strong_of}
 use Rattle.channel_world_model.specs.Asked.{KeysHeld as HeldBy, refusal_asked, giving_up_asked, drop_asked}
 use Rattle.channel_world_model.specs.Lines.{without_waiter}
@@ -49,7 +49,7 @@ abbrev Idle : HandleKind → PollState → Type 0
 Idle k s = (is_polled s ≡ false) × (stream_status k s ≡ invalid → ⊥)
 
 no_stream_held : (s : PollState) → (no_stream_status s ≡ invalid → ⊥)
-    → (let none : Option Held = None in none ≡ held_in (no_stream_status s)) × IsLoose (no_stream_status s)
+    → (let none : Option ListenerRef = None in none ≡ held_in (no_stream_status s)) × IsLoose (no_stream_status s)
 no_stream_held Rests f = (refl, tt)
 no_stream_held s f = absurd (f refl)
 
@@ -81,7 +81,7 @@ module _ (T : Type 0) where
   new_whose from new k (Some h) = inr refl
 
   new_suits : (p : Waiter → NameStatus) (from new : HandleId) (k : HandleKind → HandleKind) (o : Option Handle)
-      (wait : Option (Line × Waiter)) → p (Stream new) ≡ retired → wait ≡ None → Suits {T = T} p (new_from from new k o) wait
+      (wait : Option (WaitList × Waiter)) → p (Stream new) ≡ retired → wait ≡ None → Suits {T = T} p (new_from from new k o) wait
   new_suits p from new k None wait v e = e
   new_suits p from new k (Some h) wait v e = (v, e)
 
@@ -108,7 +108,7 @@ module _ {T : Type 0} where
   leaves_nobody None = refl
   leaves_nobody (Some o) = refl
 
-  leaves_suit : (p : Waiter → NameStatus) (o : Option (Operation T)) (wait : Option (Line × Waiter)) → wait ≡ None
+  leaves_suit : (p : Waiter → NameStatus) (o : Option (Operation T)) (wait : Option (WaitList × Waiter)) → wait ≡ None
       → Suits p (leave_handle_of o) wait
   leaves_suit p None wait e = e
   leaves_suit p (Some o) wait e = e

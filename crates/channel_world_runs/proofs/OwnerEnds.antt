@@ -10,9 +10,9 @@ use Rattle.channel_calls.specs.declared.ask.ChannelAsk.TheVariants as ask
 use Rattle.channel_calls.specs.declared.error.Refused.TheVariants as refused
 use Rattle.channel_calls.specs.declared.reply.Reply.{Reply}
 use Rattle.channel_calls.specs.declared.reply.Reply.TheVariants as reply
-use Rattle.channel_calls.specs.declared.stage.Kept.{Kept}
-use Rattle.channel_calls.specs.declared.stage.Line.{Line}
-use Rattle.channel_calls.specs.declared.stage.Line.TheVariants.{Sends, Receives, Streams, Closings}
+use Rattle.channel_calls.specs.declared.stage.Returned.{Returned}
+use Rattle.channel_calls.specs.declared.stage.WaitList.{WaitList}
+use Rattle.channel_calls.specs.declared.stage.WaitList.TheVariants.{Sends, Receives, Streams, Closings}
 use Rattle.channel_steps.specs.Answers.{PollKeeps, Keeps}
 use Rattle.channel_world_model.specs.Names.{Directory, at}
 use Rattle.channel_world_model.specs.declared.name.HandleId.{HandleId}
@@ -45,14 +45,14 @@ IsCalm x = Unit {0}
 some_is : {X : Type 0} (x y : X) → Some x ≡ Some y → x ≡ y
 some_is x y e = ap (λ (o : Option _). elim o [ None ↦ x | Some z ↦ z ]) e
 
-polled_is : (a b : Line) → polled a ≡ polled b → a ≡ b
+polled_is : (a b : WaitList) → polled a ≡ polled b → a ≡ b
 polled_is a b e = ap (λ (x : NameStatus). elim x [ polled l ↦ l | free ↦ a | retired ↦ a | invalid ↦ a | rests l ↦ a | waits h w ↦ a ]) e
 
 abbrev IsPolledNow : NameStatus → Type 0
 IsPolledNow (polled line) = Unit {0}
 IsPolledNow x = ⊥
 
-no_busy : (x : NameStatus) (line : Line) → x ≡ polled line → IsPolledNow x
+no_busy : (x : NameStatus) (line : WaitList) → x ≡ polled line → IsPolledNow x
 no_busy x line e = subst IsPolledNow (sym e) tt
 
 -- what is vacant was taken
@@ -60,7 +60,7 @@ vacant_taken : {X : Type 0} (p : X → NameStatus) (o : Option (Option X)) → s
 vacant_taken p None e = absurd (let no : free ≡ retired = e in cc)
 vacant_taken p (Some x) e = refl
 
-polled_there : {X : Type 0} (p : X → NameStatus) (n : ℕ) (d : Directory X) (line : Line) → status_by p (lookup (nat_eq n) d) ≡ polled line
+polled_there : {X : Type 0} (p : X → NameStatus) (n : ℕ) (d : Directory X) (line : WaitList) → status_by p (lookup (nat_eq n) d) ≡ polled line
     → (x : X) × (at n d ≡ Some x) × (p x ≡ polled line)
 polled_there {X} p n d line e = by (lookup (nat_eq n) d) refl e
   where
@@ -70,16 +70,16 @@ polled_there {X} p n d line e = by (lookup (nat_eq n) d) refl e
     by (Some None) f h = absurd (let no : retired ≡ polled line = h in cc)
     by (Some (Some x)) f h = (x, ap (λ (o : Option (Option X)). option_map_or (λ (y : Option X). y) o None) f, h)
 
-on_line : (line l : Line) (s : PollState) → status_on line s ≡ polled l → line ≡ l
+on_line : (line l : WaitList) (s : PollState) → status_on line s ≡ polled l → line ≡ l
 on_line line l Rests e = absurd (no_busy (rests line) l e)
 on_line line l (Waits key w) e = absurd (no_busy (waits (record { line = line; key = key }) w) l e)
 on_line line l (IsPolled b) e = polled_is line l e
 
-no_stream : (l : Line) (s : PollState) → no_stream_status s ≡ polled l → ⊥
+no_stream : (l : WaitList) (s : PollState) → no_stream_status s ≡ polled l → ⊥
 no_stream l Rests e = no_busy (rests Streams) l e
 no_stream l x e = no_busy invalid l e
 
-stream_is : (k : HandleKind) (l : Line) (s : PollState) → stream_status k s ≡ polled l → (k ≡ handle_kind.Receiver) × (Streams ≡ l)
+stream_is : (k : HandleKind) (l : WaitList) (s : PollState) → stream_status k s ≡ polled l → (k ≡ handle_kind.Receiver) × (Streams ≡ l)
 stream_is handle_kind.Receiver l s e = (refl, on_line Streams l s e)
 stream_is x l s e = absurd (no_stream l s e)
 
@@ -88,18 +88,18 @@ calm_stream handle_kind.Receiver = tt
 calm_stream x = tt
 
 -- the wait is that of the name
-abbrev IsFor : Option (Line × Waiter) → Line → Waiter → Type 0
+abbrev IsFor : Option (WaitList × Waiter) → WaitList → Waiter → Type 0
 IsFor wait line w = (wait ≡ None) ⊎ (wait ≡ Some (line, w))
 
-own_wait : (wait : Option (Line × Waiter)) (line l : Line) (w task : Waiter) → IsFor wait line w → wait ≡ Some (l, task)
+own_wait : (wait : Option (WaitList × Waiter)) (line l : WaitList) (w task : Waiter) → IsFor wait line w → wait ≡ Some (l, task)
     → (l ≡ line) × (task ≡ w)
 own_wait wait line l w task (inl none) e = absurd (let no : None ≡ Some (l, task) = sym none ∙ e in cc)
 own_wait wait line l w task (inr some) e =
-    let same : (let x : Line × Waiter = (l, task) in x) ≡ (line, w) = some_is _ _ (sym e ∙ some) in
-    (ap (λ (x : Line × Waiter). x.0) same, ap (λ (x : Line × Waiter). x.1) same)
+    let same : (let x : WaitList × Waiter = (l, task) in x) ≡ (line, w) = some_is _ _ (sym e ∙ some) in
+    (ap (λ (x : WaitList × Waiter). x.0) same, ap (λ (x : WaitList × Waiter). x.1) same)
 
 module _ {T : Type 0} where
-  op_line : (k : OperationKind) (m : Option T) (l : Line) (s : PollState) → operation_status k m s ≡ polled l → line_of_kind k ≡ l
+  op_line : (k : OperationKind) (m : Option T) (l : WaitList) (s : PollState) → operation_status k m s ≡ polled l → line_of_kind k ≡ l
   op_line kind.Send None l Rests e = absurd (no_busy (rests Sends) l e)
   op_line kind.Send None l (Waits key w) e = absurd (no_busy invalid l e)
   op_line kind.Send None l (IsPolled b) e = polled_is Sends l e
@@ -114,7 +114,7 @@ module _ {T : Type 0} where
   calm_op kind.Closing m = tt
 
   -- a send that waits has its message
-  abbrev pub Carries : Line → Option T → Type 0
+  abbrev pub Carries : WaitList → Option T → Type 0
   Carries line m = line ≡ Sends → (v : T) × (m ≡ Some v)
 
   waiting_op : (k : OperationKind) (m : Option T) (key : Key) → Carries (line_of_kind k) m
@@ -127,29 +127,29 @@ module _ {T : Type 0} where
   -- ---- what is left
 
   -- the call leaves no listener, or one that waits on this list for this name
-  abbrev pub IsLeft : Kept T → Option (Line × Waiter) → Type 0
+  abbrev pub IsLeft : Returned T → Option (WaitList × Waiter) → Type 0
   IsLeft kept wait = (kept.key ≡ None)
-      ⊎ ((line : Line) × (key : Key) × (task : Waiter) × (kept.key ≡ Some key) × (wait ≡ Some (line, task))
+      ⊎ ((line : WaitList) × (key : Key) × (task : Waiter) × (kept.key ≡ Some key) × (wait ≡ Some (line, task))
       × Carries line kept.message)
 
   -- the name at which it worked is pending with the listener that is left, or neither pending nor amiss
-  abbrev pub Comes : (Waiter → NameStatus) → OnReturn T → Kept T → Option (Line × Waiter) → Type 0
+  abbrev pub Comes : (Waiter → NameStatus) → OnReturn T → Returned T → Option (WaitList × Waiter) → Type 0
   Comes p e kept wait =
       ((kept.key ≡ None) × ((v : Waiter) → subject e ≡ Some v → IsCalm (p v)))
-      ⊎ ((line : Line) × (key : Key) × (task : Waiter) × (kept.key ≡ Some key) × (wait ≡ Some (line, task))
+      ⊎ ((line : WaitList) × (key : Key) × (task : Waiter) × (kept.key ≡ Some key) × (wait ≡ Some (line, task))
       × (subject e ≡ Some task) × (p task ≡ waits (record { line = line; key = key }) false))
 
-  pub record Settles (p p' : Waiter → NameStatus) (e : OnReturn T) (kept : Kept T) (wait : Option (Line × Waiter)) : Type 0 where
+  pub record Settles (p p' : Waiter → NameStatus) (e : OnReturn T) (kept : Returned T) (wait : Option (WaitList × Waiter)) : Type 0 where
     pub others : (v : Waiter) → (subject e ≡ Some v → ⊥) → p' v ≡ p v
     pub own : Comes p' e kept wait
 
-  no_wait : (p : Waiter → NameStatus) (e : OnReturn T) (kept : Kept T) (wait : Option (Line × Waiter)) → IsLeft kept wait → wait ≡ None
+  no_wait : (p : Waiter → NameStatus) (e : OnReturn T) (kept : Returned T) (wait : Option (WaitList × Waiter)) → IsLeft kept wait → wait ≡ None
       → ((v : Waiter) → subject e ≡ Some v → IsCalm (p v)) → Comes p e kept wait
   no_wait p e kept wait (inl none) f h = inl (none, h)
   no_wait p e kept wait (inr (line, key, task, k, w, m)) f h = absurd (let no : Some (line, task) ≡ None = sym w ∙ f in cc)
 
   -- nothing is settled
-  plain : (p p' : Waiter → NameStatus) (e : OnReturn T) (kept : Kept T) (wait : Option (Line × Waiter)) → IsLeft kept wait → wait ≡ None
+  plain : (p p' : Waiter → NameStatus) (e : OnReturn T) (kept : Returned T) (wait : Option (WaitList × Waiter)) → IsLeft kept wait → wait ≡ None
       → subject e ≡ None → Same p p' → Settles p p' e kept wait
   plain p p' e kept wait l f none same =
       record {
@@ -158,7 +158,7 @@ module _ {T : Type 0} where
       }
 
   -- one name is set
-  set : (p p' : Waiter → NameStatus) (e : OnReturn T) (kept : Kept T) (wait : Option (Line × Waiter)) (w : Waiter) (x : NameStatus)
+  set : (p p' : Waiter → NameStatus) (e : OnReturn T) (kept : Returned T) (wait : Option (WaitList × Waiter)) (w : Waiter) (x : NameStatus)
       → subject e ≡ Some w → Sets p p' w x → Comes p' e kept wait → Settles p p' e kept wait
   set p p' e kept wait w x whose s own =
       record { others = λ v other. s.others v (λ same. other (whose ∙ ap (λ (y : Waiter). Some y) (sym same))); own = own }
@@ -168,7 +168,7 @@ module _ {T : Type 0} where
   calm_at p e w x whose is calm v s =
       subst (λ (y : Waiter). IsCalm (p y)) (some_is w v (sym whose ∙ s)) (subst IsCalm (sym is) calm)
 
-  makes : (r : NameTable T) (op : OpId) (o : Operation T) (y : Reply T) (kept : Kept T) (wait : Option (Line × Waiter))
+  makes : (r : NameTable T) (op : OpId) (o : Operation T) (y : Reply T) (kept : Returned T) (wait : Option (WaitList × Waiter))
       → IsLeft kept wait → Suits {T = T} (status r) (on_return.Make op o) wait
       → Settles (status r) (status (written_back (on_return.Make op o) y kept r)) (on_return.Make op o) kept wait
   makes r op o y kept wait l f =
@@ -180,8 +180,8 @@ module _ {T : Type 0} where
       (calm_at (status (written_back (on_return.Make op o) y kept r)) (on_return.Make op o) (Op op) (op_status o) refl s.there calm))
 
   -- the end of a poll: the name stands by the listener that is left
-  comes : (after : Waiter → NameStatus) (e : OnReturn T) (w : Waiter) (x : Option Key → NameStatus) (line : Line) (kept : Kept T)
-      (wait : Option (Line × Waiter)) → subject e ≡ Some w → after w ≡ x kept.key → IsCalm (x None)
+  comes : (after : Waiter → NameStatus) (e : OnReturn T) (w : Waiter) (x : Option Key → NameStatus) (line : WaitList) (kept : Returned T)
+      (wait : Option (WaitList × Waiter)) → subject e ≡ Some w → after w ≡ x kept.key → IsCalm (x None)
       → ((key : Key) → Carries line kept.message → x (Some key) ≡ waits (record { line = line; key = key }) false) → IsFor wait line w
       → IsLeft kept wait → Comes after e kept wait
   comes after e w x line kept wait whose is calm pends whom (inl none) =
@@ -196,10 +196,10 @@ module _ {T : Type 0} where
         wt,
         whose ∙ ap (λ (v : Waiter). Some v) (sym own.1),
         ap after own.1 ∙ (is ∙ (ap x k ∙ (pends key (λ sends. m (own.0 ∙ sends))
-            ∙ ap (λ (i : Line). waits (record { line = i; key = key }) false) (sym own.0)))),
+            ∙ ap (λ (i : WaitList). waits (record { line = i; key = key }) false) (sym own.0)))),
       )
 
-  polls : (r : NameTable T) (op : OpId) (y : Reply T) (kept : Kept T) (wait : Option (Line × Waiter)) → IsLeft kept wait
+  polls : (r : NameTable T) (op : OpId) (y : Reply T) (kept : Returned T) (wait : Option (WaitList × Waiter)) → IsLeft kept wait
       → Suits {T = T} (status r) (on_return.Poll op) wait
       → Settles (status r) (status (written_back (on_return.Poll op) y kept r)) (on_return.Poll op) kept wait
   polls r op y kept wait l f =
@@ -211,9 +211,9 @@ module _ {T : Type 0} where
       (comes (status (written_back (on_return.Poll op) y kept r)) (on_return.Poll op) (Op op)
       (λ k. operation_status o.kind kept.message (poll_state_with k)) f.0 kept wait refl s.there (calm_op o.kind kept.message)
       (λ key c. waiting_op o.kind kept.message key (λ sends. c (sym line ∙ sends))
-      ∙ ap (λ (x : Line). waits (record { line = x; key = key }) false) line) f.2 l)
+      ∙ ap (λ (x : WaitList). waits (record { line = x; key = key }) false) line) f.2 l)
 
-  nexts : (r : NameTable T) (receiver : HandleId) (y : Reply T) (kept : Kept T) (wait : Option (Line × Waiter)) → IsLeft kept wait
+  nexts : (r : NameTable T) (receiver : HandleId) (y : Reply T) (kept : Returned T) (wait : Option (WaitList × Waiter)) → IsLeft kept wait
       → Suits {T = T} (status r) (on_return.PollNext receiver) wait
       → Settles (status r) (status (written_back (on_return.PollNext receiver) y kept r)) (on_return.PollNext receiver) kept wait
   nexts r receiver y kept wait l f =
@@ -227,7 +227,7 @@ module _ {T : Type 0} where
       set (status r) (status (written_back (on_return.PollNext receiver) y kept r)) (on_return.PollNext receiver) kept wait (Stream receiver) _ refl all
       (comes (status (written_back (on_return.PollNext receiver) y kept r)) (on_return.PollNext receiver) (Stream receiver)
       (λ k. status_on Streams (poll_state_with k)) f.0 kept wait refl (all.there ∙ ap (λ k. stream_status k (poll_state_with kept.key)) is.0) tt
-      (λ key c. ap (λ (x : Line). waits (record { line = x; key = key }) false) is.1) f.2 l)
+      (λ key c. ap (λ (x : WaitList). waits (record { line = x; key = key }) false) is.1) f.2 l)
 
   -- a new handle lives, or doesn't
   installs : (r : NameTable T) (new : HandleId) (k : HandleKind) (y : Reply T) → status r (Stream new) ≡ retired
@@ -240,7 +240,7 @@ module _ {T : Type 0} where
   )
   installs r new k y v = (retired, tt, record { there = v; others = λ w other. refl })
 
-  news : (r : NameTable T) (from new : HandleId) (k : HandleKind) (y : Reply T) (kept : Kept T) (wait : Option (Line × Waiter))
+  news : (r : NameTable T) (from new : HandleId) (k : HandleKind) (y : Reply T) (kept : Returned T) (wait : Option (WaitList × Waiter))
       → IsLeft kept wait → Suits {T = T} (status r) (on_return.New from new k) wait
       → Settles (status r) (status (written_back (on_return.New from new k) y kept r)) (on_return.New from new k) kept wait
   news r from new k y kept wait l f =
@@ -252,7 +252,7 @@ module _ {T : Type 0} where
       (no_wait (status (written_back (on_return.New from new k) y kept r)) (on_return.New from new k) kept wait l f.1
       (calm_at (status (written_back (on_return.New from new k) y kept r)) (on_return.New from new k) (Stream new) i.0 refl all.there i.1))
 
-  pub settles : (r : NameTable T) (e : OnReturn T) (y : Reply T) (kept : Kept T) (wait : Option (Line × Waiter)) → IsLeft kept wait
+  pub settles : (r : NameTable T) (e : OnReturn T) (y : Reply T) (kept : Returned T) (wait : Option (WaitList × Waiter)) → IsLeft kept wait
       → Suits {T = T} (status r) e wait → Settles (status r) (status (written_back e y kept r)) e kept wait
   settles r on_return.Nothing y kept wait l f = plain (status r) (status r) on_return.Nothing kept wait l f refl (λ v. refl)
   settles r (on_return.Leave handle) y kept wait l f =
@@ -268,10 +268,10 @@ module _ {T : Type 0} where
 
   -- ---- what a send keeps
 
-  nothing_left : (k : Kept T) (m : Option T) (key : Key) → k ≡ leaving None m → k.key ≡ Some key → ⊥
-  nothing_left k m key e f = absurd (let no : None ≡ Some key = sym (ap (λ (x : Kept T). x.key) e) ∙ f in cc)
+  nothing_left : (k : Returned T) (m : Option T) (key : Key) → k ≡ leaving None m → k.key ≡ Some key → ⊥
+  nothing_left k m key e f = absurd (let no : None ≡ Some key = sym (ap (λ (x : Returned T). x.key) e) ∙ f in cc)
 
-  poll_carries : (m : Option T) (y : Reply T) (k : Kept T) (key : Key) → PollKeeps m y k → k.key ≡ Some key → k.message ≡ m
+  poll_carries : (m : Option T) (y : Reply T) (k : Returned T) (key : Key) → PollKeeps m y k → k.key ≡ Some key → k.message ≡ m
   poll_carries m (reply.SendPoll Pending) k key h e = h.1
   poll_carries m (reply.RecvPoll Pending) k key h e = h.1
   poll_carries m (reply.ClosedPoll Pending) k key h e = h.1
@@ -280,13 +280,13 @@ module _ {T : Type 0} where
   poll_carries m (reply.SendPoll (Ready (Err (refused.SerialsUsedUp u)))) k key h e = absurd (nothing_left k m key h e)
   poll_carries m y k key h e = absurd (nothing_left k None key h e)
 
-  pub carries : (a : ChannelAsk T Waiter) (y : Reply T) (k : Kept T) (key : Key) (line : Line) (task : Waiter) → Keeps a y k
+  pub carries : (a : ChannelAsk T Waiter) (y : Reply T) (k : Returned T) (key : Key) (line : WaitList) (task : Waiter) → Keeps a y k
       → k.key ≡ Some key → wait_of a ≡ Some (line, task) → Carries line k.message
   carries (ask.PollSend m o t) y k key line task h e w sends = (m, poll_carries (Some m) y k key h e)
   carries (ask.PollRecv o t) y k key line task h e w sends =
-      absurd (let no : Receives ≡ Sends = ap (λ (x : Line × Waiter). x.0) (some_is _ _ w) ∙ sends in cc)
+      absurd (let no : Receives ≡ Sends = ap (λ (x : WaitList × Waiter). x.0) (some_is _ _ w) ∙ sends in cc)
   carries (ask.PollClosed o t) y k key line task h e w sends =
-      absurd (let no : Closings ≡ Sends = ap (λ (x : Line × Waiter). x.0) (some_is _ _ w) ∙ sends in cc)
+      absurd (let no : Closings ≡ Sends = ap (λ (x : WaitList × Waiter). x.0) (some_is _ _ w) ∙ sends in cc)
   carries (ask.PollNext o t) y k key line task h e w sends =
-      absurd (let no : Streams ≡ Sends = ap (λ (x : Line × Waiter). x.0) (some_is _ _ w) ∙ sends in cc)
+      absurd (let no : Streams ≡ Sends = ap (λ (x : WaitList × Waiter). x.0) (some_is _ _ w) ∙ sends in cc)
   carries a y k key line task h e w sends = absurd (let no : None ≡ Some (line, task) = w in cc)

@@ -1,33 +1,33 @@
 -- Listeners on lists, and who holds them, after one of these passed from one to another, came or went.
 use Rattle.std.proofs.Common.{◌≡◌, List, Option, None, Some, ◌⊎◌, inl, inr, sym, ◌∙◌}
 use Rattle.channel_calls.specs.Moves.{Channel}
-use Rattle.channel_calls.specs.declared.stage.Held.{Held}
+use Rattle.channel_calls.specs.declared.stage.ListenerRef.{ListenerRef}
 use Rattle.channel_world_runs.specs.Owners.{Holder, IsListed, NoneListedTwice}
 use Rattle.channel_world_runs.proofs.OwnerKeys.{IsGone}
 use Rattle.channel_world_runs.proofs.OwnerMoves.{Lists}
 
 module _ {T W : Type 0} where
   -- who holds what, on these lists
-  pub record Accounted (holds : Holder → Held → Type 0) (c : Channel T W) : Type 0 where
+  pub record Accounted (holds : Holder → ListenerRef → Type 0) (c : Channel T W) : Type 0 where
     pub once : NoneListedTwice c
-    pub listed : (x : Holder) (h : Held) → holds x h → IsListed h c
-    pub held : (h : Held) → IsListed h c → (x : Holder) × holds x h
-    pub alone : (x y : Holder) (h : Held) → holds x h → holds y h → x ≡ y
+    pub listed : (x : Holder) (h : ListenerRef) → holds x h → IsListed h c
+    pub held : (h : ListenerRef) → IsListed h c → (x : Holder) × holds x h
+    pub alone : (x y : Holder) (h : ListenerRef) → holds x h → holds y h → x ≡ y
 
 -- one gives what it had, or nothing, and another, or itself, has this then, or nothing
-pub record Passes (holds holds' : Holder → Held → Type 0) (had has : Option Held) (giver taker : Holder) : Type 0 where
-  pub back : (x : Holder) (h : Held) → holds' x h → (holds x h × (x ≡ giver → ⊥)) ⊎ ((x ≡ taker) × (has ≡ Some h))
-  pub forth : (x : Holder) (h : Held) → holds x h → holds' x h ⊎ ((x ≡ giver) × (had ≡ Some h))
-  pub old : (h : Held) → had ≡ Some h → holds giver h
-  pub new : (h : Held) → has ≡ Some h → holds' taker h
+pub record Passes (holds holds' : Holder → ListenerRef → Type 0) (had has : Option ListenerRef) (giver taker : Holder) : Type 0 where
+  pub back : (x : Holder) (h : ListenerRef) → holds' x h → (holds x h × (x ≡ giver → ⊥)) ⊎ ((x ≡ taker) × (has ≡ Some h))
+  pub forth : (x : Holder) (h : ListenerRef) → holds x h → holds' x h ⊎ ((x ≡ giver) × (had ≡ Some h))
+  pub old : (h : ListenerRef) → had ≡ Some h → holds giver h
+  pub new : (h : ListenerRef) → has ≡ Some h → holds' taker h
 
-module _ {T W : Type 0} (c d : Channel T W) (names : List W) (had has : Option Held) (holds holds' : Holder → Held → Type 0) (giver taker : Holder)
+module _ {T W : Type 0} (c d : Channel T W) (names : List W) (had has : Option ListenerRef) (holds holds' : Holder → ListenerRef → Type 0) (giver taker : Holder)
     (lists : Lists c.roster d.roster names had has) (how : (has ≡ had) ⊎ ((had ≡ None) ⊎ (has ≡ None))) (pass : Passes holds holds' had has giver taker) (a : Accounted holds c) where
-  nothing : (h : Held) (o : Option Held) → o ≡ Some h → o ≡ None → ⊥
+  nothing : (h : ListenerRef) (o : Option ListenerRef) → o ≡ Some h → o ≡ None → ⊥
   nothing h o e f = absurd (let never : Some h ≡ None = sym e ∙ f in cc)
 
   -- what is in hand still, or came in hand
-  listed_new : (h : Held) → has ≡ Some h → (has ≡ had) ⊎ ((had ≡ None) ⊎ (has ≡ None)) → IsListed h d
+  listed_new : (h : ListenerRef) → has ≡ Some h → (has ≡ had) ⊎ ((had ≡ None) ⊎ (has ≡ None)) → IsListed h d
   listed_new h e (inl same) = by ((lists h.line).gone h.key (a.listed giver h (pass.old h (sym same ∙ e))))
     where
       by : IsListed h d ⊎ IsGone had has (Some h) → IsListed h d
@@ -36,7 +36,7 @@ module _ {T W : Type 0} (c d : Channel T W) (names : List W) (had has : Option H
   listed_new h e (inr (inl none)) = (lists h.line).there h.key e none
   listed_new h e (inr (inr none)) = absurd (nothing h has e none)
 
-  listed_after : (x : Holder) (h : Held) → holds' x h → IsListed h d
+  listed_after : (x : Holder) (h : ListenerRef) → holds' x h → IsListed h d
   listed_after x h i = by (pass.back x h i)
     where
       stays : holds x h → (x ≡ giver → ⊥) → IsListed h d ⊎ IsGone had has (Some h) → IsListed h d
@@ -47,10 +47,10 @@ module _ {T W : Type 0} (c d : Channel T W) (names : List W) (had has : Option H
       by (inl j) = stays j.0 j.1 ((lists h.line).gone h.key (a.listed x h j.0))
       by (inr j) = listed_new h j.1 how
 
-  abbrev HeldBy : Held → Type 0
+  abbrev HeldBy : ListenerRef → Type 0
   HeldBy h = (x : Holder) × holds' x h
 
-  held_after : (h : Held) → IsListed h d → HeldBy h
+  held_after : (h : ListenerRef) → IsListed h d → HeldBy h
   held_after h i = by ((lists h.line).come (a.once h.line) h.key i)
     where
       same_hand : (IsGone had has (Some h) → ⊥) → had ≡ Some h → (has ≡ had) ⊎ ((had ≡ None) ⊎ (has ≡ None)) → HeldBy h
@@ -67,7 +67,7 @@ module _ {T W : Type 0} (c d : Channel T W) (names : List W) (had has : Option H
       by (inr j) = (taker, pass.new h j.0)
 
   -- another than the giver doesn't hold what is in hand
-  not_both : (x : Holder) (h : Held) → holds x h → (x ≡ giver → ⊥) → has ≡ Some h → holds' taker h → (has ≡ had) ⊎ ((had ≡ None) ⊎ (has ≡ None)) → ⊥
+  not_both : (x : Holder) (h : ListenerRef) → holds x h → (x ≡ giver → ⊥) → has ≡ Some h → holds' taker h → (has ≡ had) ⊎ ((had ≡ None) ⊎ (has ≡ None)) → ⊥
   not_both x h i other e n (inl same) = other (a.alone x giver h i (pass.old h (sym same ∙ e)))
   not_both x h i other e n (inr (inl none)) = by ((lists h.line).come (a.once h.line) h.key (listed_after taker h n))
     where
@@ -76,7 +76,7 @@ module _ {T W : Type 0} (c d : Channel T W) (names : List W) (had has : Option H
       by (inr j) = j.2 (a.listed x h i)
   not_both x h i other e n (inr (inr none)) = nothing h has e none
 
-  alone_after : (x y : Holder) (h : Held) → holds' x h → holds' y h → x ≡ y
+  alone_after : (x y : Holder) (h : ListenerRef) → holds' x h → holds' y h → x ≡ y
   alone_after x y h i j = by (pass.back x h i) (pass.back y h j)
     where
       by : (holds x h × (x ≡ giver → ⊥)) ⊎ ((x ≡ taker) × (has ≡ Some h)) → (holds y h × (y ≡ giver → ⊥)) ⊎ ((y ≡ taker) × (has ≡ Some h)) → x ≡ y

@@ -5,19 +5,19 @@ use Rattle.std.proofs.lemmas.Map.{keys-set_value}
 use Rattle.event_listener.specs.Lists.{Notice, same_key, told_as, waits_as, kind_of, without, with_task, told_with, moved, notified, listened, passed, passed_wakes, registration, removed, removed_wakes}
 use Rattle.event_listener.specs.declared.key.Key.{Key}
 use Rattle.channel_calls.specs.Parts.{Listeners, told_one, told_one_wakes, told_more, told_more_wakes, told_all, told_all_wakes, waits}
-use Rattle.channel_calls.specs.declared.stage.Held.{Held}
-use Rattle.channel_calls.specs.declared.stage.Line.{Line}
+use Rattle.channel_calls.specs.declared.stage.ListenerRef.{ListenerRef}
+use Rattle.channel_calls.specs.declared.stage.WaitList.{WaitList}
 use Rattle.channel_world_runs.specs.Owners.{IsAmong, NoneTwice, keys}
 use Rattle.channel_world_runs.proofs.OwnerLists.{among_left, among_right, among_of, Joined, none_parts, none_more, among_cut, Fewer, fewer_both, same_is, told_apart, same_or_not, entry_stays, key_stays, fewer_keys, key_gone, entry_set, value_now, among_tasks}
 
-abbrev pub on : Line → Key → Option Held
+abbrev pub on : WaitList → Key → Option ListenerRef
 on line key = Some (record { line = line; key = key })
 
 -- whether the listener that the call had in hand is gone
-abbrev pub IsGone : Option Held → Option Held → Option Held → Type 0
+abbrev pub IsGone : Option ListenerRef → Option ListenerRef → Option ListenerRef → Type 0
 IsGone had has h = (had ≡ h) × (has ≡ None)
 
-some_none : (o : Option Held) (h : Held) → o ≡ Some h → o ≡ None → ⊥
+some_none : (o : Option ListenerRef) (h : ListenerRef) → o ≡ Some h → o ≡ None → ⊥
 some_none o h e f = absurd (let never : Some h ≡ None = sym e ∙ f in cc)
 
 pub told_both : (xs ys : List (Key × Notice Unit)) → keys_of (xs ++ ys) ≡ keys_of xs ++ keys_of ys
@@ -61,8 +61,8 @@ none_some : {X : Type 0} (key : Key) (es : List (Key × X)) → is_some (lookup 
 none_some key [] e h = h
 none_some key (f ∷ es) e h = none_at key (same_key key f.0) f es refl (none_some key es) e h
 
-key_is : (line : Line) (a b : Key) → on line a ≡ on line b → b ≡ a
-key_is line a b e = sym (ap (λ (o : Option Held). elim o [ None ↦ a | Some h ↦ h.key ]) e)
+key_is : (line : WaitList) (a b : Key) → on line a ≡ on line b → b ≡ a
+key_is line a b e = sym (ap (λ (o : Option ListenerRef). elim o [ None ↦ a | Some h ↦ h.key ]) e)
 
 kind_none : (a b : Bool) → (if a then Some true else (if b then Some false else None)) ≡ None → (a ≡ false) × (b ≡ false)
 kind_none true b e = absurd (let no : Some true ≡ None = e in cc)
@@ -75,7 +75,7 @@ waits_by a b = elim (if a then Some true else (if b then Some false else None)) 
 module _ {W : Type 0} where
   -- One list after a step that wakes these: nobody stands twice on it where none did; others stay, and wait for their tasks or
   -- wake them; none goes but the one in hand, none comes but the one that is in hand then.
-  pub record Turned (line : Line) (l l' : Listeners W) (names : List W) (had has : Option Held) : Type 0 where
+  pub record Turned (line : WaitList) (l l' : Listeners W) (names : List W) (had has : Option ListenerRef) : Type 0 where
     pub once : NoneTwice (keys l) → NoneTwice (keys l')
     pub waiting : (key : Key) (w : W) → (had ≡ on line key → ⊥) → IsAmong (key, Some w) l.waiting
         → IsAmong (key, Some w) l'.waiting ⊎ IsAmong w names
@@ -89,7 +89,7 @@ module _ {W : Type 0} where
   -- ---- lists with the same keys
 
   -- the same listeners are there still
-  pub same_keys : (line : Line) (l l' : Listeners W) (names : List W) (had : Option Held) → keys l' ≡ keys l
+  pub same_keys : (line : WaitList) (l l' : Listeners W) (names : List W) (had : Option ListenerRef) → keys l' ≡ keys l
       → ((key : Key) (w : W) → (had ≡ on line key → ⊥) → IsAmong (key, Some w) l.waiting → IsAmong (key, Some w) l'.waiting
       ⊎ IsAmong w names) → Turned line l l' names had had
   same_keys line l l' names had e f =
@@ -103,11 +103,11 @@ module _ {W : Type 0} where
         fresh = λ key h g i. some_none had (record { line = line; key = key }) h g;
       }
 
-  pub untouched : (line : Line) (l : Listeners W) (names : List W) (had : Option Held) → Turned line l l names had had
+  pub untouched : (line : WaitList) (l : Listeners W) (names : List W) (had : Option ListenerRef) → Turned line l l names had had
   untouched line l names had = same_keys line l l names had refl (λ key w other h. inl h)
 
   -- the listener in hand is on another list
-  pub elsewhere : (line : Line) (l : Listeners W) (names : List W) (had has : Option Held) → ((key : Key) → had ≡ on line key → ⊥)
+  pub elsewhere : (line : WaitList) (l : Listeners W) (names : List W) (had has : Option ListenerRef) → ((key : Key) → had ≡ on line key → ⊥)
       → ((key : Key) → has ≡ on line key → ⊥) → Turned line l l names had has
   elsewhere line l names had has f g =
       record {
@@ -166,7 +166,7 @@ module _ {W : Type 0} where
   passed_keys : (n : Notice Unit) (l : Listeners W) → keys (passed n l) ≡ keys l
   passed_keys n l = notified_keys n.additional (take (moved n.additional 1 l) (n.tag ∷ [])) l
 
-  pub one_told : (line : Line) (l : Listeners W) (had : Option Held) → Turned line l (told_one l) (told_one_wakes l) had had
+  pub one_told : (line : WaitList) (l : Listeners W) (had : Option ListenerRef) → Turned line l (told_one l) (told_one_wakes l) had had
   one_told line l had =
       let n : Notice Unit = record { additional = true; tag = tt } in
       same_keys line l (told_one l) (told_one_wakes l) had (passed_keys n l) (λ key w other h. passed_waiting n l key w h)
@@ -193,11 +193,11 @@ module _ {W : Type 0} where
       first more (inl i) = rest (more i)
       first more (inr i) = inr (among_left w (told_one_wakes l) (told_more_wakes n (told_one l)) i)
 
-  pub more_told : (line : Line) (n : ℕ) (l : Listeners W) (had : Option Held) → Turned line l (told_more n l) (told_more_wakes n l) had had
+  pub more_told : (line : WaitList) (n : ℕ) (l : Listeners W) (had : Option ListenerRef) → Turned line l (told_more n l) (told_more_wakes n l) had had
   more_told line n l had =
       same_keys line l (told_more n l) (told_more_wakes n l) had (more_keys n l) (λ key w other h. more_waiting n l key w h)
 
-  pub all_told : (line : Line) (l : Listeners W) (had : Option Held) → Turned line l (told_all l) (told_all_wakes l) had had
+  pub all_told : (line : WaitList) (l : Listeners W) (had : Option ListenerRef) → Turned line l (told_all l) (told_all_wakes l) had had
   all_told line l had =
       let tags = units l.waiting in
       let told : keys_of (told_with false l.waiting tags) ≡ keys_of l.waiting =
@@ -231,7 +231,7 @@ module _ {W : Type 0} where
       by (inr i) j = key_gone key l.waiting j.right i
 
   -- the listener in hand has left, and others stay as they are here
-  left : (line : Line) (key : Key) (l l' : Listeners W) (names : List W) → keys l' ≡ keys (without key l)
+  left : (line : WaitList) (key : Key) (l l' : Listeners W) (names : List W) → keys l' ≡ keys (without key l)
       → ((k : Key) (w : W) → (k ≡ key → ⊥) → IsAmong (k, Some w) l.waiting → IsAmong (k, Some w) l'.waiting ⊎ IsAmong w names)
       → Turned line l l' names (on line key) None
   left line key l l' names e f =
@@ -254,7 +254,7 @@ module _ {W : Type 0} where
       gone_or k h (inr other) = inl (subst (λ (ks : List Key). IsAmong k ks) (sym e) (without_stays key k l other h))
 
   -- it was not there
-  never : (line : Line) (key : Key) (l : Listeners W) (names : List W) → (IsAmong key (keys l) → ⊥)
+  never : (line : WaitList) (key : Key) (l : Listeners W) (names : List W) → (IsAmong key (keys l) → ⊥)
       → Turned line l l names (on line key) None
   never line key l names f =
       record {
@@ -281,7 +281,7 @@ module _ {W : Type 0} where
   abbrev pub removed_names : Option (Notice Unit) → Key → Listeners W → List W
   removed_names o key l = elim o [ Some notice ↦ (if true then passed_wakes notice (without key l) else []) | None ↦ [] ]
 
-  removing : (line : Line) (key : Key) (l : Listeners W) (o : Option (Notice Unit)) (b : Bool) → told_as l key ≡ o
+  removing : (line : WaitList) (key : Key) (l : Listeners W) (o : Option (Notice Unit)) (b : Bool) → told_as l key ≡ o
       → is_some (waits_as l key) ≡ b → Turned line l (removed_as o b key l) (removed_names o key l) (on line key) None
   removing line key l (Some n) b e f =
       left line key l (passed n (without key l)) (passed_wakes n (without key l)) (passed_keys n (without key l))
@@ -290,13 +290,13 @@ module _ {W : Type 0} where
       left line key l (without key l) [] refl (λ k w other h. inl (entry_stays key (k, Some w) l.waiting other h))
   removing line key l None false e f = never line key l [] (unlisted key l (ap (λ (o : Option (Notice Unit)). is_some o) e) f)
 
-  pub one_removed : (line : Line) (key : Key) (l : Listeners W)
+  pub one_removed : (line : WaitList) (key : Key) (l : Listeners W)
       → Turned line l (removed key true l) (removed_wakes key true l) (on line key) None
   one_removed line key l = removing line key l (told_as l key) (is_some (waits_as l key)) refl refl
 
   -- ---- one comes
 
-  pub one_listens : (line : Line) (key : Key) (l : Listeners W) → kind_of l key ≡ None
+  pub one_listens : (line : WaitList) (key : Key) (l : Listeners W) → kind_of l key ≡ None
       → Turned line l (listened key l) [] None (on line key)
   one_listens line key l e =
       let more : keys (listened key l) ≡ keys l ++ key ∷ [] = ap (λ (ks : List Key). keys_of l.told ++ ks)
@@ -315,7 +315,7 @@ module _ {W : Type 0} where
     where
       come_or : (k : Key) → (IsAmong key (keys l) → ⊥) → IsAmong k (keys l) ⊎ IsAmong k (key ∷ [])
           → (IsAmong k (keys l) × (IsGone None (on line key) (on line k) → ⊥))
-          ⊎ ((on line key ≡ on line k) × (let no : Option Held = None in no ≡ None) × (IsAmong k (keys l) → ⊥))
+          ⊎ ((on line key ≡ on line k) × (let no : Option ListenerRef = None in no ≡ None) × (IsAmong k (keys l) → ⊥))
       come_or k new (inl i) = inl (i, λ g. some_none None (record { line = line; key = k }) g.0 refl)
       come_or k new (inr (inl i)) =
           inr (ap (λ (x : Key). on line x) i, refl, λ h. new (subst (λ (x : Key). IsAmong x (keys l)) (sym i) h))
@@ -327,7 +327,7 @@ module _ {W : Type 0} where
   registered_as a b key task l = if a then without key l else (if b then with_task key task l else l)
 
   -- it waits still, and its task is this
-  pub record StillWaits (line : Line) (key : Key) (task : W) (l l' : Listeners W) : Type 0 where
+  pub record StillWaits (line : WaitList) (key : Key) (task : W) (l l' : Listeners W) : Type 0 where
     pub list : Turned line l l' [] (on line key) (on line key)
     pub task_now : IsAmong (key, Some task) l'.waiting
 
@@ -342,11 +342,11 @@ module _ {W : Type 0} where
   among_some key (f ∷ es) e = some_at key (same_key key f.0) f es refl (among_some key es) e
 
   -- what comes of it, where it waits and where it doesn't
-  abbrev pub Asked : Line → Key → W → Listeners W → Listeners W → Bool → Type 0
+  abbrev pub Asked : WaitList → Key → W → Listeners W → Listeners W → Bool → Type 0
   Asked line key task l l' true = StillWaits line key task l l'
   Asked line key task l l' false = Turned line l l' [] (on line key) None
 
-  asking : (line : Line) (key : Key) (task : W) (l : Listeners W) (a b : Bool) → is_some (told_as l key) ≡ a
+  asking : (line : WaitList) (key : Key) (task : W) (l : Listeners W) (a b : Bool) → is_some (told_as l key) ≡ a
       → is_some (waits_as l key) ≡ b → Asked line key task l (registered_as a b key task l) (waits_by a b)
   asking line key task l true b e f =
       left line key l (without key l) [] refl (λ k w other h. inl (entry_stays key (k, Some w) l.waiting other h))
@@ -361,6 +361,6 @@ module _ {W : Type 0} where
       }
   asking line key task l false false e f = never line key l [] (unlisted key l e f)
 
-  pub one_asks : (line : Line) (key : Key) (task : W) (l : Listeners W)
+  pub one_asks : (line : WaitList) (key : Key) (task : W) (l : Listeners W)
       → Asked line key task l (registration key task l) (waits key l)
   one_asks line key task l = asking line key task l (is_some (told_as l key)) (is_some (waits_as l key)) refl refl

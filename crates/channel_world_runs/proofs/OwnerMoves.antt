@@ -3,32 +3,32 @@ use Rattle.std.proofs.Common.{◌≡◌, ℕ, ◌+◌, ◌-◌, Bool, true, fals
 use Rattle.concurrent_queue.specs.Queue.{Phase, Continues, Answers}
 use Rattle.concurrent_queue.specs.declared.call.QueueReply.{QueueReply}
 use Rattle.channel_calls.specs.Answered.{answered_next}
-use Rattle.channel_calls.specs.declared.stage.Aim.{Aim}
+use Rattle.channel_calls.specs.declared.stage.Purpose.{Purpose}
 use Rattle.event_listener.specs.Lists.{listened, registration, removed, removed_wakes}
 use Rattle.event_listener.specs.declared.key.Key.{Key}
 use Rattle.channel_calls.specs.Marks.{up}
 use Rattle.channel_calls.specs.Moves.{Channel, Effect, queued, untouched, on_line, on_count, leaves, Turned, TakesRoomFor, Inserts, Worked, Moves}
-use Rattle.channel_calls.specs.Parts.{Roster, Listeners, listeners, with_listeners, with_count, count, is_raised, told_one, told_one_wakes, told_more, told_more_wakes, told_all, told_all_wakes, waits}
+use Rattle.channel_calls.specs.Parts.{WaitLists, Listeners, listeners, with_listeners, with_count, count, is_raised, told_one, told_one_wakes, told_more, told_more_wakes, told_all, told_all_wakes, waits}
 use Rattle.channel_calls.specs.Turns.{line_of, leaving, again, pends_by, unlistened, room_next, roomless, lowered_next}
 use Rattle.channel_calls.specs.declared.ask.ChannelAsk.{ChannelAsk}
 use Rattle.channel_calls.specs.declared.ask.ChannelAsk.TheVariants as ask
 use Rattle.channel_calls.specs.declared.reply.Reply.{Reply}
 use Rattle.channel_calls.specs.declared.reply.Reply.TheVariants as reply
 use Rattle.channel_calls.specs.declared.stage.Ending.{Ending}
-use Rattle.channel_calls.specs.declared.stage.Held.{Held}
-use Rattle.channel_calls.specs.declared.stage.Kept.{Kept}
-use Rattle.channel_calls.specs.declared.stage.Line.{Line}
-use Rattle.channel_calls.specs.declared.stage.Line.TheVariants.{Sends, Receives, Streams, Closings}
+use Rattle.channel_calls.specs.declared.stage.ListenerRef.{ListenerRef}
+use Rattle.channel_calls.specs.declared.stage.Returned.{Returned}
+use Rattle.channel_calls.specs.declared.stage.WaitList.{WaitList}
+use Rattle.channel_calls.specs.declared.stage.WaitList.TheVariants.{Sends, Receives, Streams, Closings}
 use Rattle.channel_calls.specs.declared.stage.Side.{Side}
 use Rattle.channel_calls.specs.declared.stage.Side.TheVariants.{Senders, Receivers}
 use Rattle.channel_calls.specs.declared.stage.Stage.{Stage}
 use Rattle.channel_calls.specs.declared.stage.Stage.TheVariants.{Trying, Working, Finished}
-use Rattle.channel_calls.specs.declared.stage.Turn.{Turn}
-use Rattle.channel_calls.specs.declared.stage.Turn.TheVariants.{Tries, Works, Ends}
+use Rattle.channel_calls.specs.declared.stage.NextStep.{NextStep}
+use Rattle.channel_calls.specs.declared.stage.NextStep.TheVariants.{Tries, Works, Ends}
 use Rattle.channel_calls.specs.declared.stage.Waiting.{Waiting}
 use Rattle.channel_calls.specs.declared.stage.Waiting.TheVariants as waiting
-use Rattle.channel_calls.specs.declared.stage.Work.{Work}
-use Rattle.channel_calls.specs.declared.stage.Work.TheVariants.{TellReceive, TellStreams, TellSend, TellSends, TakeRoom, TellAll, Insert, Register, Leave, Lower, Count, Load, Raise}
+use Rattle.channel_calls.specs.declared.stage.ListStep.{ListStep}
+use Rattle.channel_calls.specs.declared.stage.ListStep.TheVariants.{TellReceive, TellStreams, TellSend, TellSends, TakeRoom, TellAll, Insert, Register, Leave, Lower, Count, Load, Raise}
 use Rattle.channel_steps.specs.Moments.{MarkedMoment}
 use Rattle.channel_steps.specs.Known.{IsFor, StageAt}
 use Rattle.channel_world_runs.specs.Owners.{IsAmong, holding, task_at, work_holds, work_task, wait_of, Bears, WaitsToWake}
@@ -38,25 +38,25 @@ use Rattle.channel_world_runs.proofs.OwnerTurns.{MayBear, Has, ends_has, told_al
 
 -- ---- the four lists
 
-pub line_or : (a b : Line) → (a ≡ b) ⊎ (a ≡ b → ⊥)
+pub line_or : (a b : WaitList) → (a ≡ b) ⊎ (a ≡ b → ⊥)
 line_or Sends Sends = inl refl
 line_or Receives Receives = inl refl
 line_or Streams Streams = inl refl
 line_or Closings Closings = inl refl
 line_or a b = inr (λ e. absurd (cc e))
 
-line_is : (a b : Line) (k h : Key) → on a k ≡ on b h → b ≡ a
-line_is a b k h e = sym (ap (λ (o : Option Held). elim o [ None ↦ a | Some x ↦ x.line ]) e)
+line_is : (a b : WaitList) (k h : Key) → on a k ≡ on b h → b ≡ a
+line_is a b k h e = sym (ap (λ (o : Option ListenerRef). elim o [ None ↦ a | Some x ↦ x.line ]) e)
 
-no_held : (h : Held) → (let none : Option Held = None in none ≡ Some h) → ⊥
+no_held : (h : ListenerRef) → (let none : Option ListenerRef = None in none ≡ Some h) → ⊥
 no_held h e = absurd (let never : None ≡ Some h = e in cc)
 
 module _ {W : Type 0} where
-  pub same_list : (line : Line) (l : Listeners W) (r : Roster W) → listeners line (with_listeners line l r) ≡ l
+  pub same_list : (line : WaitList) (l : Listeners W) (r : WaitLists W) → listeners line (with_listeners line l r) ≡ l
   same_list Sends l r = refl
   same_list x l r = refl
 
-  pub other_list : (line at : Line) (l : Listeners W) (r : Roster W) → (line ≡ at → ⊥)
+  pub other_list : (line at : WaitList) (l : Listeners W) (r : WaitLists W) → (line ≡ at → ⊥)
       → listeners line (with_listeners at l r) ≡ listeners line r
   other_list Sends Sends l r f = absurd (f refl)
   other_list Receives Receives l r f = absurd (f refl)
@@ -64,7 +64,7 @@ module _ {W : Type 0} where
   other_list Closings Closings l r f = absurd (f refl)
   other_list x at l r f = refl
 
-  pub counted_list : (line : Line) (side : Side) (n : ℕ) (r : Roster W) → listeners line (with_count side n r) ≡ listeners line r
+  pub counted_list : (line : WaitList) (side : Side) (n : ℕ) (r : WaitLists W) → listeners line (with_count side n r) ≡ listeners line r
   counted_list Sends Senders n r = refl
   counted_list Sends Receivers n r = refl
   counted_list Receives Senders n r = refl
@@ -75,47 +75,47 @@ module _ {W : Type 0} where
   counted_list Closings Receivers n r = refl
 
   -- each list after a step
-  abbrev pub Lists : Roster W → Roster W → List W → Option Held → Option Held → Type 0
-  Lists r r' names had has = (line : Line) → list.Turned line (listeners line r) (listeners line r') names had has
+  abbrev pub Lists : WaitLists W → WaitLists W → List W → Option ListenerRef → Option ListenerRef → Type 0
+  Lists r r' names had has = (line : WaitList) → list.Turned line (listeners line r) (listeners line r') names had has
 
   -- a step on one list
-  on_list : (at : Line) (l : Listeners W) (names : List W) (r : Roster W) (had has : Option Held)
+  on_list : (at : WaitList) (l : Listeners W) (names : List W) (r : WaitLists W) (had has : Option ListenerRef)
       → list.Turned at (listeners at r) l names had has
-      → ((line : Line) → (line ≡ at → ⊥) → list.Turned line (listeners line r) (listeners line r) names had has)
+      → ((line : WaitList) → (line ≡ at → ⊥) → list.Turned line (listeners line r) (listeners line r) names had has)
       → Lists r (with_listeners at l r) names had has
   on_list at l names r had has h others line = by (line_or line at)
     where
       by : (line ≡ at) ⊎ (line ≡ at → ⊥)
           → list.Turned line (listeners line r) (listeners line (with_listeners at l r)) names had has
       by (inl same) =
-          subst (λ (x : Line). list.Turned x (listeners x r) (listeners x (with_listeners at l r)) names had has) (sym same)
+          subst (λ (x : WaitList). list.Turned x (listeners x r) (listeners x (with_listeners at l r)) names had has) (sym same)
           (subst (λ (y : Listeners W). list.Turned at (listeners at r) y names had has) (sym (same_list at l r)) h)
       by (inr other) = subst (λ (y : Listeners W). list.Turned line (listeners line r) y names had has)
           (sym (other_list line at l r other)) (others line other)
 
   -- what is in hand stays so
-  tells : (at : Line) (l : Listeners W) (names : List W) (r : Roster W) (had : Option Held)
+  tells : (at : WaitList) (l : Listeners W) (names : List W) (r : WaitLists W) (had : Option ListenerRef)
       → list.Turned at (listeners at r) l names had had → Lists r (with_listeners at l r) names had had
   tells at l names r had h = on_list at l names r had had h (λ line other. list.untouched line (listeners line r) names had)
 
-  drops : (at : Line) (key : Key) (l : Listeners W) (names : List W) (r : Roster W)
+  drops : (at : WaitList) (key : Key) (l : Listeners W) (names : List W) (r : WaitLists W)
       → list.Turned at (listeners at r) l names (on at key) None → Lists r (with_listeners at l r) names (on at key) None
   drops at key l names r h =
       on_list at l names r (on at key) None h
       (λ line other. list.elsewhere line (listeners line r) names (on at key) None (λ k e. other (line_is at line key k e))
       (λ k e. no_held (record { line = line; key = k }) e))
 
-  comes : (at : Line) (key : Key) (l : Listeners W) (names : List W) (r : Roster W)
+  comes : (at : WaitList) (key : Key) (l : Listeners W) (names : List W) (r : WaitLists W)
       → list.Turned at (listeners at r) l names None (on at key) → Lists r (with_listeners at l r) names None (on at key)
   comes at key l names r h =
       on_list at l names r None (on at key) h
       (λ line other. list.elsewhere line (listeners line r) names None (on at key)
       (λ k e. no_held (record { line = line; key = k }) e) (λ k e. other (line_is at line key k e)))
 
-  pub still : (r : Roster W) (names : List W) (had : Option Held) → Lists r r names had had
+  pub still : (r : WaitLists W) (names : List W) (had : Option ListenerRef) → Lists r r names had had
   still r names had line = list.untouched line (listeners line r) names had
 
-  counts : (side : Side) (n : ℕ) (r : Roster W) (names : List W) (had : Option Held) → Lists r (with_count side n r) names had had
+  counts : (side : Side) (n : ℕ) (r : WaitLists W) (names : List W) (had : Option ListenerRef) → Lists r (with_count side n r) names had had
   counts side n r names had line =
       subst (λ (y : Listeners W). list.Turned line (listeners line r) y names had had) (sym (counted_list line side n r))
       (list.untouched line (listeners line r) names had)
@@ -124,33 +124,33 @@ module _ (T W : Type 0) where
   -- ---- how a step ends
 
   -- a call that ends has nothing in hand and leaves nothing; or it leaves what it had, and that waits for its own name
-  abbrev pub LeavesIt : ChannelAsk T W → Kept T → Option Held → Channel T W → Type 0
+  abbrev pub LeavesIt : ChannelAsk T W → Returned T → Option ListenerRef → Channel T W → Type 0
   LeavesIt x kept has d =
       ((has ≡ None) × (kept.key ≡ None))
-      ⊎ ((line : Line) × (key : Key) × (task : W) × (has ≡ on line key) × (kept.key ≡ Some key) × (wait_of x ≡ Some (line, task))
+      ⊎ ((line : WaitList) × (key : Key) × (task : W) × (has ≡ on line key) × (kept.key ≡ Some key) × (wait_of x ≡ Some (line, task))
       × WaitsToWake (record { line = line; key = key }) task d)
 
-  abbrev pub Then : ChannelAsk T W → Stage (Phase T) T W → Option (Reply T) → Stage (Phase T) T W → Option Held
+  abbrev pub Then : ChannelAsk T W → Stage (Phase T) T W → Option (Reply T) → Stage (Phase T) T W → Option ListenerRef
       → Channel T W → Type 0
   Then x at None s has d = (holding s ≡ has) × MayBear (task_at s) (task_at at)
-  Then x at (Some y) s has d = (kept : Kept T) × (s ≡ Finished kept) × LeavesIt x kept has d
+  Then x at (Some y) s has d = (kept : Returned T) × (s ≡ Finished kept) × LeavesIt x kept has d
 
   -- the listener is the same before and after; or there was none; or there is none now
-  abbrev pub OneAtMost : Option Held → Option Held → Type 0
+  abbrev pub OneAtMost : Option ListenerRef → Option ListenerRef → Type 0
   OneAtMost had has = (has ≡ had) ⊎ ((had ≡ None) ⊎ (has ≡ None))
 
   pub record Turnout (x : ChannelAsk T W) (c : Channel T W) (at : Stage (Phase T) T W) (e : Effect T W) (r : Option (Reply T))
       (s : Stage (Phase T) T W) : Type 0 where
-    pub has : Option Held
+    pub has : Option ListenerRef
     pub lists : Lists c.roster e.channel.roster e.woken (holding at) has
     pub how : OneAtMost (holding at) has
-    pub own : (h : Held) → has ≡ Some h → (holding at ≡ Some h) ⊎ ((task : W) × (wait_of x ≡ Some (h.line, task)))
+    pub own : (h : ListenerRef) → has ≡ Some h → (holding at ≡ Some h) ⊎ ((task : W) × (wait_of x ≡ Some (h.line, task)))
     pub next : Then x at r s has e.channel
 
   -- ---- turns
 
-  taken : (x : ChannelAsk T W) (at : Stage (Phase T) T W) (t : Turn T W) (r : Option (Reply T)) (s : Stage (Phase T) T W)
-      (has : Option Held) (d : Channel T W) → Turned t r s → Has T W has (task_at at) t → Then x at r s has d
+  taken : (x : ChannelAsk T W) (at : Stage (Phase T) T W) (t : NextStep T W) (r : Option (Reply T)) (s : Stage (Phase T) T W)
+      (has : Option ListenerRef) (d : Channel T W) → Turned t r s → Has T W has (task_at at) t → Then x at r s has d
   taken x at (Tries a y) None s has d h k =
       subst (λ (z : Stage (Phase T) T W). (holding z ≡ has) × MayBear (task_at z) (task_at at)) (sym h.1) k
   taken x at (Works w) None s has d h k =
@@ -160,7 +160,7 @@ module _ (T W : Type 0) where
   taken x at (Works w) (Some z) s has d h k = absurd (let no : Some z ≡ None = h.0 in cc)
   taken x at (Ends y kept) None s has d h k = absurd (let no : None ≡ Some y = h.0 in cc)
 
-  no_task : (h : Option Held) (o : Option W) (t : Turn T W) → Has T W h None t → Has T W h o t
+  no_task : (h : Option ListenerRef) (o : Option W) (t : NextStep T W) → Has T W h None t → Has T W h o t
   no_task h o (Tries a y) k = (k.0, fewer k.1)
     where
       fewer : {u : Option W} → MayBear u None → MayBear u o
@@ -184,7 +184,7 @@ module _ (T W : Type 0) where
     as_it at r s e e' same h = subst (λ (y : Effect T W). Out at r s y) (sym same) h
 
     -- what is in hand stays so
-    on_it_goes : (at : Stage (Phase T) T W) (r : Option (Reply T)) (s : Stage (Phase T) T W) (e : Effect T W) (t : Turn T W)
+    on_it_goes : (at : Stage (Phase T) T W) (r : Option (Reply T)) (s : Stage (Phase T) T W) (e : Effect T W) (t : NextStep T W)
         → Lists c.roster e.channel.roster e.woken (holding at) (holding at) → Turned t r s
         → Has T W (holding at) (task_at at) t → Out at r s e
     on_it_goes at r s e t l h k = record {
@@ -195,17 +195,17 @@ module _ (T W : Type 0) where
       next = taken x at t r s (holding at) e.channel h k;
     }
 
-    raised : (b : Bool) (side : Side) (n : ℕ) (had : Option Held) → let e : Effect T W =
+    raised : (b : Bool) (side : Side) (n : ℕ) (had : Option ListenerRef) → let e : Effect T W =
         if b then on_count side (n + 1) (up side) c else untouched c in Lists c.roster e.channel.roster e.woken had had
     raised true side n had = counts side (n + 1) c.roster [] had
     raised false side n had = still c.roster [] had
 
-    left : (y : Ending T) (o : Option Held) (r : Option (Reply T)) (s : Stage (Phase T) T W) → y.held ≡ o
+    left : (y : Ending T) (o : Option ListenerRef) (r : Option (Reply T)) (s : Stage (Phase T) T W) → y.held ≡ o
         → Turned (Ends y.reply (leaving None y.message)) r s → Out (Working (Leave y)) r s (leaves o c)
     left y None r s same h =
         record {
           has = None;
-          lists = subst (λ (o : Option Held). Lists c.roster c.roster [] o None) (sym same) (still c.roster [] None);
+          lists = subst (λ (o : Option ListenerRef). Lists c.roster c.roster [] o None) (sym same) (still c.roster [] None);
           how = inr (inr refl);
           own = λ h e. absurd (no_held h e);
           next = taken x (Working (Leave y)) (Ends y.reply (leaving None y.message)) r s None c h (refl, refl);
@@ -213,7 +213,7 @@ module _ (T W : Type 0) where
     left y (Some k) r s same h =
         record {
           has = None;
-          lists = subst (λ (o : Option Held). Lists c.roster (leaves (Some k) c).channel.roster
+          lists = subst (λ (o : Option ListenerRef). Lists c.roster (leaves (Some k) c).channel.roster
               (removed_wakes k.key true (listeners k.line c.roster)) o None) (sym same)
               (drops k.line k.key (removed k.key true (listeners k.line c.roster))
               (removed_wakes k.key true (listeners k.line c.roster)) c.roster
@@ -236,8 +236,8 @@ module _ (T W : Type 0) where
     own_task w task h b =
         let own = waits_there w x h in
         let same : Some (line_of w, own.0) ≡ Some (b.0, task) = sym own.1 ∙ b.1 in
-        let t : own.0 ≡ task = ap (λ (o : Option (Line × W)). elim o [ None ↦ task | Some p ↦ p.1 ]) same in
-        own.1 ∙ ap (λ (v : W). let o : Option (Line × W) = Some (line_of w, v) in o) t
+        let t : own.0 ≡ task = ap (λ (o : Option (WaitList × W)). elim o [ None ↦ task | Some p ↦ p.1 ]) same in
+        own.1 ∙ ap (λ (v : W). let o : Option (WaitList × W) = Some (line_of w, v) in o) t
 
     asked : (w : Waiting T) (key : Key) (task : W) (b : Bool) (r : Option (Reply T)) (s : Stage (Phase T) T W) (l : Listeners W)
         → IsFor x w → Bears (Some task) (wait_of x)
@@ -276,12 +276,12 @@ module _ (T W : Type 0) where
               (refl, inr refl);
         }
 
-    own_line : (w : Waiting T) (key : Key) (h : Held) → IsFor x w → on (line_of w) key ≡ Some h
+    own_line : (w : Waiting T) (key : Key) (h : ListenerRef) → IsFor x w → on (line_of w) key ≡ Some h
         → (task : W) × (wait_of x ≡ Some (h.line, task))
     own_line w key h k e =
         let own = waits_there w x k in
-        let same : line_of w ≡ h.line = ap (λ (o : Option Held). elim o [ None ↦ line_of w | Some i ↦ i.line ]) e in
-        (own.0, own.1 ∙ ap (λ (l : Line). let o : Option (Line × W) = Some (l, own.0) in o) same)
+        let same : line_of w ≡ h.line = ap (λ (o : Option ListenerRef). elim o [ None ↦ line_of w | Some i ↦ i.line ]) e in
+        (own.0, own.1 ∙ ap (λ (l : WaitList). let o : Option (WaitList × W) = Some (l, own.0) in o) same)
 
     inserts : (w : Waiting T) (task : W) → IsFor x w → (e : Effect T W) (r : Option (Reply T)) (s : Stage (Phase T) T W)
         → Inserts w task c e r s → Out (Working (Insert w task)) r s e
@@ -309,7 +309,7 @@ module _ (T W : Type 0) where
     roomed n r s (inl t) = on_it_goes (Working (TakeRoom n)) r s (untouched c) (room_next n) (still c.roster [] None) t (room_has T W n).0
     roomed n r s (inr t) = on_it_goes (Working (TakeRoom n)) r s (untouched c) roomless (still c.roster [] None) t.1 (refl, refl)
 
-    works : (w : Work T W) (e : Effect T W) (r : Option (Reply T)) (s : Stage (Phase T) T W) (ds : List (MarkedMoment T W))
+    works : (w : ListStep T W) (e : Effect T W) (r : Option (Reply T)) (s : Stage (Phase T) T W) (ds : List (MarkedMoment T W))
         (seen : List (Channel T W)) → StageAt c x (Working w) ds seen → Bears (work_task w) (wait_of x) → Worked c w e r s
         → Out (Working w) r s e
     works (TellReceive y) e r s ds seen k b h =
@@ -360,7 +360,7 @@ module _ (T W : Type 0) where
         (on_it_goes (Working (Raise side n making)) r s _ _ (raised (is_raised side n c.roster) side n None) h.1
         (raised_has T W side making (is_raised side n c.roster)))
 
-    goes_on : (f f' : Phase T) (aim : Aim T W) (r : Option (Reply T)) (s : Stage (Phase T) T W) (d : Channel T W) → r ≡ None
+    goes_on : (f f' : Phase T) (aim : Purpose T W) (r : Option (Reply T)) (s : Stage (Phase T) T W) (d : Channel T W) → r ≡ None
         → s ≡ Trying f' aim → Then x (Trying f aim) r s (holding (Trying f aim)) d
     goes_on f f' aim None s d e same = subst (λ (z : Stage (Phase T) T W). (holding z ≡ holding (Trying f aim))
         × MayBear (task_at z) (task_at (Trying f aim))) (sym same) (refl, inr refl)

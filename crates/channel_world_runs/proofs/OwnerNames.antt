@@ -3,8 +3,8 @@ use Rattle.std.proofs.Common.{arith, ◌≡◌, ℕ, nat_eq, Bool, true, false, 
 use Rattle.std.proofs.lemmas.Bool.Decides.{nat_tests}
 use Rattle.std.specs.Map.{lookup, set_value}
 use Rattle.std.specs.Option.{option_map_or}
-use Rattle.channel_calls.specs.declared.stage.Line.{Line}
-use Rattle.channel_calls.specs.declared.stage.Line.TheVariants.{Sends, Receives, Streams, Closings}
+use Rattle.channel_calls.specs.declared.stage.WaitList.{WaitList}
+use Rattle.channel_calls.specs.declared.stage.WaitList.TheVariants.{Sends, Receives, Streams, Closings}
 use Rattle.channel_world_model.specs.Names.{Directory, at, with_spent, with_changed}
 use Rattle.channel_world_model.specs.declared.name.HandleId.{HandleId}
 use Rattle.channel_world_model.specs.declared.name.HandleKind.{HandleKind}
@@ -146,11 +146,11 @@ told_status (rests line) = rests line
 told_status (polled line) = polled line
 
 -- a waking makes nobody polled
-pub told_polled : (x : NameStatus) (line : Line) → told_status x ≡ polled line → x ≡ polled line
+pub told_polled : (x : NameStatus) (line : WaitList) → told_status x ≡ polled line → x ≡ polled line
 told_polled (waits h b) line e = absurd (let no : waits h true ≡ polled line = e in cc)
 told_polled x line e = e
 
-told_on : (line : Line) (s : PollState) → status_on line (told s) ≡ told_status (status_on line s)
+told_on : (line : WaitList) (s : PollState) → status_on line (told s) ≡ told_status (status_on line s)
 told_on line Rests = refl
 told_on line x = refl
 

@@ -6,9 +6,9 @@ use Rattle.event_listener.specs.declared.key.Key.{Key}
 use Rattle.channel_calls.specs.Parts.{listeners}
 use Rattle.channel_calls.specs.declared.mark.Mark.{Mark}
 use Rattle.channel_calls.specs.declared.reply.Reply.{Reply}
-use Rattle.channel_calls.specs.declared.stage.Held.{Held}
-use Rattle.channel_calls.specs.declared.stage.Kept.{Kept}
-use Rattle.channel_calls.specs.declared.stage.Line.{Line}
+use Rattle.channel_calls.specs.declared.stage.ListenerRef.{ListenerRef}
+use Rattle.channel_calls.specs.declared.stage.Returned.{Returned}
+use Rattle.channel_calls.specs.declared.stage.WaitList.{WaitList}
 use Rattle.channel_world_model.specs.declared.name.Waiter.{Waiter}
 use Rattle.channel_world_model.specs.declared.name.Waiter.TheVariants.{Op, Stream}
 use Rattle.channel_steps.specs.Configuration.{Configuration, Steps, AllKnown}
@@ -40,10 +40,10 @@ use Rattle.channel_world_runs.proofs.OwnerWokenLists.{waited, key_of_entry}
 
 -- ---- statuses
 
-pub busy_keyless : (line : Line) (x : NameStatus) → IsBusy x → woken_key line x ≡ []
+pub busy_keyless : (line : WaitList) (x : NameStatus) → IsBusy x → woken_key line x ≡ []
 busy_keyless line x b = keyless line x (λ h c e same. busy_waits x h c b e)
 
-pub calm_keyless : (line : Line) (x : NameStatus) → IsCalm x → woken_key line x ≡ []
+pub calm_keyless : (line : WaitList) (x : NameStatus) → IsCalm x → woken_key line x ≡ []
 calm_keyless line x k = keyless line x (λ h c e same. calm_waits x h c k e)
 
 pub calm_placeless : (x : NameStatus) → IsCalm x → NeedsPlace x → ⊥
@@ -84,8 +84,8 @@ module _ {T : Type 0} where
   fewer_settled f e key ws = within_self (gathered f ws)
 
   -- what waits is polled
-  suits_polled : (p : Waiter → NameStatus) (e : OnReturn T) (wait : Option (Line × Waiter)) (line : Line) (task v : Waiter)
-      → Suits p e wait → wait ≡ Some (line, task) → subject e ≡ Some v → (l : Line) × (p v ≡ polled l)
+  suits_polled : (p : Waiter → NameStatus) (e : OnReturn T) (wait : Option (WaitList × Waiter)) (line : WaitList) (task v : Waiter)
+      → Suits p e wait → wait ≡ Some (line, task) → subject e ≡ Some v → (l : WaitList) × (p v ≡ polled l)
   suits_polled p (on_return.Poll op) wait line task v s w e = (s.0, ap p (sym (inner (Op op) v e)) ∙ s.1)
   suits_polled p (on_return.PollNext receiver) wait line task v s w e = (s.0, ap p (sym (inner (Stream receiver) v e)) ∙ s.1)
   suits_polled p (on_return.Make op operation) wait line task v s w e =
@@ -96,7 +96,7 @@ module _ {T : Type 0} where
 
   -- ---- a call makes a step
 
-  module _ (b : NameState T) (s t : Configuration T Waiter) (p : ℕ) (m : Mark) (r : Option (Reply T)) (kp : Option (Kept T))
+  module _ (b : NameState T) (s t : Configuration T Waiter) (p : ℕ) (m : Mark) (r : Option (Reply T)) (kp : Option (Returned T))
       (names : List Waiter) (o : Owned b s) (known : AllKnown s.now s.under_way)
       (st : Steps s p (record { mark = m; reply = r; kept = kp }) names t) (w : WokenSound b s) (i : InOrder b s) where
     told : TellsInTurn s.now t.now names (holding st.mine.at)
@@ -109,7 +109,7 @@ module _ {T : Type 0} where
     mid_order = all_moved_last names b.order
 
     -- whoever is pending, and for whom a listener waits on this list, was not woken
-    own : (line : Line) → AreOwn line b.name_table (listeners line s.now.roster).waiting
+    own : (line : WaitList) → AreOwn line b.name_table (listeners line s.now.roster).waiting
     own line key v j h c e = (is, by c e)
       where
         is : h ≡ at_line line key
@@ -120,18 +120,18 @@ module _ {T : Type 0} where
         by true f =
             let both = none_parts (keys_of (listeners line s.now.roster).told) (keys_of (listeners line s.now.roster).waiting)
             (o.once line) in
-            absurd (both.apart key (subst (λ (x : Held). IsTold x s.now) is (w.told v h f))
+            absurd (both.apart key (subst (λ (x : ListenerRef). IsTold x s.now) is (w.told v h f))
             (key_of_entry (key, Some v) (listeners line s.now.roster).waiting j))
 
     places : HavePlaces b.name_table b.order
     places v h c e = i.placed v (inl (h, c, e))
 
-    before : (line : Line) → Within (gathered (key_on line b.name_table) b.order) (keys_of (listeners line s.now.roster).told)
+    before : (line : WaitList) → Within (gathered (key_on line b.name_table) b.order) (keys_of (listeners line s.now.roster).told)
     before line = subst (λ (ks : List Key). Within ks (keys_of (listeners line s.now.roster).told))
         (keys_are line b.name_table b.order) (i.lines line)
 
     -- the listener in hand is nobody's who is pending
-    in_hand : (line : Line) (key : Key) → holding st.mine.at ≡ on line key
+    in_hand : (line : WaitList) (key : Key) → holding st.mine.at ≡ on line key
         → IsAmong key (gathered (key_on line b.name_table) b.order) → ⊥
     in_hand line key had j =
         let one = key_of_one line b.name_table key b.order j in
@@ -164,7 +164,7 @@ module _ {T : Type 0} where
         (sym told.here.woken) all in
         subst (λ (ks : List Key). Within (gathered (key_on told.at mid_name_table) mid_order) ks) (sym told.here.told) named
 
-    elsewhere : (line : Line) → (line ≡ told.at → ⊥)
+    elsewhere : (line : WaitList) → (line ≡ told.at → ⊥)
         → Within (gathered (key_on line mid_name_table) mid_order) (keys_of (listeners line t.now.roster).told)
     elsewhere line other =
         let same = woken_elsewhere line names b.name_table b.order not_on in
@@ -176,22 +176,22 @@ module _ {T : Type 0} where
         not_on v j h c e is =
             let who = waited v told.here.more (subst (λ (ns : List Waiter). IsAmong v ns) told.here.woken j) in
             let its = own told.at who.0 v (told.here.waited (who.0, Some v) who.1) h c e in
-            other (sym is ∙ ap (λ (x : Held). x.line) its.0)
+            other (sym is ∙ ap (λ (x : ListenerRef). x.line) its.0)
 
-    mid_within : (line : Line) → Within (gathered (key_on line mid_name_table) mid_order) (keys_of (listeners line t.now.roster).told)
+    mid_within : (line : WaitList) → Within (gathered (key_on line mid_name_table) mid_order) (keys_of (listeners line t.now.roster).told)
     mid_within line = by (line_or line told.at)
       where
         by : (line ≡ told.at) ⊎ (line ≡ told.at → ⊥)
             → Within (gathered (key_on line mid_name_table) mid_order) (keys_of (listeners line t.now.roster).told)
         by (inl same) =
-            subst (λ (l : Line). Within (gathered (key_on l mid_name_table) mid_order) (keys_of (listeners l t.now.roster).told))
+            subst (λ (l : WaitList). Within (gathered (key_on l mid_name_table) mid_order) (keys_of (listeners l t.now.roster).told))
             (sym same) here
         by (inr other) = elsewhere line other
 
     mid_placed : (v : Waiter) → NeedsPlace (status mid_name_table v) → IsAmong v mid_order
     mid_placed v n = all_stay names v b.order (i.placed v (was n))
       where
-        was_polled : (line : Line) → status mid_name_table v ≡ polled line → MayBeTold (status b.name_table) (status mid_name_table) v
+        was_polled : (line : WaitList) → status mid_name_table v ≡ polled line → MayBeTold (status b.name_table) (status mid_name_table) v
             → status b.name_table v ≡ polled line
         was_polled line e (inl same) = sym same ∙ e
         was_polled line e (inr told) = told_polled (status b.name_table v) line (sym told ∙ e)
@@ -204,7 +204,7 @@ module _ {T : Type 0} where
     mid_once = once_moved names b.order i.once
 
   -- it goes on
-  goes_order : (b : NameState T) (s t : Configuration T Waiter) (p : ℕ) (m : Mark) (kp : Option (Kept T)) (names : List Waiter) (o : Owned b s)
+  goes_order : (b : NameState T) (s t : Configuration T Waiter) (p : ℕ) (m : Mark) (kp : Option (Returned T)) (names : List Waiter) (o : Owned b s)
       (known : AllKnown s.now s.under_way) (st : Steps s p (record { mark = m; reply = None; kept = kp }) names t)
       (w : WokenSound b s) (i : InOrder b s) → InOrder (with_woken names b) t
   goes_order b s t p m kp names o known st w i = record {
@@ -216,13 +216,13 @@ module _ {T : Type 0} where
   }
 
   -- it ends
-  module _ (b : NameState T) (s t : Configuration T Waiter) (p : ℕ) (m : Mark) (y : Reply T) (kp : Option (Kept T)) (names : List Waiter)
+  module _ (b : NameState T) (s t : Configuration T Waiter) (p : ℕ) (m : Mark) (y : Reply T) (kp : Option (Returned T)) (names : List Waiter)
       (o : Owned b s) (known : AllKnown s.now s.under_way)
       (st : Steps s p (record { mark = m; reply = Some y; kept = kp }) names t) (w : WokenSound b s) (i : InOrder b s) where
     abbrev pt : Parted (status b.name_table) b.agents st.before st.mine st.behind
     pt = parts b s t p m (Some y) kp names o known st
 
-    abbrev kept : Kept T
+    abbrev kept : Returned T
     kept = let f = st.finishes in f.kept
 
     abbrev name_table1 : NameTable T
@@ -244,7 +244,7 @@ module _ {T : Type 0} where
     others_stand v other = (set b s t p m y kp names o known st).others v other
 
     -- a call that ends changes nobody's key
-    same_keys : (line : Line) (v : Waiter) → key_on line name_table2 v ≡ key_on line name_table1 v
+    same_keys : (line : WaitList) (v : Waiter) → key_on line name_table2 v ≡ key_on line name_table1 v
     same_keys line v = by (subject_or (subject pt.agent.on_return) v)
       where
         none1 : subject pt.agent.on_return ≡ Some v → key_on line name_table1 v ≡ []
@@ -282,7 +282,7 @@ module _ {T : Type 0} where
             (mid_placed b s t p m (Some y) kp names o known st w i v
             (needs_same (status name_table2 v) (status name_table1 v) (others_stand v other) n))
 
-    ended_within : (line : Line) → Within (gathered (key_on line name_table2) order2) (keys_of (listeners line t.now.roster).told)
+    ended_within : (line : WaitList) → Within (gathered (key_on line name_table2) order2) (keys_of (listeners line t.now.roster).told)
     ended_within line =
         let mid = subst (λ (ks : List Key). Within ks (keys_of (listeners line t.now.roster).told))
         (sym (gathered_same (key_on line name_table2) (key_on line name_table1) order1 (same_keys line)))
@@ -301,7 +301,7 @@ module _ {T : Type 0} where
   -- ---- any step
 
   pub stepped_order : (b c : NameState T) (s t : Configuration T Waiter) (q : PartyId) (m : Mark) (r : Option (Reply T))
-      (kp : Option (Kept T)) (names : List Waiter) → Owned b s → AllKnown s.now s.under_way
+      (kp : Option (Returned T)) (names : List Waiter) → Owned b s → AllKnown s.now s.under_way
       → Steps s q.0 (record { mark = m; reply = r; kept = kp }) names t → IsAfter b q r kp names c → WokenSound b s → InOrder b s
       → InOrder c t
   stepped_order b c s t q m None kp names o known st after w i =

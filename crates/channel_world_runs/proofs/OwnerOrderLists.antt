@@ -4,8 +4,8 @@ use Rattle.std.specs.Map.{remove_entry, keys_of}
 use Rattle.event_listener.specs.Lists.{Notice, same_key, tasks_of, told_as, waits_as, told_with, without, with_task, moved, passed, passed_wakes, listened, registration, removed, removed_wakes}
 use Rattle.event_listener.specs.declared.key.Key.{Key}
 use Rattle.channel_calls.specs.Parts.{Listeners, told_more, told_more_wakes, told_all, told_all_wakes}
-use Rattle.channel_calls.specs.declared.stage.Held.{Held}
-use Rattle.channel_calls.specs.declared.stage.Line.{Line}
+use Rattle.channel_calls.specs.declared.stage.ListenerRef.{ListenerRef}
+use Rattle.channel_calls.specs.declared.stage.WaitList.{WaitList}
 use Rattle.channel_calls.proofs.Interface.{told_firsts, woken_firsts}
 use Rattle.channel_world_runs.specs.Owners.{IsAmong, NoneTwice}
 use Rattle.channel_world_runs.proofs.OwnerKeys.{on, told_both, few, one_tag, same_many, units, told_keys, at_most_one, removed_as, removed_names}
@@ -31,7 +31,7 @@ nobody_more (k ∷ ks) = ap (λ (l : List Key). k ∷ l) (nobody_more ks)
 module _ {W : Type 0} where
   -- The told of a list after a step that wakes these, by a call with this listener in hand: those who were told before, but for
   -- the one in hand where it has left; and then some who waited, in their order, whose tasks are woken.
-  pub record InTurn (line : Line) (l l' : Listeners W) (names : List W) (had : Option Held) : Type 0 where
+  pub record InTurn (line : WaitList) (l l' : Listeners W) (names : List W) (had : Option ListenerRef) : Type 0 where
     pub first : List Key
     pub more : List (Key × Option W)
     pub stay :
@@ -43,7 +43,7 @@ module _ {W : Type 0} where
     pub woken : names ≡ tasks_of more
 
   -- nobody is told
-  pub none_told : (line : Line) (l l' : Listeners W) (had : Option Held) → keys_of l'.told ≡ keys_of l.told
+  pub none_told : (line : WaitList) (l l' : Listeners W) (had : Option ListenerRef) → keys_of l'.told ≡ keys_of l.told
       → InTurn line l l' [] had
   none_told line l l' had e = record {
     first = keys_of l.told;
@@ -69,7 +69,7 @@ module _ {W : Type 0} where
       (told_keys n.additional first (tags n l) (few (length (tags n l)) l.waiting))
       ∙ ap (λ (k : ℕ). keys_of l.told ++ keys_of (take k l.waiting)) many)
 
-  pub one_passed : (line : Line) (n : Notice Unit) (l : Listeners W) (had : Option Held)
+  pub one_passed : (line : WaitList) (n : Notice Unit) (l : Listeners W) (had : Option ListenerRef)
       → InTurn line l (passed n l) (passed_wakes n l) had
   one_passed line n l had = record {
     first = keys_of l.told;
@@ -81,7 +81,7 @@ module _ {W : Type 0} where
     woken = refl;
   }
 
-  pub more_passed : (line : Line) (n : ℕ) (l : Listeners W) (had : Option Held)
+  pub more_passed : (line : WaitList) (n : ℕ) (l : Listeners W) (had : Option ListenerRef)
       → InTurn line l (told_more n l) (told_more_wakes n l) had
   more_passed line n l had =
       let first = take n l.waiting in
@@ -97,7 +97,7 @@ module _ {W : Type 0} where
         woken = woken_firsts n l;
       }
 
-  pub all_passed : (line : Line) (l : Listeners W) (had : Option Held) → InTurn line l (told_all l) (told_all_wakes l) had
+  pub all_passed : (line : WaitList) (l : Listeners W) (had : Option ListenerRef) → InTurn line l (told_all l) (told_all_wakes l) had
   all_passed line l had = record {
     first = keys_of l.told;
     more = l.waiting;
@@ -110,7 +110,7 @@ module _ {W : Type 0} where
   }
 
   -- the listener in hand leaves, and passes its notice on
-  left_passing : (line : Line) (key : Key) (n : Notice Unit) (l : Listeners W)
+  left_passing : (line : WaitList) (key : Key) (n : Notice Unit) (l : Listeners W)
       → InTurn line l (passed n (without key l)) (passed_wakes n (without key l)) (on line key)
   left_passing line key n l =
       let l0 = without key l in
@@ -125,7 +125,7 @@ module _ {W : Type 0} where
       }
 
   -- it leaves, and that is all
-  left_alone : (line : Line) (key : Key) (l : Listeners W) → InTurn line l (without key l) [] (on line key)
+  left_alone : (line : WaitList) (key : Key) (l : Listeners W) → InTurn line l (without key l) [] (on line key)
   left_alone line key l = record {
     first = keys_of (remove_entry (same_key key) l.told);
     more = [];
@@ -136,25 +136,25 @@ module _ {W : Type 0} where
     woken = refl;
   }
 
-  removing : (line : Line) (key : Key) (l : Listeners W) (o : Option (Notice Unit)) (b : Bool)
+  removing : (line : WaitList) (key : Key) (l : Listeners W) (o : Option (Notice Unit)) (b : Bool)
       → InTurn line l (removed_as o b key l) (removed_names o key l) (on line key)
   removing line key l (Some n) b = left_passing line key n l
   removing line key l None true = left_alone line key l
   removing line key l None false = none_told line l l (on line key) refl
 
-  pub one_left : (line : Line) (key : Key) (l : Listeners W)
+  pub one_left : (line : WaitList) (key : Key) (l : Listeners W)
       → InTurn line l (removed key true l) (removed_wakes key true l) (on line key)
   one_left line key l = removing line key l (told_as l key) (is_some (waits_as l key))
 
-  pub one_came : (line : Line) (key : Key) (l : Listeners W) (had : Option Held) → InTurn line l (listened key l) [] had
+  pub one_came : (line : WaitList) (key : Key) (l : Listeners W) (had : Option ListenerRef) → InTurn line l (listened key l) [] had
   one_came line key l had = none_told line l (listened key l) had refl
 
-  registering : (line : Line) (key : Key) (task : W) (l : Listeners W) (a b : Bool)
+  registering : (line : WaitList) (key : Key) (task : W) (l : Listeners W) (a b : Bool)
       → InTurn line l (if a then without key l else (if b then with_task key task l else l)) [] (on line key)
   registering line key task l true b = left_alone line key l
   registering line key task l false true = none_told line l (with_task key task l) (on line key) refl
   registering line key task l false false = none_told line l l (on line key) refl
 
-  pub one_asked : (line : Line) (key : Key) (task : W) (l : Listeners W)
+  pub one_asked : (line : WaitList) (key : Key) (task : W) (l : Listeners W)
       → InTurn line l (registration key task l) [] (on line key)
   one_asked line key task l = registering line key task l (is_some (told_as l key)) (is_some (waits_as l key))

@@ -5,7 +5,7 @@ use Rattle.event_listener.specs.declared.key.Key.{Key}
 use Rattle.channel_calls.specs.Moves.{Channel}
 use Rattle.channel_calls.specs.Parts.{listeners}
 use Rattle.channel_calls.specs.declared.ask.ChannelAsk.{ChannelAsk}
-use Rattle.channel_calls.specs.declared.stage.Line.{Line}
+use Rattle.channel_calls.specs.declared.stage.WaitList.{WaitList}
 use Rattle.channel_world_model.specs.Lines.{is_among, without_waiter}
 use Rattle.channel_world_model.specs.declared.call.Call.{Call}
 use Rattle.channel_world_model.specs.declared.name.Waiter.{Waiter}
@@ -67,7 +67,7 @@ module _ {T : Type 0} where
   record Sorted (r : NameTable T) (ws : List Waiter) (c : Channel T Waiter) : Type 0 where
     pub places : (v : Waiter) → NeedsPlace (status r v) → IsAmong v ws
     pub once : NoneTwice ws
-    pub lines : (line : Line) → Within (gathered (key_on line r) ws) (keys_of (listeners line c.roster).told)
+    pub lines : (line : WaitList) → Within (gathered (key_on line r) ws) (keys_of (listeners line c.roster).told)
 
   sorted_of : (b : NameState T) (s : Configuration T Waiter) → InOrder b s → Sorted b.name_table b.order s.now
   sorted_of b s i = record {
@@ -85,7 +85,7 @@ module _ {T : Type 0} where
         (sym (keys_are line b.name_table b.order)) (h.lines line);
   }
 
-  less : (r r' : NameTable T) (line : Line) (ws : List Waiter) → ((v : Waiter) → (status r' v ≡ status r v) ⊎ IsBusy (status r' v))
+  less : (r r' : NameTable T) (line : WaitList) (ws : List Waiter) → ((v : Waiter) → (status r' v ≡ status r v) ⊎ IsBusy (status r' v))
       → Within (gathered (key_on line r') ws) (gathered (key_on line r) ws)
   less r r' line ws f = gathered_less (key_on line r) (key_on line r') ws (λ v. by v (f v))
     where

@@ -3,8 +3,8 @@ use Rattle.std.proofs.Common.{◌≡◌, Bool, true, false, if◌then◌else◌,
 use Rattle.std.specs.Map.{keys_of}
 use Rattle.event_listener.specs.Lists.{tasks_of}
 use Rattle.event_listener.specs.declared.key.Key.{Key}
-use Rattle.channel_calls.specs.declared.stage.Held.{Held}
-use Rattle.channel_calls.specs.declared.stage.Line.{Line}
+use Rattle.channel_calls.specs.declared.stage.ListenerRef.{ListenerRef}
+use Rattle.channel_calls.specs.declared.stage.WaitList.{WaitList}
 use Rattle.channel_world_model.proofs.Awake.{line_sound, line_refl}
 use Rattle.channel_world_model.specs.Laws.{same_line}
 use Rattle.channel_world_model.specs.Lines.{is_among, without_waiter}
@@ -21,45 +21,45 @@ use Rattle.channel_world_runs.proofs.OwnerOrderWithin.{within_more, within_last,
 use Rattle.channel_world_runs.proofs.OwnerSteps.{told_was}
 use Rattle.channel_world_runs.proofs.OwnerWokenLists.{key_of_entry}
 
-abbrev pub at_line : Line → Key → Held
+abbrev pub at_line : WaitList → Key → ListenerRef
 at_line line key = record { line = line; key = key }
 
 -- ---- one status
 
 -- it isn't pending on this line
-abbrev pub NotOn : Line → NameStatus → Type 0
-NotOn line p = (h : Held) (c : Bool) → p ≡ waits h c → h.line ≡ line → ⊥
+abbrev pub NotOn : WaitList → NameStatus → Type 0
+NotOn line p = (h : ListenerRef) (c : Bool) → p ≡ waits h c → h.line ≡ line → ⊥
 
-no_key : (line : Line) (h : Held) (c b : Bool) → same_line line h.line ≡ b → (h.line ≡ line → ⊥)
+no_key : (line : WaitList) (h : ListenerRef) (c b : Bool) → same_line line h.line ≡ b → (h.line ≡ line → ⊥)
     → (if c then (if b then h.key ∷ [] else []) else []) ≡ []
 no_key line h false b e other = refl
 no_key line h true false e other = refl
 no_key line h true true e other = absurd (other (sym (line_sound line h.line e)))
 
-pub keyless : (line : Line) (p : NameStatus) → NotOn line p → woken_key line p ≡ []
+pub keyless : (line : WaitList) (p : NameStatus) → NotOn line p → woken_key line p ≡ []
 keyless line (waits h c) other = no_key line h c (same_line line h.line) refl (other h c refl)
 keyless line x other = refl
 
-own_key : (line : Line) (key : Key) → woken_key line (waits (at_line line key) true) ≡ key ∷ []
+own_key : (line : WaitList) (key : Key) → woken_key line (waits (at_line line key) true) ≡ key ∷ []
 own_key line key = ap (λ (b : Bool). if b then key ∷ [] else []) (line_refl line)
 
 -- whose key it is
-key_held_at : (line : Line) (h : Held) (key : Key) (c b : Bool) → same_line line h.line ≡ b
+key_held_at : (line : WaitList) (h : ListenerRef) (key : Key) (c b : Bool) → same_line line h.line ≡ b
     → IsAmong key (if c then (if b then h.key ∷ [] else []) else []) → waits h c ≡ waits (at_line line key) true
 key_held_at line h key true true e (inl same) =
-    ap (λ (l : Line). waits (at_line l h.key) true) (sym (line_sound line h.line e))
+    ap (λ (l : WaitList). waits (at_line l h.key) true) (sym (line_sound line h.line e))
     ∙ ap (λ (k : Key). waits (at_line line k) true) same
 key_held_at line h key true true e (inr i) = absurd i
 key_held_at line h key true false e i = absurd i
 key_held_at line h key false b e i = absurd i
 
-pub key_held : (line : Line) (key : Key) (p : NameStatus) → IsAmong key (woken_key line p) → p ≡ waits (at_line line key) true
+pub key_held : (line : WaitList) (key : Key) (p : NameStatus) → IsAmong key (woken_key line p) → p ≡ waits (at_line line key) true
 key_held line key (waits h c) i = key_held_at line h key c (same_line line h.line) refl i
 key_held line key x i = absurd i
 
 -- it is pending, or not
 abbrev Waiting : NameStatus → Type 0
-Waiting p = (h : Held) × (c : Bool) × (p ≡ waits h c)
+Waiting p = (h : ListenerRef) × (c : Bool) × (p ≡ waits h c)
 
 waiting_or : (p : NameStatus) → Waiting p ⊎ (Waiting p → ⊥)
 waiting_or (waits h c) = inl (h, c, refl)
@@ -84,15 +84,15 @@ moved_keyless true f w ws none =
 
 module _ {T : Type 0} where
   -- the key of this name on this line, if it is pending there and was woken
-  abbrev pub key_on : Line → NameTable T → Waiter → List Key
+  abbrev pub key_on : WaitList → NameTable T → Waiter → List Key
   key_on line r v = woken_key line (status r v)
 
-  pub keys_are : (line : Line) (r : NameTable T) (ws : List Waiter) → woken_keys line r ws ≡ gathered (key_on line r) ws
+  pub keys_are : (line : WaitList) (r : NameTable T) (ws : List Waiter) → woken_keys line r ws ≡ gathered (key_on line r) ws
   keys_are line r [] = refl
   keys_are line r (w ∷ ws) = ap (λ (ks : List Key). woken_key line (status r w) ++ ks) (keys_are line r ws)
 
   -- whoever's key is among them is pending and was woken
-  pub key_of_one : (line : Line) (r : NameTable T) (key : Key) (ws : List Waiter) → IsAmong key (gathered (key_on line r) ws)
+  pub key_of_one : (line : WaitList) (r : NameTable T) (key : Key) (ws : List Waiter) → IsAmong key (gathered (key_on line r) ws)
       → (v : Waiter) × (status r v ≡ waits (at_line line key) true)
   key_of_one line r key [] i = absurd i
   key_of_one line r key (w ∷ ws) i =
@@ -104,7 +104,7 @@ module _ {T : Type 0} where
       by (inl j) on = (w, key_held line key (status r w) j)
       by (inr j) on = on j
 
-  was_waiting : (w v : Waiter) (r : NameTable T) (h : Held) (c : Bool) → status (with_one_woken w r) v ≡ waits h c
+  was_waiting : (w v : Waiter) (r : NameTable T) (h : ListenerRef) (c : Bool) → status (with_one_woken w r) v ≡ waits h c
       → (d : Bool) × (status r v ≡ waits h d)
   was_waiting w v r h c e = by (waiter_or v w)
     where
@@ -115,11 +115,11 @@ module _ {T : Type 0} where
           (was.0, ap (status r) same ∙ was.1)
       by (inr other) = (c, sym ((one_woken w r).others v other) ∙ e)
 
-  told_not_on : (line : Line) (w : Waiter) (r : NameTable T) → NotOn line (status r w) → NotOn line (status (with_one_woken w r) w)
+  told_not_on : (line : WaitList) (w : Waiter) (r : NameTable T) → NotOn line (status r w) → NotOn line (status (with_one_woken w r) w)
   told_not_on line w r other h c e same = let was = was_waiting w w r h c e in other h was.0 was.1 same
 
   -- one is woken that isn't pending on this line
-  other_keys : (line : Line) (w : Waiter) (r : NameTable T) → NotOn line (status r w) → (v : Waiter)
+  other_keys : (line : WaitList) (w : Waiter) (r : NameTable T) → NotOn line (status r w) → (v : Waiter)
       → key_on line (with_one_woken w r) v ≡ key_on line r v
   other_keys line w r other v = by (waiter_or v w)
     where
@@ -128,14 +128,14 @@ module _ {T : Type 0} where
           ∙ (sym (keyless line (status r w) other) ∙ ap (key_on line r) (sym same)))
       by (inr apart) = ap (woken_key line) ((one_woken w r).others v apart)
 
-  moved_elsewhere : (line : Line) (w : Waiter) (r : NameTable T) (ws : List Waiter) → NotOn line (status r w)
+  moved_elsewhere : (line : WaitList) (w : Waiter) (r : NameTable T) (ws : List Waiter) → NotOn line (status r w)
       → gathered (key_on line (with_one_woken w r)) (moved_last w ws) ≡ gathered (key_on line r) ws
   moved_elsewhere line w r ws other =
       gathered_same (key_on line (with_one_woken w r)) (key_on line r) (moved_last w ws) (other_keys line w r other)
       ∙ moved_keyless (is_among w ws) (key_on line r) w ws (keyless line (status r w) other)
 
   -- these are woken, and none of them is pending on this line
-  pub woken_elsewhere : (line : Line) (names : List Waiter) (r : NameTable T) (ws : List Waiter)
+  pub woken_elsewhere : (line : WaitList) (names : List Waiter) (r : NameTable T) (ws : List Waiter)
       → ((w : Waiter) → IsAmong w names → NotOn line (status r w))
       → gathered (key_on line (all_woken names r)) (all_moved_last names ws) ≡ gathered (key_on line r) ws
   woken_elsewhere line [] r ws other = refl
@@ -147,15 +147,15 @@ module _ {T : Type 0} where
   -- ---- those who waited on one line are told
 
   -- whoever is pending, and for whom one of these waits, is pending with that listener, and was not woken
-  abbrev pub AreOwn : Line → NameTable T → List (Key × Option Waiter) → Type 0
-  AreOwn line r es = (key : Key) (w : Waiter) → IsAmong (key, Some w) es → (h : Held) (c : Bool) → status r w ≡ waits h c
+  abbrev pub AreOwn : WaitList → NameTable T → List (Key × Option Waiter) → Type 0
+  AreOwn line r es = (key : Key) (w : Waiter) → IsAmong (key, Some w) es → (h : ListenerRef) (c : Bool) → status r w ≡ waits h c
       → (h ≡ at_line line key) × (c ≡ false)
 
   abbrev pub HavePlaces : NameTable T → List Waiter → Type 0
-  HavePlaces r ws = (w : Waiter) (h : Held) (c : Bool) → status r w ≡ waits h c → IsAmong w ws
+  HavePlaces r ws = (w : Waiter) (h : ListenerRef) (c : Bool) → status r w ≡ waits h c → IsAmong w ws
 
   -- one is woken who is pending on this line
-  moved_here : (b : Bool) (line : Line) (key : Key) (w : Waiter) (r : NameTable T) (ws : List Waiter) (told : List Key)
+  moved_here : (b : Bool) (line : WaitList) (key : Key) (w : Waiter) (r : NameTable T) (ws : List Waiter) (told : List Key)
       → is_among w ws ≡ b → IsAmong w ws → status r w ≡ waits (at_line line key) false
       → Within (gathered (key_on line r) ws) told
       → Within (gathered (key_on line (with_one_woken w r)) (if b then without_waiter w ws ++ w ∷ [] else ws)) (told ++ key ∷ [])
@@ -175,7 +175,7 @@ module _ {T : Type 0} where
       subst (λ (ks : List Key). Within ks (told ++ key ∷ [])) (sym all) (within_last key (gathered f ws) told h)
 
   -- one is woken for whom a listener waited
-  moved_one : (line : Line) (key : Key) (w : Waiter) (es : List (Key × Option Waiter)) (r : NameTable T) (ws : List Waiter)
+  moved_one : (line : WaitList) (key : Key) (w : Waiter) (es : List (Key × Option Waiter)) (r : NameTable T) (ws : List Waiter)
       (told : List Key) → AreOwn line r ((key, Some w) ∷ es) → HavePlaces r ws → Within (gathered (key_on line r) ws) told
       → Within (gathered (key_on line (with_one_woken w r)) (moved_last w ws)) (told ++ key ∷ [])
   moved_one line key w es r ws told own places h = by (waiting_or (status r w))
@@ -185,14 +185,14 @@ module _ {T : Type 0} where
       by (inl x) =
           let its = own key w (inl refl) x.0 x.1 x.2 in
           let is : status r w ≡ waits (at_line line key) false =
-          x.2 ∙ (ap (λ (k : Held). waits k x.1) its.0 ∙ ap (λ (c : Bool). waits (at_line line key) c) its.1) in
+          x.2 ∙ (ap (λ (k : ListenerRef). waits k x.1) its.0 ∙ ap (λ (c : Bool). waits (at_line line key) c) its.1) in
           moved_here (is_among w ws) line key w r ws told refl (places w x.0 x.1 x.2) is h
       by (inr not) =
           let same = moved_elsewhere line w r ws (λ k c e on. not (k, c, e)) in
           subst (λ (ks : List Key). Within ks (told ++ key ∷ [])) (sym same)
           (within_more (gathered (key_on line r) ws) told (key ∷ []) h)
 
-  own_still : (line : Line) (key : Key) (w : Waiter) (es : List (Key × Option Waiter)) (r : NameTable T)
+  own_still : (line : WaitList) (key : Key) (w : Waiter) (es : List (Key × Option Waiter)) (r : NameTable T)
       → (IsAmong key (keys_of es) → ⊥) → AreOwn line r ((key, Some w) ∷ es) → AreOwn line (with_one_woken w r) es
   own_still line key w es r new own k v i h c e = by (waiter_or v w)
     where
@@ -201,14 +201,14 @@ module _ {T : Type 0} where
           let was = was_waiting w v r h c e in
           let here = own key w (inl refl) h was.0 (ap (status r) (sym same) ∙ was.1) in
           let there = own k v (inr i) h was.0 was.1 in
-          let keys : k ≡ key = ap (λ (x : Held). x.key) (sym there.0 ∙ here.0) in
+          let keys : k ≡ key = ap (λ (x : ListenerRef). x.key) (sym there.0 ∙ here.0) in
           absurd (new (subst (λ (x : Key). IsAmong x (keys_of es)) keys (key_of_entry (k, Some v) es i)))
       by (inr other) = own k v (inr i) h c (sym ((one_woken w r).others v other) ∙ e)
 
   places_still : (w : Waiter) (r : NameTable T) (ws : List Waiter) → HavePlaces r ws → HavePlaces (with_one_woken w r) (moved_last w ws)
   places_still w r ws places v h c e = let was = was_waiting w v r h c e in stays_last w v ws (places v h was.0 was.1)
 
-  pub woken_here : (line : Line) (es : List (Key × Option Waiter)) (r : NameTable T) (ws : List Waiter) (told : List Key)
+  pub woken_here : (line : WaitList) (es : List (Key × Option Waiter)) (r : NameTable T) (ws : List Waiter) (told : List Key)
       → NoneTwice (keys_of es) → AreOwn line r es → HavePlaces r ws → Within (gathered (key_on line r) ws) told
       → Within (gathered (key_on line (all_woken (tasks_of es) r)) (all_moved_last (tasks_of es) ws)) (told ++ keys_of es)
   woken_here line [] r ws told once own places h = within_more (gathered (key_on line r) ws) told [] h

@@ -2,8 +2,8 @@
 use Rattle.std.proofs.Common.{◌≡◌, List, [], ◌∷◌, ◌++◌, Option, None, Some, ◌⊎◌, inl, inr, refl, sym, ap, ◌∙◌, subst}
 use Rattle.channel_calls.specs.declared.mark.Mark.{Mark}
 use Rattle.channel_calls.specs.declared.reply.Reply.{Reply}
-use Rattle.channel_calls.specs.declared.stage.Kept.{Kept}
-use Rattle.channel_calls.specs.declared.stage.Line.{Line}
+use Rattle.channel_calls.specs.declared.stage.Returned.{Returned}
+use Rattle.channel_calls.specs.declared.stage.WaitList.{WaitList}
 use Rattle.channel_world_model.specs.declared.call.Call.{Call}
 use Rattle.channel_world_model.specs.declared.name.Waiter.{Waiter}
 use Rattle.channel_steps.specs.Configuration.{Configuration, Steps, AllKnown}
@@ -22,7 +22,7 @@ use Rattle.channel_world_runs.proofs.OwnerNames.{told_polled, waiter_or, MayBeTo
 use Rattle.channel_world_runs.proofs.OwnerRuns.{IsAfter, ended_as, parts, set, inner}
 use Rattle.channel_world_runs.proofs.OwnerSteps.{first_calm}
 
-calm_polled : (x : NameStatus) (line : Line) → IsCalm x → x ≡ polled line → ⊥
+calm_polled : (x : NameStatus) (line : WaitList) → IsCalm x → x ≡ polled line → ⊥
 calm_polled x line h e = subst (λ (p : NameStatus). IsCalm p) e h
 
 module _ {T : Type 0} where
@@ -56,7 +56,7 @@ module _ {T : Type 0} where
 
   -- ---- a call makes a step
 
-  mid_polled : (names : List Waiter) (b : NameState T) (w : Waiter) (line : Line) → status (all_woken names b.name_table) w ≡ polled line
+  mid_polled : (names : List Waiter) (b : NameState T) (w : Waiter) (line : WaitList) → status (all_woken names b.name_table) w ≡ polled line
       → status b.name_table w ≡ polled line
   mid_polled names b w line e = by (all_told names b.name_table w)
     where
@@ -74,7 +74,7 @@ module _ {T : Type 0} where
       by (inr (inl same)) = absurd (other (ap (λ (y : Agent T). subject y.on_return) same ∙ his))
       by (inr (inr j)) = among_right x front back j
 
-  pub polled_step : (b c : NameState T) (s t : Configuration T Waiter) (q : PartyId) (m : Mark) (r : Option (Reply T)) (kp : Option (Kept T))
+  pub polled_step : (b c : NameState T) (s t : Configuration T Waiter) (q : PartyId) (m : Mark) (r : Option (Reply T)) (kp : Option (Returned T))
       (names : List Waiter) → Owned b s → AllKnown s.now s.under_way
       → Steps s q.0 (record { mark = m; reply = r; kept = kp }) names t
       → IsAfter b q r kp names c → PolledAtWork b → PolledAtWork c
@@ -101,7 +101,7 @@ module _ {T : Type 0} where
         h.2,
       )
     where
-      own_not : (x : Agent T) (p : Waiter → NameStatus) (kept : Kept T) (wait : Option (Line × Waiter)) → Comes p x.on_return kept wait
+      own_not : (x : Agent T) (p : Waiter → NameStatus) (kept : Returned T) (wait : Option (WaitList × Waiter)) → Comes p x.on_return kept wait
           → p w ≡ polled line → subject x.on_return ≡ Some w → ⊥
       own_not x p kept wait (inl calm) g his = calm_polled (p w) line (calm.1 w his) g
       own_not x p kept wait (inr (l, key, task, i, j, his', is)) g own =

@@ -5,9 +5,9 @@ use Rattle.concurrent_queue.specs.Queue.{Phase}
 use Rattle.channel_calls.specs.Moves.{Channel, Effect}
 use Rattle.channel_calls.specs.declared.mark.Mark.{Mark}
 use Rattle.channel_calls.specs.declared.reply.Reply.{Reply}
-use Rattle.channel_calls.specs.declared.stage.Held.{Held}
-use Rattle.channel_calls.specs.declared.stage.Kept.{Kept}
-use Rattle.channel_calls.specs.declared.stage.Line.{Line}
+use Rattle.channel_calls.specs.declared.stage.ListenerRef.{ListenerRef}
+use Rattle.channel_calls.specs.declared.stage.Returned.{Returned}
+use Rattle.channel_calls.specs.declared.stage.WaitList.{WaitList}
 use Rattle.channel_calls.specs.declared.stage.Stage.{Stage}
 use Rattle.channel_calls.specs.declared.stage.Stage.TheVariants.{Trying, Working, Finished}
 use Rattle.channel_world_model.specs.declared.call.Call.{Call}
@@ -42,10 +42,10 @@ module _ {T : Type 0} where
 
   -- ---- those who hold, beside the call that makes the step
 
-  abbrev Beyond : ℕ → Held → List (ActiveCall T Waiter) → List (ActiveCall T Waiter) → Type 0
+  abbrev Beyond : ℕ → ListenerRef → List (ActiveCall T Waiter) → List (ActiveCall T Waiter) → Type 0
   Beyond q h before behind = AnyOf (HasIt q h) before ⊎ AnyOf (HasIt q h) behind
 
-  split_before : (q : ℕ) (h : Held) (before : List (ActiveCall T Waiter)) (u : ActiveCall T Waiter) (behind : List (ActiveCall T Waiter))
+  split_before : (q : ℕ) (h : ListenerRef) (before : List (ActiveCall T Waiter)) (u : ActiveCall T Waiter) (behind : List (ActiveCall T Waiter))
       → AnyOf (HasIt q h) (before ++ u ∷ behind) → Beyond q h before behind ⊎ HasIt q h u
   split_before q h before u behind i = by (any_of (HasIt q h) before (u ∷ behind) i)
     where
@@ -54,7 +54,7 @@ module _ {T : Type 0} where
       by (inr (inl j)) = inr j
       by (inr (inr j)) = inl (inr j)
 
-  split_after : (d : Channel T Waiter) (q : ℕ) (h : Held) (before now behind : List (ActiveCall T Waiter))
+  split_after : (d : Channel T Waiter) (q : ℕ) (h : ListenerRef) (before now behind : List (ActiveCall T Waiter))
       → AnyOf (HasIt q h) (map (sees d) before ++ (now ++ map (sees d) behind)) → Beyond q h before behind ⊎ AnyOf (HasIt q h) now
   split_after d q h before now behind i = by (any_of (HasIt q h) (map (sees d) before) (now ++ map (sees d) behind) i)
     where
@@ -67,14 +67,14 @@ module _ {T : Type 0} where
       by (inl j) = inl (inl (had_seen d q h before j))
       by (inr j) = deeper (any_of (HasIt q h) now (map (sees d) behind) j)
 
-  beyond_after : (d : Channel T Waiter) (q : ℕ) (h : Held) (before now behind : List (ActiveCall T Waiter)) → Beyond q h before behind
+  beyond_after : (d : Channel T Waiter) (q : ℕ) (h : ListenerRef) (before now behind : List (ActiveCall T Waiter)) → Beyond q h before behind
       → AnyOf (HasIt q h) (map (sees d) before ++ (now ++ map (sees d) behind))
   beyond_after d q h before now behind (inl j) =
       any_left (HasIt q h) (map (sees d) before) (now ++ map (sees d) behind) (has_seen d q h before j)
   beyond_after d q h before now behind (inr j) = any_right (HasIt q h) (map (sees d) before) (now ++ map (sees d) behind)
       (any_right (HasIt q h) now (map (sees d) behind) (has_seen d q h behind j))
 
-  pub now_after : (d : Channel T Waiter) (q : ℕ) (h : Held) (before now behind : List (ActiveCall T Waiter)) → AnyOf (HasIt q h) now
+  pub now_after : (d : Channel T Waiter) (q : ℕ) (h : ListenerRef) (before now behind : List (ActiveCall T Waiter)) → AnyOf (HasIt q h) now
       → AnyOf (HasIt q h) (map (sees d) before ++ (now ++ map (sees d) behind))
   now_after d q h before now behind j =
       any_right (HasIt q h) (map (sees d) before) (now ++ map (sees d) behind) (any_left (HasIt q h) now (map (sees d) behind) j)
@@ -88,14 +88,14 @@ module _ {T : Type 0} where
     abbrev Q1 : Waiter → NameStatus
     Q1 = status (all_woken names r)
 
-    pub mid_back : (v : Waiter) (h : Held) (b : Bool) → Q1 v ≡ waits h b → (c : Bool) × (Q v ≡ waits h c)
+    pub mid_back : (v : Waiter) (h : ListenerRef) (b : Bool) → Q1 v ≡ waits h b → (c : Bool) × (Q v ≡ waits h c)
     mid_back v h b e = by (all_told names r v)
       where
         by : MayBeTold Q Q1 v → (c : Bool) × (Q v ≡ waits h c)
         by (inl same) = (b, sym same ∙ e)
         by (inr told) = told_was (Q v) h b (sym told ∙ e)
 
-    pub mid_forth : (v : Waiter) (h : Held) (b : Bool) → Q v ≡ waits h b → (c : Bool) × (Q1 v ≡ waits h c)
+    pub mid_forth : (v : Waiter) (h : ListenerRef) (b : Bool) → Q v ≡ waits h b → (c : Bool) × (Q1 v ≡ waits h c)
     mid_forth v h b e = by (all_told names r v)
       where
         by : MayBeTold Q Q1 v → (c : Bool) × (Q1 v ≡ waits h c)
@@ -116,7 +116,7 @@ module _ {T : Type 0} where
         by (inl same) = sym same ∙ e
         by (inr told) = told_amiss (Q v) (sym told ∙ e)
 
-    pub mid_unwoken : (v : Waiter) (h : Held) → Q1 v ≡ waits h false → (Q v ≡ waits h false) × (IsAmong v names → ⊥)
+    pub mid_unwoken : (v : Waiter) (h : ListenerRef) → Q1 v ≡ waits h false → (Q v ≡ waits h false) × (IsAmong v names → ⊥)
     mid_unwoken v h e = (by (all_told names r v), λ i. never_unwoken (Q v) h (sym (named_told names r v i) ∙ e))
       where
         by : MayBeTold Q Q1 v → Q v ≡ waits h false
@@ -125,7 +125,7 @@ module _ {T : Type 0} where
 
   -- ---- a call makes a step
 
-  module _ (b : NameState T) (s t : Configuration T Waiter) (p : ℕ) (m : Mark) (r : Option (Reply T)) (kp : Option (Kept T))
+  module _ (b : NameState T) (s t : Configuration T Waiter) (p : ℕ) (m : Mark) (r : Option (Reply T)) (kp : Option (Returned T))
       (names : List Waiter) (o : Owned b s) (known : AllKnown s.now s.under_way)
       (st : Steps s p (record { mark = m; reply = r; kept = kp }) names t) where
     abbrev P : Waiter → NameStatus
@@ -163,18 +163,18 @@ module _ {T : Type 0} where
     his_party = parts.own.party ∙ st.whose
 
     -- the others are of other parties
-    others : (q : ℕ) (h : Held) → Beyond q h st.before st.behind → q ≡ p → ⊥
+    others : (q : ℕ) (h : ListenerRef) → Beyond q h st.before st.behind → q ≡ p → ⊥
     others q h (inl i) e = other_party P parts.agent parts.front st.before q h parts.first sides.first i (e ∙ sym his_party)
     others q h (inr i) e = other_party P parts.agent parts.back st.behind q h parts.last sides.last i (e ∙ sym his_party)
 
-    was_there : (q : ℕ) (h : Held) → Beyond q h st.before st.behind → HoldsIn P s.under_way (calling q) h
+    was_there : (q : ℕ) (h : ListenerRef) → Beyond q h st.before st.behind → HoldsIn P s.under_way (calling q) h
     was_there q h i = subst (λ (us : List (ActiveCall T Waiter)). AnyOf (HasIt q h) us) (sym st.there) (by i)
       where
         by : Beyond q h st.before st.behind → AnyOf (HasIt q h) (st.before ++ st.mine ∷ st.behind)
         by (inl j) = any_left (HasIt q h) st.before (st.mine ∷ st.behind) j
         by (inr j) = any_right (HasIt q h) st.before (st.mine ∷ st.behind) (inr j)
 
-    pub was_mine : (h : Held) → holding st.mine.at ≡ Some h → HoldsIn P s.under_way (calling p) h
+    pub was_mine : (h : ListenerRef) → holding st.mine.at ≡ Some h → HoldsIn P s.under_way (calling p) h
     was_mine h e = subst (λ (us : List (ActiveCall T Waiter)). AnyOf (HasIt p h) us) (sym st.there)
         (any_right (HasIt p h) st.before (st.mine ∷ st.behind) (inl (st.whose, e)))
 
@@ -184,7 +184,7 @@ module _ {T : Type 0} where
     abbrev After : List (ActiveCall T Waiter)
     After = map (sees t.now) st.before ++ (Now ++ map (sees t.now) st.behind)
 
-    pub forth_calling : (q : ℕ) (h : Held) → HoldsIn P s.under_way (calling q) h
+    pub forth_calling : (q : ℕ) (h : ListenerRef) → HoldsIn P s.under_way (calling q) h
         → AnyOf (HasIt q h) After ⊎ ((calling q ≡ calling p) × (holding st.mine.at ≡ Some h))
     forth_calling q h i = by
         (split_before q h st.before st.mine st.behind (subst (λ (us : List (ActiveCall T Waiter)). AnyOf (HasIt q h) us) st.there i))
@@ -195,7 +195,7 @@ module _ {T : Type 0} where
         by (inr j) = inr (ap calling (sym j.0 ∙ st.whose), j.1)
 
     -- who isn't woken waits for its name still
-    waits_still : (v : Waiter) (h : Held) → P1 v ≡ waits h false → WaitsToWake h v t.now
+    waits_still : (v : Waiter) (h : ListenerRef) → P1 v ≡ waits h false → WaitsToWake h v t.now
     waits_still v h e =
         let before = mid_unwoken names b.name_table v h e in
         by before.1 ((out.lists h.line).waiting h.key v
@@ -206,7 +206,7 @@ module _ {T : Type 0} where
         by f (inr i) = absurd (f i)
 
   -- it goes on
-  module _ (b : NameState T) (s t : Configuration T Waiter) (p : ℕ) (m : Mark) (kp : Option (Kept T)) (names : List Waiter) (o : Owned b s)
+  module _ (b : NameState T) (s t : Configuration T Waiter) (p : ℕ) (m : Mark) (kp : Option (Returned T)) (names : List Waiter) (o : Owned b s)
       (known : AllKnown s.now s.under_way)
       (st : Steps s p (record { mark = m; reply = None; kept = kp }) names t) where
     abbrev on_out : Turnout T Waiter st.mine.ask s.now st.mine.at (record { channel = t.now; mark = m; woken = names }) None
@@ -230,7 +230,7 @@ module _ {T : Type 0} where
               (inl (st.whose, on_out.next.0 ∙ e));
         }
       where
-        back : (x : Holder) (h : Held) → HoldsIn on_statuses on_after x h
+        back : (x : Holder) (h : ListenerRef) → HoldsIn on_statuses on_after x h
             → (HoldsIn (status b.name_table) s.under_way x h × (x ≡ calling p → ⊥)) ⊎ ((x ≡ calling p) × (on_out.has ≡ Some h))
         back (named v) h (w, e) = inl (mid_back names b.name_table v h w e, apart v p)
         back (calling q) h i = by (split_after t.now q h st.before (does st.mine st.at_now m s.now t.now ∷ []) st.behind i)
@@ -246,16 +246,16 @@ module _ {T : Type 0} where
             by (inr (inl j)) = inr (ap calling (sym j.0 ∙ st.whose), sym on_out.next.0 ∙ j.1)
             by (inr (inr j)) = absurd j
 
-        forth : (x : Holder) (h : Held) → HoldsIn (status b.name_table) s.under_way x h
+        forth : (x : Holder) (h : ListenerRef) → HoldsIn (status b.name_table) s.under_way x h
             → HoldsIn on_statuses on_after x h ⊎ ((x ≡ calling p) × (holding st.mine.at ≡ Some h))
         forth (named v) h (w, e) = inl (mid_forth names b.name_table v h w e)
         forth (calling q) h i = forth_calling b s t p m None kp names o known st q h i
 
-    bears_on : (a c : Option Waiter) (wait : Option (Line × Waiter)) → (a ≡ None) ⊎ (a ≡ c) → Bears c wait → Bears a wait
+    bears_on : (a c : Option Waiter) (wait : Option (WaitList × Waiter)) → (a ≡ None) ⊎ (a ≡ c) → Bears c wait → Bears a wait
     bears_on a c wait (inl e) h = subst (λ (x : Option Waiter). Bears x wait) (sym e) tt
     bears_on a c wait (inr e) h = subst (λ (x : Option Waiter). Bears x wait) (sym e) h
 
-    own_line : (q : Parted (status b.name_table) b.agents st.before st.mine st.behind) (h : Held) → (holding st.mine.at ≡ Some h)
+    own_line : (q : Parted (status b.name_table) b.agents st.before st.mine st.behind) (h : ListenerRef) → (holding st.mine.at ≡ Some h)
         ⊎ ((task : Waiter) × (wait_of st.mine.ask ≡ Some (h.line, task))) → line_asked st.mine.ask ≡ Some h.line
     own_line q h (inl e) = let f = q.own in f.lines h e
     own_line q h (inr (task, e)) = line_waits st.mine.ask h.line task e
@@ -309,15 +309,15 @@ subject_or (Some w) v = by (waiter_or w v)
     by (inl e) = inl (ap (λ (x : Waiter). let o : Option Waiter = Some x in o) e)
     by (inr f) = inr (λ e. f (inner w v e))
 
-pub waits_is : (h k : Held) (b c : Bool) → waits h b ≡ waits k c → h ≡ k
+pub waits_is : (h k : ListenerRef) (b c : Bool) → waits h b ≡ waits k c → h ≡ k
 waits_is h k b c e =
     ap (λ (x : NameStatus). elim x [ waits z d ↦ z | free ↦ h | retired ↦ h | invalid ↦ h | rests l ↦ h | polled l ↦ h ]) e
 
-no_waits_amiss : (h : Held) (b : Bool) → waits h b ≡ invalid → ⊥
+no_waits_amiss : (h : ListenerRef) (b : Bool) → waits h b ≡ invalid → ⊥
 no_waits_amiss h b e = absurd (cc e)
 
 module _ {T : Type 0} where
-  finished_is : (x y : Kept T) (at : Stage (Phase T) T Waiter) → at ≡ Finished x → at ≡ Finished y → x ≡ y
+  finished_is : (x y : Returned T) (at : Stage (Phase T) T Waiter) → at ≡ Finished x → at ≡ Finished y → x ≡ y
   finished_is x y at e f =
       ap (λ (z : Stage (Phase T) T Waiter). elim z [ Finished k ↦ k | Trying c a ↦ x | Working w ↦ x ]) (sym e ∙ f)
 
@@ -328,7 +328,7 @@ module _ {T : Type 0} where
   differ_keep p p' a (x ∷ more) d f = (λ v e. f v (λ own. d.0.name v own e), differ_keep p p' a more d.1 f)
 
   -- it ends
-  module _ (b : NameState T) (s t : Configuration T Waiter) (p : ℕ) (m : Mark) (y : Reply T) (kp : Option (Kept T)) (names : List Waiter)
+  module _ (b : NameState T) (s t : Configuration T Waiter) (p : ℕ) (m : Mark) (y : Reply T) (kp : Option (Returned T)) (names : List Waiter)
       (o : Owned b s) (known : AllKnown s.now s.under_way)
       (st : Steps s p (record { mark = m; reply = Some y; kept = kp }) names t) where
     abbrev E1 : Waiter → NameStatus
@@ -341,11 +341,11 @@ module _ {T : Type 0} where
         (Some y) st.at_now
     end_out = out b s t p m (Some y) kp names o known st
 
-    abbrev wait : Option (Line × Waiter)
+    abbrev wait : Option (WaitList × Waiter)
     wait = wait_of st.mine.ask
 
     -- what the call leaves
-    abbrev kept : Kept T
+    abbrev kept : Returned T
     kept = let f = st.finishes in f.kept
 
     abbrev E2 : Waiter → NameStatus
@@ -353,7 +353,7 @@ module _ {T : Type 0} where
 
     pub leaves : LeavesIt T Waiter st.mine.ask kept end_out.has t.now
     leaves = let f = st.finishes in
-        subst (λ (k : Kept T). LeavesIt T Waiter st.mine.ask k end_out.has t.now)
+        subst (λ (k : Returned T). LeavesIt T Waiter st.mine.ask k end_out.has t.now)
         (finished_is end_out.next.0 kept st.at_now end_out.next.1 f.at_end) end_out.next.2
 
     is_left : IsLeft kept wait
@@ -391,7 +391,7 @@ module _ {T : Type 0} where
         (calling p) taker
 
     end_owned : (taker : Holder) → Pass taker → ((v : Waiter) → E2 v ≡ invalid → ⊥)
-        → ((v : Waiter) (h : Held) → E2 v ≡ waits h false → WaitsToWake h v t.now) → Owned end_name_state t
+        → ((v : Waiter) (h : ListenerRef) → E2 v ≡ waits h false → WaitsToWake h v t.now) → Owned end_name_state t
     end_owned taker pass sane unwoken =
         let a = accounted s.now t.now names (holding st.mine.at) end_out.has (HoldsIn (status b.name_table) s.under_way)
         (HoldsIn E2 end_calls) (calling p) taker end_out.lists end_out.how pass
@@ -420,12 +420,12 @@ module _ {T : Type 0} where
         )
 
     -- a name at which it didn't work
-    back_named : (taker : Holder) (v : Waiter) (h : Held) (w : Bool) → (subject pt.agent.on_return ≡ Some v → ⊥) → E2 v ≡ waits h w
+    back_named : (taker : Holder) (v : Waiter) (h : ListenerRef) (w : Bool) → (subject pt.agent.on_return ≡ Some v → ⊥) → E2 v ≡ waits h w
         → (HoldsIn (status b.name_table) s.under_way (named v) h × (named v ≡ calling p → ⊥))
         ⊎ ((named v ≡ taker) × (end_out.has ≡ Some h))
     back_named taker v h w other e = inl (mid_back names b.name_table v h w (sym (set.others v other) ∙ e), apart v p)
 
-    pub back_calling : (taker : Holder) (q : ℕ) (h : Held) → AnyOf (HasIt q h) end_calls
+    pub back_calling : (taker : Holder) (q : ℕ) (h : ListenerRef) → AnyOf (HasIt q h) end_calls
         → (HoldsIn (status b.name_table) s.under_way (calling q) h × (calling q ≡ calling p → ⊥))
         ⊎ ((calling q ≡ taker) × (end_out.has ≡ Some h))
     back_calling taker q h i = by (split_after t.now q h st.before [] st.behind i)
@@ -440,7 +440,7 @@ module _ {T : Type 0} where
         )
         by (inr j) = absurd j
 
-    forth : (x : Holder) (h : Held) → HoldsIn (status b.name_table) s.under_way x h
+    forth : (x : Holder) (h : ListenerRef) → HoldsIn (status b.name_table) s.under_way x h
         → HoldsIn E2 end_calls x h ⊎ ((x ≡ calling p) × (holding st.mine.at ≡ Some h))
     forth (named v) h (w, e) =
         let mid = mid_forth names b.name_table v h w e in
@@ -457,7 +457,7 @@ module _ {T : Type 0} where
           new = λ h e. absurd (let no : None ≡ Some h = sym none ∙ e in cc);
         }) sane unwoken
       where
-        back : (x : Holder) (h : Held) → HoldsIn E2 end_calls x h → (HoldsIn (status b.name_table) s.under_way x h × (x ≡ calling p → ⊥))
+        back : (x : Holder) (h : ListenerRef) → HoldsIn E2 end_calls x h → (HoldsIn (status b.name_table) s.under_way x h × (x ≡ calling p → ⊥))
             ⊎ ((x ≡ calling p) × (end_out.has ≡ Some h))
         back (named v) h (w, e) = back_named (calling p) v h w (λ own. calm_waits (E2 v) h w (calm v own) e) e
         back (calling q) h i = back_calling (calling p) q h i
@@ -469,12 +469,12 @@ module _ {T : Type 0} where
             by (inl own) = calm_amiss (E2 v) (calm v own) e
             by (inr other) = o.none_amiss v (mid_amiss names b.name_table v (sym (set.others v other) ∙ e))
 
-        unwoken : (v : Waiter) (h : Held) → E2 v ≡ waits h false → WaitsToWake h v t.now
+        unwoken : (v : Waiter) (h : ListenerRef) → E2 v ≡ waits h false → WaitsToWake h v t.now
         unwoken v h e = waits_still b s t p m (Some y) kp names o known st v h
             (sym (set.others v (λ own. calm_waits (E2 v) h false (calm v own) e)) ∙ e)
 
     -- it leaves one, and its name is pending
-    leaves_one : (h : Held) (task : Waiter) → end_out.has ≡ Some h → WaitsToWake h task t.now → subject pt.agent.on_return ≡ Some task
+    leaves_one : (h : ListenerRef) (task : Waiter) → end_out.has ≡ Some h → WaitsToWake h task t.now → subject pt.agent.on_return ≡ Some task
         → E2 task ≡ waits h false → Owned end_name_state t
     leaves_one h task has there whose is = end_owned (named task)
         (record { back = back; forth = forth; old = λ k e. was_mine b s t p m (Some y) kp names o known st k e; new = new }) sane
@@ -484,13 +484,13 @@ module _ {T : Type 0} where
         same_name : (v : Waiter) → subject pt.agent.on_return ≡ Some v → v ≡ task
         same_name v own = inner v task (sym own ∙ whose)
 
-        same_held : (v : Waiter) (k : Held) (w : Bool) → subject pt.agent.on_return ≡ Some v → E2 v ≡ waits k w → k ≡ h
+        same_held : (v : Waiter) (k : ListenerRef) (w : Bool) → subject pt.agent.on_return ≡ Some v → E2 v ≡ waits k w → k ≡ h
         same_held v k w own e = waits_is k h w false (sym e ∙ (ap E2 (same_name v own) ∙ is))
 
-        new : (k : Held) → end_out.has ≡ Some k → HoldsIn E2 end_calls (named task) k
-        new k e = (false, is ∙ ap (λ (x : Held). waits x false) (inner h k (sym has ∙ e)))
+        new : (k : ListenerRef) → end_out.has ≡ Some k → HoldsIn E2 end_calls (named task) k
+        new k e = (false, is ∙ ap (λ (x : ListenerRef). waits x false) (inner h k (sym has ∙ e)))
 
-        back : (x : Holder) (k : Held) → HoldsIn E2 end_calls x k → (HoldsIn (status b.name_table) s.under_way x k × (x ≡ calling p → ⊥))
+        back : (x : Holder) (k : ListenerRef) → HoldsIn E2 end_calls x k → (HoldsIn (status b.name_table) s.under_way x k × (x ≡ calling p → ⊥))
             ⊎ ((x ≡ named task) × (end_out.has ≡ Some k))
         back (named v) k (w, e) = by (subject_or (subject pt.agent.on_return) v)
           where
@@ -499,7 +499,7 @@ module _ {T : Type 0} where
                 ⊎ ((named v ≡ named task) × (end_out.has ≡ Some k))
             by (inl own) = inr (
               ap named (same_name v own),
-              has ∙ ap (λ (x : Held). let z : Option Held = Some x in z)
+              has ∙ ap (λ (x : ListenerRef). let z : Option ListenerRef = Some x in z)
                   (sym (same_held v k w own e)),
             )
             by (inr other) = back_named (named task) v k w other e
@@ -512,11 +512,11 @@ module _ {T : Type 0} where
             by (inl own) = no_waits_amiss h false (sym is ∙ (ap E2 (sym (same_name v own)) ∙ e))
             by (inr other) = o.none_amiss v (mid_amiss names b.name_table v (sym (set.others v other) ∙ e))
 
-        unwoken : (v : Waiter) (k : Held) → E2 v ≡ waits k false → WaitsToWake k v t.now
+        unwoken : (v : Waiter) (k : ListenerRef) → E2 v ≡ waits k false → WaitsToWake k v t.now
         unwoken v k e = by (subject_or (subject pt.agent.on_return) v)
           where
             by : (subject pt.agent.on_return ≡ Some v) ⊎ (subject pt.agent.on_return ≡ Some v → ⊥) → WaitsToWake k v t.now
-            by (inl own) = subst (λ (x : Held). WaitsToWake x v t.now) (sym (same_held v k false own e))
+            by (inl own) = subst (λ (x : ListenerRef). WaitsToWake x v t.now) (sym (same_held v k false own e))
                 (subst (λ (x : Waiter). WaitsToWake h x t.now) (sym (same_name v own)) there)
             by (inr other) = waits_still b s t p m (Some y) kp names o known st v k (sym (set.others v other) ∙ e)
 
@@ -529,34 +529,34 @@ module _ {T : Type 0} where
         by (inr (line, key, task, h, k, w, there)) (inl c) = absurd (let no : None ≡ Some key = sym c.0 ∙ k in cc)
         by (inr (line, key, task, h, k, w, there)) (inr (line', key', task', k', w', whose, is)) =
             let same_key : key' ≡ key = inner key' key (sym k' ∙ k) in
-            let same : (let x : Line × Waiter = (line', task') in x) ≡ (line, task) = inner _ _ (sym w' ∙ w) in
-            let task_is : task' ≡ task = ap (λ (x : Line × Waiter). x.1) same in
-            let line_is : line' ≡ line = ap (λ (x : Line × Waiter). x.0) same in
+            let same : (let x : WaitList × Waiter = (line', task') in x) ≡ (line, task) = inner _ _ (sym w' ∙ w) in
+            let task_is : task' ≡ task = ap (λ (x : WaitList × Waiter). x.1) same in
+            let line_is : line' ≡ line = ap (λ (x : WaitList × Waiter). x.0) same in
             leaves_one (record { line = line; key = key }) task h there (whose ∙ ap (λ (x : Waiter). Some x) task_is)
             (ap E2 (sym task_is)
-            ∙ (is ∙ (ap (λ (x : Line). waits (record { line = x; key = key' }) false) line_is
+            ∙ (is ∙ (ap (λ (x : WaitList). waits (record { line = x; key = key' }) false) line_is
             ∙ ap (λ (x : Key). waits (record { line = line; key = x }) false) same_key)))
 
   -- ---- any step
 
   -- the name state after an end, given who ended and what it left
-  ended_is : (k : ℕ) (a a' : Agent T) (y : Reply T) (kp : Option (Kept T)) (kept : Kept T) (b : NameState T)
+  ended_is : (k : ℕ) (a a' : Agent T) (y : Reply T) (kp : Option (Returned T)) (kept : Returned T) (b : NameState T)
       (rest : List (Agent T)) → a ≡ a' → kp ≡ Some kept → remove b.agents k ≡ rest
       → name_state_ended k a (Some y) kp b
       ≡ record { name_table = written_back a'.on_return y kept b.name_table; order = order_settled a'.on_return kept.key b.order; agents = rest }
   ended_is k a a' y kp kept b rest same given left =
       ap (λ (x : Agent T). name_state_ended k x (Some y) kp b) same
-      ∙ (ap (λ (x : Option (Kept T)). name_state_ended k a' (Some y) x b) given
+      ∙ (ap (λ (x : Option (Returned T)). name_state_ended k a' (Some y) x b) given
       ∙ ap (λ (l : List (Agent T)).
       record { name_table = written_back a'.on_return y kept b.name_table; order = order_settled a'.on_return kept.key b.order; agents = l }) left)
 
   -- the name state after a step of a party
-  abbrev pub IsAfter : NameState T → PartyId → Option (Reply T) → Option (Kept T) → List Waiter → NameState T → Type 0
+  abbrev pub IsAfter : NameState T → PartyId → Option (Reply T) → Option (Returned T) → List Waiter → NameState T → Type 0
   IsAfter b q r kp names c =
       (k : ℕ) × (a : Agent T) × (slice_get b.agents k ≡ Some a) × (a.party ≡ q.0) × (c ≡ name_state_ended k a r kp (with_woken names b))
 
   -- where its call ends, that is without its agent, and what this has to write back is written
-  pub ended_as : (b c : NameState T) (s t : Configuration T Waiter) (q : PartyId) (m : Mark) (y : Reply T) (kp : Option (Kept T))
+  pub ended_as : (b c : NameState T) (s t : Configuration T Waiter) (q : PartyId) (m : Mark) (y : Reply T) (kp : Option (Returned T))
       (names : List Waiter) (o : Owned b s) (known : AllKnown s.now s.under_way)
       (st : Steps s q.0 (record { mark = m; reply = Some y; kept = kp }) names t) → IsAfter b q (Some y) kp names c
       → c ≡ end_name_state b s t q.0 m y kp names o known st
@@ -570,7 +570,7 @@ module _ {T : Type 0} where
       ∙ is.without in
       after.4 ∙ ended_is after.0 after.1 pt.agent y kp f.kept (with_woken names b) (pt.front ++ pt.back) is.same f.given rest
 
-  pub stepped : (b c : NameState T) (s t : Configuration T Waiter) (q : PartyId) (m : Mark) (r : Option (Reply T)) (kp : Option (Kept T))
+  pub stepped : (b c : NameState T) (s t : Configuration T Waiter) (q : PartyId) (m : Mark) (r : Option (Reply T)) (kp : Option (Returned T))
       (names : List Waiter) → Owned b s → AllKnown s.now s.under_way
       → Steps s q.0 (record { mark = m; reply = r; kept = kp }) names t → IsAfter b q r kp names c → Owned c t
   stepped b c s t q m None kp names o known st after =

@@ -4,9 +4,9 @@ use Rattle.std.proofs.lemmas.Bool.Decides.{nat_tests}
 use Rattle.std.proofs.Common.{arith}
 use Rattle.channel_calls.specs.Moves.{Channel}
 use Rattle.channel_calls.specs.declared.ask.ChannelAsk.{ChannelAsk}
-use Rattle.channel_calls.specs.declared.stage.Held.{Held}
-use Rattle.channel_calls.specs.declared.stage.Line.{Line}
-use Rattle.channel_calls.specs.declared.stage.Line.TheVariants.{Sends, Receives, Streams, Closings}
+use Rattle.channel_calls.specs.declared.stage.ListenerRef.{ListenerRef}
+use Rattle.channel_calls.specs.declared.stage.WaitList.{WaitList}
+use Rattle.channel_calls.specs.declared.stage.WaitList.TheVariants.{Sends, Receives, Streams, Closings}
 use Rattle.channel_world_model.specs.declared.call.Call.{Call}
 use Rattle.channel_world_model.specs.declared.name.Waiter.{Waiter}
 use Rattle.channel_world_model.specs.declared.name.Waiter.TheVariants.{Op, Stream}
@@ -35,13 +35,13 @@ use Rattle.channel_world_runs.proofs.OwnerTogether.{all_join, HasIt, any_left, a
 
 -- ---- how names stand
 
-pub calm_waits : (x : NameStatus) (h : Held) (b : Bool) → IsCalm x → x ≡ waits h b → ⊥
+pub calm_waits : (x : NameStatus) (h : ListenerRef) (b : Bool) → IsCalm x → x ≡ waits h b → ⊥
 calm_waits x h b c e = subst IsCalm e c
 
 pub calm_amiss : (x : NameStatus) → IsCalm x → x ≡ invalid → ⊥
 calm_amiss x c e = subst IsCalm e c
 
-pub busy_waits : (x : NameStatus) (h : Held) (b : Bool) → IsBusy x → x ≡ waits h b → ⊥
+pub busy_waits : (x : NameStatus) (h : ListenerRef) (b : Bool) → IsBusy x → x ≡ waits h b → ⊥
 busy_waits x h b c e = subst IsBusy e c
 
 busy_amiss : (x : NameStatus) → IsBusy x → x ≡ invalid → ⊥
@@ -52,14 +52,14 @@ busy_loose retired b l = l
 busy_loose (polled line) b l = l
 busy_loose x b l = b
 
-held_is : (x : NameStatus) (h : Held) → held_in x ≡ Some h → (b : Bool) × (x ≡ waits h b)
-held_is (waits k b) h e = (b, ap (λ (z : Held). waits z b) (ap (λ (o : Option Held). elim o [ None ↦ k | Some z ↦ z ]) e))
+held_is : (x : NameStatus) (h : ListenerRef) → held_in x ≡ Some h → (b : Bool) × (x ≡ waits h b)
+held_is (waits k b) h e = (b, ap (λ (z : ListenerRef). waits z b) (ap (λ (o : Option ListenerRef). elim o [ None ↦ k | Some z ↦ z ]) e))
 held_is x h e = absurd (let no : None ≡ Some h = e in cc)
 
-pub told_was : (x : NameStatus) (h : Held) (b : Bool) → told_status x ≡ waits h b → (c : Bool) × (x ≡ waits h c)
+pub told_was : (x : NameStatus) (h : ListenerRef) (b : Bool) → told_status x ≡ waits h b → (c : Bool) × (x ≡ waits h c)
 told_was (waits k c) h b e = (
   c,
-  ap (λ (z : Held). waits z c)
+  ap (λ (z : ListenerRef). waits z c)
       (ap (λ (y : NameStatus). elim y [ waits z d ↦ z | free ↦ k | retired ↦ k | invalid ↦ k | rests l ↦ k | polled l ↦ k ]) e),
 )
 told_was free h b e = (b, e)
@@ -77,7 +77,7 @@ told_busy retired b = refl
 told_busy (polled line) b = refl
 told_busy x b = absurd b
 
-pub never_unwoken : (x : NameStatus) (h : Held) → told_status x ≡ waits h false → ⊥
+pub never_unwoken : (x : NameStatus) (h : ListenerRef) → told_status x ≡ waits h false → ⊥
 never_unwoken (waits k c) h e =
     absurd (let no : true
     ≡ false = ap (λ (y : NameStatus). elim y
@@ -125,16 +125,16 @@ module _ (T : Type 0) where
   nobody_twice cap Sends = tt
   nobody_twice cap x = tt
 
-  nobody_listed : (cap : Option ℕ) (h : Held) → IsListed {T = T} {W = Waiter} h (new_configuration cap).now → ⊥
+  nobody_listed : (cap : Option ℕ) (h : ListenerRef) → IsListed {T = T} {W = Waiter} h (new_configuration cap).now → ⊥
   nobody_listed cap h i = by h.line i
     where
-      by : (line : Line) → IsListed {T = T} {W = Waiter} (record { line = line; key = h.key }) (new_configuration cap).now → ⊥
+      by : (line : WaitList) → IsListed {T = T} {W = Waiter} (record { line = line; key = h.key }) (new_configuration cap).now → ⊥
       by Sends i = i
       by Receives i = i
       by Streams i = i
       by Closings i = i
 
-  nobody_holds : (x : Holder) (h : Held) → HoldsIn {T = T} (status {T = T} first_name_table) [] x h → ⊥
+  nobody_holds : (x : Holder) (h : ListenerRef) → HoldsIn {T = T} (status {T = T} first_name_table) [] x h → ⊥
   nobody_holds (named w) h (b, e) = calm_waits (status {T = T} first_name_table w) h b (first_calm T w) e
   nobody_holds (calling p) h i = i
 
@@ -179,7 +179,7 @@ module _ {T : Type 0} where
   all_differ p a [] (u ∷ us) t f g d = absurd t
   all_differ p a (b ∷ more) [] t f g d = absurd t
 
-  not_his : (p : Waiter → NameStatus) (party : ℕ) (agents : List (Agent T)) (us : List (ActiveCall T Waiter)) (q : ℕ) (h : Held)
+  not_his : (p : Waiter → NameStatus) (party : ℕ) (agents : List (Agent T)) (us : List (ActiveCall T Waiter)) (q : ℕ) (h : ListenerRef)
       → Together p agents us → Free party agents → AnyOf (HasIt q h) us → q ≡ party → ⊥
   not_his p party [] [] q h t f i e = i
   not_his p party (b ∷ more) (u ∷ us) q h t f (inl i) e =
@@ -215,11 +215,11 @@ module _ {T : Type 0} where
     before : Accounted (HoldsIn P s.under_way) s.now
     before = record { once = o.once; listed = o.listed; held = o.held; alone = o.alone }
 
-    begun_owned : (had : Option Held) (giver taker : Holder)
+    begun_owned : (had : Option ListenerRef) (giver taker : Holder)
         → Passes (HoldsIn P s.under_way) (HoldsIn P' calls) had had giver taker
         → ((v : Waiter) → IsBusy (P v) → P' v ≡ P v) → ((v : Waiter) → IsBusy (P v) → subject (on_return_of b.name_table c) ≡ Some v → ⊥)
         → ((v : Waiter) → P' v ≡ invalid → ⊥)
-        → ((v : Waiter) (h : Held) → P' v ≡ waits h false → P v ≡ waits h false)
+        → ((v : Waiter) (h : ListenerRef) → P' v ≡ waits h false → P v ≡ waits h false)
         → Suits P' (on_return_of b.name_table c) (wait_of (asks b.name_table c)) → Owned (name_state_begun q c b) t
     begun_owned had giver taker pass keep own sane unwoken suits =
         let whole = accounted s.now s.now [] had had (HoldsIn P s.under_way) (HoldsIn P' calls) giver taker
@@ -233,7 +233,7 @@ module _ {T : Type 0} where
               (together_on P P' b.agents s.under_way (all_keep P P' b.agents s.under_way o.together keep) o.together) (
                 record {
                   party = refl;
-                  suits = subst (λ (o : Option (Line × Waiter)). Suits P' (on_return_of b.name_table c) o) (sym (waits_same (asks b.name_table c) a is)) suits;
+                  suits = subst (λ (o : Option (WaitList × Waiter)). Suits P' (on_return_of b.name_table c) o) (sym (waits_same (asks b.name_table c) a is)) suits;
                   bears = starts_so.1;
                   lines = λ h i. line_held a h (sym starts_so.0 ∙ i);
                 },
@@ -255,7 +255,7 @@ module _ {T : Type 0} where
         (λ v i e. absurd (let no : None ≡ Some v = sym k.nobody ∙ e in cc)) (λ v e. o.none_amiss v (sym (k.same v) ∙ e))
         (λ v h e. sym (k.same v) ∙ e) (plain_suits P' (on_return_of b.name_table c) (wait_of (asks b.name_table c)) k.nobody k.patient)
       where
-        plain_suits : (p : Waiter → NameStatus) (e : OnReturn T) (wait : Option (Line × Waiter)) → subject e ≡ None → wait ≡ None
+        plain_suits : (p : Waiter → NameStatus) (e : OnReturn T) (wait : Option (WaitList × Waiter)) → subject e ≡ None → wait ≡ None
             → Suits p e wait
         plain_suits p (on_return.Poll op) wait f g = absurd (let no : Some (Op op) ≡ None = f in cc)
         plain_suits p (on_return.PollNext receiver) wait f g = absurd (let no : Some (Stream receiver) ≡ None = f in cc)
@@ -263,10 +263,10 @@ module _ {T : Type 0} where
         plain_suits p (on_return.New from new kind) wait f g = absurd (let no : Some (Stream new) ≡ None = f in cc)
         plain_suits p e wait f g = g
 
-        nothing : (h : Held) → holding n.at ≡ Some h → ⊥
+        nothing : (h : ListenerRef) → holding n.at ≡ Some h → ⊥
         nothing h e = absurd (let no : None ≡ Some h = sym (first_stage ∙ k.empty) ∙ e in cc)
 
-        back : (x : Holder) (h : Held) → HoldsIn P' calls x h
+        back : (x : Holder) (h : ListenerRef) → HoldsIn P' calls x h
             → (HoldsIn P s.under_way x h × (x ≡ calling q.0 → ⊥)) ⊎ ((x ≡ calling q.0) × (None ≡ Some h))
         back (named v) h (w, e) = inl ((w, sym (k.same v) ∙ e), apart v q.0)
         back (calling r) h i = by (any_of (HasIt r h) s.under_way (new_call ∷ []) i)
@@ -278,7 +278,7 @@ module _ {T : Type 0} where
             by (inr (inl j)) = absurd (nothing h j.1)
             by (inr (inr j)) = absurd j
 
-        forth : (x : Holder) (h : Held) → HoldsIn P s.under_way x h → HoldsIn P' calls x h ⊎ ((x ≡ calling q.0) × (None ≡ Some h))
+        forth : (x : Holder) (h : ListenerRef) → HoldsIn P s.under_way x h → HoldsIn P' calls x h ⊎ ((x ≡ calling q.0) × (None ≡ Some h))
         forth (named v) h (w, e) = inl (w, k.same v ∙ e)
         forth (calling r) h i = inl (any_left (HasIt r h) s.under_way (new_call ∷ []) i)
 
@@ -314,13 +314,13 @@ module _ {T : Type 0} where
             by (inl same) = busy_amiss (P' k.name) busy_now (ap P' (sym same) ∙ e)
             by (inr other) = o.none_amiss v (sym (k.sets.others v other) ∙ e)
 
-        not_now : (v : Waiter) (h : Held) (w : Bool) → P' v ≡ waits h w → v ≡ k.name → ⊥
+        not_now : (v : Waiter) (h : ListenerRef) (w : Bool) → P' v ≡ waits h w → v ≡ k.name → ⊥
         not_now v h w e same = busy_waits (P' k.name) h w busy_now (ap P' (sym same) ∙ e)
 
-        unwoken : (v : Waiter) (h : Held) → P' v ≡ waits h false → P v ≡ waits h false
+        unwoken : (v : Waiter) (h : ListenerRef) → P' v ≡ waits h false → P v ≡ waits h false
         unwoken v h e = sym (k.sets.others v (not_now v h false e)) ∙ e
 
-        back : (x : Holder) (h : Held) → HoldsIn P' calls x h → (HoldsIn P s.under_way x h × (x ≡ named k.name → ⊥))
+        back : (x : Holder) (h : ListenerRef) → HoldsIn P' calls x h → (HoldsIn P s.under_way x h × (x ≡ named k.name → ⊥))
             ⊎ ((x ≡ calling q.0) × (held_in (P k.name) ≡ Some h))
         back (named v) h (w, e) =
             inl ((w, sym (k.sets.others v (not_now v h w e)) ∙ e), λ same. not_now v h w e (named_is v k.name same))
@@ -333,7 +333,7 @@ module _ {T : Type 0} where
             by (inr (inl j)) = inr (ap calling (sym j.0), sym (first_stage ∙ k.takes) ∙ j.1)
             by (inr (inr j)) = absurd j
 
-        forth : (x : Holder) (h : Held) → HoldsIn P s.under_way x h
+        forth : (x : Holder) (h : ListenerRef) → HoldsIn P s.under_way x h
             → HoldsIn P' calls x h ⊎ ((x ≡ named k.name) × (held_in (P k.name) ≡ Some h))
         forth (named v) h (w, e) = by (waiter_or v k.name)
           where

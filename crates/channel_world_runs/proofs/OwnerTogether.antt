@@ -2,8 +2,8 @@
 use Rattle.std.proofs.Common.{◌≡◌, ℕ, zero, suc, List, [], ◌∷◌, ◌++◌, map, slice_get, Option, None, Some, ◌⊎◌, inl, inr, refl, sym, ap, ◌∙◌, subst}
 use Rattle.std.specs.List.{remove}
 use Rattle.channel_calls.specs.Moves.{Channel}
-use Rattle.channel_calls.specs.declared.stage.Held.{Held}
-use Rattle.channel_calls.specs.declared.stage.Line.{Line}
+use Rattle.channel_calls.specs.declared.stage.ListenerRef.{ListenerRef}
+use Rattle.channel_calls.specs.declared.stage.WaitList.{WaitList}
 use Rattle.channel_world_model.specs.declared.name.Waiter.{Waiter}
 use Rattle.channel_world_model.specs.declared.name.Waiter.TheVariants.{Op, Stream}
 use Rattle.channel_steps.specs.Configuration.{ActiveCall, sees}
@@ -28,7 +28,7 @@ module _ {A : Type 0} (P : A → Type 0) where
 
 module _ {T : Type 0} where
   -- this party's call has this listener in hand
-  abbrev pub HasIt : ℕ → Held → ActiveCall T Waiter → Type 0
+  abbrev pub HasIt : ℕ → ListenerRef → ActiveCall T Waiter → Type 0
   HasIt q h u = (u.party ≡ q) × (holding u.at ≡ Some h)
 
   pub any_left : (P : ActiveCall T Waiter → Type 0) (us vs : List (ActiveCall T Waiter)) → AnyOf P us → AnyOf P (us ++ vs)
@@ -50,19 +50,19 @@ module _ {T : Type 0} where
       deeper (inr h) = inr h
 
   -- the others only see a step
-  pub has_seen : (c : Channel T Waiter) (q : ℕ) (h : Held) (us : List (ActiveCall T Waiter)) → AnyOf (HasIt q h) us → AnyOf (HasIt q h) (map (sees c) us)
+  pub has_seen : (c : Channel T Waiter) (q : ℕ) (h : ListenerRef) (us : List (ActiveCall T Waiter)) → AnyOf (HasIt q h) us → AnyOf (HasIt q h) (map (sees c) us)
   has_seen c q h [] i = i
   has_seen c q h (u ∷ us) (inl i) = inl i
   has_seen c q h (u ∷ us) (inr i) = inr (has_seen c q h us i)
 
-  pub had_seen : (c : Channel T Waiter) (q : ℕ) (h : Held) (us : List (ActiveCall T Waiter)) → AnyOf (HasIt q h) (map (sees c) us) → AnyOf (HasIt q h) us
+  pub had_seen : (c : Channel T Waiter) (q : ℕ) (h : ListenerRef) (us : List (ActiveCall T Waiter)) → AnyOf (HasIt q h) (map (sees c) us) → AnyOf (HasIt q h) us
   had_seen c q h [] i = i
   had_seen c q h (u ∷ us) (inl i) = inl i
   had_seen c q h (u ∷ us) (inr i) = inr (had_seen c q h us i)
 
   -- ---- one by one
 
-  pub suits_on : (p p' : Waiter → NameStatus) (e : OnReturn T) (wait : Option (Line × Waiter)) → ((v : Waiter) → subject e ≡ Some v → p' v ≡ p v) → Suits p e wait → Suits p' e wait
+  pub suits_on : (p p' : Waiter → NameStatus) (e : OnReturn T) (wait : Option (WaitList × Waiter)) → ((v : Waiter) → subject e ≡ Some v → p' v ≡ p v) → Suits p e wait → Suits p' e wait
   suits_on p p' (on_return.Poll op) wait f h = (h.0, f (Op op) refl ∙ h.1, h.2)
   suits_on p p' (on_return.PollNext receiver) wait f h = (h.0, f (Stream receiver) refl ∙ h.1, h.2)
   suits_on p p' (on_return.Make op operation) wait f h = (f (Op op) refl ∙ h.0, h.1, h.2)
@@ -70,7 +70,7 @@ module _ {T : Type 0} where
   suits_on p p' x wait f h = h
 
   -- where an agent works, the name is busy
-  pub busy : (p : Waiter → NameStatus) (e : OnReturn T) (wait : Option (Line × Waiter)) (v : Waiter) → Suits p e wait → subject e ≡ Some v → IsBusy (p v)
+  pub busy : (p : Waiter → NameStatus) (e : OnReturn T) (wait : Option (WaitList × Waiter)) (v : Waiter) → Suits p e wait → subject e ≡ Some v → IsBusy (p v)
   busy p (on_return.Poll op) wait v h e = by (ap (λ (o : Option Waiter). elim o [ None ↦ v | Some w ↦ w ]) e)
     where
       by : Op op ≡ v → IsBusy (p v)
@@ -183,7 +183,7 @@ module _ {T : Type 0} where
       record { same = r.same; without = ap (λ (l : List (Agent T)). b ∷ l) r.without }
 
   -- the calls of others are of other parties
-  pub other_party : (p : Waiter → NameStatus) (a : Agent T) (agents : List (Agent T)) (us : List (ActiveCall T Waiter)) (q : ℕ) (h : Held) → Together p agents us → All (Differ a) agents → AnyOf (HasIt q h) us → q ≡ a.party → ⊥
+  pub other_party : (p : Waiter → NameStatus) (a : Agent T) (agents : List (Agent T)) (us : List (ActiveCall T Waiter)) (q : ℕ) (h : ListenerRef) → Together p agents us → All (Differ a) agents → AnyOf (HasIt q h) us → q ≡ a.party → ⊥
   other_party p a [] [] q h t d i e = i
   other_party p a (b ∷ more) (u ∷ us) q h t d (inl i) e = d.0.party (sym e ∙ (sym i.0 ∙ sym t.0.party))
   other_party p a (b ∷ more) (u ∷ us) q h t d (inr i) e = other_party p a more us q h t.1 d.1 i e

@@ -20,27 +20,27 @@ use Rattle.channel_calls.specs.declared.ask.ChannelAsk.{ChannelAsk}
 use Rattle.channel_calls.specs.declared.ask.ChannelAsk.TheVariants as ask
 use Rattle.channel_calls.specs.declared.reply.Reply.{Reply}
 use Rattle.channel_calls.specs.declared.reply.Reply.TheVariants as reply
-use Rattle.channel_calls.specs.declared.stage.Aim.{Aim}
-use Rattle.channel_calls.specs.declared.stage.Aim.TheVariants as aim
+use Rattle.channel_calls.specs.declared.stage.Purpose.{Purpose}
+use Rattle.channel_calls.specs.declared.stage.Purpose.TheVariants as aim
 use Rattle.channel_calls.specs.declared.stage.Closer.{Closer}
 use Rattle.channel_calls.specs.declared.stage.Closer.TheVariants as closer
 use Rattle.channel_calls.specs.declared.stage.Ending.{Ending}
-use Rattle.channel_calls.specs.declared.stage.Held.{Held}
-use Rattle.channel_calls.specs.declared.stage.Line.{Line}
-use Rattle.channel_calls.specs.declared.stage.Line.TheVariants.{Sends, Receives, Streams, Closings}
+use Rattle.channel_calls.specs.declared.stage.ListenerRef.{ListenerRef}
+use Rattle.channel_calls.specs.declared.stage.WaitList.{WaitList}
+use Rattle.channel_calls.specs.declared.stage.WaitList.TheVariants.{Sends, Receives, Streams, Closings}
 use Rattle.channel_calls.specs.declared.stage.Making.{Making}
 use Rattle.channel_calls.specs.declared.stage.Making.TheVariants as making
 use Rattle.channel_calls.specs.declared.stage.Side.{Side}
 use Rattle.channel_calls.specs.Marks.{is_made}
 use Rattle.channel_calls.specs.declared.stage.Stage as stage
 use Rattle.channel_calls.specs.declared.stage.Stage.TheVariants.{Trying, Working}
-use Rattle.channel_calls.specs.declared.stage.Turn.{Turn}
-use Rattle.channel_calls.specs.declared.stage.Turn.TheVariants.{Tries, Works, Ends}
+use Rattle.channel_calls.specs.declared.stage.NextStep.{NextStep}
+use Rattle.channel_calls.specs.declared.stage.NextStep.TheVariants.{Tries, Works, Ends}
 use Rattle.channel_calls.specs.declared.stage.Waiting.{Waiting}
 use Rattle.channel_calls.specs.declared.stage.Waiting.TheVariants as waiting
-use Rattle.channel_calls.specs.declared.stage.Work.{Work}
-use Rattle.channel_calls.specs.declared.stage.Work.TheVariants.{Leave}
-use Rattle.channel_calls.specs.declared.stage.Work.TheVariants as work
+use Rattle.channel_calls.specs.declared.stage.ListStep.{ListStep}
+use Rattle.channel_calls.specs.declared.stage.ListStep.TheVariants.{Leave}
+use Rattle.channel_calls.specs.declared.stage.ListStep.TheVariants as work
 use Rattle.channel_steps.specs.Known.{TriesFor}
 use Rattle.channel_world_runs.specs.Counted.{same_side, is_lowering, is_raising}
 use Rattle.channel_world_runs.specs.Owners.{closer_holds, aim_holds, aim_task, work_holds, work_task}
@@ -88,31 +88,31 @@ module _ {T : Type 0} where
 
 module _ (T W : Type 0) where
   -- after this turn the call has this listener in hand, for this task; where it ends, it has none
-  abbrev pub Has : Option Held → Option W → Turn T W → Type 0
+  abbrev pub Has : Option ListenerRef → Option W → NextStep T W → Type 0
   Has h task (Tries x a) = (aim_holds a ≡ h) × MayBear (aim_task a) task
   Has h task (Works w) = (work_holds w ≡ h) × MayBear (work_task w) task
   Has h task (Ends x kept) = (h ≡ None) × (kept.key ≡ None)
 
-  abbrev works_at : Work T W → stage.Stage (Phase T) T W
+  abbrev works_at : ListStep T W → stage.Stage (Phase T) T W
   works_at w = Working w
 
-  abbrev tries_at : QueueAsk T → Aim T W → stage.Stage (Phase T) T W
+  abbrev tries_at : QueueAsk T → Purpose T W → stage.Stage (Phase T) T W
   tries_at x a = Trying (asked x) a
 
   -- it is to lower no count, and may raise the count of this side if it might before; where it ends it makes no handle of this side
-  abbrev pub Stays : Side → Bool → Turn T W → Type 0
+  abbrev pub Stays : Side → Bool → NextStep T W → Type 0
   Stays side may (Tries x a) = is_raising side (tries_at x a) ≡ may
   Stays side may (Works w) = (is_lowering side (works_at w) ≡ false) × (is_raising side (works_at w) ≡ may)
   Stays side may (Ends y kept) = (may && is_made (Some y)) ≡ false
 
   -- both; it may raise the count of these sides
-  abbrev pub Goes : Option Held → Option W → (Side → Bool) → Turn T W → Type 0
+  abbrev pub Goes : Option ListenerRef → Option W → (Side → Bool) → NextStep T W → Type 0
   Goes h task may t = Has h task t × ((side : Side) → Stays side (may side) t)
 
   abbrev never : Side → Bool
   never side = false
 
-  ends_or : (e : Ending T) (o : Option Held) (task : Option W) → e.held ≡ o → Goes o task never (elim o [ None ↦ Ends e.reply (leaving None e.message) | Some held ↦ Works (Leave e) ])
+  ends_or : (e : Ending T) (o : Option ListenerRef) (task : Option W) → e.held ≡ o → Goes o task never (elim o [ None ↦ Ends e.reply (leaving None e.message) | Some held ↦ Works (Leave e) ])
   ends_or e None task same = ((refl, refl), λ side. refl)
   ends_or e (Some h) task same = ((same, inl refl), λ side. (refl, refl))
 
@@ -123,7 +123,7 @@ module _ (T W : Type 0) where
   refused_has w None task = ((refl, inr refl), λ side. (refl, refl))
   refused_has w (Some key) task = ((refl, inr refl), λ side. (refl, refl))
 
-  over_has : (x : Reply T) (m : Option T) (line : Line) (key : Option Key) (task : Option W) → Goes (held_on line key) task never (ends_by (over x m line key))
+  over_has : (x : Reply T) (m : Option T) (line : WaitList) (key : Option Key) (task : Option W) → Goes (held_on line key) task never (ends_by (over x m line key))
   over_has x m line None task = ((refl, refl), λ side. refl)
   over_has x m line (Some key) task = ((refl, inl refl), λ side. (refl, refl))
 
@@ -131,7 +131,7 @@ module _ (T W : Type 0) where
   closer_has (closer.Receiver (Some key)) b task = ((refl, inl refl), λ side. (refl, refl))
   closer_has c b task = ((refl, refl), λ side. refl)
 
-  pub told_all_has : (line : Line) (c : Closer) (task : Option W) → Goes (closer_holds c) task never (told_all_next line c)
+  pub told_all_has : (line : WaitList) (c : Closer) (task : Option W) → Goes (closer_holds c) task never (told_all_next line c)
   told_all_has Closings c task = closer_has c true task
   told_all_has line c task = ((refl, inl refl), λ side. (refl, refl))
 
@@ -238,7 +238,7 @@ module _ (T W : Type 0) where
   several_has x g = ((refl, refl), λ side. refl)
 
   -- a call of the channel goes on with what it has in hand
-  pub answered_has : (f : Phase T) (q : Queue T) (x : ChannelAsk T W) (y : Aim T W) (a : QueueAsk T) (m : QueueMark) (r : QueueReply T) (s : Stage T) (ds : _) (seen : _)
+  pub answered_has : (f : Phase T) (q : Queue T) (x : ChannelAsk T W) (y : Purpose T W) (a : QueueAsk T) (m : QueueMark) (r : QueueReply T) (s : Stage T) (ds : _) (seen : _)
       → TriesFor x y a ds seen → AnswersTo q a m r s → Goes (aim_holds y) (aim_task y) (λ side. is_raising side (Trying f y)) (answered_next y r)
   answered_has f q x aim.TrySend a m r s ds seen t h = sent_has r
   answered_has f q x aim.ForceSend a m r s ds seen t h = forced_has r

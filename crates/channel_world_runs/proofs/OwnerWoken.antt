@@ -6,9 +6,9 @@ use Rattle.channel_calls.specs.Moves.{Channel}
 use Rattle.channel_calls.specs.Parts.{listeners}
 use Rattle.channel_calls.specs.declared.mark.Mark.{Mark}
 use Rattle.channel_calls.specs.declared.reply.Reply.{Reply}
-use Rattle.channel_calls.specs.declared.stage.Held.{Held}
-use Rattle.channel_calls.specs.declared.stage.Kept.{Kept}
-use Rattle.channel_calls.specs.declared.stage.Line.{Line}
+use Rattle.channel_calls.specs.declared.stage.ListenerRef.{ListenerRef}
+use Rattle.channel_calls.specs.declared.stage.Returned.{Returned}
+use Rattle.channel_calls.specs.declared.stage.WaitList.{WaitList}
 use Rattle.channel_world_model.specs.declared.name.Waiter.{Waiter}
 use Rattle.channel_world_model.specs.declared.name.Waiter.TheVariants.{Op, Stream}
 use Rattle.channel_steps.specs.Configuration.{ActiveCall, Configuration, Steps, AllKnown, sees, does}
@@ -36,7 +36,7 @@ use Rattle.channel_world_runs.proofs.OwnerWokenMoves.{Follows, follows}
 
 -- ---- names
 
-abbrev on : Line → Key → Held
+abbrev on : WaitList → Key → ListenerRef
 on line key = record { line = line; key = key }
 
 pub away_busy : (p : NameStatus) → IsAway p → IsBusy p
@@ -56,7 +56,7 @@ among_or v (w ∷ ws) = by (waiter_or w v) (among_or v ws)
     by (inr f) (inl i) = inl (inr i)
     by (inr f) (inr g) = inr (neither f g)
 
-woken_or : (h k : Held) → waits h true ≡ waits k false → ⊥
+woken_or : (h k : ListenerRef) → waits h true ≡ waits k false → ⊥
 woken_or h k e = absurd (let never : true ≡ false = ap
     (λ (p : NameStatus). elim p [
       | waits z d ↦ d
@@ -73,7 +73,7 @@ module _ {T : Type 0} where
   unnamed (w ∷ ws) r v f = unnamed ws (with_one_woken w r) v (λ i. f (inr i)) ∙ (one_woken w r).others v (λ e. f (inl (sym e)))
 
   -- one that is woken then was woken before, or is named
-  told_or_named : (ws : List Waiter) (r : NameTable T) (v : Waiter) (h : Held) → status (all_woken ws r) v ≡ waits h true
+  told_or_named : (ws : List Waiter) (r : NameTable T) (v : Waiter) (h : ListenerRef) → status (all_woken ws r) v ≡ waits h true
       → (status r v ≡ waits h true) ⊎ ((c : Bool) × (status r v ≡ waits h c) × IsAmong v ws)
   told_or_named ws r v h e = by (among_or v ws)
     where
@@ -91,36 +91,36 @@ module _ {T : Type 0} where
   works_busy p (x ∷ more) (u ∷ us) a v t (inr i) e = works_busy p more us a v t.1 i e
 
   -- whoever is pending, and for whose name a listener waits, is pending with that one
-  pub own_held : (b : NameState T) (s : Configuration T Waiter) → Owned b s → (v : Waiter) (h k : Held) (c : Bool)
+  pub own_held : (b : NameState T) (s : Configuration T Waiter) → Owned b s → (v : Waiter) (h k : ListenerRef) (c : Bool)
       → IsOwn b s.under_way v h → status b.name_table v ≡ waits k c → h ≡ k
   own_held b s o v h k c (inl x) e = waits_is h k x.0 c (sym x.1 ∙ e)
   own_held b s o v h k c (inr (inl x)) e =
       absurd (busy_waits (status b.name_table v) k c (works_busy (status b.name_table) b.agents s.under_way x.0 v o.together x.1 x.2) e)
   own_held b s o v h k c (inr (inr x)) e = absurd (busy_waits (status b.name_table v) k c (away_busy (status b.name_table v) x.0) e)
 
-  suits_name : (p : Waiter → NameStatus) (e : OnReturn T) (line : Line) (v : Waiter) (wait : Option (Line × Waiter)) → Suits p e wait
+  suits_name : (p : Waiter → NameStatus) (e : OnReturn T) (line : WaitList) (v : Waiter) (wait : Option (WaitList × Waiter)) → Suits p e wait
       → wait ≡ Some (line, v) → subject e ≡ Some v
   suits_name p (on_return.Poll op) line v wait s w = by s.2
     where
       by : (wait ≡ None) ⊎ (wait ≡ Some (s.0, Op op)) → Some (Op op) ≡ Some v
       by (inl none) = absurd (let no : None ≡ Some (line, v) = sym none ∙ w in cc)
-      by (inr some) = ap (λ (o : Option (Line × Waiter)). elim o [ None ↦ Some v | Some x ↦ Some x.1 ]) (sym some ∙ w)
+      by (inr some) = ap (λ (o : Option (WaitList × Waiter)). elim o [ None ↦ Some v | Some x ↦ Some x.1 ]) (sym some ∙ w)
   suits_name p (on_return.PollNext receiver) line v wait s w = by s.2
     where
       by : (wait ≡ None) ⊎ (wait ≡ Some (s.0, Stream receiver)) → Some (Stream receiver) ≡ Some v
       by (inl none) = absurd (let no : None ≡ Some (line, v) = sym none ∙ w in cc)
-      by (inr some) = ap (λ (o : Option (Line × Waiter)). elim o [ None ↦ Some v | Some x ↦ Some x.1 ]) (sym some ∙ w)
+      by (inr some) = ap (λ (o : Option (WaitList × Waiter)). elim o [ None ↦ Some v | Some x ↦ Some x.1 ]) (sym some ∙ w)
   suits_name p (on_return.Make op operation) line v wait s w = absurd (let no : None ≡ Some (line, v) = sym s.2 ∙ w in cc)
   suits_name p (on_return.New from new kind) line v wait s w = absurd (let no : None ≡ Some (line, v) = sym s.1 ∙ w in cc)
   suits_name p z line v wait s w = absurd (let no : None ≡ Some (line, v) = sym s ∙ w in cc)
 
-  listed_of : (h : Held) (w : Waiter) (c : Channel T Waiter) → WaitsToWake h w c → IsListed h c
+  listed_of : (h : ListenerRef) (w : Waiter) (c : Channel T Waiter) → WaitsToWake h w c → IsListed h c
   listed_of h w c i = among_right h.key (keys_of (listeners h.line c.roster).told)
       (keys_of (listeners h.line c.roster).waiting) (key_of_entry (h.key, Some w) (listeners h.line c.roster).waiting i)
 
   -- ---- a call makes a step
 
-  module _ (b : NameState T) (s t : Configuration T Waiter) (p : ℕ) (m : Mark) (r : Option (Reply T)) (kp : Option (Kept T))
+  module _ (b : NameState T) (s t : Configuration T Waiter) (p : ℕ) (m : Mark) (r : Option (Reply T)) (kp : Option (Returned T))
       (names : List Waiter) (o : Owned b s) (known : AllKnown s.now s.under_way)
       (st : Steps s p (record { mark = m; reply = r; kept = kp }) names t) (w : WokenSound b s) where
     follow : Follows s.now t.now names (holding st.mine.at) (task_at st.mine.at)
@@ -134,7 +134,7 @@ module _ {T : Type 0} where
     turn = out b s t p m r kp names o known st
 
     -- whoever is woken then is told
-    mid_told : (v : Waiter) (h : Held) → status (all_woken names b.name_table) v ≡ waits h true → IsTold h t.now
+    mid_told : (v : Waiter) (h : ListenerRef) → status (all_woken names b.name_table) v ≡ waits h true → IsTold h t.now
     mid_told v h e = by (told_or_named names b.name_table v h e)
       where
         by : (status b.name_table v ≡ waits h true) ⊎ ((c : Bool) × (status b.name_table v ≡ waits h c) × IsAmong v names) → IsTold h t.now
@@ -142,10 +142,10 @@ module _ {T : Type 0} where
             (o.alone (named v) (calling p) h (true, was) (was_mine b s t p m r kp names o known st h had))) (w.told v h was)
         by (inr was) =
             let heard = follow.woken v was.2 in
-            subst (λ (x : Held). IsTold x t.now) (own_held b s o v heard.0 h was.0 (w.tasks v heard.0 heard.1) was.1) heard.2
+            subst (λ (x : ListenerRef). IsTold x t.now) (own_held b s o v heard.0 h was.0 (w.tasks v heard.0 heard.1) was.1) heard.2
 
     -- a listener that is in hand and stays
-    still_has : (h : Held) → holding st.mine.at ≡ Some h → IsListed h t.now → turn.has ≡ Some h
+    still_has : (h : ListenerRef) → holding st.mine.at ≡ Some h → IsListed h t.now → turn.has ≡ Some h
     still_has h had i = by ((turn.lists h.line).come (o.once h.line) h.key i) turn.how
       where
         by : (IsListed h s.now × (IsGone (holding st.mine.at) turn.has (Some h) → ⊥)) ⊎
@@ -171,7 +171,7 @@ module _ {T : Type 0} where
     his_party = mine_parts.own.party ∙ st.whose
 
   -- it goes on
-  module _ (b : NameState T) (s t : Configuration T Waiter) (p : ℕ) (m : Mark) (kp : Option (Kept T)) (names : List Waiter) (o : Owned b s)
+  module _ (b : NameState T) (s t : Configuration T Waiter) (p : ℕ) (m : Mark) (kp : Option (Returned T)) (names : List Waiter) (o : Owned b s)
       (known : AllKnown s.now s.under_way)
       (st : Steps s p (record { mark = m; reply = None; kept = kp }) names t) (w : WokenSound b s) where
     abbrev mine_now : ActiveCall T Waiter
@@ -184,12 +184,12 @@ module _ {T : Type 0} where
         st.at_now
     going = out b s t p m None kp names o known st
 
-    has_it : (q : ℕ) (h : Held) → q ≡ p → holding st.mine.at ≡ Some h → IsListed h t.now → AnyOf (HasIt q h) After
+    has_it : (q : ℕ) (h : ListenerRef) → q ≡ p → holding st.mine.at ≡ Some h → IsListed h t.now → AnyOf (HasIt q h) After
     has_it q h e had i =
         now_after t.now q h st.before (mine_now ∷ []) st.behind
         (inl (st.whose ∙ sym e, going.next.0 ∙ still_has b s t p m None kp names o known st w h had i))
 
-    goes_tasks : (v : Waiter) (h : Held) → WaitsToWake h v t.now → IsOwn (with_woken names b) After v h
+    goes_tasks : (v : Waiter) (h : ListenerRef) → WaitsToWake h v t.now → IsOwn (with_woken names b) After v h
     goes_tasks v h i = by ((follow b s t p m None kp names o known st w).tasks h v i)
       where
         moved : (a : Agent T)
@@ -227,7 +227,7 @@ module _ {T : Type 0} where
         }
 
   -- it ends
-  module _ (b : NameState T) (s t : Configuration T Waiter) (p : ℕ) (m : Mark) (y : Reply T) (kp : Option (Kept T)) (names : List Waiter)
+  module _ (b : NameState T) (s t : Configuration T Waiter) (p : ℕ) (m : Mark) (y : Reply T) (kp : Option (Returned T)) (names : List Waiter)
       (o : Owned b s) (known : AllKnown s.now s.under_way)
       (st : Steps s p (record { mark = m; reply = Some y; kept = kp }) names t) (w : WokenSound b s) where
     abbrev E1 : Waiter → NameStatus
@@ -240,7 +240,7 @@ module _ {T : Type 0} where
         (Some y) st.at_now
     ending = out b s t p m (Some y) kp names o known st
 
-    abbrev kept : Kept T
+    abbrev kept : Returned T
     kept = let f = st.finishes in f.kept
 
     abbrev E2 : Waiter → NameStatus
@@ -260,7 +260,7 @@ module _ {T : Type 0} where
     others_stand v other = (set b s t p m y kp names o known st).others v other
 
     -- it leaves this listener to its name
-    own_now : (v : Waiter) (h : Held) → ending.has ≡ Some h → subject pt.agent.on_return ≡ Some v → E2 v ≡ waits h false
+    own_now : (v : Waiter) (h : ListenerRef) → ending.has ≡ Some h → subject pt.agent.on_return ≡ Some v → E2 v ≡ waits h false
     own_now v h has whose = by (leaves b s t p m y kp names o known st) (set b s t p m y kp names o known st).own
       where
         by : LeavesIt T Waiter st.mine.ask kept ending.has t.now → Comes E2 pt.agent.on_return kept (wait_of st.mine.ask)
@@ -269,14 +269,14 @@ module _ {T : Type 0} where
         by (inr (line, key, task, hs, k, wt, there)) (inl c) = absurd (let no : None ≡ Some key = sym c.0 ∙ k in cc)
         by (inr (line, key, task, hs, k, wt, there)) (inr (line', key', task', k', wt', whose', is)) =
             let keys_same : key' ≡ key = inner key' key (sym k' ∙ k) in
-            let pairs : (let x : Line × Waiter = (line', task') in x) ≡ (line, task) = inner _ _ (sym wt' ∙ wt) in
-            let lines : line' ≡ line = ap (λ (x : Line × Waiter). x.0) pairs in
+            let pairs : (let x : WaitList × Waiter = (line', task') in x) ≡ (line, task) = inner _ _ (sym wt' ∙ wt) in
+            let lines : line' ≡ line = ap (λ (x : WaitList × Waiter). x.0) pairs in
             let names_same : v ≡ task' = inner v task' (sym whose ∙ whose') in
-            let held_same : on line' key' ≡ h = ap (λ (x : Line). on x key') lines ∙
+            let held_same : on line' key' ≡ h = ap (λ (x : WaitList). on x key') lines ∙
             (ap (λ (x : Key). on line x) keys_same ∙ inner (on line key) h (sym hs ∙ has)) in
-            ap E2 names_same ∙ (is ∙ ap (λ (x : Held). waits x false) held_same)
+            ap E2 names_same ∙ (is ∙ ap (λ (x : ListenerRef). waits x false) held_same)
 
-    ended_told : (v : Waiter) (h : Held) → E2 v ≡ waits h true → IsTold h t.now
+    ended_told : (v : Waiter) (h : ListenerRef) → E2 v ≡ waits h true → IsTold h t.now
     ended_told v h e = by (subject_or (subject pt.agent.on_return) v)
       where
         own : subject pt.agent.on_return ≡ Some v → Comes E2 pt.agent.on_return kept (wait_of st.mine.ask) → IsTold h t.now
@@ -288,7 +288,7 @@ module _ {T : Type 0} where
         by (inl whose) = own whose (set b s t p m y kp names o known st).own
         by (inr other) = mid_told b s t p m (Some y) kp names o known st w v h (sym (others_stand v other) ∙ e)
 
-    ended_tasks : (v : Waiter) (h : Held) → WaitsToWake h v t.now → IsOwn end_name_state Left v h
+    ended_tasks : (v : Waiter) (h : ListenerRef) → WaitsToWake h v t.now → IsOwn end_name_state Left v h
     ended_tasks v h i = by ((follow b s t p m (Some y) kp names o known st w).tasks h v i)
       where
         mine : holding st.mine.at ≡ Some h → subject pt.agent.on_return ≡ Some v → IsOwn end_name_state Left v h
@@ -376,7 +376,7 @@ module _ {T : Type 0} where
   -- ---- any step
 
   pub stepped_woken : (b c : NameState T) (s t : Configuration T Waiter) (q : PartyId) (m : Mark) (r : Option (Reply T))
-      (kp : Option (Kept T)) (names : List Waiter) → Owned b s → AllKnown s.now s.under_way
+      (kp : Option (Returned T)) (names : List Waiter) → Owned b s → AllKnown s.now s.under_way
       → Steps s q.0 (record { mark = m; reply = r; kept = kp }) names t → IsAfter b q r kp names c → WokenSound b s →
       WokenSound c t
   stepped_woken b c s t q m None kp names o known st after w =

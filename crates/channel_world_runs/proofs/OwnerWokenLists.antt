@@ -4,8 +4,8 @@ use Rattle.std.specs.Map.{remove_entry, set_value, keys_of}
 use Rattle.event_listener.specs.Lists.{Notice, same_key, tasks_of, told_as, waits_as, told_with, without, with_task, moved, passed, passed_wakes, listened, registration, removed, removed_wakes}
 use Rattle.event_listener.specs.declared.key.Key.{Key}
 use Rattle.channel_calls.specs.Parts.{Listeners, told_one, told_one_wakes, told_more, told_more_wakes, told_all, told_all_wakes}
-use Rattle.channel_calls.specs.declared.stage.Held.{Held}
-use Rattle.channel_calls.specs.declared.stage.Line.{Line}
+use Rattle.channel_calls.specs.declared.stage.ListenerRef.{ListenerRef}
+use Rattle.channel_calls.specs.declared.stage.WaitList.{WaitList}
 use Rattle.channel_world_runs.specs.Owners.{IsAmong}
 use Rattle.channel_world_runs.proofs.OwnerKeys.{on, few, one_tag, units, same_many, at_most_one, removed_as, removed_names}
 use Rattle.channel_world_runs.proofs.OwnerLists.{same_is, key_stays, among_of}
@@ -86,13 +86,13 @@ module _ {W : Type 0} where
   -- One list after a step that wakes these, with this listener in hand, that may be to wake this task: those who were told are
   -- told still, but for the one in hand; a listener that waits waited for the same, or is the one in hand, and waits for its
   -- task; whoever is woken waited, and is told.
-  pub record Tells (line : Line) (l l' : Listeners W) (names : List W) (had : Option Held) (task : Option W) : Type 0 where
+  pub record Tells (line : WaitList) (l l' : Listeners W) (names : List W) (had : Option ListenerRef) (task : Option W) : Type 0 where
     pub told : (key : Key) → (had ≡ on line key → ⊥) → IsAmong key (keys_of l.told) → IsAmong key (keys_of l'.told)
     pub tasks : (key : Key) (w : W) → IsAmong (key, Some w) l'.waiting
         → IsAmong (key, Some w) l.waiting ⊎ ((had ≡ on line key) × (task ≡ Some w))
     pub woken : (w : W) → IsAmong w names → (key : Key) × IsAmong (key, Some w) l.waiting × IsAmong key (keys_of l'.told)
 
-  pub same_list : (line : Line) (l : Listeners W) (had : Option Held) (task : Option W) → Tells line l l [] had task
+  pub same_list : (line : WaitList) (l : Listeners W) (had : Option ListenerRef) (task : Option W) → Tells line l l [] had task
   same_list line l had task = record { told = λ key other h. h; tasks = λ key w h. inl h; woken = λ w h. absurd h }
 
   abbrev tags : Notice Unit → Listeners W → List (Unit {0})
@@ -107,7 +107,7 @@ module _ {W : Type 0} where
   abbrev all_new : Listeners W → List (Key × Notice Unit)
   all_new l = told_with false l.waiting (all_tags l)
 
-  module _ (line : Line) (had : Option Held) (task : Option W) where
+  module _ (line : WaitList) (had : Option ListenerRef) (task : Option W) where
     pub passes : (n : Notice Unit) (l : Listeners W) → Tells line l (passed n l) (passed_wakes n l) had task
     passes n l = record {
       told = λ key other h. keys_left key l.told (new n l) h;
@@ -179,7 +179,7 @@ module _ {W : Type 0} where
             )
 
   -- the listener in hand leaves
-  goes : (line : Line) (key : Key) (l : Listeners W) (task : Option W) → Tells line l (without key l) [] (on line key) task
+  goes : (line : WaitList) (key : Key) (l : Listeners W) (task : Option W) → Tells line l (without key l) [] (on line key) task
   goes line key l task =
       record {
         told = λ k other h. key_stays key k l.told (λ same. other (ap (λ (x : Key). on line x) (sym same))) h;
@@ -188,7 +188,7 @@ module _ {W : Type 0} where
       }
 
   -- one after the other
-  both : (line : Line) (l l' l'' : Listeners W) (names : List W) (had : Option Held) → Tells line l l' [] had None
+  both : (line : WaitList) (l l' l'' : Listeners W) (names : List W) (had : Option ListenerRef) → Tells line l l' [] had None
       → Tells line l' l'' names had None → Tells line l l'' names had None
   both line l l' l'' names had f g = record {
     told = λ key other h. g.told key other (f.told key other h);
@@ -215,19 +215,19 @@ module _ {W : Type 0} where
           → (key : Key) × IsAmong (key, Some w) l.waiting × IsAmong key (keys_of l''.told)
       woken w h = (h.0, back h.0 w (f.tasks h.0 w h.1), h.2)
 
-  removing : (line : Line) (key : Key) (l : Listeners W) (o : Option (Notice Unit)) (b : Bool)
+  removing : (line : WaitList) (key : Key) (l : Listeners W) (o : Option (Notice Unit)) (b : Bool)
       → Tells line l (removed_as o b key l) (removed_names o key l) (on line key) None
   removing line key l (Some n) b = both line l (without key l) (passed n (without key l)) (passed_wakes n (without key l))
       (on line key) (goes line key l None) (passes line (on line key) None n (without key l))
   removing line key l None true = goes line key l None
   removing line key l None false = same_list line l (on line key) None
 
-  pub leaves_list : (line : Line) (key : Key) (l : Listeners W)
+  pub leaves_list : (line : WaitList) (key : Key) (l : Listeners W)
       → Tells line l (removed key true l) (removed_wakes key true l) (on line key) None
   leaves_list line key l = removing line key l (told_as l key) (is_some (waits_as l key))
 
   -- one comes in, and waits for nobody yet
-  pub comes_in : (line : Line) (key : Key) (l : Listeners W) (task : Option W) → Tells line l (listened key l) [] None task
+  pub comes_in : (line : WaitList) (key : Key) (l : Listeners W) (task : Option W) → Tells line l (listened key l) [] None task
   comes_in line key l task = record {
     told = λ k other h. h;
     tasks = λ k w h. by k w
@@ -236,12 +236,12 @@ module _ {W : Type 0} where
   }
     where
       by : (k : Key) (w : W) → IsAmong (k, Some w) l.waiting ⊎ IsAmong {A = Key × Option W} (k, Some w) ((key, None) ∷ []) →
-          IsAmong (k, Some w) l.waiting ⊎ ((let none : Option Held = None in none ≡ on line k) × (task ≡ Some w))
+          IsAmong (k, Some w) l.waiting ⊎ ((let none : Option ListenerRef = None in none ≡ on line k) × (task ≡ Some w))
       by k w (inl h) = inl h
       by k w (inr (inl h)) = absurd (let no : None ≡ Some w = ap (λ (x : Key × Option W). x.1) h in cc)
       by k w (inr (inr h)) = absurd h
 
-  registering : (line : Line) (key : Key) (task : W) (l : Listeners W) (a b : Bool)
+  registering : (line : WaitList) (key : Key) (task : W) (l : Listeners W) (a b : Bool)
       → Tells line l (if a then without key l else (if b then with_task key task l else l)) [] (on line key) (Some task)
   registering line key task l true b = goes line key l (Some task)
   registering line key task l false true = record {
@@ -257,6 +257,6 @@ module _ {W : Type 0} where
       by k w (inr h) = inr (ap (λ (x : Key). on line x) h.0, h.1)
   registering line key task l false false = same_list line l (on line key) (Some task)
 
-  pub registers_on : (line : Line) (key : Key) (task : W) (l : Listeners W)
+  pub registers_on : (line : WaitList) (key : Key) (task : W) (l : Listeners W)
       → Tells line l (registration key task l) [] (on line key) (Some task)
   registers_on line key task l = registering line key task l (is_some (told_as l key)) (is_some (waits_as l key))

@@ -6,20 +6,20 @@ use Rattle.event_listener.specs.Lists.{listened, registration, removed, removed_
 use Rattle.event_listener.specs.declared.key.Key.{Key}
 use Rattle.channel_calls.specs.Marks.{up, down}
 use Rattle.channel_calls.specs.Moves.{Channel, Effect, queued, untouched, on_line, on_count, leaves, Inserts, Worked, Moves}
-use Rattle.channel_calls.specs.Parts.{Roster, Listeners, listeners, with_listeners, count, is_raised, told_one, told_one_wakes, told_more, told_more_wakes, told_all, told_all_wakes}
+use Rattle.channel_calls.specs.Parts.{WaitLists, Listeners, listeners, with_listeners, count, is_raised, told_one, told_one_wakes, told_more, told_more_wakes, told_all, told_all_wakes}
 use Rattle.channel_calls.specs.Turns.{line_of}
 use Rattle.channel_calls.specs.declared.mark.Mark.{Mark}
 use Rattle.channel_calls.specs.declared.reply.Reply.{Reply}
-use Rattle.channel_calls.specs.declared.stage.Held.{Held}
-use Rattle.channel_calls.specs.declared.stage.Line.{Line}
-use Rattle.channel_calls.specs.declared.stage.Line.TheVariants.{Sends, Receives, Streams, Closings}
+use Rattle.channel_calls.specs.declared.stage.ListenerRef.{ListenerRef}
+use Rattle.channel_calls.specs.declared.stage.WaitList.{WaitList}
+use Rattle.channel_calls.specs.declared.stage.WaitList.TheVariants.{Sends, Receives, Streams, Closings}
 use Rattle.channel_calls.specs.declared.stage.Side.{Side}
 use Rattle.channel_calls.specs.declared.stage.Side.TheVariants.{Senders, Receivers}
 use Rattle.channel_calls.specs.declared.stage.Stage.{Stage}
 use Rattle.channel_calls.specs.declared.stage.Stage.TheVariants.{Trying, Working, Finished}
 use Rattle.channel_calls.specs.declared.stage.Waiting.{Waiting}
-use Rattle.channel_calls.specs.declared.stage.Work.{Work}
-use Rattle.channel_calls.specs.declared.stage.Work.TheVariants.{TellReceive, TellStreams, TellSend, TellSends, TellAll, Insert, Register, Leave, Lower, Raise}
+use Rattle.channel_calls.specs.declared.stage.ListStep.{ListStep}
+use Rattle.channel_calls.specs.declared.stage.ListStep.TheVariants.{TellReceive, TellStreams, TellSend, TellSends, TellAll, Insert, Register, Leave, Lower, Raise}
 use Rattle.channel_world_runs.specs.Owners.{IsAmong, holding, task_at, WaitsToWake}
 use Rattle.channel_world_runs.specs.OwnerWoken.{IsTold}
 use Rattle.channel_world_runs.proofs.OwnerKeys.{on}
@@ -28,7 +28,7 @@ use Rattle.channel_world_runs.proofs.OwnerOrderLists.{InTurn, none_told, one_pas
 use Rattle.channel_world_runs.proofs.OwnerWokenLists.{Tells, passes, more_pass, all_pass, leaves_list, comes_in, registers_on}
 
 module _ {W : Type 0} where
-  told_on : (line at : Line) (l : Listeners W) (names : List W) (r : Roster W) (had : Option Held) (task : Option W)
+  told_on : (line at : WaitList) (l : Listeners W) (names : List W) (r : WaitLists W) (had : Option ListenerRef) (task : Option W)
       → Tells at (listeners at r) l names had task
       → (key : Key) → (had ≡ on line key → ⊥) → IsAmong key (keys_of (listeners line r).told)
       → IsAmong key (keys_of (listeners line (with_listeners at l r)).told)
@@ -38,7 +38,7 @@ module _ {W : Type 0} where
   told_on Closings Closings l names r had task t key other i = t.told key other i
   told_on x at l names r had task t key other i = i
 
-  tasks_on : (line at : Line) (l : Listeners W) (names : List W) (r : Roster W) (had : Option Held) (task : Option W)
+  tasks_on : (line at : WaitList) (l : Listeners W) (names : List W) (r : WaitLists W) (had : Option ListenerRef) (task : Option W)
       → Tells at (listeners at r) l names had task
       → (key : Key) (w : W) → IsAmong (key, Some w) (listeners line (with_listeners at l r)).waiting
       → IsAmong (key, Some w) (listeners line r).waiting ⊎ ((had ≡ on line key) × (task ≡ Some w))
@@ -48,11 +48,11 @@ module _ {W : Type 0} where
   tasks_on Closings Closings l names r had task t key w i = t.tasks key w i
   tasks_on x at l names r had task t key w i = inl i
 
-  abbrev Hears : Roster W → Roster W → W → Type 0
+  abbrev Hears : WaitLists W → WaitLists W → W → Type 0
   Hears r r' w =
-      (h : Held) × IsAmong (h.key, Some w) (listeners h.line r).waiting × IsAmong h.key (keys_of (listeners h.line r').told)
+      (h : ListenerRef) × IsAmong (h.key, Some w) (listeners h.line r).waiting × IsAmong h.key (keys_of (listeners h.line r').told)
 
-  woken_on : (at : Line) (l : Listeners W) (names : List W) (r : Roster W) (had : Option Held) (task : Option W)
+  woken_on : (at : WaitList) (l : Listeners W) (names : List W) (r : WaitLists W) (had : Option ListenerRef) (task : Option W)
       → Tells at (listeners at r) l names had task
       → (w : W) → IsAmong w names → Hears r (with_listeners at l r) w
   woken_on Sends l names r had task t w i = let x = t.woken w i in (record { line = Sends; key = x.0 }, x.1, x.2)
@@ -62,22 +62,22 @@ module _ {W : Type 0} where
 
 module _ {T W : Type 0} where
   -- a step that wakes these, by a call with this listener in hand, tells on one list, in its order, and on no other
-  pub record TellsInTurn (c d : Channel T W) (names : List W) (had : Option Held) : Type 0 where
-    pub at : Line
+  pub record TellsInTurn (c d : Channel T W) (names : List W) (had : Option ListenerRef) : Type 0 where
+    pub at : WaitList
     pub here : InTurn at (listeners at c.roster) (listeners at d.roster) names had
-    pub others : (line : Line) → (line ≡ at → ⊥) → keys_of (listeners line d.roster).told ≡ keys_of (listeners line c.roster).told
+    pub others : (line : WaitList) → (line ≡ at → ⊥) → keys_of (listeners line d.roster).told ≡ keys_of (listeners line c.roster).told
 
   -- A channel after a step that wakes these, by a call with this listener in hand, which may be to wake this task: those who were
   -- told are told still, but for the one in hand; a listener that waits waited for the same, or is the one in hand, and waits for
   -- its task; whoever is woken waited, and is told.
-  pub record Follows (c d : Channel T W) (names : List W) (had : Option Held) (task : Option W) : Type 0 where
-    pub told : (h : Held) → (had ≡ Some h → ⊥) → IsTold h c → IsTold h d
-    pub tasks : (h : Held) (w : W) → WaitsToWake h w d → WaitsToWake h w c ⊎ ((had ≡ Some h) × (task ≡ Some w))
-    pub woken : (w : W) → IsAmong w names → (h : Held) × WaitsToWake h w c × IsTold h d
+  pub record Follows (c d : Channel T W) (names : List W) (had : Option ListenerRef) (task : Option W) : Type 0 where
+    pub told : (h : ListenerRef) → (had ≡ Some h → ⊥) → IsTold h c → IsTold h d
+    pub tasks : (h : ListenerRef) (w : W) → WaitsToWake h w d → WaitsToWake h w c ⊎ ((had ≡ Some h) × (task ≡ Some w))
+    pub woken : (w : W) → IsAmong w names → (h : ListenerRef) × WaitsToWake h w c × IsTold h d
     pub turns : TellsInTurn c d names had
 
-  as_before : (c d : Channel T W) (had : Option Held) (task : Option W)
-      → ((line : Line) → listeners line d.roster ≡ listeners line c.roster) → Follows c d [] had task
+  as_before : (c d : Channel T W) (had : Option ListenerRef) (task : Option W)
+      → ((line : WaitList) → listeners line d.roster ≡ listeners line c.roster) → Follows c d [] had task
   as_before c d had task f =
       record {
         told = λ h other i. subst (λ (l : Listeners W). IsAmong h.key (keys_of l.told)) (sym (f h.line)) i;
@@ -91,7 +91,7 @@ module _ {T W : Type 0} where
         };
       }
 
-  on_one : (at : Line) (l : Listeners W) (names : List W) (c : Channel T W) (had : Option Held) (task : Option W)
+  on_one : (at : WaitList) (l : Listeners W) (names : List W) (c : Channel T W) (had : Option ListenerRef) (task : Option W)
       → Tells at (listeners at c.roster) l names had task → InTurn at (listeners at c.roster) l names had
       → Follows c (on_line at l names c).channel names had task
   on_one at l names c had task t i =
@@ -107,38 +107,38 @@ module _ {T W : Type 0} where
       }
 
   module _ (c : Channel T W) where
-    abbrev After : Option Held → Option W → Effect T W → Type 0
+    abbrev After : Option ListenerRef → Option W → Effect T W → Type 0
     After had task e = Follows c e.channel e.woken had task
 
-    as_it : (had : Option Held) (task : Option W) (e e' : Effect T W) → e ≡ e' → After had task e' → After had task e
+    as_it : (had : Option ListenerRef) (task : Option W) (e e' : Effect T W) → e ≡ e' → After had task e' → After had task e
     as_it had task e e' same h = subst (λ (x : Effect T W). After had task x) (sym same) h
 
-    tells_one_more : (at : Line) (had : Option Held)
+    tells_one_more : (at : WaitList) (had : Option ListenerRef)
         → Follows c (on_line at (told_one (listeners at c.roster)) (told_one_wakes (listeners at c.roster)) c).channel
         (told_one_wakes (listeners at c.roster)) had None
     tells_one_more at had = on_one at (told_one (listeners at c.roster)) (told_one_wakes (listeners at c.roster)) c had None
         (passes at had None (record { additional = true; tag = tt }) (listeners at c.roster))
         (one_passed at (record { additional = true; tag = tt }) (listeners at c.roster) had)
 
-    tells_several : (at : Line) (n : ℕ) (had : Option Held)
+    tells_several : (at : WaitList) (n : ℕ) (had : Option ListenerRef)
         → Follows c (on_line at (told_more n (listeners at c.roster)) (told_more_wakes n (listeners at c.roster)) c).channel
         (told_more_wakes n (listeners at c.roster)) had None
     tells_several at n had = on_one at (told_more n (listeners at c.roster)) (told_more_wakes n (listeners at c.roster)) c had None
         (more_pass at had None n (listeners at c.roster)) (more_passed at n (listeners at c.roster) had)
 
-    tells_them_all : (at : Line) (had : Option Held)
+    tells_them_all : (at : WaitList) (had : Option ListenerRef)
         → Follows c (on_line at (told_all (listeners at c.roster)) (told_all_wakes (listeners at c.roster)) c).channel
         (told_all_wakes (listeners at c.roster)) had None
     tells_them_all at had = on_one at (told_all (listeners at c.roster)) (told_all_wakes (listeners at c.roster)) c had None
         (all_pass at had None (listeners at c.roster)) (all_passed at (listeners at c.roster) had)
 
-    left : (o : Option Held) → After o None (leaves o c)
+    left : (o : Option ListenerRef) → After o None (leaves o c)
     left None = as_before c c None None (λ line. refl)
     left (Some k) = on_one k.line (removed k.key true (listeners k.line c.roster))
         (removed_wakes k.key true (listeners k.line c.roster)) c (on k.line k.key) None
         (leaves_list k.line k.key (listeners k.line c.roster)) (one_left k.line k.key (listeners k.line c.roster))
 
-    counts : (side : Side) (n : ℕ) (m : Mark) (had : Option Held) → After had None (on_count side n m c)
+    counts : (side : Side) (n : ℕ) (m : Mark) (had : Option ListenerRef) → After had None (on_count side n m c)
     counts side n m had = as_before c (on_count side n m c).channel had None (λ line. counted_list line side n c.roster)
 
     raised : (b : Bool) (side : Side) (n : ℕ) → After None None (if b then on_count side (n + 1) (up side) c else untouched c)
@@ -154,7 +154,7 @@ module _ {T W : Type 0} where
     inserts w task e r s (inr (error, same, t)) =
         as_it None (Some task) e _ same (as_before c c None (Some task) (λ line. refl))
 
-    works : (w : Work T W) (e : Effect T W) (r : Option (Reply T)) (s : Stage (Phase T) T W) → Worked c w e r s → After
+    works : (w : ListStep T W) (e : Effect T W) (r : Option (Reply T)) (s : Stage (Phase T) T W) → Worked c w e r s → After
         (holding {T = T} {W = W} (Working w)) (task_at {T = T} {W = W} (Working w)) e
     works (TellReceive y) e r s h = as_it y.held None e _ h.0 (tells_one_more Receives y.held)
     works (TellStreams y) e r s h = as_it y.held None e _ h.0 (tells_them_all Streams y.held)

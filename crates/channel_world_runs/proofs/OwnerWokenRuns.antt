@@ -3,9 +3,9 @@ use Rattle.std.proofs.Common.{◌≡◌, ℕ, Bool, true, List, [], ◌∷◌, �
 use Rattle.event_listener.specs.declared.key.Key.{Key}
 use Rattle.channel_calls.specs.Moves.{Channel}
 use Rattle.channel_calls.specs.declared.ask.ChannelAsk.{ChannelAsk}
-use Rattle.channel_calls.specs.declared.stage.Held.{Held}
-use Rattle.channel_calls.specs.declared.stage.Line.{Line}
-use Rattle.channel_calls.specs.declared.stage.Line.TheVariants.{Sends}
+use Rattle.channel_calls.specs.declared.stage.ListenerRef.{ListenerRef}
+use Rattle.channel_calls.specs.declared.stage.WaitList.{WaitList}
+use Rattle.channel_calls.specs.declared.stage.WaitList.TheVariants.{Sends}
 use Rattle.channel_world_model.specs.declared.call.Call.{Call}
 use Rattle.channel_world_model.specs.declared.name.Waiter.{Waiter}
 use Rattle.channel_steps.specs.Run.{Begins, new_configuration, call_begun as begun_active_call}
@@ -36,7 +36,7 @@ busy_away (polled line) h = inr (line, refl)
 busy_away x h = absurd h
 
 module _ (T : Type 0) where
-  nobody_waits : (cap : Option ℕ) (line : Line) (key : Key) (v : Waiter) → WaitsToWake {T = T} {W = Waiter}
+  nobody_waits : (cap : Option ℕ) (line : WaitList) (key : Key) (v : Waiter) → WaitsToWake {T = T} {W = Waiter}
       (record { line = line; key = key }) v (new_configuration cap).now → ⊥
   nobody_waits cap Sends key v i = i
   nobody_waits cap x key v i = i
@@ -78,8 +78,8 @@ module _ {T : Type 0} where
     abbrev Idle : Waiter → Agent T → Type 0
     Idle v x = subject x.on_return ≡ Some v → ⊥
 
-    begun_woken : ((v : Waiter) (h : Held) (x : Bool) → P' v ≡ waits h x → P v ≡ waits h x)
-        → ((v : Waiter) (h : Held) → IsOwn b s.under_way v h → IsOwn (name_state_begun q c b) calls v h) → WokenSound (name_state_begun q c b) t
+    begun_woken : ((v : Waiter) (h : ListenerRef) (x : Bool) → P' v ≡ waits h x → P v ≡ waits h x)
+        → ((v : Waiter) (h : ListenerRef) → IsOwn b s.under_way v h → IsOwn (name_state_begun q c b) calls v h) → WokenSound (name_state_begun q c b) t
     begun_woken f g =
         record {
           told = λ v h i. subst (λ (d : Channel T Waiter). IsTold h d) (sym n.now) (w.told v h (f v h true i));
@@ -87,7 +87,7 @@ module _ {T : Type 0} where
               (g v h (w.tasks v h (subst (λ (d : Channel T Waiter). WaitsToWake h v d) n.now i)));
         }
 
-    more_work : (v : Waiter) (h : Held) → Works v h b.agents s.under_way → Works v h (b.agents ++ new_agent ∷ []) calls
+    more_work : (v : Waiter) (h : ListenerRef) → Works v h b.agents s.under_way → Works v h (b.agents ++ new_agent ∷ []) calls
     more_work v h (x, j, i, has) =
         (x, among_left x b.agents (new_agent ∷ []) j, i, any_left (HasIt x.party h) s.under_way (new_call ∷ []) has)
 
@@ -97,7 +97,7 @@ module _ {T : Type 0} where
     quietly : Quiet P P' (on_return_of b.name_table c) (asks b.name_table c) (order_begun c) → WokenSound (name_state_begun q c b) t
     quietly k = begun_woken (λ v h x i. sym (k.same v) ∙ i) still
       where
-        still : (v : Waiter) (h : Held) → IsOwn b s.under_way v h → IsOwn (name_state_begun q c b) calls v h
+        still : (v : Waiter) (h : ListenerRef) → IsOwn b s.under_way v h → IsOwn (name_state_begun q c b) calls v h
         still v h (inl x) = inl (x.0, k.same v ∙ x.1)
         still v h (inr (inl x)) = inr (inl (more_work v h x))
         still v h (inr (inr x)) =
@@ -110,11 +110,11 @@ module _ {T : Type 0} where
     touching : Touches P P' (on_return_of b.name_table c) (asks b.name_table c) (order_begun c) → WokenSound (name_state_begun q c b) t
     touching k = begun_woken (λ v h x i. sym (k.sets.others v (not_now v h x i)) ∙ i) still
       where
-        not_now : (v : Waiter) (h : Held) (x : Bool) → P' v ≡ waits h x → v ≡ k.name → ⊥
+        not_now : (v : Waiter) (h : ListenerRef) (x : Bool) → P' v ≡ waits h x → v ≡ k.name → ⊥
         not_now v h x i same = busy_waits (P' k.name) h x (subst IsBusy (sym k.sets.there) k.busy) (ap P' (sym same) ∙ i)
 
         -- the name that is touched was pending
-        taken : (v : Waiter) (h : Held) (x : Bool) → P v ≡ waits h x → v ≡ k.name
+        taken : (v : Waiter) (h : ListenerRef) (x : Bool) → P v ≡ waits h x → v ≡ k.name
             → (subject (on_return_of b.name_table c) ≡ None) ⊎ (subject (on_return_of b.name_table c) ≡ Some k.name)
             → IsOwn (name_state_begun q c b) calls v h
         taken v h x i same (inl none) =
@@ -132,7 +132,7 @@ module _ {T : Type 0} where
               any_right (HasIt q.0 h) s.under_way (new_call ∷ []) (inl (refl, holds)),
             ))
 
-        pending : (v : Waiter) (h : Held) (x : Bool) → P v ≡ waits h x → (v ≡ k.name) ⊎ (v ≡ k.name → ⊥)
+        pending : (v : Waiter) (h : ListenerRef) (x : Bool) → P v ≡ waits h x → (v ≡ k.name) ⊎ (v ≡ k.name → ⊥)
             → IsOwn (name_state_begun q c b) calls v h
         pending v h x i (inl same) = taken v h x i same k.whose
         pending v h x i (inr other) = inl (x, k.sets.others v other ∙ i)
@@ -142,7 +142,7 @@ module _ {T : Type 0} where
         idle_new v other (inl none) i = absurd (let no : None ≡ Some v = sym none ∙ i in cc)
         idle_new v other (inr some) i = other (inner v k.name (sym i ∙ some))
 
-        still : (v : Waiter) (h : Held) → IsOwn b s.under_way v h → IsOwn (name_state_begun q c b) calls v h
+        still : (v : Waiter) (h : ListenerRef) → IsOwn b s.under_way v h → IsOwn (name_state_begun q c b) calls v h
         still v h (inl x) = pending v h x.0 x.1 (waiter_or v k.name)
         still v h (inr (inl x)) = inr (inl (more_work v h x))
         still v h (inr (inr x)) =

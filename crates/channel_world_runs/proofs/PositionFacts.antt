@@ -25,25 +25,25 @@ use Rattle.channel_calls.specs.declared.ask.ChannelAsk.{ChannelAsk}
 use Rattle.channel_calls.specs.declared.ask.ChannelAsk.TheVariants as channel
 use Rattle.channel_calls.specs.declared.reply.Reply.{Reply}
 use Rattle.channel_calls.specs.declared.reply.Reply.TheVariants as reply
-use Rattle.channel_calls.specs.declared.stage.Aim.{Aim}
-use Rattle.channel_calls.specs.declared.stage.Aim.TheVariants as aim
+use Rattle.channel_calls.specs.declared.stage.Purpose.{Purpose}
+use Rattle.channel_calls.specs.declared.stage.Purpose.TheVariants as aim
 use Rattle.channel_calls.specs.declared.stage.Closer.{Closer}
 use Rattle.channel_calls.specs.declared.stage.Ending.{Ending}
-use Rattle.channel_calls.specs.declared.stage.Held.{Held}
-use Rattle.channel_calls.specs.declared.stage.Line.{Line}
-use Rattle.channel_calls.specs.declared.stage.Line.TheVariants.{Sends, Receives, Streams, Closings}
+use Rattle.channel_calls.specs.declared.stage.ListenerRef.{ListenerRef}
+use Rattle.channel_calls.specs.declared.stage.WaitList.{WaitList}
+use Rattle.channel_calls.specs.declared.stage.WaitList.TheVariants.{Sends, Receives, Streams, Closings}
 use Rattle.channel_calls.specs.declared.stage.Making.{Making}
 use Rattle.channel_calls.specs.declared.stage.Making.TheVariants as making
 use Rattle.channel_calls.specs.declared.stage.Side.{Side}
 use Rattle.channel_calls.specs.declared.stage.Side.TheVariants.{Senders, Receivers}
 use Rattle.channel_calls.specs.declared.stage.Stage.{Stage}
 use Rattle.channel_calls.specs.declared.stage.Stage.TheVariants.{Trying, Working, Finished}
-use Rattle.channel_calls.specs.declared.stage.Turn.{Turn}
-use Rattle.channel_calls.specs.declared.stage.Turn.TheVariants.{Tries, Works, Ends}
+use Rattle.channel_calls.specs.declared.stage.NextStep.{NextStep}
+use Rattle.channel_calls.specs.declared.stage.NextStep.TheVariants.{Tries, Works, Ends}
 use Rattle.channel_calls.specs.declared.stage.Waiting.{Waiting}
 use Rattle.channel_calls.specs.declared.stage.Waiting.TheVariants as waiting
-use Rattle.channel_calls.specs.declared.stage.Work.{Work}
-use Rattle.channel_calls.specs.declared.stage.Work.TheVariants.{TellReceive, TellStreams, TellSend, TellSends, TakeRoom, TellAll, Insert, Register, Leave, Lower, Count, Load, Raise}
+use Rattle.channel_calls.specs.declared.stage.ListStep.{ListStep}
+use Rattle.channel_calls.specs.declared.stage.ListStep.TheVariants.{TellReceive, TellStreams, TellSend, TellSends, TakeRoom, TellAll, Insert, Register, Leave, Lower, Count, Load, Raise}
 use Rattle.channel_steps.specs.Count.{brought_in}
 use Rattle.channel_steps.specs.Run.{Begins, call_begun}
 use Rattle.channel_steps.specs.Configuration.{ActiveCall, Configuration, Steps, sees, does, unless_ended, brought}
@@ -122,12 +122,12 @@ module _ {T : Type 0} where
 module _ {T W : Type 0} where
   -- ---- what comes next
 
-  abbrev yet_after : Turn T W → ℕ
+  abbrev yet_after : NextStep T W → ℕ
   yet_after (Tries a y) = yet_tried a (trying false)
   yet_after (Works w) = yet_worked w
   yet_after (Ends y kept) = 0
 
-  turned_yet : (turn : Turn T W) (r : Option (Reply T)) (s : Stage (Phase T) T W) → Turned turn r s → yet s ≡ yet_after turn
+  turned_yet : (turn : NextStep T W) (r : Option (Reply T)) (s : Stage (Phase T) T W) → Turned turn r s → yet s ≡ yet_after turn
   turned_yet (Tries a y) r s h = ap (λ (z : Stage (Phase T) T W). yet z) h.1
   turned_yet x r s h = ap (λ (z : Stage (Phase T) T W). yet z) h.1
 
@@ -136,7 +136,7 @@ module _ {T W : Type 0} where
   refused_yet m (Some key) task = refl
 
   -- the turn that a reply gives may bring a message only where there was no place for it
-  abbrev FewYet : Turn T W → QueueReply T → Type 0
+  abbrev FewYet : NextStep T W → QueueReply T → Type 0
   FewYet turn r = yet_after turn ≤ was_full r
 
   send_yet : (r : QueueReply T) (key : Option Key) (task : W) → FewYet (send_next r key task) r
@@ -160,91 +160,91 @@ module _ {T W : Type 0} where
   closing_yet (answer.Flag false) None task = omega arith
   closing_yet r key task = omega arith
 
-  polled_yet : (line : Line) (r : QueueReply T) (key : Option Key) (task : W) → FewYet (polled_next line r key task) r
+  polled_yet : (line : WaitList) (r : QueueReply T) (key : Option Key) (task : W) → FewYet (polled_next line r key task) r
   polled_yet Sends r key task = send_yet r key task
   polled_yet Receives r key task = receive_yet r key task
   polled_yet Streams r key task = stream_yet r key task
   polled_yet Closings r key task = closing_yet r key task
 
 module _ {T : Type 0} (W : Type 0) where
-  held_yet : (e : Ending T) (o : Option Held)
-      → yet_after (let t : Turn T W = elim o [ None ↦ Ends e.reply (leaving None e.message) | Some held ↦ Works (Leave e) ] in t) ≡ 0
+  held_yet : (e : Ending T) (o : Option ListenerRef)
+      → yet_after (let t : NextStep T W = elim o [ None ↦ Ends e.reply (leaving None e.message) | Some held ↦ Works (Leave e) ] in t) ≡ 0
   held_yet e None = refl
   held_yet e (Some h) = refl
 
-  ended_yet : (e : Ending T) → yet_after (let t : Turn T W = ends_by e in t) ≡ 0
+  ended_yet : (e : Ending T) → yet_after (let t : NextStep T W = ends_by e in t) ≡ 0
   ended_yet e = held_yet e e.held
 
-  sent_yet : (r : QueueReply T) → FewYet (let t : Turn T W = sent_next r in t) r
+  sent_yet : (r : QueueReply T) → FewYet (let t : NextStep T W = sent_next r in t) r
   sent_yet (answer.Push (Ok u)) = omega arith
   sent_yet (answer.Push (Err (push_error.Full m))) = omega arith
   sent_yet r = omega arith
 
-  forced_yet : (r : QueueReply T) → FewYet (let t : Turn T W = forced_next r in t) r
+  forced_yet : (r : QueueReply T) → FewYet (let t : NextStep T W = forced_next r in t) r
   forced_yet (answer.Force (Ok d)) = omega arith
   forced_yet (answer.Force (Err (force_error.Closed m))) = omega arith
   forced_yet r = omega arith
 
-  received_yet : (r : QueueReply T) → FewYet (let t : Turn T W = received_next r in t) r
+  received_yet : (r : QueueReply T) → FewYet (let t : NextStep T W = received_next r in t) r
   received_yet (answer.Pop (Ok m)) = omega arith
   received_yet (answer.Pop (Err pop_error.Empty)) = omega arith
   received_yet r = omega arith
 
-  gathered_yet : (vs : List T) (n : ℕ) → yet_after (let t : Turn T W = gathered_next (with_last vs n) in t) ≡ 0
+  gathered_yet : (vs : List T) (n : ℕ) → yet_after (let t : NextStep T W = gathered_next (with_last vs n) in t) ≡ 0
   gathered_yet vs zero = refl
   gathered_yet vs (suc n) = refl
 
-  short_yet : (vs : List T) (e : TryRecvError) → yet_after (let t : Turn T W = short_next vs e in t) ≡ 0
+  short_yet : (vs : List T) (e : TryRecvError) → yet_after (let t : NextStep T W = short_next vs e in t) ≡ 0
   short_yet [] e = refl
   short_yet (v ∷ vs) e = refl
 
-  several_yet : (r : QueueReply T) (g : Gathered T) → FewYet (let t : Turn T W = several_next r g in t) r
+  several_yet : (r : QueueReply T) (g : Gathered T) → FewYet (let t : NextStep T W = several_next r g in t) r
   several_yet (answer.Pop (Ok m)) g = let none = gathered_yet (g.taken ++ m ∷ []) g.more in omega (arith, none)
   several_yet (answer.Pop (Err pop_error.Empty)) g = let none = short_yet g.taken try_recv_error.Empty in omega (arith, none)
   several_yet (answer.Pop (Err pop_error.Closed)) g = let none = short_yet g.taken try_recv_error.Closed in omega (arith, none)
   several_yet r g = omega arith
 
-  closed_yet : (r : QueueReply T) (c : Closer) → FewYet (let t : Turn T W = closed_next r c in t) r
-  closed_yet (answer.Close false) c = let none : yet_after (let t : Turn T W = ends_by (closer_ending c false) in t) ≡ 0 = ended_yet (closer_ending c false) in omega (arith, none)
+  closed_yet : (r : QueueReply T) (c : Closer) → FewYet (let t : NextStep T W = closed_next r c in t) r
+  closed_yet (answer.Close false) c = let none : yet_after (let t : NextStep T W = ends_by (closer_ending c false) in t) ≡ 0 = ended_yet (closer_ending c false) in omega (arith, none)
   closed_yet r c = omega arith
 
-  asked_yet : (r : QueueReply T) → FewYet (let t : Turn T W = asked_next r in t) r
+  asked_yet : (r : QueueReply T) → FewYet (let t : NextStep T W = asked_next r in t) r
   asked_yet (answer.Flag b) = omega arith
   asked_yet r = omega arith
 
-  terminated_yet : (r : QueueReply T) → FewYet (let t : Turn T W = terminated_next r in t) r
+  terminated_yet : (r : QueueReply T) → FewYet (let t : NextStep T W = terminated_next r in t) r
   terminated_yet (answer.Flag true) = omega arith
   terminated_yet r = omega arith
 
-  upgraded_yet : (r : QueueReply T) (side : Side) → FewYet (let t : Turn T W = upgraded_next r side in t) r
+  upgraded_yet : (r : QueueReply T) (side : Side) → FewYet (let t : NextStep T W = upgraded_next r side in t) r
   upgraded_yet (answer.Flag true) side = omega arith
   upgraded_yet r side = omega arith
 
 module _ (T W : Type 0) where
-  told_yet : (line : Line) (y : Closer) → yet_after (let t : Turn T W = told_all_next line y in t) ≡ 0
+  told_yet : (line : WaitList) (y : Closer) → yet_after (let t : NextStep T W = told_all_next line y in t) ≡ 0
   told_yet Closings y = ended_yet W (closer_ending y true)
   told_yet x y = refl
 
   lowered_yet : (b : Bool) (y : Closer)
-      → yet_after (let t : Turn T W = (if b then Tries ask.Close (aim.Close y) else ends_by (closer_ending y false)) in t) ≡ 0
+      → yet_after (let t : NextStep T W = (if b then Tries ask.Close (aim.Close y) else ends_by (closer_ending y false)) in t) ≡ 0
   lowered_yet true y = refl
   lowered_yet false y = ended_yet W (closer_ending y false)
 
   counted_yet : (b : Bool) (side : Side) (m : Making) (n : ℕ)
-      → yet_after (let t : Turn T W = (if b then Ends reply.TooMany nothing_kept else Works (Raise side n m)) in t) ≡ 0
+      → yet_after (let t : NextStep T W = (if b then Ends reply.TooMany nothing_kept else Works (Raise side n m)) in t) ≡ 0
   counted_yet true side m n = refl
   counted_yet false side m n = refl
 
   upgrading_yet : (b : Bool) (side : Side) (n : ℕ)
-      → yet_after (let t : Turn T W = (if b then Ends reply.NotMade nothing_kept else counted_next side making.Upgrade n) in t) ≡ 0
+      → yet_after (let t : NextStep T W = (if b then Ends reply.NotMade nothing_kept else counted_next side making.Upgrade n) in t) ≡ 0
   upgrading_yet true side n = refl
   upgrading_yet false side n = counted_yet (nat_lt most n) side making.Upgrade n
 
-  loaded_yet : (side : Side) (m : Making) (n : ℕ) → yet_after (let t : Turn T W = loaded_next side m n in t) ≡ 0
+  loaded_yet : (side : Side) (m : Making) (n : ℕ) → yet_after (let t : NextStep T W = loaded_next side m n in t) ≡ 0
   loaded_yet side making.Clone n = counted_yet (nat_lt most n) side making.Clone n
   loaded_yet side making.Upgrade n = upgrading_yet (n == 0) side n
 
-  raised_yet : (side : Side) (m : Making) (b : Bool) → yet_after (let t : Turn T W = raised_next side m b in t) ≡ 0
+  raised_yet : (side : Side) (m : Making) (b : Bool) → yet_after (let t : NextStep T W = raised_next side m b in t) ≡ 0
   raised_yet side m true = refl
   raised_yet side m false = refl
 
@@ -252,7 +252,7 @@ no_more : (n m : ℕ) → n ≡ 0 → n ≤ m
 no_more n m e = omega (arith, e)
 
 module _ {T W : Type 0} where
-  answered_yet : (a : Aim T W) (r : QueueReply T) → FewYet (answered_next a r) r
+  answered_yet : (a : Purpose T W) (r : QueueReply T) → FewYet (answered_next a r) r
   answered_yet aim.TrySend r = sent_yet W r
   answered_yet aim.ForceSend r = forced_yet W r
   answered_yet aim.TryRecv r = received_yet W r
@@ -271,7 +271,7 @@ module _ {T W : Type 0} where
     pub fewer : brought_in e.mark + yet s ≤ yet at
 
   -- a step that is none of the queue
-  works : (c : Channel T W) (w : Work T W) (e e' : Effect T W) (r : Option (Reply T)) (s : Stage (Phase T) T W) (turn : Turn T W)
+  works : (c : Channel T W) (w : ListStep T W) (e e' : Effect T W) (r : Option (Reply T)) (s : Stage (Phase T) T W) (turn : NextStep T W)
       → e ≡ e' → e'.channel.queue ≡ c.queue → brought_in e'.mark ≡ 0 → Turned turn r s → yet_after turn ≤ yet_worked w
       → Brings c (Working w) e s
   works c w e e' r s turn same queue plain turned few =
@@ -281,11 +281,11 @@ module _ {T W : Type 0} where
       let next = turned_yet turn r s turned in
       record { accepted = omega (arith, now, none); fewer = omega (arith, none, next, few) }
 
-  pub left_queue : (h : Option Held) (c : Channel T W) → (leaves h c).channel.queue ≡ c.queue
+  pub left_queue : (h : Option ListenerRef) (c : Channel T W) → (leaves h c).channel.queue ≡ c.queue
   left_queue None c = refl
   left_queue (Some h) c = refl
 
-  left_plain : (h : Option Held) (c : Channel T W) → brought_in (leaves h c).mark ≡ 0
+  left_plain : (h : Option ListenerRef) (c : Channel T W) → brought_in (leaves h c).mark ≡ 0
   left_plain None c = refl
   left_plain (Some h) c = refl
 
@@ -308,20 +308,20 @@ module _ {T W : Type 0} where
   raised_plain true Receivers n c = refl
   raised_plain false side n c = refl
 
-  again_yet : (w : Waiting T) (key : Option Key) (task : W) → yet_after (again w key task) ≤ yet_worked (let x : Work T W = Insert w task in x)
+  again_yet : (w : Waiting T) (key : Option Key) (task : W) → yet_after (again w key task) ≤ yet_worked (let x : ListStep T W = Insert w task in x)
   again_yet (waiting.Send m) key task = omega arith
   again_yet x key task = omega arith
 
   registered_yet : (b : Bool) (w : Waiting T) (key : Key) (task : W)
-      → yet_after (if b then pends_by w key else again w None task) ≤ yet_worked (let x : Work T W = Register w key task in x)
+      → yet_after (if b then pends_by w key else again w None task) ≤ yet_worked (let x : ListStep T W = Register w key task in x)
   registered_yet false (waiting.Send m) key task = omega arith
   registered_yet b w key task = omega arith
 
-  room_yet : (n : ℕ) (t : Turn T W) → t ≡ room_next n → yet_after t ≤ 0
-  room_yet zero t e = subst (λ (x : Turn T W). yet_after x ≤ 0) (sym e) (omega arith)
-  room_yet (suc n) t e = subst (λ (x : Turn T W). yet_after x ≤ 0) (sym e) (omega arith)
+  room_yet : (n : ℕ) (t : NextStep T W) → t ≡ room_next n → yet_after t ≤ 0
+  room_yet zero t e = subst (λ (x : NextStep T W). yet_after x ≤ 0) (sym e) (omega arith)
+  room_yet (suc n) t e = subst (λ (x : NextStep T W). yet_after x ≤ 0) (sym e) (omega arith)
 
-  worked : (c : Channel T W) (w : Work T W) (e : Effect T W) (r : Option (Reply T)) (s : Stage (Phase T) T W) → Worked c w e r s
+  worked : (c : Channel T W) (w : ListStep T W) (e : Effect T W) (r : Option (Reply T)) (s : Stage (Phase T) T W) → Worked c w e r s
       → Brings c (Working w) e s
   worked c (TellReceive x) e r s h =
       works c (TellReceive x) e (tells_one Receives c) r s (Works (TellStreams x)) h.0 refl refl h.1 (omega arith)
@@ -395,7 +395,7 @@ module _ {T W : Type 0} where
   yet_seen d [] = omega arith
   yet_seen d (u ∷ us) = let rest = yet_seen d us in omega (arith, rest)
 
-  most_worked : (w : Work T W) → yet_worked w ≤ 1
+  most_worked : (w : ListStep T W) → yet_worked w ≤ 1
   most_worked (Insert (waiting.Send v) task) = omega arith
   most_worked (Register (waiting.Send v) key task) = omega arith
   most_worked w = omega arith
@@ -440,10 +440,10 @@ module _ {T W : Type 0} where
   poll_yet m true None task = omega arith
   poll_yet m true (Some key) task = omega arith
 
-  none_yet : (b : Bool) (key : Option Key) (task : W) (t : Turn T W) → t ≡ (if b then asks_listener waiting.Receive key task else again waiting.Receive key task) → yet_after t ≤ 0
-  none_yet false key task t same = subst (λ (x : Turn T W). yet_after x ≤ 0) (sym same) (omega arith)
-  none_yet true None task t same = subst (λ (x : Turn T W). yet_after x ≤ 0) (sym same) (omega arith)
-  none_yet true (Some key) task t same = subst (λ (x : Turn T W). yet_after x ≤ 0) (sym same) (omega arith)
+  none_yet : (b : Bool) (key : Option Key) (task : W) (t : NextStep T W) → t ≡ (if b then asks_listener waiting.Receive key task else again waiting.Receive key task) → yet_after t ≤ 0
+  none_yet false key task t same = subst (λ (x : NextStep T W). yet_after x ≤ 0) (sym same) (omega arith)
+  none_yet true None task t same = subst (λ (x : NextStep T W). yet_after x ≤ 0) (sym same) (omega arith)
+  none_yet true (Some key) task t same = subst (λ (x : NextStep T W). yet_after x ≤ 0) (sym same) (omega arith)
 
   first_yet : (a : ChannelAsk T W) → yet_after (first a) ≤ length (brought a)
   first_yet (channel.PollSend m l task) = poll_yet m l.asks_first l.key task

@@ -6,7 +6,7 @@ use Rattle.channel_steps.specs.solo.Configurations.{EndsWith, LoneRun, steps_by}
 use Rattle.channel_calls.specs.declared.ask.ChannelAsk.{ChannelAsk}
 use Rattle.channel_calls.specs.declared.mark.Mark.TheVariants.{Nothing}
 use Rattle.channel_calls.specs.declared.reply.Reply.{Reply}
-use Rattle.channel_calls.specs.declared.stage.Kept.{Kept}
+use Rattle.channel_calls.specs.declared.stage.Returned.{Returned}
 use Rattle.channel_world_model.specs.declared.name.Waiter.{Waiter}
 use Rattle.channel_steps.specs.Run.{IsRun, NextConfiguration}
 use Rattle.channel_steps.specs.Configuration.{Configuration}
@@ -72,7 +72,7 @@ module _ {T : Type 0} where
 
   -- ---- a call made alone
 
-  ends_saying : (es : List (ChannelEntry T)) (x : Reply T) (k : Kept T) → EndsWith x k es → replies_of es ≡ x ∷ []
+  ends_saying : (es : List (ChannelEntry T)) (x : Reply T) (k : Returned T) → EndsWith x k es → replies_of es ≡ x ∷ []
   ends_saying [] x k h = absurd h
   ends_saying (e ∷ []) x k h = ap (λ (o : Option (Reply T)). option_to_list o ++ []) h.0
   ends_saying (e ∷ f ∷ es) x k h =

@@ -6,7 +6,7 @@ use Rattle.std.specs.Map.{lookup, set_value}
 use Rattle.channel_calls.specs.Turns.{nothing_kept}
 use Rattle.channel_calls.specs.declared.reply.Reply.{Reply}
 use Rattle.channel_calls.specs.declared.reply.Reply.TheVariants as reply
-use Rattle.channel_calls.specs.declared.stage.Kept.{Kept}
+use Rattle.channel_calls.specs.declared.stage.Returned.{Returned}
 use Rattle.channel_world_model.proofs.WaiterLemmas.{decided}
 use Rattle.channel_world_model.specs.Names.{Directory, at, with_changed, without_name, with_spent}
 use Rattle.channel_world_model.specs.declared.call.Call.{Call}
@@ -291,7 +291,7 @@ module _ {T : Type 0} where
   installed_few n m new kind y r few = few
 
   -- a handle that it gives back is used by one fewer
-  settled_few : (n : ℕ → ℕ) (m : ℕ) (e : OnReturn T) (y : Reply T) (left : Kept T) (r : NameTable T)
+  settled_few : (n : ℕ → ℕ) (m : ℕ) (e : OnReturn T) (y : Reply T) (left : Returned T) (r : NameTable T)
       → AreFew (λ name. n name + times_used name e) m r.handles → AreFew n m (written_back e y left r).handles
   settled_few n m (on_return.Leave handle) y left r few = given_back_few n m handle r few
   settled_few n m (on_return.LeaveBoth a b) y left r few =
@@ -311,7 +311,7 @@ module _ {T : Type 0} where
   installed_length new kind reply.Made r = refl
   installed_length new kind y r = refl
 
-  settled_length : (e : OnReturn T) (y : Reply T) (left : Kept T) (r : NameTable T)
+  settled_length : (e : OnReturn T) (y : Reply T) (left : Returned T) (r : NameTable T)
       → length (written_back e y left r).operations ≡ length r.operations
   settled_length (on_return.Make op operation) y left r = set_length op.0 r.operations (Some operation)
   settled_length (on_return.Poll op) y left r = operation_length _ op r
@@ -359,7 +359,7 @@ module _ {T : Type 0} where
       let users : h.users ≤ all_uses name b.agents + times_used name (on_return_of b.name_table c) = most.0 in
       (omega (arith, users, more), most.1)
 
-  pub users_ended : (k : ℕ) (a : Agent T) (y : Option (Reply T)) (left : Option (Kept T)) (names : List Waiter) (b : NameState T)
+  pub users_ended : (k : ℕ) (a : Agent T) (y : Option (Reply T)) (left : Option (Returned T)) (names : List Waiter) (b : NameState T)
       → slice_get b.agents k ≡ Some a → FewUsers b → FewUsers (name_state_ended k a y left (with_woken names b))
   users_ended k a None left names b there few name h i =
       let most = all_woken_few (λ (n : ℕ). all_uses n b.agents) (length b.name_table.operations) names b.name_table few name h i in
@@ -373,7 +373,7 @@ module _ {T : Type 0} where
       let start : AreFew (λ x. n x + times_used x a.on_return) m b.name_table.handles =
       more_few (λ x. all_uses x b.agents) (λ x. n x + times_used x a.on_return) m m b.name_table.handles
       (λ x. let fewer = uses_fewer x k b.agents a there in omega (arith, fewer)) (omega arith) few in
-      let kept : Kept T = unwrap_or left nothing_kept in
+      let kept : Returned T = unwrap_or left nothing_kept in
       let most = settled_few n m a.on_return y kept woken_now (all_woken_few (λ x. n x + times_used x a.on_return) m names b.name_table start) name h i in
       let borrowers : h.handle.borrowers ≤ m = most.1 in
       let same = all_woken_length names b.name_table in

@@ -7,8 +7,8 @@ use Rattle.event_listener.specs.declared.key.Key.{Key}
 use Rattle.channel_calls.specs.Moves.{Channel}
 use Rattle.channel_calls.specs.Parts.{Listeners, listeners, told_more_wakes}
 use Rattle.channel_calls.proofs.Interface.{woken_firsts}
-use Rattle.channel_calls.specs.declared.stage.Held.{Held}
-use Rattle.channel_calls.specs.declared.stage.Line.{Line}
+use Rattle.channel_calls.specs.declared.stage.ListenerRef.{ListenerRef}
+use Rattle.channel_calls.specs.declared.stage.WaitList.{WaitList}
 use Rattle.channel_world_model.specs.declared.name.Waiter.{Waiter}
 use Rattle.channel_steps.specs.Tellings.{Telling, more_of, all_of, WokenBy}
 use Rattle.channel_world_runs.specs.Woken.{Hears}
@@ -86,8 +86,8 @@ module _ {W : Type 0} where
     by (Some notice) = omega (arith, few_passed notice (without key l), few_left key l.waiting)
 
 -- no step wakes more than listen on the longest list
-module _ {T W : Type 0} (n : ℕ) (c : Channel T W) (most : (line : Line) → length (listeners line c.roster).waiting ≤ n) where
-  pub few_woken : (ts : List Telling) (h : Option Held) (names : List W) → WokenBy ts h c names → length names ≤ n
+module _ {T W : Type 0} (n : ℕ) (c : Channel T W) (most : (line : WaitList) → length (listeners line c.roster).waiting ≤ n) where
+  pub few_woken : (ts : List Telling) (h : Option ListenerRef) (names : List W) → WokenBy ts h c names → length names ≤ n
   few_woken (more_of k line ∷ ts) h names e = let len = ap length e in omega (arith, len, few_more k (listeners line c.roster), most line)
   few_woken (all_of line ∷ ts) h names e = let len = ap length e in omega (arith, len, few_tasks (listeners line c.roster).waiting, most line)
   few_woken [] (Some h) names e = let len = ap length e in omega (arith, len, few_removed h.key (listeners h.line c.roster), most h.line)

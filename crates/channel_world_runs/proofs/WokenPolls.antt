@@ -3,8 +3,8 @@ use Rattle.std.proofs.Common.{◌≡◌, Bool, true, false, ◌&&◌, ◌||◌, 
 use Rattle.std.specs.List.{filter}
 use Rattle.std.specs.Map.{lookup}
 use Rattle.std.specs.Option.{option_map, option_map_or}
-use Rattle.channel_calls.specs.declared.stage.Held.{Held}
-use Rattle.channel_calls.specs.declared.stage.Line.TheVariants.{Sends, Receives, Streams, Closings}
+use Rattle.channel_calls.specs.declared.stage.ListenerRef.{ListenerRef}
+use Rattle.channel_calls.specs.declared.stage.WaitList.TheVariants.{Sends, Receives, Streams, Closings}
 use Rattle.channel_world_model.proofs.WaiterLemmas.{decided, or_true, same_sound}
 use Rattle.channel_world_model.specs.Lines.{same_waiter, is_among}
 use Rattle.channel_world_model.specs.Names as model
@@ -56,14 +56,14 @@ among_filter p w (v ∷ ws) e = elim (decided (p v)) [
         behind true i = refl
         behind false i = i
 
-pub woken_waits : (p : NameStatus) → was_woken p ≡ true → (h : Held) × (p ≡ waits h true)
+pub woken_waits : (p : NameStatus) → was_woken p ≡ true → (h : ListenerRef) × (p ≡ waits h true)
 woken_waits (waits h true) g = (h, refl)
 woken_waits (waits h false) g = absurd (let no : false ≡ true = g in cc)
 woken_waits x g = absurd (let no : false ≡ true = g in cc)
 
 -- ---- what is pending lives, and is not being polled
 
-receives_and_rests : (k : HandleKind) (x : PollState) (h : Held) (w : Bool) → stream_status k x ≡ waits h w
+receives_and_rests : (k : HandleKind) (x : PollState) (h : ListenerRef) (w : Bool) → stream_status k x ≡ waits h w
     → (k ≡ handle_kind.Receiver) × (is_polled x ≡ false)
 receives_and_rests handle_kind.Receiver Rests h w e = absurd (let no : rests Streams ≡ waits h w = e in cc)
 receives_and_rests handle_kind.Receiver (Waits key z) h w e = (refl, refl)
@@ -88,14 +88,14 @@ receives_and_rests handle_kind.WeakReceiver x h w e = absurd (off x e)
     off (IsPolled z) e = let no : invalid ≡ waits h w = e in cc
 
 -- what is pending as a stream is a receiver that lives
-stands_there : (o : Option (Option HandleEntry)) (h : Held) (w : Bool)
+stands_there : (o : Option (Option HandleEntry)) (h : ListenerRef) (w : Bool)
     → status_by (λ (x : HandleEntry). stream_status x.handle.kind x.poll_state) o ≡ waits h w
     → (x : HandleEntry) × (o ≡ Some (Some x)) × (x.handle.kind ≡ handle_kind.Receiver) × (is_polled x.poll_state ≡ false)
 stands_there None h w e = absurd (let no : free ≡ waits h w = e in cc)
 stands_there (Some None) h w e = absurd (let no : retired ≡ waits h w = e in cc)
 stands_there (Some (Some x)) h w e = let k = receives_and_rests x.handle.kind x.poll_state h w e in (x, refl, k.0, k.1)
 
-waits_and_rests : {T : Type 0} → (k : OperationKind) (m : Option T) (x : PollState) (h : Held) (w : Bool) → operation_status k m x ≡ waits h w
+waits_and_rests : {T : Type 0} → (k : OperationKind) (m : Option T) (x : PollState) (h : ListenerRef) (w : Bool) → operation_status k m x ≡ waits h w
     → is_polled x ≡ false
 waits_and_rests kind.Send None (IsPolled z) h w e = absurd (let no : polled Sends ≡ waits h w = e in cc)
 waits_and_rests kind.Send (Some m) (IsPolled z) h w e = absurd (let no : polled Sends ≡ waits h w = e in cc)
@@ -104,14 +104,14 @@ waits_and_rests kind.Closing m (IsPolled z) h w e = absurd (let no : polled Clos
 waits_and_rests k m x h w e = refl
 
 module _ {T : Type 0} where
-  lives_there : (o : Option (Option (Operation T))) (h : Held) (w : Bool)
+  lives_there : (o : Option (Option (Operation T))) (h : ListenerRef) (w : Bool)
       → status_by (λ (x : Operation T). operation_status x.kind x.message x.poll_state) o ≡ waits h w
       → (x : Operation T) × (o ≡ Some (Some x)) × (is_polled x.poll_state ≡ false)
   lives_there None h w e = absurd (let no : free ≡ waits h w = e in cc)
   lives_there (Some None) h w e = absurd (let no : retired ≡ waits h w = e in cc)
   lives_there (Some (Some x)) h w e = (x, refl, waits_and_rests x.kind x.message x.poll_state h w e)
 
-  operation_admitted : (r : NameTable T) (op : OpId) (h : Held) (w : Bool) → status r (Op op) ≡ waits h w → Admitted r (call.Poll op)
+  operation_admitted : (r : NameTable T) (op : OpId) (h : ListenerRef) (w : Bool) → status r (Op op) ≡ waits h w → Admitted r (call.Poll op)
   operation_admitted r op h w e =
       let x = lives_there (lookup (nat_eq op.0) r.operations) h w e in
       let there : at op.0 r.operations ≡ Some x.0 = ap (λ (o : Option (Option (Operation T))). option_map_or (λ (y : Option (Operation T)). y) o None) x.1 in
@@ -123,7 +123,7 @@ module _ {T : Type 0} where
         new = refl;
       }
 
-  stream_admitted : (r : NameTable T) (receiver : HandleId) (h : Held) (w : Bool) → status r (Stream receiver) ≡ waits h w
+  stream_admitted : (r : NameTable T) (receiver : HandleId) (h : ListenerRef) (w : Bool) → status r (Stream receiver) ≡ waits h w
       → Admitted r (call.PollNext receiver)
   stream_admitted r receiver h w e =
       let x = stands_there (lookup (nat_eq receiver.0) r.handles) h w e in
@@ -138,7 +138,7 @@ module _ {T : Type 0} where
         new = refl;
       }
 
-  admitted_so : (r : NameTable T) (w : Waiter) (h : Held) → status r w ≡ waits h true → Admitted r (poll_of w)
+  admitted_so : (r : NameTable T) (w : Waiter) (h : ListenerRef) → status r w ≡ waits h true → Admitted r (poll_of w)
   admitted_so r (Op op) h e = operation_admitted r op h true e
   admitted_so r (Stream receiver) h e = stream_admitted r receiver h true e
 

@@ -3,7 +3,7 @@ use Rattle.std.proofs.Common.{◌≡◌, ℕ, false, List, [], ◌∷◌, ◌++�
 use Rattle.channel_calls.specs.Moves.{Channel}
 use Rattle.channel_calls.specs.declared.ask.ChannelAsk.{ChannelAsk}
 use Rattle.channel_calls.specs.declared.reply.Reply.{Reply}
-use Rattle.channel_calls.specs.declared.stage.Kept.{Kept}
+use Rattle.channel_calls.specs.declared.stage.Returned.{Returned}
 use Rattle.channel_steps.specs.solo.Alone.{Outcome}
 use Rattle.channel_steps.specs.solo.Configurations.{EndsWith, LoneRun, steps_by, woken_by_steps}
 use Rattle.channel_steps.proofs.every_run.Interface.{all_sound_new, all_sound_next, stays_closed}
@@ -197,7 +197,7 @@ module _ {T : Type 0} where
   first_agent agents a e = ap (λ (l : List (Agent T)). slice_get l 0) e
 
   -- steps of the only one at work, of which the last one answers
-  kept_over : (q : PartyId) (a : Agent T) (r : Reply T) (kept : Kept T) (es : List (ChannelEntry T)) (ns : List (Configuration T Waiter))
+  kept_over : (q : PartyId) (a : Agent T) (r : Reply T) (kept : Returned T) (es : List (ChannelEntry T)) (ns : List (Configuration T Waiter))
       (b : NameState T) (s : Configuration T Waiter) → b.agents ≡ a ∷ [] → a.party ≡ q.0 → EndsWith r kept es
       → (h : EachStep NextConfiguration s (steps_by q.0 es) es ns) → WorldInvariant b s
       → WorldInvariant (name_state_ended 0 a (Some r) (Some kept) (with_woken (woken_by_steps s (steps_by q.0 es) es ns h) b)) (end_of s ns)
@@ -206,7 +206,7 @@ module _ {T : Type 0} where
       let after : name_state_ended 0 a (Some r) (Some kept) (with_woken (h.0.0 ++ []) b) ≡ name_state_ended 0 a e.reply e.kept woken =
       ap (λ (ws : List Waiter). name_state_ended 0 a (Some r) (Some kept) (with_woken ws b)) (append-nil h.0.0)
       ∙ (ap (λ (x : Option (Reply T)). name_state_ended 0 a x (Some kept) woken) (sym last.0)
-      ∙ ap (λ (x : Option (Kept T)). name_state_ended 0 a e.reply x woken) (sym last.1)) in
+      ∙ ap (λ (x : Option (Returned T)). name_state_ended 0 a e.reply x woken) (sym last.1)) in
       kept_step b _ s n q e h.0.0 h.0.1 (0, a, first_agent b.agents a only, his, after) k
   kept_over q a r kept (e ∷ f ∷ es) (n ∷ ns) b s only his last h k =
       let woken : NameState T = with_woken h.0.0 b in

@@ -6,14 +6,14 @@ use Rattle.concurrent_queue.proofs.Interface.{shows}
 use Rattle.channel_steps.specs.solo.Run as queue
 use Rattle.channel_steps.proofs.solo.Counts.{counted_few}
 use Rattle.channel_steps.proofs.every_run.Bounds.{step_bounded}
-use Rattle.channel_calls.specs.Parts.{Parts, Roster, listeners}
+use Rattle.channel_calls.specs.Parts.{Parts, WaitLists, listeners}
 use Rattle.channel_calls.specs.Moves.{Channel}
 use Rattle.channel_calls.specs.Plain.{parts_of}
 use Rattle.channel_calls.specs.declared.plain.PlainChannel.{PlainChannel}
 use Rattle.channel_calls.specs.declared.mark.Mark.TheVariants.{Nothing}
 use Rattle.channel_calls.specs.declared.reply.Reply.{Reply}
-use Rattle.channel_calls.specs.declared.stage.Kept.{Kept}
-use Rattle.channel_calls.specs.declared.stage.Line.{Line}
+use Rattle.channel_calls.specs.declared.stage.Returned.{Returned}
+use Rattle.channel_calls.specs.declared.stage.WaitList.{WaitList}
 use Rattle.channel_world_model.specs.declared.call.Call.{Call}
 use Rattle.channel_world_model.specs.declared.name.Waiter.{Waiter}
 use Rattle.channel_steps.specs.Count.{counted, brought_in, taken_out}
@@ -209,12 +209,12 @@ module _ {T : Type 0} where
       party_at p k bs ys rest h
 
   -- who has answered is at work no more, and has no call under way
-  ended_at_work : (k : ℕ) (a : Agent T) (r : Option (Reply T)) (kept : Option (Kept T)) (b : NameState T)
+  ended_at_work : (k : ℕ) (a : Agent T) (r : Option (Reply T)) (kept : Option (Returned T)) (b : NameState T)
       → map (λ (x : Agent T). x.party) (name_state_ended k a r kept b).agents ≡ unless_answered k r (map (λ (x : Agent T). x.party) b.agents)
   ended_at_work k a None kept b = refl
   ended_at_work k a (Some r) kept b = map-remove (λ (x : Agent T). x.party) b.agents k
 
-  pub stepped_at_work : (k : ℕ) (a : Agent T) (r : Option (Reply T)) (kept : Option (Kept T)) (names : List Waiter)
+  pub stepped_at_work : (k : ℕ) (a : Agent T) (r : Option (Reply T)) (kept : Option (Returned T)) (names : List Waiter)
       (old : WorldState T) (new : NameState T) (parties : List (Party T Waiter)) → AreAtWork old
       → new ≡ name_state_ended k a r kept (with_woken names (name_state_of old))
       → parties_in parties ≡ unless_answered k r (parties_in old.parties.items)
@@ -274,7 +274,7 @@ module _ {T : Type 0} where
       (e : Entry T) (entry : ChannelEntry T)
       → slice_get old.parties.items k ≡ Some x → x.id ≡ p.0 → slice_get old.agents.items k ≡ Some a → a.party ≡ p.0
       → StepsAt Hears (parts_in old) old.parties.items k empty entry (parts_in new) new.parties.items full
-      → empty.names.items ≡ [] → ((line : Line) → length (listeners line (parts_in old).roster).waiting ≤ n)
+      → empty.names.items ≡ [] → ((line : WaitList) → length (listeners line (parts_in old).roster).waiting ≤ n)
       → n ≤ vec_capacity empty.names
       → e.mark ≡ entry.mark → e.reply ≡ entry.reply → e.woken.items ≡ full.names.items
       → name_state_of new ≡ name_state_ended k a entry.reply entry.kept (with_woken full.names.items (name_state_of old))
@@ -290,8 +290,8 @@ module _ {T : Type 0} where
       let range : IsInRange s.now.queue = in_range s.now.queue position in
       let h = steps s x range sh.shows there in
       let roster : (parts_in old).roster ≡ s.now.roster = sym (ap (λ (c : Channel T Waiter). c.roster) sh.shows.now) in
-      let most_now : ((line : Line) → length (listeners line s.now.roster).waiting ≤ n) =
-      subst (λ (r : Roster Waiter). (line : Line) → length (listeners line r).waiting ≤ n) roster most in
+      let most_now : ((line : WaitList) → length (listeners line s.now.roster).waiting ≤ n) =
+      subst (λ (r : WaitLists Waiter). (line : WaitList) → length (listeners line r).waiting ≤ n) roster most in
       let few = few_woken n s.now most_now (telling h.steps.step.mine.at) (dropping h.steps.step.mine.at) h.names h.steps.step.named in
       let start : vec_len empty.names ≡ length empty.names.items = empty.names.ok.0 in
       let nobody : length empty.names.items ≡ 0 = ap length none in

@@ -6,7 +6,7 @@ use Rattle.channel_calls.specs.declared.ask.ChannelAsk.{ChannelAsk}
 use Rattle.channel_calls.specs.declared.ask.ChannelAsk.TheVariants as ask
 use Rattle.channel_calls.specs.declared.reply.Reply.{Reply}
 use Rattle.channel_calls.specs.declared.reply.Reply.TheVariants as reply
-use Rattle.channel_calls.specs.declared.stage.Kept.{Kept}
+use Rattle.channel_calls.specs.declared.stage.Returned.{Returned}
 use Rattle.channel_world_model.specs.Asked.{asked, poll_asked, refusal_asked, giving_up_asked, drop_asked, clone_asked, upgrade_asked}
 use Rattle.channel_world_model.specs.Names.{at, with_spent, with_changed, without_name}
 use Rattle.channel_world_model.specs.declared.call.Call.{Call}
@@ -172,7 +172,7 @@ module _ {T : Type 0} where
   -- ---- the end
 
   -- an operation has what its poll left to it
-  abbrev pub restored : Kept T → Operation T → Operation T
+  abbrev pub restored : Returned T → Operation T → Operation T
   restored kept o = record o { message = kept.message; poll_state = poll_state_with kept.key }
 
   -- a handle of this kind lives under the name, if the reply says that it was made
@@ -181,7 +181,7 @@ module _ {T : Type 0} where
   installed new kind x r = r
 
   -- the names after a call that gave this reply and left this
-  abbrev pub written_back : OnReturn T → Reply T → Kept T → NameTable T → NameTable T
+  abbrev pub written_back : OnReturn T → Reply T → Returned T → NameTable T → NameTable T
   written_back Nothing x kept r = r
   written_back (Leave handle) x kept r = with_given_back handle r
   written_back (LeaveBoth a b) x kept r = with_given_back b (with_given_back a r)

@@ -1,14 +1,14 @@
 -- What the counts of senders and receivers count: the strong handles that live, and the calls under way that are to lower them.
 use Rattle.std.specs.Prelude.{◌≡◌, ◌⊎◌, ℕ, ◌+◌, ◌≤◌, Bool, true, false, cond, List, [], ◌∷◌, map, Option, None, Some}
 use Rattle.channel_calls.specs.Parts.{count}
-use Rattle.channel_calls.specs.declared.stage.Aim.TheVariants as aim
+use Rattle.channel_calls.specs.declared.stage.Purpose.TheVariants as aim
 use Rattle.channel_calls.specs.declared.stage.Closer.{Closer}
 use Rattle.channel_calls.specs.declared.stage.Closer.TheVariants as closer
 use Rattle.channel_calls.specs.declared.stage.Side.{Side}
 use Rattle.channel_calls.specs.declared.stage.Side.TheVariants.{Senders, Receivers}
 use Rattle.channel_calls.specs.declared.stage.Stage.{Stage}
 use Rattle.channel_calls.specs.declared.stage.Stage.TheVariants.{Trying, Working}
-use Rattle.channel_calls.specs.declared.stage.Work.TheVariants.{Lower, Load, Raise}
+use Rattle.channel_calls.specs.declared.stage.ListStep.TheVariants.{Lower, Load, Raise}
 use Rattle.channel_world_model.specs.Names.{Directory}
 use Rattle.channel_world_model.specs.declared.name.HandleKind.{HandleKind}
 use Rattle.channel_world_model.specs.declared.name.HandleKind.TheVariants.{Sender, Receiver}

@@ -6,7 +6,7 @@ use Rattle.channel_calls.specs.declared.ask.ChannelAsk.TheVariants as ask
 use Rattle.channel_calls.specs.declared.mark.Mark.{Mark}
 use Rattle.channel_calls.specs.declared.mark.Mark.TheVariants.{Take, Close}
 use Rattle.channel_calls.specs.declared.reply.Reply.{Reply}
-use Rattle.channel_calls.specs.declared.stage.Line.TheVariants.{Sends, Receives}
+use Rattle.channel_calls.specs.declared.stage.WaitList.TheVariants.{Sends, Receives}
 use Rattle.channel_steps.specs.Moments.{MarkedMoment}
 use Rattle.channel_steps.specs.Configuration.{ActiveCall}
 use Rattle.channel_steps.specs.Tellings.{takings}

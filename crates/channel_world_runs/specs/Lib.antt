@@ -17,7 +17,7 @@ pub mod OwnerOrder
 pub mod OwnerPolled
 pub mod Users
 pub mod Counted
-pub mod Kept
+pub mod Returned
 pub mod Left
 pub mod Positions
 pub mod Reaches

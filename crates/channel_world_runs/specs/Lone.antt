@@ -1,7 +1,7 @@
 -- A call made alone, from its beginning to its end, by names.
 use Rattle.std.specs.Prelude.{◌≡◌, ◌≤◌, ℕ, List, [], length}
 use Rattle.channel_calls.specs.declared.reply.Reply.{Reply}
-use Rattle.channel_calls.specs.declared.stage.Kept.{Kept}
+use Rattle.channel_calls.specs.declared.stage.Returned.{Returned}
 use Rattle.channel_steps.specs.solo.Alone.{Outcome, Alone}
 use Rattle.channel_steps.specs.solo.Configurations.{LoneRun}
 use Rattle.channel_world_model.specs.declared.call.Call.{Call}
@@ -18,11 +18,11 @@ use Rattle.channel_world_runs.specs.declared.name_table.NameTable.{NameTable}
 
 module _ {T : Type 0} where
   -- the names after a call that woke these, gave this reply and left this
-  abbrev pub names_alone : NameTable T → Call T → Reply T → Kept T → List Waiter → NameTable T
+  abbrev pub names_alone : NameTable T → Call T → Reply T → Returned T → List Waiter → NameTable T
   names_alone r c x kept names = written_back (on_return_of r c) x kept (all_woken names (names_begun r c))
 
   -- and the order of waking
-  abbrev pub order_alone : NameTable T → Call T → Kept T → List Waiter → List Waiter → List Waiter
+  abbrev pub order_alone : NameTable T → Call T → Returned T → List Waiter → List Waiter → List Waiter
   order_alone r c kept names order = order_settled (on_return_of r c) kept.key (all_moved_last names (order_begun c order))
 
   -- the name state after it; nobody is at work

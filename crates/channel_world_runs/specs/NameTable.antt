@@ -3,8 +3,8 @@ use Rattle.std.specs.Prelude.{◌≡◌, ℕ, ◌+◌, ◌-◌, ◌^◌, min, Bo
 use Rattle.std.specs.List.{list_any}
 use Rattle.std.specs.Option.{option_map, option_map_or}
 use Rattle.event_listener.specs.declared.key.Key.{Key}
-use Rattle.channel_calls.specs.declared.stage.Line.{Line}
-use Rattle.channel_calls.specs.declared.stage.Line.TheVariants.{Sends, Receives, Closings}
+use Rattle.channel_calls.specs.declared.stage.WaitList.{WaitList}
+use Rattle.channel_calls.specs.declared.stage.WaitList.TheVariants.{Sends, Receives, Closings}
 use Rattle.channel_world_model.specs.Asked.{KeysHeld}
 use Rattle.channel_world_model.specs.Names.{Directory, Names, at, with_changed}
 use Rattle.channel_world_model.specs.Names as model
@@ -59,7 +59,7 @@ told (IsPolled brings) = IsPolled brings
 -- ---- operations
 
 -- the line in which it waits
-abbrev pub line_of_kind : OperationKind → Line
+abbrev pub line_of_kind : OperationKind → WaitList
 line_of_kind Send = Sends
 line_of_kind Receive = Receives
 line_of_kind Closing = Closings

@@ -4,11 +4,11 @@ use Rattle.std.specs.List.{count_by}
 use Rattle.std.specs.Map.{keys_of}
 use Rattle.concurrent_queue.specs.declared.queue_call.QueueCall.{QueueCall}
 use Rattle.event_listener.specs.declared.key.Key.{Key}
-use Rattle.channel_calls.specs.declared.stage.Line.{Line}
-use Rattle.channel_calls.specs.declared.stage.Line.TheVariants.{Sends, Receives, Streams}
+use Rattle.channel_calls.specs.declared.stage.WaitList.{WaitList}
+use Rattle.channel_calls.specs.declared.stage.WaitList.TheVariants.{Sends, Receives, Streams}
 use Rattle.channel_calls.specs.declared.stage.Stage.{Stage}
 use Rattle.channel_calls.specs.declared.stage.Stage.TheVariants.{Working}
-use Rattle.channel_calls.specs.declared.stage.Work.TheVariants.{Leave}
+use Rattle.channel_calls.specs.declared.stage.ListStep.TheVariants.{Leave}
 use Rattle.channel_world_model.specs.Laws.{same_line}
 use Rattle.channel_world_model.specs.declared.name.Waiter.{Waiter}
 use Rattle.channel_world_model.specs.declared.name.Waiter.TheVariants.{Op, Stream}
@@ -21,7 +21,7 @@ use Rattle.channel_world_runs.specs.declared.doing.Role.TheVariants.{Sending, Re
 use Rattle.channel_world_runs.specs.declared.name_table.NameTable.{NameTable}
 
 -- whether one that stands so is pending on this line, and was woken
-abbrev pub is_woken_on : Line → NameStatus → Bool
+abbrev pub is_woken_on : WaitList → NameStatus → Bool
 is_woken_on line (waits h is_woken) = is_woken && same_line line h.line
 is_woken_on line other = false
 
@@ -66,11 +66,11 @@ module _ {T : Type 0} where
   all_names r = map (λ n. Op (record { 0 = n })) (keys_of r.operations) ++ map (λ n. Stream (record { 0 = n })) (keys_of r.handles)
 
   -- how many are pending on this line and were woken
-  abbrev pub woken_on : Line → NameTable T → ℕ
+  abbrev pub woken_on : WaitList → NameTable T → ℕ
   woken_on line r = count_by (λ w. is_woken_on line (status r w)) (all_names r)
 
   -- it is pending on this line, and was not woken since its last poll
-  abbrev pub IsUnwoken : Line → Waiter → NameTable T → Type 0
+  abbrev pub IsUnwoken : WaitList → Waiter → NameTable T → Type 0
   IsUnwoken line name r = (key : Key) × (status r name ≡ waits (record { line = line; key = key }) not_woken)
 
   -- Where one is pending that was not woken since its last poll: of a receive, there are no more messages than woken pending
@@ -83,4 +83,4 @@ module _ {T : Type 0} where
     pub sends : (name : Waiter) → IsUnwoken Sends name w.name_table → w.closed ≡ false
         → HasPlaces w.capacity (w.messages + (woken_on Sends w.name_table + (w.sending + w.freed)))
     pub streams : (name : Waiter) → IsUnwoken Streams name w.name_table → 0 < w.messages → 0 < w.sending
-    pub closing : (line : Line) (name : Waiter) → IsUnwoken line name w.name_table → w.closed ≡ true → 0 < w.closers
+    pub closing : (line : WaitList) (name : Waiter) → IsUnwoken line name w.name_table → w.closed ≡ true → 0 < w.closers

@@ -4,8 +4,8 @@ use Rattle.std.specs.List.{filter}
 use Rattle.std.specs.Map.{keys_of}
 use Rattle.event_listener.specs.declared.key.Key.{Key}
 use Rattle.channel_calls.specs.Parts.{listeners}
-use Rattle.channel_calls.specs.declared.stage.Held.{Held}
-use Rattle.channel_calls.specs.declared.stage.Line.{Line}
+use Rattle.channel_calls.specs.declared.stage.ListenerRef.{ListenerRef}
+use Rattle.channel_calls.specs.declared.stage.WaitList.{WaitList}
 use Rattle.channel_world_model.specs.Laws.{same_line}
 use Rattle.channel_world_model.specs.declared.name.Waiter.{Waiter}
 use Rattle.channel_steps.specs.Configuration.{Configuration}
@@ -19,7 +19,7 @@ was_woken (waits h is_woken) = is_woken
 was_woken p = false
 
 -- its listener, if it is one of this line and was woken
-abbrev pub woken_key : Line → NameStatus → List Key
+abbrev pub woken_key : WaitList → NameStatus → List Key
 woken_key line (waits h is_woken) = if is_woken then (if same_line line h.line then h.key ∷ [] else []) else []
 woken_key line p = []
 
@@ -31,7 +31,7 @@ Within (x ∷ xs) (y ∷ ys) = ((x ≡ y) × Within xs ys) ⊎ Within (x ∷ xs)
 
 -- whoever is pending, or may be once its poll has ended, has a place
 abbrev pub NeedsPlace : NameStatus → Type 0
-NeedsPlace p = ((h : Held) × (is_woken : Bool) × (p ≡ waits h is_woken)) ⊎ ((line : Line) × (p ≡ polled line))
+NeedsPlace p = ((h : ListenerRef) × (is_woken : Bool) × (p ≡ waits h is_woken)) ⊎ ((line : WaitList) × (p ≡ polled line))
 
 module _ {T : Type 0} where
   -- those of these names who are pending and were woken
@@ -39,7 +39,7 @@ module _ {T : Type 0} where
   woken_in r ws = filter (λ w. was_woken (status r w)) ws
 
   -- the listeners of those of these names who are pending on this line and were woken
-  abbrev pub woken_keys : Line → NameTable T → List Waiter → List Key
+  abbrev pub woken_keys : WaitList → NameTable T → List Waiter → List Key
   woken_keys line r [] = []
   woken_keys line r (w ∷ ws) = woken_key line (status r w) ++ woken_keys line r ws
 
@@ -47,4 +47,4 @@ module _ {T : Type 0} where
   pub record InOrder (b : NameState T) (s : Configuration T Waiter) : Type 0 where
     pub placed : (w : Waiter) → NeedsPlace (status b.name_table w) → IsAmong w b.order
     pub once : NoneTwice b.order
-    pub lines : (line : Line) → Within (woken_keys line b.name_table b.order) (keys_of (listeners line s.now.roster).told)
+    pub lines : (line : WaitList) → Within (woken_keys line b.name_table b.order) (keys_of (listeners line s.now.roster).told)

@@ -1,6 +1,6 @@
 -- Who is polled, by whom.
 use Rattle.std.specs.Prelude.{◌≡◌, Some}
-use Rattle.channel_calls.specs.declared.stage.Line.{Line}
+use Rattle.channel_calls.specs.declared.stage.WaitList.{WaitList}
 use Rattle.channel_world_model.specs.declared.name.Waiter.{Waiter}
 use Rattle.channel_world_runs.specs.Owners.{IsAmong, polled, status, subject}
 use Rattle.channel_world_runs.specs.Run.{NameState}
@@ -13,4 +13,4 @@ module _ {T : Type 0} where
 
   -- where a poll of a name is under way, a party at work works there
   abbrev pub PolledAtWork : NameState T → Type 0
-  PolledAtWork b = (w : Waiter) (line : Line) → status b.name_table w ≡ polled line → IsWorkedAt w b
+  PolledAtWork b = (w : Waiter) (line : WaitList) → status b.name_table w ≡ polled line → IsWorkedAt w b

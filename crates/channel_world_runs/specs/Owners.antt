@@ -8,18 +8,18 @@ use Rattle.channel_calls.specs.Parts.{Listeners, listeners}
 use Rattle.channel_calls.specs.Turns.{held_on, line_of}
 use Rattle.channel_calls.specs.declared.ask.ChannelAsk.{ChannelAsk}
 use Rattle.channel_calls.specs.declared.ask.ChannelAsk.TheVariants as ask
-use Rattle.channel_calls.specs.declared.stage.Aim.{Aim}
-use Rattle.channel_calls.specs.declared.stage.Aim.TheVariants as aim
+use Rattle.channel_calls.specs.declared.stage.Purpose.{Purpose}
+use Rattle.channel_calls.specs.declared.stage.Purpose.TheVariants as aim
 use Rattle.channel_calls.specs.declared.stage.Closer.{Closer}
 use Rattle.channel_calls.specs.declared.stage.Closer.TheVariants as closer
-use Rattle.channel_calls.specs.declared.stage.Held.{Held}
-use Rattle.channel_calls.specs.declared.stage.Line.{Line}
-use Rattle.channel_calls.specs.declared.stage.Line.TheVariants.{Sends, Receives, Streams, Closings}
+use Rattle.channel_calls.specs.declared.stage.ListenerRef.{ListenerRef}
+use Rattle.channel_calls.specs.declared.stage.WaitList.{WaitList}
+use Rattle.channel_calls.specs.declared.stage.WaitList.TheVariants.{Sends, Receives, Streams, Closings}
 use Rattle.channel_calls.specs.declared.stage.Side.TheVariants.{Receivers}
 use Rattle.channel_calls.specs.declared.stage.Stage.{Stage}
 use Rattle.channel_calls.specs.declared.stage.Stage.TheVariants.{Trying, Working, Finished}
-use Rattle.channel_calls.specs.declared.stage.Work.{Work}
-use Rattle.channel_calls.specs.declared.stage.Work.TheVariants.{TellReceive, TellStreams, TellSend, TellSends, TellAll, Insert, Register, Leave, Lower}
+use Rattle.channel_calls.specs.declared.stage.ListStep.{ListStep}
+use Rattle.channel_calls.specs.declared.stage.ListStep.TheVariants.{TellReceive, TellStreams, TellSend, TellSends, TellAll, Insert, Register, Leave, Lower}
 use Rattle.channel_world_model.specs.declared.name.HandleKind.{HandleKind}
 use Rattle.channel_world_model.specs.declared.name.HandleKind.TheVariants as handle_kind
 use Rattle.channel_world_model.specs.declared.name.Waiter.{Waiter}
@@ -66,15 +66,15 @@ pub data NameStatus : Type 0 where
   free : NameStatus
   retired : NameStatus
   invalid : NameStatus
-  rests : Line → NameStatus
-  waits : Held → WasWoken → NameStatus
-  polled : Line → NameStatus
+  rests : WaitList → NameStatus
+  waits : ListenerRef → WasWoken → NameStatus
+  polled : WaitList → NameStatus
 
 -- it waits, and was not woken
-abbrev pub waits_unwoken : Held → NameStatus
+abbrev pub waits_unwoken : ListenerRef → NameStatus
 waits_unwoken h = waits h not_woken
 
-abbrev pub status_on : Line → PollState → NameStatus
+abbrev pub status_on : WaitList → PollState → NameStatus
 status_on line Rests = rests line
 status_on line (Waits key is_woken) = waits (record { line = line; key = key }) is_woken
 status_on line (IsPolled brings) = polled line
@@ -112,28 +112,28 @@ module _ {T : Type 0} where
 
 -- ---- the calls under way
 
-abbrev pub closer_holds : Closer → Option Held
+abbrev pub closer_holds : Closer → Option ListenerRef
 closer_holds (closer.Receiver key) = held_on Streams key
 closer_holds c = None
 
 module _ {T W : Type 0} where
-  abbrev pub aim_holds : Aim T W → Option Held
+  abbrev pub aim_holds : Purpose T W → Option ListenerRef
   aim_holds (aim.Poll line key task) = held_on line key
   aim_holds (aim.Close c) = closer_holds c
   aim_holds a = None
 
-  abbrev pub aim_task : Aim T W → Option W
+  abbrev pub aim_task : Purpose T W → Option W
   aim_task (aim.Poll line key task) = Some task
   aim_task a = None
 
 module _ {W : Type 0} where
   -- the task of its listener is that of its operation
-  abbrev pub Bears : Option W → Option (Line × W) → Type 0
+  abbrev pub Bears : Option W → Option (WaitList × W) → Type 0
   Bears None wait = Unit {0}
-  Bears (Some task) wait = (line : Line) × (wait ≡ Some (line, task))
+  Bears (Some task) wait = (line : WaitList) × (wait ≡ Some (line, task))
 
 module _ {T W : Type 0} where
-  abbrev pub work_holds : Work T W → Option Held
+  abbrev pub work_holds : ListStep T W → Option ListenerRef
   work_holds (TellReceive x) = x.held
   work_holds (TellStreams x) = x.held
   work_holds (TellSend x) = x.held
@@ -145,12 +145,12 @@ module _ {T W : Type 0} where
   work_holds w = None
 
   -- the listener that a call at this stage has in hand
-  abbrev pub holding : Stage (Phase T) T W → Option Held
+  abbrev pub holding : Stage (Phase T) T W → Option ListenerRef
   holding (Trying f a) = aim_holds a
   holding (Working w) = work_holds w
   holding (Finished kept) = None
 
-  abbrev pub work_task : Work T W → Option W
+  abbrev pub work_task : ListStep T W → Option W
   work_task (Insert w task) = Some task
   work_task (Register w key task) = Some task
   work_task w = None
@@ -162,7 +162,7 @@ module _ {T W : Type 0} where
   task_at (Finished kept) = None
 
   -- the list on which a call may wait, and for whom
-  abbrev pub wait_of : ChannelAsk T W → Option (Line × W)
+  abbrev pub wait_of : ChannelAsk T W → Option (WaitList × W)
   wait_of (ask.PollSend m key task) = Some (Sends, task)
   wait_of (ask.PollRecv key task) = Some (Receives, task)
   wait_of (ask.PollClosed key task) = Some (Closings, task)
@@ -171,7 +171,7 @@ module _ {T W : Type 0} where
 
 module _ {T W : Type 0} where
   -- the list whose listener a call may have in hand
-  abbrev pub line_asked : ChannelAsk T W → Option Line
+  abbrev pub line_asked : ChannelAsk T W → Option WaitList
   line_asked (ask.PollSend m key task) = Some Sends
   line_asked (ask.PollRecv key task) = Some Receives
   line_asked (ask.PollClosed key task) = Some Closings
@@ -193,9 +193,9 @@ module _ {T : Type 0} where
   subject e = None
 
   -- a call waits, if at all, for the name that it polls; under a name that it makes nothing lives yet
-  abbrev pub Suits : (Waiter → NameStatus) → OnReturn T → Option (Line × Waiter) → Type 0
-  Suits p (on_return.Poll op) wait = (line : Line) × (p (Op op) ≡ polled line) × ((wait ≡ None) ⊎ (wait ≡ Some (line, Op op)))
-  Suits p (on_return.PollNext receiver) wait = (line : Line) × (p (Stream receiver) ≡ polled line) × ((wait ≡ None) ⊎ (wait ≡ Some (line, Stream receiver)))
+  abbrev pub Suits : (Waiter → NameStatus) → OnReturn T → Option (WaitList × Waiter) → Type 0
+  Suits p (on_return.Poll op) wait = (line : WaitList) × (p (Op op) ≡ polled line) × ((wait ≡ None) ⊎ (wait ≡ Some (line, Op op)))
+  Suits p (on_return.PollNext receiver) wait = (line : WaitList) × (p (Stream receiver) ≡ polled line) × ((wait ≡ None) ⊎ (wait ≡ Some (line, Stream receiver)))
   Suits p (on_return.Make op operation) wait = (p (Op op) ≡ retired) × (operation.poll_state ≡ Rests) × (wait ≡ None)
   Suits p (on_return.New from new kind) wait = (p (Stream new) ≡ retired) × (wait ≡ None)
   Suits p e wait = wait ≡ None
@@ -205,7 +205,7 @@ module _ {T : Type 0} where
     pub party : a.party ≡ u.party
     pub suits : Suits p a.on_return (wait_of u.ask)
     pub bears : Bears (task_at u.at) (wait_of u.ask)
-    pub lines : (h : Held) → holding u.at ≡ Some h → line_asked u.ask ≡ Some h.line
+    pub lines : (h : ListenerRef) → holding u.at ≡ Some h → line_asked u.ask ≡ Some h.line
 
   -- one by one, in the same order
   abbrev pub Together : (Waiter → NameStatus) → List (Agent T) → List (ActiveCall T Waiter) → Type 0
@@ -232,15 +232,15 @@ module _ {W : Type 0} where
 
 module _ {T W : Type 0} where
   -- the listener is told or waits
-  abbrev pub IsListed : Held → Channel T W → Type 0
+  abbrev pub IsListed : ListenerRef → Channel T W → Type 0
   IsListed h c = IsAmong h.key (keys (listeners h.line c.roster))
 
   -- it waits, to wake this task
-  abbrev pub WaitsToWake : Held → W → Channel T W → Type 0
+  abbrev pub WaitsToWake : ListenerRef → W → Channel T W → Type 0
   WaitsToWake h task c = IsAmong (h.key, Some task) (listeners h.line c.roster).waiting
 
   abbrev pub NoneListedTwice : Channel T W → Type 0
-  NoneListedTwice c = (line : Line) → NoneTwice (keys (listeners line c.roster))
+  NoneListedTwice c = (line : WaitList) → NoneTwice (keys (listeners line c.roster))
 
 -- ---- owners
 
@@ -255,7 +255,7 @@ module _ {T : Type 0} where
   AnyOf P (u ∷ us) = P u ⊎ AnyOf P us
 
   -- a name holds its listener while it is pending, a call while it has it in hand
-  abbrev pub HoldsIn : (Waiter → NameStatus) → List (ActiveCall T Waiter) → Holder → Held → Type 0
+  abbrev pub HoldsIn : (Waiter → NameStatus) → List (ActiveCall T Waiter) → Holder → ListenerRef → Type 0
   HoldsIn p us (named w) h = (is_woken : WasWoken) × (p w ≡ waits h is_woken)
   HoldsIn p us (calling party) h = AnyOf (λ u. (u.party ≡ party) × (holding u.at ≡ Some h)) us
 
@@ -267,7 +267,7 @@ module _ {T : Type 0} where
     pub differ : AllDiffer b.agents
     pub none_amiss : (w : Waiter) → status b.name_table w ≡ invalid → ⊥
     pub once : NoneListedTwice s.now
-    pub unwoken : (w : Waiter) (h : Held) → status b.name_table w ≡ waits_unwoken h → WaitsToWake h w s.now
-    pub listed : (x : Holder) (h : Held) → HoldsIn (status b.name_table) s.under_way x h → IsListed h s.now
-    pub held : (h : Held) → IsListed h s.now → (x : Holder) × HoldsIn (status b.name_table) s.under_way x h
-    pub alone : (x y : Holder) (h : Held) → HoldsIn (status b.name_table) s.under_way x h → HoldsIn (status b.name_table) s.under_way y h → x ≡ y
+    pub unwoken : (w : Waiter) (h : ListenerRef) → status b.name_table w ≡ waits_unwoken h → WaitsToWake h w s.now
+    pub listed : (x : Holder) (h : ListenerRef) → HoldsIn (status b.name_table) s.under_way x h → IsListed h s.now
+    pub held : (h : ListenerRef) → IsListed h s.now → (x : Holder) × HoldsIn (status b.name_table) s.under_way x h
+    pub alone : (x y : Holder) (h : ListenerRef) → HoldsIn (status b.name_table) s.under_way x h → HoldsIn (status b.name_table) s.under_way y h → x ≡ y

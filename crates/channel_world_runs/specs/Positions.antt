@@ -11,8 +11,8 @@ use Rattle.channel_calls.specs.declared.reply.Reply.TheVariants as reply
 use Rattle.channel_calls.specs.declared.stage.Stage.{Stage}
 use Rattle.channel_calls.specs.declared.stage.Stage.TheVariants.{Trying, Working, Finished}
 use Rattle.channel_calls.specs.declared.stage.Waiting.TheVariants as waiting
-use Rattle.channel_calls.specs.declared.stage.Work.{Work}
-use Rattle.channel_calls.specs.declared.stage.Work.TheVariants.{Insert, Register}
+use Rattle.channel_calls.specs.declared.stage.ListStep.{ListStep}
+use Rattle.channel_calls.specs.declared.stage.ListStep.TheVariants.{Insert, Register}
 use Rattle.channel_world_model.specs.Names.{at}
 use Rattle.channel_world_model.specs.declared.call.Call.{Call}
 use Rattle.channel_world_model.specs.declared.call.Call.TheVariants as call
@@ -39,7 +39,7 @@ module _ {T : Type 0} where
 
 module _ {T W : Type 0} where
   -- a poll of a send that listens tries once more
-  abbrev pub yet_worked : Work T W → ℕ
+  abbrev pub yet_worked : ListStep T W → ℕ
   yet_worked (Insert (waiting.Send v) task) = 1
   yet_worked (Register (waiting.Send v) key task) = 1
   yet_worked w = 0

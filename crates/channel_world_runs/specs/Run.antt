@@ -3,7 +3,7 @@ use Rattle.std.specs.Prelude.{◌≡◌, ℕ, List, [], ◌∷◌, ◌++◌, sli
 use Rattle.std.specs.List.{remove}
 use Rattle.channel_calls.specs.Turns.{nothing_kept}
 use Rattle.channel_calls.specs.declared.reply.Reply.{Reply}
-use Rattle.channel_calls.specs.declared.stage.Kept.{Kept}
+use Rattle.channel_calls.specs.declared.stage.Returned.{Returned}
 use Rattle.channel_world_model.specs.declared.call.Call.{Call}
 use Rattle.channel_world_model.specs.declared.name.Waiter.{Waiter}
 use Rattle.channel_world_model.specs.declared.refusal.WorldRefusal.{WorldRefusal}
@@ -50,10 +50,10 @@ module _ {T : Type 0} where
   with_woken names b = record b { name_table = all_woken names b.name_table; order = all_moved_last names b.order }
 
   -- the k-th call has ended, with this reply, and left this: it writes back what it has to, and its party is at work no more
-  abbrev pub name_state_ended : ℕ → Agent T → Option (Reply T) → Option (Kept T) → NameState T → NameState T
+  abbrev pub name_state_ended : ℕ → Agent T → Option (Reply T) → Option (Returned T) → NameState T → NameState T
   name_state_ended k a None kept b = b
   name_state_ended k a (Some r) kept b =
-      let left : Kept T = unwrap_or kept nothing_kept in
+      let left : Returned T = unwrap_or kept nothing_kept in
       record {
         name_table = written_back a.on_return r left b.name_table;
         order = order_settled a.on_return left.key b.order;
@@ -61,21 +61,21 @@ module _ {T : Type 0} where
       }
 
   -- the name state after a step that answers this or nothing, leaves this and wakes these
-  abbrev pub IsNameStateOf : Step T → Option (Reply T) → Option (Kept T) → List Waiter → NameState T → NameState T → Type 0
+  abbrev pub IsNameStateOf : Step T → Option (Reply T) → Option (Returned T) → List Waiter → NameState T → NameState T → Type 0
   IsNameStateOf (step.Begin p c) reply kept names old new = new ≡ name_state_begun p c old
   IsNameStateOf (step.Step p) reply kept names old new =
       (k : ℕ) × (a : Agent T) × (slice_get old.agents k ≡ Some a) × (a.party ≡ p.0)
       × (new ≡ name_state_ended k a reply kept (with_woken names old))
 
   -- after one with this entry
-  abbrev pub IsNameStateAfter : Step T → Entry T → Option (Kept T) → NameState T → NameState T → Type 0
+  abbrev pub IsNameStateAfter : Step T → Entry T → Option (Returned T) → NameState T → NameState T → Type 0
   IsNameStateAfter x e kept old new = IsNameStateOf x e.reply kept e.woken.items old new
 
   -- a step that was made: nothing refuses it, the channel's step of it has this entry's mark, woken names and reply, and the
   -- name state is as it is to be
   pub record StepIsMade (b : NameState T) (s : Configuration T Waiter) (x : Step T) (e : Entry T) (c : NameState T) (t : Configuration T Waiter) : Type 0 where
     pub not_refused : step_refusal b.name_table b.agents x ≡ None
-    pub kept : Option (Kept T)
+    pub kept : Option (Returned T)
     pub next : Next s (channel_step b.name_table x) (record { mark = e.mark; reply = e.reply; kept = kept }) e.woken.items t
     pub name_state : IsNameStateAfter x e kept b c
 

@@ -9,7 +9,7 @@ use crate::names::{OnReturn, Operation, OperationKind, PollState};
 use crate::plan::Kinship;
 use channel_calls::ask::{ChannelAsk, lent};
 use channel_calls::several::Limit;
-use channel_calls::stage::{Line, Side};
+use channel_calls::stage::{Side, WaitList};
 use channel_world_model::call::Call;
 use channel_world_model::name::{Handle, HandleId, HandleKind, OpId, Waiter};
 use event_listener::key::Key;

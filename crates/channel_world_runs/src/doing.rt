@@ -3,7 +3,7 @@
 use channel_calls::ask::ChannelAsk;
 use channel_calls::mark::Mark;
 use channel_calls::reply::Reply;
-use channel_calls::stage::Line;
+use channel_calls::stage::WaitList;
 
 /// What a call is to those who wait.
 #[derive(Clone, Copy, Debug, PartialEq, Eq)]
@@ -40,14 +40,14 @@ impl Doing {
             | ChannelAsk::ForceSend(_)
             | ChannelAsk::PollSend(_, _, _)
             | ChannelAsk::PollFinishedSend
-            | ChannelAsk::RefusePoll(Line::Sends, _, _)
-            | ChannelAsk::GiveUp(Line::Sends, _, _) => Role::Sending,
+            | ChannelAsk::RefusePoll(WaitList::Sends, _, _)
+            | ChannelAsk::GiveUp(WaitList::Sends, _, _) => Role::Sending,
             ChannelAsk::TryRecv
             | ChannelAsk::RecvMany(_)
             | ChannelAsk::PollNext(_, _)
             | ChannelAsk::PollRecv(_, _)
-            | ChannelAsk::RefusePoll(Line::Receives, _, _)
-            | ChannelAsk::GiveUp(Line::Receives, _, _) => Role::Receiving,
+            | ChannelAsk::RefusePoll(WaitList::Receives, _, _)
+            | ChannelAsk::GiveUp(WaitList::Receives, _, _) => Role::Receiving,
             _ => Role::Other,
         };
         Doing {

@@ -4,7 +4,7 @@ use crate::name_table::NameTable;
 use crate::names::{Agent, HandleEntry, OnReturn, Operation, PollState};
 use crate::order::Order;
 use channel_calls::reply::Reply;
-use channel_calls::stage::Kept;
+use channel_calls::stage::Returned;
 use channel_world_model::name::{HandleId, HandleKind, OpId, Waiter};
 
 impl<T: Drop> NameTable<T> {
@@ -13,7 +13,7 @@ impl<T: Drop> NameTable<T> {
     ghost use Rattle.channel_world_runs.specs.declared.names.Operation.{Operation};
 
     /// The operation gets back what its poll left to it.
-    fn restore(&mut self, op: OpId, kept: Kept<T>)
+    fn restore(&mut self, op: OpId, kept: Returned<T>)
         ensures { self.new ≡ with_operation (restored kept) op self.old }
     {
         if let Some(operation) = self.operations.take(op.0) {
@@ -36,7 +36,7 @@ impl<T: Drop> NameTable<T> {
     }
 
     /// A call that has given this reply, and has left this, writes back what it has to.
-    pub(crate) fn settle(&mut self, on_return: OnReturn<T>, reply: &Reply<T>, kept: Kept<T>)
+    pub(crate) fn settle(&mut self, on_return: OnReturn<T>, reply: &Reply<T>, kept: Returned<T>)
         ensures { self.new ≡ written_back on_return reply.now kept self.old }
     {
         match on_return {
@@ -103,7 +103,7 @@ pub(crate) fn write_back<T: Drop>(
     agents: &mut Vec<Agent<T>>,
     k: usize,
     reply: &Option<Reply<T>>,
-    kept: Option<Kept<T>>,
+    kept: Option<Returned<T>>,
 )
     requires { k < vec_len agents.old }
     ensures { (a : Agent T) → slice_get agents.old.items k ≡ Some a
@@ -115,7 +115,7 @@ pub(crate) fn write_back<T: Drop>(
             party: _,
             on_return,
         } = agents.remove(k);
-        let kept = kept.unwrap_or(Kept {
+        let kept = kept.unwrap_or(Returned {
             key: None,
             message: None,
         });

@@ -1,7 +1,7 @@
 //! The handles and the operations under their names.
 
 use crate::names::{HandleEntry, Operation, OperationKind, PollState};
-use channel_calls::stage::Line;
+use channel_calls::stage::WaitList;
 use channel_world_model::directory::Directory;
 use channel_world_model::name::{Handle, HandleId, HandleKind, OpId, Waiter};
 use event_listener::key::Key;
@@ -206,14 +206,14 @@ impl<T> NameTable<T> {
 ghost use Rattle.channel_world_model.specs.Laws.{same_line};
 
 /// Whether these are one line.
-fn is_same(a: Line, b: Line) -> bool
+fn is_same(a: WaitList, b: WaitList) -> bool
     ensures { result ≡ same_line a b }
 {
     match (a, b) {
-        (Line::Sends, Line::Sends)
-        | (Line::Receives, Line::Receives)
-        | (Line::Streams, Line::Streams)
-        | (Line::Closings, Line::Closings) => true,
+        (WaitList::Sends, WaitList::Sends)
+        | (WaitList::Receives, WaitList::Receives)
+        | (WaitList::Streams, WaitList::Streams)
+        | (WaitList::Closings, WaitList::Closings) => true,
         _ => false,
     }
 }
@@ -227,42 +227,42 @@ impl<T> NameTable<T> {
     ghost use Rattle.channel_world_runs.specs.NameTable.{names_of, operation_of};
 
     /// The line to which an operation belongs, as it is kept here.
-    fn kept_line(&self, op: OpId) -> Option<Line>
+    fn kept_line(&self, op: OpId) -> Option<WaitList>
         ensures { result ≡ line_of_operation (option_map operation_of (at op.0 self.now.operations)) }
     {
         match self.operations.get(op.0) {
             Some(operation) => match operation.kind {
                 OperationKind::Send => match &operation.message {
-                    Some(_) => Some(Line::Sends),
+                    Some(_) => Some(WaitList::Sends),
                     None => None,
                 },
-                OperationKind::Receive => Some(Line::Receives),
-                OperationKind::Closing => Some(Line::Closings),
+                OperationKind::Receive => Some(WaitList::Receives),
+                OperationKind::Closing => Some(WaitList::Closings),
             },
             None => None,
         }
     }
 
     /// The line to which an operation belongs: a finished send to none.
-    fn operation_line(&self, op: OpId) -> Option<Line>
+    fn operation_line(&self, op: OpId) -> Option<WaitList>
         ensures { result ≡ line_at (names_of self.now) (Op op) }
     {
         self.kept_line(op)
     }
 
     /// The line to which what has this name belongs.
-    fn line(&self, name: Waiter) -> Option<Line>
+    fn line(&self, name: Waiter) -> Option<WaitList>
         ensures { result ≡ line_at (names_of self.now) name }
     {
         match name {
             Waiter::Op(op) => self.operation_line(op),
-            Waiter::Stream(_) => Some(Line::Streams),
+            Waiter::Stream(_) => Some(WaitList::Streams),
         }
     }
 
     /// Whether what has this name belongs to this line: a pending send, receive or wait for the closing to its own, and a stream to
     /// that of the streams. A finished send belongs to none, nor does a name under which nothing lives. Own to this project.
-    pub fn is_on(&self, line: Line, name: Waiter) -> bool
+    pub fn is_on(&self, line: WaitList, name: Waiter) -> bool
         ensures { result ≡ is_line line (line_at (names_of self.now) name) }
     {
         match self.line(name) {

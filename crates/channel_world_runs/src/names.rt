@@ -1,6 +1,6 @@
 //! What lives under which name, and what a call under way has to write back.
 
-use channel_calls::stage::Line;
+use channel_calls::stage::WaitList;
 use channel_world_model::name::{Handle, HandleId, HandleKind, OpId};
 use channel_world_model::refusal::WorldRefusal;
 use event_listener::key::Key;
@@ -112,13 +112,13 @@ impl OperationKind {
     ghost use Rattle.channel_world_runs.specs.NameTable.{line_of_kind};
 
     /// The line in which it waits.
-    pub(crate) fn line(self) -> Line
+    pub(crate) fn line(self) -> WaitList
         ensures { result ≡ line_of_kind self }
     {
         match self {
-            OperationKind::Send => Line::Sends,
-            OperationKind::Receive => Line::Receives,
-            OperationKind::Closing => Line::Closings,
+            OperationKind::Send => WaitList::Sends,
+            OperationKind::Receive => WaitList::Receives,
+            OperationKind::Closing => WaitList::Closings,
         }
     }
 }

@@ -2,7 +2,7 @@
 
 ghost use Rattle.std.specs.Prelude.{◌≡◌, ◌+◌, ◌*◌, ◌<◌, ◌≤◌, ℕ, List, [], ◌++◌, length, slice_get, true, IfOk, vec_len};
 ghost use Rattle.channel_calls.specs.declared.reply.Reply.{Reply};
-ghost use Rattle.channel_calls.specs.declared.stage.Line.{Line};
+ghost use Rattle.channel_calls.specs.declared.stage.WaitList.{WaitList};
 ghost use Rattle.channel_world_runs.specs.Pending.{how_many, stands_pending};
 ghost use Rattle.channel_world_runs.specs.Runs.{accepted_in, left_in};
 ghost use Rattle.channel_world_runs.specs.Reaches.{replies_in};
@@ -226,7 +226,7 @@ pub struct Seen {
 pub fn look<T: Drop>(world: &World<T>) -> Seen
     ensures messages { result.messages ≡ (observation_of world.now).messages }
     ensures names { result.pending ≡ how_many stands_pending (names_in world.now) }
-    ensures flag { result.is_awake ≡ true → is_closed world.now ≡ true → (line : Line) → NobodySleeps line world.now }
+    ensures flag { result.is_awake ≡ true → is_closed world.now ≡ true → (line : WaitList) → NobodySleeps line world.now }
 {
     who_sleeps_is_answered_for(world);
     Seen {

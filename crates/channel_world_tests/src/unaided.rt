@@ -11,14 +11,14 @@
 //! `history_tests`, in `uses`.
 
 ghost use Rattle.std.specs.Prelude.{◌≡◌, ◌+◌, ◌<◌, ◌≤◌, [], length, None, Some, true, IfOk, IfSome, vec_len};
-ghost use Rattle.channel_calls.specs.declared.stage.Line.{Line};
-ghost use Rattle.channel_calls.specs.declared.stage.Line.TheVariants.{Receives, Sends, Streams};
+ghost use Rattle.channel_calls.specs.declared.stage.WaitList.{WaitList};
+ghost use Rattle.channel_calls.specs.declared.stage.WaitList.TheVariants.{Receives, Sends, Streams};
 ghost use Rattle.channel_world_runs.specs.Owed.{Owed};
 ghost use Rattle.channel_world.specs.Asleep.{woken_among, ClosingIsAnswered, NobodySleeps, ReceivesAreAnswered, SendsAreAnswered, StreamsAreAnswered};
 ghost use Rattle.channel_world.specs.View.{at_rest, calls_in, messages_in, observation_of, IsQuiet};
 
 use crate::clients::Settling;
-use channel_calls::stage::Line;
+use channel_calls::stage::WaitList;
 use channel_world::call::{Call, CallRun};
 use channel_world::laws::who_sleeps_is_answered_for;
 use channel_world::step::{Run, Step};
@@ -173,7 +173,7 @@ pub fn no_send_sleeps_by_kind<T: Drop>(world: &World<T>) -> bool
         return false;
     };
     let calls = world.calls_by_kind();
-    let woken = world.woken_of(Line::Sends) as u64;
+    let woken = world.woken_of(WaitList::Sends) as u64;
     let others = woken.saturating_add((calls.sending as u64).saturating_add(taken));
     let answered = world.messages().saturating_add(others);
     let fits = match world.capacity() {
@@ -191,7 +191,7 @@ pub fn no_receive_sleeps_by_kind<T: Drop>(world: &World<T>) -> bool
     who_sleeps_is_answered_for(world);
     let calls = world.calls_by_kind();
     let working = (calls.sending as u64).saturating_add(calls.receiving as u64);
-    (world.woken_of(Line::Receives) as u64).saturating_add(working) < world.messages()
+    (world.woken_of(WaitList::Receives) as u64).saturating_add(working) < world.messages()
 }
 
 /// Looks at whatever world, calls under way or not, and says by its numbers whether no stream sleeps beside a message.
@@ -204,14 +204,14 @@ pub fn no_stream_sleeps<T: Drop>(world: &World<T>) -> bool
 
 /// Looks at whatever world, calls under way or not, and says by its numbers whether nobody sleeps on a closed channel.
 pub fn nobody_sleeps_where_closed<T: Drop>(world: &World<T>) -> bool
-    ensures { result ≡ true → (line : Line) → NobodySleeps line world.now }
+    ensures { result ≡ true → (line : WaitList) → NobodySleeps line world.now }
 {
     who_sleeps_is_answered_for(world);
     world.calls_by_kind().closers == 0 && world.is_closed()
 }
 
 /// Looks at a line of whatever world, and says whether as many are woken as are pending: then nobody sleeps there.
-pub fn is_awake<T: Drop>(world: &World<T>, line: Line) -> bool
+pub fn is_awake<T: Drop>(world: &World<T>, line: WaitList) -> bool
     ensures { result ≡ true → NobodySleeps line world.now }
 {
     who_sleeps_is_answered_for(world);

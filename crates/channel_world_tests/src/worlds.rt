@@ -2,7 +2,7 @@
 //!
 //! A row's calls are those of [`Worlds`]. Handles and operations are named by their numbers, `s` and `r` being handles 0 and 1.
 //!
-//! | Line | What it does | What it answers |
+//! | WaitList | What it does | What it answers |
 //! |---|---|---|
 //! | `bounded N`, `unbounded` | opens a channel | `ok`, `memory`, `identities` |
 //! | `CALL` | makes a call alone, as a list of one (`run_calls`) | its reply |
@@ -27,7 +27,7 @@ use crate::calls::call_of;
 use crate::replies::{OF_ROWS, waiter_said, write_reply, write_stop, write_woken};
 use crate::steps::mark_word;
 use channel_calls::error::OpenError;
-use channel_calls::stage::Line;
+use channel_calls::stage::WaitList;
 use channel_world::call::{Call, CallRun};
 use channel_world::settle::Settled;
 use channel_world::step::{Entry, PartyId, Run, Step};
@@ -105,7 +105,7 @@ fn write_marked(run: &Run<u64>, answer: &mut String) -> Result<(), AllocError> {
 fn write_line(
     world: &World<u64>,
     name: &'static str,
-    line: Line,
+    line: WaitList,
     answer: &mut String,
 ) -> Result<(), AllocError> {
     Said::Both(name, world.pending_of(line) as u64).write(answer)?;
@@ -327,10 +327,10 @@ impl Worlds {
         let Some(world) = &self.world else {
             return answer.push_str(NO_CHANNEL);
         };
-        write_line(world, "sends", Line::Sends, answer)?;
-        write_line(world, "receives", Line::Receives, answer)?;
-        write_line(world, "streams", Line::Streams, answer)?;
-        write_line(world, "closings", Line::Closings, answer)?;
+        write_line(world, "sends", WaitList::Sends, answer)?;
+        write_line(world, "receives", WaitList::Receives, answer)?;
+        write_line(world, "streams", WaitList::Streams, answer)?;
+        write_line(world, "closings", WaitList::Closings, answer)?;
         match world.taken() {
             Some(taken) => Said::Both("taken", taken).write(answer),
             None => Said::Word("taken unknown").write(answer),

@@ -2,7 +2,7 @@
 use Rattle.std.proofs.Common.{◌≡◌, ℕ, ◌+◌, ◌-◌, ◌/◌, ◌%◌, ◌^◌, ◌==◌, ◌<◌, ◌≤◌, Bool, true, false, nat_le, if◌then◌else◌, None, Some, Option, Result, Ok, Err, is_err, refl, sym, subst, arith}
 use Rattle.std.proofs.lemmas.Bool.Decides.{nat_tests}
 use Rattle.concurrent_queue.specs.Deeds.{Deed, loaded, stored, exchanged, added, did_put, did_take, spared, retired}
-use Rattle.concurrent_queue.specs.machine.Ahead.{IsStep, PushesOnEnd, PopsOnEnd}
+use Rattle.concurrent_queue.specs.machine.FastPath.{IsStep, PushesOnEnd, PopsOnEnd}
 use Rattle.concurrent_queue.specs.machine.BlocksMakes.{ProgressMakes, ActionMakes}
 use Rattle.concurrent_queue.specs.machine.BlocksState.{number}
 use Rattle.concurrent_queue.specs.machine.BlocksWords.{stays, finishes, tells, after_tail, after_tail_block, after_swap, after_head, after_pop_tail, after_pop_swap, after_next, after_written, after_read}

@@ -9,7 +9,7 @@ use Rattle.concurrent_queue.specs.Made.{IsNew, new_cells}
 use Rattle.concurrent_queue.specs.Parties.{party, Turns, parties_after}
 use Rattle.concurrent_queue.specs.Step.{IsQueueStep}
 use Rattle.concurrent_queue.specs.Walked.{MakesBlocks, MakesBounded, MakesFirst, StateMakes, CallMakes}
-use Rattle.concurrent_queue.specs.machine.Ahead.{Leads}
+use Rattle.concurrent_queue.specs.machine.FastPath.{Leads}
 use Rattle.concurrent_queue.specs.machine.BlocksMakes.{blocks_moves}
 use Rattle.concurrent_queue.specs.machine.BlocksWords.{begin}
 use Rattle.concurrent_queue.specs.machine.Dispatch.{ring_cap}

@@ -14,7 +14,7 @@ use Rattle.concurrent_queue.specs.machine.SingleState.{SingleMeans, single_rank}
 use Rattle.concurrent_queue.specs.machine.BlocksForm.{UnboundedMeans}
 use Rattle.concurrent_queue.specs.machine.BlocksWords.{IsBlocksStep, begin, blocks_closed, blocks_length, blocks_counted, blocks_slot, blocks_items}
 use Rattle.concurrent_queue.specs.machine.BlocksLeft.{blocks_rank}
-use Rattle.concurrent_queue.specs.Step.{Seat, seat, chain_after, Fits, FitsAt, FitsForm, FitsSlot, FitsRing, FitsBy, IsAtSingle, IsAtRing, IsAtBlocks, phases, OneCell, PhasesQuiet, rank, rank_by, rank_first, rank_bounded, rank_blocks, single_closed, single_length, Starts, IsQueueStep, LiesBy, Lies, IsBrought, ShowsBy, Shows, closed_by, closed_in, length_by, length_in, counted_by, counted_in, slot_by, slot_in, items_by, items_in}
+use Rattle.concurrent_queue.specs.Step.{ActiveQueueCall, seat, chain_after, Fits, FitsAt, FitsForm, FitsSlot, FitsRing, FitsBy, IsAtSingle, IsAtRing, IsAtBlocks, phases, OneCell, PhasesQuiet, rank, rank_by, rank_first, rank_bounded, rank_blocks, single_closed, single_length, Starts, IsQueueStep, LiesBy, Lies, IsBrought, ShowsBy, Shows, closed_by, closed_in, length_by, length_in, counted_by, counted_in, slot_by, slot_in, items_by, items_in}
 use Rattle.std.specs.declared.alloc.AllocError.{AllocError}
 use Rattle.concurrent_queue.specs.Made.{IsNew, new_cells}
 use Rattle.concurrent_queue.specs.Plain.{contents_of}
@@ -64,7 +64,7 @@ module _ {T : Type 0} where
   made_call s = record { state = s.action; mark = s.mark }
 
   -- a step in the words of a form
-  pub record StepsIn (f : QueueForm) (chain : List ℕ) (c : Contents T) (before : QueueCall T) (p : Phase T) (d : Contents T) (s : Stepped (CallState T) T) (q : Queue T) (l r : List (Seat T)) : Type 0 where
+  pub record StepsIn (f : QueueForm) (chain : List ℕ) (c : Contents T) (before : QueueCall T) (p : Phase T) (d : Contents T) (s : Stepped (CallState T) T) (q : Queue T) (l r : List (ActiveQueueCall T)) : Type 0 where
     pub same_form : d.form ≡ c.form
     pub one_cell : OneCell c d
     pub effect : MatchOption s.reply
@@ -72,7 +72,7 @@ module _ {T : Type 0} where
         (λ x. Answers q p s.mark x × FitsForm f (chain_after chain c d) d (after p s.mark q) (l ++ r))
     pub ends : PhasesQuiet q (phases (l ++ r)) → MatchOption s.reply (rank_by f d s.action < rank_by f c before.state) (λ x. Unit {0})
 
-  module _ (chain : List ℕ) (cap : ℕ) (one : cap ≡ 1) (c : Contents T) (a : SingleAction T) (before : QueueCall T) (p : Phase T) (d : Contents T) (x : Stepped (SingleAction T) T) (q : Queue T) (l r : List (Seat T)) (sized : rank_bounded cap c before.state ≡ single_rank c a) where
+  module _ (chain : List ℕ) (cap : ℕ) (one : cap ≡ 1) (c : Contents T) (a : SingleAction T) (before : QueueCall T) (p : Phase T) (d : Contents T) (x : Stepped (SingleAction T) T) (q : Queue T) (l r : List (ActiveQueueCall T)) (sized : rank_bounded cap c before.state ≡ single_rank c a) where
     single_does : (reply : Option (QueueReply T)) (call : QueueCall T)
         → MatchOption reply
         ((p' : Phase T) × Continues q p x.mark p' × FitsBy IsAtSingle (SingleMeans d (after p x.mark q)) (l ++ seat call p' ∷ r))
@@ -92,7 +92,7 @@ module _ {T : Type 0} where
           ends = λ (quiet : PhasesQuiet q (phases (l ++ r))). subst (λ (n : ℕ). MatchOption x.reply (single_rank d x.action < n) (λ y. Unit {0})) (sym sized) (h.ends quiet);
         }
 
-  module _ (chain : List ℕ) (cap : ℕ) (two : 2 ≤ cap) (most : cap ≤ 2 ^ 58) (c : Contents T) (a : RingAction T) (before : QueueCall T) (p : Phase T) (d : Contents T) (x : Stepped (RingAction T) T) (q : Queue T) (l r : List (Seat T)) (sized : rank_bounded cap c before.state ≡ ring_rank (ring_mark cap) c a) where
+  module _ (chain : List ℕ) (cap : ℕ) (two : 2 ≤ cap) (most : cap ≤ 2 ^ 58) (c : Contents T) (a : RingAction T) (before : QueueCall T) (p : Phase T) (d : Contents T) (x : Stepped (RingAction T) T) (q : Queue T) (l r : List (ActiveQueueCall T)) (sized : rank_bounded cap c before.state ≡ ring_rank (ring_mark cap) c a) where
     ring_does : (reply : Option (QueueReply T)) (call : QueueCall T)
         → MatchOption reply
         ((p' : Phase T) × Continues q p x.mark p' × FitsBy IsAtRing (RingMeans cap (ring_mark cap) d (after p x.mark q)) (l ++ seat call p' ∷ r))
@@ -112,7 +112,7 @@ module _ {T : Type 0} where
           ends = λ (quiet : PhasesQuiet q (phases (l ++ r))). subst (λ (n : ℕ). MatchOption x.reply (ring_rank (ring_mark cap) d x.action < n) (λ y. Unit {0})) (sym sized) (h.ends quiet);
         }
 
-  module _ (chain : List ℕ) (c : Contents T) (a : UnboundedCall T) (before : QueueCall T) (p : Phase T) (d : Contents T) (x : Stepped (UnboundedCall T) T) (q : Queue T) (l r : List (Seat T)) (sized : rank_blocks c before.state ≡ blocks_rank c a) where
+  module _ (chain : List ℕ) (c : Contents T) (a : UnboundedCall T) (before : QueueCall T) (p : Phase T) (d : Contents T) (x : Stepped (UnboundedCall T) T) (q : Queue T) (l r : List (ActiveQueueCall T)) (sized : rank_blocks c before.state ≡ blocks_rank c a) where
     blocks_does : (reply : Option (QueueReply T)) (call : QueueCall T)
         → MatchOption reply
         ((p' : Phase T) × Continues q p x.mark p' × FitsBy IsAtBlocks (UnboundedMeans (chain_after chain c d) d (after p x.mark q)) (l ++ seat call p' ∷ r))
@@ -134,7 +134,7 @@ module _ {T : Type 0} where
 
   -- ---- a step, by the form and the state of its call
 
-  module _ (chain : List ℕ) (c : Contents T) (before : QueueCall T) (p : Phase T) (d : Contents T) (s : Stepped (CallState T) T) (q : Queue T) (l r : List (Seat T)) (range : IsInRange q) where
+  module _ (chain : List ℕ) (c : Contents T) (before : QueueCall T) (p : Phase T) (d : Contents T) (s : Stepped (CallState T) T) (q : Queue T) (l r : List (ActiveQueueCall T)) (range : IsInRange q) where
     by_single : (cap : ℕ) (a : SingleAction T) → ((x : SingleAction T) → IsAtSingle before.state x → x ≡ a) → rank_bounded cap c before.state ≡ single_rank c a
         → BySingle c a d s → FitsSlot cap c q (l ++ seat before p ∷ r) → StepsIn (Bounded cap) chain c before p d s q l r
     by_single cap a is sized (x, made, shape) fits =
@@ -156,7 +156,7 @@ module _ {T : Type 0} where
         let h = seat_step IsAtBlocks UnboundedMeans blocks_rank Blocks wraps_blocks IsBlocksStep blocks_steps chain c a d x q p l r before is made range fits in
         subst (λ (y : Stepped (CallState T) T). StepsIn Unbounded chain c before p d y q l r) (sym shape) (blocks_in chain c a before p d x q l r sized h)
 
-  module _ (chain : List ℕ) (c : Contents T) (mark : QueueMark) (p : Phase T) (d : Contents T) (s : Stepped (CallState T) T) (q : Queue T) (l r : List (Seat T)) (range : IsInRange q) where
+  module _ (chain : List ℕ) (c : Contents T) (mark : QueueMark) (p : Phase T) (d : Contents T) (s : Stepped (CallState T) T) (q : Queue T) (l r : List (ActiveQueueCall T)) (range : IsInRange q) where
     abbrev stood : CallState T → QueueCall T
     stood state = record { state = state; mark = mark }
 
@@ -198,7 +198,7 @@ module _ {T : Type 0} where
     steps_in Unbounded Finished e made fits =
         let parts = part IsAtBlocks l r (seat (stood Finished) p) fits.0 fits.1 in absurd parts.stands
 
-  does_fits : (f : QueueForm) (chain : List ℕ) (c : Contents T) (p : Phase T) (d : Contents T) (s : Stepped (CallState T) T) (q : Queue T) (l r : List (Seat T)) → d.form ≡ f → (reply : Option (QueueReply T))
+  does_fits : (f : QueueForm) (chain : List ℕ) (c : Contents T) (p : Phase T) (d : Contents T) (s : Stepped (CallState T) T) (q : Queue T) (l r : List (ActiveQueueCall T)) → d.form ≡ f → (reply : Option (QueueReply T))
       → MatchOption reply
       ((p' : Phase T) × Continues q p s.mark p' × FitsForm f chain d (after p s.mark q) (l ++ seat (made_call s) p' ∷ r))
       (λ x. Answers q p s.mark x × FitsForm f chain d (after p s.mark q) (l ++ r))
@@ -223,7 +223,7 @@ module _ {T : Type 0} where
 
   -- ---- a new call
 
-  starts_in : (f : QueueForm) (chain : List ℕ) (c : Contents T) (q : Queue T) (a : QueueAsk T) (mark : QueueMark) (l r : List (Seat T)) → FitsForm f chain c q (l ++ r)
+  starts_in : (f : QueueForm) (chain : List ℕ) (c : Contents T) (q : Queue T) (a : QueueAsk T) (mark : QueueMark) (l r : List (ActiveQueueCall T)) → FitsForm f chain c q (l ++ r)
       → FitsForm f chain c q (l ++ seat (record { state = Asked a; mark = mark }) (asked a) ∷ r)
   starts_in (Bounded cap) chain c q a mark l r fits = ⊎_elim
       (λ h. inl (record { one = h.one; calls = seat_start IsAtSingle SingleMeans single_rank Single start single_starts c q a l r (record { state = Asked a; mark = mark }) refl h.calls }))
@@ -241,7 +241,7 @@ module _ {T : Type 0} where
 
   -- ---- what the words give, and the bound on steps
 
-  slot_shown : (cap : ℕ) (c : Contents T) (q : Queue T) (seats : List (Seat T)) → FitsSlot cap c q seats
+  slot_shown : (cap : ℕ) (c : Contents T) (q : Queue T) (seats : List (ActiveQueueCall T)) → FitsSlot cap c q seats
       → ShowsBy (Some cap) (closed_by (Bounded cap) c) (length_by (Bounded cap) c) (counted_by (Bounded cap) c) (items_by (Bounded cap) c) c q (phases seats)
   slot_shown cap c q seats fits =
       let (places, are, means) = fits.calls in
@@ -250,7 +250,7 @@ module _ {T : Type 0} where
       subst (λ (b : Bool). ShowsBy (Some cap) (if b then single_closed c else ring_closed (ring_mark cap) c) (if b then single_length c else ring_length cap (ring_mark cap) c) (if b then 0 else ring_counted cap (ring_mark cap) c) (if b then option_to_list (slot_at c (At 0)) else ring_held cap (ring_mark cap) c) c q (phases seats)) (sym (is_one cap fits.one))
       (subst (λ (n : ℕ). ShowsBy (Some n) (single_closed c) (single_length c) 0 (option_to_list (slot_at c (At 0))) c q (phases seats)) (sym fits.one) shown)
 
-  ring_shown : (cap : ℕ) (c : Contents T) (q : Queue T) (seats : List (Seat T)) → FitsRing cap c q seats
+  ring_shown : (cap : ℕ) (c : Contents T) (q : Queue T) (seats : List (ActiveQueueCall T)) → FitsRing cap c q seats
       → ShowsBy (Some cap) (closed_by (Bounded cap) c) (length_by (Bounded cap) c) (counted_by (Bounded cap) c) (items_by (Bounded cap) c) c q (phases seats)
   ring_shown cap c q seats fits =
       let (places, are, means) = fits.calls in
@@ -259,26 +259,26 @@ module _ {T : Type 0} where
       (sym (same_phases IsAtRing seats places are)) (ring_shows cap (ring_mark cap) fits.two (mark_is cap (omega arith) fits.most) c q places means) in
       subst (λ (b : Bool). ShowsBy (Some cap) (if b then single_closed c else ring_closed (ring_mark cap) c) (if b then single_length c else ring_length cap (ring_mark cap) c) (if b then 0 else ring_counted cap (ring_mark cap) c) (if b then option_to_list (slot_at c (At 0)) else ring_held cap (ring_mark cap) c) c q (phases seats)) (sym (not_one cap fits.two)) shown
 
-  no_phases : (f : QueueForm) (chain : List ℕ) (c : Contents T) (q : Queue T) (seats : List (Seat T)) → FitsForm f chain c q seats
+  no_phases : (f : QueueForm) (chain : List ℕ) (c : Contents T) (q : Queue T) (seats : List (ActiveQueueCall T)) → FitsForm f chain c q seats
       → ShowsBy (capacity_of f) (closed_by f c) (length_by f c) (counted_by f c) (items_by f c) c q (phases seats)
   no_phases (Bounded cap) chain c q seats fits = ⊎_elim (slot_shown cap c q seats) (ring_shown cap c q seats) fits
   no_phases Unbounded chain c q seats (places, are, means) =
       subst (λ (ps : List (Phase T)). ShowsBy None (blocks_closed c) (blocks_length c) (blocks_counted c) (blocks_items c) c q ps) (sym (same_phases IsAtBlocks seats places are)) (unbounded_shows chain c q places means)
 
   -- the cells and calls that mean a queue show it
-  pub shows : (c : Contents T) (q : Queue T) (seats : List (Seat T)) → Fits c q seats → Shows c q (phases seats)
+  pub shows : (c : Contents T) (q : Queue T) (seats : List (ActiveQueueCall T)) → Fits c q seats → Shows c q (phases seats)
   unfolding FitsAt closed_in length_in counted_in items_in
   shows c q seats fits = no_phases c.form fits.0 c q seats fits.1
 
   -- ---- where the messages lie
 
-  slot_lies : (cap : ℕ) (c : Contents T) (q : Queue T) (seats : List (Seat T)) → FitsSlot cap c q seats → LiesBy (λ i. if cap == 1 then At 0 else ring_slot cap (ring_mark cap) c i) c q.items (IsBrought (phases seats))
+  slot_lies : (cap : ℕ) (c : Contents T) (q : Queue T) (seats : List (ActiveQueueCall T)) → FitsSlot cap c q seats → LiesBy (λ i. if cap == 1 then At 0 else ring_slot cap (ring_mark cap) c i) c q.items (IsBrought (phases seats))
   slot_lies cap c q seats fits =
       let (places, are, means) = fits.calls in
       subst (λ (b : Bool). LiesBy (λ i. if b then At 0 else ring_slot cap (ring_mark cap) c i) c q.items (IsBrought (phases seats))) (sym (is_one cap fits.one))
       (subst (λ (ps : List (Phase T)). LiesBy (λ i. At 0) c q.items (IsBrought ps)) (sym (same_phases IsAtSingle seats places are)) (single_lies c q places means))
 
-  ring_lies_in : (cap : ℕ) (c : Contents T) (q : Queue T) (seats : List (Seat T)) → FitsRing cap c q seats → LiesBy (λ i. if cap == 1 then At 0 else ring_slot cap (ring_mark cap) c i) c q.items (IsBrought (phases seats))
+  ring_lies_in : (cap : ℕ) (c : Contents T) (q : Queue T) (seats : List (ActiveQueueCall T)) → FitsRing cap c q seats → LiesBy (λ i. if cap == 1 then At 0 else ring_slot cap (ring_mark cap) c i) c q.items (IsBrought (phases seats))
   ring_lies_in cap c q seats fits =
       let (places, are, means) = fits.calls in
       let two = fits.two in
@@ -286,17 +286,17 @@ module _ {T : Type 0} where
       (subst (λ (ps : List (Phase T)). LiesBy (ring_slot cap (ring_mark cap) c) c q.items (IsBrought ps)) (sym (same_phases IsAtRing seats places are))
       (ring_lies cap (ring_mark cap) fits.two (mark_is cap (omega arith) fits.most) c q places means))
 
-  lies_in : (f : QueueForm) (chain : List ℕ) (c : Contents T) (q : Queue T) (seats : List (Seat T)) → FitsForm f chain c q seats → LiesBy (slot_by f chain c) c q.items (IsBrought (phases seats))
+  lies_in : (f : QueueForm) (chain : List ℕ) (c : Contents T) (q : Queue T) (seats : List (ActiveQueueCall T)) → FitsForm f chain c q seats → LiesBy (slot_by f chain c) c q.items (IsBrought (phases seats))
   lies_in (Bounded cap) chain c q seats fits = ⊎_elim (slot_lies cap c q seats) (ring_lies_in cap c q seats) fits
   lies_in Unbounded chain c q seats (places, are, means) =
       subst (λ (ps : List (Phase T)). LiesBy (blocks_slot chain c) c q.items (IsBrought ps)) (sym (same_phases IsAtBlocks seats places are)) (unbounded_lies chain c q places means)
 
   -- each message lies in the slot that the words name, or is with its call
-  pub lies : (chain : List ℕ) (c : Contents T) (q : Queue T) (seats : List (Seat T)) → FitsAt chain c q seats → Lies chain c q.items (IsBrought (phases seats))
+  pub lies : (chain : List ℕ) (c : Contents T) (q : Queue T) (seats : List (ActiveQueueCall T)) → FitsAt chain c q seats → Lies chain c q.items (IsBrought (phases seats))
   unfolding FitsAt slot_in
   lies chain c q seats fits = lies_in c.form chain c q seats fits
 
-  slot_ranks : (cap : ℕ) (c : Contents T) (q : Queue T) (p : Phase T) (mark : QueueMark) (state : CallState T) (l r : List (Seat T)) → FitsSlot cap c q (l ++ seat (record { state = state; mark = mark }) p ∷ r) → rank_bounded cap c state < 64
+  slot_ranks : (cap : ℕ) (c : Contents T) (q : Queue T) (p : Phase T) (mark : QueueMark) (state : CallState T) (l r : List (ActiveQueueCall T)) → FitsSlot cap c q (l ++ seat (record { state = state; mark = mark }) p ∷ r) → rank_bounded cap c state < 64
   slot_ranks cap c q p mark (Asked a) l r fits = subst (λ (b : Bool). rank_first b (ring_mark cap) c a < 64) (sym (is_one cap fits.one))
       (seat_ranks IsAtSingle SingleMeans single_rank Single single_ranks c q p l r (record { state = Asked a; mark = mark }) (start a) (λ x h. h) fits.calls)
   slot_ranks cap c q p mark (Single a) l r fits = seat_ranks IsAtSingle SingleMeans single_rank Single single_ranks c q p l r (record { state = Single a; mark = mark }) a (λ x h. h) fits.calls
@@ -307,7 +307,7 @@ module _ {T : Type 0} where
   slot_ranks cap c q p mark Finished l r fits =
       let parts = part IsAtSingle l r (seat (record { state = Finished; mark = mark }) p) fits.calls.0 fits.calls.1 in absurd parts.stands
 
-  ring_ranks : (cap : ℕ) (c : Contents T) (q : Queue T) (p : Phase T) (mark : QueueMark) (state : CallState T) (l r : List (Seat T)) → FitsRing cap c q (l ++ seat (record { state = state; mark = mark }) p ∷ r) → rank_bounded cap c state < 64
+  ring_ranks : (cap : ℕ) (c : Contents T) (q : Queue T) (p : Phase T) (mark : QueueMark) (state : CallState T) (l r : List (ActiveQueueCall T)) → FitsRing cap c q (l ++ seat (record { state = state; mark = mark }) p ∷ r) → rank_bounded cap c state < 64
   ring_ranks cap c q p mark (Asked a) l r fits =
       let two = fits.two in
       subst (λ (b : Bool). rank_first b (ring_mark cap) c a < 64) (sym (not_one cap fits.two))
@@ -322,7 +322,7 @@ module _ {T : Type 0} where
   ring_ranks cap c q p mark Finished l r fits =
       let parts = part IsAtRing l r (seat (record { state = Finished; mark = mark }) p) fits.calls.0 fits.calls.1 in absurd parts.stands
 
-  ranks_in : (f : QueueForm) (chain : List ℕ) (c : Contents T) (q : Queue T) (p : Phase T) (mark : QueueMark) (state : CallState T) (l r : List (Seat T)) → FitsForm f chain c q (l ++ seat (record { state = state; mark = mark }) p ∷ r) → rank_by f c state < 64
+  ranks_in : (f : QueueForm) (chain : List ℕ) (c : Contents T) (q : Queue T) (p : Phase T) (mark : QueueMark) (state : CallState T) (l r : List (ActiveQueueCall T)) → FitsForm f chain c q (l ++ seat (record { state = state; mark = mark }) p ∷ r) → rank_by f c state < 64
   ranks_in (Bounded cap) chain c q p mark state l r fits = ⊎_elim (slot_ranks cap c q p mark state l r) (ring_ranks cap c q p mark state l r) fits
   ranks_in Unbounded chain c q p mark (Asked a) l r fits = seat_ranks IsAtBlocks (UnboundedMeans chain) blocks_rank Blocks (blocks_ranks chain) c q p l r (record { state = Asked a; mark = mark }) (begin a) (λ x h. h) fits
   ranks_in Unbounded chain c q p mark (Blocks a) l r fits = seat_ranks IsAtBlocks (UnboundedMeans chain) blocks_rank Blocks (blocks_ranks chain) c q p l r (record { state = Blocks a; mark = mark }) a (λ x h. h) fits
@@ -334,7 +334,7 @@ module _ {T : Type 0} where
       let parts = part IsAtBlocks l r (seat (record { state = Finished; mark = mark }) p) fits.0 fits.1 in absurd parts.stands
 
   -- no call needs more than 63 steps where the others are quiet
-  pub ranks : (c : Contents T) (q : Queue T) (p : Phase T) (call : QueueCall T) (l r : List (Seat T)) → Fits c q (l ++ seat call p ∷ r) → rank c call < 64
+  pub ranks : (c : Contents T) (q : Queue T) (p : Phase T) (call : QueueCall T) (l r : List (ActiveQueueCall T)) → Fits c q (l ++ seat call p ∷ r) → rank c call < 64
   unfolding FitsAt rank
   ranks c q p call l r fits = ranks_in c.form fits.0 c q p call.mark call.state l r fits.1
 

@@ -2,7 +2,7 @@
 use Rattle.std.proofs.Common.{◌≡◌, ℕ, zero, suc, ◌+◌, ◌<◌, ◌≤◌, ◌==◌, Bool, true, false, not, List, [], ◌∷◌, ◌++◌, length, None, Some, Ok, Err, refl, sym, ap, ◌∙◌, subst, arith}
 use Rattle.concurrent_queue.specs.Contents.{Contents}
 use Rattle.concurrent_queue.specs.Queue.{Queue, Stage, trying, displaced, appended, taken, read, measured, Phase, asked, is_filled, is_full_at, IsOpen, IsShut, IsOldest, marked, after, is_displaced, ContinuesPush, ContinuesForce, ContinuesPop, ContinuesBy, Continues, AnswersPush, AnswersForce, AnswersPop, AnswersTo, Answers}
-use Rattle.concurrent_queue.specs.Step.{Seat, seat, Fits, phases, rank, Shows, Lies, IsBrought}
+use Rattle.concurrent_queue.specs.Step.{ActiveQueueCall, seat, Fits, phases, rank, Shows, Lies, IsBrought}
 use Rattle.concurrent_queue.specs.declared.call.QueueAsk.{QueueAsk}
 use Rattle.concurrent_queue.specs.declared.call.QueueAsk.TheVariants as ask
 use Rattle.concurrent_queue.specs.declared.call.QueueMark.{QueueMark}
@@ -20,15 +20,15 @@ use Rattle.concurrent_queue.proofs.FitsFacts as fits_facts
 
 module _ {T : Type 0} where
   -- what cells and calls that mean a queue show of it
-  pub shows : (c : Contents T) (q : Queue T) (seats : List (Seat T)) → Fits c q seats → Shows c q (phases seats)
+  pub shows : (c : Contents T) (q : Queue T) (seats : List (ActiveQueueCall T)) → Fits c q seats → Shows c q (phases seats)
   shows c q seats fits = fits_facts.shows c q seats fits
 
   -- for the blocks that were used, each message lies in the slot that the words name, or is with the call that brought it
-  pub lies : (c : Contents T) (q : Queue T) (seats : List (Seat T)) → Fits c q seats → (chain : List ℕ) × Lies chain c q.items (IsBrought (phases seats))
+  pub lies : (c : Contents T) (q : Queue T) (seats : List (ActiveQueueCall T)) → Fits c q seats → (chain : List ℕ) × Lies chain c q.items (IsBrought (phases seats))
   lies c q seats fits = (fits.0, fits_facts.lies fits.0 c q seats fits.1)
 
   -- no call needs more than 63 steps where the others are quiet
-  pub ranks : (c : Contents T) (q : Queue T) (p : Phase T) (call : QueueCall T) (l r : List (Seat T)) → Fits c q (l ++ seat call p ∷ r) → rank c call < 64
+  pub ranks : (c : Contents T) (q : Queue T) (p : Phase T) (call : QueueCall T) (l r : List (ActiveQueueCall T)) → Fits c q (l ++ seat call p ∷ r) → rank c call < 64
   ranks c q p call l r fits = fits_facts.ranks c q p call l r fits
 
   -- ---- a call that is stepped with nobody else at work, from a queue with no call under way

@@ -2,7 +2,7 @@
 use Rattle.std.proofs.Common.{◌≡◌, ℕ, suc, ◌+◌, ◌-◌, ◌*◌, ◌%◌, ◌^◌, ◌==◌, ◌<◌, ◌≤◌, ◌&&◌, true, false, nat_le, if◌then◌else◌, None, Some, Result, Ok, Err, is_err, refl, sym, subst, arith}
 use Rattle.std.proofs.lemmas.Bool.Decides.{nat_tests}
 use Rattle.concurrent_queue.specs.Deeds.{Deed, loaded, stored, exchanged, did_put, did_take}
-use Rattle.concurrent_queue.specs.machine.Ahead.{IsStep, PushesOnEnd, PopsOnEnd}
+use Rattle.concurrent_queue.specs.machine.FastPath.{IsStep, PushesOnEnd, PopsOnEnd}
 use Rattle.concurrent_queue.specs.machine.RingWords.{index, is_marked, unmarked, next_word, finishes, stays}
 use Rattle.concurrent_queue.specs.machine.RingMoves.{RingMakes, after_tail, after_stamp, after_look, after_pop_tail}
 use Rattle.concurrent_queue.specs.declared.bounded.RingAction.TheVariants as act

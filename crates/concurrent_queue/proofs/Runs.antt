@@ -7,7 +7,7 @@ use Rattle.concurrent_queue.specs.Queue.{Queue, Phase, asked, after, marked, is_
 use Rattle.concurrent_queue.specs.machine.Places.{Each}
 use Rattle.concurrent_queue.specs.Rows.{MarkedStep}
 use Rattle.concurrent_queue.specs.Scene.{CallUnderWay, observing, stepped, with_mark, makes_room, AllIdle, OthersQuiet, ContinuesAs, unless_ended, NotUnderWay, IsUnderWay, IsBroughtBy, Reads, new_scene}
-use Rattle.concurrent_queue.specs.Step.{Seat, seat, chain_after, Fits, FitsAt, StepLeaves, IsQueueStep, phases, AllQuiet, PhasesQuiet, IsBrought, OneCell, rank, mark_of}
+use Rattle.concurrent_queue.specs.Step.{ActiveQueueCall, seat, chain_after, Fits, FitsAt, StepLeaves, IsQueueStep, phases, AllQuiet, PhasesQuiet, IsBrought, OneCell, rank, mark_of}
 use Rattle.concurrent_queue.specs.Parties.{party, HasParty, NoneHas, Turns, parties_after, TurnedOver, IsRefused}
 use Rattle.concurrent_queue.specs.Run.{Config, Next, IsRun, accepted_in, one_if_accepted, IsCounted, MayRefuse, opened_config, RanTo}
 use Rattle.concurrent_queue.specs.Made.{IsNew, new_cells}
@@ -29,7 +29,7 @@ use Rattle.concurrent_queue.proofs.Evidence.{Evidence, goes_known, answers_known
 use Rattle.concurrent_queue.proofs.FitsFacts.{shows, lies, ranks}
 
 -- a party with its call, and what is known of the call beside its cells
-pub record Sitting (T : Type 0) : Type 0 where
+pub record ActiveQueueCallWitness (T : Type 0) : Type 0 where
   pub party : Party T
   pub phase : Phase T
   pub marked_steps : List (MarkedStep T)
@@ -78,35 +78,35 @@ split f (x ∷ xs) (suc k) y e =
     }
 
 module _ {T : Type 0} where
-  abbrev pub under_of : Sitting T → CallUnderWay T
+  abbrev pub under_of : ActiveQueueCallWitness T → CallUnderWay T
   under_of x = record { party = x.party.id; ask = x.phase.ask; marked_steps = x.marked_steps; seen = x.seen; left = x.left }
 
-  abbrev pub seat_of : Sitting T → Seat T
+  abbrev pub seat_of : ActiveQueueCallWitness T → ActiveQueueCall T
   seat_of x = seat x.party.call x.phase
 
-  abbrev pub party_of : Sitting T → Party T
+  abbrev pub party_of : ActiveQueueCallWitness T → Party T
   party_of x = x.party
 
-  abbrev pub sees_too : Queue T → Sitting T → Sitting T
+  abbrev pub sees_too : Queue T → ActiveQueueCallWitness T → ActiveQueueCallWitness T
   sees_too q x = record x { seen = q ∷ x.seen; left = 63 }
 
-  abbrev pub IsKnown : Queue T → Sitting T → Type 0
+  abbrev pub IsKnown : Queue T → ActiveQueueCallWitness T → Type 0
   IsKnown q x = Evidence q x.phase.ask x.phase.stage x.marked_steps x.seen
 
-  abbrev pub IsWithin : Contents T → Sitting T → Type 0
+  abbrev pub IsWithin : Contents T → ActiveQueueCallWitness T → Type 0
   IsWithin c x = rank c x.party.call ≤ x.left
 
-  abbrev pub at : List ℕ → Contents T → Queue T → List (Sitting T) → Config T
+  abbrev pub at : List ℕ → Contents T → Queue T → List (ActiveQueueCallWitness T) → Config T
   at chain c now xs = record { cells = c; chain = chain; scene = record { now = now; under_way = map under_of xs } }
 
   -- ---- what the cells show of the scene
 
-  brought_by : (q : Queue T) (xs : List (Sitting T)) (v : T) → Each (λ (x : Sitting T). IsKnown q x) xs → IsBrought (phases (map seat_of xs)) v → IsBroughtBy (map under_of xs) v
+  brought_by : (q : Queue T) (xs : List (ActiveQueueCallWitness T)) (v : T) → Each (λ (x : ActiveQueueCallWitness T). IsKnown q x) xs → IsBrought (phases (map seat_of xs)) v → IsBroughtBy (map under_of xs) v
   brought_by q [] v all h = absurd h
   brought_by q (x ∷ xs) v all (inl h) = inl (h.0, brought_of q x.phase.ask x.phase.stage x.marked_steps x.seen all.0 h.1)
   brought_by q (x ∷ xs) v all (inr h) = inr (brought_by q xs v all.1 h)
 
-  pub reads_of : (chain : List ℕ) (c : Contents T) (q : Queue T) (xs : List (Sitting T)) → FitsAt chain c q (map seat_of xs) → Each (λ (x : Sitting T). IsKnown q x) xs
+  pub reads_of : (chain : List ℕ) (c : Contents T) (q : Queue T) (xs : List (ActiveQueueCallWitness T)) → FitsAt chain c q (map seat_of xs) → Each (λ (x : ActiveQueueCallWitness T). IsKnown q x) xs
       → Reads chain c (record { now = q; under_way = map under_of xs })
   reads_of chain c q xs fits all =
       let sh = shows c q (map seat_of xs) (chain, fits) in
@@ -122,62 +122,62 @@ module _ {T : Type 0} where
 
   -- ---- nobody held it up
 
-  all_quiet : (q : Queue T) (xs ys : List (Sitting T)) → Each (λ (x : Sitting T). IsKnown q x) xs → Each (λ (x : Sitting T). IsKnown q x) ys
+  all_quiet : (q : Queue T) (xs ys : List (ActiveQueueCallWitness T)) → Each (λ (x : ActiveQueueCallWitness T). IsKnown q x) xs → Each (λ (x : ActiveQueueCallWitness T). IsKnown q x) ys
       → AllIdle (map under_of xs ++ map under_of ys) → AllQuiet (phases (map seat_of xs ++ map seat_of ys))
   all_quiet q [] [] h g idle = tt
   all_quiet q [] (y ∷ ys) h g idle = (quiet_of q y.phase.ask y.phase.stage y.marked_steps y.seen g.0 idle.0, all_quiet q [] ys tt g.1 idle.1)
   all_quiet q (x ∷ xs) ys h g idle = (quiet_of q x.phase.ask x.phase.stage x.marked_steps x.seen h.0 idle.0, all_quiet q xs ys h.1 g idle.1)
 
-  none_too : (xs ys : List (Sitting T)) → map under_of xs ++ map under_of ys ≡ [] → phases (map seat_of xs ++ map seat_of ys) ≡ []
+  none_too : (xs ys : List (ActiveQueueCallWitness T)) → map under_of xs ++ map under_of ys ≡ [] → phases (map seat_of xs ++ map seat_of ys) ≡ []
   none_too [] [] e = refl
   none_too [] (y ∷ ys) e = absurd cc
   none_too (x ∷ xs) ys e = absurd cc
 
-  nobody : (q : Queue T) (xs ys : List (Sitting T)) → Each (λ (x : Sitting T). IsKnown q x) xs → Each (λ (x : Sitting T). IsKnown q x) ys
+  nobody : (q : Queue T) (xs ys : List (ActiveQueueCallWitness T)) → Each (λ (x : ActiveQueueCallWitness T). IsKnown q x) xs → Each (λ (x : ActiveQueueCallWitness T). IsKnown q x) ys
       → OthersQuiet q (map under_of xs ++ map under_of ys) → PhasesQuiet q (phases (map seat_of xs ++ map seat_of ys))
   nobody q xs ys h g free = (all_quiet q xs ys h g free.0, λ e. ⊎_elim (λ x. inl x) (λ x. inr (none_too xs ys x)) (free.1 e))
 
   -- ---- the others see a moment more
 
-  unders_seen : (q : Queue T) (xs : List (Sitting T)) → map under_of (map (sees_too q) xs) ≡ map (observing q) (map under_of xs)
+  unders_seen : (q : Queue T) (xs : List (ActiveQueueCallWitness T)) → map under_of (map (sees_too q) xs) ≡ map (observing q) (map under_of xs)
   unders_seen q [] = refl
   unders_seen q (x ∷ xs) = ap (λ us. observing q (under_of x) ∷ us) (unders_seen q xs)
 
-  seats_seen : (q : Queue T) (xs : List (Sitting T)) → map seat_of (map (sees_too q) xs) ≡ map seat_of xs
+  seats_seen : (q : Queue T) (xs : List (ActiveQueueCallWitness T)) → map seat_of (map (sees_too q) xs) ≡ map seat_of xs
   seats_seen q [] = refl
   seats_seen q (x ∷ xs) = ap (λ ss. seat_of x ∷ ss) (seats_seen q xs)
 
-  parties_seen : (q : Queue T) (xs : List (Sitting T)) → map party_of (map (sees_too q) xs) ≡ map party_of xs
+  parties_seen : (q : Queue T) (xs : List (ActiveQueueCallWitness T)) → map party_of (map (sees_too q) xs) ≡ map party_of xs
   parties_seen q [] = refl
   parties_seen q (x ∷ xs) = ap (λ ps. party_of x ∷ ps) (parties_seen q xs)
 
-  known_seen : (q : Queue T) (a : QueueAsk T) (b : _) (m : QueueMark) → IsFair q a m → ((cap : ℕ) → q.capacity ≡ Some cap → length q.items ≤ cap) → (xs : List (Sitting T))
-      → Each (λ (x : Sitting T). IsKnown q x) xs → Each (λ (x : Sitting T). IsKnown (marked a b m q) x) (map (sees_too (marked a b m q)) xs)
+  known_seen : (q : Queue T) (a : QueueAsk T) (b : _) (m : QueueMark) → IsFair q a m → ((cap : ℕ) → q.capacity ≡ Some cap → length q.items ≤ cap) → (xs : List (ActiveQueueCallWitness T))
+      → Each (λ (x : ActiveQueueCallWitness T). IsKnown q x) xs → Each (λ (x : ActiveQueueCallWitness T). IsKnown (marked a b m q) x) (map (sees_too (marked a b m q)) xs)
   known_seen q a b m fair within [] h = tt
   known_seen q a b m fair within (x ∷ xs) h = (evidence_keeps q a b m fair within x.phase.ask x.phase.stage x.marked_steps x.seen h.0, known_seen q a b m fair within xs h.1)
 
   -- ---- the bound on silent steps
 
-  abbrev IsRanked : Contents T → Seat T → Type 0
+  abbrev IsRanked : Contents T → ActiveQueueCall T → Type 0
   IsRanked c s = rank c s.call < 64
 
-  all_ranked : (c : Contents T) (q : Queue T) (l r : List (Seat T)) → Fits c q (l ++ r) → Each (λ (s : Seat T). IsRanked c s) r
+  all_ranked : (c : Contents T) (q : Queue T) (l r : List (ActiveQueueCall T)) → Fits c q (l ++ r) → Each (λ (s : ActiveQueueCall T). IsRanked c s) r
   all_ranked c q l [] fits = tt
   all_ranked c q l (s ∷ r) fits =
-      (ranks c q s.phase s.call l r fits, all_ranked c q (l ++ s ∷ []) r (subst (λ (ss : List (Seat T)). Fits c q ss) (sym (append_assoc l (s ∷ []) r)) fits))
+      (ranks c q s.phase s.call l r fits, all_ranked c q (l ++ s ∷ []) r (subst (λ (ss : List (ActiveQueueCall T)). Fits c q ss) (sym (append_assoc l (s ∷ []) r)) fits))
 
-  abbrev IsSet : Contents T → Sitting T → Type 0
+  abbrev IsSet : Contents T → ActiveQueueCallWitness T → Type 0
   IsSet c x = (x.left ≡ 63) ⊎ IsWithin c x
 
-  all_within : (c : Contents T) (xs : List (Sitting T)) → Each (λ (s : Seat T). IsRanked c s) (map seat_of xs) → Each (λ (x : Sitting T). IsSet c x) xs → Each (λ (x : Sitting T). IsWithin c x) xs
+  all_within : (c : Contents T) (xs : List (ActiveQueueCallWitness T)) → Each (λ (s : ActiveQueueCall T). IsRanked c s) (map seat_of xs) → Each (λ (x : ActiveQueueCallWitness T). IsSet c x) xs → Each (λ (x : ActiveQueueCallWitness T). IsWithin c x) xs
   all_within c [] r s = tt
   all_within c (x ∷ xs) r s = (⊎_elim (λ e. (let n = r.0 in omega arith)) (λ h. h) s.0, all_within c xs r.1 s.1)
 
-  all_set : (c : Contents T) (q : Queue T) (xs : List (Sitting T)) → Each (λ (x : Sitting T). IsSet c x) (map (sees_too q) xs)
+  all_set : (c : Contents T) (q : Queue T) (xs : List (ActiveQueueCallWitness T)) → Each (λ (x : ActiveQueueCallWitness T). IsSet c x) (map (sees_too q) xs)
   all_set c q [] = tt
   all_set c q (x ∷ xs) = (inl refl, all_set c q xs)
 
-  within_now : (c : Contents T) (q : Queue T) (xs : List (Sitting T)) → Fits c q (map seat_of xs) → Each (λ (x : Sitting T). IsSet c x) xs → Each (λ (x : Sitting T). IsWithin c x) xs
+  within_now : (c : Contents T) (q : Queue T) (xs : List (ActiveQueueCallWitness T)) → Fits c q (map seat_of xs) → Each (λ (x : ActiveQueueCallWitness T). IsSet c x) xs → Each (λ (x : ActiveQueueCallWitness T). IsWithin c x) xs
   within_now c q xs fits set = all_within c xs (all_ranked c q [] (map seat_of xs) fits) set
 
   -- ---- runs
@@ -205,18 +205,18 @@ module _ {T : Type 0} where
   pub record HasRun (form : QueueForm) (made : List (QueueStep T)) (c : Contents T) (parties : List (Party T)) (trace : List (QueueEntry T)) : Type 0 where
     pub chain : List ℕ
     pub now : Queue T
-    pub sittings : List (Sitting T)
+    pub sittings : List (ActiveQueueCallWitness T)
     pub opened : Reads [] (new_cells {T = T} form) (new_scene (capacity_of form))
     pub run : IsRun (opened_config (new_cells form) form) made trace (at chain c now sittings)
     pub fits : FitsAt chain c now (map seat_of sittings)
     pub parties_are : parties ≡ map party_of sittings
-    pub known : Each (λ (x : Sitting T). IsKnown now x) sittings
-    pub within : Each (λ (x : Sitting T). IsWithin c x) sittings
+    pub known : Each (λ (x : ActiveQueueCallWitness T). IsKnown now x) sittings
+    pub within : Each (λ (x : ActiveQueueCallWitness T). IsWithin c x) sittings
     pub count : now.accepted ≡ accepted_in trace
     pub limit : now.capacity ≡ capacity_of form
 
 module _ {T : Type 0} (form : QueueForm) (made : List (QueueStep T)) (c : Contents T) (parties : List (Party T)) (trace : List (QueueEntry T)) (r : HasRun form made c parties trace) where
-  free_of : (p : ℕ) (xs : List (Sitting T)) → NoneHas p (map party_of xs) → NotUnderWay p (map under_of xs)
+  free_of : (p : ℕ) (xs : List (ActiveQueueCallWitness T)) → NoneHas p (map party_of xs) → NotUnderWay p (map under_of xs)
   free_of p [] none = tt
   free_of p (x ∷ xs) none = (λ e. none 0 x.party refl e, free_of p xs (λ k y there e. none (suc k) y there e))
 
@@ -226,16 +226,16 @@ module _ {T : Type 0} (form : QueueForm) (made : List (QueueStep T)) (c : Conten
   has_begun p a e d parties' t =
       let call = t.0 in
       let none : NoneHas p (map party_of r.sittings) = subst (λ (ps : List (Party T)). NoneHas p ps) r.parties_are t.2 in
-      let mine : Sitting T = record { party = party p call; phase = asked a; marked_steps = []; seen = r.now ∷ []; left = 63 } in
-      let all : List (Sitting T) = r.sittings ++ mine ∷ [] in
+      let mine : ActiveQueueCallWitness T = record { party = party p call; phase = asked a; marked_steps = []; seen = r.now ∷ []; left = 63 } in
+      let all : List (ActiveQueueCallWitness T) = r.sittings ++ mine ∷ [] in
       let fits_c : FitsAt r.chain c r.now (map seat_of all) =
-      subst (λ (ss : List (Seat T)). FitsAt r.chain c r.now ss) (sym (map_join seat_of r.sittings (mine ∷ [])))
-      (t.1 r.chain c r.now (map seat_of r.sittings) [] (subst (λ (ss : List (Seat T)). FitsAt r.chain c r.now ss) (sym (append-nil (map seat_of r.sittings))) r.fits)) in
+      subst (λ (ss : List (ActiveQueueCall T)). FitsAt r.chain c r.now ss) (sym (map_join seat_of r.sittings (mine ∷ [])))
+      (t.1 r.chain c r.now (map seat_of r.sittings) [] (subst (λ (ss : List (ActiveQueueCall T)). FitsAt r.chain c r.now ss) (sym (append-nil (map seat_of r.sittings))) r.fits)) in
       let fits : FitsAt r.chain d r.now (map seat_of all) = subst (λ (x : Contents T). FitsAt r.chain x r.now (map seat_of all)) (sym t.4) fits_c in
-      let known = each_join (λ (x : Sitting T). IsKnown r.now x) r.sittings (mine ∷ []) r.known ((refl, λ h. absurd cc), tt) in
-      let old : Each (λ (x : Sitting T). IsWithin d x) r.sittings = subst (λ (x : Contents T). Each (λ (y : Sitting T). IsWithin x y) r.sittings) (sym t.4) r.within in
-      let ranked : rank d call < 64 = ranks d r.now (asked a) call (map seat_of r.sittings) [] (r.chain, subst (λ (ss : List (Seat T)). FitsAt r.chain d r.now ss) (map_join seat_of r.sittings (mine ∷ [])) fits) in
-      let within = each_join (λ (x : Sitting T). IsWithin d x) r.sittings (mine ∷ []) old (omega arith, tt) in
+      let known = each_join (λ (x : ActiveQueueCallWitness T). IsKnown r.now x) r.sittings (mine ∷ []) r.known ((refl, λ h. absurd cc), tt) in
+      let old : Each (λ (x : ActiveQueueCallWitness T). IsWithin d x) r.sittings = subst (λ (x : Contents T). Each (λ (y : ActiveQueueCallWitness T). IsWithin x y) r.sittings) (sym t.4) r.within in
+      let ranked : rank d call < 64 = ranks d r.now (asked a) call (map seat_of r.sittings) [] (r.chain, subst (λ (ss : List (ActiveQueueCall T)). FitsAt r.chain d r.now ss) (map_join seat_of r.sittings (mine ∷ [])) fits) in
+      let within = each_join (λ (x : ActiveQueueCallWitness T). IsWithin d x) r.sittings (mine ∷ []) old (omega arith, tt) in
       let e' : one_if_accepted e.mark ≡ 0 = ap (λ (x : QueueEntry T). one_if_accepted x.mark) t.3 in
       record {
         chain = r.chain;
@@ -258,27 +258,27 @@ module _ {T : Type 0} (form : QueueForm) (made : List (QueueStep T)) (c : Conten
   in_range e (inr h) = inr (omega (arith, accepted_more trace e, r.count))
 
   -- the k-th call makes a step
-  module _ (p : ℕ) (k : ℕ) (left right : List (Sitting T)) (mine : Sitting T) (there : r.sittings ≡ left ++ mine ∷ right) (whose : mine.party.id ≡ p) (call : QueueCall T) (e : QueueEntry T) (d : Contents T) (marked_by : e.mark ≡ mark_of call) where
+  module _ (p : ℕ) (k : ℕ) (left right : List (ActiveQueueCallWitness T)) (mine : ActiveQueueCallWitness T) (there : r.sittings ≡ left ++ mine ∷ right) (whose : mine.party.id ≡ p) (call : QueueCall T) (e : QueueEntry T) (d : Contents T) (marked_by : e.mark ≡ mark_of call) where
     q' : Queue T
     q' = after mine.phase e.mark r.now
 
-    known_all : Each (λ (x : Sitting T). IsKnown r.now x) (left ++ mine ∷ right)
-    known_all = subst (λ (xs : List (Sitting T)). Each (λ (x : Sitting T). IsKnown r.now x) xs) there r.known
+    known_all : Each (λ (x : ActiveQueueCallWitness T). IsKnown r.now x) (left ++ mine ∷ right)
+    known_all = subst (λ (xs : List (ActiveQueueCallWitness T)). Each (λ (x : ActiveQueueCallWitness T). IsKnown r.now x) xs) there r.known
 
-    known_left : Each (λ (x : Sitting T). IsKnown r.now x) left
-    known_left = each_first (λ (x : Sitting T). IsKnown r.now x) left (mine ∷ right) known_all
+    known_left : Each (λ (x : ActiveQueueCallWitness T). IsKnown r.now x) left
+    known_left = each_first (λ (x : ActiveQueueCallWitness T). IsKnown r.now x) left (mine ∷ right) known_all
 
-    known_rest : Each (λ (x : Sitting T). IsKnown r.now x) (mine ∷ right)
-    known_rest = each_last (λ (x : Sitting T). IsKnown r.now x) left (mine ∷ right) known_all
+    known_rest : Each (λ (x : ActiveQueueCallWitness T). IsKnown r.now x) (mine ∷ right)
+    known_rest = each_last (λ (x : ActiveQueueCallWitness T). IsKnown r.now x) left (mine ∷ right) known_all
 
-    within_all : Each (λ (x : Sitting T). IsWithin c x) (left ++ mine ∷ right)
-    within_all = subst (λ (xs : List (Sitting T)). Each (λ (x : Sitting T). IsWithin c x) xs) there r.within
+    within_all : Each (λ (x : ActiveQueueCallWitness T). IsWithin c x) (left ++ mine ∷ right)
+    within_all = subst (λ (xs : List (ActiveQueueCallWitness T)). Each (λ (x : ActiveQueueCallWitness T). IsWithin c x) xs) there r.within
 
     my_bound : rank c mine.party.call ≤ mine.left
-    my_bound = (each_last (λ (x : Sitting T). IsWithin c x) left (mine ∷ right) within_all).0
+    my_bound = (each_last (λ (x : ActiveQueueCallWitness T). IsWithin c x) left (mine ∷ right) within_all).0
 
     fits_now : FitsAt r.chain c r.now (map seat_of left ++ seat_of mine ∷ map seat_of right)
-    fits_now = subst (λ (ss : List (Seat T)). FitsAt r.chain c r.now ss) (ap (λ (xs : List (Sitting T)). map seat_of xs) there ∙ map_join seat_of left (mine ∷ right)) r.fits
+    fits_now = subst (λ (ss : List (ActiveQueueCall T)). FitsAt r.chain c r.now ss) (ap (λ (xs : List (ActiveQueueCallWitness T)). map seat_of xs) there ∙ map_join seat_of left (mine ∷ right)) r.fits
 
     my_balance : IsBalanced r.now
     my_balance = (shows c r.now (map seat_of left ++ seat_of mine ∷ map seat_of right) (r.chain, fits_now)).balance
@@ -287,46 +287,46 @@ module _ {T : Type 0} (form : QueueForm) (made : List (QueueStep T)) (c : Conten
     my_limit = (shows c r.now (map seat_of left ++ seat_of mine ∷ map seat_of right) (r.chain, fits_now)).within
 
     -- the sittings after the step, with what is left of the one that made it
-    abbrev with_mine : List (Sitting T) → List (Sitting T)
+    abbrev with_mine : List (ActiveQueueCallWitness T) → List (ActiveQueueCallWitness T)
     with_mine ms = map (sees_too q') left ++ (ms ++ map (sees_too q') right)
 
-    same_seats : (ms : List (Sitting T)) → map seat_of (with_mine ms) ≡ map seat_of left ++ (map seat_of ms ++ map seat_of right)
+    same_seats : (ms : List (ActiveQueueCallWitness T)) → map seat_of (with_mine ms) ≡ map seat_of left ++ (map seat_of ms ++ map seat_of right)
     same_seats ms =
         map_join seat_of (map (sees_too q') left) (ms ++ map (sees_too q') right)
-        ∙ ap (λ (ss : List (Seat T)). ss ++ map seat_of (ms ++ map (sees_too q') right)) (seats_seen q' left)
-        ∙ ap (λ (ss : List (Seat T)). map seat_of left ++ ss) (map_join seat_of ms (map (sees_too q') right) ∙ ap (λ (ss : List (Seat T)). map seat_of ms ++ ss) (seats_seen q' right))
+        ∙ ap (λ (ss : List (ActiveQueueCall T)). ss ++ map seat_of (ms ++ map (sees_too q') right)) (seats_seen q' left)
+        ∙ ap (λ (ss : List (ActiveQueueCall T)). map seat_of left ++ ss) (map_join seat_of ms (map (sees_too q') right) ∙ ap (λ (ss : List (ActiveQueueCall T)). map seat_of ms ++ ss) (seats_seen q' right))
 
-    same_unders : (ms : List (Sitting T)) → map under_of (with_mine ms) ≡ map (observing q') (map under_of left) ++ (map under_of ms ++ map (observing q') (map under_of right))
+    same_unders : (ms : List (ActiveQueueCallWitness T)) → map under_of (with_mine ms) ≡ map (observing q') (map under_of left) ++ (map under_of ms ++ map (observing q') (map under_of right))
     same_unders ms =
         map_join under_of (map (sees_too q') left) (ms ++ map (sees_too q') right)
         ∙ ap (λ (us : List (CallUnderWay T)). us ++ map under_of (ms ++ map (sees_too q') right)) (unders_seen q' left)
         ∙ ap (λ (us : List (CallUnderWay T)). map (observing q') (map under_of left) ++ us) (map_join under_of ms (map (sees_too q') right) ∙ ap (λ (us : List (CallUnderWay T)). map under_of ms ++ us) (unders_seen q' right))
 
-    same_parties : (ms : List (Sitting T)) → map party_of (with_mine ms) ≡ map party_of left ++ (map party_of ms ++ map party_of right)
+    same_parties : (ms : List (ActiveQueueCallWitness T)) → map party_of (with_mine ms) ≡ map party_of left ++ (map party_of ms ++ map party_of right)
     same_parties ms =
         map_join party_of (map (sees_too q') left) (ms ++ map (sees_too q') right)
         ∙ ap (λ (ps : List (Party T)). ps ++ map party_of (ms ++ map (sees_too q') right)) (parties_seen q' left)
         ∙ ap (λ (ps : List (Party T)). map party_of left ++ ps) (map_join party_of ms (map (sees_too q') right) ∙ ap (λ (ps : List (Party T)). map party_of ms ++ ps) (parties_seen q' right))
 
     -- a step that went, with the sittings that it leaves
-    finish : (ms : List (Sitting T)) (n : ℕ) → IsFair r.now mine.phase.ask e.mark → q' ≡ marked mine.phase.ask (makes_room mine.marked_steps) e.mark r.now → OneCell c d
+    finish : (ms : List (ActiveQueueCallWitness T)) (n : ℕ) → IsFair r.now mine.phase.ask e.mark → q' ≡ marked mine.phase.ask (makes_room mine.marked_steps) e.mark r.now → OneCell c d
         → FitsAt (chain_after r.chain c d) d q' (map seat_of left ++ (map seat_of ms ++ map seat_of right))
-        → Each (λ (x : Sitting T). IsKnown q' x) ms → Each (λ (x : Sitting T). IsSet d x) ms
+        → Each (λ (x : ActiveQueueCallWitness T). IsKnown q' x) ms → Each (λ (x : ActiveQueueCallWitness T). IsSet d x) ms
         → map under_of ms ≡ unless_ended (stepped (under_of mine) e.mark r.now q' n) e.reply
         → ContinuesAs (under_of mine) (stepped (under_of mine) e.mark r.now q' n) r.now (map under_of left ++ map under_of right) e.reply
         → (parties' : List (Party T)) → parties' ≡ map party_of left ++ (map party_of ms ++ map party_of right)
         → HasRun form (made ++ Step p ∷ []) d parties' (trace ++ e ∷ [])
     unfolding q'
     finish ms n fair effect cell fit known set mine_is goes parties' are =
-        let all : List (Sitting T) = with_mine ms in
+        let all : List (ActiveQueueCallWitness T) = with_mine ms in
         let chain : List ℕ = chain_after r.chain c d in
-        let fits : FitsAt chain d q' (map seat_of all) = subst (λ (ss : List (Seat T)). FitsAt chain d q' ss) (sym (same_seats ms)) fit in
-        let knowns : Each (λ (x : Sitting T). IsKnown q' x) all =
-        each_join (λ (x : Sitting T). IsKnown q' x) (map (sees_too q') left) (ms ++ map (sees_too q') right) (known_seen r.now mine.phase.ask (is_displaced mine.phase.stage) e.mark fair my_limit left known_left)
-        (each_join (λ (x : Sitting T). IsKnown q' x) ms (map (sees_too q') right) known (known_seen r.now mine.phase.ask (is_displaced mine.phase.stage) e.mark fair my_limit right known_rest.1)) in
-        let sets : Each (λ (x : Sitting T). IsSet d x) all =
-        each_join (λ (x : Sitting T). IsSet d x) (map (sees_too q') left) (ms ++ map (sees_too q') right) (all_set d q' left)
-        (each_join (λ (x : Sitting T). IsSet d x) ms (map (sees_too q') right) set (all_set d q' right)) in
+        let fits : FitsAt chain d q' (map seat_of all) = subst (λ (ss : List (ActiveQueueCall T)). FitsAt chain d q' ss) (sym (same_seats ms)) fit in
+        let knowns : Each (λ (x : ActiveQueueCallWitness T). IsKnown q' x) all =
+        each_join (λ (x : ActiveQueueCallWitness T). IsKnown q' x) (map (sees_too q') left) (ms ++ map (sees_too q') right) (known_seen r.now mine.phase.ask (is_displaced mine.phase.stage) e.mark fair my_limit left known_left)
+        (each_join (λ (x : ActiveQueueCallWitness T). IsKnown q' x) ms (map (sees_too q') right) known (known_seen r.now mine.phase.ask (is_displaced mine.phase.stage) e.mark fair my_limit right known_rest.1)) in
+        let sets : Each (λ (x : ActiveQueueCallWitness T). IsSet d x) all =
+        each_join (λ (x : ActiveQueueCallWitness T). IsSet d x) (map (sees_too q') left) (ms ++ map (sees_too q') right) (all_set d q' left)
+        (each_join (λ (x : ActiveQueueCallWitness T). IsSet d x) ms (map (sees_too q') right) set (all_set d q' right)) in
         record {
           chain = chain;
           now = q';
@@ -338,7 +338,7 @@ module _ {T : Type 0} (form : QueueForm) (made : List (QueueStep T)) (c : Conten
               mine = under_of mine;
               behind = map under_of right;
               left = n;
-              there = ap (λ (xs : List (Sitting T)). map under_of xs) there ∙ map_join under_of left (mine ∷ right);
+              there = ap (λ (xs : List (ActiveQueueCallWitness T)). map under_of xs) there ∙ map_join under_of left (mine ∷ right);
               whose = whose;
               now = effect;
               goes_on = goes;
@@ -369,16 +369,16 @@ module _ {T : Type 0} where
   not_append q ask.Capacity x s h = h
 
   -- the parties after a step of the one between the others
-  abbrev pub among : List (Sitting T) → Party T → Option (QueueReply T) → List (Sitting T) → List (Party T)
+  abbrev pub among : List (ActiveQueueCallWitness T) → Party T → Option (QueueReply T) → List (ActiveQueueCallWitness T) → List (Party T)
   among left z None right = map party_of left ++ (z ∷ map party_of right)
   among left z (Some x) right = map party_of left ++ map party_of right
 
-  among_after : (xs : List (Sitting T)) (k : ℕ) (y : Party T) (s : SplitAt party_of xs k y) (z : Party T) (reply : Option (QueueReply T)) → parties_after (map party_of xs) k z reply ≡ among s.left z reply s.right
+  among_after : (xs : List (ActiveQueueCallWitness T)) (k : ℕ) (y : Party T) (s : SplitAt party_of xs k y) (z : Party T) (reply : Option (QueueReply T)) → parties_after (map party_of xs) k z reply ≡ among s.left z reply s.right
   among_after xs k y s z None = s.set z
   among_after xs k y s z (Some x) = s.removed
 
 module _ {T : Type 0} (form : QueueForm) (made : List (QueueStep T)) (c : Contents T) (parties : List (Party T)) (trace : List (QueueEntry T)) (r : HasRun form made c parties trace) where
-  module _ (p : ℕ) (left right : List (Sitting T)) (mine : Sitting T) (there : r.sittings ≡ left ++ mine ∷ right) (whose : mine.party.id ≡ p) (call : QueueCall T) (d : Contents T) where
+  module _ (p : ℕ) (left right : List (ActiveQueueCallWitness T)) (mine : ActiveQueueCallWitness T) (there : r.sittings ≡ left ++ mine ∷ right) (whose : mine.party.id ≡ p) (call : QueueCall T) (d : Contents T) where
     abbrev entry : Option (QueueReply T) → QueueEntry T
     entry reply = record { mark = mark_of call; reply = reply }
 
@@ -397,7 +397,7 @@ module _ {T : Type 0} (form : QueueForm) (made : List (QueueStep T)) (c : Conten
         let gone = goes_known r.now mine.seen mine.phase.ask m mine.phase.stage p'.stage mine.marked_steps goes.1 (my_balance form made c parties trace r p 0 left right mine there whose call (entry None) d refl) known.0 in
         let next : Queue T = after mine.phase m r.now in
         let marked_steps : List (MarkedStep T) = with_mark mine.marked_steps m r.now mine.seen in
-        let mine' : Sitting T = record { party = party mine.party.id call; phase = p'; marked_steps = marked_steps; seen = next ∷ mine.seen; left = rank d call } in
+        let mine' : ActiveQueueCallWitness T = record { party = party mine.party.id call; phase = p'; marked_steps = marked_steps; seen = next ∷ mine.seen; left = rank d call } in
         let known' : IsKnown next mine' = subst (λ (a : QueueAsk T). Evidence next a p'.stage marked_steps (next ∷ mine.seen)) (sym goes.0) gone.evidence in
         let bound = my_bound form made c parties trace r p 0 left right mine there whose call (entry None) d refl in
         let lefts = known_left form made c parties trace r p 0 left right mine there whose call (entry None) d refl in
@@ -494,16 +494,16 @@ module _ {T : Type 0} where
         run = λ counted. turned form r.made c parties trace s e d parties' (r.run (counted_before form trace e counted)) t counted;
       })
 
-  under_way_of : (p : ℕ) (xs : List (Sitting T)) (k : ℕ) → HasParty p (map party_of xs) k → IsUnderWay p (map under_of xs)
+  under_way_of : (p : ℕ) (xs : List (ActiveQueueCallWitness T)) (k : ℕ) → HasParty p (map party_of xs) k → IsUnderWay p (map under_of xs)
   under_way_of p [] k h = absurd cc
   under_way_of p (x ∷ xs) zero (call, e) = inl (let same : x.party ≡ party p call = cc in ap (λ (y : Party T). y.id) same)
   under_way_of p (x ∷ xs) (suc k) h = inr (under_way_of p xs k h)
 
-  idle_of : (p : ℕ) (xs : List (Sitting T)) → NoneHas p (map party_of xs) → NotUnderWay p (map under_of xs)
+  idle_of : (p : ℕ) (xs : List (ActiveQueueCallWitness T)) → NoneHas p (map party_of xs) → NotUnderWay p (map under_of xs)
   idle_of p [] none = tt
   idle_of p (x ∷ xs) none = (λ e. none 0 x.party refl e, idle_of p xs (λ k y there e. none (suc k) y there e))
 
-  refused_of : (left : List (QueueStep T)) (parties : List (Party T)) (xs : List (Sitting T)) (why : QueueRefusal) → parties ≡ map party_of xs → IsRefused left parties why → MayRefuse (map under_of xs) left why
+  refused_of : (left : List (QueueStep T)) (parties : List (Party T)) (xs : List (ActiveQueueCallWitness T)) (why : QueueRefusal) → parties ≡ map party_of xs → IsRefused left parties why → MayRefuse (map under_of xs) left why
   refused_of (Begin p a ∷ ss) parties xs Busy e h = under_way_of p xs h.0 (subst (λ (ps : List (Party T)). HasParty p ps h.0) e h.1)
   refused_of (Begin p a ∷ ss) parties xs NoMemory e h = idle_of p xs (subst (λ (ps : List (Party T)). NoneHas p ps) e h)
   refused_of (Step p ∷ ss) parties xs Idle e h = idle_of p xs (subst (λ (ps : List (Party T)). NoneHas p ps) e h)

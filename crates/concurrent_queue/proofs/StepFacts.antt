@@ -3,7 +3,7 @@ use Rattle.std.proofs.Common.{◌≡◌, ℕ, ◌<◌, List, [], ◌∷◌, ◌+
 use Rattle.concurrent_queue.specs.Contents.{Contents}
 use Rattle.concurrent_queue.specs.Queue.{Queue, Phase, asked, after, Continues, Answers, IsInRange}
 use Rattle.concurrent_queue.specs.machine.Places.{Place}
-use Rattle.concurrent_queue.specs.Step.{Seat, seat, AreAt, FitsBy, phases, OneCell, PhasesQuiet, chain_after}
+use Rattle.concurrent_queue.specs.Step.{ActiveQueueCall, seat, AreAt, FitsBy, phases, OneCell, PhasesQuiet, chain_after}
 use Rattle.concurrent_queue.specs.machine.Forms.{place, place_phases, FormStep, FormSteps, FormStarts, FormRanks}
 use Rattle.concurrent_queue.specs.declared.call.QueueAsk.{QueueAsk}
 use Rattle.concurrent_queue.specs.declared.call.QueueReply.{QueueReply}
@@ -13,7 +13,7 @@ use Rattle.concurrent_queue.specs.declared.queue_call.QueueCall.{QueueCall}
 
 module _ {A T : Type 0} (at : CallState T → A → Type 0) where
   -- the places of a list of seats, where one seat stands between the others
-  pub record Parted (l r : List (Seat T)) (s : Seat T) (places : List (Place A T)) : Type 0 where
+  pub record Parted (l r : List (ActiveQueueCall T)) (s : ActiveQueueCall T) (places : List (Place A T)) : Type 0 where
     pub left : List (Place A T)
     pub mine : Place A T
     pub right : List (Place A T)
@@ -23,7 +23,7 @@ module _ {A T : Type 0} (at : CallState T → A → Type 0) where
     pub phase : s.phase ≡ mine.phase
     pub rights : AreAt at r right
 
-  pub part : (l r : List (Seat T)) (s : Seat T) (places : List (Place A T)) → AreAt at (l ++ s ∷ r) places → Parted l r s places
+  pub part : (l r : List (ActiveQueueCall T)) (s : ActiveQueueCall T) (places : List (Place A T)) → AreAt at (l ++ s ∷ r) places → Parted l r s places
   part [] r s (x ∷ xs) h = record { left = []; mine = x; right = xs; there = refl; lefts = tt; stands = h.0.0; phase = h.0.1; rights = h.1 }
   part [] r s [] h = absurd h
   part (y ∷ l) r s [] h = absurd h
@@ -31,18 +31,18 @@ module _ {A T : Type 0} (at : CallState T → A → Type 0) where
       let g = part l r s xs h.1 in
       record { left = x ∷ g.left; mine = g.mine; right = g.right; there = ap (λ (zs : List (Place A T)). x ∷ zs) g.there; lefts = (h.0, g.lefts); stands = g.stands; phase = g.phase; rights = g.rights }
 
-  pub join : (l r : List (Seat T)) (xs ys : List (Place A T)) → AreAt at l xs → AreAt at r ys → AreAt at (l ++ r) (xs ++ ys)
+  pub join : (l r : List (ActiveQueueCall T)) (xs ys : List (Place A T)) → AreAt at l xs → AreAt at r ys → AreAt at (l ++ r) (xs ++ ys)
   join [] r [] ys h g = g
   join [] r (x ∷ xs) ys h g = absurd h
   join (s ∷ l) r [] ys h g = absurd h
   join (s ∷ l) r (x ∷ xs) ys h g = (h.0, join l r xs ys h.1 g)
 
-  pub cut : (l r : List (Seat T)) (places : List (Place A T)) → AreAt at (l ++ r) places → (xs : List (Place A T)) × (ys : List (Place A T)) × (places ≡ xs ++ ys) × AreAt at l xs × AreAt at r ys
+  pub cut : (l r : List (ActiveQueueCall T)) (places : List (Place A T)) → AreAt at (l ++ r) places → (xs : List (Place A T)) × (ys : List (Place A T)) × (places ≡ xs ++ ys) × AreAt at l xs × AreAt at r ys
   cut [] r places h = ([], places, refl, tt, h)
   cut (s ∷ l) r [] h = absurd h
   cut (s ∷ l) r (x ∷ xs) h = let g = cut l r xs h.1 in (x ∷ g.0, g.1, ap (λ (zs : List (Place A T)). x ∷ zs) g.2, (h.0, g.3), g.4)
 
-  pub same_phases : (ss : List (Seat T)) (xs : List (Place A T)) → AreAt at ss xs → phases ss ≡ place_phases xs
+  pub same_phases : (ss : List (ActiveQueueCall T)) (xs : List (Place A T)) → AreAt at ss xs → phases ss ≡ place_phases xs
   same_phases [] [] h = refl
   same_phases [] (x ∷ xs) h = absurd h
   same_phases (s ∷ ss) [] h = absurd h
@@ -54,7 +54,7 @@ module _ {A T : Type 0} (at : CallState T → A → Type 0) where
     after_call s = record { state = wrap s.action; mark = s.mark }
 
     -- the same for seats
-    pub record SeatStep (c : Contents T) (a : A) (p : Phase T) (d : Contents T) (s : Stepped A T) (q : Queue T) (l r : List (Seat T)) : Type 0 where
+    pub record SeatStep (c : Contents T) (a : A) (p : Phase T) (d : Contents T) (s : Stepped A T) (q : Queue T) (l r : List (ActiveQueueCall T)) : Type 0 where
       pub same_form : d.form ≡ c.form
       pub one_cell : OneCell c d
       pub effect : MatchOption s.reply
@@ -62,7 +62,7 @@ module _ {A T : Type 0} (at : CallState T → A → Type 0) where
           (λ x. Answers q p s.mark x × FitsBy at (means d (after p s.mark q)) (l ++ r))
       pub ends : PhasesQuiet q (phases (l ++ r)) → MatchOption s.reply (left d s.action < left c a) (λ x. Unit {0})
 
-    module _ (wraps : (a : A) → at (wrap a) a) (c : Contents T) (a : A) (d : Contents T) (s : Stepped A T) (q : Queue T) (p : Phase T) (l r : List (Seat T)) (before : QueueCall T) (places : List (Place A T)) (parts : Parted l r (seat before p) places) where
+    module _ (wraps : (a : A) → at (wrap a) a) (c : Contents T) (a : A) (d : Contents T) (s : Stepped A T) (q : Queue T) (p : Phase T) (l r : List (ActiveQueueCall T)) (before : QueueCall T) (places : List (Place A T)) (parts : Parted l r (seat before p) places) where
       lift : (reply : Option (QueueReply T))
           → MatchOption reply
           ((p' : Phase T) × Continues q p s.mark p' × means d (after p s.mark q) (parts.left ++ place s.action p' ∷ parts.right))
@@ -86,14 +86,14 @@ module _ {A T : Type 0} (at : CallState T → A → Type 0) where
           }
 
     -- a new call comes in
-    pub seat_start : (start : QueueAsk T → A) → FormStarts means left start → (c : Contents T) (q : Queue T) (a : QueueAsk T) (l r : List (Seat T)) (call : QueueCall T) → at call.state (start a)
+    pub seat_start : (start : QueueAsk T → A) → FormStarts means left start → (c : Contents T) (q : Queue T) (a : QueueAsk T) (l r : List (ActiveQueueCall T)) (call : QueueCall T) → at call.state (start a)
         → FitsBy at (means c q) (l ++ r) → FitsBy at (means c q) (l ++ seat call (asked a) ∷ r)
     seat_start start facts c q a l r call stands fits =
         let parts = cut l r fits.0 fits.1 in
         let m : means c q (parts.0 ++ parts.1) = subst (λ (xs : List (Place A T)). means c q xs) parts.2 fits.2 in
         (parts.0 ++ place (start a) (asked a) ∷ parts.1, join l (seat call (asked a) ∷ r) parts.0 (place (start a) (asked a) ∷ parts.1) parts.3 ((stands, refl), parts.4), facts c q a parts.0 parts.1 m)
 
-    pub seat_ranks : FormRanks means left → (c : Contents T) (q : Queue T) (p : Phase T) (l r : List (Seat T)) (call : QueueCall T) (a : A) → ((x : A) → at call.state x → x ≡ a)
+    pub seat_ranks : FormRanks means left → (c : Contents T) (q : Queue T) (p : Phase T) (l r : List (ActiveQueueCall T)) (call : QueueCall T) (a : A) → ((x : A) → at call.state x → x ≡ a)
         → FitsBy at (means c q) (l ++ seat call p ∷ r) → left c a < 64
     seat_ranks facts c q p l r call a is fits =
         let parts = part l r (seat call p) fits.0 fits.1 in
@@ -102,7 +102,7 @@ module _ {A T : Type 0} (at : CallState T → A → Type 0) where
 
   -- one step of a call whose action is a, among seats
   pub seat_step : (means : List ℕ → Contents T → Queue T → List (Place A T) → Type 0) (left : Contents T → A → ℕ) (wrap : A → CallState T) → ((b : A) → at (wrap b) b) → (step : Contents T → A → Contents T → Stepped A T → Type 0) → FormSteps means left step
-      → (chain : List ℕ) (c : Contents T) (a : A) (d : Contents T) (s : Stepped A T) (q : Queue T) (p : Phase T) (l r : List (Seat T)) (before : QueueCall T)
+      → (chain : List ℕ) (c : Contents T) (a : A) (d : Contents T) (s : Stepped A T) (q : Queue T) (p : Phase T) (l r : List (ActiveQueueCall T)) (before : QueueCall T)
       → ((x : A) → at before.state x → x ≡ a) → step c a d s → IsInRange q → FitsBy at (means chain c q) (l ++ seat before p ∷ r) → SeatStep (means (chain_after chain c d)) left wrap c a p d s q l r
   seat_step means left wrap wraps step facts chain c a d s q p l r before is made range fits =
       let parts = part l r (seat before p) fits.0 fits.1 in

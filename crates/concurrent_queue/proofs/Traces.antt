@@ -2,7 +2,7 @@
 use Rattle.std.proofs.Common.{◌≡◌, ◌∙◌, ℕ, Option, Some, refl, sym, subst}
 use Rattle.concurrent_queue.specs.Deeds.{Deed}
 use Rattle.concurrent_queue.specs.Walked.{StateMakes, CallMakes, WalkedFrom, first_of, standing}
-use Rattle.concurrent_queue.specs.machine.Ahead.{Leads}
+use Rattle.concurrent_queue.specs.machine.FastPath.{Leads}
 use Rattle.concurrent_queue.specs.declared.call.QueueAsk.{QueueAsk}
 use Rattle.concurrent_queue.specs.declared.call.QueueReply.{QueueReply}
 use Rattle.concurrent_queue.specs.declared.call.Stepped.{Stepped}

@@ -1,7 +1,7 @@
 -- Chains of steps of a call over cells of any kind.
 use Rattle.std.proofs.Common.{◌≡◌, ℕ, zero, suc, ◌==◌, Bool, true, false, None, Some, refl, sym, subst, ap, ◌∙◌}
 use Rattle.concurrent_queue.specs.Deeds.{Deed, Move, loads, stores, exchanges, adds, sets_bits, keeps_bits, puts, takes, spares, retires, rests, Makes, loaded, stored, exchanged, added, bits_set, bits_kept, did_put, did_take, spared, retired}
-use Rattle.concurrent_queue.specs.machine.Ahead.{IsStep, Leads, Ends, plainly}
+use Rattle.concurrent_queue.specs.machine.FastPath.{IsStep, Leads, Ends, plainly}
 use Rattle.concurrent_queue.specs.machine.Single.{SingleMakes, single_moves, start}
 use Rattle.concurrent_queue.specs.machine.RingWords.{cap_of, ring_mark, ring_start}
 use Rattle.concurrent_queue.specs.machine.RingMoves.{RingMakes, ring_moves}

@@ -29,12 +29,12 @@ use Rattle.concurrent_queue.specs.declared.queue_call.CallState.TheVariants.{Ask
 use Rattle.concurrent_queue.specs.declared.queue_call.QueueCall.{QueueCall}
 
 -- a call under way, and how far it has come
-pub record Seat (T : Type 0) : Type 0 where
+pub record ActiveQueueCall (T : Type 0) : Type 0 where
   pub call : QueueCall T
   pub phase : Phase T
 
 module _ {T : Type 0} where
-  abbrev pub seat : QueueCall T → Phase T → Seat T
+  abbrev pub seat : QueueCall T → Phase T → ActiveQueueCall T
   seat call p = record { call = call; phase = p }
 
   -- what the last step of a call did
@@ -45,12 +45,12 @@ module _ {T : Type 0} where
 
   -- the actions of a form at which calls stand, a call that has made no step standing at its first
   module _ {A : Type 0} (at : CallState T → A → Type 0) where
-    abbrev pub AreAt : List (Seat T) → List (Place A T) → Type 0
+    abbrev pub AreAt : List (ActiveQueueCall T) → List (Place A T) → Type 0
     AreAt [] [] = Unit {0}
     AreAt (s ∷ ss) (p ∷ ps) = (at s.call.state p.action × (s.phase ≡ p.phase)) × AreAt ss ps
     AreAt _ _ = ⊥
 
-    abbrev pub FitsBy : (List (Place A T) → Type 0) → List (Seat T) → Type 0
+    abbrev pub FitsBy : (List (Place A T) → Type 0) → List (ActiveQueueCall T) → Type 0
     FitsBy means seats = (places : List (Place A T)) × AreAt seats places × means places
 
   abbrev pub IsAtSingle : CallState T → SingleAction T → Type 0
@@ -64,12 +64,12 @@ module _ {T : Type 0} where
   IsAtRing _ x = ⊥
 
   -- one slot
-  pub record FitsSlot (cap : ℕ) (c : Contents T) (q : Queue T) (seats : List (Seat T)) : Type 0 where
+  pub record FitsSlot (cap : ℕ) (c : Contents T) (q : Queue T) (seats : List (ActiveQueueCall T)) : Type 0 where
     pub one : cap ≡ 1
     pub calls : FitsBy IsAtSingle (SingleMeans c q) seats
 
   -- a ring
-  pub record FitsRing (cap : ℕ) (c : Contents T) (q : Queue T) (seats : List (Seat T)) : Type 0 where
+  pub record FitsRing (cap : ℕ) (c : Contents T) (q : Queue T) (seats : List (ActiveQueueCall T)) : Type 0 where
     pub two : 2 ≤ cap
     pub most : cap ≤ 2 ^ 58
     pub calls : FitsBy IsAtRing (RingMeans cap (ring_mark cap) c q) seats
@@ -84,16 +84,16 @@ module _ {T : Type 0} where
   abbrev pub chain_after : List ℕ → Contents T → Contents T → List ℕ
   chain_after chain c d = if c.tail_block == d.tail_block then chain else chain ++ (d.tail_block - 1) ∷ []
 
-  abbrev pub FitsForm : QueueForm → List ℕ → Contents T → Queue T → List (Seat T) → Type 0
+  abbrev pub FitsForm : QueueForm → List ℕ → Contents T → Queue T → List (ActiveQueueCall T) → Type 0
   FitsForm (Bounded cap) chain c q seats = FitsSlot cap c q seats ⊎ FitsRing cap c q seats
   FitsForm Unbounded chain c q seats = FitsBy IsAtBlocks (UnboundedMeans chain c q) seats
 
   -- the cells and the calls under way mean this queue, which has used these blocks. Callers do not open it
-  unfoldable pub FitsAt : List ℕ → Contents T → Queue T → List (Seat T) → Type 0
+  unfoldable pub FitsAt : List ℕ → Contents T → Queue T → List (ActiveQueueCall T) → Type 0
   FitsAt chain c q seats = FitsForm c.form chain c q seats
 
   -- whichever blocks it has used
-  abbrev pub Fits : Contents T → Queue T → List (Seat T) → Type 0
+  abbrev pub Fits : Contents T → Queue T → List (ActiveQueueCall T) → Type 0
   Fits c q seats = (chain : List ℕ) × FitsAt chain c q seats
 
   -- ---- what the words give
@@ -203,10 +203,10 @@ module _ {T : Type 0} where
   abbrev pub PhasesQuiet : Queue T → List (Phase T) → Type 0
   PhasesQuiet q others = AllQuiet others × (q.capacity ≡ None → (0 < q.removed) ⊎ (others ≡ []))
 
-  abbrev pub phase_of : Seat T → Phase T
+  abbrev pub phase_of : ActiveQueueCall T → Phase T
   phase_of s = s.phase
 
-  abbrev pub phases : List (Seat T) → List (Phase T)
+  abbrev pub phases : List (ActiveQueueCall T) → List (Phase T)
   phases seats = map phase_of seats
 
   -- how many steps a call still needs at most, where the others are quiet
@@ -235,10 +235,10 @@ module _ {T : Type 0} where
   -- a new call may come in among any others, at any place in their list
   abbrev pub Starts : QueueCall T → QueueAsk T → Type 0
   Starts call a =
-      (chain : List ℕ) (c : Contents T) (q : Queue T) (l r : List (Seat T)) → FitsAt chain c q (l ++ r) → FitsAt chain c q (l ++ seat call (asked a) ∷ r)
+      (chain : List ℕ) (c : Contents T) (q : Queue T) (l r : List (ActiveQueueCall T)) → FitsAt chain c q (l ++ r) → FitsAt chain c q (l ++ seat call (asked a) ∷ r)
 
   -- what a step of the call p leaves, whatever the other calls are: it does what its mark says, and goes on or answers
-  pub record StepLeaves (chain : List ℕ) (c : Contents T) (before : QueueCall T) (p : Phase T) (d : Contents T) (call : QueueCall T) (reply : Option (QueueReply T)) (q : Queue T) (l r : List (Seat T)) : Type 0 where
+  pub record StepLeaves (chain : List ℕ) (c : Contents T) (before : QueueCall T) (p : Phase T) (d : Contents T) (call : QueueCall T) (reply : Option (QueueReply T)) (q : Queue T) (l r : List (ActiveQueueCall T)) : Type 0 where
     pub one_cell : OneCell c d
     pub effect : MatchOption reply
         ((p' : Phase T) × Continues q p call.mark p' × FitsAt (chain_after chain c d) d (after p call.mark q) (l ++ seat call p' ∷ r))
@@ -247,4 +247,4 @@ module _ {T : Type 0} where
 
   abbrev pub IsQueueStep : Contents T → QueueCall T → Contents T → QueueCall T → Option (QueueReply T) → Type 0
   IsQueueStep c before d call reply =
-      (chain : List ℕ) (q : Queue T) (p : Phase T) (l r : List (Seat T)) → IsInRange q → FitsAt chain c q (l ++ seat before p ∷ r) → StepLeaves chain c before p d call reply q l r
+      (chain : List ℕ) (q : Queue T) (p : Phase T) (l r : List (ActiveQueueCall T)) → IsInRange q → FitsAt chain c q (l ++ seat before p ∷ r) → StepLeaves chain c before p d call reply q l r

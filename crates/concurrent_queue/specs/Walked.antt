@@ -2,7 +2,7 @@
 -- machine of its form makes it. Nothing here speaks of what the cells hold, so it is said of cells that threads share as well.
 use Rattle.std.specs.Prelude.{◌≡◌, ℕ, ◌==◌, Bool, true, false, Option, Result, MatchResult}
 use Rattle.concurrent_queue.specs.Deeds.{Deed}
-use Rattle.concurrent_queue.specs.machine.Ahead.{Leads, Ends}
+use Rattle.concurrent_queue.specs.machine.FastPath.{Leads, Ends}
 use Rattle.concurrent_queue.specs.machine.Single.{SingleMakes, start}
 use Rattle.concurrent_queue.specs.machine.RingWords.{cap_of, ring_mark, ring_start}
 use Rattle.concurrent_queue.specs.machine.RingMoves.{RingMakes}
@@ -85,6 +85,6 @@ module _ {T S : Type 0} (did : Deed T → S → S → Type 0) where
   WalkedAsking form a s r t = WalkedFrom form (Asked a) s r t
 
   -- the steps from this action to an answer, or up to where the call that is left stands
-  abbrev pub WalkedAhead : {R : Type 0} → (R → QueueReply T) → QueueForm → CallState T → S → Result R (QueueCall T) → S → Type 0
-  WalkedAhead reply form at s result t =
+  abbrev pub WalkedFast : {R : Type 0} → (R → QueueReply T) → QueueForm → CallState T → S → Result R (QueueCall T) → S → Type 0
+  WalkedFast reply form at s result t =
       MatchResult result (λ r. WalkedFrom form at s (reply r) t) (λ call. (n : ℕ) × Leads (StateMakes form) n s at t (standing form call.state))

@@ -22,5 +22,5 @@ pub mod Dispatch
 pub mod Places
 pub mod Positions
 pub mod Forms
-pub mod Ahead
+pub mod FastPath
 pub mod Guarded

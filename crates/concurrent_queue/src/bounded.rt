@@ -16,7 +16,7 @@ ghost use Rattle.concurrent_queue.specs.machine.RingMoves.{RingMakes};
 ghost use Rattle.concurrent_queue.specs.machine.Dispatch.{ring_cap};
 ghost use Rattle.concurrent_queue.specs.Replies.{RingFollows, MaySend};
 
-pub(crate) mod ahead;
+pub(crate) mod fast_path;
 
 use crate::call::{QueueAsk, QueueMark, QueueReply, Stepped};
 use crate::cells::{Cells, QueueForm, Slot, Word};

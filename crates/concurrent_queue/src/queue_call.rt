@@ -6,7 +6,7 @@ ghost use Rattle.concurrent_queue.specs.Replies.{StateFollows};
 ghost use Rattle.concurrent_queue.specs.Walked.{StateMakes};
 ghost use Rattle.concurrent_queue.specs.declared.call.QueueAsk.TheVariants as ask;
 
-pub(crate) mod ahead;
+pub(crate) mod fast_path;
 mod place;
 pub mod whole;
 

@@ -9,7 +9,7 @@ ghost use Rattle.concurrent_queue.specs.machine.Single.{stays, marks, finishes, 
 ghost use Rattle.concurrent_queue.specs.Replies.{SingleFollows};
 ghost use Rattle.concurrent_queue.specs.machine.Single.{SingleMakes};
 
-pub(crate) mod ahead;
+pub(crate) mod fast_path;
 
 use crate::call::{QueueAsk, QueueMark, QueueReply, Stepped};
 use crate::cells::{Cells, Slot, Word};

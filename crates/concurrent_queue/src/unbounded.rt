@@ -9,9 +9,9 @@ ghost use Rattle.concurrent_queue.specs.Replies.{EndFollows, BlocksFollows};
 ghost use Rattle.concurrent_queue.specs.declared.call.QueueAsk.TheVariants as ask;
 
 pub(crate) mod action;
-pub(crate) mod ahead;
 mod ask;
 pub(crate) mod ending;
+pub(crate) mod fast_path;
 mod pop;
 mod push;
 

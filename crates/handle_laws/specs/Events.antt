@@ -20,7 +20,7 @@ use Rattle.channel_calls.specs.declared.error.Refused.{Refused}
 use Rattle.channel_calls.specs.declared.error.TryRecvError.{TryRecvError}
 use Rattle.channel_calls.specs.declared.reply.Reply.{Reply}
 use Rattle.channel_calls.specs.declared.reply.Reply.TheVariants as reply
-use Rattle.channel_calls.specs.declared.stage.Kept.{Kept}
+use Rattle.channel_calls.specs.declared.stage.Returned.{Returned}
 use Rattle.channel_calls.specs.declared.stage.Side.{Side}
 use Rattle.channel_calls.specs.declared.stage.Stage.{Stage}
 use Rattle.channel_steps.specs.every_run.Bridge.{Act, Event, begins, does, Given, Acts, Along}
@@ -34,7 +34,7 @@ use Rattle.async_channel.specs.Several.{ReceivesMany}
 module _ {T W X : Type 0} (cells_did : cell.Deed T → X → X → Type 0) (saw : Deed T W → X → X → Type 0) where
   -- operations of a queue of this form and deeds on lists and counts were seen, one after another, from the one state of the trace to
   -- the other. They are the next events of a party that makes this call: it is given this answer, whatever the party does then
-  abbrev pub HasEvents : QueueForm → ChannelAsk T W → X → Reply T → Kept T → X → Type 0
+  abbrev pub HasEvents : QueueForm → ChannelAsk T W → X → Reply T → Returned T → X → Type 0
   HasEvents form ask s r kept t =
       (os : List (Act T W)) × Along saw cells_did os s t
       × ((xs : List (Event T W)) (more : List (Given T)) → Acts form None xs more → Acts form None (begins ask ∷ map does os ++ xs) (record { reply = r; kept = kept } ∷ more))
@@ -47,7 +47,7 @@ module _ {T W X : Type 0} (did : cell.Deed T → X → X → Type 0) (shown : De
   -- a call that was seen to be walked to its answer has such events
   abbrev pub WalksAct : Type 0
   WalksAct =
-      (form : QueueForm) (ask : ChannelAsk T W) (s : X) (r : Reply T) (kept : Kept T) (t : X)
+      (form : QueueForm) (ask : ChannelAsk T W) (s : X) (r : Reply T) (kept : Returned T) (t : X)
       → WalkedFrom (Saw did shown form) (first ask) s r kept t → HasEvents did (Saw did shown form) form ask s r kept t
 
 module _ {T W X : Type 0} (did : cell.Deed T → X → X → Type 0) (shown : Deed T W → X → X → Type 0) (entered : ℕ → X → X → Type 0) where
@@ -55,7 +55,7 @@ module _ {T W X : Type 0} (did : cell.Deed T → X → X → Type 0) (shown : De
   abbrev pub CallsAct : Type 0
   CallsAct =
       (channel : Handle) (ask : ChannelAsk T W) (s : X) (r : Reply T) (t : X)
-      → SeenOn did shown entered channel (λ saw. WalkedTo saw (first ask)) s r t → (here : X) × entered channel.seal s here × (kept : Kept T) × HasEvents did (Saw did shown channel.form) channel.form ask here r kept t
+      → SeenOn did shown entered channel (λ saw. WalkedTo saw (first ask)) s r t → (here : X) × entered channel.seal s here × (kept : Returned T) × HasEvents did (Saw did shown channel.form) channel.form ask here r kept t
 
   abbrev pub PollsAct : Type 0
   PollsAct =
@@ -74,33 +74,33 @@ module _ {T W X : Type 0} (did : cell.Deed T → X → X → Type 0) (shown : De
   ClonesAct =
       (channel : Handle) (side : Side) (s t : X)
       → SeenOn {A = Result Unit HandleError} did shown entered channel (λ saw. Clones saw side) s (Ok (record {})) t
-      → (here : X) × entered channel.seal s here × (kept : Kept T) × HasEvents did (Saw did shown channel.form) channel.form (CloneHandle side) here reply.Made kept t
+      → (here : X) × entered channel.seal s here × (kept : Returned T) × HasEvents did (Saw did shown channel.form) channel.form (CloneHandle side) here reply.Made kept t
 
   abbrev pub UpgradesAct : Type 0
   UpgradesAct =
       (channel : Handle) (side : Side) (s t : X)
       → SeenOn {A = Result (Option Unit) HandleError} did shown entered channel (λ saw. Upgrades saw side) s (Ok (Some (record {}))) t
-      → (here : X) × entered channel.seal s here × (kept : Kept T) × HasEvents did (Saw did shown channel.form) channel.form (Upgrade side) here reply.Made kept t
+      → (here : X) × entered channel.seal s here × (kept : Returned T) × HasEvents did (Saw did shown channel.form) channel.form (Upgrade side) here reply.Made kept t
 
   -- of a receive of several messages, into a list of its own and into one that is there
   abbrev pub SeveralAct : Type 0
   SeveralAct =
       (channel : Handle) (limit : ℕ) (s : X) (r : Result (Vec T) (Refused TryRecvError Unit)) (t : X)
       → SeenOn did shown entered channel (λ saw. ReceivesMany saw limit) s r t
-      → (here : X) × entered channel.seal s here × (answer : Result (List T) (Refused TryRecvError Unit)) × (kept : Kept T) × HasEvents did (Saw did shown channel.form) channel.form (RecvMany limit) here (reply.RecvMany answer) kept t
+      → (here : X) × entered channel.seal s here × (answer : Result (List T) (Refused TryRecvError Unit)) × (kept : Returned T) × HasEvents did (Saw did shown channel.form) channel.form (RecvMany limit) here (reply.RecvMany answer) kept t
 
   abbrev pub FillsAct : Type 0
   FillsAct =
       (channel : Handle) (room : ℕ) (before : List T) (s : X) (r : Result ℕ TryRecvError) (after : List T) (t : X)
       → SeenOn did shown entered channel (λ saw begin a end. Fills saw room before begin a after end) s r t
-      → (here : X) × entered channel.seal s here × (answer : Result (List T) (Refused TryRecvError Unit)) × (kept : Kept T) × HasEvents did (Saw did shown channel.form) channel.form (RecvMany room) here (reply.RecvMany answer) kept t
+      → (here : X) × entered channel.seal s here × (answer : Result (List T) (Refused TryRecvError Unit)) × (kept : Returned T) × HasEvents did (Saw did shown channel.form) channel.form (RecvMany room) here (reply.RecvMany answer) kept t
 
   -- of a message that a walk gives which doesn't wait and has not ended
   abbrev pub TakesAct : Type 0
   TakesAct =
       (channel : Handle) (ended : Bool) (s : X) (item : T) (t : X)
       → SeenOn did shown entered channel (λ saw. TakesNext saw ended) s (Some item) t
-      → (here : X) × entered channel.seal s here × (kept : Kept T) × HasEvents did (Saw did shown channel.form) channel.form TryRecv here (reply.TryRecv (Ok item)) kept t
+      → (here : X) × entered channel.seal s here × (kept : Returned T) × HasEvents did (Saw did shown channel.form) channel.form TryRecv here (reply.TryRecv (Ok item)) kept t
 
 module _ {T W X : Type 0} (did : cell.Deed T → X → X → Type 0) (shown : Deed T W → X → X → Type 0) (parked : Option W → X → X → Type 0) (slept : X → X → Type 0) where
   -- what was seen of a call that blocks its thread, a deed on a list behind what the thread rested before it
@@ -110,14 +110,14 @@ module _ {T W X : Type 0} (did : cell.Deed T → X → X → Type 0) (shown : De
   -- such a call made whole calls one after another; who has no task of its own may take any for the first poll
   abbrev pub BlocksAct : (ℕ → X → X → Type 0) → Type 0
   BlocksAct entered =
-      (channel : Handle) (b : Blocked T) (task : W) (s : X) (r : Reply T) (kept : Kept T) (t : X)
+      (channel : Handle) (b : Blocked T) (task : W) (s : X) (r : Reply T) (kept : Returned T) (t : X)
       → SeenOn did shown entered channel (λ saw begin a end. Blocks saw parked slept b begin a kept end) s r t
       → (here : X) × entered channel.seal s here × (InCalls (SawRested channel.form) b here r kept t ⊎ IsLeft (SawRested channel.form) b here r kept t)
 
   -- each of which has its events, as has the first poll that stands for ever where no task was given
   abbrev pub RestedAct : Type 0
   RestedAct =
-      (form : QueueForm) (ask : ChannelAsk T W) (s : X) (r : Reply T) (kept : Kept T) (t : X)
+      (form : QueueForm) (ask : ChannelAsk T W) (s : X) (r : Reply T) (kept : Returned T) (t : X)
       → WalkedFrom (SawRested form) (first ask) s r kept t → HasEvents did (SawRested form) form ask s r kept t
 
   abbrev pub StandsAct : Type 0

@@ -9,7 +9,7 @@ ghost use Rattle.channel_calls.specs.Listed.{is_pending};
 ghost use Rattle.channel_calls.specs.Walks.{WalkedTo};
 ghost use Rattle.channel_calls.specs.declared.ask.ChannelAsk.TheVariants as ask;
 ghost use Rattle.channel_calls.specs.declared.reply.Reply.TheVariants as reply;
-ghost use Rattle.channel_calls.specs.declared.stage.Line.TheVariants as line;
+ghost use Rattle.channel_calls.specs.declared.stage.WaitList.TheVariants as line;
 ghost use Rattle.async_channel.specs.Handles.{new_listening};
 ghost use Rattle.async_channel.specs.Polls.{Polls};
 ghost use Rattle.async_channel.specs.Watched.{WasSeen};
@@ -19,7 +19,7 @@ use crate::open::no_trace::NoTrace;
 use crate::polls::waits::Waits;
 use crate::seen::Trace;
 use channel_calls::error::{RecvError, Refused};
-use channel_calls::stage::Line;
+use channel_calls::stage::WaitList;
 use futures::Future;
 use futures::task::{Context, Poll};
 use std::marker::Model;
@@ -89,6 +89,6 @@ impl<T: Drop, R: Wait + Copy, S: Trace<T> + Copy> Drop for Recv<'_, T, R, S> {
     fn drop(self) {
         let Recv { receiver, waits } = self;
         let shared = &receiver.counted.link.shared;
-        let _ = shared.leave(&receiver.rt, Line::Receives, waits, receiver.watch);
+        let _ = shared.leave(&receiver.rt, WaitList::Receives, waits, receiver.watch);
     }
 }

@@ -8,7 +8,7 @@ ghost use Rattle.channel_calls.specs.Calls.{SendsOn, send_ask};
 ghost use Rattle.channel_calls.specs.Walks.{WalkedTo};
 ghost use Rattle.channel_calls.specs.declared.ask.ChannelAsk.TheVariants as ask;
 ghost use Rattle.channel_calls.specs.declared.reply.Reply.TheVariants as reply;
-ghost use Rattle.channel_calls.specs.declared.stage.Line.TheVariants as line;
+ghost use Rattle.channel_calls.specs.declared.stage.WaitList.TheVariants as line;
 ghost use Rattle.async_channel.specs.Handles.{new_sending, waits_on};
 ghost use Rattle.async_channel.specs.Polls.{PollsSend};
 ghost use Rattle.async_channel.specs.Watched.{WasSeen};
@@ -18,7 +18,7 @@ use crate::open::no_trace::NoTrace;
 use crate::polls::waits::Waits;
 use crate::seen::Trace;
 use channel_calls::error::{Refused, SendError};
-use channel_calls::stage::Line;
+use channel_calls::stage::WaitList;
 use futures::Future;
 use futures::task::{Context, Poll};
 use std::marker::Model;
@@ -109,7 +109,7 @@ impl<T: Drop, R: Wait + Copy, S: Trace<T> + Copy> Drop for Send<'_, T, R, S> {
             waits,
         } = self;
         let shared = &sender.counted.link.shared;
-        let (back, _) = shared.give_up(&sender.rt, Line::Sends, message, waits, sender.watch);
+        let (back, _) = shared.give_up(&sender.rt, WaitList::Sends, message, waits, sender.watch);
         drop(back);
     }
 }

@@ -1,7 +1,7 @@
 //! A trace that keeps nothing.
 
 use crate::seen::{Sight, Trace};
-use channel_calls::stage::{Line, Side};
+use channel_calls::stage::{Side, WaitList};
 use concurrent_queue::cells::{Slot, Word};
 use concurrent_queue::error::NoMemory;
 use concurrent_queue::seen as queue;
@@ -88,33 +88,33 @@ impl<T> Trace<T> for NoTrace {
     fn inserted(
         &mut self,
         _sight: &Sight<NoTrace>,
-        _line: Line,
+        _line: WaitList,
         _answer: Result<Key, ListenError>,
     ) {}
 
     #[inline(always)]
-    fn offers(&mut self, _sight: &Sight<NoTrace>, _line: Line, _key: Key, _task: &Task) {}
+    fn offers(&mut self, _sight: &Sight<NoTrace>, _line: WaitList, _key: Key, _task: &Task) {}
 
     #[inline(always)]
     fn registered(
         &mut self,
         _sight: &Sight<NoTrace>,
-        _line: Line,
+        _line: WaitList,
         _key: Key,
         _answer: &Option<Task>,
     ) {}
 
     #[inline(always)]
-    fn taken_off(&mut self, _sight: &Sight<NoTrace>, _line: Line, _key: Key) {}
+    fn taken_off(&mut self, _sight: &Sight<NoTrace>, _line: WaitList, _key: Key) {}
 
     #[inline(always)]
-    fn one_told(&mut self, _sight: &Sight<NoTrace>, _line: Line) {}
+    fn one_told(&mut self, _sight: &Sight<NoTrace>, _line: WaitList) {}
 
     #[inline(always)]
-    fn more_told(&mut self, _sight: &Sight<NoTrace>, _line: Line, _count: usize) {}
+    fn more_told(&mut self, _sight: &Sight<NoTrace>, _line: WaitList, _count: usize) {}
 
     #[inline(always)]
-    fn all_told(&mut self, _sight: &Sight<NoTrace>, _line: Line) {}
+    fn all_told(&mut self, _sight: &Sight<NoTrace>, _line: WaitList) {}
 
     #[inline(always)]
     fn counted(&mut self, _sight: &Sight<NoTrace>, _side: Side, _found: usize) {}

@@ -9,7 +9,7 @@ ghost use Rattle.channel_calls.specs.Listed.{is_pending};
 ghost use Rattle.channel_calls.specs.Walks.{WalkedTo};
 ghost use Rattle.channel_calls.specs.declared.ask.ChannelAsk.TheVariants as ask;
 ghost use Rattle.channel_calls.specs.declared.reply.Reply.TheVariants as reply;
-ghost use Rattle.channel_calls.specs.declared.stage.Line.TheVariants as line;
+ghost use Rattle.channel_calls.specs.declared.stage.WaitList.TheVariants as line;
 ghost use Rattle.async_channel.specs.Handles.{waits_on};
 ghost use Rattle.async_channel.specs.Polls.{Polls, PollsSend};
 ghost use Rattle.async_channel.specs.Saw.{SeenOn};
@@ -21,7 +21,7 @@ use crate::handles::send::Send;
 use crate::polls::waits::Waits;
 use crate::seen::Trace;
 use channel_calls::error::{RecvError, Refused, SendError};
-use channel_calls::stage::Line;
+use channel_calls::stage::WaitList;
 use event_listener::error::ListenError;
 use futures::task::{Context, Poll};
 use std::mem;
@@ -65,7 +65,7 @@ impl<'a, T: Drop, R: Wait + Copy, S: Trace<T> + Copy> Send<'a, T, R, S> {
         let shared = &sender.counted.link.shared;
         let message = self.message.take();
         let waits = mem::replace(&mut self.waits, Waits::new());
-        shared.give_up(&sender.rt, Line::Sends, message, waits, trace)
+        shared.give_up(&sender.rt, WaitList::Sends, message, waits, trace)
     }
 }
 
@@ -95,7 +95,7 @@ impl<'a, T: Drop, R: Wait + Copy, S: Trace<T> + Copy> Recv<'a, T, R, S> {
         let receiver = self.receiver;
         let shared = &receiver.counted.link.shared;
         let waits = mem::replace(&mut self.waits, Waits::new());
-        shared.leave(&receiver.rt, Line::Receives, waits, trace)
+        shared.leave(&receiver.rt, WaitList::Receives, waits, trace)
     }
 }
 
@@ -126,7 +126,7 @@ impl<'a, T: Drop, R: Wait + Copy, S: Trace<T> + Copy> Closed<'a, T, R, S> {
         let sender = self.sender;
         let shared = &sender.counted.link.shared;
         let waits = mem::replace(&mut self.waits, Waits::new());
-        shared.leave(&sender.rt, Line::Closings, waits, trace)
+        shared.leave(&sender.rt, WaitList::Closings, waits, trace)
     }
 }
 

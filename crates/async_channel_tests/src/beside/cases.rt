@@ -11,7 +11,7 @@ use crate::checks::expect_none;
 use crate::said::Said;
 use crate::scarce::Scarce;
 use crate::woken::{LINES, place_of, task_of};
-use channel_calls::stage::{Line, Side};
+use channel_calls::stage::{Side, WaitList};
 use concurrent_queue::cells::QueueForm;
 use std::alloc::{AllocError, Global};
 use std::process::Abort;
@@ -95,7 +95,7 @@ impl Case {
         begun: &Begun,
         alloc: Global,
     ) -> Called {
-        let line = kind.line().unwrap_or(Line::Closings);
+        let line = kind.line().unwrap_or(WaitList::Closings);
         if !kind.is_again() {
             return Called::new(kind, message, task_of(line, fresh), alloc);
         }
@@ -128,7 +128,7 @@ impl Case {
 }
 
 /// How many wait on this list in the end, of so many in the start, by what the calls said.
-fn wanted(callers: [Called; 3], begun: [usize; 4], said: [Said; 3], line: Line) -> usize {
+fn wanted(callers: [Called; 3], begun: [usize; 4], said: [Said; 3], line: WaitList) -> usize {
     let place = place_of(line);
     let mut waiting: usize = if place < 4 { begun[place] } else { 0 };
     for by in 0..3 {
@@ -197,7 +197,7 @@ fn laid<'a, R: Wait>(
         second: Other::new(callers[2]),
         events: Events::new(),
         came_whole: false,
-        line: case.kind.line().unwrap_or(Line::Closings),
+        line: case.kind.line().unwrap_or(WaitList::Closings),
         task: callers[0].task,
         listened: 0,
         naps: 0,
@@ -398,7 +398,7 @@ fn check<R: Wait + Abort>(rt: &R, alloc: Global, kinds: &[Kind]) {
 }
 
 /// Each poll on this list.
-fn polls(line: Line) -> [Kind; 5] {
+fn polls(line: WaitList) -> [Kind; 5] {
     [
         Kind::Poll(line, How::Anew),
         Kind::Poll(line, How::Unlisted),
@@ -436,34 +436,38 @@ fn a_walk_beside_others(rt: HostRuntime) {
 
 #[test]
 fn a_closing_beside_others(rt: HostRuntime) {
-    let kinds = [Kind::Close, Kind::Poll(Line::Closings, How::Leaves)];
+    let kinds = [Kind::Close, Kind::Poll(WaitList::Closings, How::Leaves)];
     check(&rt, rt.alloc(), &kinds);
-    check(&rt, rt.alloc(), &polls(Line::Closings));
+    check(&rt, rt.alloc(), &polls(WaitList::Closings));
 }
 
 #[test]
 fn a_polled_send_beside_others(rt: HostRuntime) {
-    check(&rt, rt.alloc(), &polls(Line::Sends));
-    check(&rt, rt.alloc(), &[Kind::Poll(Line::Sends, How::Leaves)]);
+    check(&rt, rt.alloc(), &polls(WaitList::Sends));
+    check(&rt, rt.alloc(), &[Kind::Poll(WaitList::Sends, How::Leaves)]);
 }
 
 #[test]
 fn a_polled_receive_beside_others(rt: HostRuntime) {
-    check(&rt, rt.alloc(), &polls(Line::Receives));
-    check(&rt, rt.alloc(), &[Kind::Poll(Line::Receives, How::Leaves)]);
+    check(&rt, rt.alloc(), &polls(WaitList::Receives));
+    check(
+        &rt,
+        rt.alloc(),
+        &[Kind::Poll(WaitList::Receives, How::Leaves)],
+    );
 }
 
 #[test]
 fn a_stream_beside_others(rt: HostRuntime) {
     // A stream isn't given up; its listener leaves when the receiver is dropped.
-    check(&rt, rt.alloc(), &polls(Line::Streams));
+    check(&rt, rt.alloc(), &polls(WaitList::Streams));
 }
 
 #[test]
 fn a_send_that_blocks_beside_others(rt: HostRuntime) {
     let kinds = [
-        Kind::Blocks(Line::Sends, false),
-        Kind::Blocks(Line::Sends, true),
+        Kind::Blocks(WaitList::Sends, false),
+        Kind::Blocks(WaitList::Sends, true),
     ];
     check(&rt, rt.alloc(), &kinds);
 }
@@ -471,8 +475,8 @@ fn a_send_that_blocks_beside_others(rt: HostRuntime) {
 #[test]
 fn a_receive_that_blocks_beside_others(rt: HostRuntime) {
     let kinds = [
-        Kind::Blocks(Line::Receives, false),
-        Kind::Blocks(Line::Receives, true),
+        Kind::Blocks(WaitList::Receives, false),
+        Kind::Blocks(WaitList::Receives, true),
     ];
     check(&rt, rt.alloc(), &kinds);
 }

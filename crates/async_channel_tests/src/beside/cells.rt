@@ -9,7 +9,7 @@ use crate::beside::{ALL, Events, Other, is_owed};
 use crate::scarce::Scarce;
 use channel_calls::cells::ChannelCells;
 use channel_calls::sleeps::Sleeps;
-use channel_calls::stage::{Line, Side};
+use channel_calls::stage::{Side, WaitList};
 use channel_calls::words::ChannelWords;
 use concurrent_queue::call::QueueReply;
 use concurrent_queue::queue_call::QueueCall;
@@ -37,7 +37,7 @@ pub(super) struct Beside<'a, R: Wait> {
     pub(super) second: Other,
     pub(super) events: Events,
     pub(super) came_whole: bool,
-    pub(super) line: Line,
+    pub(super) line: WaitList,
     pub(super) task: u32,
     pub(super) listened: u32,
     pub(super) naps: u32,
@@ -109,7 +109,7 @@ impl<'a, R: Wait> ChannelCells<u64, u32> for Beside<'a, R> {
         Some(self.all_steps(call))
     }
 
-    fn insert(&mut self, line: Line) -> Result<Key, ListenError> {
+    fn insert(&mut self, line: WaitList) -> Result<Key, ListenError> {
         self.before();
         if self.listened == 0 {
             self.listened = self.made;
@@ -117,27 +117,27 @@ impl<'a, R: Wait> ChannelCells<u64, u32> for Beside<'a, R> {
         self.cells.insert(line)
     }
 
-    fn register(&mut self, line: Line, key: Key, task: u32) -> Option<u32> {
+    fn register(&mut self, line: WaitList, key: Key, task: u32) -> Option<u32> {
         self.before();
         self.cells.register(line, key, task)
     }
 
-    fn remove<S: Wakes<u32>>(&mut self, line: Line, key: Key, sink: &mut S) {
+    fn remove<S: Wakes<u32>>(&mut self, line: WaitList, key: Key, sink: &mut S) {
         self.before();
         self.cells.remove(line, key, sink)
     }
 
-    fn tell_one<S: Wakes<u32>>(&mut self, line: Line, sink: &mut S) {
+    fn tell_one<S: Wakes<u32>>(&mut self, line: WaitList, sink: &mut S) {
         self.before();
         self.cells.tell_one(line, sink)
     }
 
-    fn tell_more<S: Wakes<u32>>(&mut self, line: Line, count: usize, sink: &mut S) {
+    fn tell_more<S: Wakes<u32>>(&mut self, line: WaitList, count: usize, sink: &mut S) {
         self.before();
         self.cells.tell_more(line, count, sink)
     }
 
-    fn tell_all<S: Wakes<u32>>(&mut self, line: Line, sink: &mut S) {
+    fn tell_all<S: Wakes<u32>>(&mut self, line: WaitList, sink: &mut S) {
         self.before();
         self.cells.tell_all(line, sink)
     }

@@ -3,7 +3,7 @@
 use crate::said::Said;
 use channel_calls::ask::{ChannelAsk, lent};
 use channel_calls::several::Limit;
-use channel_calls::stage::{Line, Side};
+use channel_calls::stage::{Side, WaitList};
 use event_listener::key::Key;
 use std::alloc::Global;
 
@@ -37,9 +37,9 @@ pub(crate) enum Kind {
     /// Two items of a walk over the messages that are there.
     WalkThere,
     Close,
-    Poll(Line, How),
+    Poll(WaitList, How),
     /// A send or a receive that blocks its thread.
-    Blocks(Line, bool),
+    Blocks(WaitList, bool),
     CloneHandle(Side),
     Upgrade(Side),
     DropHandle(Side),
@@ -56,11 +56,11 @@ pub(crate) enum Kind {
 
 impl Kind {
     /// The list on which it may wait.
-    pub(crate) fn line(self) -> Option<Line> {
+    pub(crate) fn line(self) -> Option<WaitList> {
         match self {
             Kind::Poll(line, _) | Kind::Blocks(line, _) => Some(line),
-            Kind::Walk(_) => Some(Line::Receives),
-            Kind::DropStream => Some(Line::Streams),
+            Kind::Walk(_) => Some(WaitList::Receives),
+            Kind::DropStream => Some(WaitList::Streams),
             _ => None,
         }
     }
@@ -146,7 +146,7 @@ impl Called {
             Kind::ForceSend => ChannelAsk::ForceSend(self.message),
             Kind::TryRecv | Kind::WalkThere => ChannelAsk::TryRecv,
             Kind::RecvMany | Kind::RecvManyInto => ChannelAsk::RecvMany(Limit::new(2, self.alloc)),
-            Kind::Walk(_) => self.polls(Line::Receives),
+            Kind::Walk(_) => self.polls(WaitList::Receives),
             Kind::Close => ChannelAsk::Close,
             Kind::Poll(line, How::Unwoken) => {
                 ChannelAsk::RefusePoll(line, self.carried(line), self.key)
@@ -160,20 +160,20 @@ impl Called {
     }
 
     /// The message of a send.
-    pub(crate) fn carried(self, line: Line) -> Option<u64> {
+    pub(crate) fn carried(self, line: WaitList) -> Option<u64> {
         match line {
-            Line::Sends => Some(self.message),
+            WaitList::Sends => Some(self.message),
             _ => None,
         }
     }
 
     /// What a poll asks on this list.
-    fn polls(self, line: Line) -> ChannelAsk<u64, u32> {
+    fn polls(self, line: WaitList) -> ChannelAsk<u64, u32> {
         match line {
-            Line::Sends => ChannelAsk::PollSend(self.message, lent(self.key), self.task),
-            Line::Receives => ChannelAsk::PollRecv(lent(self.key), self.task),
-            Line::Streams => ChannelAsk::PollNext(self.key, self.task),
-            Line::Closings => ChannelAsk::PollClosed(self.key, self.task),
+            WaitList::Sends => ChannelAsk::PollSend(self.message, lent(self.key), self.task),
+            WaitList::Receives => ChannelAsk::PollRecv(lent(self.key), self.task),
+            WaitList::Streams => ChannelAsk::PollNext(self.key, self.task),
+            WaitList::Closings => ChannelAsk::PollClosed(self.key, self.task),
         }
     }
 

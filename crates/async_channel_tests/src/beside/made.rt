@@ -14,7 +14,7 @@ use channel_calls::kind::{Kind as Counts, OfReceivers, OfSenders};
 use channel_calls::raised::{Raised, clone_handle, drop_receiver, drop_sender, upgrade};
 use channel_calls::reply::Reply;
 use channel_calls::several::Messages;
-use channel_calls::stage::{Kept, Line, Side};
+use channel_calls::stage::{Returned, Side, WaitList};
 use channel_calls::taking::{next_blocking, next_there};
 use channel_calls::{calls, polls, questions};
 use futures::task::Poll;
@@ -26,7 +26,7 @@ pub(crate) fn said_by<R: Wait>(rt: &R, called: Called, cells: &mut Beside<'_, R>
     match called.kind {
         Kind::Poll(line, How::Leaves) => given_up(rt, line, called, cells),
         Kind::Poll(line, how) => polled(rt, line, how != How::Unwoken, called, cells),
-        Kind::Blocks(Line::Sends, _) => {
+        Kind::Blocks(WaitList::Sends, _) => {
             sent_blocking(send_blocking(rt, called.message, cells, &mut Woken::new()))
         }
         Kind::Blocks(_, _) => {
@@ -122,7 +122,7 @@ fn next<R: Wait>(rt: &R, waits: u32, ended: &mut bool, cells: &mut Beside<'_, R>
 }
 
 /// What this is, if the operation was left a listener where it is pending and nowhere else, and its message while it isn't over.
-fn left_well(said: Said, kept: Kept<u64>, carried: Option<u64>) -> Said {
+fn left_well(said: Said, kept: Returned<u64>, carried: Option<u64>) -> Said {
     let is_over = said != Said::Pending && said != Said::Refused;
     let message = if is_over { None } else { carried };
     if kept.key.is_some() == (said == Said::Pending) && kept.message == message {
@@ -135,7 +135,7 @@ fn left_well(said: Said, kept: Kept<u64>, carried: Option<u64>) -> Said {
 /// What a poll says on this list, with a copy of its waker or without one.
 fn polled<R: Wait>(
     rt: &R,
-    line: Line,
+    line: WaitList,
     woken: bool,
     called: Called,
     cells: &mut Beside<'_, R>,
@@ -143,19 +143,19 @@ fn polled<R: Wait>(
     let task = if woken { Some(called.task) } else { None };
     let (key, message, sink) = (called.key, called.carried(line), &mut Woken::new());
     let (reply, kept) = match line {
-        Line::Sends => {
+        WaitList::Sends => {
             let (polled, kept) = polls::poll_send(rt, message, key, task, cells, sink);
             (Reply::SendPoll(polled), kept)
         }
-        Line::Receives => {
+        WaitList::Receives => {
             let (polled, kept) = polls::poll_recv(rt, key, task, cells, sink);
             (Reply::RecvPoll(polled), kept)
         }
-        Line::Streams => {
+        WaitList::Streams => {
             let (polled, kept) = polls::poll_next(rt, key, task, cells, sink);
             (Reply::Next(polled), kept)
         }
-        Line::Closings => {
+        WaitList::Closings => {
             let (polled, kept) = polls::poll_closed(rt, key, task, cells, sink);
             (Reply::ClosedPoll(polled), kept)
         }
@@ -164,7 +164,7 @@ fn polled<R: Wait>(
 }
 
 /// What an operation hands back that is given up.
-fn given_up<R: Wait>(rt: &R, line: Line, called: Called, cells: &mut Beside<'_, R>) -> Said {
+fn given_up<R: Wait>(rt: &R, line: WaitList, called: Called, cells: &mut Beside<'_, R>) -> Said {
     let (message, sink) = (called.carried(line), &mut Woken::new());
     Said::GivenUp(polls::give_up(rt, line, message, called.key, cells, sink))
 }

@@ -3,7 +3,7 @@
 use crate::beside::kind::{How, Kind};
 use crate::said::Said;
 use channel_calls::mark::Mark;
-use channel_calls::stage::{Line, Side};
+use channel_calls::stage::{Side, WaitList};
 
 /// What a step of a call did to the list, with the call's message, and which call it was.
 #[derive(Clone, Copy)]
@@ -179,19 +179,19 @@ impl Plain {
     }
 
     /// What an operation of this list says, at one moment; this where it has to wait.
-    fn tries(&mut self, line: Line, message: u64, waits: Said) -> Said {
+    fn tries(&mut self, line: WaitList, message: u64, waits: Said) -> Said {
         match line {
-            Line::Sends => self.send(message, waits),
-            Line::Receives | Line::Streams => self.receive(waits),
-            Line::Closings if self.closed => Said::Ended,
-            Line::Closings => waits,
+            WaitList::Sends => self.send(message, waits),
+            WaitList::Receives | WaitList::Streams => self.receive(waits),
+            WaitList::Closings if self.closed => Said::Ended,
+            WaitList::Closings => waits,
         }
     }
 
     /// What it says as it is polled so. One that is refused another listener may have needed none.
-    fn polled(&mut self, line: Line, how: How, message: u64, found: Said) -> Said {
+    fn polled(&mut self, line: WaitList, how: How, message: u64, found: Said) -> Said {
         match how {
-            How::Leaves if line == Line::Sends => Said::GivenUp(Some(message)),
+            How::Leaves if line == WaitList::Sends => Said::GivenUp(Some(message)),
             How::Leaves => Said::GivenUp(None),
             How::Unwoken => Said::Refused,
             How::Unlisted => self.tries(line, message, Said::Refused),

@@ -8,7 +8,7 @@ use crate::scarce::Scarce;
 use crate::woken::{place_of, task_of};
 use channel_calls::cells::ChannelCells;
 use channel_calls::plain::PlainChannel;
-use channel_calls::stage::{Line, Side};
+use channel_calls::stage::{Side, WaitList};
 use concurrent_queue::cells::QueueForm;
 use event_listener::error::ListenError;
 use event_listener::key::Key;
@@ -44,11 +44,11 @@ pub(crate) const WAITING: u64 = 5;
 
 impl Start {
     /// Whether somebody waits on this list.
-    pub(crate) fn has_waiting(self, line: Line) -> bool {
+    pub(crate) fn has_waiting(self, line: WaitList) -> bool {
         match line {
-            Line::Sends => self.waited && self.messages > 0,
-            Line::Receives | Line::Streams => self.waited && self.messages == 0,
-            Line::Closings => self.waited,
+            WaitList::Sends => self.waited && self.messages > 0,
+            WaitList::Receives | WaitList::Streams => self.waited && self.messages == 0,
+            WaitList::Closings => self.waited,
         }
     }
 
@@ -106,7 +106,12 @@ impl Start {
     }
 
     fn wait(self, alloc: Global, begun: &mut Begun) {
-        for line in [Line::Sends, Line::Receives, Line::Streams, Line::Closings] {
+        for line in [
+            WaitList::Sends,
+            WaitList::Receives,
+            WaitList::Streams,
+            WaitList::Closings,
+        ] {
             if self.has_waiting(line) {
                 begun.wait(alloc, line, 0);
                 begun.wait(alloc, line, 1);
@@ -117,7 +122,7 @@ impl Start {
 
 impl Begun {
     /// The one of this number polls, and waits on this list.
-    fn wait(&mut self, alloc: Global, line: Line, who: u32) {
+    fn wait(&mut self, alloc: Global, line: WaitList, who: u32) {
         let kind = Kind::Poll(line, How::Anew);
         let message = WAITING.saturating_add(who as u64);
         let called = Called::new(kind, message, task_of(line, who), alloc);

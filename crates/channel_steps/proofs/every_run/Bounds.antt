@@ -1,6 +1,6 @@
 -- Over runs: no more messages than fit, never full without a bound, and closed once.
 use Rattle.std.proofs.Common.{arith, ◌≡◌, ℕ, true, false, List, [], ◌∷◌, ◌++◌, Option, None, Some, Err, inl, inr, refl, sym, ap, ◌∙◌, subst}
-use Rattle.channel_steps.proofs.every_run.Words.{is_filled, is_full_at, Channel, ChannelAsk, Mark, Reply, Kept, MarkedMoment, Once, Next, IsRun, NextConfiguration, new_configuration, ActiveCall, Configuration, Steps, MayFinish, does, Entry, Step, Crowded, IsDisplacing, SaysFull, NoneFull, IsWithinBound, AllOf, BoundSound, BoundsStay, NeverOverfull, EachUnboundedRunIsNeverFull, Replies}
+use Rattle.channel_steps.proofs.every_run.Words.{is_filled, is_full_at, Channel, ChannelAsk, Mark, Reply, Returned, MarkedMoment, Once, Next, IsRun, NextConfiguration, new_configuration, ActiveCall, Configuration, Steps, MayFinish, does, Entry, Step, Crowded, IsDisplacing, SaysFull, NoneFull, IsWithinBound, AllOf, BoundSound, BoundsStay, NeverOverfull, EachUnboundedRunIsNeverFull, Replies}
 use Rattle.channel_calls.specs.declared.ask.ChannelAsk.TheVariants as ask
 use Rattle.channel_calls.specs.declared.error.Refused.TheVariants as refused
 use Rattle.channel_calls.specs.declared.error.TrySendError.TheVariants as try_send_error
@@ -62,7 +62,7 @@ module _ {T W : Type 0} where
   row_full (ask.TrySend v) ds seen m h = h.2
   row_full a ds seen m h = absurd h
 
-  finish_full : (u : ActiveCall T W) (r : Option (Reply T)) (left : Option (Kept T)) → MayFinish u r left → AllOf None u.seen → Replies SaysFull r → ⊥
+  finish_full : (u : ActiveCall T W) (r : Option (Reply T)) (left : Option (Returned T)) → MayFinish u r left → AllOf None u.seen → Replies SaysFull r → ⊥
   finish_full u None left h all full = full
   finish_full u (Some (reply.TrySend (Err (refused.Plain (try_send_error.Full m))))) left h all full =
       let met = h.met in

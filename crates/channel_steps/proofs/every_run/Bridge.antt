@@ -2,7 +2,7 @@
 use Rattle.std.proofs.Common.{◌≡◌, ℕ, ◌==◌, Bool, true, false, List, [], ◌∷◌, ◌++◌, map, Option, None, Some, Ok, Err, MatchOption, slice_set, if◌then◌else◌, refl, sym, ap, ◌∙◌, subst}
 use Rattle.std.specs.List.{remove}
 use Rattle.concurrent_queue.specs.Bridge as queue
-use Rattle.channel_steps.proofs.every_run.Words.{Contents, asked, QueueReply, QueueForm, QueueCall, first, kept_by, Deed, stepped, Done, Does, Parts, Takes, Leaves, WorkMakes, ChannelMakes, ChannelAsk, Mark, Reply, Held, Stage, Trying, Working, Finished, Work, TellReceive, TellStreams, TellSend, TellSends, TakeRoom, TellAll, Insert, Register, Leave, Lower, Count, Load, Raise, HasBegun, ActiveCall, Configuration, ActiveCallWitness, Represents, StepsAt, HasParty, active_call_of, Entry, Party, IsChannelStep, IsNewCall, parties_after, left_by, Act, on_queue, on_roster, on_nothing, Event, begins, Happening, Given, Notes, Acts, own, step_of, steps_of, given_by, given_to, Changes, InOneOrder, IsIdle}
+use Rattle.channel_steps.proofs.every_run.Words.{Contents, asked, QueueReply, QueueForm, QueueCall, first, kept_by, Deed, stepped, Done, Does, Parts, Takes, Leaves, WorkMakes, ChannelMakes, ChannelAsk, Mark, Reply, ListenerRef, Stage, Trying, Working, Finished, ListStep, TellReceive, TellStreams, TellSend, TellSends, TakeRoom, TellAll, Insert, Register, Leave, Lower, Count, Load, Raise, HasBegun, ActiveCall, Configuration, ActiveCallWitness, Represents, StepsAt, HasParty, active_call_of, Entry, Party, IsChannelStep, IsNewCall, parties_after, left_by, Act, on_queue, on_roster, on_nothing, Event, begins, Happening, Given, Notes, Acts, own, step_of, steps_of, given_by, given_to, Changes, InOneOrder, IsIdle}
 use Rattle.concurrent_queue.specs.Deeds as cell
 use Rattle.concurrent_queue.specs.declared.call.QueueAsk.TheVariants as queue_ask
 use Rattle.concurrent_queue.proofs.Bridge.{call_noted, change_keeps_form}
@@ -59,11 +59,11 @@ module _ {T W S : Type 0} (wakes : S → W → S → Type 0) (form : QueueForm) 
   on_one_list : (p : Parts T W) → e.0 ≡ p → p.cells ≡ c.0.cells → e.0.cells.form ≡ c.0.cells.form
   on_one_list p is same = ap form_in is ∙ ap (λ (x : Contents T). x.form) same
 
-  left_form : (held : Option Held) → Leaves did held c e → e.0.cells.form ≡ c.0.cells.form
+  left_form : (held : Option ListenerRef) → Leaves did held c e → e.0.cells.form ≡ c.0.cells.form
   left_form None h = ap (λ (x : Parts T W × S). form_in x.0) h
   left_form (Some held) (names, ((how, lists), woken)) = on_one_list _ lists refl
 
-  work_form : (w : Work T W) (m : Mark) (next : Stage (QueueCall T) T W) (r : Option (Reply T)) → WorkMakes did w c e m next r → e.0.cells.form ≡ c.0.cells.form
+  work_form : (w : ListStep T W) (m : Mark) (next : Stage (QueueCall T) T W) (r : Option (Reply T)) → WorkMakes did w c e m next r → e.0.cells.form ≡ c.0.cells.form
   work_form (TellReceive x) m next r (names, ((how, lists), woken), t) = on_one_list _ lists refl
   work_form (TellStreams x) m next r (names, ((how, lists), woken), t) = on_one_list _ lists refl
   work_form (TellSend x) m next r (names, ((how, lists), woken), t) = on_one_list _ lists refl

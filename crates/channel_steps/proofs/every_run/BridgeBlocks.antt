@@ -1,6 +1,6 @@
 -- A call that blocks its thread makes whole calls.
 use Rattle.std.proofs.Common.{◌≡◌, ◌⊎◌, inl, inr, ℕ, zero, suc, Option, None, Some, refl, sym, subst}
-use Rattle.channel_steps.proofs.every_run.Words.{QueueCall, Key, first, Deed, again, line_of, Takes, Leaves, WorkMakes, ChannelMakes, Leads, Mark, Reply, Ending, Held, Kept, Stage, Trying, Working, Finished, Turn, Works, Waiting, Work, Register, Leave, is_refused, waiting_of, at_once, not_yet, poll_woken, still_waits, Looks, AnswersAtFirst, Listens, Round, Rounds, Wakens, SleepsOn, message_of, Walked, WalkedFrom, Blocked, Send, Receive, first_poll, poll_refused, PollsInTurn, InCalls, IsLeft, Rests, Rested, BlocksInCalls}
+use Rattle.channel_steps.proofs.every_run.Words.{QueueCall, Key, first, Deed, again, line_of, Takes, Leaves, WorkMakes, ChannelMakes, Leads, Mark, Reply, Ending, ListenerRef, Returned, Stage, Trying, Working, Finished, NextStep, Works, Waiting, ListStep, Register, Leave, is_refused, waiting_of, at_once, not_yet, poll_woken, still_waits, Looks, AnswersAtFirst, Listens, Round, Rounds, Wakens, SleepsOn, message_of, Walked, WalkedFrom, Blocked, Send, Receive, first_poll, poll_refused, PollsInTurn, InCalls, IsLeft, Rests, Rested, BlocksInCalls}
 use Rattle.channel_calls.proofs.Walking.{walks_on}
 
 module _ {T W : Type 0} where
@@ -25,11 +25,11 @@ module _ {T W X : Type 0} (did : Deed T W → X → X → Type 0) (asked : Optio
 
   -- ---- with no rest
 
-  left : (held : Option Held) (s t : X) → Leaves did held s t → Leaves after held s t
+  left : (held : Option ListenerRef) (s t : X) → Leaves did held s t → Leaves after held s t
   left None s t h = h
   left (Some held) s t (names, h) = (names, (zero, s, refl, h))
 
-  worked : (w : Work T W) (s t : X) (m : Mark) (next : Stage (QueueCall T) T W) (r : Option (Reply T)) → WorkMakes did w s t m next r → WorkMakes after w s t m next r
+  worked : (w : ListStep T W) (s t : X) (m : Mark) (next : Stage (QueueCall T) T W) (r : Option (Reply T)) → WorkMakes did w s t m next r → WorkMakes after w s t m next r
   worked (Register w key task) s t m next r (o, h, k) = (o, (zero, s, refl, h), k)
   worked (Leave e) s t m next r (h, k) = (left e.held s t h, k)
   worked w s t m next r h = h
@@ -43,10 +43,10 @@ module _ {T W X : Type 0} (did : Deed T W → X → X → Type 0) (asked : Optio
   led zero s a t b h = h
   led (suc n) s a t b (x, y, m, step, more) = (x, y, m, made a s x m y None step, led n x y t b more)
 
-  walked : (a : Stage (QueueCall T) T W) (s : X) (r : Reply T) (kept : Kept T) (t : X) → Walked did a s r kept t → Walked after a s r kept t
+  walked : (a : Stage (QueueCall T) T W) (s : X) (r : Reply T) (kept : Returned T) (t : X) → Walked did a s r kept t → Walked after a s r kept t
   walked a s r kept t (n, x, b, m, c, path, last, is) = (n, x, b, m, c, led n s a x b path, made b x t m c (Some r) last, is)
 
-  walked_from : (turn : Turn T W) (s : X) (r : Reply T) (kept : Kept T) (t : X) → WalkedFrom did turn s r kept t → WalkedFrom after turn s r kept t
+  walked_from : (turn : NextStep T W) (s : X) (r : Reply T) (kept : Returned T) (t : X) → WalkedFrom did turn s r kept t → WalkedFrom after turn s r kept t
   walked_from turn s r kept t (a, takes, walk) = (a, takes, walked a s r kept t walk)
 
   looked : (n : ℕ) (b : Blocked T) (s t : X) → Looks did n b s t → Looks after n b s t
@@ -59,7 +59,7 @@ module _ {T W X : Type 0} (did : Deed T W → X → X → Type 0) (asked : Optio
   abbrev MayRest : Stage (QueueCall T) T W → Type 0
   MayRest a = (n : ℕ) (s x t : X) (m : Mark) (c : Stage (QueueCall T) T W) (r : Option (Reply T)) → Resting n s x → ChannelMakes did a x t m c r → ChannelMakes after a s t m c r
 
-  rested : (a : Stage (QueueCall T) T W) → MayRest a → (k : ℕ) (s x : X) (r : Reply T) (kept : Kept T) (t : X) → Resting k s x → Walked did a x r kept t → Walked after a s r kept t
+  rested : (a : Stage (QueueCall T) T W) → MayRest a → (k : ℕ) (s x : X) (r : Reply T) (kept : Returned T) (t : X) → Resting k s x → Walked did a x r kept t → Walked after a s r kept t
   rested a may k s x r kept t rest (zero, y, b, m, c, (e, f), last, is) =
       let here : ChannelMakes did a x t m c (Some r) =
       subst (λ (z : Stage (QueueCall T) T W). ChannelMakes did z x t m c (Some r)) f (subst (λ (z : X). ChannelMakes did b z t m c (Some r)) e last)
@@ -74,26 +74,26 @@ module _ {T W X : Type 0} (did : Deed T W → X → X → Type 0) (asked : Optio
   at_refused b key n s x t m c r rest ((names, h), k) = ((names, (n, x, rest, h)), k)
 
   -- from a turn on a list
-  works : (w : Work T W) → MayRest (Working w) → (k : ℕ) (s x : X) (r : Reply T) (kept : Kept T) (t : X) → Resting k s x → WalkedFrom did (Works w) x r kept t → Walked after (Working w) s r kept t
+  works : (w : ListStep T W) → MayRest (Working w) → (k : ℕ) (s x : X) (r : Reply T) (kept : Returned T) (t : X) → Resting k s x → WalkedFrom did (Works w) x r kept t → Walked after (Working w) s r kept t
   works w may k s x r kept t rest (a, (none, is), walk) =
       rested (Working w) may k s x r kept t rest (subst (λ (z : Stage (QueueCall T) T W). Walked did z x r kept t) is walk)
 
-  from_works : (w : Work T W) (s : X) (r : Reply T) (kept : Kept T) (t : X) → Walked after (Working w) s r kept t → WalkedFrom after (Works w) s r kept t
+  from_works : (w : ListStep T W) (s : X) (r : Reply T) (kept : Returned T) (t : X) → Walked after (Working w) s r kept t → WalkedFrom after (Works w) s r kept t
   from_works w s r kept t walk = (Working w, (refl, refl), walk)
 
   module _ (b : Blocked T) where
-    woken : (key : Key) (task : W) (k : ℕ) (s x : X) (r : Reply T) (kept : Kept T) (t : X) → Resting k s x → WalkedFrom did (first (poll_woken b key task)) x r kept t
+    woken : (key : Key) (task : W) (k : ℕ) (s x : X) (r : Reply T) (kept : Returned T) (t : X) → Resting k s x → WalkedFrom did (first (poll_woken b key task)) x r kept t
         → Walked after (Working (Register (waiting_of b) key task)) s r kept t
     woken key task k s x r kept t rest walk =
         works (Register (waiting_of b) key task) (at_register (waiting_of b) key task) k s x r kept t rest
-        (subst (λ (u : Turn T W). WalkedFrom did u x r kept t) (woken_is b key task) walk)
+        (subst (λ (u : NextStep T W). WalkedFrom did u x r kept t) (woken_is b key task) walk)
 
-    from_woken : (key : Key) (task : W) (s : X) (r : Reply T) (kept : Kept T) (t : X) → Walked after (Working (Register (waiting_of b) key task)) s r kept t
+    from_woken : (key : Key) (task : W) (s : X) (r : Reply T) (kept : Returned T) (t : X) → Walked after (Working (Register (waiting_of b) key task)) s r kept t
         → WalkedFrom after (first (poll_woken b key task)) s r kept t
     from_woken key task s r kept t walk =
-        subst (λ (u : Turn T W). WalkedFrom after u s r kept t) (sym (woken_is b key task)) (from_works (Register (waiting_of b) key task) s r kept t walk)
+        subst (λ (u : NextStep T W). WalkedFrom after u s r kept t) (sym (woken_is b key task)) (from_works (Register (waiting_of b) key task) s r kept t walk)
 
-    refused : (key : Key) (k : ℕ) (s x : X) (r : Reply T) (kept : Kept T) (t : X) → Resting k s x → WalkedFrom did (first (poll_refused b key)) x r kept t
+    refused : (key : Key) (k : ℕ) (s x : X) (r : Reply T) (kept : Returned T) (t : X) → Resting k s x → WalkedFrom did (first (poll_refused b key)) x r kept t
         → WalkedFrom after (first (poll_refused b key)) s r kept t
     refused key k s x r kept t rest walk =
         let e : Ending T = is_refused (line_of (waiting_of b)) (message_of (waiting_of b)) (Some key) in
@@ -102,13 +102,13 @@ module _ {T W X : Type 0} (did : Deed T W → X → X → Type 0) (asked : Optio
     -- ---- rounds, from where it is to ask for a task and register this listener, having rested
 
     -- a poll that asks its listener first, and those behind it; or one that is refused its task
-    abbrev GoesOn : Key → X → Reply T → Kept T → X → Type 0
+    abbrev GoesOn : Key → X → Reply T → Returned T → X → Type 0
     GoesOn key s r kept t = ((task : W) × (m : ℕ) × PollsInTurn after m (poll_woken b key task) b s r kept t) ⊎ WalkedFrom after (first (poll_refused b key)) s r kept t
 
-    abbrev From : Key → X → Reply T → Kept T → X → Type 0
+    abbrev From : Key → X → Reply T → Returned T → X → Type 0
     From key x r kept t = (k : ℕ) (s : X) → Resting k s x → GoesOn key s r kept t
 
-    module _ (r : Reply T) (kept : Kept T) (t : X) where
+    module _ (r : Reply T) (kept : Returned T) (t : X) where
       wakens : (key : Key) (x : X) → Wakens did asked slept b key x r kept t → From key x r kept t
       wakens key x (inl (y, ask, walk)) k s rest =
           let more = rests_both k (suc zero) s x y rest (y, inl (None, ask), refl) in
@@ -137,14 +137,14 @@ module _ {T W X : Type 0} (did : Deed T W → X → X → Type 0) (asked : Optio
 
       -- the poll that registers goes on from the first one
       begins_so : (n : ℕ) (task : W) (key : Key) (x y : X) (a : Stage (QueueCall T) T W) → Takes (again (waiting_of b) None task) a None
-          → Leads did n x a y (Working (Register (waiting_of b) key task)) → (r' : Reply T) (kept' : Kept T) (z : X)
+          → Leads did n x a y (Working (Register (waiting_of b) key task)) → (r' : Reply T) (kept' : Returned T) (z : X)
           → WalkedFrom after (first (poll_woken b key task)) y r' kept' z → WalkedFrom after (first (first_poll b task)) x r' kept' z
       begins_so n task key x y a takes path r' kept' z walk =
           let at : WalkedFrom after (Works (Register (waiting_of b) key task)) y r' kept' z =
-          subst (λ (u : Turn T W). WalkedFrom after u y r' kept' z) (woken_is b key task) walk in
+          subst (λ (u : NextStep T W). WalkedFrom after u y r' kept' z) (woken_is b key task) walk in
           let there : Walked after (Working (Register (waiting_of b) key task)) y r' kept' z =
           subst (λ (c : Stage (QueueCall T) T W). Walked after c y r' kept' z) at.1.1 at.2 in
-          subst (λ (u : Turn T W). WalkedFrom after u x r' kept' z) (sym (first_is b task))
+          subst (λ (u : NextStep T W). WalkedFrom after u x r' kept' z) (sym (first_is b task))
           (a, takes, walks_on after n a x (Working (Register (waiting_of b) key task)) y r' kept' z (led n x a y (Working (Register (waiting_of b) key task)) path) there)
 
       polls_so : (n : ℕ) (task : W) (key : Key) (x y : X) (a : Stage (QueueCall T) T W) → Takes (again (waiting_of b) None task) a None
@@ -167,7 +167,7 @@ module _ {T W X : Type 0} (did : Deed T W → X → X → Type 0) (asked : Optio
               task,
               key,
               l.0,
-              subst (λ (u : Turn T W). Takes u l.0 None) (sym (first_is b task)) l.1,
+              subst (λ (u : NextStep T W). Takes u l.0 None) (sym (first_is b task)) l.1,
               l.2,
               y,
               led l.2 x l.0 y (Working (Register (waiting_of b) key task)) l.3,
@@ -177,7 +177,7 @@ module _ {T W X : Type 0} (did : Deed T W → X → X → Type 0) (asked : Optio
         blocked : AnswersAtFirst did b x r kept t ⊎ ((key : Key) × (y : X) × Listens did b x key y × SleepsOn did asked slept b key y r kept t)
             → InCalls after b s r kept t ⊎ IsLeft after b s r kept t
         blocked (inl begins) =
-            inl (j, x, looked j b s x look, task, zero, subst (λ (u : Turn T W). WalkedFrom after u x r kept t) (sym (first_is b task)) (walked_from (again (waiting_of b) None task) x r kept t (begins task)))
+            inl (j, x, looked j b s x look, task, zero, subst (λ (u : NextStep T W). WalkedFrom after u x r kept t) (sym (first_is b task)) (walked_from (again (waiting_of b) None task) x r kept t (begins task)))
         blocked (inr (key, y, listens, (n, k, z, before, last))) =
             listened key y listens (rounds n key y k z before (wakens k z last) zero y refl)
 

@@ -2,8 +2,8 @@
 use Rattle.std.proofs.Common.{◌≡◌, ℕ, zero, suc, List, [], ◌∷◌, ◌++◌, map, Option, None, Some, MatchOption, refl, ap, subst}
 use Rattle.concurrent_queue.specs.Bridge as queue
 use Rattle.concurrent_queue.specs.Deeds as cell
-use Rattle.channel_steps.proofs.every_run.Words.{QueueMark, QueueReply, QueueForm, CallState, QueueCall, kept_by, Deed, mark_of_queue, Heard, Leaves, WorkMakes, ChannelMakes, Leads, Mark, Reply, Aim, Held, Stage, Trying, Working, Finished, Work, TellReceive, TellStreams, TellSend, TellSends, TakeRoom, TellAll, Insert, Register, Leave, Lower, Count, Load, Raise, StateMakes, Act, on_queue, on_roster, on_nothing, Event, Given, Notes, Acts, QueueIsWalked, Along, StandsAct, WalksAct}
-use Rattle.concurrent_queue.specs.machine.Ahead as cells
+use Rattle.channel_steps.proofs.every_run.Words.{QueueMark, QueueReply, QueueForm, CallState, QueueCall, kept_by, Deed, mark_of_queue, Heard, Leaves, WorkMakes, ChannelMakes, Leads, Mark, Reply, Purpose, ListenerRef, Stage, Trying, Working, Finished, ListStep, TellReceive, TellStreams, TellSend, TellSends, TakeRoom, TellAll, Insert, Register, Leave, Lower, Count, Load, Raise, StateMakes, Act, on_queue, on_roster, on_nothing, Event, Given, Notes, Acts, QueueIsWalked, Along, StandsAct, WalksAct}
+use Rattle.concurrent_queue.specs.machine.FastPath as cells
 use Rattle.concurrent_queue.proofs.Bridge as queue_facts
 use Rattle.channel_steps.specs.every_run.Bridge.{does}
 
@@ -42,7 +42,7 @@ module _ {T W X : Type 0} (did : Deed T W → X → X → Type 0) (cells_did : c
   one_cell None s t h = h
   one_cell (Some d) s t h = h
 
-  module _ (aim : Aim T W) (after : QueueCall T) (answer : Option (QueueReply T)) (next : Stage (QueueCall T) T W) (r : Option (Reply T)) (heard : Heard aim after answer next r) where
+  module _ (aim : Purpose T W) (after : QueueCall T) (answer : Option (QueueReply T)) (next : Stage (QueueCall T) T W) (r : Option (Reply T)) (heard : Heard aim after answer next r) where
     abbrev Queue : CallState T → X → X → Type 0
     Queue at s t = (os : List (Act T W)) × Along did cells_did os s t × ((m : QueueMark) → Goes (Trying (call_at at m) aim) os next r)
 
@@ -67,14 +67,14 @@ module _ {T W X : Type 0} (did : Deed T W → X → X → Type 0) (cells_did : c
 
   -- ---- the lists and the counts
 
-  abbrev Noted : Work T W → X → Mark → Stage (QueueCall T) T W → Option (Reply T) → X → Type 0
+  abbrev Noted : ListStep T W → X → Mark → Stage (QueueCall T) T W → Option (Reply T) → X → Type 0
   Noted w s m next r t = (o : Act T W) × WorkMakes (Notes form) w on_nothing o m next r × Along did cells_did (o ∷ []) s t
 
-  left : (held : Option Held) (s t : X) → Leaves did held s t → (o : Act T W) × Leaves (Notes form) held on_nothing o × Along did cells_did (o ∷ []) s t
+  left : (held : Option ListenerRef) (s t : X) → Leaves did held s t → (o : Act T W) × Leaves (Notes form) held on_nothing o × Along did cells_did (o ∷ []) s t
   left None s t is = (on_nothing, refl, is)
   left (Some held) s t (names, h) = (on_roster _, (names, refl), (t, h, refl))
 
-  note : (w : Work T W) (s : X) (m : Mark) (next : Stage (QueueCall T) T W) (r : Option (Reply T)) (t : X) → WorkMakes did w s t m next r → Noted w s m next r t
+  note : (w : ListStep T W) (s : X) (m : Mark) (next : Stage (QueueCall T) T W) (r : Option (Reply T)) (t : X) → WorkMakes did w s t m next r → Noted w s m next r t
   note (TellReceive x) s m next r t (names, h, k) = (on_roster _, (names, refl, k), (t, h, refl))
   note (TellStreams x) s m next r t (names, h, k) = (on_roster _, (names, refl, k), (t, h, refl))
   note (TellSend x) s m next r t (names, h, k) = (on_roster _, (names, refl, k), (t, h, refl))

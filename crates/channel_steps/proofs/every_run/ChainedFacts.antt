@@ -2,7 +2,7 @@
 use Rattle.std.proofs.Common.{◌≡◌, ℕ, ◌+◌, ◌-◌, ◌/◌, ◌%◌, ◌<◌, ◌≤◌, ◌⊎◌, ⊎_elim, Bool, true, false, if◌then◌else◌, ◌==◌, ◌&&◌, not, nat_lt, List, [], ◌∷◌, length, map, Option, None, Some, slice_get, refl, sym, ap, ◌∙◌, subst, inl, inr, arith}
 use Rattle.std.proofs.lemmas.Bool.{false≢true}
 use Rattle.std.proofs.lemmas.Bool.Decides.{nat_tests}
-use Rattle.channel_steps.proofs.every_run.Words.{Contents, block_at, Queue, Phase, Seat, AreAt, IsAtBlocks, FitsForm, Place, Each, start, owed, one_if, number, position, KnowsBlocks, same, owes, BlocksSeat, BlocksMeans, owners, Denotes, act_of, seat_of, IsChain, begin, QueueAsk, QueueForm, Bounded, Unbounded, CallState, Asked, Blocks, UnboundedAction, UnboundedCall, MayHave, SoundBlocks, Duty, link, turn_head, turn_tail, TurnsTheHead, Turns, first_named, pair_linked, NamesTheHead, Links, AreBlocks, ChainBy}
+use Rattle.channel_steps.proofs.every_run.Words.{Contents, block_at, Queue, Phase, ActiveQueueCall, AreAt, IsAtBlocks, FitsForm, Place, Each, start, owed, one_if, number, position, KnowsBlocks, same, owes, BlocksSeat, BlocksMeans, owners, Denotes, act_of, seat_of, IsChain, begin, QueueAsk, QueueForm, Bounded, Unbounded, CallState, Asked, Blocks, UnboundedAction, UnboundedCall, MayHave, SoundBlocks, Duty, link, turn_head, turn_tail, TurnsTheHead, Turns, first_named, pair_linked, NamesTheHead, Links, AreBlocks, ChainBy}
 use Rattle.concurrent_queue.specs.Step.{FitsAt}
 use Rattle.concurrent_queue.specs.machine.BlocksState.{Blocks as BlocksNumbers}
 use Rattle.concurrent_queue.specs.declared.call.QueueAsk.TheVariants as ask
@@ -25,7 +25,7 @@ none_of (x ∷ xs) e = absurd (omega arith)
 
 module _ {T : Type 0} where
   -- some of these calls is so
-  abbrev pub SomeSeat : List (Seat T) → (CallState T → Type 0) → Type 0
+  abbrev pub SomeSeat : List (ActiveQueueCall T) → (CallState T → Type 0) → Type 0
   SomeSeat [] P = ⊥
   SomeSeat (s ∷ ss) P = P s.call.state ⊎ SomeSeat ss P
 
@@ -35,7 +35,7 @@ module _ {T : Type 0} where
 
   to_seat : (Q : UnboundedAction T → Type 0) (P : CallState T → Type 0) → ((s : CallState T) (a : UnboundedCall T) → IsAtBlocks s a
       → Q a.action → P s)
-      → (ss : List (Seat T)) (ps : List (Place (UnboundedCall T) T)) → AreAt IsAtBlocks ss ps → SomePlace Q ps → SomeSeat ss P
+      → (ss : List (ActiveQueueCall T)) (ps : List (Place (UnboundedCall T) T)) → AreAt IsAtBlocks ss ps → SomePlace Q ps → SomeSeat ss P
   to_seat Q P is [] [] h g = absurd g
   to_seat Q P is (s ∷ ss) (p ∷ ps) h (inl g) = inl (is s.call.state p.action h.0.0 g)
   to_seat Q P is (s ∷ ss) (p ∷ ps) h (inr g) = inr (to_seat Q P is ss ps h.1 g)
@@ -153,7 +153,7 @@ module _ {T : Type 0} where
   no_place (p ∷ ps) (inl h) = h
   no_place (p ∷ ps) (inr h) = no_place ps h
 
-  module _ (c : Contents T) (q : Queue T) (ss : List (Seat T)) (ps : List (Place (UnboundedCall T) T)) (r : BlocksNumbers T)
+  module _ (c : Contents T) (q : Queue T) (ss : List (ActiveQueueCall T)) (ps : List (Place (UnboundedCall T) T)) (r : BlocksNumbers T)
       (d : Denotes c r)
       (means : BlocksMeans r q (map seat_of ps)) (are : AreAt IsAtBlocks ss ps) (chain : List ℕ) (of : IsChain chain r) where
     s : SoundBlocks r q.items
@@ -179,7 +179,7 @@ module _ {T : Type 0} where
     at_turn b f = subst (λ (x : Bool). c.head ≡ position r.head x) f d.head
 
     -- by whom the head's page is turned
-    by_whom : (qs : List (Place (UnboundedCall T) T)) (ts : List (Seat T)) → AreAt IsAtBlocks ts qs → SomePlace (HeadPage r) qs
+    by_whom : (qs : List (Place (UnboundedCall T) T)) (ts : List (ActiveQueueCall T)) → AreAt IsAtBlocks ts qs → SomePlace (HeadPage r) qs
         → ((r.first ≡ r.head / 31 + 1) × SomeSeat ts (Turns true))
         ⊎ ((r.first ≡ r.head / 31) × (1 ≤ r.first) × ((r.block (r.first - 1)).retired ≡ false) × SomeSeat ts (Turns false))
     by_whom [] [] h g = absurd g
@@ -276,13 +276,13 @@ module _ {T : Type 0} where
 
   -- ---- any form
 
-  are_by : (form : QueueForm) (chain : List ℕ) (c : Contents T) (q : Queue T) (seats : List (Seat T)) → FitsForm form chain c q seats
+  are_by : (form : QueueForm) (chain : List ℕ) (c : Contents T) (q : Queue T) (seats : List (ActiveQueueCall T)) → FitsForm form chain c q seats
       → MayHave form chain → ChainBy (SomeSeat seats) form c chain
   are_by (Bounded capacity) chain c q seats fits bare = bare
   are_by Unbounded chain c q seats (places, stand, (r, d, means, fit, of)) bare = are_blocks c q seats places r d means stand chain of
 
   -- of cells and calls that mean a queue
-  pub are_chained : (chain : List ℕ) (c : Contents T) (q : Queue T) (seats : List (Seat T)) → FitsAt chain c q seats
+  pub are_chained : (chain : List ℕ) (c : Contents T) (q : Queue T) (seats : List (ActiveQueueCall T)) → FitsAt chain c q seats
       → MayHave c.form chain → ChainBy (SomeSeat seats) c.form c chain
   unfolding FitsAt
   are_chained chain c q seats fits bare = are_by c.form chain c q seats fits bare

@@ -1,6 +1,6 @@
 -- A closed channel over runs.
 use Rattle.std.proofs.Common.{◌≡◌, ℕ, ◌≤◌, Bool, false, if◌then◌else◌, List, Option, refl, sym, ap, subst, arith, length-append}
-use Rattle.channel_steps.proofs.every_run.Words.{Queue, Phase, IsShut, message, is_displaced, QueueMark, Channel, Effect, Moves, Mark, Append, Replace, Close, Reply, Aim, Stage, Trying, Shut, Configuration, Steps, Next, IsRun, NextConfiguration, Entry, Step, after, IsStill, within, MayStillDo, ClosingIsForGood, mark_of_queue}
+use Rattle.channel_steps.proofs.every_run.Words.{Queue, Phase, IsShut, message, is_displaced, QueueMark, Channel, Effect, Moves, Mark, Append, Replace, Close, Reply, Purpose, Stage, Trying, Shut, Configuration, Steps, Next, IsRun, NextConfiguration, Entry, Step, after, IsStill, within, MayStillDo, ClosingIsForGood, mark_of_queue}
 use Rattle.concurrent_queue.specs.declared.call.QueueMark.TheVariants as queue
 use Rattle.channel_steps.specs.declared.run.Step.TheVariants as step
 use Rattle.channel_steps.specs.every_run.Closed.{one_if}
@@ -36,7 +36,7 @@ module _ {T W : Type 0} where
   abbrev pub Does : Channel T W → Stage (Phase T) T W → Effect T W → Type 0
   Does c at e = Keeps c.queue e.channel.queue × MayStillDo e.mark c at
 
-  may_mark : (c : Channel T W) (f : Phase T) (aim : Aim T W) (m : QueueMark) → MayMark m f.stage c.queue → MayStillDo (mark_of_queue m) c (Trying f aim)
+  may_mark : (c : Channel T W) (f : Phase T) (aim : Purpose T W) (m : QueueMark) → MayMark m f.stage c.queue → MayStillDo (mark_of_queue m) c (Trying f aim)
   may_mark c f aim queue.Append h = h
   may_mark c f aim queue.Replace h = h
   may_mark c f aim queue.Close h = h

@@ -1,6 +1,6 @@
 -- Of all closes of a run one at most closes the channel: each that says so has its own mark.
 use Rattle.std.proofs.Common.{arith, ◌≡◌, ℕ, ◌+◌, ◌≤◌, Bool, true, false, List, [], ◌∷◌, ◌++◌, map, Option, None, Some, refl, ap}
-use Rattle.channel_steps.proofs.every_run.Words.{Channel, ChannelAsk, Mark, Close, Reply, Kept, Row, MarkedMoment, with_marked, ClosedIt, Next, IsRun, NextConfiguration, new_configuration, call_begun, ActiveCall, Configuration, Steps, MayFinish, sees, does, unless_ended, Entry, Step, one_if_closed, closings_in, EachRunClosesOnce}
+use Rattle.channel_steps.proofs.every_run.Words.{Channel, ChannelAsk, Mark, Close, Reply, Returned, Row, MarkedMoment, with_marked, ClosedIt, Next, IsRun, NextConfiguration, new_configuration, call_begun, ActiveCall, Configuration, Steps, MayFinish, sees, does, unless_ended, Entry, Step, one_if_closed, closings_in, EachRunClosesOnce}
 use Rattle.channel_calls.specs.declared.ask.ChannelAsk.TheVariants as ask
 use Rattle.channel_calls.specs.declared.mark.Mark.TheVariants.{Nothing}
 use Rattle.channel_calls.specs.declared.reply.Reply.TheVariants as reply
@@ -58,7 +58,7 @@ module _ {T W : Type 0} where
   pub row_closed : (a : ChannelAsk T W) (ds : List (MarkedMoment T W)) (seen : List (Channel T W)) → Row a ds seen (reply.Closed true) → ClosedIt ds
   row_closed a ds seen h = closes_itself a ds seen (spoken ds seen a (reply.Closed true) h)
 
-  ended : (u : ActiveCall T W) (r : Option (Reply T)) (left : Option (Kept T)) → MayFinish u r left → one_if_closed r + closers (unless_ended u r) ≤ marks_in u.marks
+  ended : (u : ActiveCall T W) (r : Option (Reply T)) (left : Option (Returned T)) → MayFinish u r left → one_if_closed r + closers (unless_ended u r) ≤ marks_in u.marks
   ended u None left h = omega arith
   ended u (Some (reply.Closed true)) left h =
       let met = h.met in let one = closed_marks u.marks (row_closed u.ask u.marks met.1 met.3) in omega (arith, one)

@@ -1,13 +1,13 @@
 -- Each step pays for what it closes, as those count it who wait on a closed channel: it is open, or a call is to tell their list.
 use Rattle.std.proofs.Common.{⊎_elim, ◌≡◌, ℕ, ◌-◌, ◌≤◌, Bool, true, false, if◌then◌else◌, List, Option, None, Some, Ok, Err, ◌⊎◌, inl, inr, refl, sym, ap, ◌∙◌, subst, arith}
-use Rattle.channel_steps.proofs.every_run.Words.{Queue, Phase, trying, appended, taken, marked, is_displaced, IsOpen, IsShut, ContinuesPush, ContinuesPop, ContinuesBy, AnswersPush, AnswersPop, AnswersTo, QueueAsk, QueueMark, Nothing, QueueReply, Key, answered_next, polled_next, Channel, Effect, queued, tells_all, Turned, Moves, told_all_next, ChannelAsk, Reply, Aim, Closer, Line, Sends, Receives, Streams, Closings, Stage, Trying, Working, Finished, Turn, Works, Work, TellSend, TellAll, Leave, TriesFor, StageAt, MarkedMoment, Open, Shut, ActiveCall, may_refuse_at, seen_after, AnswersShut, place, HasClosed, HasNoCauseToWait, HasToTell, LooksAgain, Waits, WaitApart}
+use Rattle.channel_steps.proofs.every_run.Words.{Queue, Phase, trying, appended, taken, marked, is_displaced, IsOpen, IsShut, ContinuesPush, ContinuesPop, ContinuesBy, AnswersPush, AnswersPop, AnswersTo, QueueAsk, QueueMark, Nothing, QueueReply, Key, answered_next, polled_next, Channel, Effect, queued, tells_all, Turned, Moves, told_all_next, ChannelAsk, Reply, Purpose, Closer, WaitList, Sends, Receives, Streams, Closings, Stage, Trying, Working, Finished, NextStep, Works, ListStep, TellSend, TellAll, Leave, TriesFor, StageAt, MarkedMoment, Open, Shut, ActiveCall, may_refuse_at, seen_after, AnswersShut, place, HasClosed, HasNoCauseToWait, HasToTell, LooksAgain, Waits, WaitApart}
 use Rattle.concurrent_queue.specs.Queue as queue
 use Rattle.concurrent_queue.specs.declared.call.QueueAsk.TheVariants as ask
 use Rattle.concurrent_queue.specs.declared.call.QueueMark.TheVariants.{Append, Take, Close}
 use Rattle.concurrent_queue.specs.declared.call.QueueReply.TheVariants as answer
 use Rattle.concurrent_queue.specs.declared.error.PopError.TheVariants as pop_error
 use Rattle.concurrent_queue.specs.declared.error.PushError.TheVariants as push_error
-use Rattle.channel_calls.specs.declared.stage.Aim.TheVariants as aim
+use Rattle.channel_calls.specs.declared.stage.Purpose.TheVariants as aim
 use Rattle.channel_steps.proofs.Interface.{answer_marks}
 use Rattle.channel_steps.proofs.every_run.AllOwed.{FreeOrTold, free_more}
 use Rattle.channel_steps.proofs.SuitFacts.{IsClose, closes_by}
@@ -67,19 +67,19 @@ module _ {T W : Type 0} where
   -- ---- the poll of one that waits, on a closed channel
 
   -- it drops its listener at the end
-  abbrev Drops : Line → Key → Turn T W → Type 0
+  abbrev Drops : WaitList → Key → NextStep T W → Type 0
   Drops line key (Works (TellSend x)) = x.held ≡ Some (held_by line key)
   Drops line key (Works (Leave x)) = x.held ≡ Some (held_by line key)
   Drops line key turn = ⊥
 
   -- it goes on, and has found no cause to wait
-  abbrev pub StillLooks : Line → Key → Option (Reply T) → Stage (Phase T) T W → Type 0
+  abbrev pub StillLooks : WaitList → Key → Option (Reply T) → Stage (Phase T) T W → Type 0
   StillLooks line key r s = (r ≡ None) × LooksAgain line key s
 
-  looks_at : (line : Line) (key : Key) (at : Stage (Phase T) T W) (r : Option (Reply T)) (s : Stage (Phase T) T W) → LooksAgain line key at → (r ≡ None) × (s ≡ at) → StillLooks line key r s
+  looks_at : (line : WaitList) (key : Key) (at : Stage (Phase T) T W) (r : Option (Reply T)) (s : Stage (Phase T) T W) → LooksAgain line key at → (r ≡ None) × (s ≡ at) → StillLooks line key r s
   looks_at line key at r s h t = (t.0, subst (λ (z : Stage (Phase T) T W). LooksAgain line key z) (sym t.1) h)
 
-  turned_drops : (line : Line) (key : Key) (turn : Turn T W) (r : Option (Reply T)) (s : Stage (Phase T) T W) → Drops line key turn → Turned turn r s → StillLooks line key r s
+  turned_drops : (line : WaitList) (key : Key) (turn : NextStep T W) (r : Option (Reply T)) (s : Stage (Phase T) T W) → Drops line key turn → Turned turn r s → StillLooks line key r s
   turned_drops line key (Works (TellSend x)) r s h t = looks_at line key (Working (TellSend x)) r s h t
   turned_drops line key (Works (Leave x)) r s h t = looks_at line key (Working (Leave x)) r s h t
   turned_drops line key turn r s h t = absurd h
@@ -105,47 +105,47 @@ module _ {T W : Type 0} where
 
   -- it goes on so, or drops its listener
   module _ (q : Queue T) (shut : IsShut q) (x : ChannelAsk T W) (k : Key) (task : W) (a : QueueAsk T) (ds : List (MarkedMoment T W)) (seen : List (Channel T W)) where
-    looks_on : (line : Line) (m : QueueMark) (s t : queue.Stage T) → TriesFor x (aim.Poll line (Some k) task) a ds seen → ContinuesBy q a m s t → HasNoCauseToWait s → HasNoCauseToWait t
+    looks_on : (line : WaitList) (m : QueueMark) (s t : queue.Stage T) → TriesFor x (aim.Poll line (Some k) task) a ds seen → ContinuesBy q a m s t → HasNoCauseToWait s → HasNoCauseToWait t
     looks_on Sends m s t h g n = let p = poll_asks x Sends (Some k) task a ds seen h in push_looks q shut m s t (subst (λ (z : QueueAsk T). ContinuesBy q z m s t) p.1 g) n
     looks_on Receives m s t h g n = pop_looks q shut m s t (subst (λ (z : QueueAsk T). ContinuesBy q z m s t) (poll_asks x Receives (Some k) task a ds seen h) g) n
     looks_on Streams m s t h g n = pop_looks q shut m s t (subst (λ (z : QueueAsk T). ContinuesBy q z m s t) (poll_asks x Streams (Some k) task a ds seen h) g) n
     looks_on Closings m s t h g n = absurd (subst (λ (z : QueueAsk T). ContinuesBy q z m s t) (poll_asks x Closings (Some k) task a ds seen h) g)
 
-    drops : (line : Line) (m : QueueMark) (reply : QueueReply T) (s : queue.Stage T) → TriesFor x (aim.Poll line (Some k) task) a ds seen → AnswersTo q a m reply s → HasNoCauseToWait s → Drops line k (polled_next line reply (Some k) task)
+    drops : (line : WaitList) (m : QueueMark) (reply : QueueReply T) (s : queue.Stage T) → TriesFor x (aim.Poll line (Some k) task) a ds seen → AnswersTo q a m reply s → HasNoCauseToWait s → Drops line k (polled_next line reply (Some k) task)
     drops Sends m reply s h g n =
         let p = poll_asks x Sends (Some k) task a ds seen h in push_drops q shut k task p.0 m reply s (subst (λ (z : QueueAsk T). AnswersTo q z m reply s) p.1 g) n
     drops Receives m reply s h g n = let d = pop_drops q shut k task m reply s (subst (λ (z : QueueAsk T). AnswersTo q z m reply s) (poll_asks x Receives (Some k) task a ds seen h) g) in d.0
     drops Streams m reply s h g n = let d = pop_drops q shut k task m reply s (subst (λ (z : QueueAsk T). AnswersTo q z m reply s) (poll_asks x Streams (Some k) task a ds seen h) g) in d.1
     drops Closings m reply s h g n = ask_drops q shut k task m reply s (subst (λ (z : QueueAsk T). AnswersTo q z m reply s) (poll_asks x Closings (Some k) task a ds seen h) g)
 
-  polls_on : (c : Channel T W) (x : ChannelAsk T W) (f : Phase T) (line : Line) (k : Key) (task : W) (m : QueueMark) (ds : List (MarkedMoment T W)) (seen : List (Channel T W)) (r : Option (Reply T)) (s : Stage (Phase T) T W)
+  polls_on : (c : Channel T W) (x : ChannelAsk T W) (f : Phase T) (line : WaitList) (k : Key) (task : W) (m : QueueMark) (ds : List (MarkedMoment T W)) (seen : List (Channel T W)) (r : Option (Reply T)) (s : Stage (Phase T) T W)
       → Shut c → TriesFor x (aim.Poll line (Some k) task) f.ask ds seen → HasNoCauseToWait f.stage → How c f (aim.Poll line (Some k) task) m r s → StillLooks line k r s
   polls_on c x f line k task m ds seen r s shut h n (inl (f', goes, none, there)) =
       (none, subst (λ (z : Stage (Phase T) T W). LooksAgain line k z) (sym there) (refl, refl, looks_on c.queue shut x k task f.ask ds seen line m f.stage f'.stage h goes.1 n))
   polls_on c x f line k task m ds seen r s shut h n (inr (reply, ans, turned)) =
       turned_drops line k (polled_next line reply (Some k) task) r s (drops c.queue shut x k task f.ask ds seen line m reply f.stage h ans n) turned
 
-  pub looks_goes : (c : Channel T W) (x : ChannelAsk T W) (at : Stage (Phase T) T W) (ds : List (MarkedMoment T W)) (seen : List (Channel T W)) (e : Effect T W) (r : Option (Reply T)) (s : Stage (Phase T) T W) (line : Line) (key : Key)
+  pub looks_goes : (c : Channel T W) (x : ChannelAsk T W) (at : Stage (Phase T) T W) (ds : List (MarkedMoment T W)) (seen : List (Channel T W)) (e : Effect T W) (r : Option (Reply T)) (s : Stage (Phase T) T W) (line : WaitList) (key : Key)
       → StageAt c x at ds seen → Moves c at e r s → Shut c → LooksAgain line key at → WaitApart line c → Waits line key e.channel → StillLooks line key r s
   looks_goes c x (Trying f (aim.Poll at (Some k) task)) ds seen e r s line key st g shut h apart w =
       let on = polls_on c x f at k task g.mark ds seen r s shut st.0 h.2 g.how in
-      (on.0, subst (λ (l : Line). LooksAgain l key s) h.0 (subst (λ (z : Key). LooksAgain at z s) h.1 on.1))
+      (on.0, subst (λ (l : WaitList). LooksAgain l key s) h.0 (subst (λ (z : Key). LooksAgain at z s) h.1 on.1))
   looks_goes c x (Working (TellSend z)) ds seen e r s line key st g shut h apart w =
       looks_at line key (Working (Leave z)) r s h (leaves_next z z.held (held_by line key) r s h g.1)
   looks_goes c x (Working (Leave z)) ds seen e r s line key st g shut h apart w = absurd (has_left line key c z.held e h g.0 apart w)
   looks_goes c x at ds seen e r s line key st g shut h apart w = absurd h
 
-  pub newcomer_looks : (c : Channel T W) (e : Effect T W) (r : Option (Reply T)) (s : Stage (Phase T) T W) (line : Line) (key : Key) → Tries line c e r s key → StillLooks line key r s
+  pub newcomer_looks : (c : Channel T W) (e : Effect T W) (r : Option (Reply T)) (s : Stage (Phase T) T W) (line : WaitList) (key : Key) → Tries line c e r s key → StillLooks line key r s
   newcomer_looks c e r s line key (w, task, at, turned) =
       (turned.0, subst (λ (z : Stage (Phase T) T W). LooksAgain line key z) (sym turned.1) (at, refl, refl))
 
   -- ---- the closing
 
-  pub nobody_left : (line : Line) (key : Key) (c : Channel T W) → Waits line key (let e : Effect T W = tells_all line c in e.channel) → ⊥
+  pub nobody_left : (line : WaitList) (key : Key) (c : Channel T W) → Waits line key (let e : Effect T W = tells_all line c in e.channel) → ⊥
   nobody_left Sends key c w = w
   nobody_left line key c w = w
 
-module _ {T W : Type 0} (line : Line) where
+module _ {T W : Type 0} (line : WaitList) where
   -- 1 for a closing that has this list to tell
   abbrev pub counts_for_closing : ChannelAsk T W → Stage (Phase T) T W → ℕ
   counts_for_closing x (Working (TellAll next closer)) = 1 - (place next - place line)
@@ -167,11 +167,11 @@ module _ {T W : Type 0} (line : Line) where
   Paid c x at e r s = Pays line OpenOrTold counts_for_closing (LooksAgain line) (λ z. ⊥) c x at e r s
 
   -- who has closed tells all lists next
-  tells_first : (x : ChannelAsk T W) (y : Aim T W) → IsClose y → 1 ≤ weigh_turn counts_for_closing x (answered_next y (let r : QueueReply T = answer.Close true in r))
+  tells_first : (x : ChannelAsk T W) (y : Purpose T W) → IsClose y → 1 ≤ weigh_turn counts_for_closing x (answered_next y (let r : QueueReply T = answer.Close true in r))
   tells_first x (aim.Close closer) h = omega arith
   tells_first x y h = absurd h
 
-  tried_pays : (c : Channel T W) (x : ChannelAsk T W) (f : Phase T) (y : Aim T W) (m : QueueMark) (ds : List (MarkedMoment T W)) (seen : List (Channel T W)) (r : Option (Reply T)) (s : Stage (Phase T) T W)
+  tried_pays : (c : Channel T W) (x : ChannelAsk T W) (f : Phase T) (y : Purpose T W) (m : QueueMark) (ds : List (MarkedMoment T W)) (seen : List (Channel T W)) (r : Option (Reply T)) (s : Stage (Phase T) T W)
       → TriesFor x y f.ask ds seen → How c f y m r s → Paid c x (Trying f y) (queued f m c) r s
   tried_pays c x f y m ds seen r s h how n (inr some) = inr (omega (arith, some))
   tried_pays c x f y m ds seen r s h (inl (f', goes, none, there)) n (inl unshut) =
@@ -186,19 +186,19 @@ module _ {T W : Type 0} (line : Line) where
 
 module _ {T W : Type 0} where
   -- a closing tells one list after another
-  next_told : (line at : Line) (closer : Closer) (x : ChannelAsk T W) → (line ≡ at) ⊎ (1 - (place at - place line) ≤ weigh_turn (counts_for_closing line) x (told_all_next at closer))
+  next_told : (line at : WaitList) (closer : Closer) (x : ChannelAsk T W) → (line ≡ at) ⊎ (1 - (place at - place line) ≤ weigh_turn (counts_for_closing line) x (told_all_next at closer))
   next_told Sends Sends closer x = inl refl
   next_told Receives Receives closer x = inl refl
   next_told Streams Streams closer x = inl refl
   next_told Closings Closings closer x = inl refl
   next_told line at closer x = inr (omega arith)
 
-module _ {T W : Type 0} (line : Line) where
-  works_on : (c : Channel T W) (x : ChannelAsk T W) (w : Work T W) (e : Effect T W) (r : Option (Reply T)) (s : Stage (Phase T) T W) (key : Key) → Moves c (Working w) e r s → Waits line key e.channel
+module _ {T W : Type 0} (line : WaitList) where
+  works_on : (c : Channel T W) (x : ChannelAsk T W) (w : ListStep T W) (e : Effect T W) (r : Option (Reply T)) (s : Stage (Phase T) T W) (key : Key) → Moves c (Working w) e r s → Waits line key e.channel
       → counts_for_closing line x (Working w) ≤ left_over (counts_for_closing line) x r s
   works_on c x (TellAll at closer) e r s key g w =
       ⊎_elim
-      (λ same. absurd (nobody_left at key c (subst (λ (z : Line). Waits z key (let e : Effect T W = tells_all at c in e.channel)) same
+      (λ same. absurd (nobody_left at key c (subst (λ (z : WaitList). Waits z key (let e : Effect T W = tells_all at c in e.channel)) same
       (subst (λ (z : Effect T W). Waits line key z.channel) g.0 w))))
       (λ on. let now = turned_weighs (counts_for_closing line) x (told_all_next at closer) r s g.1 in omega (arith, on, now))
       (next_told line at closer x)

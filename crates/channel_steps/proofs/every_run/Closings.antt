@@ -1,6 +1,6 @@
 -- Those who wait on a closed channel, over runs.
 use Rattle.std.proofs.Common.{◌≡◌, ℕ, Bool, true, false, List, Option, ◌⊎◌, ⊎_elim, inl, inr, refl, sym, ◌∙◌}
-use Rattle.channel_steps.proofs.every_run.Words.{Key, Line, Sends, Open, Shut, Next, new_configuration, Configuration, Entry, Step, HasClosed, HasToTell, LooksAgain, ClosingIsOwed, PendingIsOwedTheClosing, AnswersClosed, ClosingSound, ClosingStaysOwed, EachRunOwesTheClosing, WaitApart, Any}
+use Rattle.channel_steps.proofs.every_run.Words.{Key, WaitList, Sends, Open, Shut, Next, new_configuration, Configuration, Entry, Step, HasClosed, HasToTell, LooksAgain, ClosingIsOwed, PendingIsOwedTheClosing, AnswersClosed, ClosingSound, ClosingStaysOwed, EachRunOwesTheClosing, WaitApart, Any}
 use Rattle.channel_steps.proofs.Interface.{known_next}
 use Rattle.channel_steps.proofs.every_run.AllOwed.{as_counts, as_calls}
 use Rattle.channel_steps.proofs.every_run.AnyFacts.{any_but}
@@ -11,7 +11,7 @@ use Rattle.channel_steps.proofs.every_run.Owed.{owed_next}
 use Rattle.channel_steps.proofs.every_run.RunFacts.{kept_long}
 
 module _ {T W : Type 0} where
-  module _ (line : Line) (s : Configuration T W) (key : Key) where
+  module _ (line : WaitList) (s : Configuration T W) (key : Key) where
     abbrev IsAnswered : Type 0
     IsAnswered = Any (AnswersClosed line key) s.under_way
 
@@ -37,7 +37,7 @@ module _ {T W : Type 0} where
       }
 
 module _ (T W : Type 0) where
-  pub new_apart : (cap : Option ℕ) (line : Line) → WaitApart line (let s : Configuration T W = new_configuration cap in s.now)
+  pub new_apart : (cap : Option ℕ) (line : WaitList) → WaitApart line (let s : Configuration T W = new_configuration cap in s.now)
   new_apart cap Sends = tt
   new_apart cap line = tt
 

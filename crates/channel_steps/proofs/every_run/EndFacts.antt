@@ -1,10 +1,10 @@
 -- What a call says at its end.
 use Rattle.std.proofs.Common.{Option, None, Some}
 use Rattle.std.specs.Prelude.{IfSome}
-use Rattle.channel_steps.proofs.every_run.Words.{Reply, Kept, ActiveCall, MayFinish, Finishes, EndSays}
+use Rattle.channel_steps.proofs.every_run.Words.{Reply, Returned, ActiveCall, MayFinish, Finishes, EndSays}
 
 module _ {T W : Type 0} where
-  end_says : (u : ActiveCall T W) (r : Reply T) (left : Option (Kept T)) → Finishes u r left → EndSays u r left
+  end_says : (u : ActiveCall T W) (r : Reply T) (left : Option (Returned T)) → Finishes u r left → EndSays u r left
   end_says u r left f = record {
     row = f.met;
     told = f.all_told;
@@ -13,6 +13,6 @@ module _ {T W : Type 0} where
     keeps = f.keeps;
   }
 
-  pub may_end : (u : ActiveCall T W) (r : Option (Reply T)) (left : Option (Kept T)) → MayFinish u r left → IfSome r (λ x. EndSays u x left)
+  pub may_end : (u : ActiveCall T W) (r : Option (Reply T)) (left : Option (Returned T)) → MayFinish u r left → IfSome r (λ x. EndSays u x left)
   may_end u None left f = tt
   may_end u (Some r) left f = end_says u r left f

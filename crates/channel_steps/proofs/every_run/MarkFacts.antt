@@ -1,6 +1,6 @@
 -- Of what is known of a call under way follows which marks it has made.
 use Rattle.std.proofs.Common.{arith, ◌≡◌, ◌≤◌, ◌+◌, ℕ, length, true, false, List, [], ◌∷◌, ◌++◌, None, Some, Ok, Err, inl, inr, ◌⊎◌, refl, sym, ap, ◌∙◌, subst, append-nil}
-use Rattle.channel_steps.proofs.every_run.Words.{trying, displaced, appended, taken, QueueAsk, Ready, Pending, up, down, Channel, ChannelAsk, Mark, Append, Take, TakeDisplaced, Replace, Close, Reply, Aim, Sends, Receives, Streams, Closings, Side, Senders, Receivers, Stage, Trying, Working, Finished, Work, TellReceive, TellStreams, TellSend, TellSends, TellAll, Leave, Ending, closer_ending, Phase, Row, TriesFor, TryAt, TriesAt, WorkAt, StageAt, MarkedMoment, Appended, Took, TookAll, Replaced, Displaced, ClosedIt, ActiveCall, AllKnown, read, measured, HasTaken, Answered, MadeRoom, CountRaised, Upgraded, LeftLast, Dropped, AreTakings, AreMarksOf, marks_of, BeginsItsMarks}
+use Rattle.channel_steps.proofs.every_run.Words.{trying, displaced, appended, taken, QueueAsk, Ready, Pending, up, down, Channel, ChannelAsk, Mark, Append, Take, TakeDisplaced, Replace, Close, Reply, Purpose, Sends, Receives, Streams, Closings, Side, Senders, Receivers, Stage, Trying, Working, Finished, ListStep, TellReceive, TellStreams, TellSend, TellSends, TellAll, Leave, Ending, closer_ending, Phase, Row, TriesFor, TryAt, TriesAt, WorkAt, StageAt, MarkedMoment, Appended, Took, TookAll, Replaced, Displaced, ClosedIt, ActiveCall, AllKnown, read, measured, HasTaken, Answered, MadeRoom, CountRaised, Upgraded, LeftLast, Dropped, AreTakings, AreMarksOf, marks_of, BeginsItsMarks}
 use Rattle.concurrent_queue.specs.Queue as queue
 use Rattle.concurrent_queue.specs.declared.call.QueueAsk.TheVariants as q
 use Rattle.channel_calls.specs.declared.ask.ChannelAsk.TheVariants as ask
@@ -8,7 +8,7 @@ use Rattle.channel_calls.specs.declared.error.Refused.TheVariants as refused
 use Rattle.channel_calls.specs.declared.error.TrySendError.TheVariants as try_send_error
 use Rattle.channel_calls.specs.declared.error.TryRecvError.TheVariants as try_recv_error
 use Rattle.channel_calls.specs.declared.reply.Reply.TheVariants as reply
-use Rattle.channel_calls.specs.declared.stage.Aim.TheVariants as aim
+use Rattle.channel_calls.specs.declared.stage.Purpose.TheVariants as aim
 use Rattle.channel_calls.specs.declared.stage.Closer.TheVariants as closer
 use Rattle.channel_steps.specs.every_run.Ends.{Each}
 
@@ -233,7 +233,7 @@ module _ {T W : Type 0} where
       subst (λ (xs : List (MarkedMoment T W)). FewTakings n (marks_of xs)) (sym t.all)
       (more_takings n t.before mine vs t.took (one_taking (marks_of mine) (popped now s mine seen h)) few)
 
-  tries : (now : Channel T W) (a : ChannelAsk T W) (y : Aim T W) (x : QueueAsk T) (s : queue.Stage T) (ds : List (MarkedMoment T W))
+  tries : (now : Channel T W) (a : ChannelAsk T W) (y : Purpose T W) (x : QueueAsk T) (s : queue.Stage T) (ds : List (MarkedMoment T W))
       (seen : List (Channel T W)) → TriesFor a y x ds seen → TriesAt now y x s ds seen → Begun a ds
   tries now (ask.TrySend m) aim.TrySend (q.Push v) s ds seen t h = whole (ask.TrySend m) ds (pushed now v s ds seen h)
   tries now (ask.ForceSend m) aim.ForceSend (q.ForcePush v) s ds seen t h = forced now m v s ds seen h
@@ -261,7 +261,7 @@ module _ {T W : Type 0} where
   answered : (a : ChannelAsk T W) (x : Ending T) (ds : List (MarkedMoment T W)) (seen : List (Channel T W)) → Answered a x ds seen → Begun a ds
   answered a x ds seen h = whole a ds (row_marks a ds h.0.1 x.reply h.0.3)
 
-  works : (a : ChannelAsk T W) (w : Work T W) (ds : List (MarkedMoment T W)) (seen : List (Channel T W)) → WorkAt a w ds seen → Begun a ds
+  works : (a : ChannelAsk T W) (w : ListStep T W) (ds : List (MarkedMoment T W)) (seen : List (Channel T W)) → WorkAt a w ds seen → Begun a ds
   works a (TellReceive x) ds seen h = answered a x ds seen h
   works a (TellStreams x) ds seen h = answered a x ds seen h
   works a (TellSend x) ds seen h = answered a x ds seen h

@@ -1,7 +1,7 @@
 -- What a step does to the plain channel.
 use Rattle.std.proofs.Common.{arith, ◌≡◌, ℕ, ◌+◌, ◌-◌, ◌^◌, ◌==◌, ◌&&◌, nat_lt, Bool, true, false, if◌then◌else◌, take, drop, List, [], ◌∷◌, ◌++◌, None, Some, Option, inl, inr, refl, sym, ap, ◌∙◌, subst, append-nil, append_assoc}
 use Rattle.std.proofs.lemmas.Bool.Decides.{nat_tests}
-use Rattle.channel_steps.proofs.every_run.Words.{Phase, message, QueueMark, listened, registration, removed, removed_wakes, up, Effect, queued, untouched, on_line, tells_one, tells_all, leaves, lowers, Worked, Moves, Listeners, listeners, count, is_raised, told_one, told_one_wakes, told_more, told_more_wakes, told_all, told_all_wakes, line_of, ChannelAsk, Mark, Append, Take, TakeDisplaced, Replace, Reply, Held, Line, Sends, Receives, Streams, Side, Senders, Receivers, Stage, Trying, Working, Finished, Waiting, Work, TellReceive, TellStreams, TellSend, TellSends, TellAll, Insert, Register, Leave, Lower, Raise, Configuration, Steps, brought, gone_by, came_by, Entry, Inserts, ModelChannel, plain, brought_by, AddUp}
+use Rattle.channel_steps.proofs.every_run.Words.{Phase, message, QueueMark, listened, registration, removed, removed_wakes, up, Effect, queued, untouched, on_line, tells_one, tells_all, leaves, lowers, Worked, Moves, Listeners, listeners, count, is_raised, told_one, told_one_wakes, told_more, told_more_wakes, told_all, told_all_wakes, line_of, ChannelAsk, Mark, Append, Take, TakeDisplaced, Replace, Reply, ListenerRef, WaitList, Sends, Receives, Streams, Side, Senders, Receivers, Stage, Trying, Working, Finished, Waiting, ListStep, TellReceive, TellStreams, TellSend, TellSends, TellAll, Insert, Register, Leave, Lower, Raise, Configuration, Steps, brought, gone_by, came_by, Entry, Inserts, ModelChannel, plain, brought_by, AddUp}
 use Rattle.concurrent_queue.specs.declared.call.QueueMark.TheVariants as queue
 use Rattle.channel_calls.specs.Moves as moves
 use Rattle.channel_calls.specs.declared.mark.Mark.TheVariants.{Nothing}
@@ -22,20 +22,20 @@ module _ {T W : Type 0} where
   by_queue f queue.Replace c = (message f.ask, refl)
   by_queue f w c = ([], refl)
 
-  by_line : (line : Line) (l : Listeners W) (names : List W) (c : moves.Channel T W) → Does c (on_line line l names c)
+  by_line : (line : WaitList) (l : Listeners W) (names : List W) (c : moves.Channel T W) → Does c (on_line line l names c)
   by_line Sends l names c = ([], refl)
   by_line line l names c = ([], refl)
 
-  by_one : (line : Line) (c : moves.Channel T W) → Does c (tells_one line c)
+  by_one : (line : WaitList) (c : moves.Channel T W) → Does c (tells_one line c)
   by_one line c = by_line line (told_one (listeners line c.roster)) (told_one_wakes (listeners line c.roster)) c
 
-  by_all : (line : Line) (c : moves.Channel T W) → Does c (tells_all line c)
+  by_all : (line : WaitList) (c : moves.Channel T W) → Does c (tells_all line c)
   by_all line c = by_line line (told_all (listeners line c.roster)) (told_all_wakes (listeners line c.roster)) c
 
   by_none : (c : moves.Channel T W) → Does c (untouched c)
   by_none c = ([], refl)
 
-  by_leaving : (o : Option Held) (c : moves.Channel T W) → Does c (leaves o c)
+  by_leaving : (o : Option ListenerRef) (c : moves.Channel T W) → Does c (leaves o c)
   by_leaving None c = by_none c
   by_leaving (Some h) c =
       by_line h.line (removed h.key true (listeners h.line c.roster)) (removed_wakes h.key true (listeners h.line c.roster)) c
@@ -64,7 +64,7 @@ module _ {T W : Type 0} where
   by_inserting c w task e r s (inl (key, new, same, t)) = as_it c e _ same (by_line (line_of w) (listened key (listeners (line_of w) c.roster)) [] c)
   by_inserting c w task e r s (inr (error, same, t)) = as_it c e _ same (by_none c)
 
-  by_work : (c : moves.Channel T W) (w : Work T W) (e : Effect T W) (r : Option (Reply T)) (s : Stage (Phase T) T W) → Worked c w e r s → Does c e
+  by_work : (c : moves.Channel T W) (w : ListStep T W) (e : Effect T W) (r : Option (Reply T)) (s : Stage (Phase T) T W) → Worked c w e r s → Does c e
   by_work c (TellReceive x) e r s h = as_it c e _ h.0 (by_one Receives c)
   by_work c (TellStreams x) e r s h = as_it c e _ h.0 (by_all Streams c)
   by_work c (TellSend x) e r s h = as_it c e _ h.0 (by_one Sends c)

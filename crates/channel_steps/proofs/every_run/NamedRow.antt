@@ -9,7 +9,7 @@ use Rattle.concurrent_queue.proofs.Callers.{is_same}
 use Rattle.concurrent_queue.proofs.FitsFacts.{starts}
 use Rattle.channel_calls.specs.declared.mark.Mark.TheVariants as mark
 use Rattle.channel_calls.specs.declared.reply.Reply.TheVariants as reply
-use Rattle.channel_calls.specs.declared.stage.Aim.TheVariants as aim
+use Rattle.channel_calls.specs.declared.stage.Purpose.TheVariants as aim
 use Rattle.channel_calls.specs.declared.stage.Closer.TheVariants as closer
 use Rattle.channel_calls.specs.declared.stage.Waiting.TheVariants as waiting
 

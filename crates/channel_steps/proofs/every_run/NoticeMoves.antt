@@ -1,6 +1,6 @@
 -- Who tells all of a list has closed the channel, and it is closed.
 use Rattle.std.proofs.Common.{◌≡◌, ℕ, zero, suc, List, [], ◌∷◌, ◌++◌, Option, ◌⊎◌, ⊎_elim, inl, inr, refl, subst}
-use Rattle.channel_steps.proofs.every_run.Words.{Phase, QueueMark, mark_of_queue, Channel, Effect, Moves, Mark, Append, Replace, Close, Reply, Closer, Line, Sends, Receives, Streams, Closings, Stage, Working, TellAll, ToldAt, MarkedMoment, with_marked, Shut, Telling, all_from, one_of, more_of, all_of, owed_for, owed_takings, takings, owed_besides, HasClosed, HasToTell, IsStill, Queue, after, IsShut}
+use Rattle.channel_steps.proofs.every_run.Words.{Phase, QueueMark, mark_of_queue, Channel, Effect, Moves, Mark, Append, Replace, Close, Reply, Closer, WaitList, Sends, Receives, Streams, Closings, Stage, Working, TellAll, ToldAt, MarkedMoment, with_marked, Shut, Telling, all_from, one_of, more_of, all_of, owed_for, owed_takings, takings, owed_besides, HasClosed, HasToTell, IsStill, Queue, after, IsShut}
 use Rattle.concurrent_queue.specs.declared.call.QueueMark.TheVariants as queue
 use Rattle.channel_calls.specs.declared.mark.Mark.TheVariants.{Nothing}
 use Rattle.channel_steps.specs.Tellings.{owed}
@@ -23,7 +23,7 @@ module _ (x : Telling) where
   among_either (y ∷ xs) ys (inr h) = ⊎_elim (λ k. inl (inr k)) (λ k. inr k) (among_either xs ys h)
 
 -- a closing tells those last who wait for it
-closings_last : (line : Line) → IsAmong (all_of Closings) (all_from line)
+closings_last : (line : WaitList) → IsAmong (all_of Closings) (all_from line)
 closings_last Sends = inr (inr (inr (inl refl)))
 closings_last Receives = inr (inr (inl refl))
 closings_last Streams = inr (inl refl)
@@ -64,13 +64,13 @@ module _ {T W : Type 0} where
       (among_either (all_of Closings) (owed_takings (takings ds)) (owed_besides ds) h)
 
   -- who tells all of a list has closed the channel
-  pub teller_has_closed : (told : List Telling) (line : Line) (closer : Closer) (ds : List (MarkedMoment T W))
+  pub teller_has_closed : (told : List Telling) (line : WaitList) (closer : Closer) (ds : List (MarkedMoment T W))
       → ToldAt told (let at : Stage (Phase T) T W = Working (TellAll line closer) in at) ds → HasClosed ds
   teller_has_closed told line closer ds h =
       has_owed ds (subst (λ (ts : List Telling). IsAmong (all_of Closings) ts) h
       (among_right (all_of Closings) told (all_from line) (closings_last line)))
 
-  pub told_has_closed : (line : Line) (told : List Telling) (at : Stage (Phase T) T W) (ds : List (MarkedMoment T W)) → ToldAt told at ds → HasToTell line at → HasClosed ds
+  pub told_has_closed : (line : WaitList) (told : List Telling) (at : Stage (Phase T) T W) (ds : List (MarkedMoment T W)) → ToldAt told at ds → HasToTell line at → HasClosed ds
   told_has_closed line told (Working (TellAll next closer)) ds h tells = teller_has_closed told next closer ds h
   told_has_closed line told at ds h tells = absurd tells
 

@@ -1,6 +1,6 @@
 -- How those who were told were told, over runs.
 use Rattle.std.proofs.Common.{◌≡◌, ℕ, Bool, true, false, List, Option, ◌⊎◌, ⊎_elim, inl, inr, refl, sym, ◌∙◌, subst}
-use Rattle.channel_steps.proofs.every_run.Words.{Phase, Key, Channel, Effect, tells_all, Moves, ChannelAsk, Reply, Line, Sends, Receives, Streams, Stage, Working, TellReceive, TellStreams, TellSend, TellSends, TellAll, ToldAt, MarkedMoment, Open, Shut, Configuration, Steps, Known, Telling, Next, Begins, new_configuration, Entry, Step, HasClosed, LooksAgain, MayBeTold, IsOneByOne, EachTold, AnyTold, told_of, TellingsSound, TellingsStayFit, TellingsAlwaysFit, Waits, Any}
+use Rattle.channel_steps.proofs.every_run.Words.{Phase, Key, Channel, Effect, tells_all, Moves, ChannelAsk, Reply, WaitList, Sends, Receives, Streams, Stage, Working, TellReceive, TellStreams, TellSend, TellSends, TellAll, ToldAt, MarkedMoment, Open, Shut, Configuration, Steps, Known, Telling, Next, Begins, new_configuration, Entry, Step, HasClosed, LooksAgain, MayBeTold, IsOneByOne, EachTold, AnyTold, told_of, TellingsSound, TellingsStayFit, TellingsAlwaysFit, Waits, Any}
 use Rattle.channel_steps.specs.declared.run.Step.TheVariants as step
 use Rattle.channel_steps.proofs.Interface.{known_next}
 use Rattle.channel_steps.specs.every_run.Ends.{Each}
@@ -19,22 +19,22 @@ open_as : (b b' : Bool) → (b ≡ true → b' ≡ true) → b' ≡ false → b 
 open_as true b' f e = absurd (let never : true ≡ false = sym (f refl) ∙ e in cc)
 open_as false b' f e = refl
 
-at_line : (P : Line → Type 0) (line at : Line) → line ≡ at → P at → P line
+at_line : (P : WaitList → Type 0) (line at : WaitList) → line ≡ at → P at → P line
 at_line P line at e h = subst P (sym e) h
 
 module _ {T W : Type 0} where
   -- a telling of an open channel is as it may be, and else the call has closed the channel
-  tells_as : (line : Line) (b : Bool) (told : List Telling) (at : Stage (Phase T) T W) (ds : List (MarkedMoment T W))
+  tells_as : (line : WaitList) (b : Bool) (told : List Telling) (at : Stage (Phase T) T W) (ds : List (MarkedMoment T W))
       → ToldAt told at ds → Tells line b at → MayBeTold line b ⊎ HasClosed ds
-  tells_as line b told (Working (TellReceive x)) ds k h = inl (at_line (λ (z : Line). MayBeTold z b) line Receives h.0 (sym h.1))
-  tells_as line b told (Working (TellStreams x)) ds k h = inl (at_line (λ (z : Line). MayBeTold z b) line Streams h.0 (sym h.1))
-  tells_as line b told (Working (TellSend x)) ds k h = inl (at_line (λ (z : Line). MayBeTold z b) line Sends h.0 (sym h.1))
-  tells_as line b told (Working (TellSends n x)) ds k h = inl (at_line (λ (z : Line). MayBeTold z b) line Sends h.0 (sym h.1))
+  tells_as line b told (Working (TellReceive x)) ds k h = inl (at_line (λ (z : WaitList). MayBeTold z b) line Receives h.0 (sym h.1))
+  tells_as line b told (Working (TellStreams x)) ds k h = inl (at_line (λ (z : WaitList). MayBeTold z b) line Streams h.0 (sym h.1))
+  tells_as line b told (Working (TellSend x)) ds k h = inl (at_line (λ (z : WaitList). MayBeTold z b) line Sends h.0 (sym h.1))
+  tells_as line b told (Working (TellSends n x)) ds k h = inl (at_line (λ (z : WaitList). MayBeTold z b) line Sends h.0 (sym h.1))
   tells_as line b told (Working (TellAll at closer)) ds k h = inr (teller_has_closed told at closer ds k)
   tells_as line b told at ds k h = absurd h
 
   -- who tells a send or a receive by the default tells all of its list, and has closed the channel
-  by_default_as : (line : Line) (one : IsOneByOne line) (told : List Telling) (c : Channel T W) (at : Stage (Phase T) T W)
+  by_default_as : (line : WaitList) (one : IsOneByOne line) (told : List Telling) (c : Channel T W) (at : Stage (Phase T) T W)
       (e : Effect T W) (r : Option (Reply T)) (s : Stage (Phase T) T W) (ds : List (MarkedMoment T W))
       → ToldAt told at ds → Moves c at e r s → Tells line false at → HasClosed ds × ((key : Key) → Waits line key e.channel → ⊥)
   by_default_as line one told c (Working (TellReceive x)) e r s ds k g h = absurd (let never : true ≡ false = h.1 in cc)
@@ -44,7 +44,7 @@ module _ {T W : Type 0} where
   by_default_as line one told c (Working (TellAll at closer)) e r s ds k g h = (
     teller_has_closed told at closer ds k,
     λ key w. nobody_left at key c
-        (subst (λ (z : Line). Waits z key (let e : Effect T W = tells_all at c in e.channel)) h.0
+        (subst (λ (z : WaitList). Waits z key (let e : Effect T W = tells_all at c in e.channel)) h.0
         (subst (λ (z : Effect T W). Waits line key z.channel) g.0 w)),
   )
   by_default_as line one told c at e r s ds k g h = absurd h
@@ -70,7 +70,7 @@ module _ {T W : Type 0} where
         (λ u f h. shut_on (f h)) (λ f h. ⊎_elim (λ k. mine_closed k) (λ k. close_shuts s.now st.mine.at effect e.reply st.at_now st.moves k)
         (closed_before st.mine.marks e.mark s.now st.mine.seen h)) sound.closers
 
-    module _ (line : Line) where
+    module _ (line : WaitList) where
       open_after : Open t.now → EachTold (MayBeTold line) (told_of line t.now)
       open_after now =
           each_as (MayBeTold line) (told_of line t.now)
@@ -114,7 +114,7 @@ module _ {T W : Type 0} where
   -- ---- a call that begins
 
   module _ (s t : Configuration T W) (p : ℕ) (ask : ChannelAsk T W) (e : Entry T) (b : Begins s p ask e t) (sound : TellingsSound s) where
-    begun_default : (line : Line) → IsOneByOne line → AnyTold false (told_of line t.now)
+    begun_default : (line : WaitList) → IsOneByOne line → AnyTold false (told_of line t.now)
         → Shut t.now × ((key : Key) → Waits line key t.now → Any (λ u. LooksAgain line key u.at) t.under_way)
     begun_default line one h =
         let k = sound.fit.by_default line one (subst (λ (c : Channel T W). AnyTold false (told_of line c)) b.now h) in (
@@ -123,7 +123,7 @@ module _ {T W : Type 0} where
               (k.1 key (subst (λ (c : Channel T W). Waits line key c) b.now w)),
         )
 
-    begun_open : (line : Line) → Open t.now → EachTold (MayBeTold line) (told_of line t.now)
+    begun_open : (line : WaitList) → Open t.now → EachTold (MayBeTold line) (told_of line t.now)
     begun_open line now =
         subst (λ (c : Channel T W). EachTold (MayBeTold line) (told_of line c)) (sym b.now)
         (sound.fit.while_open line (subst (λ (c : Channel T W). Open c) b.now now))
@@ -158,12 +158,12 @@ module _ {T W : Type 0} where
 -- ---- a channel that was just opened
 
 module _ (T W : Type 0) where
-  new_open : (cap : Option ℕ) (line : Line)
+  new_open : (cap : Option ℕ) (line : WaitList)
       → EachTold (MayBeTold line) (told_of line (let s : Configuration T W = new_configuration cap in s.now))
   new_open cap Sends = tt
   new_open cap line = tt
 
-  new_default : (cap : Option ℕ) (line : Line) → AnyTold false (told_of line (let s : Configuration T W = new_configuration cap in s.now)) → ⊥
+  new_default : (cap : Option ℕ) (line : WaitList) → AnyTold false (told_of line (let s : Configuration T W = new_configuration cap in s.now)) → ⊥
   new_default cap Sends h = h
   new_default cap line h = h
 

@@ -1,10 +1,10 @@
 -- How many messages there are after a step of the queue's call, and what the call counts for by its turn.
 use Rattle.std.proofs.Common.{◌≡◌, ℕ, ◌+◌, ◌≤◌, [], ◌∷◌, ◌++◌, length, drop, Option, None, Some, refl, ap, ◌∙◌, arith, length-append}
-use Rattle.channel_steps.proofs.every_run.Words.{Queue, Phase, trying, displaced, appended, taken, asked, marked, is_displaced, ContinuesPush, ContinuesForce, ContinuesPop, ContinuesBy, AnswersTo, QueueAsk, QueueMark, Nothing, QueueReply, Key, Turned, ChannelAsk, Reply, Line, Stage, Trying, Working, Turn, Tries, Works, Ends, is_trying, is_trying_anew, has_appended, has_taken, has_displaced}
+use Rattle.channel_steps.proofs.every_run.Words.{Queue, Phase, trying, displaced, appended, taken, asked, marked, is_displaced, ContinuesPush, ContinuesForce, ContinuesPop, ContinuesBy, AnswersTo, QueueAsk, QueueMark, Nothing, QueueReply, Key, Turned, ChannelAsk, Reply, WaitList, Stage, Trying, Working, NextStep, Tries, Works, Ends, is_trying, is_trying_anew, has_appended, has_taken, has_displaced}
 use Rattle.concurrent_queue.specs.Queue as queue
 use Rattle.concurrent_queue.specs.declared.call.QueueAsk.TheVariants as ask
 use Rattle.concurrent_queue.specs.declared.call.QueueMark.TheVariants.{Append, Take, TakeDisplaced, Replace}
-use Rattle.channel_calls.specs.declared.stage.Aim.TheVariants as aim
+use Rattle.channel_calls.specs.declared.stage.Purpose.TheVariants as aim
 use Rattle.channel_steps.proofs.Interface.{answered_by}
 use Rattle.channel_steps.proofs.QueueFacts.{one_fewer}
 use Rattle.channel_steps.proofs.SuitFacts.{IsPush, MayTake}
@@ -117,14 +117,14 @@ module _ {T : Type 0} where
 
 module _ {T W : Type 0} where
   -- a poll's try counts for one at most
-  pub anew_at_most : (f : Phase T) (line : Line) (key : Option Key) (task : W)
+  pub anew_at_most : (f : Phase T) (line : WaitList) (key : Option Key) (task : W)
       → is_trying_anew (let at : Stage (Phase T) T W = Trying f (aim.Poll line key task) in at) ≤ is_trying f.stage
   anew_at_most f line None task = omega arith
   anew_at_most f line (Some k) task = omega arith
 
   module _ (weigh : ChannelAsk T W → Stage (Phase T) T W → ℕ) (x : ChannelAsk T W) where
     -- what a call counts for once it has taken this turn
-    abbrev pub weigh_turn : Turn T W → ℕ
+    abbrev pub weigh_turn : NextStep T W → ℕ
     weigh_turn (Tries a y) = weigh x (Trying (asked a) y)
     weigh_turn (Works w) = weigh x (Working w)
     weigh_turn (Ends y kept) = 0
@@ -134,7 +134,7 @@ module _ {T W : Type 0} where
     left_as r r' s s' e f =
         ap (λ (z : Option (Reply T)). left_over weigh x z s) e ∙ ap (λ (z : Stage (Phase T) T W). left_over weigh x r' z) f
 
-    pub turned_weighs : (turn : Turn T W) (r : Option (Reply T)) (s : Stage (Phase T) T W) → Turned turn r s
+    pub turned_weighs : (turn : NextStep T W) (r : Option (Reply T)) (s : Stage (Phase T) T W) → Turned turn r s
         → left_over weigh x r s ≡ weigh_turn turn
     turned_weighs (Tries a y) r s t = left_as r None s (Trying (asked a) y) t.0 t.1
     turned_weighs (Works w) r s t = left_as r None s (Working w) t.0 t.1

@@ -1,14 +1,14 @@
 -- Who waits on a list, over one step of a run: one law, for whatever list, whatever is enough for those who wait on it, and whatever
 -- the calls under way count for.
 use Rattle.std.proofs.Common.{◌≡◌, ℕ, ◌+◌, ◌≤◌, List, Option, None, ◌⊎◌, ⊎_elim, inl, inr, sym, subst}
-use Rattle.channel_steps.proofs.every_run.Words.{Phase, Key, Channel, Effect, Moves, ChannelAsk, Reply, Line, Stage, StageAt, MarkedMoment, Next, Begins, Configuration, Steps, Known, AllKnown, Entry, Step, total, AreOwed, PendingAreOwed, Waits, WaitApart, Any}
+use Rattle.channel_steps.proofs.every_run.Words.{Phase, Key, Channel, Effect, Moves, ChannelAsk, Reply, WaitList, Stage, StageAt, MarkedMoment, Next, Begins, Configuration, Steps, Known, AllKnown, Entry, Step, total, AreOwed, PendingAreOwed, Waits, WaitApart, Any}
 use Rattle.channel_steps.specs.declared.run.Step.TheVariants as step
 use Rattle.channel_steps.proofs.every_run.AnyFacts.{any_none, any_mine, any_steps, any_begins}
 use Rattle.channel_steps.proofs.every_run.EachFacts.{of_mine, each_known}
 use Rattle.channel_steps.proofs.every_run.ListMoves.{Tries, moved_lists, waited}
 use Rattle.channel_steps.proofs.every_run.TotalFacts.{left_over, of_others, total_before, total_after, total_begins}
 
-module _ {T W : Type 0} (line : Line) (Enough : Channel T W → ℕ → Type 0) (weigh : ChannelAsk T W → Stage (Phase T) T W → ℕ)
+module _ {T W : Type 0} (line : WaitList) (Enough : Channel T W → ℕ → Type 0) (weigh : ChannelAsk T W → Stage (Phase T) T W → ℕ)
     (Holds : Key → Stage (Phase T) T W → Type 0) (Defaulted : Channel T W → Type 0) where
   -- what is enough with so much beside it stays so over a step of this call, whatever is beside it
   abbrev pub Pays : Channel T W → ChannelAsk T W → Stage (Phase T) T W → Effect T W → Option (Reply T) → Stage (Phase T) T W

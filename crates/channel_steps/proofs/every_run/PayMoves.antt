@@ -1,6 +1,6 @@
 -- On a list that is told one at a time, a step on lists pays: as many more are told as the call counts for less.
 use Rattle.std.proofs.Common.{◌≡◌, ℕ, ◌+◌, ◌≤◌, false, Option, None, ◌⊎◌, ⊎_elim, inl, inr, refl, arith, List, length}
-use Rattle.channel_steps.proofs.every_run.Words.{Phase, Key, Channel, Effect, Worked, line_of, again, ChannelAsk, Reply, Line, Stage, Working, Waiting, Work, Register, IsFor, WorkAt, MarkedMoment, Next, Configuration, Entry, Step, HoldsListener, AreOwed, LooksAgain, IsOneByOne, AnyTold, told_of, TellingsSound, Waits}
+use Rattle.channel_steps.proofs.every_run.Words.{Phase, Key, Channel, Effect, Worked, line_of, again, ChannelAsk, Reply, WaitList, Stage, Working, Waiting, ListStep, Register, IsFor, WorkAt, MarkedMoment, Next, Configuration, Entry, Step, HoldsListener, AreOwed, LooksAgain, IsOneByOne, AnyTold, told_of, TellingsSound, Waits}
 use Rattle.channel_steps.proofs.every_run.AnyFacts.{any_weaker}
 use Rattle.channel_steps.proofs.every_run.HandMoves.{HasCause, looks_holds, holds_on, newcomer_holds}
 use Rattle.channel_steps.proofs.every_run.NumberMoves.{weigh_turn, turned_weighs}
@@ -8,7 +8,7 @@ use Rattle.channel_steps.proofs.every_run.Owed.{Pays, OfStep, Ledger, owed_next}
 use Rattle.channel_steps.proofs.every_run.ToldMoves.{tells_now, AsksAnew, worked_counts}
 use Rattle.channel_steps.proofs.every_run.TotalFacts.{left_over}
 
-module _ {T W : Type 0} (line : Line) (one : IsOneByOne line) (Enough : Channel T W → ℕ → Type 0) (weigh : ChannelAsk T W → Stage (Phase T) T W → ℕ) where
+module _ {T W : Type 0} (line : WaitList) (one : IsOneByOne line) (Enough : Channel T W → ℕ → Type 0) (weigh : ChannelAsk T W → Stage (Phase T) T W → ℕ) where
   -- one of the list was told by the default
   abbrev pub OneByDefault : Channel T W → Type 0
   OneByDefault c = AnyTold false (told_of line c)
@@ -18,14 +18,14 @@ module _ {T W : Type 0} (line : Line) (one : IsOneByOne line) (Enough : Channel 
 
   -- what has to hold of what calls count for, and of what is enough
   pub record Counting : Type 0 where
-    pub tells : (x : ChannelAsk T W) (w : Work T W) → weigh x (Working w) ≤ tells_now w line
+    pub tells : (x : ChannelAsk T W) (w : ListStep T W) → weigh x (Working w) ≤ tells_now w line
     pub asks : (x : ChannelAsk T W) (v : Waiting T) (task : W) → IsFor x v → line ≡ line_of v → weigh_turn weigh x (again v None task) ≡ 1
     pub caused : (c : Channel T W) (n : ℕ) → HasCause line c.queue → Enough c n
     -- where the queue is the same, and no fewer are told and to be told
     pub eased : (c d : Channel T W) (m n : ℕ) → d.queue ≡ c.queue → length (told_of line c) + m ≤ length (told_of line d) + n → Enough c m → Enough d n
 
   module _ (counting : Counting) where
-    asks_anew : (x : ChannelAsk T W) (w : Work T W) (ds : List (MarkedMoment T W)) (seen : List (Channel T W)) (r : Option (Reply T)) (s : Stage (Phase T) T W)
+    asks_anew : (x : ChannelAsk T W) (w : ListStep T W) (ds : List (MarkedMoment T W)) (seen : List (Channel T W)) (r : Option (Reply T)) (s : Stage (Phase T) T W)
         → WorkAt x w ds seen → AsksAnew line w r s → (left_over weigh x r s ≡ 1) × (tells_now w line ≡ 0)
     asks_anew x (Register v key task) ds seen r s h k = (
       (let turned = turned_weighs weigh x (again v None task) r s k.1 in let asks = counting.asks x v task h.0 k.0 in omega (arith, turned, asks)),
@@ -33,7 +33,7 @@ module _ {T W : Type 0} (line : Line) (one : IsOneByOne line) (Enough : Channel 
     )
     asks_anew x w ds seen r s h k = absurd k
 
-    pub worked_pays : (c : Channel T W) (x : ChannelAsk T W) (w : Work T W) (ds : List (MarkedMoment T W)) (seen : List (Channel T W)) (e : Effect T W) (r : Option (Reply T)) (s : Stage (Phase T) T W) (key : Key)
+    pub worked_pays : (c : Channel T W) (x : ChannelAsk T W) (w : ListStep T W) (ds : List (MarkedMoment T W)) (seen : List (Channel T W)) (e : Effect T W) (r : Option (Reply T)) (s : Stage (Phase T) T W) (key : Key)
         → e.channel.queue ≡ c.queue → WorkAt x w ds seen → Worked c w e r s → Waits line key e.channel → PaysOne c x (Working w) e r s ⊎ OneByDefault c
     worked_pays c x w ds seen e r s key same h g waits = by (worked_counts key r s line c w e g waits)
       where

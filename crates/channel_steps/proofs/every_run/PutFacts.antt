@@ -3,7 +3,7 @@ use Rattle.std.proofs.Common.{◌≡◌, ℕ, zero, suc, ◌+◌, ◌*◌, ◌/�
 use Rattle.std.proofs.lemmas.Nat.{mod_below, div-add-mod'}
 use Rattle.std.proofs.lemmas.Bool.{cases_lt, false≢true}
 use Rattle.std.proofs.lemmas.Bool.Decides.{nat_tests}
-use Rattle.channel_steps.proofs.every_run.Words.{Contents, block_at, slot_at, Queue, Phase, appended, message, Seat, AreAt, IsAtBlocks, FitsForm, HasBrought, Place, Each, owed, one_if, number, position, KnowsBlocks, same, owes, BlocksSeat, BlocksMeans, owners, Denotes, act_of, seat_of, IsChain, QueueAsk, QueueForm, Bounded, Unbounded, Slot, CallState, Asked, Single, Ring, Blocks, UnboundedAction, UnboundedCall, IsAtSingle, IsAtRing, FitsSlot, FitsRing, slot_by, sum, pos, holds, holders, KnowsSingle, Means, SingleMeans, index, ring_mark, SlotState, SoundRing, busy, reach, hold, ask_of, at_stage, placed, KnowsRing, RingMeans, place_at, ring_slot, number_of, fill, taken_in, Fills, IsProper, IsTailAt, IsFit, blocks_slot, RingAction, WhenFull, Refuse, Displace, At, In, SingleAction, puts_single, puts_ring, puts_blocks, puts_by}
+use Rattle.channel_steps.proofs.every_run.Words.{Contents, block_at, slot_at, Queue, Phase, appended, message, ActiveQueueCall, AreAt, IsAtBlocks, FitsForm, HasBrought, Place, Each, owed, one_if, number, position, KnowsBlocks, same, owes, BlocksSeat, BlocksMeans, owners, Denotes, act_of, seat_of, IsChain, QueueAsk, QueueForm, Bounded, Unbounded, Slot, CallState, Asked, Single, Ring, Blocks, UnboundedAction, UnboundedCall, IsAtSingle, IsAtRing, FitsSlot, FitsRing, slot_by, sum, pos, holds, holders, KnowsSingle, Means, SingleMeans, index, ring_mark, SlotState, SoundRing, busy, reach, hold, ask_of, at_stage, placed, KnowsRing, RingMeans, place_at, ring_slot, number_of, fill, taken_in, Fills, IsProper, IsTailAt, IsFit, blocks_slot, RingAction, WhenFull, Refuse, Displace, At, In, SingleAction, puts_single, puts_ring, puts_blocks, puts_by}
 use Rattle.concurrent_queue.specs.Step.{slot_in}
 use Rattle.concurrent_queue.specs.Step.{FitsAt}
 use Rattle.concurrent_queue.specs.Queue.{Stage}
@@ -72,7 +72,7 @@ module _ {T : Type 0} where
   Brings v p = (message p.ask ≡ v ∷ []) × HasBrought p.stage
 
   -- one of these calls is yet to put this message into this slot
-  abbrev pub IsHeldFor : QueueForm → Slot → T → List (Seat T) → Type 0
+  abbrev pub IsHeldFor : QueueForm → Slot → T → List (ActiveQueueCall T) → Type 0
   IsHeldFor form at v [] = ⊥
   IsHeldFor form at v (s ∷ ss) = ((puts_by form s.call.state ≡ Some (at, v)) × Brings v s.phase) ⊎ IsHeldFor form at v ss
 
@@ -84,7 +84,7 @@ module _ {T : Type 0} where
 
     module _ (stands : CallState T → A → Type 0) (form : QueueForm)
         (is : (s : CallState T) (a : A) (x : Slot × T) → stands s a → puts a ≡ Some x → puts_by form s ≡ Some x) where
-      to_seats : (at : Slot) (v : T) (ss : List (Seat T)) (ps : List (Place A T)) → AreAt stands ss ps → IsPutBy at v ps
+      to_seats : (at : Slot) (v : T) (ss : List (ActiveQueueCall T)) (ps : List (Place A T)) → AreAt stands ss ps → IsPutBy at v ps
           → IsHeldFor form at v ss
       to_seats at v [] [] h g = absurd g
       to_seats at v (s ∷ ss) (p ∷ ps) h (inl g) =
@@ -440,10 +440,10 @@ module _ {T : Type 0} where
   is_blocks x a y e g = absurd e
 
   -- a message is in its slot, or a call under way is yet to put it there
-  abbrev LiesOrIsHeld : QueueForm → List ℕ → Contents T → List (Seat T) → ℕ → T → Type 0
+  abbrev LiesOrIsHeld : QueueForm → List ℕ → Contents T → List (ActiveQueueCall T) → ℕ → T → Type 0
   LiesOrIsHeld form chain c seats i v = (slot_at c (slot_by form chain c i) ≡ Some v) ⊎ IsHeldFor form (slot_by form chain c i) v seats
 
-  one_slot_held : (cap : ℕ) (chain : List ℕ) (c : Contents T) (q : Queue T) (seats : List (Seat T)) → FitsSlot cap c q seats
+  one_slot_held : (cap : ℕ) (chain : List ℕ) (c : Contents T) (q : Queue T) (seats : List (ActiveQueueCall T)) → FitsSlot cap c q seats
       → (i : ℕ) (v : T)
       → slice_get q.items i ≡ Some v → LiesOrIsHeld (Bounded cap) chain c seats i v
   one_slot_held cap chain c q seats fits i v e =
@@ -454,7 +454,7 @@ module _ {T : Type 0} where
       (⊎_elim (λ h. inl h) (λ h. inr
       (to_seats puts_single IsAtSingle (Bounded cap) (is_single cap) (At 0) v seats places are h)) (single_held c q places means i v e))
 
-  in_ring_held : (cap : ℕ) (chain : List ℕ) (c : Contents T) (q : Queue T) (seats : List (Seat T)) → FitsRing cap c q seats
+  in_ring_held : (cap : ℕ) (chain : List ℕ) (c : Contents T) (q : Queue T) (seats : List (ActiveQueueCall T)) → FitsRing cap c q seats
       → (i : ℕ) (v : T)
       → slice_get q.items i ≡ Some v → LiesOrIsHeld (Bounded cap) chain c seats i v
   in_ring_held cap chain c q seats fits i v e =
@@ -468,7 +468,7 @@ module _ {T : Type 0} where
       (to_seats (puts_ring (ring_mark cap)) IsAtRing (Bounded cap) (is_ring cap) (ring_slot cap (ring_mark cap) c i) v seats places are h))
       (ring_held cap (ring_mark cap) some (mark_is cap some fits.most) c q places means i v e))
 
-  held_in : (form : QueueForm) (chain : List ℕ) (c : Contents T) (q : Queue T) (seats : List (Seat T)) → FitsForm form chain c q seats
+  held_in : (form : QueueForm) (chain : List ℕ) (c : Contents T) (q : Queue T) (seats : List (ActiveQueueCall T)) → FitsForm form chain c q seats
       → (i : ℕ) (v : T)
       → slice_get q.items i ≡ Some v → LiesOrIsHeld form chain c seats i v
   held_in (Bounded cap) chain c q seats (inl fits) i v e = one_slot_held cap chain c q seats fits i v e
@@ -480,7 +480,7 @@ module _ {T : Type 0} where
       (block_held c q places r d means chain of fit i v e)
 
   -- of cells and calls that mean a queue
-  pub held : (chain : List ℕ) (c : Contents T) (q : Queue T) (seats : List (Seat T)) → FitsAt chain c q seats → (i : ℕ) (v : T)
+  pub held : (chain : List ℕ) (c : Contents T) (q : Queue T) (seats : List (ActiveQueueCall T)) → FitsAt chain c q seats → (i : ℕ) (v : T)
       → slice_get q.items i ≡ Some v → (slot_at c (slot_in chain c i) ≡ Some v) ⊎ IsHeldFor c.form (slot_in chain c i) v seats
   unfolding FitsAt slot_in
   held chain c q seats fits i v e = held_in c.form chain c q seats fits i v e

@@ -1,6 +1,6 @@
 -- Each step pays for what it brings or uses up, as those count it who wait for a message.
 use Rattle.std.proofs.Common.{◌≡◌, ℕ, ◌+◌, ◌≤◌, false, List, [], length, Option, None, Some, Ok, Err, ◌⊎◌, ⊎_elim, inl, inr, refl, sym, ap, subst, arith}
-use Rattle.channel_steps.proofs.every_run.Words.{Queue, Phase, trying, appended, taken, marked, is_displaced, AnswersTo, ContinuesBy, QueueAsk, QueueMark, Nothing, QueueReply, Key, answered_next, Channel, Effect, queued, Moves, line_of, again, ChannelAsk, Loan, Reply, Aim, Sends, Receives, Streams, Closings, Stage, Trying, Working, Finished, Waiting, Work, TellReceive, TriesFor, IsFor, StageAt, MarkedMoment, HoldsListener, AnyTold, told_of, is_to_tell_receive, counts_for_receives, MessagesAreFew, IsSending, Waits}
+use Rattle.channel_steps.proofs.every_run.Words.{Queue, Phase, trying, appended, taken, marked, is_displaced, AnswersTo, ContinuesBy, QueueAsk, QueueMark, Nothing, QueueReply, Key, answered_next, Channel, Effect, queued, Moves, line_of, again, ChannelAsk, Loan, Reply, Purpose, Sends, Receives, Streams, Closings, Stage, Trying, Working, Finished, Waiting, ListStep, TellReceive, TriesFor, IsFor, StageAt, MarkedMoment, HoldsListener, AnyTold, told_of, is_to_tell_receive, counts_for_receives, MessagesAreFew, IsSending, Waits}
 use Rattle.concurrent_queue.specs.Queue as queue
 use Rattle.concurrent_queue.specs.declared.call.QueueAsk.TheVariants as ask
 use Rattle.concurrent_queue.specs.declared.call.QueueReply.TheVariants as answer
@@ -8,7 +8,7 @@ use Rattle.concurrent_queue.specs.declared.error.PopError.TheVariants as pop_err
 use Rattle.concurrent_queue.specs.declared.error.PushError.TheVariants as push_error
 use Rattle.concurrent_queue.specs.declared.error.ForcePushError.TheVariants as force_error
 use Rattle.channel_calls.specs.declared.ask.ChannelAsk.TheVariants as channel
-use Rattle.channel_calls.specs.declared.stage.Aim.TheVariants as aim
+use Rattle.channel_calls.specs.declared.stage.Purpose.TheVariants as aim
 use Rattle.channel_calls.specs.declared.stage.Waiting.TheVariants as waiting
 use Rattle.channel_steps.proofs.SuitFacts.{push_sends}
 use Rattle.channel_steps.proofs.every_run.AskFacts.{How}
@@ -21,7 +21,7 @@ use Rattle.channel_steps.proofs.every_run.TotalFacts.{left_over}
 
 module _ {T W : Type 0} where
   -- what a call of this queue's call counts for
-  abbrev counted : ChannelAsk T W → Aim T W → QueueAsk T → queue.Stage T → ℕ
+  abbrev counted : ChannelAsk T W → Purpose T W → QueueAsk T → queue.Stage T → ℕ
   counted x y a s = counts_for_receives x (Trying (record { ask = a; stage = s }) y)
 
   module _ (q : Queue T) (ds : List (MarkedMoment T W)) (seen : List (Channel T W)) where
@@ -32,7 +32,7 @@ module _ {T W : Type 0} where
     popping k (Some key) t' task m s t g = let n = pop_takes q m s t g in let f = n.1 in omega (arith, f)
 
     -- as it goes on
-    goes_pays : (x : ChannelAsk T W) (y : Aim T W) (a : QueueAsk T) (m : QueueMark) (s t : queue.Stage T) → TriesFor x y a ds seen
+    goes_pays : (x : ChannelAsk T W) (y : Purpose T W) (a : QueueAsk T) (m : QueueMark) (s t : queue.Stage T) → TriesFor x y a ds seen
         → ContinuesBy q a m s t
         → number a s m q + counted x y a s ≤ length q.items + counted x y a t
     goes_pays (channel.TrySend v) aim.TrySend (ask.Push w) m s t h g = let n = push_brings q w m s t g in n.0
@@ -48,10 +48,10 @@ module _ {T W : Type 0} where
     -- ---- as it answers
 
     -- a sending call counts for what it brought, until it tells
-    abbrev Keeps : ChannelAsk T W → Aim T W → QueueAsk T → QueueReply T → queue.Stage T → Type 0
+    abbrev Keeps : ChannelAsk T W → Purpose T W → QueueAsk T → QueueReply T → queue.Stage T → Type 0
     Keeps x y a r s = counted x y a s ≤ weigh_turn counts_for_receives x (answered_next y r)
 
-    pub sending_keeps : (x : ChannelAsk T W) → IsSending x → (y : Aim T W) (a : QueueAsk T) (m : QueueMark) (r : QueueReply T) (s : queue.Stage T) → TriesFor x y a ds seen → AnswersTo q a m r s → Keeps x y a r s
+    pub sending_keeps : (x : ChannelAsk T W) → IsSending x → (y : Purpose T W) (a : QueueAsk T) (m : QueueMark) (r : QueueReply T) (s : queue.Stage T) → TriesFor x y a ds seen → AnswersTo q a m r s → Keeps x y a r s
     sending_keeps (channel.TrySend v) sends aim.TrySend (ask.Push w) Nothing (answer.Push (Ok u)) (appended None) h g = omega arith
     sending_keeps (channel.TrySend v) sends aim.TrySend (ask.Push w) Nothing (answer.Push (Err (push_error.Full z))) (trying b) h g = omega arith
     sending_keeps (channel.TrySend v) sends aim.TrySend (ask.Push w) Nothing (answer.Push (Err (push_error.Closed z))) (trying b) h g = omega arith
@@ -72,10 +72,10 @@ module _ {T W : Type 0} where
     sending_keeps x sends y a m r s h g = absurd sends
 
     -- or it found nothing
-    abbrev Answered : ChannelAsk T W → Aim T W → QueueAsk T → QueueMark → QueueReply T → queue.Stage T → Type 0
+    abbrev Answered : ChannelAsk T W → Purpose T W → QueueAsk T → QueueMark → QueueReply T → queue.Stage T → Type 0
     Answered x y a m r s = Keeps x y a r s ⊎ ((marked a (is_displaced s) m q).items ≡ [])
 
-    answers_pay : (x : ChannelAsk T W) (y : Aim T W) (a : QueueAsk T) (m : QueueMark) (r : QueueReply T) (s : queue.Stage T)
+    answers_pay : (x : ChannelAsk T W) (y : Purpose T W) (a : QueueAsk T) (m : QueueMark) (r : QueueReply T) (s : queue.Stage T)
         → TriesFor x y a ds seen → AnswersTo q a m r s → Answered x y a m r s
     answers_pay (channel.TrySend v) y a m r s h g = inl (sending_keeps (channel.TrySend v) tt y a m r s h g)
     answers_pay (channel.PollSend v k t') y a m r s h g = inl (sending_keeps (channel.PollSend v k t') tt y a m r s h g)
@@ -93,7 +93,7 @@ module _ {T W : Type 0} where
   abbrev Paid : Channel T W → ChannelAsk T W → Stage (Phase T) T W → Effect T W → Option (Reply T) → Stage (Phase T) T W → Type 0
   Paid c x at e r s = PaysOne Receives tt MessagesAreFew counts_for_receives c x at e r s
 
-  tried_pays : (c : Channel T W) (x : ChannelAsk T W) (f : Phase T) (y : Aim T W) (m : QueueMark) (ds : List (MarkedMoment T W))
+  tried_pays : (c : Channel T W) (x : ChannelAsk T W) (f : Phase T) (y : Purpose T W) (m : QueueMark) (ds : List (MarkedMoment T W))
       (seen : List (Channel T W)) (r : Option (Reply T)) (s : Stage (Phase T) T W)
       → TriesFor x y f.ask ds seen → How c f y m r s → Paid c x (Trying f y) (queued f m c) r s
   tried_pays c x f y m ds seen r s h (inl (f', goes, none, there)) n enough =
@@ -111,11 +111,11 @@ module _ {T W : Type 0} where
 
   -- ---- a step on a list
 
-  tells_at_most : (w : Work T W) → is_to_tell_receive (let at : Stage (Phase T) T W = Working w in at) ≤ tells_now w Receives
+  tells_at_most : (w : ListStep T W) → is_to_tell_receive (let at : Stage (Phase T) T W = Working w in at) ≤ tells_now w Receives
   tells_at_most (TellReceive x) = omega arith
   tells_at_most w = omega arith
 
-  work_counts : (x : ChannelAsk T W) (w : Work T W) → counts_for_receives x (Working w) ≤ tells_now w Receives
+  work_counts : (x : ChannelAsk T W) (w : ListStep T W) → counts_for_receives x (Working w) ≤ tells_now w Receives
   work_counts (channel.TrySend v) w = tells_at_most w
   work_counts (channel.ForceSend v) w = tells_at_most w
   work_counts (channel.PollSend v k t) w = tells_at_most w

@@ -1,6 +1,6 @@
 -- What a reply that says the end, and one that gives a message, say of their call.
 use Rattle.std.proofs.Common.{⊎_elim, ◌≡◌, List, [], ◌∷◌, ◌++◌, Option, None, Some, Ok, Err, inr, sym, subst}
-use Rattle.channel_steps.proofs.every_run.Words.{Ready, Channel, ChannelAsk, Mark, Append, Take, Replace, SenderUp, SenderDown, ReceiverUp, ReceiverDown, Reply, Kept, Sends, MarkedMoment, with_marked, Spent, Once, Took, TookAll, Replaced, Displaced, Row, ActiveCall, MayFinish, ForceSend, TryRecv, RecvMany, PollRecv, PollNext, RefusePoll, StillDeeds, IsStill, SaysTheEnd, GivesMessage, Replies, DropSender, DropReceiver, PollFinishedSend, GiveUp, SendIsTerminated, SameChannel, Make, DropWeak}
+use Rattle.channel_steps.proofs.every_run.Words.{Ready, Channel, ChannelAsk, Mark, Append, Take, Replace, SenderUp, SenderDown, ReceiverUp, ReceiverDown, Reply, Returned, Sends, MarkedMoment, with_marked, Spent, Once, Took, TookAll, Replaced, Displaced, Row, ActiveCall, MayFinish, ForceSend, TryRecv, RecvMany, PollRecv, PollNext, RefusePoll, StillDeeds, IsStill, SaysTheEnd, GivesMessage, Replies, DropSender, DropReceiver, PollFinishedSend, GiveUp, SendIsTerminated, SameChannel, Make, DropWeak}
 use Rattle.channel_calls.specs.declared.error.Refused.TheVariants as refused
 use Rattle.channel_calls.specs.declared.error.TryRecvError.TheVariants as try_recv_error
 use Rattle.channel_calls.specs.declared.error.TrySendError.TheVariants as try_send_error
@@ -116,11 +116,11 @@ module _ {T W : Type 0} where
 
   -- ---- a call that ends
 
-  pub finish_gives : (u : ActiveCall T W) (r : Option (Reply T)) (left : Option (Kept T)) → MayFinish u r left → StillDeeds u.marks → Replies GivesMessage r → ⊥
+  pub finish_gives : (u : ActiveCall T W) (r : Option (Reply T)) (left : Option (Returned T)) → MayFinish u r left → StillDeeds u.marks → Replies GivesMessage r → ⊥
   finish_gives u None left h k g = g
   finish_gives u (Some r) left h k g = gives u.marks h.met.1 r u.ask (spoken u.marks h.met.1 u.ask r h.met.3) g k
 
-  pub finish_ends : (u : ActiveCall T W) (r : Option (Reply T)) (left : Option (Kept T)) → MayFinish u r left → Replies SaysTheEnd r → Once Spent u.seen
+  pub finish_ends : (u : ActiveCall T W) (r : Option (Reply T)) (left : Option (Returned T)) → MayFinish u r left → Replies SaysTheEnd r → Once Spent u.seen
   finish_ends u None left h g = absurd g
   finish_ends u (Some r) left h g =
       subst (λ (cs : List (Channel T W)). Once Spent cs) (sym h.met.2) (once_behind Spent h.met.0 h.met.1 (ends u.marks h.met.1 r u.ask (spoken u.marks h.met.1 u.ask r h.met.3) g))

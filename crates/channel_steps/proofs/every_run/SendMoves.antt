@@ -1,6 +1,6 @@
 -- Each step pays for what it takes or uses up, as those count it who wait for a free place.
 use Rattle.std.proofs.lemmas.List.{length-append}
-use Rattle.channel_steps.proofs.every_run.Words.{with_last, TryRecvError, Queue, Phase, IsShut, trying, appended, taken, is_displaced, is_full_at, is_filled, AnswersTo, ContinuesBy, QueueAsk, QueueMark, Nothing, QueueReply, Key, answered_next, gathered_next, short_next, Channel, Effect, queued, Moves, line_of, again, ChannelAsk, Loan, Reply, Aim, Sends, Receives, Streams, Closings, Stage, Trying, Working, Finished, Waiting, Work, TellSend, TriesFor, IsFor, StageAt, MarkedMoment, Shut, HoldsListener, AnyTold, told_of, is_to_tell_send, counts_for_sends, HasPlaces, PlacesAreFew, Waits}
+use Rattle.channel_steps.proofs.every_run.Words.{with_last, TryRecvError, Queue, Phase, IsShut, trying, appended, taken, is_displaced, is_full_at, is_filled, AnswersTo, ContinuesBy, QueueAsk, QueueMark, Nothing, QueueReply, Key, answered_next, gathered_next, short_next, Channel, Effect, queued, Moves, line_of, again, ChannelAsk, Loan, Reply, Purpose, Sends, Receives, Streams, Closings, Stage, Trying, Working, Finished, Waiting, ListStep, TellSend, TriesFor, IsFor, StageAt, MarkedMoment, Shut, HoldsListener, AnyTold, told_of, is_to_tell_send, counts_for_sends, HasPlaces, PlacesAreFew, Waits}
 use Rattle.channel_calls.specs.declared.error.TryRecvError.TheVariants as try_recv_error
 use Rattle.std.proofs.Common.{◌≡◌, ℕ, zero, suc, ◌+◌, ◌≤◌, true, false, List, [], ◌∷◌, ◌++◌, length, Option, None, Some, Ok, Err, ◌⊎◌, ⊎_elim, inl, inr, refl, sym, ap, subst, arith}
 use Rattle.std.proofs.lemmas.Bool.Decides.{nat_tests}
@@ -11,7 +11,7 @@ use Rattle.concurrent_queue.specs.declared.error.PopError.TheVariants as pop_err
 use Rattle.concurrent_queue.specs.declared.error.PushError.TheVariants as push_error
 use Rattle.concurrent_queue.specs.declared.error.ForcePushError.TheVariants as force_error
 use Rattle.channel_calls.specs.declared.ask.ChannelAsk.TheVariants as channel
-use Rattle.channel_calls.specs.declared.stage.Aim.TheVariants as aim
+use Rattle.channel_calls.specs.declared.stage.Purpose.TheVariants as aim
 use Rattle.channel_calls.specs.declared.stage.Waiting.TheVariants as waiting
 use Rattle.channel_steps.proofs.SuitFacts.{takes_as}
 use Rattle.channel_steps.proofs.QueueFacts.{same_capacity}
@@ -39,7 +39,7 @@ module _ {T : Type 0} where
 
 module _ {T W : Type 0} where
   -- what a call of this queue's call counts for
-  abbrev counted : ChannelAsk T W → Aim T W → QueueAsk T → queue.Stage T → ℕ
+  abbrev counted : ChannelAsk T W → Purpose T W → QueueAsk T → queue.Stage T → ℕ
   counted x y a s = counts_for_sends x (Trying (record { ask = a; stage = s }) y)
 
   module _ (q : Queue T) (ds : List (MarkedMoment T W)) (seen : List (Channel T W)) where
@@ -50,7 +50,7 @@ module _ {T W : Type 0} where
     pushing v w k (Some key) t' task m s t g = let n = push_fills q w m s t g in let f = n.1 in omega (arith, f)
 
     -- as it goes on
-    goes_pays : (x : ChannelAsk T W) (y : Aim T W) (a : QueueAsk T) (m : QueueMark) (s t : queue.Stage T) → TriesFor x y a ds seen
+    goes_pays : (x : ChannelAsk T W) (y : Purpose T W) (a : QueueAsk T) (m : QueueMark) (s t : queue.Stage T) → TriesFor x y a ds seen
         → ContinuesBy q a m s t
         → length q.items + counted x y a s ≤ number a s m q + counted x y a t
     goes_pays channel.TryRecv aim.TryRecv ask.Pop m s t h g = pop_frees q m s t g
@@ -68,7 +68,7 @@ module _ {T W : Type 0} where
     goes_pays x y a m s t h g = let n = goes_no_fewer q a m s t (λ p. takes_as x y ds seen a h p) g in omega (arith, n)
 
     -- as it answers, or by such a refusal
-    abbrev Answered : ChannelAsk T W → Aim T W → QueueAsk T → QueueMark → QueueReply T → queue.Stage T → Type 0
+    abbrev Answered : ChannelAsk T W → Purpose T W → QueueAsk T → QueueMark → QueueReply T → queue.Stage T → Type 0
     Answered x y a m r s =
         (length q.items + counted x y a s ≤ number a s m q + weigh_turn counts_for_sends x (answered_next y r))
         ⊎ ((m ≡ Nothing) × Refuses q)
@@ -82,7 +82,7 @@ module _ {T W : Type 0} where
     stops n [] e = omega arith
     stops n (v ∷ vs) e = omega arith
 
-    answers_pay : (x : ChannelAsk T W) (y : Aim T W) (a : QueueAsk T) (m : QueueMark) (r : QueueReply T) (s : queue.Stage T)
+    answers_pay : (x : ChannelAsk T W) (y : Purpose T W) (a : QueueAsk T) (m : QueueMark) (r : QueueReply T) (s : queue.Stage T)
         → TriesFor x y a ds seen → AnswersTo q a m r s → Answered x y a m r s
     answers_pay channel.TryRecv aim.TryRecv ask.Pop Nothing (answer.Pop (Ok w)) (taken v) h g = inl (omega arith)
     answers_pay channel.TryRecv aim.TryRecv ask.Pop Nothing (answer.Pop (Err pop_error.Empty)) (trying b) h g = inl (omega arith)
@@ -147,7 +147,7 @@ module _ {T W : Type 0} where
   refused_places c n k (inr (inr none)) (inr h) =
       absurd (subst (λ (o : Option ℕ). HasPlaces o (length c.queue.items + length (told_of Sends c) + n)) none h)
 
-  module _ (c : Channel T W) (x : ChannelAsk T W) (f : Phase T) (y : Aim T W) (m : QueueMark) (ds : List (MarkedMoment T W))
+  module _ (c : Channel T W) (x : ChannelAsk T W) (f : Phase T) (y : Purpose T W) (m : QueueMark) (ds : List (MarkedMoment T W))
       (seen : List (Channel T W)) (r : Option (Reply T)) (s : Stage (Phase T) T W)
       (shut : Shut c → Shut (let e : Effect T W = queued f m c in e.channel)) where
     abbrev now : Channel T W
@@ -176,11 +176,11 @@ module _ {T W : Type 0} where
 
   -- ---- a step on a list
 
-  tells_at_most : (w : Work T W) → is_to_tell_send (let at : Stage (Phase T) T W = Working w in at) ≤ tells_now w Sends
+  tells_at_most : (w : ListStep T W) → is_to_tell_send (let at : Stage (Phase T) T W = Working w in at) ≤ tells_now w Sends
   tells_at_most (TellSend x) = omega arith
   tells_at_most w = omega arith
 
-  work_counts : (x : ChannelAsk T W) (w : Work T W) → counts_for_sends x (Working w) ≤ tells_now w Sends
+  work_counts : (x : ChannelAsk T W) (w : ListStep T W) → counts_for_sends x (Working w) ≤ tells_now w Sends
   work_counts channel.TryRecv w = tells_at_most w
   work_counts (channel.RecvMany n) w = tells_at_most w
   work_counts (channel.PollRecv k t) w = tells_at_most w

@@ -1,12 +1,12 @@
 -- Each step pays for what it brings, as streams count it: there is no message, or a call is to tell them all.
 use Rattle.std.proofs.Common.{⊎_elim, ◌≡◌, ℕ, ◌+◌, ◌≤◌, List, [], ◌∷◌, length, Option, Some, Ok, Err, ◌⊎◌, inl, inr, refl, sym, ap, ◌∙◌, subst, arith}
-use Rattle.channel_steps.proofs.every_run.Words.{Queue, Phase, trying, appended, taken, marked, is_displaced, ContinuesBy, AnswersPop, AnswersTo, QueueAsk, QueueMark, Nothing, QueueReply, Key, answered_next, stream_next, Channel, Effect, queued, Turned, Moves, ChannelAsk, Reply, Aim, Sends, Receives, Streams, Closings, Stage, Trying, Working, Finished, Turn, Tries, Works, Ends, Work, TellReceive, TellStreams, TellSend, Leave, TriesFor, StageAt, MarkedMoment, ActiveCall, has_appended, is_to_tell_receive, counts_for_receives, HasAppended, IsSending, IsBringing, HasInHand, Waits, WaitApart}
+use Rattle.channel_steps.proofs.every_run.Words.{Queue, Phase, trying, appended, taken, marked, is_displaced, ContinuesBy, AnswersPop, AnswersTo, QueueAsk, QueueMark, Nothing, QueueReply, Key, answered_next, stream_next, Channel, Effect, queued, Turned, Moves, ChannelAsk, Reply, Purpose, Sends, Receives, Streams, Closings, Stage, Trying, Working, Finished, NextStep, Tries, Works, Ends, ListStep, TellReceive, TellStreams, TellSend, Leave, TriesFor, StageAt, MarkedMoment, ActiveCall, has_appended, is_to_tell_receive, counts_for_receives, HasAppended, IsSending, IsBringing, HasInHand, Waits, WaitApart}
 use Rattle.concurrent_queue.specs.Queue as queue
 use Rattle.concurrent_queue.specs.declared.call.QueueAsk.TheVariants as ask
 use Rattle.concurrent_queue.specs.declared.call.QueueReply.TheVariants as answer
 use Rattle.concurrent_queue.specs.declared.error.PopError.TheVariants as pop_error
 use Rattle.channel_calls.specs.declared.ask.ChannelAsk.TheVariants as channel
-use Rattle.channel_calls.specs.declared.stage.Aim.TheVariants as aim
+use Rattle.channel_calls.specs.declared.stage.Purpose.TheVariants as aim
 use Rattle.channel_calls.specs.declared.stage.Waiting.TheVariants as waiting
 use Rattle.channel_steps.proofs.every_run.AllOwed.{FreeOrTold, free_more}
 use Rattle.channel_steps.proofs.SuitFacts.{push_sends}
@@ -78,7 +78,7 @@ module _ {T W : Type 0} where
   abbrev pub NoneOrTold : Channel T W → ℕ → Type 0
   NoneOrTold c n = FreeOrTold NoMessages Tells HasInHand counts_for_streams c n
 
-  abbrev counted : ChannelAsk T W → Aim T W → QueueAsk T → queue.Stage T → ℕ
+  abbrev counted : ChannelAsk T W → Purpose T W → QueueAsk T → queue.Stage T → ℕ
   counted x y a s = counts_for_streams x (Trying (record { ask = a; stage = s }) y)
 
   -- a sending call counts no less with the streams than with the receives, which it tells before
@@ -93,13 +93,13 @@ module _ {T W : Type 0} where
   sending_more (channel.PollSend m k t) h at = more_told at
   sending_more x h at = absurd h
 
-  turn_more : (x : ChannelAsk T W) → IsSending x → (turn : Turn T W) → weigh_turn counts_for_receives x turn ≤ weigh_turn counts_for_streams x turn
+  turn_more : (x : ChannelAsk T W) → IsSending x → (turn : NextStep T W) → weigh_turn counts_for_receives x turn ≤ weigh_turn counts_for_streams x turn
   turn_more x h (Tries a y) = sending_more x h _
   turn_more x h (Works w) = sending_more x h _
   turn_more x h (Ends y kept) = omega arith
 
   module _ (q : Queue T) (ds : List (MarkedMoment T W)) (seen : List (Channel T W)) where
-    goes_on : (x : ChannelAsk T W) (y : Aim T W) (a : QueueAsk T) (m : QueueMark) (s t : queue.Stage T) → TriesFor x y a ds seen → ContinuesBy q a m s t
+    goes_on : (x : ChannelAsk T W) (y : Purpose T W) (a : QueueAsk T) (m : QueueMark) (s t : queue.Stage T) → TriesFor x y a ds seen → ContinuesBy q a m s t
         → (number a s m q + counted x y a s ≤ length q.items + counted x y a t) × (counted x y a s ≤ counted x y a t)
     goes_on (channel.TrySend v) aim.TrySend (ask.Push w) m s t h g = push_brings q w m s t g
     goes_on (channel.TrySend v) y a m s t h g = absurd h
@@ -109,7 +109,7 @@ module _ {T W : Type 0} where
     goes_on (channel.ForceSend v) y a m s t h g = absurd h
     goes_on x y a m s t h g = let n = goes_no_more q a m s t (λ p. push_sends x y ds seen a h p) g in (omega (arith, n), omega arith)
 
-    answers_on : (x : ChannelAsk T W) (y : Aim T W) (a : QueueAsk T) (m : QueueMark) (r : QueueReply T) (s : queue.Stage T) → TriesFor x y a ds seen → AnswersTo q a m r s
+    answers_on : (x : ChannelAsk T W) (y : Purpose T W) (a : QueueAsk T) (m : QueueMark) (r : QueueReply T) (s : queue.Stage T) → TriesFor x y a ds seen → AnswersTo q a m r s
         → counted x y a s ≤ weigh_turn counts_for_streams x (answered_next y r)
     answers_on (channel.TrySend v) y a m r s h g = let k = sending_keeps q ds seen (channel.TrySend v) tt y a m r s h g in let more = turn_more (channel.TrySend v) tt (answered_next y r) in omega (arith, k, more)
     answers_on (channel.PollSend v k' t') y a m r s h g = let k = sending_keeps q ds seen (channel.PollSend v k' t') tt y a m r s h g in let more = turn_more (channel.PollSend v k' t') tt (answered_next y r) in omega (arith, k, more)
@@ -123,7 +123,7 @@ module _ {T W : Type 0} where
   as_number c n (inl none) = inl (ap length none)
   as_number c n (inr some) = inr some
 
-  tried_pays : (c : Channel T W) (x : ChannelAsk T W) (f : Phase T) (y : Aim T W) (m : QueueMark) (ds : List (MarkedMoment T W)) (seen : List (Channel T W)) (r : Option (Reply T)) (s : Stage (Phase T) T W)
+  tried_pays : (c : Channel T W) (x : ChannelAsk T W) (f : Phase T) (y : Purpose T W) (m : QueueMark) (ds : List (MarkedMoment T W)) (seen : List (Channel T W)) (r : Option (Reply T)) (s : Stage (Phase T) T W)
       → TriesFor x y f.ask ds seen → How c f y m r s → Paid c x (Trying f y) (queued f m c) r s
   tried_pays c x f y m ds seen r s h (inl (f', goes, none, there)) n enough =
       let same = ap (λ (a : QueueAsk T). counts_for_streams x (Trying (record { ask = a; stage = f'.stage }) y)) goes.0 in
@@ -143,7 +143,7 @@ module _ {T W : Type 0} where
 
   -- ---- a step on a list
 
-  works_on : (c : Channel T W) (x : ChannelAsk T W) (w : Work T W) (e : Effect T W) (r : Option (Reply T)) (s : Stage (Phase T) T W) (key : Key) → Moves c (Working w) e r s → Waits Streams key e.channel
+  works_on : (c : Channel T W) (x : ChannelAsk T W) (w : ListStep T W) (e : Effect T W) (r : Option (Reply T)) (s : Stage (Phase T) T W) (key : Key) → Moves c (Working w) e r s → Waits Streams key e.channel
       → counts_for_streams x (Working w) ≤ left_over counts_for_streams x r s
   works_on c x (TellReceive z) e r s key g w = let k = turned_weighs counts_for_streams x (Works (TellStreams z)) r s g.1 in omega (arith, k)
   works_on c x (TellStreams z) e r s key g w = absurd (subst (λ (z : Effect T W). Waits Streams key z.channel) g.0 w)

@@ -1,6 +1,6 @@
 -- A merge, with other tasks for which its tasks were put: it goes on step by step, whichever tasks each call begins with.
 use Rattle.std.proofs.Common.{◌≡◌, ℕ, ◌==◌, Bool, true, false, if◌then◌else◌, List, [], ◌∷◌, map, Option, None, Some, MatchOption, option_map, refl, sym, ap, subst, ◌∙◌}
-use Rattle.channel_steps.proofs.every_run.Words.{QueueForm, QueueCall, first, kept_by, Parts, Takes, ChannelMakes, ChannelAsk, Mark, Reply, Kept, Stage, Turn, Act, on_nothing, Event, begins, Happening, Given, Notes, Acts, own, opened_parts, Changes, InOneOrder, WakesFor, with_asked, asks_of, TasksMayTellMore, ask_by, stage_by, event_by, all_by}
+use Rattle.channel_steps.proofs.every_run.Words.{QueueForm, QueueCall, first, kept_by, Parts, Takes, ChannelMakes, ChannelAsk, Mark, Reply, Returned, Stage, NextStep, Act, on_nothing, Event, begins, Happening, Given, Notes, Acts, own, opened_parts, Changes, InOneOrder, WakesFor, with_asked, asks_of, TasksMayTellMore, ask_by, stage_by, event_by, all_by}
 use Rattle.concurrent_queue.proofs.Callers.{is_same, itself}
 use Rattle.channel_steps.specs.every_run.Bridge.{does}
 use Rattle.channel_steps.proofs.every_run.Bridge.{happens, own_mine, own_other}
@@ -113,7 +113,7 @@ module _ {T W V S : Type 0} (put : W → V) (wakes : S → V → S → Type 0) (
       let mine = idle (at p) a (own p xs) (given p) (subst (λ (ys : List (Event T V)). Acts form (at_so (at p)) ys (given p)) (own_mine p (begins a) xs) (acts p)) in
       let start = mine.1 in
       let turn : Takes (first (ask_by put x.0)) start.0 None = subst (λ (y : ChannelAsk T V). Takes (first y) start.0 None) (sym x.3) start.1 in
-      let s = taken put (first x.0) start.0 None (subst (λ (t : Turn T V). Takes t start.0 None) (sym (first_alike put x.0)) turn) in
+      let s = taken put (first x.0) start.0 None (subst (λ (t : NextStep T V). Takes t start.0 None) (sym (first_alike put x.0)) turn) in
       let goes : Acts form (at_so (Some s.0)) (own p xs) (given p) = subst (λ (y : Stage (QueueCall T) T V). Acts form (Some y) (own p xs) (given p)) (sym s.2) start.2 in
       joined p (begins x.0) (begins a) xs asks x.1 c c at (Some s.0) given (given p) last (ap (λ (y : ChannelAsk T V). begins y) x.3) x.2 refl
       (further x.1 c (instead p (Some s.0) at) (instead p (given p) given) x.4 (acts_on p (begins a) xs at (Some s.0) given (given p) acts goes)
@@ -145,7 +145,7 @@ module _ {T W V S : Type 0} (put : W → V) (wakes : S → V → S → Type 0) (
         let b = step_before put wakes form o c d change m next (Some r) s makes in
         let x = b.before in
         let kept_is : kept_by next ≡ kept_by b.after = ap (λ (y : Stage (QueueCall T) T V). kept_by y) (sym b.goes) ∙ kept_alike put b.after in
-        let given_is : given p ≡ record { reply = r; kept = kept_by b.after } ∷ more = is ∙ ap (λ (k : Kept T). record { reply = r; kept = k } ∷ more) kept_is in
+        let given_is : given p ≡ record { reply = r; kept = kept_by b.after } ∷ more = is ∙ ap (λ (k : Returned T). record { reply = r; kept = k } ∷ more) kept_is in
         joined p (does b.act) (does o) xs asks asks c x.left at None given more last (ap (λ (y : Act T V). does y) x.acts) refl x.changes
         (further asks x.left (instead p None at) (instead p more given) asks_are (acts_on p (does o) xs at None given more acts goes)
         (subst (λ (y : Parts T V × S). InOneOrder wakes xs y last) (sym x.seen) order))

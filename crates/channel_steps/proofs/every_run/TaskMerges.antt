@@ -1,6 +1,6 @@
 -- Other tasks put for those of a merge.
 use Rattle.std.proofs.Common.{◌≡◌, ℕ, ◌==◌, Bool, true, false, if◌then◌else◌, List, [], ◌∷◌, map, Option, None, Some, option_map, refl, sym, ap, subst, ◌∙◌}
-use Rattle.channel_steps.proofs.every_run.Words.{QueueForm, QueueCall, first, Deed, stepped, Parts, Roster, Takes, ChannelMakes, Mark, Reply, Kept, Stage, Turn, Act, on_queue, on_roster, on_nothing, Event, begins, Happening, Given, Notes, Acts, own, Changes, InOneOrder, WakesSo, MergesHaveAnyTasks, roster_by, parts_by, deed_by, act_by, stage_by, event_by, all_by}
+use Rattle.channel_steps.proofs.every_run.Words.{QueueForm, QueueCall, first, Deed, stepped, Parts, WaitLists, Takes, ChannelMakes, Mark, Reply, Returned, Stage, NextStep, Act, on_queue, on_roster, on_nothing, Event, begins, Happening, Given, Notes, Acts, own, Changes, InOneOrder, WakesSo, MergesHaveAnyTasks, roster_by, parts_by, deed_by, act_by, stage_by, event_by, all_by}
 use Rattle.channel_steps.specs.every_run.Bridge.{does}
 use Rattle.channel_steps.proofs.every_run.TaskCells.{done_so}
 use Rattle.channel_steps.proofs.every_run.TaskTurns.{first_alike, kept_alike, takes}
@@ -35,14 +35,14 @@ module _ {T W V : Type 0} (put : W → V) where
   acts_so form None [] rs is = is
   acts_so form (Some at) [] rs is = is
   acts_so form None (begins a ∷ ys) rs (s, start, more) =
-      (stage_by put s, subst (λ (t : Turn T V). Takes t (stage_by put s) None) (first_alike put a) (takes put (first a) s None start), acts_so form (Some s) ys rs more)
+      (stage_by put s, subst (λ (t : NextStep T V). Takes t (stage_by put s) None) (first_alike put a) (takes put (first a) s None start), acts_so form (Some s) ys rs more)
   acts_so form (Some at) (does o ∷ ys) rs (m, next, None, makes, more) = (m, stage_by put next, None, made form at o m next None makes, acts_so form (Some next) ys rs more)
   acts_so form (Some at) (does o ∷ ys) rs (m, next, Some r, makes, (more, is, goes)) = (
     m,
     stage_by put next,
     Some r,
     made form at o m next (Some r) makes,
-    (more, is ∙ ap (λ (k : Kept T). record { reply = r; kept = k } ∷ more) (sym (kept_alike put next)), acts_so form None ys more goes),
+    (more, is ∙ ap (λ (k : Returned T). record { reply = r; kept = k } ∷ more) (sym (kept_alike put next)), acts_so form None ys more goes),
   )
   acts_so form x y rs h = absurd h
 
@@ -53,7 +53,7 @@ module _ {T W V : Type 0} (put : W → V) where
     both_so c = (parts_by put c.0, c.1)
 
     changes_so : (y : Event T W) (c e : Parts T W × S) → Changes wakes y c e → Changes (WakesSo put wakes) (event_by put y) (both_so c) (both_so e)
-    changes_so (does (on_queue (Some d))) c e (h, same, sink) = (h, ap (λ (a : Roster W). roster_by put a) same, sink)
+    changes_so (does (on_queue (Some d))) c e (h, same, sink) = (h, ap (λ (a : WaitLists W). roster_by put a) same, sink)
     changes_so (does (on_roster d)) c e h = done_so put wakes d c e h
     changes_so w c e is = ap both_so is
 

@@ -1,7 +1,7 @@
 -- A step of a merge, with other tasks for which its tasks were put.
 use Rattle.std.proofs.Common.{◌≡◌, ℕ, true, List, map, Option, None, Some, refl, sym, ap, subst, ◌∙◌}
 use Rattle.concurrent_queue.specs.Deeds as cell
-use Rattle.channel_steps.proofs.every_run.Words.{QueueReply, QueueForm, QueueCall, removed, removed_wakes, Woken, Key, answered_next, Deed, inserted, registered, taken_off, one_told, more_told, all_told, counted, lowered, raised, Done, Does, Parts, told_one, told_one_wakes, told_more, told_more_wakes, told_all, told_all_wakes, line_of, leaving, nothing_kept, registered_next, Takes, Heard, Leaves, WorkMakes, ChannelMakes, Marked, Mark, Reply, Aim, Held, Line, Stage, Trying, Working, Finished, Turn, Works, Ends, Work, TellReceive, TellStreams, TellSend, TellSends, TakeRoom, TellAll, Insert, Register, Leave, Lower, Count, Load, Raise, Act, on_queue, on_roster, on_nothing, Notes, Changes, WakesFor, parts_by, act_by, aim_by, work_by, stage_by, Listeners, turn_by, OnList, listeners, listeners_by, roster_by}
+use Rattle.channel_steps.proofs.every_run.Words.{QueueReply, QueueForm, QueueCall, removed, removed_wakes, Woken, Key, answered_next, Deed, inserted, registered, taken_off, one_told, more_told, all_told, counted, lowered, raised, Done, Does, Parts, told_one, told_one_wakes, told_more, told_more_wakes, told_all, told_all_wakes, line_of, leaving, nothing_kept, registered_next, Takes, Heard, Leaves, WorkMakes, ChannelMakes, Marked, Mark, Reply, Purpose, ListenerRef, WaitList, Stage, Trying, Working, Finished, NextStep, Works, Ends, ListStep, TellReceive, TellStreams, TellSend, TellSends, TakeRoom, TellAll, Insert, Register, Leave, Lower, Count, Load, Raise, Act, on_queue, on_roster, on_nothing, Notes, Changes, WakesFor, parts_by, act_by, aim_by, work_by, stage_by, Listeners, turn_by, OnList, listeners, listeners_by, roster_by}
 use Rattle.channel_calls.specs.declared.mark.Mark.TheVariants.{Nothing}
 use Rattle.channel_calls.specs.declared.reply.Reply.TheVariants as reply
 use Rattle.channel_steps.specs.every_run.Bridge.{does}
@@ -50,7 +50,7 @@ module _ {T W V S : Type 0} (put : W → V) (wakes : S → V → S → Type 0) (
     abbrev Tells : (List W → Deed T W) → Type 0
     Tells deed = (names : List W) × ActBefore (on_roster (deed names))
 
-    module _ (line : Line) (here : Listeners W → Listeners W) (there : Listeners V → Listeners V) (alike : (l : Listeners W) → there (listeners_by put l) ≡ listeners_by put (here l))
+    module _ (line : WaitList) (here : Listeners W → Listeners W) (there : Listeners V → Listeners V) (alike : (l : Listeners W) → there (listeners_by put l) ≡ listeners_by put (here l))
         (woken_here : Listeners W → List W) (woken_there : Listeners V → List V) (woken_alike : (l : Listeners W) → woken_there (listeners_by put l) ≡ map put (woken_here l)) where
       tells : (deed : List W → Deed T W) (deed_there : List V → Deed T V) (names : List V) → ((ns : List W) → act_by put (on_roster (deed ns)) ≡ on_roster (deed_there (map put ns)))
           → o ≡ on_roster (deed_there names)
@@ -69,27 +69,27 @@ module _ {T W V S : Type 0} (put : W → V) (wakes : S → V → S → Type 0) (
             },
           )
 
-    one : (line : Line) (names : List V) → o ≡ on_roster (one_told line names) → Tells (λ ns. one_told line ns)
+    one : (line : WaitList) (names : List V) → o ≡ on_roster (one_told line names) → Tells (λ ns. one_told line ns)
     one line names is =
         let h = on (one_told line names) is in
         tells line told_one told_one (one_alike put) told_one_wakes told_one_wakes (one_wakes put) (λ ns. one_told line ns) (λ ns. one_told line ns) names (λ ns. refl) is (h.0.0, h.0.1, h.1) (λ ns x e f k. ((e, f), k))
 
-    more : (line : Line) (n : ℕ) (names : List V) → o ≡ on_roster (more_told line n names) → Tells (λ ns. more_told line n ns)
+    more : (line : WaitList) (n : ℕ) (names : List V) → o ≡ on_roster (more_told line n names) → Tells (λ ns. more_told line n ns)
     more line n names is =
         let h = on (more_told line n names) is in
         tells line (told_more n) (told_more n) (more_alike put n) (told_more_wakes n) (told_more_wakes n) (more_wakes put n) (λ ns. more_told line n ns) (λ ns. more_told line n ns) names (λ ns. refl) is (h.0.0, h.0.1, h.1) (λ ns x e f k. ((e, f), k))
 
-    all : (line : Line) (names : List V) → o ≡ on_roster (all_told line names) → Tells (λ ns. all_told line ns)
+    all : (line : WaitList) (names : List V) → o ≡ on_roster (all_told line names) → Tells (λ ns. all_told line ns)
     all line names is =
         let h = on (all_told line names) is in
         tells line told_all told_all (all_alike put) told_all_wakes told_all_wakes (all_wakes put) (λ ns. all_told line ns) (λ ns. all_told line ns) names (λ ns. refl) is (h.0.0, h.0.1, h.1) (λ ns x e f k. ((e, f), k))
 
-    off : (line : Line) (key : Key) (names : List V) → o ≡ on_roster (taken_off line key names) → Tells (λ ns. taken_off line key ns)
+    off : (line : WaitList) (key : Key) (names : List V) → o ≡ on_roster (taken_off line key names) → Tells (λ ns. taken_off line key ns)
     off line key names is =
         let h = on (taken_off line key names) is in
         tells line (removed key true) (removed key true) (removed_by put key) (removed_wakes key true) (removed_wakes key true) (removed_wakes_by put key) (λ ns. taken_off line key ns) (λ ns. taken_off line key ns) names (λ ns. refl) is (h.0.0, h.0.1, h.1) (λ ns x e f k. ((e, f), k))
 
-    leaves : (held : Option Held) → Leaves (Notes form) held on_nothing o → (act : Act T W) × ActBefore act × Leaves (Notes form) held on_nothing act
+    leaves : (held : Option ListenerRef) → Leaves (Notes form) held on_nothing o → (act : Act T W) × ActBefore act × Leaves (Notes form) held on_nothing act
     leaves None is = (on_nothing, nothing is, refl)
     leaves (Some held) (names, is) = let t = off held.line held.key names is in (on_roster (taken_off held.line held.key t.0), t.1, (t.0, refl))
 
@@ -117,18 +117,18 @@ module _ {T W V S : Type 0} (put : W → V) (wakes : S → V → S → Type 0) (
         }
 
     module _ (m : Mark) (next : Stage (QueueCall T) T V) (r : Option (Reply T)) where
-      heard : (a : Aim T W) (after : QueueCall T) (x : Option (QueueReply T)) → Heard (aim_by put a) after x next r
+      heard : (a : Purpose T W) (after : QueueCall T) (x : Option (QueueReply T)) → Heard (aim_by put a) after x next r
           → (s : Stage (QueueCall T) T W) × Heard a after x s r × (stage_by put s ≡ next)
       heard a after None (is, e) = (Trying after a, (refl, e), sym is)
-      heard a after (Some x) h = taken put (answered_next a x) next r (subst (λ (t : Turn T V). Takes t next r) (sym (answered_alike put a x)) h)
+      heard a after (Some x) h = taken put (answered_next a x) next r (subst (λ (t : NextStep T V). Takes t next r) (sym (answered_alike put a x)) h)
 
       -- after an act for which that one was put, an alike turn is taken
-      then_turns : (w : Work T W) (act : Act T W) → ActBefore act → (m0 : Mark) (turn : Turn T W) (other : Turn T V) → turn_by put turn ≡ other → Marked m0 other m next r
+      then_turns : (w : ListStep T W) (act : Act T W) → ActBefore act → (m0 : Mark) (turn : NextStep T W) (other : NextStep T V) → turn_by put turn ≡ other → Marked m0 other m next r
           → ((s : Stage (QueueCall T) T W) → Marked m0 turn m s r → WorkMakes (Notes form) w on_nothing act m s r) → StepBefore (Working w) m next r
       then_turns w act before m0 turn other alike x makes =
           let k = marked put m0 m r turn other alike next x in record { act = act; before = before; after = k.0; goes = k.2; makes = makes k.0 k.1 }
 
-      worked : (w : Work T W) → WorkMakes (Notes form) (work_by put w) on_nothing o m next r → StepBefore (Working w) m next r
+      worked : (w : ListStep T W) → WorkMakes (Notes form) (work_by put w) on_nothing o m next r → StepBefore (Working w) m next r
       worked (TellReceive e) (names, is, x) = let t = one _ names is in then_turns _ _ t.1 _ (Works (TellStreams e)) _ refl x (λ s k. (t.0, refl, k))
       worked (TellStreams e) (names, is, x) = let t = all _ names is in then_turns _ _ t.1 _ _ _ (ends_alike put e) x (λ s k. (t.0, refl, k))
       worked (TellSend e) (names, is, x) = let t = one _ names is in then_turns _ _ t.1 _ _ _ (ends_alike put e) x (λ s k. (t.0, refl, k))

@@ -1,7 +1,7 @@
 -- Other tasks put for those of a call: what follows each answer is what followed it, with these tasks.
 use Rattle.std.proofs.Common.{◌≡◌, inl, inr, ℕ, zero, suc, ◌==◌, nat_lt, Bool, true, false, if◌then◌else◌, List, [], ◌∷◌, ◌++◌, Option, None, Some, Result, Ok, Err, option_map, refl, sym, ap, subst, ◌∙◌}
 use Rattle.concurrent_queue.specs.declared.call.QueueAsk.TheVariants as ask
-use Rattle.channel_steps.proofs.every_run.Words.{QueueReply, QueueCall, Key, ListenError, gathered_next, short_next, answered_next, first, kept_by, with_last, leaving, nothing_kept, closer_ending, registered_next, told_all_next, again, Takes, Marked, ChannelAsk, Loan, TryRecvError, Mark, Reply, Aim, Closer, Ending, Held, Line, Sends, Receives, Streams, Closings, Side, Stage, Trying, Working, Finished, Turn, Tries, Works, Ends, Waiting, Push, Force, Pop, Flag, asks_listener, most, ends_by, refused_next, dropper, inserted_next, room_next, roomless, TakesRoom, lowered_next, counted_next, loaded_next, raised_next, Making, ask_by, aim_by, turn_by, stage_by}
+use Rattle.channel_steps.proofs.every_run.Words.{QueueReply, QueueCall, Key, ListenError, gathered_next, short_next, answered_next, first, kept_by, with_last, leaving, nothing_kept, closer_ending, registered_next, told_all_next, again, Takes, Marked, ChannelAsk, Loan, TryRecvError, Mark, Reply, Purpose, Closer, Ending, ListenerRef, WaitList, Sends, Receives, Streams, Closings, Side, Stage, Trying, Working, Finished, NextStep, Tries, Works, Ends, Waiting, Push, Force, Pop, Flag, asks_listener, most, ends_by, refused_next, dropper, inserted_next, room_next, roomless, TakesRoom, lowered_next, counted_next, loaded_next, raised_next, Making, ask_by, aim_by, turn_by, stage_by}
 use Rattle.concurrent_queue.specs.declared.call.QueueReply.TheVariants.{Close}
 use Rattle.concurrent_queue.specs.declared.error.PushError.TheVariants as push_error
 use Rattle.concurrent_queue.specs.declared.error.ForcePushError.TheVariants as force_error
@@ -9,25 +9,25 @@ use Rattle.concurrent_queue.specs.declared.error.PopError.TheVariants as pop_err
 use Rattle.channel_calls.specs.Asks.{begins}
 use Rattle.channel_calls.specs.declared.ask.ChannelAsk.TheVariants as call
 use Rattle.channel_calls.specs.declared.reply.Reply.TheVariants as reply
-use Rattle.channel_calls.specs.declared.stage.Aim.TheVariants as aim
+use Rattle.channel_calls.specs.declared.stage.Purpose.TheVariants as aim
 use Rattle.channel_calls.specs.declared.stage.Making.TheVariants as making
 use Rattle.channel_calls.specs.declared.stage.Waiting.TheVariants as waiting
-use Rattle.channel_calls.specs.declared.stage.Work.TheVariants as work
+use Rattle.channel_calls.specs.declared.stage.ListStep.TheVariants as work
 
 module _ {T W V : Type 0} (put : W → V) where
-  abbrev Same : Turn T W → Turn T V → Type 0
+  abbrev Same : NextStep T W → NextStep T V → Type 0
   Same a b = turn_by put a ≡ b
 
   -- ---- after a list or a count
 
   pub ends_alike : (e : Ending T) → Same (ends_by e) (ends_by e)
   ends_alike e = at e.held where
-    at : (o : Option Held) → Same (elim o [ None ↦ Ends e.reply (leaving None e.message) | Some held ↦ Works (work.Leave e) ])
+    at : (o : Option ListenerRef) → Same (elim o [ None ↦ Ends e.reply (leaving None e.message) | Some held ↦ Works (work.Leave e) ])
         (elim o [ None ↦ Ends e.reply (leaving None e.message) | Some held ↦ Works (work.Leave e) ])
     at None = refl
     at (Some held) = refl
 
-  pub told_all_alike : (line : Line) (c : Closer) → Same (told_all_next line c) (told_all_next line c)
+  pub told_all_alike : (line : WaitList) (c : Closer) → Same (told_all_next line c) (told_all_next line c)
   told_all_alike Closings c = ends_alike (closer_ending c true)
   told_all_alike w c = refl
 
@@ -67,11 +67,11 @@ module _ {T W V : Type 0} (put : W → V) where
   room_alike zero = refl
   room_alike (suc n) = refl
 
-  pub takes_room : (n : ℕ) (turn : Turn T W) → TakesRoom n turn → TakesRoom n (turn_by put turn)
-  takes_room n turn (inl is) = inl (ap (λ (x : Turn T W). turn_by put x) is ∙ room_alike n)
-  takes_room n turn (inr (more, is)) = inr (more, ap (λ (x : Turn T W). turn_by put x) is)
+  pub takes_room : (n : ℕ) (turn : NextStep T W) → TakesRoom n turn → TakesRoom n (turn_by put turn)
+  takes_room n turn (inl is) = inl (ap (λ (x : NextStep T W). turn_by put x) is ∙ room_alike n)
+  takes_room n turn (inr (more, is)) = inr (more, ap (λ (x : NextStep T W). turn_by put x) is)
 
-  pub room_taken : (n : ℕ) (turn : Turn T V) → TakesRoom n turn → (x : Turn T W) × TakesRoom n x × Same x turn
+  pub room_taken : (n : ℕ) (turn : NextStep T V) → TakesRoom n turn → (x : NextStep T W) × TakesRoom n x × Same x turn
   room_taken n turn (inl is) = (room_next n, inl refl, room_alike n ∙ sym is)
   room_taken n turn (inr (more, is)) = (roomless, inr (more, refl), sym is)
 
@@ -89,7 +89,7 @@ module _ {T W V : Type 0} (put : W → V) where
   short_alike [] e = refl
   short_alike (v ∷ vs) e = refl
 
-  pub answered_alike : (a : Aim T W) (x : QueueReply T) → Same (answered_next a x) (answered_next (aim_by put a) x)
+  pub answered_alike : (a : Purpose T W) (x : QueueReply T) → Same (answered_next a x) (answered_next (aim_by put a) x)
   answered_alike aim.TrySend (Push (Err (push_error.Full m))) = refl
   answered_alike aim.ForceSend (Force (Err (force_error.Closed m))) = refl
   answered_alike aim.TryRecv (Pop (Err pop_error.Empty)) = refl
@@ -139,12 +139,12 @@ module _ {T W V : Type 0} (put : W → V) where
   abbrev stage_so : Stage (QueueCall T) T W → Stage (QueueCall T) T V
   stage_so s = stage_by put s
 
-  pub takes : (turn : Turn T W) (next : Stage (QueueCall T) T W) (r : Option (Reply T)) → Takes turn next r → Takes (turn_by put turn) (stage_by put next) r
+  pub takes : (turn : NextStep T W) (next : Stage (QueueCall T) T W) (r : Option (Reply T)) → Takes turn next r → Takes (turn_by put turn) (stage_by put next) r
   takes (Tries x a) next r (q, starts, asking, none, is) = (q, starts, asking, none, ap stage_so is)
   takes (Works w) next r (none, is) = (none, ap stage_so is)
   takes (Ends x kept) next r (some, is) = (some, ap stage_so is)
 
-  pub taken : (turn : Turn T W) (next : Stage (QueueCall T) T V) (r : Option (Reply T)) → Takes (turn_by put turn) next r
+  pub taken : (turn : NextStep T W) (next : Stage (QueueCall T) T V) (r : Option (Reply T)) → Takes (turn_by put turn) next r
       → (s : Stage (QueueCall T) T W) × Takes turn s r × (stage_by put s ≡ next)
   taken (Tries x a) next r (q, starts, asking, none, is) = (Trying q a, (q, starts, asking, none, refl), sym is)
   taken (Works w) next r (none, is) = (Working w, (none, refl), sym is)
@@ -152,11 +152,11 @@ module _ {T W V : Type 0} (put : W → V) where
 
   -- ---- after a step with this mark
 
-  module _ (m0 m : Mark) (r : Option (Reply T)) (turn : Turn T W) (other : Turn T V) (alike : Same turn other) where
+  module _ (m0 m : Mark) (r : Option (Reply T)) (turn : NextStep T W) (other : NextStep T V) (alike : Same turn other) where
     pub marks : (next : Stage (QueueCall T) T W) → Marked m0 turn m next r → Marked m0 other m (stage_by put next) r
-    marks next (is, t) = (is, subst (λ (x : Turn T V). Takes x (stage_by put next) r) alike (takes turn next r t))
+    marks next (is, t) = (is, subst (λ (x : NextStep T V). Takes x (stage_by put next) r) alike (takes turn next r t))
 
     pub marked : (next : Stage (QueueCall T) T V) → Marked m0 other m next r → (s : Stage (QueueCall T) T W) × Marked m0 turn m s r × (stage_by put s ≡ next)
     marked next (is, t) =
-        let s = taken turn next r (subst (λ (x : Turn T V). Takes x next r) (sym alike) t) in
+        let s = taken turn next r (subst (λ (x : NextStep T V). Takes x next r) (sym alike) t) in
         (s.0, (is, s.1), s.2)

@@ -1,22 +1,22 @@
 -- Other tasks put for those of a call: it is walked as it was.
 use Rattle.std.proofs.Common.{◌≡◌, ℕ, zero, suc, map, Option, None, Some, option_map, refl, sym, ap, subst, ◌∙◌}
-use Rattle.channel_steps.proofs.every_run.Words.{QueueReply, QueueCall, Deed, taken_off, leaving, nothing_kept, Takes, Heard, Leaves, WorkMakes, ChannelMakes, Leads, Mark, Reply, Aim, Held, Stage, Trying, Working, Finished, Turn, Works, Ends, Work, TellReceive, TellStreams, TellSend, TellSends, TakeRoom, TellAll, Insert, Register, Leave, Lower, Count, Load, Raise, DidSo, WalksHaveAnyTasks, deed_by, aim_by, work_by, turn_by, stage_by}
+use Rattle.channel_steps.proofs.every_run.Words.{QueueReply, QueueCall, Deed, taken_off, leaving, nothing_kept, Takes, Heard, Leaves, WorkMakes, ChannelMakes, Leads, Mark, Reply, Purpose, ListenerRef, Stage, Trying, Working, Finished, NextStep, Works, Ends, ListStep, TellReceive, TellStreams, TellSend, TellSends, TakeRoom, TellAll, Insert, Register, Leave, Lower, Count, Load, Raise, DidSo, WalksHaveAnyTasks, deed_by, aim_by, work_by, turn_by, stage_by}
 use Rattle.channel_calls.specs.declared.reply.Reply.TheVariants as reply
 use Rattle.channel_steps.proofs.every_run.TaskTurns.{ends_alike, told_all_alike, inserted_alike, registered_alike, lowered_alike, loaded_alike, raised_alike, takes_room, answered_alike, kept_alike, takes, marks}
 
 -- what a machine does by one relation, with these tasks, it does with others by another one, by which its deed was done with those
 module _ {T W V X Y : Type 0} (put : W → V) (did : Deed T W → X → X → Type 0) (does : Deed T V → Y → Y → Type 0) (s t : X) (u v : Y)
     (deed : (d : Deed T W) → did d s t → does (deed_by put d) u v) (none : t ≡ s → v ≡ u) where
-  left : (held : Option Held) → Leaves did held s t → Leaves does held u v
+  left : (held : Option ListenerRef) → Leaves did held s t → Leaves does held u v
   left None h = none h
   left (Some held) (names, h) = (map put names, deed (taken_off held.line held.key names) h)
 
   module _ (m : Mark) (next : Stage (QueueCall T) T W) (r : Option (Reply T)) where
-    heard : (a : Aim T W) (after : QueueCall T) (o : Option (QueueReply T)) → Heard a after o next r → Heard (aim_by put a) after o (stage_by put next) r
+    heard : (a : Purpose T W) (after : QueueCall T) (o : Option (QueueReply T)) → Heard a after o next r → Heard (aim_by put a) after o (stage_by put next) r
     heard a after None (is, e) = (ap (λ (x : Stage (QueueCall T) T W). stage_by put x) is, e)
-    heard a after (Some x) h = subst (λ (y : Turn T V). Takes y (stage_by put next) r) (answered_alike put a x) (takes put _ next r h)
+    heard a after (Some x) h = subst (λ (y : NextStep T V). Takes y (stage_by put next) r) (answered_alike put a x) (takes put _ next r h)
 
-    worked : (w : Work T W) → WorkMakes did w s t m next r → WorkMakes does (work_by put w) u v m (stage_by put next) r
+    worked : (w : ListStep T W) → WorkMakes did w s t m next r → WorkMakes does (work_by put w) u v m (stage_by put next) r
     worked (TellReceive e) (names, h, x) = (map put names, deed _ h, marks put _ m r (Works (TellStreams e)) _ refl next x)
     worked (TellStreams e) (names, h, x) = (map put names, deed _ h, marks put _ m r _ _ (ends_alike put e) next x)
     worked (TellSend e) (names, h, x) = (map put names, deed _ h, marks put _ m r _ _ (ends_alike put e) next x)

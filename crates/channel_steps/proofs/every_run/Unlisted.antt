@@ -1,6 +1,6 @@
 -- Over steps: on a channel without a bound no send listens.
 use Rattle.std.proofs.Common.{◌≡◌, ℕ, zero, suc, ◌+◌, ◌-◌, Bool, true, false, if◌then◌else◌, List, Option, None, Some, inl, inr, refl, sym, ap, ◌∙◌, subst}
-use Rattle.channel_steps.proofs.every_run.Words.{Phase, registration, removed, up, Channel, Effect, queued, untouched, on_count, tells_one, tells_more, tells_all, listens, registers, leaves, lowers, Moves, Listeners, Roster, listeners, with_listeners, count, with_count, is_raised, told_one, told_more, told_all, ChannelAsk, line_of, Mark, Reply, Held, Line, Sends, Receives, Streams, Closings, Side, Senders, Receivers, Stage, Trying, Working, TellReceive, TellStreams, TellSend, TellSends, TellAll, Insert, Register, Leave, Lower, Raise, StageAt, MarkedMoment, Next, new_configuration, Configuration, Known, AllKnown, Entry, Step, raises, nobody_listens, AllOf, NoSendListens, SendsUnlisted}
+use Rattle.channel_steps.proofs.every_run.Words.{Phase, registration, removed, up, Channel, Effect, queued, untouched, on_count, tells_one, tells_more, tells_all, listens, registers, leaves, lowers, Moves, Listeners, WaitLists, listeners, with_listeners, count, with_count, is_raised, told_one, told_more, told_all, ChannelAsk, line_of, Mark, Reply, ListenerRef, WaitList, Sends, Receives, Streams, Closings, Side, Senders, Receivers, Stage, Trying, Working, TellReceive, TellStreams, TellSend, TellSends, TellAll, Insert, Register, Leave, Lower, Raise, StageAt, MarkedMoment, Next, new_configuration, Configuration, Known, AllKnown, Entry, Step, raises, nobody_listens, AllOf, NoSendListens, SendsUnlisted}
 use Rattle.channel_calls.specs.declared.stage.Waiting.TheVariants as waiting
 use Rattle.channel_steps.specs.declared.run.Step.TheVariants as step
 use Rattle.channel_steps.proofs.every_run.Bounds.{bound_new, bound_next, capacity_next, never_crowded}
@@ -12,7 +12,7 @@ module _ {W : Type 0} where
   none_told zero = refl
   none_told (suc n) = none_told n
 
-  counted_same : (side : Side) (n : ℕ) (a : Roster W) → (with_count side n a).sends ≡ a.sends
+  counted_same : (side : Side) (n : ℕ) (a : WaitLists W) → (with_count side n a).sends ≡ a.sends
   counted_same Senders n a = refl
   counted_same Receivers n a = refl
 
@@ -21,7 +21,7 @@ module _ {T W : Type 0} (c : Channel T W) (none : c.roster.sends ≡ nobody_list
   Stays e = e.channel.roster.sends ≡ nobody_listens
 
   -- one list is changed by a change that leaves nobody's alone
-  on_list : (line : Line) (change : Listeners W → Listeners W) → change nobody_listens ≡ nobody_listens
+  on_list : (line : WaitList) (change : Listeners W → Listeners W) → change nobody_listens ≡ nobody_listens
       → (with_listeners line (change (listeners line c.roster)) c.roster).sends ≡ nobody_listens
   on_list Sends change same = ap change none ∙ same
   on_list w change same = none
@@ -36,7 +36,7 @@ module _ {T W : Type 0} (c : Channel T W) (none : c.roster.sends ≡ nobody_list
   raised side n true m = lowered side n
   raised side n false m = none
 
-  left : (h : Option Held) → Stays (leaves h c)
+  left : (h : Option ListenerRef) → Stays (leaves h c)
   left None = none
   left (Some h) = on_list h.line (λ (l : Listeners W). removed h.key true l) refl
 

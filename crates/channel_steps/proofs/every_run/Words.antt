@@ -6,7 +6,7 @@ pub use Rattle.channel_calls.specs.Deeds.{Deed, Done, all_told, counted, inserte
 pub use Rattle.channel_calls.specs.Effects.{Does, OnList}
 pub use Rattle.channel_calls.specs.Marks.{down, mark_of_queue, up}
 pub use Rattle.channel_calls.specs.Moves.{Channel, Effect, Inserts, IsChannelStep, IsNewCall, Moves, Turned, Worked, leaves, listens, lowers, on_count, on_line, phase, queued, raises, registers, removes, seats, tells_all, tells_more, tells_one, untouched}
-pub use Rattle.channel_calls.specs.Parts.{Listeners, Parts, Registers, Roster, count, is_raised, listeners, new_roster, nobody_listens, told_all, told_all_wakes, told_more, told_more_wakes, told_one, told_one_wakes, waits, with_count, with_listeners, with_roster}
+pub use Rattle.channel_calls.specs.Parts.{Listeners, Parts, Registers, WaitLists, count, is_raised, listeners, new_roster, nobody_listens, told_all, told_all_wakes, told_more, told_more_wakes, told_one, told_one_wakes, waits, with_count, with_listeners, with_roster}
 pub use Rattle.channel_calls.specs.Several.{Gathered, with_last}
 pub use Rattle.channel_calls.specs.Turns.{TakesRoom, again, closer_ending, counted_next, dropper, ends_by, inserted_next, leaving, line_of, loaded_next, lowered_next, message_of, most, nothing_kept, pends_by, raised_next, refused_next, refused_reply, registered_next, room_next, roomless, told_all_next}
 pub use Rattle.channel_calls.specs.Walks.{ChannelMakes, Heard, Leads, Leaves, Marked, Takes, Walked, WalkedFrom, WorkMakes}
@@ -21,24 +21,24 @@ pub use Rattle.channel_calls.specs.declared.mark.Mark.{Mark}
 pub use Rattle.channel_calls.specs.declared.mark.Mark.TheVariants.{Append, Close, ReceiverDown, ReceiverUp, Replace, SenderDown, SenderUp, Take, TakeDisplaced}
 pub use Rattle.channel_calls.specs.declared.reply.Reply.{Reply}
 pub use Rattle.channel_calls.specs.declared.reply.Reply.TheVariants.{Made}
-pub use Rattle.channel_calls.specs.declared.stage.Aim.{Aim}
+pub use Rattle.channel_calls.specs.declared.stage.Purpose.{Purpose}
 pub use Rattle.channel_calls.specs.declared.stage.Closer.{Closer}
 pub use Rattle.channel_calls.specs.declared.stage.Ending.{Ending}
-pub use Rattle.channel_calls.specs.declared.stage.Held.{Held}
-pub use Rattle.channel_calls.specs.declared.stage.Kept.{Kept}
-pub use Rattle.channel_calls.specs.declared.stage.Line.{Line}
-pub use Rattle.channel_calls.specs.declared.stage.Line.TheVariants.{Closings, Receives, Sends, Streams}
+pub use Rattle.channel_calls.specs.declared.stage.ListenerRef.{ListenerRef}
+pub use Rattle.channel_calls.specs.declared.stage.Returned.{Returned}
+pub use Rattle.channel_calls.specs.declared.stage.WaitList.{WaitList}
+pub use Rattle.channel_calls.specs.declared.stage.WaitList.TheVariants.{Closings, Receives, Sends, Streams}
 pub use Rattle.channel_calls.specs.declared.stage.Making.{Making}
 pub use Rattle.channel_calls.specs.declared.stage.Making.TheVariants.{Clone}
 pub use Rattle.channel_calls.specs.declared.stage.Side.{Side}
 pub use Rattle.channel_calls.specs.declared.stage.Side.TheVariants.{Receivers, Senders}
 pub use Rattle.channel_calls.specs.declared.stage.Stage.{Stage}
 pub use Rattle.channel_calls.specs.declared.stage.Stage.TheVariants.{Finished, Trying, Working}
-pub use Rattle.channel_calls.specs.declared.stage.Turn.{Turn}
-pub use Rattle.channel_calls.specs.declared.stage.Turn.TheVariants.{Ends, Tries, Works}
+pub use Rattle.channel_calls.specs.declared.stage.NextStep.{NextStep}
+pub use Rattle.channel_calls.specs.declared.stage.NextStep.TheVariants.{Ends, Tries, Works}
 pub use Rattle.channel_calls.specs.declared.stage.Waiting.{Waiting}
-pub use Rattle.channel_calls.specs.declared.stage.Work.{Work}
-pub use Rattle.channel_calls.specs.declared.stage.Work.TheVariants.{Count, Insert, Leave, Load, Lower, Raise, Register, TakeRoom, TellAll, TellReceive, TellSend, TellSends, TellStreams}
+pub use Rattle.channel_calls.specs.declared.stage.ListStep.{ListStep}
+pub use Rattle.channel_calls.specs.declared.stage.ListStep.TheVariants.{Count, Insert, Leave, Load, Lower, Raise, Register, TakeRoom, TellAll, TellReceive, TellSend, TellSends, TellStreams}
 pub use Rattle.channel_steps.specs.every_run.Amounts.{AreOwed, HoldsListener, PendingAreOwed, is_trying, is_trying_anew, total}
 pub use Rattle.channel_steps.specs.every_run.Bounds.{AllOf, BoundSound, BoundsStay, EachRunClosesOnce, EachUnboundedRunIsNeverFull, IsDisplacing, IsWithinBound, NeverOverfull, NoneFull, SaysFull, closings_in, one_if_closed}
 pub use Rattle.channel_steps.specs.every_run.Bridge.{Act, Acts, Along, Changes, Event, Given, Happening, InOneOrder, LastsFor, MergeMoment, MergesAreRuns, NextMoment, Notes, QueueIsWalked, StandsAct, WalksAct, begins, given_by, given_to, just_opened, on_nothing, on_queue, on_roster, opened_parts, own, step_of, steps_of}
@@ -83,7 +83,7 @@ pub use Rattle.concurrent_queue.specs.Contents.{Contents, block_at, slot_at}
 pub use Rattle.concurrent_queue.specs.Deeds.{bits_set, loaded}
 pub use Rattle.concurrent_queue.specs.Made.{IsNew, new_cells}
 pub use Rattle.concurrent_queue.specs.Queue.{Answers, AnswersForce, AnswersPop, AnswersPush, AnswersShut, AnswersTo, Continues, ContinuesBy, ContinuesForce, ContinuesPop, ContinuesPush, IsDrained, IsInRange, IsOldest, IsOpen, IsShut, Phase, Queue, after, appended, asked, displaced, is_displaced, is_filled, is_full_at, marked, may_refuse_at, measured, message, read, seen_after, taken, trying}
-pub use Rattle.concurrent_queue.specs.Step.{AreAt, FitsForm, FitsRing, FitsSlot, HasBrought, IsAtBlocks, IsAtRing, IsAtSingle, Seat, closed_in, items_in, length_in, phases, slot_by}
+pub use Rattle.concurrent_queue.specs.Step.{AreAt, FitsForm, FitsRing, FitsSlot, HasBrought, IsAtBlocks, IsAtRing, IsAtSingle, ActiveQueueCall, closed_in, items_in, length_in, phases, slot_by}
 pub use Rattle.concurrent_queue.specs.Walked.{StateMakes}
 pub use Rattle.concurrent_queue.specs.declared.bounded.RingAction.{RingAction}
 pub use Rattle.concurrent_queue.specs.declared.bounded.WhenFull.{WhenFull}

@@ -1,6 +1,6 @@
 -- What a channel's words say, of what its cells and its calls under way show.
 use Rattle.std.proofs.Common.{◌≡◌, ℕ, ◌<◌, List, [], ◌∷◌, ◌++◌, map, length, None, Some, slice_get, ◌⊎◌, ⊎_elim, inl, inr, refl, sym, ap, ◌∙◌, subst}
-use Rattle.channel_steps.proofs.every_run.Words.{Contents, slot_at, Queue, Phase, appended, message, Seat, HasBrought, QueueAsk, QueueForm, Slot, CallState, QueueCall, Channel, Parts, ChannelAsk, Aim, Stage, Trying, Working, Finished, TriesFor, TryAt, TriesAt, StageAt, ToldAt, MarkedMoment, Appended, Replaced, Displaced, ActiveCall, Configuration, ActiveCallWitness, MayHave, Known, AllKnown, Represents, active_call_of, brought, Telling, Party, phases, closed_in, length_in, items_in, seats, phase, all_seats, IsInState, SomeCall, ChainBy, IsAtQueue, HasLetIn, IsWith, IsWithOne, WordsSay}
+use Rattle.channel_steps.proofs.every_run.Words.{Contents, slot_at, Queue, Phase, appended, message, ActiveQueueCall, HasBrought, QueueAsk, QueueForm, Slot, CallState, QueueCall, Channel, Parts, ChannelAsk, Purpose, Stage, Trying, Working, Finished, TriesFor, TryAt, TriesAt, StageAt, ToldAt, MarkedMoment, Appended, Replaced, Displaced, ActiveCall, Configuration, ActiveCallWitness, MayHave, Known, AllKnown, Represents, active_call_of, brought, Telling, Party, phases, closed_in, length_in, items_in, seats, phase, all_seats, IsInState, SomeCall, ChainBy, IsAtQueue, HasLetIn, IsWith, IsWithOne, WordsSay}
 use Rattle.concurrent_queue.specs.Step.{slot_in}
 use Rattle.concurrent_queue.specs.Step.{FitsAt}
 use Rattle.concurrent_queue.specs.Queue as queue
@@ -8,7 +8,7 @@ use Rattle.concurrent_queue.specs.declared.call.QueueAsk.TheVariants as q
 use Rattle.concurrent_queue.proofs.FitsFacts as fits_facts
 use Rattle.concurrent_queue.proofs.Interface.{shows}
 use Rattle.channel_calls.specs.declared.ask.ChannelAsk.TheVariants as ask
-use Rattle.channel_calls.specs.declared.stage.Aim.TheVariants as aim
+use Rattle.channel_calls.specs.declared.stage.Purpose.TheVariants as aim
 use Rattle.channel_steps.specs.every_run.Ends.{Each}
 use Rattle.channel_steps.specs.every_run.Chained.{AreChained}
 use Rattle.channel_steps.specs.every_run.Put.{yet_to_put}
@@ -49,7 +49,7 @@ module _ {T W : Type 0} where
   abbrev Brings : T → ChannelAsk T W → List (MarkedMoment T W) → Type 0
   Brings v a ds = (brought a ≡ v ∷ []) × HasLetIn ds
 
-  let_in : (v : T) (now : Channel T W) (y : Aim T W) (a : ChannelAsk T W) (x : QueueAsk T) (s : queue.Stage T) (ds : List (MarkedMoment T W))
+  let_in : (v : T) (now : Channel T W) (y : Purpose T W) (a : ChannelAsk T W) (x : QueueAsk T) (s : queue.Stage T) (ds : List (MarkedMoment T W))
       (seen : List (Channel T W)) → message x ≡ v ∷ [] → HasBrought s → TriesFor a y x ds seen → TriesAt now y x s ds seen → HasLetIn ds
   let_in v now (aim.RecvMany g) (ask.RecvMany n) q.Pop s ds seen one b t h = absurd cc
   let_in v now (aim.RecvMany g) a x s ds seen one b t h = absurd t
@@ -76,7 +76,7 @@ module _ {T W : Type 0} where
   -- ---- all calls
 
   -- where a call of the queue is yet to put the message there, a call of the channel is
-  of_seats : (form : QueueForm) (at : Slot) (v : T) (f : Phase T) (stage : Stage (QueueCall T) T W) (rest : List (Seat T))
+  of_seats : (form : QueueForm) (at : Slot) (v : T) (f : Phase T) (stage : Stage (QueueCall T) T W) (rest : List (ActiveQueueCall T))
       → IsHeldFor form at v (seats f stage ++ rest)
       → ((yet_to_put form stage ≡ Some (at, v)) × Brought v (phase f stage)) ⊎ IsHeldFor form at v rest
   unfolding yet_to_put
@@ -99,7 +99,7 @@ module _ {T W : Type 0} where
       (of_seats form at v x.inner x.party.call.stage (all_seats xs) h)
 
   -- where none is at the queue, the queue has no call under way
-  no_seats : (f : Phase T) (stage : Stage (QueueCall T) T W) (rest : List (Seat T)) → (IsAtQueue (phase f stage) → ⊥)
+  no_seats : (f : Phase T) (stage : Stage (QueueCall T) T W) (rest : List (ActiveQueueCall T)) → (IsAtQueue (phase f stage) → ⊥)
       → phases (seats f stage ++ rest) ≡ phases rest
   no_seats f (Trying call y) rest none = absurd (none tt)
   no_seats f (Working w) rest none = refl
@@ -111,7 +111,7 @@ module _ {T W : Type 0} where
 
   -- ---- the blocks
 
-  some_seat : (P : CallState T → Type 0) (f : Phase T) (stage : Stage (QueueCall T) T W) (rest : List (Seat T))
+  some_seat : (P : CallState T → Type 0) (f : Phase T) (stage : Stage (QueueCall T) T W) (rest : List (ActiveQueueCall T))
       → SomeSeat (seats f stage ++ rest) P
       → IsInState stage P ⊎ SomeSeat rest P
   some_seat P f (Trying call y) rest h = h

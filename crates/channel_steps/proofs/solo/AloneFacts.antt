@@ -1,5 +1,5 @@
 -- A call that is stepped to its end with nobody else at work, from the contract of a step alone.
-use Rattle.channel_steps.proofs.solo.Words.{◌≡◌, ℕ, ◌+◌, ◌<◌, ◌≤◌, List, [], ◌∷◌, ◌++◌, append_assoc, Option, None, Some, ◌⊎◌, inl, inr, refl, sym, ap, ◌∙◌, subst, arith, Queue, Phase, asked, after, Continues, Answers, IsInRange, Fits, QueueCall, QueueAsk, QueueMark, QueueReply, shows, IsIdle, Comes, Does, does, Woken, ChannelAsk, Mark, Reply, Aim, Kept, Stage, Trying, Working, Finished, Turn, Tries, Works, Ends, Work, Parts, Roster, answered_next, kept_by, Channel, Effect, channel, Turned, Tried, seats, phase, Made, IsStepOver, Outcome, Alone, after_waking, answers, HasNextPosition, steps_left}
+use Rattle.channel_steps.proofs.solo.Words.{◌≡◌, ℕ, ◌+◌, ◌<◌, ◌≤◌, List, [], ◌∷◌, ◌++◌, append_assoc, Option, None, Some, ◌⊎◌, inl, inr, refl, sym, ap, ◌∙◌, subst, arith, Queue, Phase, asked, after, Continues, Answers, IsInRange, Fits, QueueCall, QueueAsk, QueueMark, QueueReply, shows, IsIdle, Comes, Does, does, Woken, ChannelAsk, Mark, Reply, Purpose, Returned, Stage, Trying, Working, Finished, NextStep, Tries, Works, Ends, ListStep, Parts, WaitLists, answered_next, kept_by, Channel, Effect, channel, Turned, Tried, seats, phase, Made, IsStepOver, Outcome, Alone, after_waking, answers, HasNextPosition, steps_left}
 use Rattle.channel_steps.proofs.solo.TryFacts.{brought_by, brought_by_is, left_by, Found, tries_start, tries_on, tries_end}
 use Rattle.channel_steps.proofs.LeftFacts.{IsAtWork, step_lessens}
 use Rattle.channel_steps.proofs.StageFacts.{phase_try, phase_work, phase_end}
@@ -33,7 +33,7 @@ module _ {T W : Type 0} where
   At from f (Finished kept) now = ⊥
 
   -- the stage after a turn that does not answer
-  at_turn : (turn : Turn T W) (f : Phase T) (s : Stage (QueueCall T) T W) (q : Queue T)
+  at_turn : (turn : NextStep T W) (f : Phase T) (s : Stage (QueueCall T) T W) (q : Queue T)
       → Turned turn None (phase f s) → At q f s q
   at_turn (Tries a x) f s q h =
       let t = phase_try f (asked a) x s h.1 in subst (λ (z : Stage (QueueCall T) T W). At q f z q) (sym t.1) (subst (λ (g : Phase T). Comes q q g) (sym t.2) (tries_start q a))
@@ -41,19 +41,19 @@ module _ {T W : Type 0} where
   at_turn (Ends x kept) f s q h = absurd (let no : (let y : Option (Reply T) = None in y) ≡ Some x = h.0 in cc)
 
   -- where a turn answers
-  pub record Answered (turn : Turn T W) (x : Reply T) (s : Stage (Phase T) T W) : Type 0 where
-    pub kept : Kept T
+  pub record Answered (turn : NextStep T W) (x : Reply T) (s : Stage (Phase T) T W) : Type 0 where
+    pub kept : Returned T
     pub finished : s ≡ Finished kept
     pub rests : (c : Channel T W) → RestTurn turn c (answers x kept c)
 
-  pub answered : (turn : Turn T W) (x : Reply T) (s : Stage (Phase T) T W) → Turned turn (Some x) s → Answered turn x s
+  pub answered : (turn : NextStep T W) (x : Reply T) (s : Stage (Phase T) T W) → Turned turn (Some x) s → Answered turn x s
   answered (Tries a y) x s h = absurd (let no : Some x ≡ None = h.0 in cc)
   answered (Works w) x s h = absurd (let no : Some x ≡ None = h.0 in cc)
   answered (Ends y kept) x s h =
       let e : x ≡ y = (let some : Some x ≡ Some y = h.0 in cc) in
       record { kept = kept; finished = h.1; rests = λ c. ap (λ (z : Reply T). answers z kept c) e }
 
-  pub finished_kept : (f : Phase T) (s : Stage (QueueCall T) T W) (kept : Kept T) → phase f s ≡ Finished kept
+  pub finished_kept : (f : Phase T) (s : Stage (QueueCall T) T W) (kept : Returned T) → phase f s ≡ Finished kept
       → (kept_by s ≡ kept) × (seats f s ≡ [])
   finished_kept f s kept e =
       let same = phase_end f kept s e in (ap (λ (z : Stage (QueueCall T) T W). kept_by z) same, ap (λ (z : Stage (QueueCall T) T W). seats f z) same)
@@ -80,7 +80,7 @@ module _ {T W : Type 0} where
       (woken : List W) (r : Option (Reply T)) : Type 0 where
     pub queue : Queue T
     pub at : Phase T
-    pub turn : Turn T W
+    pub turn : NextStep T W
     pub turned : Turned turn r (phase at stage')
     pub idle : IsIdle queue
     pub fits : Fits parts'.cells queue (seats at stage' ++ [])
@@ -144,7 +144,7 @@ module _ {T W : Type 0} where
 
     -- ---- a step on a list or a count
 
-    worked : (w : Work T W) (x : IsAlone a c0 parts (Working w) so_far)
+    worked : (w : ListStep T W) (x : IsAlone a c0 parts (Working w) so_far)
         → (made : Made parts (Working w) names parts' stage' m r x.fits.0 x.now x.at [] []) → AdvancesTo made.queue made.phase_now
     worked w x made =
         let e : Effect T W = record { channel = channel made.queue parts'; mark = m; woken = names } in
@@ -172,7 +172,7 @@ module _ {T W : Type 0} where
 
     -- ---- a step of the queue's call
 
-    module _ (call : QueueCall T) (y : Aim T W) (x : IsAlone a c0 parts (Trying call y) so_far)
+    module _ (call : QueueCall T) (y : Purpose T W) (x : IsAlone a c0 parts (Trying call y) so_far)
         (made : Made parts (Trying call y) names parts' stage' m r x.fits.0 x.now x.at [] []) where
       tried : Tried (channel x.now parts) x.at y (record { channel = channel made.queue parts'; mark = m; woken = names }) r
           (phase made.phase_now stage')
@@ -217,7 +217,7 @@ module _ {T W : Type 0} where
                 let k3 : RestTry x.at.ask y (channel x.from parts') o =
                 subst (λ (b : QueueAsk T). RestTry b y (channel x.from parts') o) goes.0 k2 in
                 let k4 : RestTry x.at.ask y (channel x.from parts) o =
-                subst (λ (z : Roster W). RestTry x.at.ask y (record { queue = x.from; roster = z }) o) same_roster k3 in
+                subst (λ (z : WaitLists W). RestTry x.at.ask y (record { queue = x.from; roster = z }) o) same_roster k3 in
                 woken_none nobody o (x.on o k4);
           }
           in
@@ -245,7 +245,7 @@ module _ {T W : Type 0} where
             unspent = λ h. unspent_still h (brought_by_is z);
             on = λ o k.
                 let k1 : RestTurn (answered_next y z) (record { queue = made.queue; roster = parts.roster }) o =
-                subst (λ (b : Roster W). RestTurn (answered_next y z) (record { queue = made.queue; roster = b }) o)
+                subst (λ (b : WaitLists W). RestTurn (answered_next y z) (record { queue = made.queue; roster = b }) o)
                 same_roster k in
                 let k2 : RestTurn (answered_next y z) (record { queue = left_by x.at.ask z x.from; roster = parts.roster }) o =
                 subst (λ (q : Queue T). RestTurn (answered_next y z) (record { queue = q; roster = parts.roster }) o) found.left
@@ -268,7 +268,7 @@ module _ {T W : Type 0} where
 
     -- ---- a step
 
-    by_how : (call : QueueCall T) (y : Aim T W) (x : IsAlone a c0 parts (Trying call y) so_far)
+    by_how : (call : QueueCall T) (y : Purpose T W) (x : IsAlone a c0 parts (Trying call y) so_far)
         (made : Made parts (Trying call y) names parts' stage' m r x.fits.0 x.now x.at [] []) (mark : QueueMark)
         → mark ≡ (tried call y x made).mark
         → ((f' : Phase T) × Continues x.now x.at mark f' × (r ≡ None) × (phase made.phase_now stage' ≡ Trying f' y))

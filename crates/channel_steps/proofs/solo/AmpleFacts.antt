@@ -1,5 +1,5 @@
 -- A poll that holds a listener is refused no memory where it is alone: its list has room for the next as soon as that one has left.
-use Rattle.channel_steps.proofs.solo.Words.{nat_tests, arith, cond, ◌≡◌, ◌+◌, ◌<◌, ℕ, Bool, true, false, if◌then◌else◌, not, List, [], ◌∷◌, ◌++◌, Option, None, Some, Result, Ok, Err, is_some, refl, sym, ap, ◌∙◌, subst, Queue, IsQueueStep, mark_of, QueueAsk, QueueReply, QueueCall, shows, Finds, kind_of, listened, told_as, waits_as, same_key, ListenError, Key, answered_next, asks_listener, first, inserted, registered, Done, Channel, channel, Parts, Roster, Listeners, listeners, with_listeners, waits, parts_of, rooms_of, DoesPlain, line_of, leaving, pending_reply, refused_reply, ends_by, again, inserted_next, registered_next, Takes, Heard, WorkMakes, ChannelMakes, ChannelAsk, PollSend, PollRecv, PollClosed, PollNext, Mark, Nothing, PlainChannel, Reply, Aim, Ending, Held, Line, Sends, Receives, Streams, Closings, Stage, Trying, Working, Finished, Turn, Tries, Works, Ends, Waiting, Work, TellReceive, TellStreams, TellSend, Insert, Register, Leave, IsAtRest, refused_next}
+use Rattle.channel_steps.proofs.solo.Words.{nat_tests, arith, cond, ◌≡◌, ◌+◌, ◌<◌, ℕ, Bool, true, false, if◌then◌else◌, not, List, [], ◌∷◌, ◌++◌, Option, None, Some, Result, Ok, Err, is_some, refl, sym, ap, ◌∙◌, subst, Queue, IsQueueStep, mark_of, QueueAsk, QueueReply, QueueCall, shows, Finds, kind_of, listened, told_as, waits_as, same_key, ListenError, Key, answered_next, asks_listener, first, inserted, registered, Done, Channel, channel, Parts, WaitLists, Listeners, listeners, with_listeners, waits, parts_of, rooms_of, DoesPlain, line_of, leaving, pending_reply, refused_reply, ends_by, again, inserted_next, registered_next, Takes, Heard, WorkMakes, ChannelMakes, ChannelAsk, PollSend, PollRecv, PollClosed, PollNext, Mark, Nothing, PlainChannel, Reply, Purpose, Ending, ListenerRef, WaitList, Sends, Receives, Streams, Closings, Stage, Trying, Working, Finished, NextStep, Tries, Works, Ends, Waiting, ListStep, TellReceive, TellStreams, TellSend, Insert, Register, Leave, IsAtRest, refused_next}
 use Rattle.std.specs.Map.{lookup}
 use Rattle.concurrent_queue.specs.Capacity.{capacity_of}
 use Rattle.event_listener.specs.Runs.{room_polled}
@@ -10,7 +10,7 @@ use Rattle.concurrent_queue.specs.declared.call.QueueReply.TheVariants as answer
 use Rattle.concurrent_queue.specs.declared.error.PushError.TheVariants as push_error
 use Rattle.concurrent_queue.specs.declared.error.PopError.TheVariants as pop_error
 use Rattle.event_listener.specs.declared.error.ListenError.TheVariants as listen_error
-use Rattle.channel_calls.specs.declared.stage.Aim.TheVariants as aim
+use Rattle.channel_calls.specs.declared.stage.Purpose.TheVariants as aim
 use Rattle.channel_calls.specs.declared.stage.Waiting.TheVariants as waiting
 use Rattle.channel_steps.proofs.solo.AloneFacts.{IsAlone, in_range}
 use Rattle.channel_steps.proofs.solo.ConfigurationLoop.{IsBetween, alone_there}
@@ -46,24 +46,24 @@ module _ {W : Type 0} where
     by false true h k = cc k
     by false false h k = cc h
 
-  same_list : (line : Line) (l : Listeners W) (a : Roster W) → listeners line (with_listeners line l a) ≡ l
+  same_list : (line : WaitList) (l : Listeners W) (a : WaitLists W) → listeners line (with_listeners line l a) ≡ l
   same_list Sends l a = refl
   same_list line l a = refl
 
-same_room : (line : Line) (n : ℕ) (m : Rooms) → room_on line (with_room line n m) ≡ n
+same_room : (line : WaitList) (n : ℕ) (m : Rooms) → room_on line (with_room line n m) ≡ n
 same_room Sends n m = refl
 same_room line n m = refl
 
 -- where a send is tried, the queue has a bound
-abbrev pub HasBound : Option ℕ → Line → Type 0
+abbrev pub HasBound : Option ℕ → WaitList → Type 0
 HasBound cap Sends = is_some cap ≡ true
 HasBound cap line = Unit {0}
 
-pending_ample : (T : Type 0) (line : Line) → lacks_memory (pending_reply {T = T} line) ≡ false
+pending_ample : (T : Type 0) (line : WaitList) → lacks_memory (pending_reply {T = T} line) ≡ false
 pending_ample T Sends = refl
 pending_ample T line = refl
 
-serials_ample : (T : Type 0) (line : Line) → lacks_memory (refused_reply {T = T} line listen_error.SerialsUsedUp) ≡ false
+serials_ample : (T : Type 0) (line : WaitList) → lacks_memory (refused_reply {T = T} line listen_error.SerialsUsedUp) ≡ false
 serials_ample T Sends = refl
 serials_ample T line = refl
 
@@ -77,18 +77,18 @@ module _ {T : Type 0} where
   HasMemory cap x = is_some cap ≡ true → (v : T) → x ≡ answer.Push (Err (push_error.NoMemory v)) → ⊥
 
 module _ {T W : Type 0} where
-  abbrev lists_in : PlainChannel T W → Roster W
+  abbrev lists_in : PlainChannel T W → WaitLists W
   lists_in c = (parts_of c).roster
 
 module _ {T W : Type 0} (cap : Option ℕ) where
   -- ---- stages from which no call comes to be refused memory, over a queue of this capacity, and these lists and their room
 
-  abbrev pub ReadyAim : Roster W → Rooms → Aim T W → Type 0
+  abbrev pub ReadyAim : WaitLists W → Rooms → Purpose T W → Type 0
   ReadyAim a m (aim.Poll line None task) = (0 < room_on line m) × HasBound cap line
   ReadyAim a m (aim.Poll line (Some key) task) = IsOnList line (Some key) a × HasBound cap line
   ReadyAim a m _ = ⊥
 
-  abbrev pub ReadyWork : Roster W → Rooms → Work T W → Type 0
+  abbrev pub ReadyWork : WaitLists W → Rooms → ListStep T W → Type 0
   ReadyWork a m (TellReceive e) = lacks_memory e.reply ≡ false
   ReadyWork a m (TellStreams e) = lacks_memory e.reply ≡ false
   ReadyWork a m (TellSend e) = lacks_memory e.reply ≡ false
@@ -97,21 +97,21 @@ module _ {T W : Type 0} (cap : Option ℕ) where
   ReadyWork a m (Leave e) = lacks_memory e.reply ≡ false
   ReadyWork a m _ = ⊥
 
-  abbrev pub ReadyTurn : Roster W → Rooms → Turn T W → Type 0
+  abbrev pub ReadyTurn : WaitLists W → Rooms → NextStep T W → Type 0
   ReadyTurn a m (Tries x y) = ReadyAim a m y
   ReadyTurn a m (Works w) = ReadyWork a m w
   ReadyTurn a m (Ends x kept) = lacks_memory x ≡ false
 
-  abbrev pub ReadyStage : Roster W → Rooms → Stage (QueueCall T) T W → Type 0
+  abbrev pub ReadyStage : WaitLists W → Rooms → Stage (QueueCall T) T W → Type 0
   ReadyStage a m (Trying call y) = ReadyAim a m y
   ReadyStage a m (Working w) = ReadyWork a m w
   ReadyStage a m (Finished kept) = Unit {0}
 
   -- after a step
-  abbrev pub StaysReady : Roster W → Rooms → Stage (QueueCall T) T W → Option (Reply T) → Type 0
+  abbrev pub StaysReady : WaitLists W → Rooms → Stage (QueueCall T) T W → Option (Reply T) → Type 0
   StaysReady a m next r = ReadyStage a m next × NoneLacks r
 
-  pub taken : (a : Roster W) (m : Rooms) (turn : Turn T W) (next : Stage (QueueCall T) T W) (r : Option (Reply T)) → Takes turn next r
+  pub taken : (a : WaitLists W) (m : Rooms) (turn : NextStep T W) (next : Stage (QueueCall T) T W) (r : Option (Reply T)) → Takes turn next r
       → ReadyTurn a m turn → StaysReady a m next r
   taken a m (Tries x y) next r (call, starts, asking, none, e) h =
       (subst (λ (s : Stage (QueueCall T) T W). ReadyStage a m s) (sym e) h, subst (λ (o : Option (Reply T)). NoneLacks o) (sym none) tt)
@@ -120,20 +120,20 @@ module _ {T W : Type 0} (cap : Option ℕ) where
   taken a m (Ends x kept) next r (some, e) h =
       (subst (λ (s : Stage (QueueCall T) T W). ReadyStage a m s) (sym e) tt, subst (λ (o : Option (Reply T)). NoneLacks o) (sym some) h)
 
-  ends_ready : (a : Roster W) (m : Rooms) (e : Ending T) → lacks_memory e.reply ≡ false → ReadyTurn a m (ends_by e)
+  ends_ready : (a : WaitLists W) (m : Rooms) (e : Ending T) → lacks_memory e.reply ≡ false → ReadyTurn a m (ends_by e)
   ends_ready a m e h = by e.held where
-    by : (o : Option Held) → ReadyTurn a m (elim o [ None ↦ Ends e.reply (leaving None e.message) | Some held ↦ Works (Leave e) ])
+    by : (o : Option ListenerRef) → ReadyTurn a m (elim o [ None ↦ Ends e.reply (leaving None e.message) | Some held ↦ Works (Leave e) ])
     by None = h
     by (Some held) = h
 
   -- ---- an answer of the queue
 
-  module _ (a : Roster W) (m : Rooms) where
+  module _ (a : WaitLists W) (m : Rooms) where
     refused_ready : (w : Waiting T) (key : Option Key) (task : W) → ReadyAim a m (aim.Poll (line_of w) key task) → ReadyTurn a m (refused_next w key task)
     refused_ready w None task h = h
     refused_ready w (Some key) task h = h
 
-    answered : (y : Aim T W) (x : QueueReply T) → HasMemory cap x → ReadyAim a m y → ReadyTurn a m (answered_next y x)
+    answered : (y : Purpose T W) (x : QueueReply T) → HasMemory cap x → ReadyAim a m y → ReadyTurn a m (answered_next y x)
     answered (aim.Poll Sends key task) (answer.Push (Err (push_error.Full v))) ample h = refused_ready (waiting.Send v) key task h
     answered (aim.Poll Sends key task) (answer.Push (Err (push_error.Closed v))) ample h = ends_ready a m _ refl
     answered (aim.Poll Sends None task) (answer.Push (Err (push_error.NoMemory v))) ample h = absurd (ample h.1 v refl)
@@ -176,7 +176,7 @@ module _ {T W : Type 0} (cap : Option ℕ) where
     abbrev Stays : Type 0
     Stays = StaysReady (lists_in t.0) (rooms_of t.0) next r
 
-    worked : (w : Work T W) → WorkMakes (Done DoesPlain wakes) w s t m next r → ReadyWork (lists_in s.0) (rooms_of s.0) w → Stays
+    worked : (w : ListStep T W) → WorkMakes (Done DoesPlain wakes) w s t m next r → ReadyWork (lists_in s.0) (rooms_of s.0) w → Stays
     worked (TellReceive e) (names, is, h) k = taken (lists_in t.0) (rooms_of t.0) (Works (TellStreams e)) next r h.1 k
     worked (TellStreams e) (names, is, h) k =
         taken (lists_in t.0) (rooms_of t.0) (ends_by e) next r h.1 (ends_ready (lists_in t.0) (rooms_of t.0) e k)
@@ -191,7 +191,7 @@ module _ {T W : Type 0} (cap : Option ℕ) where
     worked w h k = absurd k
 
     -- the queue's call goes on, or has answered
-    tried : (y : Aim T W) (after : QueueCall T) (o : Option (QueueReply T)) → lists_in t.0 ≡ lists_in s.0 → rooms_of t.0 ≡ rooms_of s.0
+    tried : (y : Purpose T W) (after : QueueCall T) (o : Option (QueueReply T)) → lists_in t.0 ≡ lists_in s.0 → rooms_of t.0 ≡ rooms_of s.0
         → ((x : QueueReply T) → o ≡ Some x → HasMemory cap x) → Heard y after o next r → ReadyAim (lists_in s.0) (rooms_of s.0) y → Stays
     tried y after None lists rooms ample (on, none) k = (
       subst (λ (z : Stage (QueueCall T) T W). ReadyStage (lists_in t.0) (rooms_of t.0) z) (sym on) (rw (lists, rooms) k),
@@ -207,7 +207,7 @@ no_bound a q v h = absurd h
 
 module _ {T W : Type 0} where
   -- what the queue answers to a call that is alone at work
-  memory_there : (a : ChannelAsk T W) (c0 : Channel T W) (parts parts' : Parts T W) (so_far : List W) (call after : QueueCall T) (y : Aim T W)
+  memory_there : (a : ChannelAsk T W) (c0 : Channel T W) (parts parts' : Parts T W) (so_far : List W) (call after : QueueCall T) (y : Purpose T W)
       (x : IsAlone a c0 parts (Trying call y) so_far) (z : QueueReply T)
       → IsQueueStep parts.cells call parts'.cells after (Some z) → HasMemory c0.queue.capacity z
   memory_there a c0 parts parts' so_far call after y x z step bound v e =
@@ -239,7 +239,7 @@ module _ {T W : Type 0} where
   StaysAmple a c0 c stage =
       HasNode a (parts_of c0) → ReadyStage (capacity_of (parts_of c0).cells.form) (parts_of c).roster (rooms_of c) stage
 
-  module _ (cap : Option ℕ) (b : Roster W) (m : Rooms) where
+  module _ (cap : Option ℕ) (b : WaitLists W) (m : Rooms) where
     first_again : (w : Waiting T) (key : Option Key) (task : W) → IsOnList (line_of w) key b → HasBound cap (line_of w)
         → ReadyTurn cap b m (again w key task)
     first_again w None task h bound = absurd h

@@ -1,5 +1,5 @@
 -- What comes after an answer of the queue to a call that is alone at work.
-use Rattle.channel_steps.proofs.solo.Words.{◌≡◌, ℕ, zero, suc, drop, ◌∷◌, ◌++◌, ◌==◌, ◌&&◌, Bool, true, false, if◌then◌else◌, List, [], Option, None, Some, Ok, Err, inl, inr, refl, sym, ap, ◌∙◌, subst, Queue, is_filled, is_full_at, QueueAsk, QueueReply, Finds, Key, kind_of, listened, TryRecvError, Reply, Aim, Line, Sends, Receives, Streams, Closings, Insert, Waiting, Listeners, listeners, waits, says, line_of, ask_of, refused_next, over, sent_next, forced_next, gathered_next, short_next, answered_next, with_last, Channel, listens, registers, Outcome, Where, ends, receives_by, says_only, WaitsOrGoesOn, ListensOrIsRefused, PollsFor, fresh_waits, same_line}
+use Rattle.channel_steps.proofs.solo.Words.{◌≡◌, ℕ, zero, suc, drop, ◌∷◌, ◌++◌, ◌==◌, ◌&&◌, Bool, true, false, if◌then◌else◌, List, [], Option, None, Some, Ok, Err, inl, inr, refl, sym, ap, ◌∙◌, subst, Queue, is_filled, is_full_at, QueueAsk, QueueReply, Finds, Key, kind_of, listened, TryRecvError, Reply, Purpose, WaitList, Sends, Receives, Streams, Closings, Insert, Waiting, Listeners, listeners, waits, says, line_of, ask_of, refused_next, over, sent_next, forced_next, gathered_next, short_next, answered_next, with_last, Channel, listens, registers, Outcome, Where, ends, receives_by, says_only, WaitsOrGoesOn, ListensOrIsRefused, PollsFor, fresh_waits, same_line}
 use Rattle.std.proofs.lemmas.Bool.{not-true, not-false}
 use Rattle.std.specs.Prelude.{length, slice_get}
 use Rattle.concurrent_queue.specs.declared.call.QueueAsk.TheVariants as ask
@@ -11,7 +11,7 @@ use Rattle.futures.specs.declared.task.Poll.TheVariants as poll
 use Rattle.channel_calls.specs.declared.error.Refused.TheVariants as refused
 use Rattle.channel_calls.specs.declared.error.TryRecvError.TheVariants as try_recv_error
 use Rattle.channel_calls.specs.declared.reply.Reply.TheVariants as reply
-use Rattle.channel_calls.specs.declared.stage.Aim.TheVariants as aim
+use Rattle.channel_calls.specs.declared.stage.Purpose.TheVariants as aim
 use Rattle.channel_calls.specs.declared.stage.Waiting.TheVariants as waiting
 use Rattle.channel_steps.specs.solo.Alone as alone
 use Rattle.channel_steps.proofs.solo.TryFacts.{left_by}
@@ -103,7 +103,7 @@ module _ {T W : Type 0} where
     abbrev ForStream : Option Key → W → List T → Type 0
     ForStream key task xs = PollsFor xs waiting.Stream (λ m. reply.Next (poll.Ready (Some (Ok m)))) (reply.Next (poll.Ready None)) key task c o
 
-    fresh_on : (line : Line) (k : Key) → kind_of (listeners line c.roster) k ≡ None → waits k (listeners line (listens line k c).channel.roster) ≡ true
+    fresh_on : (line : WaitList) (k : Key) → kind_of (listeners line c.roster) k ≡ None → waits k (listeners line (listens line k c).channel.roster) ≡ true
     fresh_on line k none =
         subst (λ (l : Listeners W). waits k l ≡ true) (sym (same_line line (listened k (listeners line c.roster)) c.roster)) (fresh_waits k (listeners line c.roster) none)
 
@@ -112,7 +112,7 @@ module _ {T W : Type 0} where
     stuck_closing opened d key task p e h = given_else d.queue.closed _ _ (ap (λ (q : Queue T). q.closed) e ∙ opened) h
 
     -- what comes after the queue's answer is what comes of the whole try
-    pub answered_rest : (a : QueueAsk T) (x : Aim T W) (y : QueueReply T) → Finds a c.queue y → RestTurn (answered_next x y) (now_is c (left_by a y c.queue)) o → RestTry a x c o
+    pub answered_rest : (a : QueueAsk T) (x : Purpose T W) (y : QueueReply T) → Finds a c.queue y → RestTurn (answered_next x y) (now_is c (left_by a y c.queue)) o → RestTry a x c o
     answered_rest (ask.Push m) aim.TrySend (answer.Push (Ok u)) g k = inr (pick_else c.queue.closed o _ _ g.0 (pick_else (is_filled c.queue) o _ _ g.1 k))
     answered_rest (ask.Push m) aim.TrySend (answer.Push (Err (push_error.Full n))) g k =
         let k' = subst (λ (x : T). RestTurn (sent_next (answer.Push (Err (push_error.Full x)))) c o) g.2 k in

@@ -1,5 +1,5 @@
 -- The steps of a call that is alone at work, one after another, from configuration to configuration.
-use Rattle.channel_steps.proofs.solo.Words.{◌≡◌, ℕ, ◌+◌, ◌≤◌, List, [], ◌∷◌, ◌++◌, map, length, append-nil, append_assoc, Option, None, Some, inl, inr, refl, sym, ap, ◌∙◌, subst, arith, Queue, Phase, Seat, Fits, QueueCall, shows, Woken, ChannelAsk, ChannelCall, Mark, Nothing, Reply, Kept, Stage, Parts, first, kept_by, Channel, Effect, channel, phase, seats, Moves, Made, IsNewCall, IsStepOver, IsChannelStep, counted, end_on, run_none, known_next, fits_after, none_after, after_lone, lone_goes, lone_ends, messages_counted, messages_moved, Outcome, Alone, after_waking, answers, HasNextPosition, IsAtRest, AnswersAlone, PlainChannel, parts_of, DoesPlain, ChannelMakes, Done as Did, steps_left, ◌<◌}
+use Rattle.channel_steps.proofs.solo.Words.{◌≡◌, ℕ, ◌+◌, ◌≤◌, List, [], ◌∷◌, ◌++◌, map, length, append-nil, append_assoc, Option, None, Some, inl, inr, refl, sym, ap, ◌∙◌, subst, arith, Queue, Phase, ActiveQueueCall, Fits, QueueCall, shows, Woken, ChannelAsk, ChannelCall, Mark, Nothing, Reply, Returned, Stage, Parts, first, kept_by, Channel, Effect, channel, phase, seats, Moves, Made, IsNewCall, IsStepOver, IsChannelStep, counted, end_on, run_none, known_next, fits_after, none_after, after_lone, lone_goes, lone_ends, messages_counted, messages_moved, Outcome, Alone, after_waking, answers, HasNextPosition, IsAtRest, AnswersAlone, PlainChannel, parts_of, DoesPlain, ChannelMakes, Done as Did, steps_left, ◌<◌}
 use Rattle.concurrent_queue.specs.Step.{FitsAt, FitsForm}
 use Rattle.concurrent_queue.specs.declared.cells.QueueForm.{QueueForm}
 use Rattle.concurrent_queue.specs.declared.cells.QueueForm.TheVariants.{Bounded, Unbounded}
@@ -27,7 +27,7 @@ module _ {T : Type 0} where
   silent_more [] e h reply kept = (reply, kept, tt)
   silent_more (f ∷ es) e h reply kept = (h.0, h.1, silent_more es e h.2 reply kept)
 
-  silent_ends : (es : List (Entry T)) (e : Entry T) (x : Reply T) (k : Kept T) → AreSilent es → e.reply ≡ Some x → e.kept ≡ Some k
+  silent_ends : (es : List (Entry T)) (e : Entry T) (x : Reply T) (k : Returned T) → AreSilent es → e.reply ≡ Some x → e.kept ≡ Some k
       → EndsWith x k (es ++ e ∷ [])
   silent_ends [] e x k h reply kept = (reply, kept)
   silent_ends (f ∷ []) e x k h reply kept = (h.0, h.1, (reply, kept))
@@ -265,7 +265,7 @@ module _ {T W : Type 0} where
             messages_counted x.mid p e names t n x.balanced balanced (omega (arith, most, same, low))
 
       -- one slot holds one message at most
-      short_in : (q d : Queue T) (seats : List (Seat T)) → Fits parts'.cells q seats → q.capacity ≡ start.queue.capacity → q ≡ d
+      short_in : (q d : Queue T) (seats : List (ActiveQueueCall T)) → Fits parts'.cells q seats → q.capacity ≡ start.queue.capacity → q ≡ d
           → start.queue.capacity ≡ Some 1 → length d.items ≤ 1
       short_in q d seats fits same is one =
           let most = (shows parts'.cells q seats fits).within 1 (same ∙ one) in
@@ -318,7 +318,7 @@ module _ {T W : Type 0} where
 
       -- one that answers
       module _ {S : Type 0} (wakes : S → W → S → Type 0) (sink0 sink' : S) (woken : Woken wakes sink0 (so_far ++ names) sink')
-          (y : Reply T) (kept : Kept T) (left : kept ≡ kept_by stage') where
+          (y : Reply T) (kept : Returned T) (left : kept ≡ kept_by stage') where
         abbrev Over : Type 0
         Over = RanInConfigurations wakes a sink0 messages0 (record { reply = y; kept = kept }) parts' sink' (counted messages m) s p
 
@@ -353,7 +353,7 @@ module _ {T W : Type 0} where
                 begins = x.begins;
                 entries = x.entries ++ last ∷ [];
                 run = went.run;
-                ends = silent_ends x.entries last y e.kept x.silent refl (ap (λ (h : Kept T). Some h) (left ∙ f.0));
+                ends = silent_ends x.entries last y e.kept x.silent refl (ap (λ (h : Returned T). Some h) (left ∙ f.0));
                 woken = went.named ∙ sym (append-nil (so_far ++ names));
                 over = refl;
               };
@@ -363,7 +363,7 @@ module _ {T W : Type 0} where
                 parties_are = refl;
                 under_way = refl;
                 now = refl;
-                fits = subst (λ (ss : List (Seat T)). FitsAt blocks_now parts'.cells made.queue (ss ++ [])) none
+                fits = subst (λ (ss : List (ActiveQueueCall T)). FitsAt blocks_now parts'.cells made.queue (ss ++ [])) none
                     (fits_after x.alone.fits.0 parts.cells parts'.cells made.queue (seats made.phase_now stage' ++ []) made.fits);
                 bare = none_after parts'.cells.form x.alone.fits.0 parts.cells parts'.cells;
                 known = tt;
@@ -449,7 +449,7 @@ module _ {T W S : Type 0} (wakes : S → W → S → Type 0) where
           let x = alone_there parts stage sink messages way q position fits in
           step_nearer a (channel q parts0) parts x.0 step.0 parts' stage' m None stage x.1 step.2
 
-      pub configurations_end : (y : Reply T) → IsChannelStep wakes parts stage sink parts' stage' m (Some y) sink' → (kept : Kept T)
+      pub configurations_end : (y : Reply T) → IsChannelStep wakes parts stage sink parts' stage' m (Some y) sink' → (kept : Returned T)
           → kept ≡ kept_by stage'
           → RunsInConfigurations wakes a parts0 sink0 messages0 (record { reply = y; kept = kept }) parts' sink' messages'
       configurations_end y step kept left s p position sh =

@@ -1,5 +1,5 @@
 -- The first turn of a call that is alone at work.
-use Rattle.channel_steps.proofs.solo.Words.{◌≡◌, Bool, true, false, if◌then◌else◌, [], ◌++◌, Option, None, Some, refl, sym, ap, ◌∙◌, subst, Contents, Queue, Phase, asked, Fits, QueueCall, Key, ChannelAsk, RecvMany, PollSend, PollFinishedSend, PollRecv, PollNext, RefusePoll, GiveUp, DropSender, DropReceiver, CloneHandle, HandleCount, SendIsTerminated, SameChannel, Make, DropWeak, Reply, Stage, Turn, Tries, Works, Ends, Waiting, again, asks_listener, first, Channel, Turned, seats, phase, IsTaken, Outcome, Where, PollsSend, PollsReceive, AsksListener, Alone}
+use Rattle.channel_steps.proofs.solo.Words.{◌≡◌, Bool, true, false, if◌then◌else◌, [], ◌++◌, Option, None, Some, refl, sym, ap, ◌∙◌, subst, Contents, Queue, Phase, asked, Fits, QueueCall, Key, ChannelAsk, RecvMany, PollSend, PollFinishedSend, PollRecv, PollNext, RefusePoll, GiveUp, DropSender, DropReceiver, CloneHandle, HandleCount, SendIsTerminated, SameChannel, Make, DropWeak, Reply, Stage, NextStep, Tries, Works, Ends, Waiting, again, asks_listener, first, Channel, Turned, seats, phase, IsTaken, Outcome, Where, PollsSend, PollsReceive, AsksListener, Alone}
 use Rattle.concurrent_queue.specs.declared.call.QueueAsk.TheVariants as ask
 use Rattle.channel_calls.specs.declared.stage.Waiting.TheVariants as waiting
 use Rattle.channel_steps.proofs.solo.Rest.{RestTurn}
@@ -55,12 +55,12 @@ module _ {T W : Type 0} where
   first_goes_on a r s h = h.2
 
   -- a call that took its first turn over cells with no call under way, and did not answer by it
-  pub record Begun (turn : Turn T W) (cells : Contents T) (q : Queue T) (s : Stage (QueueCall T) T W) : Type 0 where
+  pub record Begun (turn : NextStep T W) (cells : Contents T) (q : Queue T) (s : Stage (QueueCall T) T W) : Type 0 where
     pub at : Phase T
     pub turned : Turned turn None (phase at s)
     pub fits : Fits cells q (seats at s ++ [])
 
-  pub begun : (cells : Contents T) (q : Queue T) → Fits cells q [] → (turn : Turn T W) (r : Option (Reply T)) (s : Stage (QueueCall T) T W) → r ≡ None → IsTaken turn r s → Begun turn cells q s
+  pub begun : (cells : Contents T) (q : Queue T) → Fits cells q [] → (turn : NextStep T W) (r : Option (Reply T)) (s : Stage (QueueCall T) T W) → r ≡ None → IsTaken turn r s → Begun turn cells q s
   begun cells q h (Tries x aim) r s none (call, starts, here, e) =
       record {
         at = asked x;

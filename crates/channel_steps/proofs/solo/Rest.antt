@@ -1,11 +1,11 @@
 -- What a call that is alone at work does from each of its stages on.
-use Rattle.channel_steps.proofs.solo.Words.{◌≡◌, ℕ, zero, suc, ◌+◌, ◌==◌, true, if◌then◌else◌, List, [], ◌∷◌, ◌++◌, length, take, drop, Ok, Err, refl, sym, ap, ◌∙◌, arith, append-nil, append_assoc, Option, None, Some, ◌⊎◌, subst, Phase, QueueAsk, Key, Reply, Aim, Ending, Held, Line, Sends, Receives, Streams, Closings, Making, Side, Stage, Trying, Working, Finished, Turn, Tries, Works, Ends, Work, TellReceive, TellStreams, TellSend, TellSends, TakeRoom, TellAll, Insert, Register, Leave, Lower, Count, Load, Raise, kind_of, ListenError, listeners, count, is_raised, says, line_of, message_of, ask_of, leaving, nothing_kept, ends_by, refused_reply, closer_ending, Channel, Effect, Turned, tells_all, listens, raises, Outcome, Where, answers, ends, over_queue, taken, of_message, of_room, of_rooms, of_closing, says_only, receives_these, receives_several, ReceivesSeveral, closes, RegistersOrGoesOn, PollsSend, PollsReceive, PollsStream, PollsClosing, drops, clones, Alone}
+use Rattle.channel_steps.proofs.solo.Words.{◌≡◌, ℕ, zero, suc, ◌+◌, ◌==◌, true, if◌then◌else◌, List, [], ◌∷◌, ◌++◌, length, take, drop, Ok, Err, refl, sym, ap, ◌∙◌, arith, append-nil, append_assoc, Option, None, Some, ◌⊎◌, subst, Phase, QueueAsk, Key, Reply, Purpose, Ending, ListenerRef, WaitList, Sends, Receives, Streams, Closings, Making, Side, Stage, Trying, Working, Finished, NextStep, Tries, Works, Ends, ListStep, TellReceive, TellStreams, TellSend, TellSends, TakeRoom, TellAll, Insert, Register, Leave, Lower, Count, Load, Raise, kind_of, ListenError, listeners, count, is_raised, says, line_of, message_of, ask_of, leaving, nothing_kept, ends_by, refused_reply, closer_ending, Channel, Effect, Turned, tells_all, listens, raises, Outcome, Where, answers, ends, over_queue, taken, of_message, of_room, of_rooms, of_closing, says_only, receives_these, receives_several, ReceivesSeveral, closes, RegistersOrGoesOn, PollsSend, PollsReceive, PollsStream, PollsClosing, drops, clones, Alone}
 use Rattle.concurrent_queue.specs.declared.call.QueueAsk.TheVariants as ask
 use Rattle.channel_calls.specs.declared.ask.ChannelAsk.TheVariants as call
 use Rattle.channel_calls.specs.declared.error.Refused.TheVariants as refused
 use Rattle.channel_calls.specs.declared.error.TryRecvError.TheVariants as try_recv_error
 use Rattle.channel_calls.specs.declared.reply.Reply.TheVariants as reply
-use Rattle.channel_calls.specs.declared.stage.Aim.TheVariants as aim
+use Rattle.channel_calls.specs.declared.stage.Purpose.TheVariants as aim
 use Rattle.channel_calls.specs.declared.stage.Making.TheVariants as making
 
 module _ {T W : Type 0} where
@@ -48,7 +48,7 @@ module _ {T W : Type 0} where
   gathers_all n c = gathers_first c.queue.items n c.queue.removed c
 
   -- a try that begins, by what it asks of the queue and what for; no other asks are made for these
-  abbrev pub RestTry : QueueAsk T → Aim T W → Channel T W → Outcome T W → Type 0
+  abbrev pub RestTry : QueueAsk T → Purpose T W → Channel T W → Outcome T W → Type 0
   RestTry (ask.Push m) aim.TrySend c o = Alone (call.TrySend m) c o
   RestTry (ask.ForcePush m) aim.ForceSend c o = Alone (call.ForceSend m) c o
   RestTry ask.Pop aim.TryRecv c o = Alone call.TryRecv c o
@@ -68,7 +68,7 @@ module _ {T W : Type 0} where
   RestTry a x c o = Unit {0}
 
   -- the lists that a closing still tells
-  abbrev pub of_closing_from : Line → List (Channel T W → Effect T W)
+  abbrev pub of_closing_from : WaitList → List (Channel T W → Effect T W)
   of_closing_from Sends = of_closing
   of_closing_from Receives = tells_all Receives ∷ tells_all Streams ∷ tells_all Closings ∷ []
   of_closing_from Streams = tells_all Streams ∷ tells_all Closings ∷ []
@@ -78,7 +78,7 @@ module _ {T W : Type 0} where
   RestLoad side making.Clone c o = o ≡ clones side c
   RestLoad side making.Upgrade c o = o ≡ (if count side c.roster == 0 then answers reply.NotMade nothing_kept c else clones side c)
 
-  abbrev pub RestWork : Work T W → Channel T W → Outcome T W → Type 0
+  abbrev pub RestWork : ListStep T W → Channel T W → Outcome T W → Type 0
   RestWork (TellReceive x) c o = o ≡ ends of_message x c
   RestWork (TellStreams x) c o = o ≡ ends (tells_all Streams ∷ []) x c
   RestWork (TellSend x) c o = o ≡ ends of_room x c
@@ -96,7 +96,7 @@ module _ {T W : Type 0} where
   RestWork (Raise side n m) c o =
       Where (is_raised side n c.roster) (o ≡ answers reply.Made nothing_kept (raises side n c).channel) (RestLoad side m c o)
 
-  abbrev pub RestTurn : Turn T W → Channel T W → Outcome T W → Type 0
+  abbrev pub RestTurn : NextStep T W → Channel T W → Outcome T W → Type 0
   RestTurn (Tries a x) c o = RestTry a x c o
   RestTurn (Works w) c o = RestWork w c o
   RestTurn (Ends x kept) c o = o ≡ answers x kept c
@@ -108,11 +108,11 @@ module _ {T W : Type 0} where
   RestStage (Finished kept) c o = ⊥
 
   -- a turn that was taken
-  pub turn_rests : (turn : Turn T W) (s : Stage (Phase T) T W) (c : Channel T W) (o : Outcome T W) → Turned turn None s → RestStage s c o → RestTurn turn c o
+  pub turn_rests : (turn : NextStep T W) (s : Stage (Phase T) T W) (c : Channel T W) (o : Outcome T W) → Turned turn None s → RestStage s c o → RestTurn turn c o
   turn_rests (Ends x kept) s c o h k = absurd (let no : (let y : Option (Reply T) = None in y) ≡ Some x = h.0 in cc)
   turn_rests turn s c o h k = subst (λ (z : Stage (Phase T) T W). RestStage z c o) h.1 k
 
-  left : (c : Channel T W) (o : Outcome T W) (x : Reply T) (message : Option T) (held : Option Held) → RestTurn (ends_by (record { reply = x; message = message; held = held })) c o → o ≡ ends [] (record { reply = x; message = message; held = held }) c
+  left : (c : Channel T W) (o : Outcome T W) (x : Reply T) (message : Option T) (held : Option ListenerRef) → RestTurn (ends_by (record { reply = x; message = message; held = held })) c o → o ≡ ends [] (record { reply = x; message = message; held = held }) c
   left c o x message None k = k
   left c o x message (Some h) k = k
 

@@ -4,7 +4,7 @@ pub use Rattle.std.proofs.lemmas.Bool.Decides.{nat_tests}
 pub use Rattle.concurrent_queue.proofs.Interface.{shows, IsIdle, Comes, Does, does, Finds, ranks, did}
 pub use Rattle.concurrent_queue.specs.Contents.{Contents}
 pub use Rattle.concurrent_queue.specs.Queue.{Queue, Phase, asked, after, Continues, Answers, IsInRange, is_filled, is_full_at, marked}
-pub use Rattle.concurrent_queue.specs.Step.{Fits, rank, IsQueueStep, mark_of, Seat, FitsAt}
+pub use Rattle.concurrent_queue.specs.Step.{Fits, rank, IsQueueStep, mark_of, ActiveQueueCall, FitsAt}
 pub use Rattle.concurrent_queue.specs.declared.call.QueueAsk.{QueueAsk}
 pub use Rattle.concurrent_queue.specs.declared.call.QueueMark.{QueueMark}
 pub use Rattle.concurrent_queue.specs.declared.call.QueueReply.{QueueReply}
@@ -19,7 +19,7 @@ pub use Rattle.channel_calls.specs.Answered.{answered_next, over, sent_next, for
 pub use Rattle.channel_calls.specs.Asks.{kept_by, asks_listener, first}
 pub use Rattle.channel_calls.specs.Deeds.{inserted, registered, Done}
 pub use Rattle.channel_calls.specs.Moves.{Channel, Effect, channel, Turned, Tried, seats, phase, IsTaken, Hastens, Made, IsStepOver, listens, registers, IsNewCall, IsChannelStep, tells_all, raises, Moves, Worked, TakesRoomFor, tells_one, tells_more, leaves, lowers, untouched, on_count}
-pub use Rattle.channel_calls.specs.Parts.{Parts, Roster, Listeners, listeners, with_listeners, waits, is_raised, count}
+pub use Rattle.channel_calls.specs.Parts.{Parts, WaitLists, Listeners, listeners, with_listeners, waits, is_raised, count}
 pub use Rattle.channel_calls.specs.Plain.{parts_of, rooms_of, DoesPlain}
 pub use Rattle.channel_calls.specs.Several.{Gathered, with_last}
 pub use Rattle.channel_calls.specs.Turns.{line_of, leaving, pending_reply, refused_reply, ends_by, again, inserted_next, registered_next, says, ask_of, refused_next, closer_ending, message_of, nothing_kept, most, pends_by, unlistened, dropper, told_all_next, room_next, roomless, lowered_next, counted_next, loaded_next, raised_next}
@@ -32,22 +32,22 @@ pub use Rattle.channel_calls.specs.declared.mark.Mark.{Mark}
 pub use Rattle.channel_calls.specs.declared.mark.Mark.TheVariants.{Nothing}
 pub use Rattle.channel_calls.specs.declared.plain.PlainChannel.{PlainChannel}
 pub use Rattle.channel_calls.specs.declared.reply.Reply.{Reply}
-pub use Rattle.channel_calls.specs.declared.stage.Aim.{Aim}
+pub use Rattle.channel_calls.specs.declared.stage.Purpose.{Purpose}
 pub use Rattle.channel_calls.specs.declared.stage.Closer.{Closer}
 pub use Rattle.channel_calls.specs.declared.stage.Ending.{Ending}
-pub use Rattle.channel_calls.specs.declared.stage.Held.{Held}
-pub use Rattle.channel_calls.specs.declared.stage.Kept.{Kept}
-pub use Rattle.channel_calls.specs.declared.stage.Line.{Line}
-pub use Rattle.channel_calls.specs.declared.stage.Line.TheVariants.{Sends, Receives, Streams, Closings}
+pub use Rattle.channel_calls.specs.declared.stage.ListenerRef.{ListenerRef}
+pub use Rattle.channel_calls.specs.declared.stage.Returned.{Returned}
+pub use Rattle.channel_calls.specs.declared.stage.WaitList.{WaitList}
+pub use Rattle.channel_calls.specs.declared.stage.WaitList.TheVariants.{Sends, Receives, Streams, Closings}
 pub use Rattle.channel_calls.specs.declared.stage.Making.{Making}
 pub use Rattle.channel_calls.specs.declared.stage.Side.{Side}
 pub use Rattle.channel_calls.specs.declared.stage.Stage.{Stage}
 pub use Rattle.channel_calls.specs.declared.stage.Stage.TheVariants.{Trying, Working, Finished}
-pub use Rattle.channel_calls.specs.declared.stage.Turn.{Turn}
-pub use Rattle.channel_calls.specs.declared.stage.Turn.TheVariants.{Tries, Works, Ends}
+pub use Rattle.channel_calls.specs.declared.stage.NextStep.{NextStep}
+pub use Rattle.channel_calls.specs.declared.stage.NextStep.TheVariants.{Tries, Works, Ends}
 pub use Rattle.channel_calls.specs.declared.stage.Waiting.{Waiting}
-pub use Rattle.channel_calls.specs.declared.stage.Work.{Work}
-pub use Rattle.channel_calls.specs.declared.stage.Work.TheVariants.{TellReceive, TellStreams, TellSend, Insert, Register, Leave, TellSends, TakeRoom, TellAll, Lower, Count, Load, Raise}
+pub use Rattle.channel_calls.specs.declared.stage.ListStep.{ListStep}
+pub use Rattle.channel_calls.specs.declared.stage.ListStep.TheVariants.{TellReceive, TellStreams, TellSend, Insert, Register, Leave, TellSends, TakeRoom, TellAll, Lower, Count, Load, Raise}
 pub use Rattle.channel_steps.proofs.Interface.{fresh_waits, same_line, end_on, run_none, known_next, fits_after, none_after, after_lone, lone_goes, lone_ends, messages_counted, messages_moved}
 pub use Rattle.channel_steps.specs.Count.{counted, brought_in, taken_out}
 pub use Rattle.channel_steps.specs.Left.{steps_left}

@@ -1,9 +1,9 @@
 -- A step on a list or on a count of a call that is alone at work.
-use Rattle.channel_steps.proofs.solo.Words.{zero, suc, ◌∙◌, ◌≡◌, ℕ, ◌+◌, ◌==◌, nat_lt, Bool, true, false, if◌then◌else◌, [], Option, None, Some, inl, inr, refl, sym, ap, subst, Phase, Key, Reply, Closer, Ending, Held, Line, Sends, Receives, Streams, Closings, Making, Side, Stage, Turn, Tries, Works, Ends, Waiting, Work, TellReceive, TellStreams, TellSend, TellSends, TakeRoom, TellAll, Insert, Register, Leave, Lower, Count, Load, Raise, listeners, waits, count, is_raised, most, line_of, message_of, ask_of, leaving, nothing_kept, ends_by, again, pends_by, pending_reply, unlistened, closer_ending, dropper, told_all_next, room_next, roomless, lowered_next, counted_next, loaded_next, raised_next, Channel, Effect, Turned, Worked, TakesRoomFor, tells_one, tells_more, tells_all, registers, leaves, lowers, raises, untouched, on_count, Outcome, Where, after_waking, answers, ends, receives_several, closes, clones}
+use Rattle.channel_steps.proofs.solo.Words.{zero, suc, ◌∙◌, ◌≡◌, ℕ, ◌+◌, ◌==◌, nat_lt, Bool, true, false, if◌then◌else◌, [], Option, None, Some, inl, inr, refl, sym, ap, subst, Phase, Key, Reply, Closer, Ending, ListenerRef, WaitList, Sends, Receives, Streams, Closings, Making, Side, Stage, NextStep, Tries, Works, Ends, Waiting, ListStep, TellReceive, TellStreams, TellSend, TellSends, TakeRoom, TellAll, Insert, Register, Leave, Lower, Count, Load, Raise, listeners, waits, count, is_raised, most, line_of, message_of, ask_of, leaving, nothing_kept, ends_by, again, pends_by, pending_reply, unlistened, closer_ending, dropper, told_all_next, room_next, roomless, lowered_next, counted_next, loaded_next, raised_next, Channel, Effect, Turned, Worked, TakesRoomFor, tells_one, tells_more, tells_all, registers, leaves, lowers, raises, untouched, on_count, Outcome, Where, after_waking, answers, ends, receives_several, closes, clones}
 use Rattle.channel_calls.specs.Marks.{up}
 use Rattle.concurrent_queue.specs.declared.call.QueueAsk.TheVariants as ask
 use Rattle.channel_calls.specs.declared.reply.Reply.TheVariants as reply
-use Rattle.channel_calls.specs.declared.stage.Aim.TheVariants as aim
+use Rattle.channel_calls.specs.declared.stage.Purpose.TheVariants as aim
 use Rattle.channel_calls.specs.declared.stage.Making.TheVariants as making
 use Rattle.channel_steps.proofs.LeftFacts.{raised_now}
 use Rattle.channel_steps.proofs.solo.Rest.{RestTry, RestWork, RestTurn, RestLoad, ends_rest, gathers_all}
@@ -11,18 +11,18 @@ use Rattle.channel_steps.proofs.solo.AnswerFacts.{given_then}
 
 module _ {T W : Type 0} where
   -- what a step of this work leaves to be done, and what is made of the rest
-  pub record Backs (c : Channel T W) (w : Work T W) (e : Effect T W) (r : Option (Reply T)) (s : Stage (Phase T) T W) : Type 0 where
-    pub turn : Turn T W
+  pub record Backs (c : Channel T W) (w : ListStep T W) (e : Effect T W) (r : Option (Reply T)) (s : Stage (Phase T) T W) : Type 0 where
+    pub turn : NextStep T W
     pub turned : Turned turn r s
     pub back : (o : Outcome T W) → RestTurn turn e.channel o → RestWork w c (after_waking e.woken o)
     pub queue : e.channel.queue ≡ c.queue
 
-  at_effect : (c : Channel T W) (w : Work T W) (e e0 : Effect T W) (r : Option (Reply T)) (s : Stage (Phase T) T W) → e ≡ e0 → Backs c w e0 r s → Backs c w e r s
+  at_effect : (c : Channel T W) (w : ListStep T W) (e e0 : Effect T W) (r : Option (Reply T)) (s : Stage (Phase T) T W) → e ≡ e0 → Backs c w e0 r s → Backs c w e r s
   at_effect c w e e0 r s h b = subst (λ (x : Effect T W). Backs c w x r s) (sym h) b
 
   module _ (c : Channel T W) (r : Option (Reply T)) (s : Stage (Phase T) T W) where
     -- it tells, and then the call ends
-    then_ends : (w : Work T W) (e : Effect T W) (x : Ending T) → Turned (ends_by x) r s → ((o : Outcome T W) → o ≡ ends [] x e.channel → RestWork w c (after_waking e.woken o))
+    then_ends : (w : ListStep T W) (e : Effect T W) (x : Ending T) → Turned (ends_by x) r s → ((o : Outcome T W) → o ≡ ends [] x e.channel → RestWork w c (after_waking e.woken o))
         → e.channel.queue ≡ c.queue → Backs c w e r s
     then_ends w e x h back queue = record { turn = ends_by x; turned = h; back = λ o k. back o (ends_rest e.channel o x k); queue = queue }
 
@@ -34,7 +34,7 @@ module _ {T W : Type 0} where
     take_room n (inl t) = record { turn = room_next n; turned = t; back = λ o k. inr (room_back n o k); queue = refl }
     take_room n (inr t) = record { turn = roomless; turned = t.1; back = λ o k. inl (t.0, k); queue = refl }
 
-    tell_all : (line : Line) (by : Closer) → Turned (told_all_next line by) r s → Backs c (TellAll line by) (tells_all line c) r s
+    tell_all : (line : WaitList) (by : Closer) → Turned (told_all_next line by) r s → Backs c (TellAll line by) (tells_all line c) r s
     tell_all Closings by h =
         then_ends (TellAll Closings by) (tells_all Closings c) (closer_ending by true) h (λ o k. ap (λ (p : Outcome T W). after_waking (tells_all Closings c).woken p) k) refl
     tell_all line by h =
@@ -57,7 +57,7 @@ module _ {T W : Type 0} where
           queue = refl;
         }
 
-    left_queue : (held : Option Held) → (leaves held c).channel.queue ≡ c.queue
+    left_queue : (held : Option ListenerRef) → (leaves held c).channel.queue ≡ c.queue
     left_queue None = refl
     left_queue (Some h) = refl
 
@@ -138,7 +138,7 @@ module _ {T W : Type 0} where
           queue = raised_queue b side n;
         }
 
-  pub work_backs : (c : Channel T W) (w : Work T W) (e : Effect T W) (r : Option (Reply T)) (s : Stage (Phase T) T W) → Worked c w e r s → Backs c w e r s
+  pub work_backs : (c : Channel T W) (w : ListStep T W) (e : Effect T W) (r : Option (Reply T)) (s : Stage (Phase T) T W) → Worked c w e r s → Backs c w e r s
   work_backs c (TellReceive x) e r s h = at_effect c _ e _ r s h.0 (record { turn = Works (TellStreams x); turned = h.1; back = λ o k. ap (λ (p : Outcome T W). after_waking (tells_one Receives c).woken p) k; queue = refl })
   work_backs c (TellStreams x) e r s h = at_effect c _ e _ r s h.0 (then_ends c r s (TellStreams x) (tells_all Streams c) x h.1 (λ o k. ap (λ (p : Outcome T W). after_waking (tells_all Streams c).woken p) k) refl)
   work_backs c (TellSend x) e r s h = at_effect c _ e _ r s h.0 (then_ends c r s (TellSend x) (tells_one Sends c) x h.1 (λ o k. ap (λ (p : Outcome T W). after_waking (tells_one Sends c).woken p) k) refl)

@@ -4,11 +4,11 @@ use Rattle.concurrent_queue.specs.Queue.{Phase, Stage, trying}
 use Rattle.event_listener.specs.declared.key.Key.{Key}
 use Rattle.channel_calls.specs.Moves.{Channel}
 use Rattle.channel_calls.specs.declared.ask.ChannelAsk.{ChannelAsk}
-use Rattle.channel_calls.specs.declared.stage.Aim.TheVariants as aim
-use Rattle.channel_calls.specs.declared.stage.Line.{Line}
+use Rattle.channel_calls.specs.declared.stage.Purpose.TheVariants as aim
+use Rattle.channel_calls.specs.declared.stage.WaitList.{WaitList}
 use Rattle.channel_calls.specs.declared.stage.Stage as stage
 use Rattle.channel_calls.specs.declared.stage.Stage.TheVariants.{Trying, Working}
-use Rattle.channel_calls.specs.declared.stage.Work.TheVariants.{TellReceive, TellStreams, TellSend, Leave}
+use Rattle.channel_calls.specs.declared.stage.ListStep.TheVariants.{TellReceive, TellStreams, TellSend, Leave}
 use Rattle.channel_steps.specs.Configuration.{ActiveCall, Configuration}
 use Rattle.channel_steps.specs.every_run.Ends.{Each}
 use Rattle.channel_steps.specs.every_run.Waits.{Waits, Any}
@@ -31,7 +31,7 @@ module _ {T W : Type 0} where
   total weigh (u ∷ us) = weigh u.ask u.at + total weigh us
 
   -- the poll that listens on this list under this key tries again, or it has its answer and leaves the list at its end
-  abbrev pub HoldsListener : Line → Key → stage.Stage (Phase T) T W → Type 0
+  abbrev pub HoldsListener : WaitList → Key → stage.Stage (Phase T) T W → Type 0
   HoldsListener line key (Trying f (aim.Poll at (Some k) task)) = (at ≡ line) × (k ≡ key)
   HoldsListener line key (Working (TellReceive x)) = x.held ≡ Some (record { line = line; key = key })
   HoldsListener line key (Working (TellStreams x)) = x.held ≡ Some (record { line = line; key = key })
@@ -39,7 +39,7 @@ module _ {T W : Type 0} where
   HoldsListener line key (Working (Leave x)) = x.held ≡ Some (record { line = line; key = key })
   HoldsListener line key at = ⊥
 
-  module _ (line : Line) (Enough : Channel T W → ℕ → Type 0) (weigh : ChannelAsk T W → stage.Stage (Phase T) T W → ℕ) (Holds : Key → stage.Stage (Phase T) T W → Type 0) where
+  module _ (line : WaitList) (Enough : Channel T W → ℕ → Type 0) (weigh : ChannelAsk T W → stage.Stage (Phase T) T W → ℕ) (Holds : Key → stage.Stage (Phase T) T W → Type 0) where
     -- where one waits on this list, what the calls under way count for is enough, or a call has its listener in hand
     abbrev pub AreOwed : Configuration T W → Type 0
     AreOwed s =

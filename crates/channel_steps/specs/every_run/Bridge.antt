@@ -9,7 +9,7 @@ use Rattle.concurrent_queue.specs.Capacity.{capacity_of}
 use Rattle.concurrent_queue.specs.Deeds as cell
 use Rattle.concurrent_queue.specs.Effects as cell_effect
 use Rattle.concurrent_queue.specs.Made.{new_cells}
-use Rattle.concurrent_queue.specs.machine.Ahead.{Leads}
+use Rattle.concurrent_queue.specs.machine.FastPath.{Leads}
 use Rattle.concurrent_queue.specs.Walked.{CallMakes, StateMakes}
 use Rattle.concurrent_queue.specs.Walked as whole
 use Rattle.concurrent_queue.specs.declared.call.QueueReply.{QueueReply}
@@ -26,7 +26,7 @@ use Rattle.channel_calls.specs.Walks.{Takes, ChannelMakes, WalkedFrom}
 use Rattle.channel_calls.specs.declared.ask.ChannelAsk.{ChannelAsk}
 use Rattle.channel_calls.specs.declared.mark.Mark.{Mark}
 use Rattle.channel_calls.specs.declared.reply.Reply.{Reply}
-use Rattle.channel_calls.specs.declared.stage.Kept.{Kept}
+use Rattle.channel_calls.specs.declared.stage.Returned.{Returned}
 use Rattle.channel_calls.specs.declared.stage.Stage.{Stage}
 use Rattle.channel_steps.specs.Run.{IsRun, Next, NextConfiguration, Touches, new_configuration}
 use Rattle.channel_steps.specs.Configuration.{Configuration, Represents}
@@ -55,7 +55,7 @@ pub record Happening (T W : Type 0) : Type 0 where
 -- what a call answers, and what it leaves to its operation
 pub record Given (T : Type 0) : Type 0 where
   pub reply : Reply T
-  pub kept : Kept T
+  pub kept : Returned T
 
 -- a moment: what the cells hold, the parties with their calls under way, the channel with these calls, and the sink of whom was woken
 pub record MergeMoment (T W S : Type 0) : Type 0 where
@@ -65,7 +65,7 @@ pub record MergeMoment (T W S : Type 0) : Type 0 where
   pub sink : S
 
 module _ {T : Type 0} where
-  abbrev pub given_by : Option (Reply T) → Option (Kept T) → List (Given T)
+  abbrev pub given_by : Option (Reply T) → Option (Returned T) → List (Given T)
   given_by (Some r) (Some kept) = record { reply = r; kept = kept } ∷ []
   given_by _ _ = []
 
@@ -189,7 +189,7 @@ module _ {T W X : Type 0} (did : Deed T W → X → X → Type 0) (cells_did : c
   -- a call that was walked to its answer has done steps that are its party's next events, whatever the party does then
   abbrev pub WalksAct : Type 0
   WalksAct =
-      (form : QueueForm) (ask : ChannelAsk T W) (s t : X) (r : Reply T) (kept : Kept T) → QueueIsWalked form → WalkedFrom did (first ask) s r kept t
+      (form : QueueForm) (ask : ChannelAsk T W) (s t : X) (r : Reply T) (kept : Returned T) → QueueIsWalked form → WalkedFrom did (first ask) s r kept t
       → (os : List (Act T W)) × Along os s t
       × ((xs : List (Event T W)) (more : List (Given T)) → Acts form None xs more → Acts form None (begins ask ∷ map does os ++ xs) (record { reply = r; kept = kept } ∷ more))
 

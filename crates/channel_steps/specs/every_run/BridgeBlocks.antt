@@ -13,10 +13,10 @@ use Rattle.channel_calls.specs.declared.ask.ChannelAsk.TheVariants.{PollSend, Po
 use Rattle.channel_calls.specs.declared.blocked.Blocked.{Blocked}
 use Rattle.channel_calls.specs.declared.blocked.Blocked.TheVariants.{Send, Receive}
 use Rattle.channel_calls.specs.declared.reply.Reply.{Reply}
-use Rattle.channel_calls.specs.declared.stage.Kept.{Kept}
+use Rattle.channel_calls.specs.declared.stage.Returned.{Returned}
 use Rattle.channel_calls.specs.declared.stage.Stage.{Stage}
 use Rattle.channel_calls.specs.declared.stage.Stage.TheVariants.{Working}
-use Rattle.channel_calls.specs.declared.stage.Work.TheVariants.{Register}
+use Rattle.channel_calls.specs.declared.stage.ListStep.TheVariants.{Register}
 
 module _ {T W : Type 0} where
   -- its first poll, which tries first and has no listener yet
@@ -34,19 +34,19 @@ module _ {T W : Type 0} where
 
 module _ {T W X : Type 0} (did : Deed T W → X → X → Type 0) where
   -- polls one after another, the first of which asks this. Each but the last waits, and leaves its listener to the next one
-  abbrev pub PollsInTurn : ℕ → ChannelAsk T W → Blocked T → X → Reply T → Kept T → X → Type 0
+  abbrev pub PollsInTurn : ℕ → ChannelAsk T W → Blocked T → X → Reply T → Returned T → X → Type 0
   PollsInTurn zero ask b s r kept t = WalkedFrom did (first ask) s r kept t
   PollsInTurn (suc n) ask b s r kept t =
       (key : Key) × (x : X) × WalkedFrom did (first ask) s (still_waits b key).reply (still_waits b key).kept x
       × (next : ChannelAsk T W) × MayAskNext b key next × PollsInTurn n next b x r kept t
 
   -- calls that don't wait, and polls from the first one to that which answers
-  abbrev pub InCalls : Blocked T → X → Reply T → Kept T → X → Type 0
+  abbrev pub InCalls : Blocked T → X → Reply T → Returned T → X → Type 0
   InCalls b s r kept t = (n : ℕ) × (x : X) × Looks did n b s x × (task : W) × (m : ℕ) × PollsInTurn m (first_poll b task) b x r kept t
 
   -- It was refused its task before it ever slept: its first poll stands for ever where it was to register this listener, and beside
   -- it a poll is made that is refused its task, as by another party.
-  abbrev pub IsLeft : Blocked T → X → Reply T → Kept T → X → Type 0
+  abbrev pub IsLeft : Blocked T → X → Reply T → Returned T → X → Type 0
   IsLeft b s r kept t =
       (n : ℕ) × (x : X) × Looks did n b s x × (task : W) × (key : Key) × (at : Stage (QueueCall T) T W) × Takes (first (first_poll b task)) at None
       × (m : ℕ) × (y : X) × Leads did m x at y (Working (Register (waiting_of b) key task)) × WalkedFrom did (first (poll_refused b key)) y r kept t
@@ -66,5 +66,5 @@ module _ {T W X : Type 0} (did : Deed T W → X → X → Type 0) (asked : Optio
 -- what a call that blocks has done is what these calls do, its rests aside; who has no task of its own may take any for the first poll
 abbrev pub BlocksInCalls : {T W X : Type 0} → (Deed T W → X → X → Type 0) → (Option W → X → X → Type 0) → (X → X → Type 0) → Type 0
 BlocksInCalls {T} {W} {X} did asked slept =
-    (b : Blocked T) (task : W) (s : X) (r : Reply T) (kept : Kept T) (t : X) → Blocks did asked slept b s r kept t
+    (b : Blocked T) (task : W) (s : X) (r : Reply T) (kept : Returned T) (t : X) → Blocks did asked slept b s r kept t
     → InCalls (Rested did asked slept) b s r kept t ⊎ IsLeft (Rested did asked slept) b s r kept t

@@ -3,12 +3,12 @@ use Rattle.std.specs.Prelude.{◌≡◌, ℕ, ◌≤◌, false, List, ◌∷◌,
 use Rattle.concurrent_queue.specs.Queue.{Phase, Stage, trying, taken}
 use Rattle.event_listener.specs.declared.key.Key.{Key}
 use Rattle.channel_calls.specs.declared.mark.Mark.TheVariants.{Close}
-use Rattle.channel_calls.specs.declared.stage.Aim.TheVariants as aim
-use Rattle.channel_calls.specs.declared.stage.Line.{Line}
-use Rattle.channel_calls.specs.declared.stage.Line.TheVariants.{Sends, Receives, Streams, Closings}
+use Rattle.channel_calls.specs.declared.stage.Purpose.TheVariants as aim
+use Rattle.channel_calls.specs.declared.stage.WaitList.{WaitList}
+use Rattle.channel_calls.specs.declared.stage.WaitList.TheVariants.{Sends, Receives, Streams, Closings}
 use Rattle.channel_calls.specs.declared.stage.Stage as stage
 use Rattle.channel_calls.specs.declared.stage.Stage.TheVariants.{Trying, Working}
-use Rattle.channel_calls.specs.declared.stage.Work.TheVariants.{TellSend, TellAll, Leave}
+use Rattle.channel_calls.specs.declared.stage.ListStep.TheVariants.{TellSend, TellAll, Leave}
 use Rattle.channel_steps.specs.Moments.{MarkedMoment, Shut}
 use Rattle.channel_steps.specs.Configuration.{ActiveCall, Configuration, AllKnown, IsBalanced}
 use Rattle.channel_steps.specs.Run.{IsRun, NextConfiguration, new_configuration}
@@ -18,14 +18,14 @@ use Rattle.channel_steps.specs.every_run.Ends.{Each}
 use Rattle.channel_steps.specs.every_run.Waits.{Waits, WaitApart, Any}
 
 -- in which order a closing tells the lists
-abbrev pub place : Line → ℕ
+abbrev pub place : WaitList → ℕ
 place Sends = 0
 place Receives = 1
 place Streams = 2
 place Closings = 3
 
 -- one that tells the first list next has the second one to tell
-abbrev pub IsToTell : Line → Line → Type 0
+abbrev pub IsToTell : WaitList → WaitList → Type 0
 IsToTell next line = place next ≤ place line
 
 module _ {T : Type 0} where
@@ -42,38 +42,38 @@ module _ {T W : Type 0} where
   HasClosed (d ∷ ds) = (d.mark ≡ Close) ⊎ HasClosed ds
 
   -- this list is yet to be told
-  abbrev pub HasToTell : Line → stage.Stage (Phase T) T W → Type 0
+  abbrev pub HasToTell : WaitList → stage.Stage (Phase T) T W → Type 0
   HasToTell line (Working (TellAll next closer)) = IsToTell next line
   HasToTell line at = ⊥
 
   -- the poll that listens on this list under this key tries again and has found no cause to wait, or it has its answer and
   -- leaves the list next
-  abbrev pub LooksAgain : Line → Key → stage.Stage (Phase T) T W → Type 0
+  abbrev pub LooksAgain : WaitList → Key → stage.Stage (Phase T) T W → Type 0
   LooksAgain line key (Trying f (aim.Poll at (Some k) task)) = (at ≡ line) × (k ≡ key) × HasNoCauseToWait f.stage
   LooksAgain line key (Working (TellSend x)) = x.held ≡ Some (record { line = line; key = key })
   LooksAgain line key (Working (Leave x)) = x.held ≡ Some (record { line = line; key = key })
   LooksAgain line key at = ⊥
 
   -- who answers for one that waits on a closed channel: the call that closed it, or such a poll
-  abbrev pub AnswersClosed : Line → Key → ActiveCall T W → Type 0
+  abbrev pub AnswersClosed : WaitList → Key → ActiveCall T W → Type 0
   AnswersClosed line key u = (HasClosed u.marks × HasToTell line u.at) ⊎ LooksAgain line key u.at
 
   -- on a closed channel a call under way answers for each that waits
   abbrev pub ClosingIsOwed : Configuration T W → Type 0
-  ClosingIsOwed s = (line : Line) (key : Key) → Shut s.now → Waits line key s.now → Any (AnswersClosed line key) s.under_way
+  ClosingIsOwed s = (line : WaitList) (key : Key) → Shut s.now → Waits line key s.now → Any (AnswersClosed line key) s.under_way
 
   -- for one whose listener no call under way has in hand, as where its poll ended pending, the call that closed the channel is
   -- under way and has its list to tell
   abbrev pub PendingIsOwedTheClosing : Configuration T W → Type 0
   PendingIsOwedTheClosing s =
-      (line : Line) (key : Key) → Shut s.now → Waits line key s.now → Each (λ u. LooksAgain line key u.at → ⊥) s.under_way
+      (line : WaitList) (key : Key) → Shut s.now → Waits line key s.now → Each (λ u. LooksAgain line key u.at → ⊥) s.under_way
       → Any (λ u. HasClosed u.marks × HasToTell line u.at) s.under_way
 
   -- with what every run needs to keep it: what is known of its calls, and no listener twice on a list
   pub record ClosingSound (s : Configuration T W) : Type 0 where
     pub known : AllKnown s.now s.under_way
     pub balanced : IsBalanced s.now.queue
-    pub apart : (line : Line) → WaitApart line s.now
+    pub apart : (line : WaitList) → WaitApart line s.now
     pub owed : ClosingIsOwed s
 
 module _ (T W : Type 0) where

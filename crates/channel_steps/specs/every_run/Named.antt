@@ -8,8 +8,8 @@ use Rattle.channel_calls.specs.Parts.{Parts}
 use Rattle.channel_calls.specs.Walks.{WalkedFrom}
 use Rattle.channel_calls.specs.declared.ask.ChannelAsk.{ChannelAsk}
 use Rattle.channel_calls.specs.declared.reply.Reply.{Reply}
-use Rattle.channel_calls.specs.declared.stage.Kept.{Kept}
-use Rattle.channel_calls.specs.declared.stage.Turn.{Turn}
+use Rattle.channel_calls.specs.declared.stage.Returned.{Returned}
+use Rattle.channel_calls.specs.declared.stage.NextStep.{NextStep}
 use Rattle.channel_steps.specs.declared.run.Step.{Step}
 use Rattle.channel_steps.specs.declared.run.Step.TheVariants as step
 use Rattle.channel_steps.specs.every_run.Bridge.{Event, begins, does, Happening, Given, Acts, own, steps_of, opened_parts, InOneOrder, LastsFor}
@@ -35,7 +35,7 @@ module _ {W V : Type 0} (put : W → V) where
 -- tasks in its turn and in its deeds: whatever these deeds were done to.
 abbrev pub WalksHaveAnyTasks : {T W V X : Type 0} → (W → V) → (Deed T W → X → X → Type 0) → Type 0
 WalksHaveAnyTasks {T} {W} {V} {X} put did =
-    (turn : Turn T W) (s : X) (r : Reply T) (kept : Kept T) (t : X) → WalkedFrom did turn s r kept t → WalkedFrom (DidSo put did) (turn_by put turn) s r kept t
+    (turn : NextStep T W) (s : X) (r : Reply T) (kept : Returned T) (t : X) → WalkedFrom did turn s r kept t → WalkedFrom (DidSo put did) (turn_by put turn) s r kept t
 
 -- ---- a merge
 

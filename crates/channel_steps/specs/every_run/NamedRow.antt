@@ -14,7 +14,7 @@ use Rattle.channel_calls.specs.Turns.{leaving, nothing_kept}
 use Rattle.channel_calls.specs.declared.ask.ChannelAsk.{ChannelAsk}
 use Rattle.channel_calls.specs.declared.ask.ChannelAsk.TheVariants.{PollClosed, Close}
 use Rattle.channel_calls.specs.declared.reply.Reply.TheVariants.{ClosedPoll, Closed}
-use Rattle.channel_calls.specs.declared.stage.Line.TheVariants.{Sends, Receives, Streams, Closings}
+use Rattle.channel_calls.specs.declared.stage.WaitList.TheVariants.{Sends, Receives, Streams, Closings}
 use Rattle.channel_steps.specs.every_run.Bridge.{begins, does, on_queue, on_roster, Happening, Given, Acts, own, opened_parts, InOneOrder, LastsFor}
 use Rattle.channel_steps.specs.every_run.Named.{IsBehind, task_of}
 

@@ -4,8 +4,8 @@ use Rattle.event_listener.specs.Lists.{Notice}
 use Rattle.event_listener.specs.declared.key.Key.{Key}
 use Rattle.channel_calls.specs.Moves.{Channel}
 use Rattle.channel_calls.specs.Parts.{listeners}
-use Rattle.channel_calls.specs.declared.stage.Line.{Line}
-use Rattle.channel_calls.specs.declared.stage.Line.TheVariants.{Sends, Receives, Streams, Closings}
+use Rattle.channel_calls.specs.declared.stage.WaitList.{WaitList}
+use Rattle.channel_calls.specs.declared.stage.WaitList.TheVariants.{Sends, Receives, Streams, Closings}
 use Rattle.channel_steps.specs.Moments.{Open, Shut}
 use Rattle.channel_steps.specs.Run.{IsRun, NextConfiguration, new_configuration}
 use Rattle.channel_steps.specs.Configuration.{Configuration, AllKnown, IsBalanced}
@@ -17,14 +17,14 @@ use Rattle.channel_steps.specs.every_run.Waits.{Waits, WaitApart, Any}
 
 -- how one of a list may be told while the channel is open: a send or a receive as one more, a stream by the default, and
 -- who waits for the closing not at all
-abbrev pub MayBeTold : Line → Bool → Type 0
+abbrev pub MayBeTold : WaitList → Bool → Type 0
 MayBeTold Sends additional = additional ≡ true
 MayBeTold Receives additional = additional ≡ true
 MayBeTold Streams additional = additional ≡ false
 MayBeTold Closings additional = ⊥
 
 -- the lists of which one is told at a time
-abbrev pub IsOneByOne : Line → Type 0
+abbrev pub IsOneByOne : WaitList → Type 0
 IsOneByOne Sends = Unit {0}
 IsOneByOne Receives = Unit {0}
 IsOneByOne line = ⊥
@@ -41,17 +41,17 @@ AnyTold additional (w ∷ ws) = (w.1.additional ≡ additional) ⊎ AnyTold addi
 
 module _ {T W : Type 0} where
   -- those of a list that were told
-  abbrev pub told_of : Line → Channel T W → List (Key × Notice Unit)
+  abbrev pub told_of : WaitList → Channel T W → List (Key × Notice Unit)
   told_of line c = (listeners line c.roster).told
 
   -- how those who are told now were told
   pub record TellingsFit (s : Configuration T W) : Type 0 where
     -- while the channel is open
-    pub while_open : (line : Line) → Open s.now → EachTold (MayBeTold line) (told_of line s.now)
+    pub while_open : (line : WaitList) → Open s.now → EachTold (MayBeTold line) (told_of line s.now)
     -- where one send or receive was told by the default the channel is closed, and whoever still waits on that list is in
     -- the hand of a poll under way that has found no cause to wait
     pub by_default :
-        (line : Line) → IsOneByOne line → AnyTold false (told_of line s.now)
+        (line : WaitList) → IsOneByOne line → AnyTold false (told_of line s.now)
         → Shut s.now × ((key : Key) → Waits line key s.now → Any (λ u. LooksAgain line key u.at) s.under_way)
 
   -- with what every run needs to keep it: what is known of its calls, that no listener is twice on a list, and that a channel
@@ -59,7 +59,7 @@ module _ {T W : Type 0} where
   pub record TellingsSound (s : Configuration T W) : Type 0 where
     pub known : AllKnown s.now s.under_way
     pub balanced : IsBalanced s.now.queue
-    pub apart : (line : Line) → WaitApart line s.now
+    pub apart : (line : WaitList) → WaitApart line s.now
     pub closers : Each (λ u. HasClosed u.marks → Shut s.now) s.under_way
     pub fit : TellingsFit s
 

@@ -4,10 +4,10 @@ use Rattle.concurrent_queue.specs.Queue.{Phase, Stage, appended}
 use Rattle.channel_calls.specs.Moves.{Channel}
 use Rattle.channel_calls.specs.declared.ask.ChannelAsk.{ChannelAsk}
 use Rattle.channel_calls.specs.declared.ask.ChannelAsk.TheVariants.{TrySend, ForceSend, PollSend, PollRecv}
-use Rattle.channel_calls.specs.declared.stage.Line.TheVariants.{Receives}
+use Rattle.channel_calls.specs.declared.stage.WaitList.TheVariants.{Receives}
 use Rattle.channel_calls.specs.declared.stage.Stage as stage
 use Rattle.channel_calls.specs.declared.stage.Stage.TheVariants.{Trying, Working}
-use Rattle.channel_calls.specs.declared.stage.Work.TheVariants.{TellReceive}
+use Rattle.channel_calls.specs.declared.stage.ListStep.TheVariants.{TellReceive}
 use Rattle.channel_steps.specs.Configuration.{Configuration}
 use Rattle.channel_steps.specs.Run.{IsRun, NextConfiguration, new_configuration}
 use Rattle.channel_steps.specs.declared.party.Entry.{Entry}

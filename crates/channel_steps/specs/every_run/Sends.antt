@@ -4,11 +4,11 @@ use Rattle.concurrent_queue.specs.Queue.{Phase, Stage, displaced, taken}
 use Rattle.channel_calls.specs.Moves.{Channel}
 use Rattle.channel_calls.specs.declared.ask.ChannelAsk.{ChannelAsk}
 use Rattle.channel_calls.specs.declared.ask.ChannelAsk.TheVariants.{ForceSend, TryRecv, RecvMany, PollSend, PollRecv, PollNext}
-use Rattle.channel_calls.specs.declared.stage.Aim.TheVariants as aim
-use Rattle.channel_calls.specs.declared.stage.Line.TheVariants.{Sends}
+use Rattle.channel_calls.specs.declared.stage.Purpose.TheVariants as aim
+use Rattle.channel_calls.specs.declared.stage.WaitList.TheVariants.{Sends}
 use Rattle.channel_calls.specs.declared.stage.Stage as stage
 use Rattle.channel_calls.specs.declared.stage.Stage.TheVariants.{Trying, Working}
-use Rattle.channel_calls.specs.declared.stage.Work.TheVariants.{TellSend, TellSends}
+use Rattle.channel_calls.specs.declared.stage.ListStep.TheVariants.{TellSend, TellSends}
 use Rattle.channel_steps.specs.Moments.{Shut}
 use Rattle.channel_steps.specs.Configuration.{Configuration}
 use Rattle.channel_steps.specs.Run.{IsRun, NextConfiguration, new_configuration}

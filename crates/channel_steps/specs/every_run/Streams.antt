@@ -4,11 +4,11 @@ use Rattle.concurrent_queue.specs.Queue.{Phase, Stage, appended}
 use Rattle.event_listener.specs.declared.key.Key.{Key}
 use Rattle.channel_calls.specs.declared.ask.ChannelAsk.{ChannelAsk}
 use Rattle.channel_calls.specs.declared.ask.ChannelAsk.TheVariants.{TrySend, ForceSend, PollSend}
-use Rattle.channel_calls.specs.declared.stage.Aim.TheVariants as aim
-use Rattle.channel_calls.specs.declared.stage.Line.TheVariants.{Streams}
+use Rattle.channel_calls.specs.declared.stage.Purpose.TheVariants as aim
+use Rattle.channel_calls.specs.declared.stage.WaitList.TheVariants.{Streams}
 use Rattle.channel_calls.specs.declared.stage.Stage as stage
 use Rattle.channel_calls.specs.declared.stage.Stage.TheVariants.{Trying, Working}
-use Rattle.channel_calls.specs.declared.stage.Work.TheVariants.{TellReceive, TellStreams, TellSend, Leave}
+use Rattle.channel_calls.specs.declared.stage.ListStep.TheVariants.{TellReceive, TellStreams, TellSend, Leave}
 use Rattle.channel_steps.specs.Configuration.{ActiveCall, Configuration, AllKnown, IsBalanced}
 use Rattle.channel_steps.specs.Run.{IsRun, NextConfiguration, new_configuration}
 use Rattle.channel_steps.specs.declared.party.Entry.{Entry}

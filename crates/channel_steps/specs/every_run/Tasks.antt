@@ -4,17 +4,17 @@ use Rattle.std.specs.Prelude.{List, [], ◌∷◌, map, Option}
 use Rattle.std.specs.Option.{option_map}
 use Rattle.event_listener.specs.declared.key.Key.{Key}
 use Rattle.channel_calls.specs.Deeds.{Deed, stepped, inserted, registered, taken_off, one_told, more_told, all_told, counted, lowered, raised}
-use Rattle.channel_calls.specs.Parts.{Parts, Listeners, Roster}
+use Rattle.channel_calls.specs.Parts.{Parts, Listeners, WaitLists}
 use Rattle.channel_calls.specs.declared.ask.ChannelAsk.{ChannelAsk}
 use Rattle.channel_calls.specs.declared.ask.ChannelAsk.TheVariants as ask
-use Rattle.channel_calls.specs.declared.stage.Aim.{Aim}
-use Rattle.channel_calls.specs.declared.stage.Aim.TheVariants as aim
+use Rattle.channel_calls.specs.declared.stage.Purpose.{Purpose}
+use Rattle.channel_calls.specs.declared.stage.Purpose.TheVariants as aim
 use Rattle.channel_calls.specs.declared.stage.Stage.{Stage}
 use Rattle.channel_calls.specs.declared.stage.Stage.TheVariants.{Trying, Working, Finished}
-use Rattle.channel_calls.specs.declared.stage.Turn.{Turn}
-use Rattle.channel_calls.specs.declared.stage.Turn.TheVariants.{Tries, Works, Ends}
-use Rattle.channel_calls.specs.declared.stage.Work.{Work}
-use Rattle.channel_calls.specs.declared.stage.Work.TheVariants as work
+use Rattle.channel_calls.specs.declared.stage.NextStep.{NextStep}
+use Rattle.channel_calls.specs.declared.stage.NextStep.TheVariants.{Tries, Works, Ends}
+use Rattle.channel_calls.specs.declared.stage.ListStep.{ListStep}
+use Rattle.channel_calls.specs.declared.stage.ListStep.TheVariants as work
 use Rattle.channel_steps.specs.every_run.Bridge.{Act, on_queue, on_roster, on_nothing, Event, begins, does, Happening}
 
 -- ---- the cells
@@ -27,7 +27,7 @@ module _ {W V : Type 0} (put : W → V) where
   abbrev pub listeners_by : Listeners W → Listeners V
   listeners_by l = record { told = l.told; waiting = map listener_by l.waiting }
 
-  abbrev pub roster_by : Roster W → Roster V
+  abbrev pub roster_by : WaitLists W → WaitLists V
   roster_by a =
       record {
         sends = listeners_by a.sends;
@@ -92,7 +92,7 @@ module _ {T W V : Type 0} (put : W → V) where
   ask_by ask.Make = ask.Make
   ask_by ask.DropWeak = ask.DropWeak
 
-  abbrev pub aim_by : Aim T W → Aim T V
+  abbrev pub aim_by : Purpose T W → Purpose T V
   aim_by aim.TrySend = aim.TrySend
   aim_by aim.ForceSend = aim.ForceSend
   aim_by aim.TryRecv = aim.TryRecv
@@ -103,7 +103,7 @@ module _ {T W V : Type 0} (put : W → V) where
   aim_by aim.IsTerminated = aim.IsTerminated
   aim_by (aim.Upgrade side) = aim.Upgrade side
 
-  abbrev pub work_by : Work T W → Work T V
+  abbrev pub work_by : ListStep T W → ListStep T V
   work_by (work.TellReceive e) = work.TellReceive e
   work_by (work.TellStreams e) = work.TellStreams e
   work_by (work.TellSend e) = work.TellSend e
@@ -118,7 +118,7 @@ module _ {T W V : Type 0} (put : W → V) where
   work_by (work.Load side making) = work.Load side making
   work_by (work.Raise side n making) = work.Raise side n making
 
-  abbrev pub turn_by : Turn T W → Turn T V
+  abbrev pub turn_by : NextStep T W → NextStep T V
   turn_by (Tries x a) = Tries x (aim_by a)
   turn_by (Works w) = Works (work_by w)
   turn_by (Ends r kept) = Ends r kept

@@ -3,7 +3,7 @@ use Rattle.std.specs.Prelude.{◌≡◌, List, [], ◌∷◌, Option, ◌⊎◌}
 use Rattle.event_listener.specs.declared.key.Key.{Key}
 use Rattle.channel_calls.specs.Moves.{Channel}
 use Rattle.channel_calls.specs.Parts.{listeners}
-use Rattle.channel_calls.specs.declared.stage.Line.{Line}
+use Rattle.channel_calls.specs.declared.stage.WaitList.{WaitList}
 use Rattle.channel_steps.specs.Configuration.{ActiveCall}
 
 module _ {W : Type 0} where
@@ -19,10 +19,10 @@ module _ {W : Type 0} where
 
 module _ {T W : Type 0} where
   -- this listener waits, on this list
-  abbrev pub Waits : Line → Key → Channel T W → Type 0
+  abbrev pub Waits : WaitList → Key → Channel T W → Type 0
   Waits line key c = IsIn key (listeners line c.roster).waiting
 
-  abbrev pub WaitApart : Line → Channel T W → Type 0
+  abbrev pub WaitApart : WaitList → Channel T W → Type 0
   WaitApart line c = Apart (listeners line c.roster).waiting
 
   -- at least one of the calls under way

@@ -16,8 +16,8 @@ use Rattle.channel_calls.specs.declared.reply.Reply.TheVariants as reply
 use Rattle.channel_calls.specs.declared.stage.Closer.{Closer}
 use Rattle.channel_calls.specs.declared.stage.Closer.TheVariants as closer
 use Rattle.channel_calls.specs.declared.stage.Ending.{Ending}
-use Rattle.channel_calls.specs.declared.stage.Kept.{Kept}
-use Rattle.channel_calls.specs.declared.stage.Line.TheVariants.{Sends, Receives, Streams, Closings}
+use Rattle.channel_calls.specs.declared.stage.Returned.{Returned}
+use Rattle.channel_calls.specs.declared.stage.WaitList.TheVariants.{Sends, Receives, Streams, Closings}
 use Rattle.channel_calls.specs.declared.stage.Side.{Side}
 use Rattle.channel_calls.specs.declared.stage.Side.TheVariants.{Senders, Receivers}
 use Rattle.channel_calls.specs.declared.stage.Waiting.{Waiting}
@@ -31,7 +31,7 @@ use Rattle.channel_calls.specs.Moves.{Channel, Effect, tells_one, tells_more, te
 -- what a call leaves at its end
 pub record Outcome (T W : Type 0) : Type 0 where
   pub reply : Reply T
-  pub kept : Kept T
+  pub kept : Returned T
   pub woken : List W
   pub channel : Channel T W
 
@@ -70,7 +70,7 @@ module _ {T W : Type 0} where
   after_waking names o = record o { woken = names ++ o.woken }
 
   -- with this answer, nothing more being done
-  abbrev pub answers : Reply T → Kept T → Channel T W → Outcome T W
+  abbrev pub answers : Reply T → Returned T → Channel T W → Outcome T W
   answers x kept c = record { reply = x; kept = kept; woken = []; channel = c }
 
   -- it tells by these sections in order; then the listener that it holds leaves, and passes on the notice that it was told

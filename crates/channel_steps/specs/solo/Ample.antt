@@ -5,14 +5,14 @@ use Rattle.event_listener.specs.Lists.{kind_of}
 use Rattle.event_listener.specs.declared.key.Key.{Key}
 use Rattle.event_listener.specs.declared.error.ListenError.TheVariants as listen_error
 use Rattle.futures.specs.declared.task.Poll.TheVariants.{Ready}
-use Rattle.channel_calls.specs.Parts.{Parts, Roster, listeners}
+use Rattle.channel_calls.specs.Parts.{Parts, WaitLists, listeners}
 use Rattle.channel_calls.specs.declared.ask.ChannelAsk.{ChannelAsk}
 use Rattle.channel_calls.specs.declared.ask.ChannelAsk.TheVariants.{PollSend, PollRecv, PollClosed, PollNext}
 use Rattle.channel_calls.specs.declared.error.Refused.TheVariants.{NoMemory}
 use Rattle.channel_calls.specs.declared.reply.Reply.{Reply}
 use Rattle.channel_calls.specs.declared.reply.Reply.TheVariants as reply
-use Rattle.channel_calls.specs.declared.stage.Line.{Line}
-use Rattle.channel_calls.specs.declared.stage.Line.TheVariants.{Sends, Receives, Streams, Closings}
+use Rattle.channel_calls.specs.declared.stage.WaitList.{WaitList}
+use Rattle.channel_calls.specs.declared.stage.WaitList.TheVariants.{Sends, Receives, Streams, Closings}
 
 -- a reply says that memory was refused
 abbrev pub lacks_memory : {T : Type 0} → Reply T → Bool
@@ -27,7 +27,7 @@ lacks_memory _ = false
 
 module _ {W : Type 0} where
   -- this listener is held, and is on this list
-  abbrev pub IsOnList : Line → Option Key → Roster W → Type 0
+  abbrev pub IsOnList : WaitList → Option Key → WaitLists W → Type 0
   IsOnList line None a = ⊥
   IsOnList line (Some key) a = is_some (kind_of (listeners line a) key) ≡ true
 

@@ -5,7 +5,7 @@ use Rattle.channel_calls.specs.Parts.{Parts}
 use Rattle.channel_calls.specs.declared.ask.ChannelAsk.{ChannelAsk}
 use Rattle.channel_calls.specs.declared.mark.Mark.TheVariants.{Nothing}
 use Rattle.channel_calls.specs.declared.reply.Reply.{Reply}
-use Rattle.channel_calls.specs.declared.stage.Kept.{Kept}
+use Rattle.channel_calls.specs.declared.stage.Returned.{Returned}
 use Rattle.channel_steps.specs.declared.party.Entry.{Entry}
 use Rattle.channel_steps.specs.declared.run.Step.{Step}
 use Rattle.channel_steps.specs.declared.run.Step.TheVariants as step
@@ -17,7 +17,7 @@ use Rattle.channel_steps.specs.declared.alone.Done.{Done}
 
 module _ {T : Type 0} where
   -- the last of these answers this and leaves this, and no other answers
-  abbrev pub EndsWith : Reply T → Kept T → List (Entry T) → Type 0
+  abbrev pub EndsWith : Reply T → Returned T → List (Entry T) → Type 0
   EndsWith reply kept [] = ⊥
   EndsWith reply kept (e ∷ []) = (e.reply ≡ Some reply) × (e.kept ≡ Some kept)
   EndsWith reply kept (e ∷ es) = (e.reply ≡ None) × (e.kept ≡ None) × EndsWith reply kept es

@@ -13,7 +13,7 @@ use crate::settling::settle;
 use crate::under_way::{Subject, UnderWay};
 use crate::waiting::{Came, Waiting};
 use channel_calls::mark::Mark;
-use channel_calls::stage::Line;
+use channel_calls::stage::WaitList;
 use channel_world::name::{OpId, Waiter};
 use std::alloc::Global;
 
@@ -27,7 +27,7 @@ fn call_of(kind: Kind, handle: u32, message: Option<u64>) -> UnderWay {
         limit: 0,
     };
     let subject = Subject {
-        line: Line::Closings,
+        line: WaitList::Closings,
         waiter: None,
         side: None,
         message,
@@ -94,18 +94,18 @@ fn an_answer_needs_its_mark_or_its_moment(tally: &mut Tally, alloc: Global) {
 
 /// Who sleeps on which line, beside a call under way of which kind, and whether nothing is owed to it: beside a message, on a channel
 /// of two places, alone and then beside the call; and on a closed one.
-static OWED: [(Line, Kind, [bool; 3]); 7] = [
-    (Line::Sends, Kind::TrySend, [false, true, false]),
-    (Line::Sends, Kind::TryRecv, [false, false, false]),
-    (Line::Receives, Kind::TrySend, [false, true, false]),
-    (Line::Streams, Kind::ForceSend, [false, true, false]),
-    (Line::Streams, Kind::TryRecv, [false, false, false]),
-    (Line::Receives, Kind::Close, [false, false, false]),
-    (Line::Closings, Kind::Close, [true, true, false]),
+static OWED: [(WaitList, Kind, [bool; 3]); 7] = [
+    (WaitList::Sends, Kind::TrySend, [false, true, false]),
+    (WaitList::Sends, Kind::TryRecv, [false, false, false]),
+    (WaitList::Receives, Kind::TrySend, [false, true, false]),
+    (WaitList::Streams, Kind::ForceSend, [false, true, false]),
+    (WaitList::Streams, Kind::TryRecv, [false, false, false]),
+    (WaitList::Receives, Kind::Close, [false, false, false]),
+    (WaitList::Closings, Kind::Close, [true, true, false]),
 ];
 
 /// What such a row finds.
-fn owes(line: Line, kind: Kind, alloc: Global) -> Option<[bool; 3]> {
+fn owes(line: WaitList, kind: Kind, alloc: Global) -> Option<[bool; 3]> {
     let mut book = Book::new(Some(2), alloc).ok()?;
     let name = Waiter::Op(OpId(0));
     let sleeps = book.waiting.add(name, line, Came { from: 0, to: 0 });
@@ -127,9 +127,9 @@ fn one_who_sleeps_is_owed(tally: &mut Tally, alloc: Global) {
 }
 
 /// Between which moments the second of two comes to a line, and whether it may be woken before the first one.
-static SECONDS: [(u64, u64, Result<Line, Differs>); 3] = [
-    (0, 1, Ok(Line::Sends)),
-    (4, 6, Ok(Line::Sends)),
+static SECONDS: [(u64, u64, Result<WaitList, Differs>); 3] = [
+    (0, 1, Ok(WaitList::Sends)),
+    (4, 6, Ok(WaitList::Sends)),
     (5, 6, Err(Differs::Woken)),
 ];
 
@@ -142,8 +142,8 @@ fn who_came_first_is_woken_first(tally: &mut Tally, alloc: Global) {
             from: *from,
             to: *to,
         };
-        let one = waiting.add(first, Line::Sends, Came { from: 2, to: 4 });
-        let two = waiting.add(second, Line::Sends, came);
+        let one = waiting.add(first, WaitList::Sends, Came { from: 2, to: 4 });
+        let two = waiting.add(second, WaitList::Sends, came);
         tally.row(one.is_ok() && two.is_ok() && waiting.wake(second) == *want);
     }
 }

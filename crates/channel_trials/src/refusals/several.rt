@@ -11,7 +11,7 @@ use crate::takings::Takings;
 use crate::under_way::UnderWay;
 use crate::waiting::Came;
 use channel_calls::mark::Mark;
-use channel_calls::stage::Line;
+use channel_calls::stage::WaitList;
 use channel_world::name::{OpId, Waiter};
 use std::alloc::Global;
 
@@ -162,8 +162,10 @@ static PLACES: [(usize, bool, (bool, bool)); 5] = [
 /// Two sends come to sleep, the call takes so many, and wakes the first of them or not.
 fn take_beside_two(book: &mut Book, takings: usize, wakes: bool) -> Result<(), Differs> {
     let came = Came { from: 0, to: 0 };
-    book.waiting.add(Waiter::Op(OpId(0)), Line::Sends, came)?;
-    book.waiting.add(Waiter::Op(OpId(1)), Line::Sends, came)?;
+    book.waiting
+        .add(Waiter::Op(OpId(0)), WaitList::Sends, came)?;
+    book.waiting
+        .add(Waiter::Op(OpId(1)), WaitList::Sends, came)?;
     let _ = after_takings(book, 2, takings)?;
     if wakes {
         book.wake_one(3, Waiter::Op(OpId(0)))?;

@@ -10,7 +10,7 @@ use crate::refusals::tally::Tally;
 use crate::trial::Trial;
 use crate::waiting::Came;
 use channel_calls::mark::Mark;
-use channel_calls::stage::Line;
+use channel_calls::stage::WaitList;
 use channel_world::name::{OpId, Waiter};
 use channel_world::world::World;
 use event_listener::id::EventIds;
@@ -44,7 +44,8 @@ fn spoil(book: &mut Book, wrong: Wrong) {
         Wrong::MessageMore => book.count.apply(Mark::Append, Some(5), false),
         Wrong::SleeperMore => {
             let came = Came { from: 0, to: 0 };
-            book.waiting.add(Waiter::Op(OpId(0)), Line::Closings, came)
+            book.waiting
+                .add(Waiter::Op(OpId(0)), WaitList::Closings, came)
         }
         Wrong::CallMore => book.begin(7, plan(Kind::Len, 0)),
         Wrong::HandleFewer => {

@@ -1,5 +1,5 @@
 -- The calls, one by one.
-use Rattle.channel_world_runs.proofs.refinement.Words.{◌≡◌, ◌⊎◌, ◌&&◌, ◌==◌, ℕ, List, [], length, Bool, true, false, Option, None, Some, Err, refl, sym, ap, ◌∙◌, inl, inr, list_all, option_map, is_filled, is_refused, Channel, says, refused_reply, Line, Sends, Receives, Closings, Senders, Receivers, Outcome, Alone, MayLackRoom, ends, sends, force_sends, says_only, replying, after_leaving, is_finished, poll_refused_answer, made, dropped, clone_answer, downgrade_answer, upgrade_answer, drop_answer, weak_of, strong_of, AwakeIn, line_at, line_of_operation, ModelOperation, send, recv, closing, at, State, Call, Handle, HandleId, HandleKind, Sender, Receiver, WeakSender, WeakReceiver, OpId, Waiter, Op, Nothing, last_reason, untaken, poll_asked, refusal_asked, giving_up_asked, drop_asked, clone_asked, upgrade_asked, stream_of, KeysHeld, asked_in, Matches, CallsAreOver, refused_names, made_names, Refines, list_of}
+use Rattle.channel_world_runs.proofs.refinement.Words.{◌≡◌, ◌⊎◌, ◌&&◌, ◌==◌, ℕ, List, [], length, Bool, true, false, Option, None, Some, Err, refl, sym, ap, ◌∙◌, inl, inr, list_all, option_map, is_filled, is_refused, Channel, says, refused_reply, WaitList, Sends, Receives, Closings, Senders, Receivers, Outcome, Alone, MayLackRoom, ends, sends, force_sends, says_only, replying, after_leaving, is_finished, poll_refused_answer, made, dropped, clone_answer, downgrade_answer, upgrade_answer, drop_answer, weak_of, strong_of, AwakeIn, line_at, line_of_operation, ModelOperation, send, recv, closing, at, State, Call, Handle, HandleId, HandleKind, Sender, Receiver, WeakSender, WeakReceiver, OpId, Waiter, Op, Nothing, last_reason, untaken, poll_asked, refusal_asked, giving_up_asked, drop_asked, clone_asked, upgrade_asked, stream_of, KeysHeld, asked_in, Matches, CallsAreOver, refused_names, made_names, Refines, list_of}
 use Rattle.channel_world_model.specs.Refusal.{refusal, is_live, uses, are_fit, takes_borrowed, names_taken}
 use Rattle.event_listener.specs.declared.error.ListenError.TheVariants as listening
 use Rattle.channel_calls.specs.declared.error.Refused.TheVariants as unmade
@@ -42,7 +42,7 @@ module _ {T : Type 0} (held : KeysHeld) (c : Channel T Waiter) (s : State T) (h 
   polled op None there ok does = cc (rw there at ok)
 
   -- an operation that got no copy of its waker
-  refused_as : (op : OpId) (x : ModelOperation T) (line : Line) (msg : Option T) → at op.0 s.names.operations ≡ Some x → (line_at s.names (Op op) ≡ Some line) ⊎ (line_at s.names (Op op) ≡ None)
+  refused_as : (op : OpId) (x : ModelOperation T) (line : WaitList) (msg : Option T) → at op.0 s.names.operations ≡ Some x → (line_at s.names (Op op) ≡ Some line) ⊎ (line_at s.names (Op op) ≡ None)
       → poll_refused_answer s op (Some x) ≡ after_leaving Nothing line (Op op) s (refused_reply (list_of line) listening.NoMemory) → s.names ≡ refused_names op (Some x) msg s.names
       → o ≡ ends [] (is_refused (list_of line) msg (held (Op op))) c → Matches held s (call.PollRefused op) o
   refused_as op x line msg there k answer_is names e =

@@ -3,7 +3,7 @@ use Rattle.channel_world_runs.proofs.refinement.Words.{◌≡◌, true, false, O
 use Rattle.event_listener.specs.declared.error.ListenError.TheVariants as listening
 use Rattle.futures.specs.declared.task.Poll.TheVariants as poll
 use Rattle.channel_calls.specs.declared.reply.Reply.TheVariants as reply
-use Rattle.channel_calls.specs.declared.stage.Line.TheVariants as list
+use Rattle.channel_calls.specs.declared.stage.WaitList.TheVariants as list
 use Rattle.channel_calls.specs.declared.stage.Waiting.TheVariants as waiting
 use Rattle.channel_world_model.specs.declared.call.Call.TheVariants as call
 use Rattle.channel_world_runs.proofs.refinement.Ends.{ends_so}

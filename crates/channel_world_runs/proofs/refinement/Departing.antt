@@ -1,5 +1,5 @@
 -- A call that is over lets go of the listener that its operation held.
-use Rattle.channel_world_runs.proofs.refinement.Words.{false_from_ne_true, arith, ◌≡◌, ◌⊎◌, List, [], Bool, true, false, Option, None, Some, refl, sym, subst, ◌∙◌, inl, inr, Key, Channel, leaves, Listeners, Roster, with_listeners, held_on, Waiting, is_among, is_stream, untold, told_by, after_news, gone, passed_on, Kind, Placed, times_in, ModelOperation, send, Names, at, line_at, line_of_operation, Waiter, Op, Stream, News, Nothing, Line, Sends, Streams, Closings, among_counts, times_news, times_gone_self, KeysHeld, with_held, ShowsLines, KeysFit, list_of}
+use Rattle.channel_world_runs.proofs.refinement.Words.{false_from_ne_true, arith, ◌≡◌, ◌⊎◌, List, [], Bool, true, false, Option, None, Some, refl, sym, subst, ◌∙◌, inl, inr, Key, Channel, leaves, Listeners, WaitLists, with_listeners, held_on, Waiting, is_among, is_stream, untold, told_by, after_news, gone, passed_on, Kind, Placed, times_in, ModelOperation, send, Names, at, line_at, line_of_operation, Waiter, Op, Stream, News, Nothing, WaitList, Sends, Streams, Closings, among_counts, times_news, times_gone_self, KeysHeld, with_held, ShowsLines, KeysFit, list_of}
 use Rattle.channel_world_runs.proofs.refinement.News.{nothing_lines, keys_news}
 use Rattle.channel_world_runs.proofs.refinement.Standing.{Nowhere, gone_nowhere, kindless_nowhere, keyless_nowhere, nowhere_keyless, times_untold, rekeyed_lines, keys_gone}
 use Rattle.channel_world_runs.proofs.refinement.Leaving.{StreamsAreStreams, leave_lines, leave_wakes}
@@ -13,7 +13,7 @@ times_nowhere w l e = record {
 pub nowhere_after : (news : News) (w : Waiter) (l : Waiting) → Nowhere w (after_news news (gone w l))
 nowhere_after news w l = times_nowhere w (after_news news (gone w l)) (times_news news w (gone w l) ∙ times_gone_self w l)
 
-pub passes_nothing : (line : Line) (w : Waiter) (l : Waiting) → is_among w l.woken ≡ false → passed_on line w l ≡ Nothing
+pub passes_nothing : (line : WaitList) (w : Waiter) (l : Waiting) → is_among w l.woken ≡ false → passed_on line w l ≡ Nothing
 passes_nothing Closings w l e = refl
 passes_nothing line w l e = rw e refl
 
@@ -25,16 +25,16 @@ streams_are {T} names (Op op) = (λ e. cc e, λ e. never (at op.0 names.operatio
   never (Some (send h (Some m))) e = cc e
   never o e = cc e
 
-pub same_senders : (line : Line) (x : Listeners Waiter) (a : Roster Waiter) → (with_listeners (list_of line) x a).senders ≡ a.senders
+pub same_senders : (line : WaitList) (x : Listeners Waiter) (a : WaitLists Waiter) → (with_listeners (list_of line) x a).senders ≡ a.senders
 same_senders Sends x a = refl
 same_senders line x a = refl
 
-pub same_receivers : (line : Line) (x : Listeners Waiter) (a : Roster Waiter) → (with_listeners (list_of line) x a).receivers ≡ a.receivers
+pub same_receivers : (line : WaitList) (x : Listeners Waiter) (a : WaitLists Waiter) → (with_listeners (list_of line) x a).receivers ≡ a.receivers
 same_receivers Sends x a = refl
 same_receivers line x a = refl
 
 -- the channel d that the leaving of w makes of c, and the names woken by it
-pub record Departed {T : Type 0} (kind : Kind) (held : KeysHeld) (closed : Bool) (line : Line) (w : Waiter) (l : Waiting) (c d : Channel T Waiter) (names : List Waiter) : Type 0 where
+pub record Departed {T : Type 0} (kind : Kind) (held : KeysHeld) (closed : Bool) (line : WaitList) (w : Waiter) (l : Waiting) (c d : Channel T Waiter) (names : List Waiter) : Type 0 where
   pub queue : d.queue ≡ c.queue
   pub senders : d.roster.senders ≡ c.roster.senders
   pub receivers : d.roster.receivers ≡ c.roster.receivers
@@ -42,8 +42,8 @@ pub record Departed {T : Type 0} (kind : Kind) (held : KeysHeld) (closed : Bool)
   pub keys : KeysFit kind (with_held w None held) (after_news (passed_on line w l) (gone w l))
   pub wakes : names ≡ told_by (passed_on line w l) (gone w l)
 
-module _ {T : Type 0} (kind : Kind) (held : KeysHeld) (closed : Bool) (streams : StreamsAreStreams kind) (line : Line) (w : Waiter) (k : (kind w ≡ Some line) ⊎ (kind w ≡ None)) (l : Waiting)
-    (placed : Placed kind l) (keys : KeysFit kind held l) (shut : closed ≡ true → (line : Line) → untold line l ≡ []) (c : Channel T Waiter) (h : ShowsLines kind held closed c.roster l) where
+module _ {T : Type 0} (kind : Kind) (held : KeysHeld) (closed : Bool) (streams : StreamsAreStreams kind) (line : WaitList) (w : Waiter) (k : (kind w ≡ Some line) ⊎ (kind w ≡ None)) (l : Waiting)
+    (placed : Placed kind l) (keys : KeysFit kind held l) (shut : closed ≡ true → (line : WaitList) → untold line l ≡ []) (c : Channel T Waiter) (h : ShowsLines kind held closed c.roster l) where
   keys_after : KeysFit kind (with_held w None held) (after_news (passed_on line w l) (gone w l))
   keys_after = keys_news kind (with_held w None held) (passed_on line w l) (gone w l) (keys_gone kind held w l keys)
 

@@ -1,7 +1,7 @@
 -- Drops of handles: the last strong one of its side closes, and then a receiver's own stream leaves.
-use Rattle.channel_world_runs.proofs.refinement.Words.{◌≡◌, ℕ, ◌-◌, ◌==◌, ◌&&◌, List, [], ◌++◌, length, Bool, true, false, not, if◌then◌else◌, Option, None, Some, refl, sym, ap, subst, ◌∙◌, inl, append-nil, Channel, leaves, lowers, tells_all, count, held_on, closer_ending, dropper, Queue, Key, Side, Senders, Receivers, Outcome, ends, of_closing, over_queue, drops, after_telling, after_leaving, shut, without_one, news_without_one, dropped, drop_answer, AwakeIn, Awake, Kind, line_at, Waiting, untold, told_by, after_news, at, State, with_channel, Handle, HandleId, Sender, Receiver, Waiter, Stream, News, Nothing, Closing, Line, Sends, Receives, Streams, Closings, placed_news, stream_of, KeysHeld, Matches, Refines, ShowsLines}
+use Rattle.channel_world_runs.proofs.refinement.Words.{◌≡◌, ℕ, ◌-◌, ◌==◌, ◌&&◌, List, [], ◌++◌, length, Bool, true, false, not, if◌then◌else◌, Option, None, Some, refl, sym, ap, subst, ◌∙◌, inl, append-nil, Channel, leaves, lowers, tells_all, count, held_on, closer_ending, dropper, Queue, Key, Side, Senders, Receivers, Outcome, ends, of_closing, over_queue, drops, after_telling, after_leaving, shut, without_one, news_without_one, dropped, drop_answer, AwakeIn, Awake, Kind, line_at, Waiting, untold, told_by, after_news, at, State, with_channel, Handle, HandleId, Sender, Receiver, Waiter, Stream, News, Nothing, Closing, WaitList, Sends, Receives, Streams, Closings, placed_news, stream_of, KeysHeld, Matches, Refines, ShowsLines}
 use Rattle.channel_calls.specs.declared.reply.Reply.TheVariants as reply
-use Rattle.channel_calls.specs.declared.stage.Line.TheVariants as list
+use Rattle.channel_calls.specs.declared.stage.WaitList.TheVariants as list
 use Rattle.channel_steps.specs.solo.Alone as alone
 use Rattle.channel_world_model.specs.Answer as model
 use Rattle.channel_world_model.specs.Channel as plain
@@ -13,7 +13,7 @@ use Rattle.channel_world_runs.proofs.refinement.Handles.{kind_of_side, same_kind
 use Rattle.channel_world_runs.proofs.refinement.News.{shut_lines, nothing_lines, keys_news, closing_lines, closing_wakes}
 use Rattle.channel_world_runs.proofs.refinement.Told.{told_left_as}
 
-nobody_left : (own : Line) (l : Waiting) → untold own (after_news Closing l) ≡ []
+nobody_left : (own : WaitList) (l : Waiting) → untold own (after_news Closing l) ≡ []
 nobody_left Sends l = refl
 nobody_left own l = refl
 

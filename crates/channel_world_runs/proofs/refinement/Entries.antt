@@ -1,5 +1,5 @@
 -- Entries of listeners beside the names that they show.
-use Rattle.channel_world_runs.proofs.refinement.Words.{AllZip, ShowsUntold, ShowsTold, AreUntold, AreTold, IsToldSo, false_from_ne_true, arith, ◌≡◌, ◌≤◌, ℕ, List, [], ◌∷◌, ◌++◌, length, take, drop, Bool, true, false, Option, None, Some, refl, sym, ap, subst, ◌∙◌, inl, inr, lookup, remove_entry, nat_tests, Notice, same_key, told_with, tasks_of, Key, same_waiter, is_among, without_waiter, times, Waiter, Line, same_refl, same_sound, decided, or_false, or_true, without_absent, among_self, or_right, among_counts, KeysHeld}
+use Rattle.channel_world_runs.proofs.refinement.Words.{AllZip, ShowsUntold, ShowsTold, AreUntold, AreTold, IsToldSo, false_from_ne_true, arith, ◌≡◌, ◌≤◌, ℕ, List, [], ◌∷◌, ◌++◌, length, take, drop, Bool, true, false, Option, None, Some, refl, sym, ap, subst, ◌∙◌, inl, inr, lookup, remove_entry, nat_tests, Notice, same_key, told_with, tasks_of, Key, same_waiter, is_among, without_waiter, times, Waiter, WaitList, same_refl, same_sound, decided, or_false, or_true, without_absent, among_self, or_right, among_counts, KeysHeld}
 
 pub same_key_refl : (key : Key) → same_key key key ≡ true
 same_key_refl key = grind (arith, nat_tests)
@@ -74,7 +74,7 @@ untold_kept held other es ws h same = zip_other (ShowsUntold held) (ShowsUntold 
 
 -- ---- the told
 
-module _ (held : KeysHeld) (closed : Bool) (line : Line) where
+module _ (held : KeysHeld) (closed : Bool) (line : WaitList) where
   -- waiting ones that are told
   pub just_told : (additional : Bool) → (closed ≡ false → IsToldSo line additional) → (es : List (Key × Option Waiter)) (tags : List (Unit {0})) (ws : List Waiter)
       → length tags ≡ length es → AreUntold held es ws → AreTold held closed line (told_with additional es tags) ws
@@ -86,12 +86,12 @@ module _ (held : KeysHeld) (closed : Bool) (line : Line) where
   pub told_holds : (w : Waiter) (es : List (Key × Notice Unit)) (ws : List Waiter) → AreTold held closed line es ws → is_among w ws ≡ true → (key : Key) × (held w ≡ Some key)
   told_holds w es ws h i = let at = zip_at (ShowsTold held closed line) w es ws h i in (at.0.0, at.1.0)
 
-pub told_kept : (held other : KeysHeld) (closed : Bool) (line : Line) (es : List (Key × Notice Unit)) (ws : List Waiter) → AreTold held closed line es ws
+pub told_kept : (held other : KeysHeld) (closed : Bool) (line : WaitList) (es : List (Key × Notice Unit)) (ws : List Waiter) → AreTold held closed line es ws
     → ((w : Waiter) → is_among w ws ≡ true → other w ≡ held w) → AreTold other closed line es ws
 told_kept held other closed line es ws h same = zip_other (ShowsTold held closed line) (ShowsTold other closed line) es ws h (λ e w i r. (same w i ∙ r.0, r.1))
 
 -- a channel that is closed asks nothing of how they were told
-pub told_closed : (held : KeysHeld) (closed : Bool) (line : Line) (es : List (Key × Notice Unit)) (ws : List Waiter) → AreTold held closed line es ws → AreTold held true line es ws
+pub told_closed : (held : KeysHeld) (closed : Bool) (line : WaitList) (es : List (Key × Notice Unit)) (ws : List Waiter) → AreTold held closed line es ws → AreTold held true line es ws
 told_closed held closed line es ws h = zip_other (ShowsTold held closed line) (ShowsTold held true line) es ws h (λ e w i r. (r.0, λ c. cc c))
 
 -- ---- one who leaves
@@ -159,15 +159,15 @@ module _ (held : KeysHeld) (key : Key) (w : Waiter) (holds : held w ≡ Some key
   pub untold_without : (es : List (Key × Option Waiter)) (ws : List Waiter) → OnlyHolder held key w ws → times w ws ≤ 1 → AreUntold held es ws → AreUntold held (remove_entry (same_key key) es) (without_waiter w ws)
   untold_without es ws only once h = zip_without (ShowsUntold held) (λ e v r. r.0) es ws only once h
 
-  pub told_without : (closed : Bool) (line : Line) (es : List (Key × Notice Unit)) (ws : List Waiter) → OnlyHolder held key w ws → times w ws ≤ 1
+  pub told_without : (closed : Bool) (line : WaitList) (es : List (Key × Notice Unit)) (ws : List Waiter) → OnlyHolder held key w ws → times w ws ≤ 1
       → AreTold held closed line es ws → AreTold held closed line (remove_entry (same_key key) es) (without_waiter w ws)
   told_without closed line es ws only once h = zip_without (ShowsTold held closed line) (λ e v r. r.0) es ws only once h
 
-  pub told_found : (closed : Bool) (line : Line) (es : List (Key × Notice Unit)) (ws : List Waiter) → OnlyHolder held key w ws → AreTold held closed line es ws → is_among w ws ≡ true
+  pub told_found : (closed : Bool) (line : WaitList) (es : List (Key × Notice Unit)) (ws : List Waiter) → OnlyHolder held key w ws → AreTold held closed line es ws → is_among w ws ≡ true
       → (n : Notice Unit) × (lookup (same_key key) es ≡ Some n) × (closed ≡ false → IsToldSo line n.additional)
   told_found closed line es ws only h i = let f = zip_found (ShowsTold held closed line) (λ e v r. r.0) es ws only h i in (f.0.1, f.1, f.2.1)
 
-  pub told_missed : (closed : Bool) (line : Line) (es : List (Key × Notice Unit)) (ws : List Waiter) → OnlyHolder held key w ws → AreTold held closed line es ws → is_among w ws ≡ false
+  pub told_missed : (closed : Bool) (line : WaitList) (es : List (Key × Notice Unit)) (ws : List Waiter) → OnlyHolder held key w ws → AreTold held closed line es ws → is_among w ws ≡ false
       → lookup (same_key key) es ≡ None
   told_missed closed line es ws only h i = zip_missed (ShowsTold held closed line) (λ e v r. r.0) es ws only h i
 

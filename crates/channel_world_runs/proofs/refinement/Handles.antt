@@ -1,12 +1,12 @@
 -- Handles: what their names and their counts are to a channel that shows a state, which is nothing; and new handles.
-use Rattle.channel_world_runs.proofs.refinement.Words.{◌≡◌, ℕ, ◌+◌, ◌-◌, ◌^◌, ◌==◌, ◌&&◌, ◌||◌, nat_lt, Bool, true, false, if◌then◌else◌, None, Some, refl, sym, ap, subst, ◌∙◌, append-nil, arith, nat_tests, Channel, on_count, raises, untouched, Roster, with_count, count, is_raised, most, nothing_kept, Reply, Side, Senders, Receivers, Outcome, answers, says_only, clones, upgrades, Answer, replying, made, spent, one_more, upgrade_to, Kind, line_at, Waiting, Names, Directory, with_handles, Answers, State, with_channel, with_names, Call, Handle, HandleId, HandleKind, Sender, Receiver, Waiter, Op, Stream, Sends, chosen_no, keeper, Matches, names_after, made_names, KeysHeld, Refines, ShowsLines, KeysFit}
+use Rattle.channel_world_runs.proofs.refinement.Words.{◌≡◌, ℕ, ◌+◌, ◌-◌, ◌^◌, ◌==◌, ◌&&◌, ◌||◌, nat_lt, Bool, true, false, if◌then◌else◌, None, Some, refl, sym, ap, subst, ◌∙◌, append-nil, arith, nat_tests, Channel, on_count, raises, untouched, WaitLists, with_count, count, is_raised, most, nothing_kept, Reply, Side, Senders, Receivers, Outcome, answers, says_only, clones, upgrades, Answer, replying, made, spent, one_more, upgrade_to, Kind, line_at, Waiting, Names, Directory, with_handles, Answers, State, with_channel, with_names, Call, Handle, HandleId, HandleKind, Sender, Receiver, Waiter, Op, Stream, Sends, chosen_no, keeper, Matches, names_after, made_names, KeysHeld, Refines, ShowsLines, KeysFit}
 use Rattle.channel_calls.specs.Marks.{up}
 use Rattle.channel_calls.specs.declared.reply.Reply.TheVariants as reply
 use Rattle.channel_world_model.specs.Answer as model
 use Rattle.channel_world_runs.proofs.refinement.Matching.{shows_again, matching}
 
 -- the counts of handles are no matter to the lists
-pub counted_lines : (kind : Kind) (held : KeysHeld) (closed : Bool) (side : Side) (n : ℕ) (a : Roster Waiter) (l : Waiting) → ShowsLines kind held closed a l → ShowsLines kind held closed (with_count side n a) l
+pub counted_lines : (kind : Kind) (held : KeysHeld) (closed : Bool) (side : Side) (n : ℕ) (a : WaitLists Waiter) (l : Waiting) → ShowsLines kind held closed a l → ShowsLines kind held closed (with_count side n a) l
 counted_lines kind held closed Senders n a l h Sends = h Sends
 counted_lines kind held closed Senders n a l h line = h line
 counted_lines kind held closed side n a l h Sends = h Sends

@@ -1,5 +1,5 @@
 -- One who leaves a list, and passes on the notice that it was told, leaves its line so.
-use Rattle.channel_world_runs.proofs.refinement.Words.{ShowsTold, AreUntold, AreTold, IsToldSo, ShowsLine, ShowsLines, KeysFit, list_of, of_line, false_from_ne_true, arith, ◌≡◌, ◌⊎◌, ◌≤◌, ◌-◌, ℕ, min, List, [], ◌∷◌, length, take, Bool, true, false, not, Option, None, Some, is_some, refl, sym, ap, subst, ◌∙◌, inl, inr, append-nil, if◌then◌else◌, list_any, Key, Listeners, Roster, listeners, with_listeners, Waiting, is_among, is_stream, untold, told_by, after_news, gone, passed_on, Kind, Placed, times, same_line, Waiter, News, Nothing, NextIn, Line, Sends, Receives, Streams, Closings, decided, or_false, without_absent, untold_gone, line_refl, placed_gone, empty_gone, KeysHeld, among_take}
+use Rattle.channel_world_runs.proofs.refinement.Words.{ShowsTold, AreUntold, AreTold, IsToldSo, ShowsLine, ShowsLines, KeysFit, list_of, of_line, false_from_ne_true, arith, ◌≡◌, ◌⊎◌, ◌≤◌, ◌-◌, ℕ, min, List, [], ◌∷◌, length, take, Bool, true, false, not, Option, None, Some, is_some, refl, sym, ap, subst, ◌∙◌, inl, inr, append-nil, if◌then◌else◌, list_any, Key, Listeners, WaitLists, listeners, with_listeners, Waiting, is_among, is_stream, untold, told_by, after_news, gone, passed_on, Kind, Placed, times, same_line, Waiter, News, Nothing, NextIn, WaitList, Sends, Receives, Streams, Closings, decided, or_false, without_absent, untold_gone, line_refl, placed_gone, empty_gone, KeysHeld, among_take}
 use Rattle.std.proofs.lemmas.Slice.Zip.{AllZip-long}
 use Rattle.event_listener.specs.Lists.{Notice, notified, moved, passed, passed_wakes, told_as, waits_as, removed, removed_wakes, without as unlisted}
 use Rattle.channel_world_runs.proofs.refinement.Telling.{quiet_line, Lined, replaced, unmoved, first_tasks, next_line, next_other, others_woken}
@@ -28,7 +28,7 @@ module _ (key : Key) (l : Listeners Waiter) where
   wakes_are o e = ap (λ (p : Option (Notice (Unit {0}))). wakes_by p) e
 
 -- a list that was left and then told news
-record Left (kind : Kind) (held : KeysHeld) (closed : Bool) (line : Line) (x : Listeners Waiter) (names : List Waiter) (news : News) (m : Waiting) : Type 0 where
+record Left (kind : Kind) (held : KeysHeld) (closed : Bool) (line : WaitList) (x : Listeners Waiter) (names : List Waiter) (news : News) (m : Waiting) : Type 0 where
   own : ShowsLine kind held closed line x (after_news news m)
   wakes : names ≡ told_by news m
   quiet : (news ≡ Nothing) ⊎ (news ≡ NextIn line)
@@ -36,7 +36,7 @@ record Left (kind : Kind) (held : KeysHeld) (closed : Bool) (line : Line) (x : L
 module _ (kind : Kind) (held : KeysHeld) (closed : Bool) where
   -- ---- a notice that is passed on
 
-  none_moved : (line : Line) (n : Notice (Unit {0})) (y : Listeners Waiter) (m : Waiting) → moved n.additional 1 y ≡ 0 → ShowsLine kind held closed line y m
+  none_moved : (line : WaitList) (n : Notice (Unit {0})) (y : Listeners Waiter) (m : Waiting) → moved n.additional 1 y ≡ 0 → ShowsLine kind held closed line y m
       → Left kind held closed line (passed n y) (passed_wakes n y) Nothing m
   none_moved line n y m e h = record {
     own = subst (λ (k : ℕ). ShowsLine kind held closed line (notified n.additional (take k (n.tag ∷ [])) y) (after_news Nothing m)) (sym e) still;
@@ -48,7 +48,7 @@ module _ (kind : Kind) (held : KeysHeld) (closed : Bool) where
         quiet_line kind held closed line (notified n.additional [] y) m
         (record { untold = h.untold; told = subst (λ (es : List (Key × Notice (Unit {0}))). AreTold held closed line es (of_line kind line m.woken)) (sym (append-nil y.told)) h.told })
 
-  one_moved : (line : Line) (n : Notice (Unit {0})) (y : Listeners Waiter) (m : Waiting) → moved n.additional 1 y ≡ min 1 (length y.waiting) → (closed ≡ false → IsToldSo line n.additional)
+  one_moved : (line : WaitList) (n : Notice (Unit {0})) (y : Listeners Waiter) (m : Waiting) → moved n.additional 1 y ≡ min 1 (length y.waiting) → (closed ≡ false → IsToldSo line n.additional)
       → AllOf kind line (untold line m) → ShowsLine kind held closed line y m → Left kind held closed line (passed n y) (passed_wakes n y) (NextIn line) m
   one_moved line n y m e so all h = record {
     own = next_line kind held closed line n.additional n.tag (moved n.additional 1 y) y m e so all h;
@@ -69,20 +69,20 @@ module _ (kind : Kind) (held : KeysHeld) (closed : Bool) where
   nobody_first ws e = rw e (omega arith)
 
   -- how a told one of this line passes its notice on, once it is gone
-  abbrev pub heir : Line → Waiting → News
+  abbrev pub heir : WaitList → Waiting → News
   heir Sends m = NextIn Sends
   heir Receives m = NextIn Receives
   heir Streams m = if not (list_any is_stream m.woken) then NextIn Streams else Nothing
   heir Closings m = Nothing
 
-  none_waits : (line : Line) (y : Listeners Waiter) (m : Waiting) → ShowsLine kind held closed line y m → untold line m ≡ [] → y.waiting ≡ []
+  none_waits : (line : WaitList) (y : Listeners Waiter) (m : Waiting) → ShowsLine kind held closed line y m → untold line m ≡ [] → y.waiting ≡ []
   none_waits line y m h e = none_untold held y.waiting (untold line m) h.untold e
 
-  none_as_first : (line : Line) (n : Notice (Unit {0})) (y : Listeners Waiter) (m : Waiting) → untold line m ≡ [] → ShowsLine kind held closed line y m → moved n.additional 1 y ≡ min 1 (length y.waiting)
+  none_as_first : (line : WaitList) (n : Notice (Unit {0})) (y : Listeners Waiter) (m : Waiting) → untold line m ≡ [] → ShowsLine kind held closed line y m → moved n.additional 1 y ≡ min 1 (length y.waiting)
   none_as_first line n y m e h =
       let none = none_waits line y m h e in nobody_moved n.additional (length y.told) y.waiting none ∙ sym (nobody_first y.waiting none)
 
-  as_many_told : (line : Line) (y : Listeners Waiter) (m : Waiting) → ShowsLine kind held closed line y m → length y.told ≡ length (of_line kind line m.woken)
+  as_many_told : (line : WaitList) (y : Listeners Waiter) (m : Waiting) → ShowsLine kind held closed line y m → length y.told ≡ length (of_line kind line m.woken)
   as_many_told line y m h = sym (AllZip-long (ShowsTold held closed line) y.told (of_line kind line m.woken) h.told)
 
   no_stream : StreamsAreStreams kind → (ws : List Waiter) → list_any is_stream ws ≡ false → length (of_line kind Streams ws) ≡ 0
@@ -91,7 +91,7 @@ module _ (kind : Kind) (held : KeysHeld) (closed : Bool) where
       let off = or_false (is_stream w) (list_any is_stream ws) e in
       absent w (kind w) refl off.0 (no_stream streams ws off.1)
     where
-      absent : (w : Waiter) (o : Option Line) → kind w ≡ o → is_stream w ≡ false → length (of_line kind Streams ws) ≡ 0 → length (of_line kind Streams (w ∷ ws)) ≡ 0
+      absent : (w : Waiter) (o : Option WaitList) → kind w ≡ o → is_stream w ≡ false → length (of_line kind Streams ws) ≡ 0 → length (of_line kind Streams (w ∷ ws)) ≡ 0
       absent w (Some Streams) k f h = cc (sym ((streams w).1 k) ∙ f)
       absent w o k f h = rw k h
 
@@ -101,11 +101,11 @@ module _ (kind : Kind) (held : KeysHeld) (closed : Bool) where
     | inl t ↦ rw ((streams w).0 t) (omega arith)
     | inr t ↦ at_kind (kind w) refl (some_stream streams ws (rw t at e))
   ] where
-    at_kind : (o : Option Line) → kind w ≡ o → 1 ≤ length (of_line kind Streams ws) → 1 ≤ length (of_line kind Streams (w ∷ ws))
+    at_kind : (o : Option WaitList) → kind w ≡ o → 1 ≤ length (of_line kind Streams ws) → 1 ≤ length (of_line kind Streams (w ∷ ws))
     at_kind (Some Streams) k h = rw k (omega (arith, h))
     at_kind o k h = rw k h
 
-  passes : StreamsAreStreams kind → (line : Line) (n : Notice (Unit {0})) (y : Listeners Waiter) (m : Waiting) → (closed ≡ false → IsToldSo line n.additional) → (closed ≡ true → untold line m ≡ [])
+  passes : StreamsAreStreams kind → (line : WaitList) (n : Notice (Unit {0})) (y : Listeners Waiter) (m : Waiting) → (closed ≡ false → IsToldSo line n.additional) → (closed ≡ true → untold line m ≡ [])
       → AllOf kind line (untold line m) → ShowsLine kind held closed line y m → Left kind held closed line (passed n y) (passed_wakes n y) (heir line m) m
   passes streams Closings n y m so shut all h = elim (open_or_shut closed) [
     | inl o ↦ absurd (so o)
@@ -132,8 +132,8 @@ module _ (kind : Kind) (held : KeysHeld) (closed : Bool) where
 
   -- ---- one who leaves
 
-  module _ (streams : StreamsAreStreams kind) (a : Roster Waiter) (l : Waiting) (own : Line) (w : Waiter) (key : Key) (k : kind w ≡ Some own) (holds : held w ≡ Some key)
-      (placed : Placed kind l) (keys : KeysFit kind held l) (shut : closed ≡ true → (line : Line) → untold line l ≡ []) (h : ShowsLines kind held closed a l) where
+  module _ (streams : StreamsAreStreams kind) (a : WaitLists Waiter) (l : Waiting) (own : WaitList) (w : Waiter) (key : Key) (k : kind w ≡ Some own) (holds : held w ≡ Some key)
+      (placed : Placed kind l) (keys : KeysFit kind held l) (shut : closed ≡ true → (line : WaitList) → untold line l ≡ []) (h : ShowsLines kind held closed a l) where
     abbrev pub x : Listeners Waiter
     x = listeners (list_of own) a
 
@@ -157,14 +157,14 @@ module _ (kind : Kind) (held : KeysHeld) (closed : Bool) where
           (told_without held key w holds closed own x.told (of_line kind own l.woken) only_told once_told (h own).told);
     }
 
-    not_in : (other : Line) → same_line other own ≡ false → is_among w (untold other l) ≡ false
+    not_in : (other : WaitList) → same_line other own ≡ false → is_among w (untold other l) ≡ false
     not_in other off = false_from_ne_true (is_among w (untold other l)) (λ t.
         let same : Some other ≡ Some own = sym (placed.lines other w t) ∙ k in
         let lines : other ≡ own = cc same in
-        cc (sym (subst (λ (z : Line). same_line other z ≡ true) lines (line_refl other)) ∙ off))
+        cc (sym (subst (λ (z : WaitList). same_line other z ≡ true) lines (line_refl other)) ∙ off))
 
     -- the other lists
-    pub other_gone : (other : Line) → same_line other own ≡ false → ShowsLine kind held closed other (listeners (list_of other) a) (gone w l)
+    pub other_gone : (other : WaitList) → same_line other own ≡ false → ShowsLine kind held closed other (listeners (list_of other) a) (gone w l)
     other_gone other off =
         unmoved kind held closed other (listeners (list_of other) a) l (gone w l) (untold_gone other w l ∙ without_absent w (untold other l) (not_in other off))
         (of_line_without kind other w l.woken ∙ without_absent w (of_line kind other l.woken) (not_of_line kind own other w l.woken k off)) (h other)
@@ -175,11 +175,11 @@ module _ (kind : Kind) (held : KeysHeld) (closed : Bool) where
     shut_gone : closed ≡ true → untold own (gone w l) ≡ []
     shut_gone c = empty_gone own w l (shut c own)
 
-    passed_told : (line : Line) → is_among w l.woken ≡ true → passed_on line w l ≡ heir line (gone w l)
+    passed_told : (line : WaitList) → is_among w l.woken ≡ true → passed_on line w l ≡ heir line (gone w l)
     passed_told Closings t = refl
     passed_told line t = rw t refl
 
-    passed_untold : (line : Line) → is_among w l.woken ≡ false → passed_on line w l ≡ Nothing
+    passed_untold : (line : WaitList) → is_among w l.woken ≡ false → passed_on line w l ≡ Nothing
     passed_untold Closings t = refl
     passed_untold line t = rw t refl
 
@@ -228,10 +228,10 @@ module _ (kind : Kind) (held : KeysHeld) (closed : Bool) where
     pub leave_wakes : removed_wakes key true x ≡ told_by (passed_on own w l) (gone w l)
     leave_wakes = left.wakes
 
-    abbrev pub b : Roster Waiter
+    abbrev pub b : WaitLists Waiter
     b = with_listeners (list_of own) (removed key true x) a
 
-    others_by : (news : News) → (news ≡ Nothing) ⊎ (news ≡ NextIn own) → (other : Line) → same_line other own ≡ false → ShowsLine kind held closed other (listeners (list_of other) a) (after_news news (gone w l))
+    others_by : (news : News) → (news ≡ Nothing) ⊎ (news ≡ NextIn own) → (other : WaitList) → same_line other own ≡ false → ShowsLine kind held closed other (listeners (list_of other) a) (after_news news (gone w l))
     others_by news (inl e) other off =
         subst (λ (z : News). ShowsLine kind held closed other (listeners (list_of other) a) (after_news z (gone w l))) (sym e)
         (quiet_line kind held closed other (listeners (list_of other) a) (gone w l) (other_gone other off))

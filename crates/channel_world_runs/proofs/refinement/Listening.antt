@@ -1,5 +1,5 @@
 -- One who comes to wait stands at the end of its line.
-use Rattle.channel_world_runs.proofs.refinement.Words.{ShowsUntold, with_held, AreUntold, AreTold, ShowsLines, KeysFit, list_of, of_line, arith, ◌≡◌, ◌≤◌, ◌+◌, List, [], ◌∷◌, ◌++◌, Bool, true, false, cond, Option, None, Some, is_some, refl, sym, ap, subst, ◌∙◌, inl, inr, if◌then◌else◌, lookup, set_value, kind_of, told_as, waits_as, same_key, listened, registration, Key, Listeners, Roster, listeners, with_listeners, Waiting, same_waiter, is_among, untold, with_untold, Kind, Placed, times, times_in, same_line, Waiter, Line, Sends, Receives, Streams, Closings, same_refl, same_sound, decided, count_append, KeysHeld}
+use Rattle.channel_world_runs.proofs.refinement.Words.{ShowsUntold, with_held, AreUntold, AreTold, ShowsLines, KeysFit, list_of, of_line, arith, ◌≡◌, ◌≤◌, ◌+◌, List, [], ◌∷◌, ◌++◌, Bool, true, false, cond, Option, None, Some, is_some, refl, sym, ap, subst, ◌∙◌, inl, inr, if◌then◌else◌, lookup, set_value, kind_of, told_as, waits_as, same_key, listened, registration, Key, Listeners, WaitLists, listeners, with_listeners, Waiting, same_waiter, is_among, untold, with_untold, Kind, Placed, times, times_in, same_line, Waiter, WaitList, Sends, Receives, Streams, Closings, same_refl, same_sound, decided, count_append, KeysHeld}
 use Rattle.channel_world_runs.proofs.refinement.Names.{among_of_line, among_its_line}
 use Rattle.channel_world_runs.proofs.refinement.Entries.{same_key_refl, OnlyHolder, told_found, untold_found, zip_append}
 use Rattle.channel_world_runs.proofs.refinement.Telling.{replaced, unmoved}
@@ -7,34 +7,34 @@ use Rattle.channel_world_runs.proofs.refinement.Standing.{Nowhere, same_of, away
 
 -- ---- lines and lists
 
-pub own_list : (line : Line) (x : Listeners Waiter) (a : Roster Waiter) → listeners (list_of line) (with_listeners (list_of line) x a) ≡ x
+pub own_list : (line : WaitList) (x : Listeners Waiter) (a : WaitLists Waiter) → listeners (list_of line) (with_listeners (list_of line) x a) ≡ x
 own_list Sends x a = refl
 own_list line x a = refl
 
-pub twice : (line : Line) (x y : Listeners Waiter) (a : Roster Waiter) → with_listeners (list_of line) y (with_listeners (list_of line) x a) ≡ with_listeners (list_of line) y a
+pub twice : (line : WaitList) (x y : Listeners Waiter) (a : WaitLists Waiter) → with_listeners (list_of line) y (with_listeners (list_of line) x a) ≡ with_listeners (list_of line) y a
 twice Sends x y a = refl
 twice line x y a = refl
 
-with_own_line : (line : Line) (ws : List Waiter) (m : Waiting) → untold line (with_untold line ws m) ≡ ws
+with_own_line : (line : WaitList) (ws : List Waiter) (m : Waiting) → untold line (with_untold line ws m) ≡ ws
 with_own_line Sends ws m = refl
 with_own_line line ws m = refl
 
-with_other_line : (line other : Line) (ws : List Waiter) (m : Waiting) → same_line other line ≡ false → untold other (with_untold line ws m) ≡ untold other m
+with_other_line : (line other : WaitList) (ws : List Waiter) (m : Waiting) → same_line other line ≡ false → untold other (with_untold line ws m) ≡ untold other m
 with_other_line Sends Sends ws m e = cc e
 with_other_line Receives Receives ws m e = cc e
 with_other_line Streams Streams ws m e = cc e
 with_other_line Closings Closings ws m e = cc e
 with_other_line line other ws m e = refl
 
-with_same_woken : (line : Line) (ws : List Waiter) (m : Waiting) → (with_untold line ws m).woken ≡ m.woken
+with_same_woken : (line : WaitList) (ws : List Waiter) (m : Waiting) → (with_untold line ws m).woken ≡ m.woken
 with_same_woken Sends ws m = refl
 with_same_woken line ws m = refl
 
 -- w at the end of a line
-abbrev pub at_last : Line → Waiter → Waiting → Waiting
+abbrev pub at_last : WaitList → Waiter → Waiting → Waiting
 at_last line w m = with_untold line (untold line m ++ w ∷ []) m
 
-times_last : (line : Line) (v w : Waiter) (m : Waiting) → times_in v (at_last line w m) ≡ times_in v m + times v (w ∷ [])
+times_last : (line : WaitList) (v w : Waiter) (m : Waiting) → times_in v (at_last line w m) ≡ times_in v m + times v (w ∷ [])
 times_last Sends v w m = omega (arith, count_append (same_waiter v) m.sends (w ∷ []))
 times_last Receives v w m = omega (arith, count_append (same_waiter v) m.receives (w ∷ []))
 times_last Streams v w m = omega (arith, count_append (same_waiter v) m.streams (w ∷ []))
@@ -79,7 +79,7 @@ module _ (key : Key) (w : Waiter) where
       chosen (is_some (told_as (listened key x) key)) (is_some (waits_as (listened key x) key)) _ _ _ off.0 (found_last x.waiting)
       ∙ ap (λ (es : List (Key × Option Waiter)). let l : Listeners Waiter = record { told = x.told; waiting = es } in l) (set_last x.waiting off.1)
 
-module _ (kind : Kind) (held : KeysHeld) (closed : Bool) (a : Roster Waiter) (m : Waiting) (line : Line) (w : Waiter) (key : Key) (k : kind w ≡ Some line) (placed : Placed kind m) (keys : KeysFit kind held m)
+module _ (kind : Kind) (held : KeysHeld) (closed : Bool) (a : WaitLists Waiter) (m : Waiting) (line : WaitList) (w : Waiter) (key : Key) (k : kind w ≡ Some line) (placed : Placed kind m) (keys : KeysFit kind held m)
     (nowhere : Nowhere w m) (none : kind_of (listeners (list_of line) a) key ≡ None) (h : ShowsLines kind held closed a m) where
   off : (is_some (told_as (listeners (list_of line) a) key) ≡ false) × (is_some (waits_as (listeners (list_of line) a) key) ≡ false)
   off = neither (is_some (told_as (listeners (list_of line) a) key)) (is_some (waits_as (listeners (list_of line) a) key)) none
@@ -115,14 +115,14 @@ module _ (kind : Kind) (held : KeysHeld) (closed : Bool) (a : Roster Waiter) (m 
             let there : held v ≡ Some other = sym (with_other w v (Some key) held r) ∙ e2 in
             let here : Some key ≡ Some other = sym (with_own w u (Some key) held t) ∙ e1 in
             let lines = same_of own line (sym k1 ∙ ap (λ (x : Waiter). kind x) (sym (same_sound w u t)) ∙ k) in
-            absurd (unheld v (k2 ∙ ap (λ (x : Line). Some x) lines) (there ∙ sym here))
+            absurd (unheld v (k2 ∙ ap (λ (x : WaitList). Some x) lines) (there ∙ sym here))
       ]
       | inr t ↦ elim (decided (same_waiter w v)) [
         | inl r ↦
             let there : held u ≡ Some other = sym (with_other w u (Some key) held t) ∙ e1 in
             let here : Some key ≡ Some other = sym (with_own w v (Some key) held r) ∙ e2 in
             let lines = same_of own line (sym k2 ∙ ap (λ (x : Waiter). kind x) (sym (same_sound w v r)) ∙ k) in
-            absurd (unheld u (k1 ∙ ap (λ (x : Line). Some x) lines) (there ∙ sym here))
+            absurd (unheld u (k1 ∙ ap (λ (x : WaitList). Some x) lines) (there ∙ sym here))
         | inr r ↦ keys.apart own u v other k1 k2 (sym (with_other w u (Some key) held t) ∙ e1) (sym (with_other w v (Some key) held r) ∙ e2)
       ]
     ];
@@ -143,11 +143,11 @@ module _ (kind : Kind) (held : KeysHeld) (closed : Bool) (a : Roster Waiter) (m 
       (ap (λ (ws : List Waiter). of_line kind other ws) (with_same_woken line (untold line m ++ w ∷ []) m)) (g other))
 
   -- the roster of one who listened and was registered
-  pub joins_roster : (b : Roster Waiter) → b ≡ with_listeners (list_of line) (listened key (listeners (list_of line) a)) a
+  pub joins_roster : (b : WaitLists Waiter) → b ≡ with_listeners (list_of line) (listened key (listeners (list_of line) a)) a
       → with_listeners (list_of line) (registration key w (listeners (list_of line) b)) b ≡ with_listeners (list_of line) (joined key w (listeners (list_of line) a)) a
   joins_roster b e =
       let x : Listeners Waiter = listeners (list_of line) a in
-      ap (λ (r : Roster Waiter). with_listeners (list_of line) (registration key w (listeners (list_of line) r)) r) e
+      ap (λ (r : WaitLists Waiter). with_listeners (list_of line) (registration key w (listeners (list_of line) r)) r) e
       ∙ twice line (listened key x) (registration key w (listeners (list_of line) (with_listeners (list_of line) (listened key x) a))) a
       ∙ ap (λ (l : Listeners Waiter). with_listeners (list_of line) (registration key w l) a) (own_list line (listened key x) a)
       ∙ ap (λ (l : Listeners Waiter). with_listeners (list_of line) l a) (registered key w x none)

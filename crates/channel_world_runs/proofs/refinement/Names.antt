@@ -1,8 +1,8 @@
 -- Names in lists, those of one line among them, and how often a name stands.
-use Rattle.channel_world_runs.proofs.refinement.Words.{false_from_ne_true, ◌≡◌, List, [], ◌∷◌, ◌++◌, true, false, Option, None, Some, refl, sym, ap, subst, ◌∙◌, inl, inr, filter-append, same_waiter, is_among, without_waiter, Kind, same_line, is_line, Waiter, Line, same_sound, decided, or_true, among_self, or_right, line_refl, line_sound, of_line}
+use Rattle.channel_world_runs.proofs.refinement.Words.{false_from_ne_true, ◌≡◌, List, [], ◌∷◌, ◌++◌, true, false, Option, None, Some, refl, sym, ap, subst, ◌∙◌, inl, inr, filter-append, same_waiter, is_among, without_waiter, Kind, same_line, is_line, Waiter, WaitList, same_sound, decided, or_true, among_self, or_right, line_refl, line_sound, of_line}
 
 -- one that stands among those of a line is of it
-pub among_of_line : (kind : Kind) (line : Line) (w : Waiter) (ws : List Waiter) → is_among w (of_line kind line ws) ≡ true → (is_among w ws ≡ true) × (kind w ≡ Some line)
+pub among_of_line : (kind : Kind) (line : WaitList) (w : Waiter) (ws : List Waiter) → is_among w (of_line kind line ws) ≡ true → (is_among w ws ≡ true) × (kind w ≡ Some line)
 among_of_line kind line w [] e = cc e
 among_of_line kind line w (v ∷ vs) e = elim (decided (is_line line (kind v))) [
   | inr t ↦ let on = among_of_line kind line w vs (rw t at e) in (or_right (same_waiter w v) (is_among w vs) on.0, on.1)
@@ -11,12 +11,12 @@ among_of_line kind line w (v ∷ vs) e = elim (decided (is_line line (kind v))) 
     | inr r ↦ let on = among_of_line kind line w vs r in (or_right (same_waiter w v) (is_among w vs) on.0, on.1)
   ]
 ] where
-  named : (o : Option Line) → is_line line o ≡ true → o ≡ Some line
+  named : (o : Option WaitList) → is_line line o ≡ true → o ≡ Some line
   named None h = cc h
-  named (Some x) h = ap (λ (y : Line). Some y) (sym (line_sound line x h))
+  named (Some x) h = ap (λ (y : WaitList). Some y) (sym (line_sound line x h))
 
 -- one of the line stands among them where it stands at all
-pub among_its_line : (kind : Kind) (line : Line) (w : Waiter) (ws : List Waiter) → kind w ≡ Some line → is_among w (of_line kind line ws) ≡ is_among w ws
+pub among_its_line : (kind : Kind) (line : WaitList) (w : Waiter) (ws : List Waiter) → kind w ≡ Some line → is_among w (of_line kind line ws) ≡ is_among w ws
 among_its_line kind line w [] k = refl
 among_its_line kind line w (v ∷ vs) k = elim (decided (same_waiter w v)) [
   | inl t ↦
@@ -29,7 +29,7 @@ among_its_line kind line w (v ∷ vs) k = elim (decided (same_waiter w v)) [
 ]
 
 -- to take one out, and to keep those of a line, in either order
-pub of_line_without : (kind : Kind) (line : Line) (w : Waiter) (ws : List Waiter) → of_line kind line (without_waiter w ws) ≡ without_waiter w (of_line kind line ws)
+pub of_line_without : (kind : Kind) (line : WaitList) (w : Waiter) (ws : List Waiter) → of_line kind line (without_waiter w ws) ≡ without_waiter w (of_line kind line ws)
 of_line_without kind line w [] = refl
 of_line_without kind line w (v ∷ vs) = elim (decided (same_waiter w v)) [
   | inl t ↦ elim (decided (is_line line (kind v))) [
@@ -42,31 +42,31 @@ of_line_without kind line w (v ∷ vs) = elim (decided (same_waiter w v)) [
   ]
 ]
 
-pub of_line_append : (kind : Kind) (line : Line) (xs ys : List Waiter) → of_line kind line (xs ++ ys) ≡ of_line kind line xs ++ of_line kind line ys
+pub of_line_append : (kind : Kind) (line : WaitList) (xs ys : List Waiter) → of_line kind line (xs ++ ys) ≡ of_line kind line xs ++ of_line kind line ys
 of_line_append kind line xs ys = filter-append (λ (w : Waiter). is_line line (kind w)) xs ys
 
 -- all of one line
-abbrev pub AllOf : Kind → Line → List Waiter → Type 0
+abbrev pub AllOf : Kind → WaitList → List Waiter → Type 0
 AllOf kind line ws = (w : Waiter) → is_among w ws ≡ true → kind w ≡ Some line
 
-pub all_rest : (kind : Kind) (line : Line) (x : Waiter) (xs : List Waiter) → AllOf kind line (x ∷ xs) → AllOf kind line xs
+pub all_rest : (kind : Kind) (line : WaitList) (x : Waiter) (xs : List Waiter) → AllOf kind line (x ∷ xs) → AllOf kind line xs
 all_rest kind line x xs h = λ w e. h w (or_right (same_waiter w x) (is_among w xs) e)
 
-pub of_own_line : (kind : Kind) (line : Line) (ws : List Waiter) → AllOf kind line ws → of_line kind line ws ≡ ws
+pub of_own_line : (kind : Kind) (line : WaitList) (ws : List Waiter) → AllOf kind line ws → of_line kind line ws ≡ ws
 of_own_line kind line [] h = refl
 of_own_line kind line (x ∷ xs) h =
     let here : is_line line (kind x) ≡ true = rw (h x (among_self x xs)) (line_refl line) in
     rw here (ap (λ (ys : List Waiter). x ∷ ys) (of_own_line kind line xs (all_rest kind line x xs h)))
 
-pub of_other_line : (kind : Kind) (line other : Line) → same_line other line ≡ false → (ws : List Waiter) → AllOf kind line ws → of_line kind other ws ≡ []
+pub of_other_line : (kind : Kind) (line other : WaitList) → same_line other line ≡ false → (ws : List Waiter) → AllOf kind line ws → of_line kind other ws ≡ []
 of_other_line kind line other off [] h = refl
 of_other_line kind line other off (x ∷ xs) h =
     let here : is_line other (kind x) ≡ false = rw (h x (among_self x xs)) off in
     rw here (of_other_line kind line other off xs (all_rest kind line x xs h))
 
 -- a name of another kind is not of the line
-pub not_of_line : (kind : Kind) (line other : Line) (w : Waiter) (ws : List Waiter) → kind w ≡ Some line → same_line other line ≡ false → is_among w (of_line kind other ws) ≡ false
+pub not_of_line : (kind : Kind) (line other : WaitList) (w : Waiter) (ws : List Waiter) → kind w ≡ Some line → same_line other line ≡ false → is_among w (of_line kind other ws) ≡ false
 not_of_line kind line other w ws k off = false_from_ne_true (is_among w (of_line kind other ws)) (λ t.
     let same : Some other ≡ Some line = sym (among_of_line kind other w ws t).1 ∙ k in
     let lines : other ≡ line = cc same in
-    cc (sym (subst (λ (x : Line). same_line other x ≡ true) lines (line_refl other)) ∙ off))
+    cc (sym (subst (λ (x : WaitList). same_line other x ≡ true) lines (line_refl other)) ∙ off))

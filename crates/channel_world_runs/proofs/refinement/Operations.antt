@@ -1,5 +1,5 @@
 -- Operations under their names: one that changes as it leaves, one that waits, and one that is given up.
-use Rattle.channel_world_runs.proofs.refinement.Words.{◌≡◌, ◌⊎◌, nat_eq, List, [], Bool, false, Option, None, Some, refl, sym, ap, subst, ◌∙◌, inl, inr, append-nil, set_value, ListenError, Channel, gives_up, Reply, Line, Outcome, ends, replying, after_leaving, pending, poll_answer, give_up_answer, given_up, AwakeIn, line_at, line_of_operation, Waiting, same_waiter, is_among, untold, after_news, gone, passed_on, Names, Directory, ModelOperation, at, Lack, memory, serials, not_standing, not_polled, State, with_waiting, OpId, Waiter, Op, Stream, Nothing, found_name, set_elsewhere, same_refl, Matches, polled_names, given_up_names, KeysHeld, with_held, Refines, ShowsLines, KeysFit, list_of}
+use Rattle.channel_world_runs.proofs.refinement.Words.{◌≡◌, ◌⊎◌, nat_eq, List, [], Bool, false, Option, None, Some, refl, sym, ap, subst, ◌∙◌, inl, inr, append-nil, set_value, ListenError, Channel, gives_up, Reply, WaitList, Outcome, ends, replying, after_leaving, pending, poll_answer, give_up_answer, given_up, AwakeIn, line_at, line_of_operation, Waiting, same_waiter, is_among, untold, after_news, gone, passed_on, Names, Directory, ModelOperation, at, Lack, memory, serials, not_standing, not_polled, State, with_waiting, OpId, Waiter, Op, Stream, Nothing, found_name, set_elsewhere, same_refl, Matches, polled_names, given_up_names, KeysHeld, with_held, Refines, ShowsLines, KeysFit, list_of}
 use Rattle.event_listener.specs.declared.error.ListenError.TheVariants as listening
 use Rattle.channel_calls.specs.declared.reply.Reply.TheVariants as reply
 use Rattle.channel_world_model.specs.declared.call.Call.TheVariants as call
@@ -18,7 +18,7 @@ other_kind {T} op v x names names' there set (Op other) off =
     ap (λ (o : Option (ModelOperation T)). line_of_operation o)
     (ap (λ (d : Directory (ModelOperation T)). at other.0 d) set ∙ set_elsewhere op.0 other.0 v names.operations (found_name op.0 names.operations x there) off)
 
-pub not_standing_is : {T : Type 0} → (line : Line) (w : Waiter) (s : State T) (r : Reply T) → is_among w (untold line s.waiting) ≡ false → not_standing line w s r ≡ Some (replying (with_waiting (gone w s.waiting) s) r)
+pub not_standing_is : {T : Type 0} → (line : WaitList) (w : Waiter) (s : State T) (r : Reply T) → is_among w (untold line s.waiting) ≡ false → not_standing line w s r ≡ Some (replying (with_waiting (gone w s.waiting) s) r)
 not_standing_is line w s r u = rw u refl
 
 -- what a listening lacked
@@ -29,7 +29,7 @@ lack_of listening.SerialsUsedUp = serials
 module _ {T : Type 0} (held : KeysHeld) (c : Channel T Waiter) (s : State T) (h : Refines held c s) (awake : AwakeIn s) (op : OpId) (x : ModelOperation T) where
   -- ---- a poll that found nothing
 
-  pub poll_waited : (line : Line) (pends : Reply T) (refuses : ListenError → Reply T) (left : Option T) → at op.0 s.names.operations ≡ Some x → poll_answer s op (Some x) ≡ pending line (Op op) s pends
+  pub poll_waited : (line : WaitList) (pends : Reply T) (refuses : ListenError → Reply T) (left : Option T) → at op.0 s.names.operations ≡ Some x → poll_answer s op (Some x) ≡ pending line (Op op) s pends
       → ((error : ListenError) → is_among (Op op) (untold line s.waiting) ≡ false → not_polled (lack_of error) s op (Some x) ≡ Some (replying (with_waiting (gone (Op op) s.waiting) s) (refuses error)))
       → s.names ≡ polled_names op (Some x) left s.names → (o : Outcome T Waiter) → WaitEnds line pends refuses left (Op op) held s o → Matches held s (call.Poll op) o
   poll_waited line pends refuses left there pends_is lacks names o (inl (key, d, e, g)) =
@@ -57,7 +57,7 @@ module _ {T : Type 0} (held : KeysHeld) (c : Channel T Waiter) (s : State T) (h 
 
   -- ---- an operation that changes as it leaves
 
-  pub changed_lines : (line : Line) (l : Waiting) (v : Option (ModelOperation T)) (names' : Names T) (b d : Channel T Waiter) (names : List Waiter) (closed : Bool)
+  pub changed_lines : (line : WaitList) (l : Waiting) (v : Option (ModelOperation T)) (names' : Names T) (b d : Channel T Waiter) (names : List Waiter) (closed : Bool)
       → at op.0 s.names.operations ≡ Some x → names'.operations ≡ set_value (nat_eq op.0) s.names.operations v → Departed (line_at s.names) held closed line (Op op) l b d names
       → ShowsLines (line_at names') (with_held (Op op) None held) closed d.roster (after_news (passed_on line (Op op) l) (gone (Op op) l))
       × KeysFit (line_at names') (with_held (Op op) None held) (after_news (passed_on line (Op op) l) (gone (Op op) l))
@@ -70,7 +70,7 @@ module _ {T : Type 0} (held : KeysHeld) (c : Channel T Waiter) (s : State T) (h 
 
   -- ---- an operation that is given up
 
-  pub give_up : (line : Line) (msg : Option T) (o : Outcome T Waiter) → at op.0 s.names.operations ≡ Some x → (line_at s.names (Op op) ≡ Some line) ⊎ (line_at s.names (Op op) ≡ None)
+  pub give_up : (line : WaitList) (msg : Option T) (o : Outcome T Waiter) → at op.0 s.names.operations ≡ Some x → (line_at s.names (Op op) ≡ Some line) ⊎ (line_at s.names (Op op) ≡ None)
       → give_up_answer s op (Some x) ≡ after_leaving Nothing line (Op op) (given_up s op x) (reply.GivenUp msg)
       → o ≡ ends [] (gives_up (list_of line) msg (held (Op op))) c → Matches held s (call.GiveUp op) o
   give_up line msg o there k answer_is e =

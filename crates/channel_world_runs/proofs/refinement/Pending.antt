@@ -1,5 +1,5 @@
 -- A poll that finds nothing: it stays where it waits, or comes to wait, or was not let listen.
-use Rattle.channel_world_runs.proofs.refinement.Words.{◌≡◌, List, [], Bool, true, false, not, Option, None, Some, is_some, refl, sym, ap, subst, ◌∙◌, if◌then◌else◌, set_value_same, Key, Listeners, Roster, listeners, with_listeners, waits, Waiting, same_waiter, is_among, untold, gone, standing, Kind, Placed, Waiter, Line, Sends, same_sound, placed_gone, KeysHeld, with_held, ShowsLines, KeysFit, list_of, of_line}
+use Rattle.channel_world_runs.proofs.refinement.Words.{◌≡◌, List, [], Bool, true, false, not, Option, None, Some, is_some, refl, sym, ap, subst, ◌∙◌, if◌then◌else◌, set_value_same, Key, Listeners, WaitLists, listeners, with_listeners, waits, Waiting, same_waiter, is_among, untold, gone, standing, Kind, Placed, Waiter, WaitList, Sends, same_sound, placed_gone, KeysHeld, with_held, ShowsLines, KeysFit, list_of, of_line}
 use Rattle.event_listener.specs.Lists.{kind_of, told_as, waits_as, same_key, listened, registration, with_task, Notice, without as unlisted}
 use Rattle.channel_world_runs.proofs.refinement.Names.{among_of_line, among_its_line}
 use Rattle.channel_world_runs.proofs.refinement.Entries.{OnlyHolder, told_found, told_missed, untold_found}
@@ -25,12 +25,12 @@ if_same false x z h = refl
 pub held_same : (w : Waiter) (x : Option Key) (held : KeysHeld) → held w ≡ x → with_held w x held ≡ held
 held_same w x held e = λ i v. if_same (same_waiter w v) x (held v) (λ t. sym e ∙ ap (λ (u : Waiter). held u) (same_sound w v t)) i
 
-same_list : (line : Line) (a : Roster Waiter) → with_listeners (list_of line) (listeners (list_of line) a) a ≡ a
+same_list : (line : WaitList) (a : WaitLists Waiter) → with_listeners (list_of line) (listeners (list_of line) a) a ≡ a
 same_list Sends a = refl
 same_list line a = refl
 
 -- the roster b that shows m after the roster a, with w holding this key
-pub record Waited (kind : Kind) (held : KeysHeld) (closed : Bool) (w : Waiter) (a b : Roster Waiter) (key : Option Key) (m : Waiting) : Type 0 where
+pub record Waited (kind : Kind) (held : KeysHeld) (closed : Bool) (w : Waiter) (a b : WaitLists Waiter) (key : Option Key) (m : Waiting) : Type 0 where
   pub senders : b.senders ≡ a.senders
   pub receivers : b.receivers ≡ a.receivers
   pub lines : ShowsLines kind (with_held w key held) closed b m
@@ -50,8 +50,8 @@ first_of told waiting p q r e = rw e refl
 second_of : (told waiting : Bool) (p q r : Listeners Waiter) → told ≡ false → waiting ≡ true → (if told then p else (if waiting then q else r)) ≡ q
 second_of told waiting p q r e f = rw (e, f) refl
 
-module _ (kind : Kind) (held : KeysHeld) (closed : Bool) (streams : StreamsAreStreams kind) (line : Line) (w : Waiter) (k : kind w ≡ Some line) (l : Waiting) (placed : Placed kind l) (keys : KeysFit kind held l)
-    (shut : closed ≡ true → (line : Line) → untold line l ≡ []) (a : Roster Waiter) (h : ShowsLines kind held closed a l) where
+module _ (kind : Kind) (held : KeysHeld) (closed : Bool) (streams : StreamsAreStreams kind) (line : WaitList) (w : Waiter) (k : kind w ≡ Some line) (l : Waiting) (placed : Placed kind l) (keys : KeysFit kind held l)
+    (shut : closed ≡ true → (line : WaitList) → untold line l ≡ []) (a : WaitLists Waiter) (h : ShowsLines kind held closed a l) where
   -- ---- one who stands nowhere
 
   -- where it held nothing
@@ -110,32 +110,32 @@ module _ (kind : Kind) (held : KeysHeld) (closed : Bool) (streams : StreamsAreSt
           receivers = same_receivers line (registration key w x) a;
           lines =
               subst (λ (m : Waiting). ShowsLines kind (with_held w (Some key) held) closed (with_listeners (list_of line) (registration key w x) a) m) (sym stood)
-              (subst (λ (b : Roster Waiter). ShowsLines kind (with_held w (Some key) held) closed b l) (sym roster) (subst (λ (g : KeysHeld). ShowsLines kind g closed a l) (sym (held_same w (Some key) held e)) h));
+              (subst (λ (b : WaitLists Waiter). ShowsLines kind (with_held w (Some key) held) closed b l) (sym roster) (subst (λ (g : KeysHeld). ShowsLines kind g closed a l) (sym (held_same w (Some key) held e)) h));
           keys = subst (λ (m : Waiting). KeysFit kind (with_held w (Some key) held) m) (sym stood) (subst (λ (g : KeysHeld). KeysFit kind g l) (sym (held_same w (Some key) held e)) keys);
         },
       )
 
   -- ---- one who comes
 
-  pub comes : (b : Roster Waiter) (key : Key) → is_among w (untold line l) ≡ false → kind_of (listeners (list_of line) b) key ≡ None → Waited kind held closed w a b None (gone w l)
-      → (d : Roster Waiter) → d ≡ with_listeners (list_of line) (joined key w (listeners (list_of line) b)) b → Waited kind held closed w a d (Some key) (standing line w l)
+  pub comes : (b : WaitLists Waiter) (key : Key) → is_among w (untold line l) ≡ false → kind_of (listeners (list_of line) b) key ≡ None → Waited kind held closed w a b None (gone w l)
+      → (d : WaitLists Waiter) → d ≡ with_listeners (list_of line) (joined key w (listeners (list_of line) b)) b → Waited kind held closed w a d (Some key) (standing line w l)
   comes b key u none g d e =
       let here = joins_lines kind (with_held w None held) closed b (gone w l) line w key k (placed_gone kind w l placed) g.keys (nowhere_gone w l) none g.lines in
       let fit = joins_keys kind (with_held w None held) closed b (gone w l) line w key k (placed_gone kind w l placed) g.keys (nowhere_gone w l) none g.lines in
       let stood : standing line w l ≡ at_last line w (gone w l) = rw u refl in
       let lines : ShowsLines kind (with_held w (Some key) held) closed d (at_last line w (gone w l)) =
-      subst (λ (r : Roster Waiter). ShowsLines kind (with_held w (Some key) held) closed r (at_last line w (gone w l))) (sym e)
+      subst (λ (r : WaitLists Waiter). ShowsLines kind (with_held w (Some key) held) closed r (at_last line w (gone w l))) (sym e)
       (subst (λ (f : KeysHeld). ShowsLines kind f closed (with_listeners (list_of line) (joined key w (listeners (list_of line) b)) b) (at_last line w (gone w l))) (held_twice w (Some key) None held) here) in
       let keyed : KeysFit kind (with_held w (Some key) held) (at_last line w (gone w l)) = subst (λ (f : KeysHeld). KeysFit kind f (at_last line w (gone w l))) (held_twice w (Some key) None held) fit in
       record {
-        senders = ap (λ (r : Roster Waiter). r.senders) e ∙ same_senders line (joined key w (listeners (list_of line) b)) b ∙ g.senders;
-        receivers = ap (λ (r : Roster Waiter). r.receivers) e ∙ same_receivers line (joined key w (listeners (list_of line) b)) b ∙ g.receivers;
+        senders = ap (λ (r : WaitLists Waiter). r.senders) e ∙ same_senders line (joined key w (listeners (list_of line) b)) b ∙ g.senders;
+        receivers = ap (λ (r : WaitLists Waiter). r.receivers) e ∙ same_receivers line (joined key w (listeners (list_of line) b)) b ∙ g.receivers;
         lines = subst (λ (m : Waiting). ShowsLines kind (with_held w (Some key) held) closed d m) (sym stood) lines;
         keys = subst (λ (m : Waiting). KeysFit kind (with_held w (Some key) held) m) (sym stood) keyed;
       }
 
   -- by listening and registering
-  pub listens_so : (b : Roster Waiter) (key : Key) → is_among w (untold line l) ≡ false → kind_of (listeners (list_of line) b) key ≡ None → Waited kind held closed w a b None (gone w l)
+  pub listens_so : (b : WaitLists Waiter) (key : Key) → is_among w (untold line l) ≡ false → kind_of (listeners (list_of line) b) key ≡ None → Waited kind held closed w a b None (gone w l)
       → Waited kind held closed w a
       (with_listeners (list_of line) (registration key w (listeners (list_of line) (with_listeners (list_of line) (listened key (listeners (list_of line) b)) b))) (with_listeners (list_of line) (listened key (listeners (list_of line) b)) b))
       (Some key) (standing line w l)

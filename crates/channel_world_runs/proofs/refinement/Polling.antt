@@ -1,5 +1,5 @@
 -- Polls that wait.
-use Rattle.channel_world_runs.proofs.refinement.Words.{false_from_ne_true, ◌≡◌, ◌⊎◌, Bool, true, false, Option, None, Some, refl, inl, inr, kind_of, Key, ListenError, Channel, listens, registers, listeners, waits, Reply, Outcome, Where, answers, line_at, Waiting, is_among, untold, gone, standing, AwakeIn, State, with_waiting, Waiter, Line, decided, KeysHeld, with_held, Refines, list_of}
+use Rattle.channel_world_runs.proofs.refinement.Words.{false_from_ne_true, ◌≡◌, ◌⊎◌, Bool, true, false, Option, None, Some, refl, inl, inr, kind_of, Key, ListenError, Channel, listens, registers, listeners, waits, Reply, Outcome, Where, answers, line_at, Waiting, is_among, untold, gone, standing, AwakeIn, State, with_waiting, Waiter, WaitList, decided, KeysHeld, with_held, Refines, list_of}
 use Rattle.channel_calls.specs.Turns.{leaving as keeping}
 use Rattle.channel_world_runs.proofs.refinement.Matching.{shows_again}
 use Rattle.channel_world_runs.proofs.refinement.Standing.{Nowhere, keyless_nowhere, away_holds_none}
@@ -16,7 +16,7 @@ where_false true A B e x = cc e
 where_false false A B e x = x
 
 -- a wait on the list of a line, as every kind of poll has it
-module _ {T : Type 0} (line : Line) (pends : Reply T) (refuses : ListenError → Reply T) (message : Option T) (w : Waiter) where
+module _ {T : Type 0} (line : WaitList) (pends : Reply T) (refuses : ListenError → Reply T) (message : Option T) (w : Waiter) where
   abbrev pub ListensAs : Channel T Waiter → Outcome T Waiter → Type 0
   ListensAs c o =
       ((key : Key) × (kind_of (listeners (list_of line) c.roster) key ≡ None)

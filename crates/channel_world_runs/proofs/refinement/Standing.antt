@@ -1,12 +1,12 @@
 -- Who stands in the lines once one is gone, and what that is to the keys.
-use Rattle.channel_world_runs.proofs.refinement.Words.{false_from_ne_true, arith, ◌≡◌, ◌≤◌, ℕ, List, [], ◌∷◌, length, Bool, true, false, cond, Option, None, Some, IsSome, refl, sym, ap, subst, ◌∙◌, inl, inr, filter, Key, Roster, listeners, Waiting, same_waiter, is_among, without_waiter, untold, gone, Kind, times, times_in, Placed, is_line, Waiter, Line, Sends, Receives, Streams, Closings, same_sound, same_symm, decided, without_absent, none_left, untold_gone, among_self, or_right, absent_counts, KeysHeld, with_held, AreTold, ShowsLines, KeysFit, list_of, of_line}
+use Rattle.channel_world_runs.proofs.refinement.Words.{false_from_ne_true, arith, ◌≡◌, ◌≤◌, ℕ, List, [], ◌∷◌, length, Bool, true, false, cond, Option, None, Some, IsSome, refl, sym, ap, subst, ◌∙◌, inl, inr, filter, Key, WaitLists, listeners, Waiting, same_waiter, is_among, without_waiter, untold, gone, Kind, times, times_in, Placed, is_line, Waiter, WaitList, Sends, Receives, Streams, Closings, same_sound, same_symm, decided, without_absent, none_left, untold_gone, among_self, or_right, absent_counts, KeysHeld, with_held, AreTold, ShowsLines, KeysFit, list_of, of_line}
 use Rattle.channel_world_runs.proofs.refinement.Names.{among_of_line, among_its_line}
 use Rattle.channel_world_runs.proofs.refinement.Entries.{untold_kept, told_kept, untold_holds, told_holds}
 
 -- ---- nowhere
 
 pub record Nowhere (w : Waiter) (l : Waiting) : Type 0 where
-  pub lines : (line : Line) → is_among w (untold line l) ≡ false
+  pub lines : (line : WaitList) → is_among w (untold line l) ≡ false
   pub woken : is_among w l.woken ≡ false
 
 pub nowhere_times : (w : Waiter) (l : Waiting) → Nowhere w l → times_in w l ≡ 0
@@ -39,11 +39,11 @@ nowhere_gone w l = record {
 pub kindless_nowhere : (kind : Kind) (w : Waiter) (l : Waiting) → kind w ≡ None → Placed kind l → Nowhere w l
 kindless_nowhere kind w l k p = record {
   lines = λ line. false_from_ne_true (is_among w (untold line l)) (λ t. cc (sym k ∙ p.lines line w t));
-  woken = false_from_ne_true (is_among w l.woken) (λ t. cc (subst (λ (o : Option Line). IsSome o) k (p.wakes w t)));
+  woken = false_from_ne_true (is_among w l.woken) (λ t. cc (subst (λ (o : Option WaitList). IsSome o) k (p.wakes w t)));
 }
 
 -- one that holds no key
-pub keyless_nowhere : (kind : Kind) (held : KeysHeld) (closed : Bool) (a : Roster Waiter) (l : Waiting) (own : Line) (w : Waiter) → kind w ≡ Some own → held w ≡ None → Placed kind l
+pub keyless_nowhere : (kind : Kind) (held : KeysHeld) (closed : Bool) (a : WaitLists Waiter) (l : Waiting) (own : WaitList) (w : Waiter) → kind w ≡ Some own → held w ≡ None → Placed kind l
     → ShowsLines kind held closed a l → Nowhere w l
 keyless_nowhere kind held closed a l own w k none p h = record {
   lines = λ line. false_from_ne_true (is_among w (untold line l)) (λ t.
@@ -60,19 +60,19 @@ nowhere_keyless kind held w l n keys = at_key (held w) refl where
   at_key None e = e
   at_key (Some key) e = absurd (let one : 1 ≤ times_in w l = keys.holds w key e in omega (arith, one, nowhere_times w l n))
 
-pub same_of : (x y : Line) → Some x ≡ Some y → x ≡ y
+pub same_of : (x y : WaitList) → Some x ≡ Some y → x ≡ y
 same_of x y e = cc e
 
 -- one that stands neither in its line nor among the woken stands nowhere
-pub away_from : (kind : Kind) (line : Line) (w : Waiter) (l : Waiting) → kind w ≡ Some line → Placed kind l → is_among w (untold line l) ≡ false → is_among w l.woken ≡ false → Nowhere w l
+pub away_from : (kind : Kind) (line : WaitList) (w : Waiter) (l : Waiting) → kind w ≡ Some line → Placed kind l → is_among w (untold line l) ≡ false → is_among w l.woken ≡ false → Nowhere w l
 away_from kind line w l k placed u t = record {
   lines = λ other. false_from_ne_true (is_among w (untold other l)) (λ v.
-      let lines = same_of other line (sym (placed.lines other w v) ∙ k) in cc (sym u ∙ subst (λ (y : Line). is_among w (untold y l) ≡ true) lines v));
+      let lines = same_of other line (sym (placed.lines other w v) ∙ k) in cc (sym u ∙ subst (λ (y : WaitList). is_among w (untold y l) ≡ true) lines v));
   woken = t;
 }
 
 -- so it holds no key
-pub away_holds_none : (kind : Kind) (held : KeysHeld) (line : Line) (w : Waiter) (l : Waiting) (key : Key) → kind w ≡ Some line → Placed kind l → KeysFit kind held l → held w ≡ Some key
+pub away_holds_none : (kind : Kind) (held : KeysHeld) (line : WaitList) (w : Waiter) (l : Waiting) (key : Key) → kind w ≡ Some line → Placed kind l → KeysFit kind held l → held w ≡ Some key
     → is_among w (untold line l) ≡ false → is_among w l.woken ≡ false → ⊥
 away_holds_none kind held line w l key k placed keys e u t = omega (arith, keys.holds w key e, nowhere_times w l (away_from kind line w l k placed u t))
 
@@ -102,14 +102,14 @@ fewer : (b : Bool) (x : Waiter) (xs ys : List Waiter) → length xs ≤ length y
 fewer true x xs ys h = omega (arith, h)
 fewer false x xs ys h = h
 
-pub times_of_line : (kind : Kind) (line : Line) (w : Waiter) (ws : List Waiter) → times w (of_line kind line ws) ≤ times w ws
+pub times_of_line : (kind : Kind) (line : WaitList) (w : Waiter) (ws : List Waiter) → times w (of_line kind line ws) ≤ times w ws
 times_of_line kind line w [] = omega arith
 times_of_line kind line w (v ∷ vs) = elim (decided (is_line line (kind v))) [
   | inl h ↦ rw h (more_of_line (same_waiter w v) true _ _ (times_of_line kind line w vs) v (filter (same_waiter w) (of_line kind line vs)) (filter (same_waiter w) vs) refl refl)
   | inr h ↦ rw h (fewer (same_waiter w v) v (filter (same_waiter w) (of_line kind line vs)) (filter (same_waiter w) vs) (times_of_line kind line w vs))
 ]
 
-pub times_untold : (line : Line) (w : Waiter) (l : Waiting) → times w (untold line l) ≤ times_in w l
+pub times_untold : (line : WaitList) (w : Waiter) (l : Waiting) → times w (untold line l) ≤ times_in w l
 times_untold Sends w l = omega arith
 times_untold line w l = omega arith
 
@@ -124,7 +124,7 @@ with_own w v key held same = rw same refl
 pub apart_from : (w v : Waiter) (ws : List Waiter) → is_among w ws ≡ false → is_among v ws ≡ true → same_waiter w v ≡ false
 apart_from w v ws off e = false_from_ne_true (same_waiter w v) (λ t. cc (sym off ∙ subst (λ (x : Waiter). is_among x ws ≡ true) (sym (same_sound w v t)) e))
 
-pub rekeyed_lines : (kind : Kind) (held : KeysHeld) (closed : Bool) (a : Roster Waiter) (l : Waiting) (w : Waiter) (key : Option Key) → Nowhere w l
+pub rekeyed_lines : (kind : Kind) (held : KeysHeld) (closed : Bool) (a : WaitLists Waiter) (l : Waiting) (w : Waiter) (key : Option Key) → Nowhere w l
     → ShowsLines kind held closed a l → ShowsLines kind (with_held w key held) closed a l
 rekeyed_lines kind held closed a l w key n h line = record {
   untold = untold_kept held (with_held w key held) _ _ (h line).untold (λ v e. with_other w v key held (apart_from w v (untold line l) (n.lines line) e));
@@ -149,13 +149,13 @@ keys_gone kind held w l h = record {
 }
 
 -- kinds that differ only at one who is nowhere
-pub of_line_by : (kind other : Kind) (line : Line) (ws : List Waiter) → ((v : Waiter) → is_among v ws ≡ true → other v ≡ kind v) → of_line other line ws ≡ of_line kind line ws
+pub of_line_by : (kind other : Kind) (line : WaitList) (ws : List Waiter) → ((v : Waiter) → is_among v ws ≡ true → other v ≡ kind v) → of_line other line ws ≡ of_line kind line ws
 of_line_by kind other line [] same = refl
 of_line_by kind other line (x ∷ xs) same =
     let on = of_line_by kind other line xs (λ v e. same v (or_right (same_waiter v x) (is_among v xs) e)) in
     rw (same x (among_self x xs)) (ap (λ (ys : List Waiter). cond (is_line line (kind x)) (x ∷ ys) ys) on)
 
-pub rekinded_lines : (kind other : Kind) (held : KeysHeld) (closed : Bool) (a : Roster Waiter) (l : Waiting) (w : Waiter) → Nowhere w l → ((v : Waiter) → same_waiter w v ≡ false → other v ≡ kind v)
+pub rekinded_lines : (kind other : Kind) (held : KeysHeld) (closed : Bool) (a : WaitLists Waiter) (l : Waiting) (w : Waiter) → Nowhere w l → ((v : Waiter) → same_waiter w v ≡ false → other v ≡ kind v)
     → ShowsLines kind held closed a l → ShowsLines other held closed a l
 rekinded_lines kind other held closed a l w n same h line = record {
   untold = (h line).untold;

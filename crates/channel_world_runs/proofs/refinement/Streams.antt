@@ -5,7 +5,7 @@ use Rattle.event_listener.specs.declared.error.ListenError.TheVariants as listen
 use Rattle.futures.specs.declared.task.Poll.TheVariants as poll
 use Rattle.channel_calls.specs.declared.ask.ChannelAsk.TheVariants as ask
 use Rattle.channel_calls.specs.declared.reply.Reply.TheVariants as reply
-use Rattle.channel_calls.specs.declared.stage.Line.TheVariants as list
+use Rattle.channel_calls.specs.declared.stage.WaitList.TheVariants as list
 use Rattle.channel_calls.specs.declared.stage.Waiting.TheVariants as waiting
 use Rattle.channel_steps.specs.solo.Alone as alone
 use Rattle.channel_world_model.specs.declared.call.Call.TheVariants as call

@@ -15,11 +15,11 @@ pub use Rattle.channel_steps.specs.solo.Alone.{Outcome, Alone, MayLackRoom, ends
 pub use Rattle.channel_calls.specs.Answered.{over}
 pub use Rattle.channel_calls.specs.Asks.{is_refused, gives_up}
 pub use Rattle.channel_calls.specs.Moves.{Channel, leaves, lowers, tells_all, on_count, raises, untouched, new_channel, listens, registers, tells_one}
-pub use Rattle.channel_calls.specs.Parts.{Listeners, Roster, with_listeners, count, with_count, is_raised, listeners, told_one, told_one_wakes, told_more, told_more_wakes, told_all, told_all_wakes, waits}
+pub use Rattle.channel_calls.specs.Parts.{Listeners, WaitLists, with_listeners, count, with_count, is_raised, listeners, told_one, told_one_wakes, told_more, told_more_wakes, told_all, told_all_wakes, waits}
 pub use Rattle.channel_calls.specs.Turns.{says, refused_reply, held_on, closer_ending, dropper, most, nothing_kept}
 pub use Rattle.channel_calls.specs.declared.reply.Reply.{Reply}
-pub use Rattle.channel_calls.specs.declared.stage.Line.{Line}
-pub use Rattle.channel_calls.specs.declared.stage.Line.TheVariants.{Sends, Receives, Closings, Streams}
+pub use Rattle.channel_calls.specs.declared.stage.WaitList.{WaitList}
+pub use Rattle.channel_calls.specs.declared.stage.WaitList.TheVariants.{Sends, Receives, Closings, Streams}
 pub use Rattle.channel_calls.specs.declared.stage.Side.{Side}
 pub use Rattle.channel_calls.specs.declared.stage.Side.TheVariants.{Senders, Receivers}
 pub use Rattle.channel_world_model.proofs.Awake.{times_news, times_gone_self, placed_news, empty_news, line_refl, placed_gone, empty_gone, line_sound, awake_without_stream, left_nowhere}

@@ -1,5 +1,5 @@
 -- The names of those who listen on one list, in its order.
-use Rattle.channel_world_runs.proofs.rest.Words.{AllZip, zip_append, ◌≡◌, ◌≤◌, Bool, true, false, List, [], ◌∷◌, ◌++◌, length, Option, Some, ◌⊎◌, inl, inr, refl, sym, ap, ◌∙◌, subst, arith, keys_of, Notice, Key, Line, Sends, MayBeTold, EachTold, IsIn, absent_counts, same_refl, same_sound, decided, or_true, KeysHeld, Kind, times, same_waiter, is_among, Waiter, IsAmong, NoneTwice, key_of_entry, AreUntold, IsToldSo, AreTold}
+use Rattle.channel_world_runs.proofs.rest.Words.{AllZip, zip_append, ◌≡◌, ◌≤◌, Bool, true, false, List, [], ◌∷◌, ◌++◌, length, Option, Some, ◌⊎◌, inl, inr, refl, sym, ap, ◌∙◌, subst, arith, keys_of, Notice, Key, WaitList, Sends, MayBeTold, EachTold, IsIn, absent_counts, same_refl, same_sound, decided, or_true, KeysHeld, Kind, times, same_waiter, is_among, Waiter, IsAmong, NoneTwice, key_of_entry, AreUntold, IsToldSo, AreTold}
 use Rattle.std.proofs.lemmas.Slice.Zip.{AllZip-long}
 
 -- ---- keys
@@ -105,7 +105,7 @@ module _ (Has : Key → Waiter → Type 0) where
 
   -- ---- lines
 
-  module _ (kind : Kind) (line : Line) (of : (key : Key) (w : Waiter) → Has key w → kind w ≡ Some line) where
+  module _ (kind : Kind) (line : WaitList) (of : (key : Key) (w : Waiter) → Has key w → kind w ≡ Some line) where
     pub stand_kind : (ks : List Key) (ws : List Waiter) (w : Waiter) → Stand ks ws → is_among w ws ≡ true → kind w ≡ Some line
     stand_kind ks ws w h e = let found = stand_key ks ws w h e in of found.0 w found.2
 
@@ -120,11 +120,11 @@ module _ (Has : Key → Waiter → Type 0) where
         ((holds e.0 w h.0, task e w (inl refl) h.0), are_untold es ws (λ f v i. task f v (inr i)) h.1)
     are_untold es ws task h = absurd h
 
-    told_so : (line : Line) (additional : Bool) → MayBeTold line additional → IsToldSo line additional
+    told_so : (line : WaitList) (additional : Bool) → MayBeTold line additional → IsToldSo line additional
     told_so Sends additional h = h
     told_so line additional h = h
 
-    pub are_told : (closed : Bool) (line : Line) (es : List (Key × Notice Unit)) (ws : List Waiter)
+    pub are_told : (closed : Bool) (line : WaitList) (es : List (Key × Notice Unit)) (ws : List Waiter)
         → (closed ≡ false → EachTold (MayBeTold line) es) → Stand (keys_of es) ws → AreTold held closed line es ws
     are_told closed line [] [] so h = tt
     are_told closed line (e ∷ es) (w ∷ ws) so h = (

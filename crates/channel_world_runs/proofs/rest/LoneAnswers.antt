@@ -1,5 +1,5 @@
 -- A call that is made alone on a channel at rest answers as the model may, and leaves the model's state.
-use Rattle.channel_world_runs.proofs.rest.Words.{tasks_are, told_holds, arith, ℕ, ◌≡◌, ◌≤◌, ◌+◌, List, [], ◌∷◌, ◌++◌, Bool, true, false, Option, None, Some, IsSome, is_some, inl, inr, refl, sym, ap, subst, ◌∙◌, filter-append, option_map_or, Key, Channel, Reply, Held, Line, Sends, Receives, Streams, Closings, Outcome, Alone, left_among, or_right, Answer, AwakeIn, times, times_in, line_at, Waiting, same_waiter, is_among, without_waiter, Names, State, Call, Waiter, Op, Stream, HandleId, Admitted, admitted, is_used, at, HandleEntry, keeper, Matches, held_after, with_held, Configuration, asks, WorldInvariant, names_alone, order_alone, name_state_alone, woken_in, IsAmong, invalid, waits, status, begin_refusal, names_of, held_of, NameState, but_for, NonePolled, RefusalsAgree, LoneCallsAnswer, PollsAnswer, state_at, IsWorld}
+use Rattle.channel_world_runs.proofs.rest.Words.{tasks_are, told_holds, arith, ℕ, ◌≡◌, ◌≤◌, ◌+◌, List, [], ◌∷◌, ◌++◌, Bool, true, false, Option, None, Some, IsSome, is_some, inl, inr, refl, sym, ap, subst, ◌∙◌, filter-append, option_map_or, Key, Channel, Reply, ListenerRef, WaitList, Sends, Receives, Streams, Closings, Outcome, Alone, left_among, or_right, Answer, AwakeIn, times, times_in, line_at, Waiting, same_waiter, is_among, without_waiter, Names, State, Call, Waiter, Op, Stream, HandleId, Admitted, admitted, is_used, at, HandleEntry, keeper, Matches, held_after, with_held, Configuration, asks, WorldInvariant, names_alone, order_alone, name_state_alone, woken_in, IsAmong, invalid, waits, status, begin_refusal, names_of, held_of, NameState, but_for, NonePolled, RefusalsAgree, LoneCallsAnswer, PollsAnswer, state_at, IsWorld}
 use Rattle.channel_world_runs.proofs.refinement.Names.{among_its_line}
 use Rattle.channel_world_model.proofs.Interface.{awake_after}
 use Rattle.channel_world_model.specs.Refused.{Answers}
@@ -111,7 +111,7 @@ module _ {T : Type 0} where
         held_before own o.kept.key (held_of b.name_table) v o.woken e
         (of_kind (line_at answer.after.names v) refl (awake.placed.wakes v among) among)
       where
-        of_kind : (k : Option Line) → line_at answer.after.names v ≡ k → IsSome k → is_among v answer.after.waiting.woken ≡ true
+        of_kind : (k : Option WaitList) → line_at answer.after.names v ≡ k → IsSome k → is_among v answer.after.waiting.woken ≡ true
             → is_some (held_after before c o.kept.key (held_of b.name_table) v) ≡ true
         of_kind None k some among = cc some
         of_kind (Some line) k some among =
@@ -120,17 +120,17 @@ module _ {T : Type 0} where
             (matches.shows.lines line).told (among_its_line (line_at answer.after.names) line v answer.after.waiting.woken k ∙ among) in
             ap (λ (x : Option Key). is_some x) key.1
 
-    named : (v : Waiter) → is_among v (but_for own o.woken) ≡ true → (h : Held) × (w : Bool) × (status b.name_table v ≡ waits h w)
+    named : (v : Waiter) → is_among v (but_for own o.woken) ≡ true → (h : ListenerRef) × (w : Bool) × (status b.name_table v ≡ waits h w)
     named v e = by (held_of b.name_table v) refl (holds v e)
       where
         owned : (w : Waiter) → status b.name_table w ≡ invalid → ⊥
         owned = let x = kept.owned in x.none_amiss
 
-        pending : (key : Key) → Pends (status b.name_table v) key → (h : Held) × (w : Bool) × (status b.name_table v ≡ waits h w)
+        pending : (key : Key) → Pends (status b.name_table v) key → (h : ListenerRef) × (w : Bool) × (status b.name_table v ≡ waits h w)
         pending key (inl bad) = absurd (owned v bad)
         pending key (inr p) = (on p.0 key, p.1, p.2)
 
-        by : (k : Option Key) → held_of b.name_table v ≡ k → is_some k ≡ true → (h : Held) × (w : Bool) × (status b.name_table v ≡ waits h w)
+        by : (k : Option Key) → held_of b.name_table v ≡ k → is_some k ≡ true → (h : ListenerRef) × (w : Bool) × (status b.name_table v ≡ waits h w)
         by None f g = absurd (let no : false ≡ true = g in cc)
         by (Some key) f g = pending key (pends b.name_table v key f)
 

@@ -1,5 +1,5 @@
 -- Where no poll is under way a call asks what it asks in the model, and is refused where and why it is refused there.
-use Rattle.channel_world_runs.proofs.rest.Words.{◌≡◌, ℕ, Bool, true, false, not, if◌then◌else◌, List, [], ◌∷◌, ◌||◌, Option, None, Some, ◌⊎◌, inl, inr, refl, sym, ap, ◌∙◌, list_all, list_any, option_map, option_map_or, Line, Sends, Receives, Streams, Closings, taken_seen, asked, poll_asked, refusal_asked, giving_up_asked, drop_asked, clone_asked, upgrade_asked, at, uses, is_live, are_fit, takes_borrowed, State, Call, Handle, HandleId, HandleKind, OpId, Waiter, Op, Stream, asks, invalid, polled, stream_status, operation_status, status, is_operation_polled, is_stream_polled, meets_poll, is_used, takes_used, takes_again, begin_refusal, is_polled, has_finished, is_done, operation_of, names_of, held_of, HandleEntry, Operation, OperationKind, PollState, Rests, Waits, IsPolled, NameTable, op_is, NonePolled}
+use Rattle.channel_world_runs.proofs.rest.Words.{◌≡◌, ℕ, Bool, true, false, not, if◌then◌else◌, List, [], ◌∷◌, ◌||◌, Option, None, Some, ◌⊎◌, inl, inr, refl, sym, ap, ◌∙◌, list_all, list_any, option_map, option_map_or, WaitList, Sends, Receives, Streams, Closings, taken_seen, asked, poll_asked, refusal_asked, giving_up_asked, drop_asked, clone_asked, upgrade_asked, at, uses, is_live, are_fit, takes_borrowed, State, Call, Handle, HandleId, HandleKind, OpId, Waiter, Op, Stream, asks, invalid, polled, stream_status, operation_status, status, is_operation_polled, is_stream_polled, meets_poll, is_used, takes_used, takes_again, begin_refusal, is_polled, has_finished, is_done, operation_of, names_of, held_of, HandleEntry, Operation, OperationKind, PollState, Rests, Waits, IsPolled, NameTable, op_is, NonePolled}
 use Rattle.channel_calls.specs.declared.ask.ChannelAsk.{ChannelAsk}
 use Rattle.channel_world_model.specs.declared.refusal.WorldRefusal.{WorldRefusal}
 use Rattle.channel_world_model.specs.declared.refusal.WorldRefusal.TheVariants.{UnknownName, WrongKind, OpUnderWay, Borrowed, NameTaken}
@@ -19,7 +19,7 @@ none_any test (x ∷ xs) h = ap (λ (b : Bool). b || list_any test xs) (h x) ∙
 
 -- a stream that is being polled is one of a receiver, or amiss
 polled_stream : (k : HandleKind) (s : PollState) → is_polled s ≡ true
-    → ((line : Line) × (stream_status k s ≡ polled line)) ⊎ (stream_status k s ≡ invalid)
+    → ((line : WaitList) × (stream_status k s ≡ polled line)) ⊎ (stream_status k s ≡ invalid)
 polled_stream k Rests e = absurd (let no : false ≡ true = e in cc)
 polled_stream k (Waits key w) e = absurd (let no : false ≡ true = e in cc)
 polled_stream handle_kind.Receiver (IsPolled b) e = inl (Streams, refl)
@@ -27,7 +27,7 @@ polled_stream k s e = inr refl
 
 module _ {T : Type 0} where
   polled_operation : (k : OperationKind) (m : Option T) (s : PollState) → is_polled s ≡ true
-      → (line : Line) × (operation_status k m s ≡ polled line)
+      → (line : WaitList) × (operation_status k m s ≡ polled line)
   polled_operation Send None (IsPolled b) e = (Sends, refl)
   polled_operation Send (Some m) (IsPolled b) e = (Sends, refl)
   polled_operation Receive m (IsPolled b) e = (Receives, refl)

@@ -1,5 +1,5 @@
 -- What the beginning and the end of a call leave of those who were woken.
-use Rattle.channel_world_runs.proofs.rest.Words.{false_from_ne_true, ◌≡◌, List, ◌∷◌, Bool, true, false, cond, Option, None, Some, ◌⊎◌, inl, inr, refl, sym, ap, subst, ◌∙◌, filter, Key, Reply, Kept, or_right, same_refl, same_sound, decided, same_waiter, is_among, without_waiter, HandleId, Waiter, written_back, placed, kept_place, order_settled, was_woken, woken_in, status, with_given_back, OnReturn, NameTable, Same, given_back_same, but_for}
+use Rattle.channel_world_runs.proofs.rest.Words.{false_from_ne_true, ◌≡◌, List, ◌∷◌, Bool, true, false, cond, Option, None, Some, ◌⊎◌, inl, inr, refl, sym, ap, subst, ◌∙◌, filter, Key, Reply, Returned, or_right, same_refl, same_sound, decided, same_waiter, is_among, without_waiter, HandleId, Waiter, written_back, placed, kept_place, order_settled, was_woken, woken_in, status, with_given_back, OnReturn, NameTable, Same, given_back_same, but_for}
 use Rattle.channel_world_runs.proofs.rest.LoneWakes.{Other, swap_without, out_twice, out_anyway, filter_same, filter_others, out_already, stays, is_pending, not_woken}
 
 module _ {T : Type 0} where
@@ -123,7 +123,7 @@ module _ {T : Type 0} where
   -- wherever the names are pending as they were when it began, its own name is no more among those who were woken
   abbrev pub EndsSo : NameTable T → OnReturn T → Option Waiter → Type 0
   EndsSo r e k =
-      (x : Reply T) (kept : Kept T) (r' : NameTable T) (order : List Waiter)
+      (x : Reply T) (kept : Returned T) (r' : NameTable T) (order : List Waiter)
       → ((v : Waiter) → is_pending (status r' v) ≡ is_pending (status r v))
       → woken_in (written_back e x kept r') (order_settled e kept.key order) ≡ but_for k (woken_in r' order)
 

@@ -1,5 +1,5 @@
 -- A call that was made alone leaves the names that the model leaves.
-use Rattle.channel_world_runs.proofs.rest.Words.{◌≡◌, ℕ, nat_eq, true, false, List, Option, None, Some, refl, sym, ap, ◌∙◌, nat_eq_equiv, option_map, Channel, Reply, Kept, Outcome, Alone, at_seen, nothing_to_end, weak_of, strong_of, poll_asked, Directory, Names, at, with_spent, with_new, with_changed, State, Call, Handle, HandleId, HandleKind, OpId, Waiter, polled_names, refused_names, given_up_names, made_names, kind_at, names_after, asks, unpolled, leave_handle_of, new_from, lent_by, handed_over_by, operation_named, handle_named, lent_to_poll, installed, written_back, with_operation, all_woken, names_of, operation_of, operation_at, handle_at, held_of, unused, with_lent, with_borrowed, with_handed_over, with_poll_state, with_given_back, poll_state_with, OnReturn, Operation, IsPolled, NameTable, names_alone}
+use Rattle.channel_world_runs.proofs.rest.Words.{◌≡◌, ℕ, nat_eq, true, false, List, Option, None, Some, refl, sym, ap, ◌∙◌, nat_eq_equiv, option_map, Channel, Reply, Returned, Outcome, Alone, at_seen, nothing_to_end, weak_of, strong_of, poll_asked, Directory, Names, at, with_spent, with_new, with_changed, State, Call, Handle, HandleId, HandleKind, OpId, Waiter, polled_names, refused_names, given_up_names, made_names, kind_at, names_after, asks, unpolled, leave_handle_of, new_from, lent_by, handed_over_by, operation_named, handle_named, lent_to_poll, installed, written_back, with_operation, all_woken, names_of, operation_of, operation_at, handle_at, held_of, unused, with_lent, with_borrowed, with_handed_over, with_poll_state, with_given_back, poll_state_with, OnReturn, Operation, IsPolled, NameTable, names_alone}
 use Rattle.channel_calls.specs.declared.reply.Reply.TheVariants as reply
 use Rattle.channel_world_model.specs.Names as model
 use Rattle.channel_world_model.specs.declared.call.Call.TheVariants as call
@@ -29,7 +29,7 @@ module _ {T : Type 0} where
       model.with_handles (with_changed new.0 (record { kind = k; borrowers = 0 }) n.handles) n
   installed_names new k x n = n
 
-  abbrev settled_names : OnReturn T → Reply T → Kept T → Names T → Names T
+  abbrev settled_names : OnReturn T → Reply T → Returned T → Names T → Names T
   settled_names (on_return.Make op operation) x kept n =
       with_operations (with_changed op.0 (operation_of operation) n.operations) n
   settled_names (on_return.Poll op) x kept n = left_names kept.message op n
@@ -43,7 +43,7 @@ module _ {T : Type 0} where
       (views_set handle_of new.0 r.handles (Some (unused k)))
   seen_installed new k x r = refl
 
-  seen_settled : (e : OnReturn T) (x : Reply T) (kept : Kept T) (r : NameTable T)
+  seen_settled : (e : OnReturn T) (x : Reply T) (kept : Returned T) (r : NameTable T)
       → names_of (written_back e x kept r) ≡ settled_names e x kept (names_of r)
   seen_settled on_return.Nothing x kept r = refl
   seen_settled (on_return.Leave handle) x kept r = seen_back r handle
@@ -58,7 +58,7 @@ module _ {T : Type 0} where
       seen_installed new k x (with_given_back from r) ∙ ap (installed_names new k x) (seen_back r from)
 
   -- and it is so whoever was woken
-  ends_so : (e : OnReturn T) (x : Reply T) (kept : Kept T) (ws : List Waiter) (r : NameTable T) (n : Names T) → names_of r ≡ n
+  ends_so : (e : OnReturn T) (x : Reply T) (kept : Returned T) (ws : List Waiter) (r : NameTable T) (n : Names T) → names_of r ≡ n
       → names_of (written_back e x kept (all_woken ws r)) ≡ settled_names e x kept n
   ends_so e x kept ws r n same =
       seen_settled e x kept (all_woken ws r) ∙ ap (settled_names e x kept) (all_seen ws r ∙ same)
@@ -88,7 +88,7 @@ module _ {T : Type 0} where
     -- ---- polls
 
     -- an operation has what its poll left to it
-    polls : (op : OpId) (x : Reply T) (kept : Kept T) (ws : List Waiter)
+    polls : (op : OpId) (x : Reply T) (kept : Returned T) (ws : List Waiter)
         → names_of (written_back (on_return.Poll op) x kept (all_woken ws (with_operation lent_to_poll op r)))
         ≡ left_names kept.message op (names_of r)
     polls op x kept ws =
@@ -140,7 +140,7 @@ module _ {T : Type 0} where
     gone op =
         ap (λ (d : Directory (model.ModelOperation T)). with_operations d (names_of r)) (views_set operation_of op.0 r.operations None)
 
-    gives_up : (op : OpId) (y : Option (Operation T)) (x : Reply T) (kept : Kept T) (ws : List Waiter) → at op.0 r.operations ≡ y
+    gives_up : (op : OpId) (y : Option (Operation T)) (x : Reply T) (kept : Returned T) (ws : List Waiter) → at op.0 r.operations ≡ y
         → names_of (written_back (leave_handle_of y) x kept (all_woken ws (handed_over_by y (without op))))
         ≡ given_up_names op (option_map operation_of y) (names_of r)
     gives_up op None x kept ws e =
@@ -155,7 +155,7 @@ module _ {T : Type 0} where
         record { handles = model.used_once_less h handles; operations = model.without_name op.0 operations } in n)
         (sym (borrowed_is y))
 
-    drops : (handle : HandleId) (x : Reply T) (kept : Kept T) (ws : List Waiter)
+    drops : (handle : HandleId) (x : Reply T) (kept : Returned T) (ws : List Waiter)
         → names_of (written_back on_return.Nothing x kept (all_woken ws (record r { handles = model.without_name handle.0 r.handles })))
         ≡ model.with_handles (model.without_name handle.0 handles) (names_of r)
     drops handle x kept ws =
@@ -165,17 +165,17 @@ module _ {T : Type 0} where
   -- ---- calls through handles
 
   module _ (r : NameTable T) where
-    through : (handle : HandleId) (x : Reply T) (kept : Kept T) (ws : List Waiter)
+    through : (handle : HandleId) (x : Reply T) (kept : Returned T) (ws : List Waiter)
         → names_of (written_back (on_return.Leave handle) x kept (all_woken ws (with_lent handle r))) ≡ names_of r
     through handle x kept ws = ends_so (on_return.Leave handle) x kept ws (with_lent handle r) (names_of r) (seen_lent r handle)
 
-    through_both : (a b : HandleId) (x : Reply T) (kept : Kept T) (ws : List Waiter)
+    through_both : (a b : HandleId) (x : Reply T) (kept : Returned T) (ws : List Waiter)
         → names_of (written_back (on_return.LeaveBoth a b) x kept (all_woken ws (with_lent b (with_lent a r)))) ≡ names_of r
     through_both a b x kept ws =
         ends_so (on_return.LeaveBoth a b) x kept ws (with_lent b (with_lent a r)) (names_of r)
         (seen_lent (with_lent a r) b ∙ seen_lent r a)
 
-    streamed : (receiver : HandleId) (x : Reply T) (kept : Kept T) (ws : List Waiter)
+    streamed : (receiver : HandleId) (x : Reply T) (kept : Returned T) (ws : List Waiter)
         → names_of (written_back (on_return.PollNext receiver) x kept
         (all_woken ws (with_lent receiver (with_poll_state (IsPolled false) receiver r)))) ≡ names_of r
     streamed receiver x kept ws =
@@ -183,14 +183,14 @@ module _ {T : Type 0} where
         (seen_lent (with_poll_state (IsPolled false) receiver r) receiver ∙ seen_poll_state r (IsPolled false) receiver)
 
     -- a call through the handle of an operation
-    through_of : (o : Option (Operation T)) (x : Reply T) (kept : Kept T) (ws : List Waiter)
+    through_of : (o : Option (Operation T)) (x : Reply T) (kept : Returned T) (ws : List Waiter)
         → names_of (written_back (leave_handle_of o) x kept (all_woken ws (lent_by o r))) ≡ names_of r
     through_of None x kept ws = ends_so on_return.Nothing x kept ws r (names_of r) refl
     through_of (Some o) x kept ws = through o.handle x kept ws
 
     -- ---- new operations
 
-    made : (op : OpId) (handle : HandleId) (operation : Operation T) (x : Reply T) (kept : Kept T) (ws : List Waiter)
+    made : (op : OpId) (handle : HandleId) (operation : Operation T) (x : Reply T) (kept : Returned T) (ws : List Waiter)
         → operation.handle ≡ handle
         → names_of (written_back (on_return.Make op operation) x kept (all_woken ws (with_borrowed handle (operation_named op r))))
         ≡ model.with_new_operation op (operation_of operation) (names_of r)
@@ -206,7 +206,7 @@ module _ {T : Type 0} where
 
     -- ---- new handles
 
-    newly : (from new : HandleId) (to : HandleKind → HandleKind) (o : Option Handle) (x : Reply T) (kept : Kept T)
+    newly : (from new : HandleId) (to : HandleKind → HandleKind) (o : Option Handle) (x : Reply T) (kept : Returned T)
         (ws : List Waiter) → at from.0 (handles r) ≡ o
         → names_of (written_back (new_from from new to o) x kept (all_woken ws (with_lent from (handle_named new r))))
         ≡ made_names new (option_map (λ (h : Handle). to h.kind) o) x (names_of r)

@@ -1,5 +1,5 @@
 -- A call that was made alone leaves those who were woken in the order in which the model leaves them.
-use Rattle.channel_world_runs.proofs.rest.Words.{◌≡◌, ◌≤◌, nat_eq, List, ◌++◌, Bool, true, false, Option, None, Some, refl, sym, ap, subst, ◌∙◌, lookup, option_map, option_map_or, Reply, Held, Outcome, at_seen, left_among, weak_of, strong_of, stream_of, times, same_waiter, is_among, without_waiter, Names, at, is_taken, State, Call, Handle, HandleId, HandleKind, OpId, Waiter, Op, Stream, keeper, woken_after, on_return_of, names_begun, unpolled, leave_handle_of, new_from, lent_by, handed_over_by, operation_named, handle_named, lent_to_poll, restored, installed, with_operation, all_woken, placed, order_begun, all_moved_last, was_woken, woken_in, IsAmong, NameStatus, waits, no_stream_status, stream_status, status_by, status, names_of, handle_at, unused, with_lent, with_borrowed, with_poll_state, with_given_back, poll_state_with, HandleEntry, Operation, OperationKind, PollState, Rests, IsPolled, NameTable, Admitted, untaken, found, op_status, handle_entry_status, op_spent, handle_spent, lent_same, borrowed_same, handed_over_same, given_back_same, names_alone, order_alone, but_for}
+use Rattle.channel_world_runs.proofs.rest.Words.{◌≡◌, ◌≤◌, nat_eq, List, ◌++◌, Bool, true, false, Option, None, Some, refl, sym, ap, subst, ◌∙◌, lookup, option_map, option_map_or, Reply, ListenerRef, Outcome, at_seen, left_among, weak_of, strong_of, stream_of, times, same_waiter, is_among, without_waiter, Names, at, is_taken, State, Call, Handle, HandleId, HandleKind, OpId, Waiter, Op, Stream, keeper, woken_after, on_return_of, names_begun, unpolled, leave_handle_of, new_from, lent_by, handed_over_by, operation_named, handle_named, lent_to_poll, restored, installed, with_operation, all_woken, placed, order_begun, all_moved_last, was_woken, woken_in, IsAmong, NameStatus, waits, no_stream_status, stream_status, status_by, status, names_of, handle_at, unused, with_lent, with_borrowed, with_poll_state, with_given_back, poll_state_with, HandleEntry, Operation, OperationKind, PollState, Rests, IsPolled, NameTable, Admitted, untaken, found, op_status, handle_entry_status, op_spent, handle_spent, lent_same, borrowed_same, handed_over_same, given_back_same, names_alone, order_alone, but_for}
 use Rattle.channel_calls.specs.declared.reply.Reply.TheVariants as reply
 use Rattle.channel_world_model.specs.declared.call.Call.TheVariants as call
 use Rattle.channel_world_model.specs.declared.name.HandleKind.TheVariants as handle_kind
@@ -14,7 +14,7 @@ use Rattle.channel_world_runs.proofs.rest.LoneEnds.{Starts, Alike, alike_starts,
 
 -- ---- who is pending, in words
 
-pending_is : (p : NameStatus) → is_pending p ≡ true → (h : Held) × (b : Bool) × (p ≡ waits h b)
+pending_is : (p : NameStatus) → is_pending p ≡ true → (h : ListenerRef) × (b : Bool) × (p ≡ waits h b)
 pending_is (waits h b) e = (h, b, refl)
 pending_is p e = absurd (let no : false ≡ true = e in cc)
 
@@ -269,8 +269,8 @@ module _ {T : Type 0} where
   -- whoever was woken when the call began is woken after it, and then those whom it woke, in order, but for its own name
   pub woken_follows : (r : NameTable T) (c : Call T) (s : State T) (o : Outcome T Waiter) (order : List Waiter)
       → s.names ≡ names_of r → s.waiting.woken ≡ woken_in r order → Admitted r c
-      → ((w : Waiter) (h : Held) (b : Bool) → status r w ≡ waits h b → IsAmong w order)
-      → ((v : Waiter) → is_among v (but_for (keeper s c) o.woken) ≡ true → (h : Held) × (b : Bool) × (status r v ≡ waits h b))
+      → ((w : Waiter) (h : ListenerRef) (b : Bool) → status r w ≡ waits h b → IsAmong w order)
+      → ((v : Waiter) → is_among v (but_for (keeper s c) o.woken) ≡ true → (h : ListenerRef) × (b : Bool) × (status r v ≡ waits h b))
       → ((v : Waiter) → times v (but_for (keeper s c) (woken_in r order ++ o.woken)) ≤ 1)
       → woken_in (names_alone r c o.reply o.kept o.woken) (order_alone r c o.kept o.woken order) ≡ woken_after s c o
   woken_follows r c s o order same woken fine places named once =

@@ -1,37 +1,37 @@
 -- The line and the listener of a name that is pending, as one call at a time sees them.
-use Rattle.channel_world_runs.proofs.rest.Words.{◌≡◌, nat_eq, Bool, Option, None, Some, ◌⊎◌, inl, inr, refl, ap, ◌∙◌, lookup, option_map, option_map_or, Key, Held, Line, Sends, Receives, Streams, Closings, at_seen, line_at, line_of_operation, HandleId, HandleKind, Waiter, Op, Stream, NameStatus, free, retired, invalid, rests, waits, polled, status_on, no_stream_status, stream_status, status_by, send_status, operation_status, status, key_of, operation_of, names_of, held_of, HandleEntry, Operation, OperationKind, PollState, Rests, Waits, IsPolled, NameTable, op_status, handle_entry_status}
+use Rattle.channel_world_runs.proofs.rest.Words.{◌≡◌, nat_eq, Bool, Option, None, Some, ◌⊎◌, inl, inr, refl, ap, ◌∙◌, lookup, option_map, option_map_or, Key, ListenerRef, WaitList, Sends, Receives, Streams, Closings, at_seen, line_at, line_of_operation, HandleId, HandleKind, Waiter, Op, Stream, NameStatus, free, retired, invalid, rests, waits, polled, status_on, no_stream_status, stream_status, status_by, send_status, operation_status, status, key_of, operation_of, names_of, held_of, HandleEntry, Operation, OperationKind, PollState, Rests, Waits, IsPolled, NameTable, op_status, handle_entry_status}
 use Rattle.channel_world_model.specs.Names as model
 use Rattle.channel_world_model.specs.declared.name.HandleKind.TheVariants as handle_kind
 use Rattle.channel_world_runs.specs.declared.names.OperationKind.TheVariants as kind
 
-abbrev pub on : Line → Key → Held
+abbrev pub on : WaitList → Key → ListenerRef
 on line key = record { line = line; key = key }
 
-abbrev status_held : Held → NameStatus → Held
+abbrev status_held : ListenerRef → NameStatus → ListenerRef
 status_held h (waits k is_woken) = k
 status_held h x = h
 
-pub same_held : (h k : Held) (b c : Bool) → waits h b ≡ waits k c → h ≡ k
+pub same_held : (h k : ListenerRef) (b c : Bool) → waits h b ≡ waits k c → h ≡ k
 same_held h k b c e = ap (λ (p : NameStatus). status_held h p) e
 
 -- ---- what is pending
 
 -- its listener is this, on this list
-abbrev Is : Option Key → Line → Held → Type 0
+abbrev Is : Option Key → WaitList → ListenerRef → Type 0
 Is key line h = (key ≡ Some h.key) × (line ≡ h.line)
 
-on_is : (line : Line) (s : PollState) (h : Held) (b : Bool) → status_on line s ≡ waits h b → Is (key_of s) line h
+on_is : (line : WaitList) (s : PollState) (h : ListenerRef) (b : Bool) → status_on line s ≡ waits h b → Is (key_of s) line h
 on_is line Rests h b e = absurd (let no : rests line ≡ waits h b = e in cc)
 on_is line (Waits key is_woken) h b e =
     let same : on line key ≡ h = same_held (on line key) h is_woken b e in
-    (ap (λ (x : Held). let o : Option Key = Some x.key in o) same, ap (λ (x : Held). x.line) same)
+    (ap (λ (x : ListenerRef). let o : Option Key = Some x.key in o) same, ap (λ (x : ListenerRef). x.line) same)
 on_is line (IsPolled brings) h b e = absurd (let no : polled line ≡ waits h b = e in cc)
 
-off_is : (s : PollState) (h : Held) (b : Bool) → no_stream_status s ≡ waits h b → ⊥
+off_is : (s : PollState) (h : ListenerRef) (b : Bool) → no_stream_status s ≡ waits h b → ⊥
 off_is Rests h b e = let no : rests Streams ≡ waits h b = e in cc
 off_is s h b e = let no : invalid ≡ waits h b = e in cc
 
-stream_is : (k : HandleKind) (s : PollState) (h : Held) (b : Bool) → stream_status k s ≡ waits h b → Is (key_of s) Streams h
+stream_is : (k : HandleKind) (s : PollState) (h : ListenerRef) (b : Bool) → stream_status k s ≡ waits h b → Is (key_of s) Streams h
 stream_is handle_kind.Receiver s h b e = on_is Streams s h b e
 stream_is k s h b e = absurd (off_is s h b e)
 
@@ -39,9 +39,9 @@ stream_is k s h b e = absurd (off_is s h b e)
 
 -- what holds this listener is amiss, which never is, or pending
 abbrev pub Pends : NameStatus → Key → Type 0
-Pends p key = (p ≡ invalid) ⊎ ((line : Line) × (b : Bool) × (p ≡ waits (on line key) b))
+Pends p key = (p ≡ invalid) ⊎ ((line : WaitList) × (b : Bool) × (p ≡ waits (on line key) b))
 
-on_pends : (line : Line) (s : PollState) (key : Key) → key_of s ≡ Some key → Pends (status_on line s) key
+on_pends : (line : WaitList) (s : PollState) (key : Key) → key_of s ≡ Some key → Pends (status_on line s) key
 on_pends line (Waits k is_woken) key e = let same : k ≡ key = cc e in inr (line, is_woken, ap (λ (x : Key). waits (on line x) is_woken) same)
 on_pends line s key e = absurd (let no : None ≡ Some key = e in cc)
 
@@ -53,8 +53,8 @@ stream_pends : (k : HandleKind) (s : PollState) (key : Key) → key_of s ≡ Som
 stream_pends handle_kind.Receiver s key e = on_pends Streams s key e
 stream_pends k s key e = off_pends s key e
 
-in_line : (key : Option Key) (line : Line) (h : Held) → Is key line h → (key ≡ Some h.key) × (Some line ≡ Some h.line)
-in_line key line h i = (i.0, ap (λ (x : Line). let o : Option Line = Some x in o) i.1)
+in_line : (key : Option Key) (line : WaitList) (h : ListenerRef) → Is key line h → (key ≡ Some h.key) × (Some line ≡ Some h.line)
+in_line key line h i = (i.0, ap (λ (x : WaitList). let o : Option WaitList = Some x in o) i.1)
 
 abbrev lives : {X : Type 0} → Option (Option X) → Option X
 lives o = option_map_or (λ (x : Option _). x) o None
@@ -62,7 +62,7 @@ lives o = option_map_or (λ (x : Option _). x) o None
 abbrev handle_entry_key : Option (Option HandleEntry) → Option Key
 handle_entry_key o = option_map_or (λ (x : HandleEntry). key_of x.poll_state) (lives o) None
 
-hold_at : (o : Option (Option HandleEntry)) (h : Held) (b : Bool) → status_by handle_entry_status o ≡ waits h b → Is (handle_entry_key o) Streams h
+hold_at : (o : Option (Option HandleEntry)) (h : ListenerRef) (b : Bool) → status_by handle_entry_status o ≡ waits h b → Is (handle_entry_key o) Streams h
 hold_at None h b e = absurd (let no : free ≡ waits h b = e in cc)
 hold_at (Some None) h b e = absurd (let no : retired ≡ waits h b = e in cc)
 hold_at (Some (Some x)) h b e = stream_is x.handle.kind x.poll_state h b e
@@ -77,17 +77,17 @@ module _ {T : Type 0} where
       elim k [ kind.Send ↦ model.send handle m | kind.Receive ↦ model.recv handle | kind.Closing ↦ model.closing handle ]
 
   -- the line of what is pending
-  abbrev InLine : Option Key → Option (model.ModelOperation T) → Held → Type 0
+  abbrev InLine : Option Key → Option (model.ModelOperation T) → ListenerRef → Type 0
   InLine key o h = (key ≡ Some h.key) × (line_of_operation o ≡ Some h.line)
 
-  send_is : (handle : HandleId) (m : Option T) (s : PollState) (h : Held) (b : Bool) → send_status m s ≡ waits h b
+  send_is : (handle : HandleId) (m : Option T) (s : PollState) (h : ListenerRef) (b : Bool) → send_status m s ≡ waits h b
       → InLine (key_of s) (Some (model.send handle m)) h
   send_is handle None Rests h b e = absurd (let no : rests Sends ≡ waits h b = e in cc)
   send_is handle None (Waits key is_woken) h b e = absurd (let no : invalid ≡ waits h b = e in cc)
   send_is handle None (IsPolled brings) h b e = absurd (let no : polled Sends ≡ waits h b = e in cc)
   send_is handle (Some m) s h b e = in_line (key_of s) Sends h (on_is Sends s h b e)
 
-  operation_is : (k : OperationKind) (handle : HandleId) (m : Option T) (s : PollState) (h : Held) (b : Bool)
+  operation_is : (k : OperationKind) (handle : HandleId) (m : Option T) (s : PollState) (h : ListenerRef) (b : Bool)
       → operation_status k m s ≡ waits h b
       → InLine (key_of s) (Some (seen_as k handle m)) h
   operation_is kind.Send handle m s h b e = send_is handle m s h b e
@@ -110,7 +110,7 @@ module _ {T : Type 0} where
   abbrev op_key : Option (Option (Operation T)) → Option Key
   op_key o = option_map_or (λ (x : Operation T). key_of x.poll_state) (lives o) None
 
-  op_at : (o : Option (Option (Operation T))) (h : Held) (b : Bool) → status_by op_status o ≡ waits h b
+  op_at : (o : Option (Option (Operation T))) (h : ListenerRef) (b : Bool) → status_by op_status o ≡ waits h b
       → InLine (op_key o) (option_map operation_of (lives o)) h
   op_at None h b e = absurd (let no : free ≡ waits h b = e in cc)
   op_at (Some None) h b e = absurd (let no : retired ≡ waits h b = e in cc)
@@ -122,15 +122,15 @@ module _ {T : Type 0} where
 
   module _ (r : NameTable T) where
     -- the line of a pending name is that of its listener
-    pub line_is : (w : Waiter) (h : Held) (b : Bool) → status r w ≡ waits h b → line_at (names_of r) w ≡ Some h.line
+    pub line_is : (w : Waiter) (h : ListenerRef) (b : Bool) → status r w ≡ waits h b → line_at (names_of r) w ≡ Some h.line
     line_is (Op op) h b e =
         ap (λ (o : Option (model.ModelOperation T)). line_of_operation o) (at_seen operation_of op.0 r.operations) ∙
         (op_at (lookup (nat_eq op.0) r.operations) h b e).1
     line_is (Stream handle) h b e =
-        ap (λ (x : Line). let o : Option Line = Some x in o) (hold_at (lookup (nat_eq handle.0) r.handles) h b e).1
+        ap (λ (x : WaitList). let o : Option WaitList = Some x in o) (hold_at (lookup (nat_eq handle.0) r.handles) h b e).1
 
     -- it holds that listener
-    pub holds_it : (w : Waiter) (h : Held) (b : Bool) → status r w ≡ waits h b → held_of r w ≡ Some h.key
+    pub holds_it : (w : Waiter) (h : ListenerRef) (b : Bool) → status r w ≡ waits h b → held_of r w ≡ Some h.key
     holds_it (Op op) h b e = (op_at (lookup (nat_eq op.0) r.operations) h b e).0
     holds_it (Stream handle) h b e = (hold_at (lookup (nat_eq handle.0) r.handles) h b e).0
 

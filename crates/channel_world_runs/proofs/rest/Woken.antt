@@ -1,5 +1,5 @@
 -- Those who were woken, in the order of their waking: of each line just those who hold its told listeners, in their order.
-use Rattle.channel_world_runs.proofs.rest.Words.{◌≡◌, ◌+◌, ℕ, Bool, true, false, List, [], ◌∷◌, Option, None, Some, IsSome, inl, inr, refl, sym, ap, ◌∙◌, subst, arith, filter, Key, Held, Line, Sends, Receives, Streams, Closings, line_sound, same_sound, decided, or_true, same_refl, Kind, times, same_line, same_waiter, is_among, Waiter, IsAmong, NoneTwice, NameStatus, waits, status, was_woken, Within, woken_in, woken_keys, NameTable, of_line}
+use Rattle.channel_world_runs.proofs.rest.Words.{◌≡◌, ◌+◌, ℕ, Bool, true, false, List, [], ◌∷◌, Option, None, Some, IsSome, inl, inr, refl, sym, ap, ◌∙◌, subst, arith, filter, Key, ListenerRef, WaitList, Sends, Receives, Streams, Closings, line_sound, same_sound, decided, or_true, same_refl, Kind, times, same_line, same_waiter, is_among, Waiter, IsAmong, NoneTwice, NameStatus, waits, status, was_woken, Within, woken_in, woken_keys, NameTable, of_line}
 use Rattle.channel_world_model.specs.Laws as laws
 use Rattle.channel_world_runs.proofs.rest.Lists.{Stand}
 use Rattle.channel_world_runs.proofs.rest.Names.{on}
@@ -59,7 +59,7 @@ module _ (kind : Kind) where
       times w (of_line kind Sends ws) + times w (of_line kind Receives ws) + times w (of_line kind Streams ws) + times w
       (of_line kind Closings ws)
 
-  by_line : (l : Line) (w v : Waiter) (ws : List Waiter) → kind v ≡ Some l → times w ws ≡ four w ws
+  by_line : (l : WaitList) (w v : Waiter) (ws : List Waiter) → kind v ≡ Some l → times w ws ≡ four w ws
       → times w (v ∷ ws) ≡ four w (v ∷ ws)
   by_line Sends w v ws e h = rw e (elim (decided (same_waiter w v)) [
     | inl t ↦ rw t (omega (arith, h))
@@ -81,7 +81,7 @@ module _ (kind : Kind) where
         | inr f ↦ rw f i
       ]
 
-      by : (o : Option Line) → kind v ≡ o → IsSome o → times w ws ≡ four w ws → times w (v ∷ ws) ≡ four w (v ∷ ws)
+      by : (o : Option WaitList) → kind v ≡ o → IsSome o → times w ws ≡ four w ws → times w (v ∷ ws) ≡ four w (v ∷ ws)
       by None e h more = cc h
       by (Some l) e h more = by_line l w v ws e more
 
@@ -89,19 +89,19 @@ module _ (kind : Kind) where
 
 module _ {T : Type 0} (r : NameTable T) where
   -- whoever was woken is pending
-  pub woken_waits : (w : Waiter) → was_woken (status r w) ≡ true → (h : Held) × (status r w ≡ waits h true)
+  pub woken_waits : (w : Waiter) → was_woken (status r w) ≡ true → (h : ListenerRef) × (status r w ≡ waits h true)
   woken_waits w e = by (status r w) refl e
     where
-      by : (p : NameStatus) → status r w ≡ p → was_woken p ≡ true → (h : Held) × (p ≡ waits h true)
+      by : (p : NameStatus) → status r w ≡ p → was_woken p ≡ true → (h : ListenerRef) × (p ≡ waits h true)
       by (waits h b) i g = (h, ap (λ (x : Bool). waits h x) g)
       by p i g = absurd (let no : false ≡ true = g in cc)
 
-  module _ (kind : Kind) (line : Line) where
+  module _ (kind : Kind) (line : WaitList) where
     abbrev Has : Key → Waiter → Type 0
     Has key w = (is_woken : Bool) × (status r w ≡ waits (on line key) is_woken)
 
     -- those of the line stand beside their listeners
-    pub woken_stand : ((w : Waiter) (h : Held) (b : Bool) → status r w ≡ waits h b → kind w ≡ Some h.line) → (order : List Waiter)
+    pub woken_stand : ((w : Waiter) (h : ListenerRef) (b : Bool) → status r w ≡ waits h b → kind w ≡ Some h.line) → (order : List Waiter)
         → Stand Has (woken_keys line r order) (of_line kind line (woken_in r order))
     woken_stand its [] = tt
     woken_stand its (w ∷ ws) = by (status r w) refl (woken_stand its ws)
@@ -115,11 +115,11 @@ module _ {T : Type 0} (r : NameTable T) where
         by : (p : NameStatus) → status r w ≡ p → Rest → Goal
         by (waits h true) e rest =
             let mine : laws.is_line line (kind w) ≡ same_line line h.line =
-            ap (λ (o : Option Line). laws.is_line line o) (its w h true e) in
+            ap (λ (o : Option WaitList). laws.is_line line o) (its w h true e) in
             elim (decided (same_line line h.line)) [
               | inl t ↦
                   let there : h.line ≡ line = sym (line_sound line h.line t) in
-                  let has : Has h.key w = (true, e ∙ ap (λ (l : Line). waits (record { line = l; key = h.key }) true) there) in
+                  let has : Has h.key w = (true, e ∙ ap (λ (l : WaitList). waits (record { line = l; key = h.key }) true) there) in
                   rw e (rw mine (rw t (has, rest)))
               | inr f ↦ rw e (rw mine (rw f rest))
             ]

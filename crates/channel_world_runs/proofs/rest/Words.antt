@@ -11,10 +11,10 @@ pub use Rattle.event_listener.specs.declared.key.Key.{Key}
 pub use Rattle.channel_steps.specs.solo.Alone.{Outcome, Alone}
 pub use Rattle.channel_calls.specs.Moves.{Channel}
 pub use Rattle.channel_calls.specs.declared.reply.Reply.{Reply}
-pub use Rattle.channel_calls.specs.declared.stage.Held.{Held}
-pub use Rattle.channel_calls.specs.declared.stage.Kept.{Kept}
-pub use Rattle.channel_calls.specs.declared.stage.Line.{Line}
-pub use Rattle.channel_calls.specs.declared.stage.Line.TheVariants.{Sends, Receives, Streams, Closings}
+pub use Rattle.channel_calls.specs.declared.stage.ListenerRef.{ListenerRef}
+pub use Rattle.channel_calls.specs.declared.stage.Returned.{Returned}
+pub use Rattle.channel_calls.specs.declared.stage.WaitList.{WaitList}
+pub use Rattle.channel_calls.specs.declared.stage.WaitList.TheVariants.{Sends, Receives, Streams, Closings}
 pub use Rattle.channel_world_runs.proofs.OwnerBegins.{Admitted, admitted, op_is, untaken}
 pub use Rattle.channel_world_runs.proofs.OwnerNames.{found, set_there, set_other, Same, given_back_same, op_status, handle_entry_status, Sets, told_status, one_woken, op_spent, handle_spent, lent_same, borrowed_same, handed_over_same}
 pub use Rattle.channel_world_runs.proofs.OwnerWokenLists.{key_of_entry}

@@ -1,5 +1,5 @@
 -- A channel at rest shows a state of the model: on each list, those who hold its listeners, and the woken in their order.
-use Rattle.channel_world_runs.proofs.rest.Words.{is_line, line_at, count_of, free_places, line_refl, decided, tasks_are, if◌then◌else◌, ◌≡◌, ◌≤◌, ◌+◌, ℕ, Bool, true, false, List, [], ◌++◌, length, Option, None, Some, IsSome, ◌⊎◌, inl, inr, refl, sym, ap, ◌∙◌, subst, arith, keys_of, Notice, Key, Line, Sends, Receives, Streams, Closings, told_of, Any, count_append, Kind, Enough, times, times_in, Placed, AwakeIn, Waiting, same_waiter, is_among, untold, State, Waiter, ActiveCall, Configuration, IsAmong, waits, status, holding, keys, IsListed, Holder, named, calling, AnyOf, HoldsIn, Owned, WorldInvariant, names_of, held_of, NameState, key_of_entry, state_at, IsWorld, RestIsAWorld, NeedsPlace, was_woken, Within, woken_keys, of_line, ShowsLine, ShowsLines, KeysFit, Refines, AreUntold, AreTold}
+use Rattle.channel_world_runs.proofs.rest.Words.{is_line, line_at, count_of, free_places, line_refl, decided, tasks_are, if◌then◌else◌, ◌≡◌, ◌≤◌, ◌+◌, ℕ, Bool, true, false, List, [], ◌++◌, length, Option, None, Some, IsSome, ◌⊎◌, inl, inr, refl, sym, ap, ◌∙◌, subst, arith, keys_of, Notice, Key, WaitList, Sends, Receives, Streams, Closings, told_of, Any, count_append, Kind, Enough, times, times_in, Placed, AwakeIn, Waiting, same_waiter, is_among, untold, State, Waiter, ActiveCall, Configuration, IsAmong, waits, status, holding, keys, IsListed, Holder, named, calling, AnyOf, HoldsIn, Owned, WorldInvariant, names_of, held_of, NameState, key_of_entry, state_at, IsWorld, RestIsAWorld, NeedsPlace, was_woken, Within, woken_keys, of_line, ShowsLine, ShowsLines, KeysFit, Refines, AreUntold, AreTold}
 use Rattle.channel_steps.specs.every_run.Waits.{Waits}
 use Rattle.channel_calls.specs.Parts.{listeners}
 use Rattle.channel_steps.specs.every_run.Amounts.{total, HoldsListener}
@@ -32,7 +32,7 @@ module _ {T : Type 0} (b : NameState T) (s : Configuration T Waiter) (kept : Wor
   woken : WokenAreTold b s
   woken = let w = kept.woken in w.told
 
-  in_order : (line : Line) → Within (woken_keys line b.name_table order) (keys_of (told_of line s.now))
+  in_order : (line : WaitList) → Within (woken_keys line b.name_table order) (keys_of (told_of line s.now))
   in_order = let o = kept.order in o.lines
 
   has_place : (w : Waiter) → NeedsPlace (status b.name_table w) → IsAmong w order
@@ -44,18 +44,18 @@ module _ {T : Type 0} (b : NameState T) (s : Configuration T Waiter) (kept : Wor
   abbrev kind : Kind
   kind = line_at (names_of b.name_table)
 
-  abbrev told : Line → List (Key × Notice Unit)
+  abbrev told : WaitList → List (Key × Notice Unit)
   told line = told_of line s.now
 
-  abbrev waiting : Line → List (Key × Option Waiter)
+  abbrev waiting : WaitList → List (Key × Option Waiter)
   waiting line = (listeners line s.now.roster).waiting
 
   -- ---- who holds what
 
-  abbrev Has : Line → Key → Waiter → Type 0
+  abbrev Has : WaitList → Key → Waiter → Type 0
   Has line key w = (is_woken : Bool) × (status b.name_table w ≡ waits (on line key) is_woken)
 
-  holder : (line : Line) (key : Key) → IsListed (on line key) s.now → (w : Waiter) × Has line key w
+  holder : (line : WaitList) (key : Key) → IsListed (on line key) s.now → (w : Waiter) × Has line key w
   holder line key i = let held = owned.held (on line key) i in by held.0 held.1
     where
       by : (x : Holder) → HoldsIn (status b.name_table) s.under_way x (on line key) → (w : Waiter) × Has line key w
@@ -64,33 +64,33 @@ module _ {T : Type 0} (b : NameState T) (s : Configuration T Waiter) (kept : Wor
           absurd (subst (λ (us : List (ActiveCall T Waiter)). AnyOf (λ u. (u.party ≡ party) × (holding u.at ≡ Some (on line key)))
           us) rest h)
 
-  one_name : (line : Line) (key : Key) (v w : Waiter) → Has line key v → Has line key w → v ≡ w
+  one_name : (line : WaitList) (key : Key) (v w : Waiter) → Has line key v → Has line key w → v ≡ w
   one_name line key v w h g = named_is v w (owned.alone (named v) (named w) (on line key) h g)
 
-  one_key : (line : Line) (w : Waiter) (j k : Key) → Has line j w → Has line k w → j ≡ k
+  one_key : (line : WaitList) (w : Waiter) (j k : Key) → Has line j w → Has line k w → j ≡ k
   one_key line w j k h g = ap (λ x. x.key) (same_held (on line j) (on line k) h.0 g.0 (sym h.1 ∙ g.1))
 
-  of_its_line : (line : Line) (key : Key) (w : Waiter) → Has line key w → kind w ≡ Some line
+  of_its_line : (line : WaitList) (key : Key) (w : Waiter) → Has line key w → kind w ≡ Some line
   of_its_line line key w h = line_is b.name_table w (on line key) h.0 h.1
 
-  its_key : (line : Line) (key : Key) (w : Waiter) → Has line key w → held_of b.name_table w ≡ Some key
+  its_key : (line : WaitList) (key : Key) (w : Waiter) → Has line key w → held_of b.name_table w ≡ Some key
   its_key line key w h = holds_it b.name_table w (on line key) h.0 h.1
 
-  told_names : (line : Line) → (ws : List Waiter) × Stand (Has line) (keys_of (told line)) ws
+  told_names : (line : WaitList) → (ws : List Waiter) × Stand (Has line) (keys_of (told line)) ws
   told_names line = named_all (Has line) (keys_of (told line))
       (λ key i. holder line key (among_left key (keys_of (told line)) (keys_of (waiting line)) i))
 
-  waiting_names : (line : Line) → (ws : List Waiter) × Stand (Has line) (keys_of (waiting line)) ws
+  waiting_names : (line : WaitList) → (ws : List Waiter) × Stand (Has line) (keys_of (waiting line)) ws
   waiting_names line = named_all (Has line) (keys_of (waiting line))
       (λ key i. holder line key (among_right key (keys_of (told line)) (keys_of (waiting line)) i))
 
-  abbrev D : Line → List Waiter
+  abbrev D : WaitList → List Waiter
   D line = (told_names line).0
 
-  abbrev U : Line → List Waiter
+  abbrev U : WaitList → List Waiter
   U line = (waiting_names line).0
 
-  all_names : (line : Line) → Stand (Has line) (keys (listeners line s.now.roster)) (D line ++ U line)
+  all_names : (line : WaitList) → Stand (Has line) (keys (listeners line s.now.roster)) (D line ++ U line)
   all_names line = stand_join (Has line) (keys_of (told line)) (keys_of (waiting line)) (D line) (U line) (told_names line).1
       (waiting_names line).1
 
@@ -103,7 +103,7 @@ module _ {T : Type 0} (b : NameState T) (s : Configuration T Waiter) (kept : Wor
   who = state.waiting
 
   -- whoever holds a waiting listener waits for his own name
-  his_task : (line : Line) (e : Key × Option Waiter) (w : Waiter) → IsAmong e (waiting line) → Has line e.0 w → e.1 ≡ Some w
+  his_task : (line : WaitList) (e : Key × Option Waiter) (w : Waiter) → IsAmong e (waiting line) → Has line e.0 w → e.1 ≡ Some w
   his_task line e w i (false, p) =
       let parts = none_parts (keys_of (told line)) (keys_of (waiting line)) (owned.once line) in
       let same : e ≡ (e.0, Some w) =
@@ -113,16 +113,16 @@ module _ {T : Type 0} (b : NameState T) (s : Configuration T Waiter) (kept : Wor
       let parts = none_parts (keys_of (told line)) (keys_of (waiting line)) (owned.once line) in
       absurd (parts.apart e.0 (woken w (on line e.0) p) (key_of_entry e (waiting line) i))
 
-  are_waiting : (line : Line) → AreUntold (held_of b.name_table) (waiting line) (U line)
+  are_waiting : (line : WaitList) → AreUntold (held_of b.name_table) (waiting line) (U line)
   are_waiting line =
       are_untold (Has line) (held_of b.name_table) (its_key line) (waiting line) (U line) (his_task line) (waiting_names line).1
 
-  untold_are : (line : Line) → untold line who ≡ U line
+  untold_are : (line : WaitList) → untold line who ≡ U line
   untold_are Sends = tasks_are (held_of b.name_table) (waiting Sends) (U Sends) (are_waiting Sends)
   untold_are line = tasks_are (held_of b.name_table) (waiting line) (U line) (are_waiting line)
 
   -- the listener of whoever was told is one of those of the woken
-  told_woken : (line : Line) (key : Key) → IsAmong key (keys_of (told line)) → IsAmong key (woken_keys line b.name_table order)
+  told_woken : (line : WaitList) (key : Key) → IsAmong key (keys_of (told line)) → IsAmong key (woken_keys line b.name_table order)
   told_woken line key i = by (holder line key (among_left key (keys_of (told line)) (keys_of (waiting line)) i))
     where
       by : (w : Waiter) × Has line key w → IsAmong key (woken_keys line b.name_table order)
@@ -132,7 +132,7 @@ module _ {T : Type 0} (b : NameState T) (s : Configuration T Waiter) (kept : Wor
           absurd (parts.apart key i (key_of_entry (key, Some w) (waiting line) (owned.unwoken w (on line key) p)))
 
   -- on each list those who were woken are just those who were told
-  woken_are : (line : Line) → of_line kind line who.woken ≡ D line
+  woken_are : (line : WaitList) → of_line kind line who.woken ≡ D line
   woken_are line =
       let parts = none_parts (keys_of (told line)) (keys_of (waiting line)) (owned.once line) in
       let same : woken_keys line b.name_table order ≡ keys_of (told line) =
@@ -143,7 +143,7 @@ module _ {T : Type 0} (b : NameState T) (s : Configuration T Waiter) (kept : Wor
 
   -- ---- the lines
 
-  shows_line : (line : Line) → ShowsLine kind (held_of b.name_table) s.now.queue.closed line (listeners line s.now.roster) who
+  shows_line : (line : WaitList) → ShowsLine kind (held_of b.name_table) s.now.queue.closed line (listeners line s.now.roster) who
   shows_line line =
       record {
         untold = subst (λ (ws : List Waiter). AreUntold (held_of b.name_table) (waiting line) ws) (sym (untold_are line))
@@ -160,20 +160,20 @@ module _ {T : Type 0} (b : NameState T) (s : Configuration T Waiter) (kept : Wor
 
   -- ---- how often a name stands
 
-  abbrev often : Waiter → Line → ℕ
+  abbrev often : Waiter → WaitList → ℕ
   often w line = times w (U line) + times w (D line)
 
-  both_lists : (w : Waiter) (line : Line) → times w (D line ++ U line) ≡ times w (D line) + times w (U line)
+  both_lists : (w : Waiter) (line : WaitList) → times w (D line ++ U line) ≡ times w (D line) + times w (U line)
   both_lists w line = count_append (same_waiter w) (D line) (U line)
 
-  once : (w : Waiter) (line : Line) → often w line ≤ 1
+  once : (w : Waiter) (line : WaitList) → often w line ≤ 1
   once w line =
       let one : times w (D line ++ U line) ≤ 1 = stand_once (Has line) (keys (listeners line s.now.roster)) (D line ++ U line)
       w (owned.once line) (one_key line w) (all_names line) in
       let split = both_lists w line in
       omega (arith, one, split)
 
-  never : (w : Waiter) (line : Line) → (kind w ≡ Some line → ⊥) → often w line ≡ 0
+  never : (w : Waiter) (line : WaitList) → (kind w ≡ Some line → ⊥) → often w line ≡ 0
   never w line other =
       let first = stand_none (Has line) (keys_of (waiting line)) (U line) w (waiting_names line).1
       (λ key i h. other (of_its_line line key w h)) in
@@ -181,7 +181,7 @@ module _ {T : Type 0} (b : NameState T) (s : Configuration T Waiter) (kept : Wor
       (λ key i h. other (of_its_line line key w h)) in
       omega (arith, first, second)
 
-  there : (w : Waiter) (line : Line) (key : Key) → Has line key w → 1 ≤ often w line
+  there : (w : Waiter) (line : WaitList) (key : Key) → Has line key w → 1 ≤ often w line
   there w line key h =
       let one : 1 ≤ times w (D line ++ U line) = stand_there (Has line) (keys (listeners line s.now.roster))
       (D line ++ U line) w key (λ v g. one_name line key v w g h) (all_names line)
@@ -193,13 +193,13 @@ module _ {T : Type 0} (b : NameState T) (s : Configuration T Waiter) (kept : Wor
   wakes : (w : Waiter) → is_among w who.woken ≡ true → IsSome (kind w)
   wakes w i =
       let h = woken_waits b.name_table w (among_filter (λ v. was_woken (status b.name_table v)) w order i) in
-      subst (λ (o : Option Line). IsSome o) (sym (line_is b.name_table w h.0 true h.1)) refl
+      subst (λ (o : Option WaitList). IsSome o) (sym (line_is b.name_table w h.0 true h.1)) refl
 
   -- each list has the names of its line as often as they stand there
-  times_woken : (w : Waiter) (line : Line) → times w (of_line kind line who.woken) ≡ times w (D line)
+  times_woken : (w : Waiter) (line : WaitList) → times w (of_line kind line who.woken) ≡ times w (D line)
   times_woken w line = ap (λ (ws : List Waiter). times w ws) (woken_are line)
 
-  times_untold : (w : Waiter) (line : Line) → times w (untold line who) ≡ times w (U line)
+  times_untold : (w : Waiter) (line : WaitList) → times w (untold line who) ≡ times w (U line)
   times_untold w line = ap (λ (ws : List Waiter). times w ws) (untold_are line)
 
   in_all : (w : Waiter) → times_in w who ≡ often w Sends + often w Receives + often w Streams + often w Closings
@@ -216,10 +216,10 @@ module _ {T : Type 0} (b : NameState T) (s : Configuration T Waiter) (kept : Wor
     times_untold w Closings,
   )
 
-  abbrev one_in : Line → Option Line → ℕ
+  abbrev one_in : WaitList → Option WaitList → ℕ
   one_in line o = if is_line line o then 1 else 0
 
-  within : (w : Waiter) (line : Line) → often w line ≤ one_in line (kind w)
+  within : (w : Waiter) (line : WaitList) → often w line ≤ one_in line (kind w)
   within w line = elim (decided (is_line line (kind w))) [
     | inl t ↦ rw t (once w line)
     | inr t ↦
@@ -231,21 +231,21 @@ module _ {T : Type 0} (b : NameState T) (s : Configuration T Waiter) (kept : Wor
   at_most_once w =
       omega (arith, in_all w, within w Sends, within w Receives, within w Streams, within w Closings, of_one (kind w))
     where
-      of_one : (o : Option Line) → one_in Sends o + one_in Receives o + one_in Streams o + one_in Closings o ≤ 1
+      of_one : (o : Option WaitList) → one_in Sends o + one_in Receives o + one_in Streams o + one_in Closings o ≤ 1
       of_one None = omega arith
       of_one (Some Sends) = omega arith
       of_one (Some line) = omega arith
 
-  stands : (w : Waiter) (line : Line) → 1 ≤ often w line → 1 ≤ times_in w who
+  stands : (w : Waiter) (line : WaitList) → 1 ≤ often w line → 1 ≤ times_in w who
   stands w Sends h = let all = in_all w in omega (arith, all, h)
   stands w line h = let all = in_all w in omega (arith, all, h)
 
   -- ---- the keys
 
-  has : (w : Waiter) (key : Key) → held_of b.name_table w ≡ Some key → (line : Line) × Has line key w
+  has : (w : Waiter) (key : Key) → held_of b.name_table w ≡ Some key → (line : WaitList) × Has line key w
   has w key e = by (pends b.name_table w key e)
     where
-      by : Pends (status b.name_table w) key → (line : Line) × Has line key w
+      by : Pends (status b.name_table w) key → (line : WaitList) × Has line key w
       by (inl bad) = absurd (owned.none_amiss w bad)
       by (inr h) = (h.0, (h.1, h.2))
 
@@ -255,14 +255,14 @@ module _ {T : Type 0} (b : NameState T) (s : Configuration T Waiter) (kept : Wor
       holds : (w : Waiter) (key : Key) → held_of b.name_table w ≡ Some key → 1 ≤ times_in w who
       holds w key e = let h = has w key e in stands w h.0 (there w h.0 key h.1)
 
-      on_its_line : (line : Line) (w : Waiter) (key : Key) → kind w ≡ Some line → held_of b.name_table w ≡ Some key → Has line key w
+      on_its_line : (line : WaitList) (w : Waiter) (key : Key) → kind w ≡ Some line → held_of b.name_table w ≡ Some key → Has line key w
       on_its_line line w key k e =
           let h = has w key e in
           let same : Some h.0 ≡ Some line = sym (of_its_line h.0 key w h.1) ∙ k in
-          let is : h.0 ≡ line = ap (λ (o : Option Line). elim o [ None ↦ line | Some l ↦ l ]) same in
-          subst (λ (l : Line). Has l key w) is h.1
+          let is : h.0 ≡ line = ap (λ (o : Option WaitList). elim o [ None ↦ line | Some l ↦ l ]) same in
+          subst (λ (l : WaitList). Has l key w) is h.1
 
-      apart : (line : Line) (v w : Waiter) (key : Key) → kind v ≡ Some line → kind w ≡ Some line → held_of b.name_table v ≡ Some key
+      apart : (line : WaitList) (v w : Waiter) (key : Key) → kind v ≡ Some line → kind w ≡ Some line → held_of b.name_table v ≡ Some key
           → held_of b.name_table w ≡ Some key → v ≡ w
       apart line v w key k l e f = one_name line key v w (on_its_line line v key k e) (on_its_line line w key l f)
 
@@ -282,11 +282,11 @@ module _ {T : Type 0} (b : NameState T) (s : Configuration T Waiter) (kept : Wor
   abbrev many : ℕ
   many = length s.now.queue.items
 
-  told_many : (line : Line) → count_of kind line who.woken ≡ length (told line)
+  told_many : (line : WaitList) → count_of kind line who.woken ≡ length (told line)
   told_many line = ap (λ (ws : List Waiter). length ws) (woken_are line) ∙
       (stand_length (Has line) (keys_of (told line)) (D line) (told_names line).1 ∙ all_keys (told line))
 
-  nobody_or : (line : Line) → (U line ≡ []) ⊎ ((key : Key) × Waits line key s.now)
+  nobody_or : (line : WaitList) → (U line ≡ []) ⊎ ((key : Key) × Waits line key s.now)
   nobody_or line = some_waits (Has line) (waiting line) (U line) (waiting_names line).1
 
   owed : {X : Type 0} (P : ActiveCall T Waiter → Type 0) → X ⊎ Any P [] → X
@@ -311,7 +311,7 @@ module _ {T : Type 0} (b : NameState T) (s : Configuration T Waiter) (kept : Wor
       (subst (λ (us : List (ActiveCall T Waiter)). (s.now.queue.items ≡ []) ⊎ Any (AnswersFor key) us) rest
       (sound.streams.owed key i))
 
-  closing_owed : (line : Line) (key : Key) → Shut s.now → Waits line key s.now → ⊥
+  closing_owed : (line : WaitList) (key : Key) → Shut s.now → Waits line key s.now → ⊥
   closing_owed line key shut i =
       subst (λ (us : List (ActiveCall T Waiter)). Any (AnswersClosed line key) us) rest (sound.closing.owed line key shut i)
 
@@ -356,7 +356,7 @@ module _ {T : Type 0} (b : NameState T) (s : Configuration T Waiter) (kept : Wor
       by (inl none) = inl (untold_are Streams ∙ none)
       by (inr some) = inr (ap (λ (ms : List T). length ms) (streams_owed some.0 some.1))
 
-  opened : s.now.queue.closed ≡ true → (line : Line) → untold line who ≡ []
+  opened : s.now.queue.closed ≡ true → (line : WaitList) → untold line who ≡ []
   opened shut line = untold_are line ∙ by (nobody_or line)
     where
       by : (U line ≡ []) ⊎ ((key : Key) × Waits line key s.now) → U line ≡ []
@@ -366,7 +366,7 @@ module _ {T : Type 0} (b : NameState T) (s : Configuration T Waiter) (kept : Wor
   placed : Placed kind who
   placed = record { lines = lines; wakes = wakes; once = at_most_once }
     where
-      lines : (line : Line) (w : Waiter) → is_among w (untold line who) ≡ true → kind w ≡ Some line
+      lines : (line : WaitList) (w : Waiter) → is_among w (untold line who) ≡ true → kind w ≡ Some line
       lines line w i =
           stand_kind (Has line) kind line (of_its_line line) (keys_of (waiting line)) (U line) w (waiting_names line).1
           (ap (λ (ws : List Waiter). is_among w ws) (sym (untold_are line)) ∙ i)

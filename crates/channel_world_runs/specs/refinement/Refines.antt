@@ -4,24 +4,24 @@ use Rattle.std.specs.List.{filter, AllZip}
 use Rattle.event_listener.specs.Lists.{Notice}
 use Rattle.event_listener.specs.declared.key.Key.{Key}
 use Rattle.channel_calls.specs.Moves.{Channel}
-use Rattle.channel_calls.specs.Parts.{Listeners, Roster, listeners}
-use Rattle.channel_calls.specs.declared.stage.Line.{Line as ListName}
-use Rattle.channel_calls.specs.declared.stage.Line.TheVariants as list
+use Rattle.channel_calls.specs.Parts.{Listeners, WaitLists, listeners}
+use Rattle.channel_calls.specs.declared.stage.WaitList.{WaitList as ListName}
+use Rattle.channel_calls.specs.declared.stage.WaitList.TheVariants as list
 use Rattle.channel_world_model.specs.Asked.{KeysHeld}
 use Rattle.channel_world_model.specs.Lines.{Waiting, same_waiter, untold}
 use Rattle.channel_world_model.specs.Laws.{is_line, line_at}
 use Rattle.channel_world_model.specs.Awake.{Kind, times_in}
 use Rattle.channel_world_model.specs.State.{State}
 use Rattle.channel_world_model.specs.declared.name.Waiter.{Waiter}
-use Rattle.channel_calls.specs.declared.stage.Line.{Line}
-use Rattle.channel_calls.specs.declared.stage.Line.TheVariants.{Sends, Receives, Streams, Closings}
+use Rattle.channel_calls.specs.declared.stage.WaitList.{WaitList}
+use Rattle.channel_calls.specs.declared.stage.WaitList.TheVariants.{Sends, Receives, Streams, Closings}
 
 -- w holds this, and any other what it held
 abbrev pub with_held : Waiter → Option Key → KeysHeld → KeysHeld
 with_held w key held = λ v. if same_waiter w v then key else held v
 
 -- the list of the channel that keeps a line
-abbrev pub list_of : Line → ListName
+abbrev pub list_of : WaitList → ListName
 list_of Sends = list.Sends
 list_of Receives = list.Receives
 list_of Streams = list.Streams
@@ -36,39 +36,39 @@ AreUntold held es ws = AllZip (ShowsUntold held) es ws
 
 -- how those of a line are told while the channel is open: a send or a receive as one more, streams all at once, and a
 -- notice of the closing not at all
-abbrev pub IsToldSo : Line → Bool → Type 0
+abbrev pub IsToldSo : WaitList → Bool → Type 0
 IsToldSo Sends additional = additional ≡ true
 IsToldSo Receives additional = additional ≡ true
 IsToldSo Streams additional = additional ≡ false
 IsToldSo Closings additional = ⊥
 
 -- a told listener is this name; and told ones are these names, in the order in which they were told
-abbrev pub ShowsTold : KeysHeld → Bool → Line → Key × Notice Unit → Waiter → Type 0
+abbrev pub ShowsTold : KeysHeld → Bool → WaitList → Key × Notice Unit → Waiter → Type 0
 ShowsTold held closed line e w = (held w ≡ Some e.0) × (closed ≡ false → IsToldSo line e.1.additional)
 
-abbrev pub AreTold : KeysHeld → Bool → Line → List (Key × Notice Unit) → List Waiter → Type 0
+abbrev pub AreTold : KeysHeld → Bool → WaitList → List (Key × Notice Unit) → List Waiter → Type 0
 AreTold held closed line es ws = AllZip (ShowsTold held closed line) es ws
 
 -- those among these names who belong to the line
-abbrev pub of_line : Kind → Line → List Waiter → List Waiter
+abbrev pub of_line : Kind → WaitList → List Waiter → List Waiter
 of_line kind line ws = filter (λ w. is_line line (kind w)) ws
 
 -- one list of listeners shows one line
-pub record ShowsLine (kind : Kind) (held : KeysHeld) (closed : Bool) (line : Line) (l : Listeners Waiter) (waiting : Waiting)
+pub record ShowsLine (kind : Kind) (held : KeysHeld) (closed : Bool) (line : WaitList) (l : Listeners Waiter) (waiting : Waiting)
     : Type 0 where
   pub untold : AreUntold held l.waiting (untold line waiting)
   pub told : AreTold held closed line l.told (of_line kind line waiting.woken)
 
 -- the four lists show the four lines
-abbrev pub ShowsLines : Kind → KeysHeld → Bool → Roster Waiter → Waiting → Type 0
+abbrev pub ShowsLines : Kind → KeysHeld → Bool → WaitLists Waiter → Waiting → Type 0
 ShowsLines kind held closed roster waiting =
-    (line : Line) → ShowsLine kind held closed line (listeners (list_of line) roster) waiting
+    (line : WaitList) → ShowsLine kind held closed line (listeners (list_of line) roster) waiting
 
 -- only who waits holds a key, and no two of a line hold the same
 pub record KeysFit (kind : Kind) (held : KeysHeld) (waiting : Waiting) : Type 0 where
   pub holds : (w : Waiter) (key : Key) → held w ≡ Some key → 1 ≤ times_in w waiting
   pub apart :
-      (line : Line) (v w : Waiter) (key : Key) → kind v ≡ Some line → kind w ≡ Some line → held v ≡ Some key → held w ≡ Some key
+      (line : WaitList) (v w : Waiter) (key : Key) → kind v ≡ Some line → kind w ≡ Some line → held v ≡ Some key → held w ≡ Some key
       → v ≡ w
 
 pub record Refines {T : Type 0} (held : KeysHeld) (c : Channel T Waiter) (s : State T) : Type 0 where

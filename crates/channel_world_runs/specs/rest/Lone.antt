@@ -1,6 +1,6 @@
 -- A call that is made alone on a channel at rest: what it leaves is what the model says.
 use Rattle.std.specs.Prelude.{◌≡◌, true, List, [], Option, None, Some}
-use Rattle.channel_calls.specs.declared.stage.Line.{Line}
+use Rattle.channel_calls.specs.declared.stage.WaitList.{WaitList}
 use Rattle.channel_steps.specs.solo.Alone.{Outcome, Alone}
 use Rattle.channel_world_runs.specs.Bookkeeping.{asks}
 use Rattle.channel_world_runs.specs.Kept.{WorldInvariant}
@@ -27,7 +27,7 @@ but_for (Some w) ws = without_waiter w ws
 module _ {T : Type 0} where
   -- no poll is under way
   abbrev pub NonePolled : NameTable T → Type 0
-  NonePolled r = (w : Waiter) (line : Line) → status r w ≡ polled line → ⊥
+  NonePolled r = (w : Waiter) (line : WaitList) → status r w ≡ polled line → ⊥
 
 -- where nobody is at work, the model refuses what is refused by names, for the same reason
 abbrev pub RefusalsAgree : Type 0 → Type 0

@@ -7,7 +7,7 @@ ghost use Rattle.concurrent_queue.specs.Replies.{MayCall, MayAnswer, AsksWords};
 use crate::call::{QueueAsk, QueueReply};
 use crate::cells::Cells;
 use crate::queue_call::QueueCall;
-use crate::queue_call::ahead::call_ahead;
+use crate::queue_call::fast_path::call_fast;
 use std::sync::Wait;
 use std::thread;
 
@@ -23,7 +23,7 @@ pub fn complete<T: Drop, R: Wait, C: Cells<T>>(
     ensures walked { Walked C.did (C.form_of cells.old) call cells.old result cells.new }
     ensures answers { MayCall (C.form_of cells.old) call.state result }
 {
-    match call_ahead(call, cells) {
+    match call_fast(call, cells) {
         Ok(reply) => reply,
         Err(rest) => finish(rt, rest, cells),
     }

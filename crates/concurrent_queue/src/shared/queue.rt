@@ -7,7 +7,7 @@ use crate::bounded::{GREATEST, at_most_greatest};
 use crate::call::{QueueAsk, QueueReply};
 use crate::cells::QueueForm;
 use crate::error::{NoMemory, PopError, PushError};
-use crate::queue_call::ahead::{call_ahead, pop_ahead, push_ahead};
+use crate::queue_call::fast_path::{call_fast, pop_fast, push_fast};
 use crate::queue_call::{QueueCall, whole};
 use crate::seen::{Lent, NoTrace, Seen, Trace, see_cells, see_words};
 use crate::shared::blocks::Blocks;
@@ -245,7 +245,7 @@ impl<T: Drop, W: Copy> ConcurrentQueue<T, W> {
         ensures answers { IsSharedCall self.now call (result.0) }
     {
         let mut seen = self.cells(rt, trace);
-        match call_ahead(call, &mut seen) {
+        match call_fast(call, &mut seen) {
             Ok(reply) => (reply, seen.into_trace()),
             Err(rest) => self.finish_seen(rt, rest, seen.into_trace()),
         }
@@ -282,7 +282,7 @@ impl<T: Drop, W: Copy> ConcurrentQueue<T, W> {
         ensures answers { MayAnswer (form_in self.now) (ask.Push value) (reply.Push (result.0)) }
     {
         let mut seen = self.cells(rt, trace);
-        match push_ahead(value, &mut seen) {
+        match push_fast(value, &mut seen) {
             Ok(answer) => (answer, seen.into_trace()),
             Err(rest) => {
                 let (reply, trace) = self.finish_apart(rt, rest, seen.into_trace());
@@ -300,7 +300,7 @@ impl<T: Drop, W: Copy> ConcurrentQueue<T, W> {
         ensures walked { WalkedAsking S.did (form_in self.now) ask.Pop trace (reply.Pop (result.0)) (result.1) }
     {
         let mut seen = self.cells(rt, trace);
-        match pop_ahead(&mut seen) {
+        match pop_fast(&mut seen) {
             Ok(answer) => (answer, seen.into_trace()),
             Err(rest) => {
                 let (reply, trace) = self.finish_apart(rt, rest, seen.into_trace());

@@ -7,7 +7,7 @@ use Rattle.channel_calls.specs.Turns.{line_of, message_of, refused_reply}
 use Rattle.channel_calls.specs.Walks.{WalkedFrom}
 use Rattle.channel_calls.specs.declared.ask.ChannelAsk.{ChannelAsk}
 use Rattle.channel_calls.specs.declared.ask.ChannelAsk.TheVariants as ask
-use Rattle.channel_calls.specs.declared.stage.Line.{Line}
+use Rattle.channel_calls.specs.declared.stage.WaitList.{WaitList}
 use Rattle.channel_calls.specs.declared.stage.Waiting.{Waiting}
 use Rattle.channel_calls.proofs.BlockedPolls as polls
 use Rattle.channel_calls.proofs.Listed.{walked_from}
@@ -25,7 +25,7 @@ returns-clause-leaves g c =
     let did = Done g.C.ChannelCells.did g.S.Wakes.wakes in
     let start : g.row.C.Denot × g.row.S.Denot = (c.args.cells.now, c.args.sink.now) in
     let end : g.row.C.Denot × g.row.S.Denot = (c.make.new.cells, c.make.new.sink) in
-    subst (λ (line : Line). let a : ChannelAsk g.row.T.Denot g.row.W.Denot = ask.RefusePoll line (message_of (waiting_of c.args.call)) (Some c.args.key) in WalkedFrom did (first a) start c.make.result.reply c.make.result.kept end) (line_is g c)
+    subst (λ (line : WaitList). let a : ChannelAsk g.row.T.Denot g.row.W.Denot = ask.RefusePoll line (message_of (waiting_of c.args.call)) (Some c.args.key) in WalkedFrom did (first a) start c.make.result.reply c.make.result.kept end) (line_is g c)
     (subst (λ (m : Option g.row.T.Denot). let a : ChannelAsk g.row.T.Denot g.row.W.Denot = ask.RefusePoll c.line-line.result m (Some c.args.key) in WalkedFrom did (first a) start c.make.result.reply c.make.result.kept end) (message_is g c)
     c.make.ensures.deeds)
 
@@ -36,5 +36,5 @@ returns-clause-over g c =
     let end : g.row.C.Denot × g.row.S.Denot = (c.make.new.cells, c.make.new.sink) in
     let may = c.make.ensures.answers c.requires.form.0 c.requires.form.1 in
     let leave : ChannelAsk g.row.T.Denot g.row.W.Denot = ask.RefusePoll (line_of (waiting_of c.args.call)) (message_of (waiting_of c.args.call)) (Some c.args.key) in
-    polls.refused_over c.args.call c.make.result (may.0 ∙ ap (λ (l : Line). refused_reply l listen_error.NoMemory) (line_is g c)) (may.1 ∙ message_is g c)
+    polls.refused_over c.args.call c.make.result (may.0 ∙ ap (λ (l : WaitList). refused_reply l listen_error.NoMemory) (line_is g c)) (may.1 ∙ message_is g c)
     (walked_from did (first leave) start c.make.result.reply c.make.result.kept end (polls.leaves_fair g.row.W.Denot c.args.call c.args.key) (returns-clause-leaves g c))

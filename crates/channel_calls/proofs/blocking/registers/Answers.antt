@@ -2,7 +2,7 @@ use Rattle.std.proofs.Common.{subst}
 use Rattle.channel_calls.specs.Asks.{first}
 use Rattle.channel_calls.specs.Blocks.{waiting_of, poll_woken}
 use Rattle.channel_calls.specs.Deeds.{Done}
-use Rattle.channel_calls.specs.Replies.{MayGive, MayPoll}
+use Rattle.channel_calls.specs.Replies.{ReplyAllowed, MayPoll}
 use Rattle.channel_calls.specs.Walks.{WalkedFrom}
 use Rattle.channel_calls.specs.declared.ask.ChannelAsk.{ChannelAsk}
 use Rattle.channel_calls.proofs.BlockedPolls as polls
@@ -23,7 +23,7 @@ told g c =
     let given = c.make.result in
     let may : MayPoll (waiting_of c.args.call) given.reply given.kept.message =
     polls.woken_may g.row.W.Denot c.requires.form.0 c.args.call c.args.key c.args.task given.reply given.kept.message
-    (subst (λ (a : ChannelAsk g.row.T.Denot g.row.W.Denot). MayGive c.requires.form.0 a given.reply given.kept.message) c.poll_woken.ensures (c.make.ensures.answers c.requires.form.0 c.requires.form.1))
+    (subst (λ (a : ChannelAsk g.row.T.Denot g.row.W.Denot). ReplyAllowed c.requires.form.0 a given.reply given.kept.message) c.poll_woken.ensures (c.make.ensures.answers c.requires.form.0 c.requires.form.1))
     in
     c.still.ensures.waits c.args.call may
     (walked_from (Done g.C.ChannelCells.did g.S.Wakes.wakes) (first (poll_woken c.args.call c.args.key c.args.task)) (c.args.cells.now, c.args.sink.now)

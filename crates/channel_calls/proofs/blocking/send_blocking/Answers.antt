@@ -5,7 +5,7 @@ use Rattle.channel_calls.specs.Tried.{sent_left}
 use Rattle.channel_calls.specs.declared.blocked.Blocked.{Blocked}
 use Rattle.channel_calls.specs.declared.blocked.Blocked.TheVariants.{Send}
 use Rattle.channel_calls.specs.declared.reply.Reply.{Reply}
-use Rattle.channel_calls.specs.declared.stage.Kept.{Kept}
+use Rattle.channel_calls.specs.declared.stage.Returned.{Returned}
 use Rattle.channel_calls.proofs.BlockedPolls as polls
 use Rattle.channel_calls.proofs.blocking.send_blocking.Goals as goal
 
@@ -19,7 +19,7 @@ returns-in-Ok-clause-deeds g c =
     let given = c.in-Ok.given in
     let call = Send c.args.message in
     subst (λ (r : Reply g.row.T.Denot). Blocks did asked slept call start r (sent_left c.sent.result) end) (sym c.sent.ensures.reply)
-    (subst (λ (k : Kept g.row.T.Denot). Blocks did asked slept call start given.reply k end) (sym c.sent.ensures.left)
+    (subst (λ (k : Returned g.row.T.Denot). Blocks did asked slept call start given.reply k end) (sym c.sent.ensures.left)
     (0, start, refl, inl (polls.begun_over did call start given end c.in-Ok.ensures.over c.in-Ok.ensures.comes)))
 
 pub returns-in-Err-clause-deeds : goal.returns-in-Err-clause-deeds
@@ -34,5 +34,5 @@ returns-in-Err-clause-deeds g c =
     let call = Send c.args.message in
     let on = subst (λ (b : Blocked g.row.T.Denot). Blocks did asked slept b tried given.reply given.kept end) c.in-Err.ensures.same c.blocks-in-Err.ensures.deeds in
     subst (λ (r : Reply g.row.T.Denot). Blocks did asked slept call start r (sent_left c.sent-in-Err.result) end) (sym c.sent-in-Err.ensures.reply)
-    (subst (λ (k : Kept g.row.T.Denot). Blocks did asked slept call start given.reply k end) (sym c.sent-in-Err.ensures.left)
+    (subst (λ (k : Returned g.row.T.Denot). Blocks did asked slept call start given.reply k end) (sym c.sent-in-Err.ensures.left)
     (polls.blocks_on did call start tried c.in-Err.ensures.looked asked slept given.reply given.kept end on))

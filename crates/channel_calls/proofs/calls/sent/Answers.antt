@@ -10,5 +10,5 @@ returns-in-Ok-clause-deeds g c = (nothing_kept, c.in-Ok.ensures.deeds)
 
 pub returns-in-Err-clause-deeds : goal.returns-in-Err-clause-deeds
 returns-in-Err-clause-deeds g c =
-    handed_on (Done g.C.ChannelCells.did g.S.Wakes.wakes) (first (ask.TrySend c.args.message)) (c.args.cells.now, c.args.sink.now) (c.send_ahead.new.cells, c.send_ahead.new.sink) (c.complete.new.cells, c.complete.new.sink)
+    handed_on (Done g.C.ChannelCells.did g.S.Wakes.wakes) (first (ask.TrySend c.args.message)) (c.args.cells.now, c.args.sink.now) (c.send_fast.new.cells, c.send_fast.new.sink) (c.complete.new.cells, c.complete.new.sink)
     c.in-Err.call c.complete.result.reply c.complete.result.kept c.in-Err.ensures.deeds c.complete.ensures.deeds

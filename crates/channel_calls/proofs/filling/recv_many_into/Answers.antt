@@ -12,7 +12,7 @@ use Rattle.channel_calls.specs.Walks.{WalkedTo}
 use Rattle.channel_calls.specs.declared.ask.ChannelAsk.{ChannelAsk}
 use Rattle.channel_calls.specs.declared.ask.ChannelAsk.TheVariants as ask
 use Rattle.channel_calls.specs.declared.reply.Reply.TheVariants as reply
-use Rattle.channel_calls.specs.declared.stage.Line.TheVariants.{Sends}
+use Rattle.channel_calls.specs.declared.stage.WaitList.TheVariants.{Sends}
 use Rattle.channel_calls.proofs.Gathering as gathering
 use Rattle.channel_calls.proofs.filling.recv_many_into.Goals as goal
 

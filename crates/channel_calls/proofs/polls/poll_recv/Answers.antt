@@ -2,7 +2,7 @@ use Rattle.std.proofs.Common.{subst}
 use Rattle.channel_calls.specs.Asks.{first}
 use Rattle.channel_calls.specs.Calls.{recv_ask}
 use Rattle.channel_calls.specs.Deeds.{Done}
-use Rattle.channel_calls.specs.Replies.{MayGive}
+use Rattle.channel_calls.specs.Replies.{ReplyAllowed}
 use Rattle.channel_calls.specs.Walks.{WalkedFrom}
 use Rattle.channel_calls.specs.declared.ask.ChannelAsk.{ChannelAsk}
 use Rattle.channel_calls.proofs.Listed as lists
@@ -25,8 +25,8 @@ pub unreachable-requires : goal.unreachable-requires
 unreachable-requires g c =
     let given = c.make-given.result in
     let f = c.requires.form.0 in
-    let may : MayGive f (recv_ask c.args.key c.args.task) given.reply given.kept.message =
-    subst (λ (a : ChannelAsk g.row.T.Denot g.row.W.Denot). MayGive f a given.reply given.kept.message) c.recv_ask-ask.ensures (c.make-given.ensures.answers c.requires.form.0 c.requires.form.1)
+    let may : ReplyAllowed f (recv_ask c.args.key c.args.task) given.reply given.kept.message =
+    subst (λ (a : ChannelAsk g.row.T.Denot g.row.W.Denot). ReplyAllowed f a given.reply given.kept.message) c.recv_ask-ask.ensures (c.make-given.ensures.answers c.requires.form.0 c.requires.form.1)
     in
     let is = facts.recv_polled f c.args.key c.args.task given.reply given.kept.message may in
     c.in_default.not-RecvPoll is.0 is.1

@@ -1,5 +1,5 @@
 use Rattle.concurrent_queue.specs.declared.call.QueueAsk.TheVariants.{Capacity}
-use Rattle.channel_calls.specs.declared.stage.Aim.TheVariants.{Ask}
+use Rattle.channel_calls.specs.declared.stage.Purpose.TheVariants.{Ask}
 use Rattle.channel_calls.proofs.Answering.{capped}
 use Rattle.channel_calls.proofs.questions.capacity.Goals as goal
 

@@ -1,5 +1,5 @@
 use Rattle.concurrent_queue.specs.declared.call.QueueAsk.TheVariants.{IsClosed}
-use Rattle.channel_calls.specs.declared.stage.Aim.TheVariants.{Ask}
+use Rattle.channel_calls.specs.declared.stage.Purpose.TheVariants.{Ask}
 use Rattle.channel_calls.proofs.Answering.{flagged}
 use Rattle.channel_calls.proofs.questions.is_closed.Goals as goal
 

@@ -1,7 +1,7 @@
 use Rattle.std.proofs.Common.{◌≡◌, true, false, rules}
 use Rattle.concurrent_queue.specs.declared.call.QueueAsk.TheVariants.{IsEmpty}
 use Rattle.concurrent_queue.specs.declared.call.QueueReply.TheVariants.{Flag}
-use Rattle.channel_calls.specs.declared.stage.Aim.TheVariants.{Ask, IsTerminated}
+use Rattle.channel_calls.specs.declared.stage.Purpose.TheVariants.{Ask, IsTerminated}
 use Rattle.channel_calls.proofs.Answering.{flagged, open_still, then_empty}
 use Rattle.channel_calls.proofs.questions.is_terminated.Goals as goal
 

@@ -6,8 +6,8 @@ use Rattle.channel_calls.specs.Walks.{WalkedTo}
 use Rattle.channel_calls.specs.declared.reply.Reply.TheVariants.{TooMany, Made}
 use Rattle.channel_calls.specs.declared.stage.Making.TheVariants.{Clone}
 use Rattle.channel_calls.specs.declared.stage.Side.{Side}
-use Rattle.channel_calls.specs.declared.stage.Turn.TheVariants.{Works}
-use Rattle.channel_calls.specs.declared.stage.Work.TheVariants.{Load}
+use Rattle.channel_calls.specs.declared.stage.NextStep.TheVariants.{Works}
+use Rattle.channel_calls.specs.declared.stage.ListStep.TheVariants.{Load}
 use Rattle.channel_calls.proofs.raised.clone_handle.Goals as goal
 
 pub returns-then-is_too_many-clause-deeds : goal.returns-then-is_too_many-clause-deeds

@@ -7,7 +7,7 @@ use Rattle.channel_calls.specs.Turns.{nothing_kept, lowered_next}
 use Rattle.channel_calls.specs.Walks.{Takes}
 use Rattle.channel_calls.specs.declared.reply.Reply.TheVariants.{Unit}
 use Rattle.channel_calls.specs.declared.stage.Stage.TheVariants.{Finished}
-use Rattle.channel_calls.specs.declared.stage.Turn.{Turn}
+use Rattle.channel_calls.specs.declared.stage.NextStep.{NextStep}
 use Rattle.channel_calls.proofs.raised.lowered.Goals as goal
 
 pub returns-then-is_none : goal.returns-then-is_none
@@ -28,7 +28,7 @@ returns-in-Ok g c =
     let s : g.row.C.Denot × g.row.S.Denot = (c.args.cells.now, c.args.sink.now) in
     let t : g.row.C.Denot × g.row.S.Denot = (c.lower-before.new.self, c.args.sink.now) in
     let goes = c.in-Ok.ensures.goes in
-    let takes = subst (λ (z : Turn g.row.T.Denot g.row.W.Denot). Takes z goes.0 (Some c.in-Ok.reply)) c.lowered_next.ensures goes.1 in
+    let takes = subst (λ (z : NextStep g.row.T.Denot g.row.W.Denot). Takes z goes.0 (Some c.in-Ok.reply)) c.lowered_next.ensures goes.1 in
     record { deeds = (c.in-Ok.reply, lowers did c.args.side c.lower-before.result c.args.stream_key s t (c.lower-before.ensures.deed, refl) c.in-Ok.reply goes.0 takes) }
 
 pub returns-in-Err : goal.returns-in-Err
@@ -36,7 +36,7 @@ returns-in-Err g c =
     let did = Done g.C.ChannelCells.did g.S.Wakes.wakes in
     let s : g.row.C.Denot × g.row.S.Denot = (c.args.cells.now, c.args.sink.now) in
     let t : g.row.C.Denot × g.row.S.Denot = (c.lower-before.new.self, c.args.sink.now) in
-    let takes = subst (λ (z : Turn g.row.T.Denot g.row.W.Denot). Takes z c.in-Err.call.stage None) c.lowered_next.ensures c.in-Err.ensures.goes.0 in
+    let takes = subst (λ (z : NextStep g.row.T.Denot g.row.W.Denot). Takes z c.in-Err.call.stage None) c.lowered_next.ensures c.in-Err.ensures.goes.0 in
     record {
       deeds = (
         c.complete.result.reply,

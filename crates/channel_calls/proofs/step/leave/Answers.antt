@@ -1,7 +1,7 @@
 use Rattle.std.proofs.Common.{refl, None}
 use Rattle.channel_calls.specs.declared.stage.Stage.TheVariants.{Working}
-use Rattle.channel_calls.specs.declared.stage.Work.TheVariants.{Leave}
-use Rattle.channel_calls.specs.declared.stage.Turn.TheVariants.{Ends}
+use Rattle.channel_calls.specs.declared.stage.ListStep.TheVariants.{Leave}
+use Rattle.channel_calls.specs.declared.stage.NextStep.TheVariants.{Ends}
 use Rattle.channel_calls.specs.Turns.{leaving}
 use Rattle.channel_calls.proofs.Replying as replying
 use Rattle.channel_calls.proofs.step.leave.Goals as goal

@@ -1,4 +1,4 @@
-use Rattle.channel_calls.specs.declared.stage.Work.TheVariants.{Lower}
+use Rattle.channel_calls.specs.declared.stage.ListStep.TheVariants.{Lower}
 use Rattle.channel_calls.specs.declared.stage.Stage.TheVariants.{Working}
 use Rattle.channel_calls.proofs.Replying as replying
 use Rattle.channel_calls.proofs.step.lower.Goals as goal

@@ -1,5 +1,5 @@
 use Rattle.channel_calls.specs.declared.stage.Stage.TheVariants.{Working}
-use Rattle.channel_calls.specs.declared.stage.Work.TheVariants.{Register}
+use Rattle.channel_calls.specs.declared.stage.ListStep.TheVariants.{Register}
 use Rattle.channel_calls.proofs.Replying as replying
 use Rattle.channel_calls.proofs.step.register.Goals as goal
 

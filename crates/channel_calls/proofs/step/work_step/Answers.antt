@@ -1,8 +1,8 @@
 use Rattle.std.proofs.Common.{refl, ap}
 use Rattle.channel_calls.specs.declared.reply.Reply.TheVariants as reply
-use Rattle.channel_calls.specs.declared.stage.Kept.{Kept}
-use Rattle.channel_calls.specs.declared.stage.Turn.TheVariants.{Works, Ends}
-use Rattle.channel_calls.specs.declared.stage.Work.TheVariants.{TellReceive, TellStreams, TellSend, TellSends, TakeRoom, TellAll, Insert, Register, Leave, Lower, Count, Load, Raise}
+use Rattle.channel_calls.specs.declared.stage.Returned.{Returned}
+use Rattle.channel_calls.specs.declared.stage.NextStep.TheVariants.{Works, Ends}
+use Rattle.channel_calls.specs.declared.stage.ListStep.TheVariants.{TellReceive, TellStreams, TellSend, TellSends, TakeRoom, TellAll, Insert, Register, Leave, Lower, Count, Load, Raise}
 use Rattle.channel_calls.specs.declared.stage.Stage.TheVariants.{Working}
 use Rattle.channel_calls.proofs.Replying as replying
 use Rattle.channel_calls.proofs.step.work_step.Goals as goal
@@ -41,7 +41,7 @@ pub returns-in-Leave-clause-answers : goal.returns-in-Leave-clause-answers
 returns-in-Leave-clause-answers g c b = replying.at_work _ b _ (Leave c.in-Leave.ending) c.in-Leave.is _ _ (c.leave.ensures.answers b)
 
 pub returns-in-Count-clause-answers : goal.returns-in-Count-clause-answers
-returns-in-Count-clause-answers g c b = replying.at_work _ b _ (Count c.in-Count.side) c.in-Count.is _ _ (replying.through _ b _ _ (ap (λ (k : Kept g.row.T.Denot). Ends (reply.Count c.count-count.result) k) c.nothing.ensures) (Working (Count c.in-Count.side)) _ _ (c.takes-in-Count.ensures.follows b) (λ r m t. replying.counted g.row.W.Denot b c.count-count.result r m t))
+returns-in-Count-clause-answers g c b = replying.at_work _ b _ (Count c.in-Count.side) c.in-Count.is _ _ (replying.through _ b _ _ (ap (λ (k : Returned g.row.T.Denot). Ends (reply.Count c.count-count.result) k) c.nothing.ensures) (Working (Count c.in-Count.side)) _ _ (c.takes-in-Count.ensures.follows b) (λ r m t. replying.counted g.row.W.Denot b c.count-count.result r m t))
 
 pub returns-in-Load-clause-answers : goal.returns-in-Load-clause-answers
 returns-in-Load-clause-answers g c b = replying.at_work _ b _ (Load c.in-Load.side c.in-Load.making) c.in-Load.is _ _ (replying.through _ b _ _ c.loaded_next.ensures (Working (Load c.in-Load.side c.in-Load.making)) _ _ (c.takes-in-Load.ensures.follows b) (λ r m t. replying.loaded _ b c.in-Load.side c.in-Load.making _ r m t))

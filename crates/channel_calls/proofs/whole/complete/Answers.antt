@@ -1,7 +1,7 @@
 use Rattle.std.proofs.Common.{suc, Option, None, Some, sym, subst}
 use Rattle.channel_calls.specs.Asks.{kept_by}
 use Rattle.channel_calls.specs.Replies.{MayEnd, FollowsStage}
-use Rattle.channel_calls.specs.declared.stage.Kept.{Kept}
+use Rattle.channel_calls.specs.declared.stage.Returned.{Returned}
 use Rattle.channel_calls.specs.Deeds.{Done}
 use Rattle.channel_calls.specs.Walks.{ChannelMakes}
 use Rattle.channel_calls.specs.declared.reply.Reply.{Reply}
@@ -25,7 +25,7 @@ returns-in-Some-answer-clause-answers g c f has =
     let follows : MayEnd f c.loop.call.stage r (kept_by c.step-answer.new.self.stage).message =
     subst (λ (o : Option (Reply g.row.T.Denot)). FollowsStage f c.loop.call.stage c.step-answer.new.self.stage o) c.in-Some-answer.is (c.step-answer.ensures.answers f (c.loop.invariant.1 f has))
     in
-    c.loop.invariant.2 f has r kept.message (subst (λ (k : Kept g.row.T.Denot). MayEnd f c.loop.call.stage r k.message) (sym c.into_kept-kept.ensures) follows)
+    c.loop.invariant.2 f has r kept.message (subst (λ (k : Returned g.row.T.Denot). MayEnd f c.loop.call.stage r k.message) (sym c.into_kept-kept.ensures) follows)
 
 pub returns-in-Some-answer-clause-form : goal.returns-in-Some-answer-clause-form
 returns-in-Some-answer-clause-form g c f has = c.step-answer.ensures.form f (c.loop.invariant.1 f has)

@@ -1,7 +1,7 @@
 use Rattle.std.proofs.Common.{◌≡◌, rules, arith, refl, ap, Some}
 use Rattle.std.proofs.lemmas.Option.{slice_get_read}
 use Rattle.channel_calls.proofs.Interface.{exact_step}
-use Rattle.channel_calls.specs.declared.stage.Kept.{Kept}
+use Rattle.channel_calls.specs.declared.stage.Returned.{Returned}
 use Rattle.channel_steps.specs.declared.party.Party.{Party}
 use Rattle.channel_steps.specs.Configuration.{parties_after, left_by}
 use Rattle.channel_steps.proofs.ConfigurationFacts.{stepped_at, made_at, remove-set, get-set, ids_after}
@@ -18,7 +18,7 @@ returns-clause-steps g c known =
     elim c.match-reply.branch [ in-Some w ↦ rw (w.in-Some.is, w.parties-is, w.leave.ensures.parties) (remove-set ps.items c.args.k _) | in-None w ↦ rw (w.in-None.is, w.parties-is) refl ] in
     let given : c.match-reply.kept ≡ left_by next c.step-reply.result =
     elim c.match-reply.branch [
-      | in-Some w ↦ rw (w.in-Some.is, w.kept-is) (ap (λ (k : Kept g.row.T.Denot). Some k) (w.leave.ensures.kept next (get-set ps.items c.args.k next x there)))
+      | in-Some w ↦ rw (w.in-Some.is, w.kept-is) (ap (λ (k : Returned g.row.T.Denot). Some k) (w.leave.ensures.kept next (get-set ps.items c.args.k next x there)))
       | in-None w ↦ rw (w.in-None.is, w.kept-is) refl
     ] in
     let cells = g.C.ChannelCells in

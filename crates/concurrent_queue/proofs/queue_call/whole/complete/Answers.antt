@@ -7,14 +7,14 @@ use Rattle.concurrent_queue.proofs.queue_call.whole.complete.Goals as goal
 
 pub returns-in-Ok-clause-walked : goal.returns-in-Ok-clause-walked
 returns-in-Ok-clause-walked g c =
-    walked_standing g.C.Cells.did (g.C.Cells.form_of c.args.cells.now) c.args.cells.now c.args.call.state c.call_ahead.new.cells c.in-Ok.reply c.in-Ok.ensures.deeds
+    walked_standing g.C.Cells.did (g.C.Cells.form_of c.args.cells.now) c.args.cells.now c.args.call.state c.call_fast.new.cells c.in-Ok.reply c.in-Ok.ensures.deeds
 
 pub returns-in-Err-clause-walked : goal.returns-in-Err-clause-walked
 returns-in-Err-clause-walked g c =
     let did = g.C.Cells.did in
     let form_of = g.C.Cells.form_of in
     let s = c.args.cells.now in
-    let x = c.call_ahead.new.cells in
+    let x = c.call_fast.new.cells in
     let form = form_of s in
     let from = standing form c.args.call.state in
     let went = c.in-Err.ensures.deeds in
@@ -26,7 +26,7 @@ pub returns-in-Err-clause-answers : goal.returns-in-Err-clause-answers
 returns-in-Err-clause-answers g c =
     let form_of = g.C.Cells.form_of in
     let s = c.args.cells.now in
-    let x = c.call_ahead.new.cells in
+    let x = c.call_fast.new.cells in
     let from = standing (form_of s) c.args.call.state in
     let went = c.in-Err.ensures.deeds in
     let same = leads_keep g.C.Cells.did form_of g.met.C.Cells.keeps_form (form_of s) (went.0) s from x (standing (form_of s) c.in-Err.rest.state) (went.1) in

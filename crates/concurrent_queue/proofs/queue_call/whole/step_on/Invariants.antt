@@ -1,7 +1,7 @@
 use Rattle.std.proofs.Common.{◌≡◌, ℕ}
 use Rattle.concurrent_queue.specs.SharedQueue.{IsStillOf}
 use Rattle.concurrent_queue.specs.Walked.{StateMakes}
-use Rattle.concurrent_queue.specs.machine.Ahead.{Leads}
+use Rattle.concurrent_queue.specs.machine.FastPath.{Leads}
 use Rattle.concurrent_queue.proofs.queue_call.whole.step_on.Given as goal
 
 abbrev pub invariant-loop : goal.invariant-loop

@@ -1,5 +1,5 @@
 use Rattle.std.proofs.Common.{rules, ◌≡◌}
-use Rattle.channel_calls.specs.declared.stage.Line.TheVariants as line
+use Rattle.channel_calls.specs.declared.stage.WaitList.TheVariants as line
 use Rattle.async_channel.specs.Handles.{channel_of}
 use Rattle.async_channel.proofs.Traces.{left_of}
 use Rattle.async_channel.proofs.handles.send.Send.give_up_traced.Goals as goal

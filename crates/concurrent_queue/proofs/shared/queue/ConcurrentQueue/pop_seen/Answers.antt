@@ -12,7 +12,7 @@ pub returns-in-Ok : goal.returns-in-Ok
 returns-in-Ok g c =
     let seen = c.cells-seen.result in
     record {
-      walked = traced_asking (λ (x : SharedCells g.row.T.Denot g.row.R.Denot). x.words.form) g.S.Trace.did (form_in c.args.self.now) seen.cells.words.form ask.Pop seen c.pop_ahead.new.cells (reply.Pop c.in-Ok.answer)
+      walked = traced_asking (λ (x : SharedCells g.row.T.Denot g.row.R.Denot). x.words.form) g.S.Trace.did (form_in c.args.self.now) seen.cells.words.form ask.Pop seen c.pop_fast.new.cells (reply.Pop c.in-Ok.answer)
           c.args.trace c.into_trace.result c.cells-seen.ensures.form c.cells-seen.ensures.trace c.into_trace.ensures c.in-Ok.ensures.deeds;
     }
 
@@ -23,6 +23,6 @@ returns-in-Pop g c =
     let form = form_in c.args.self.now in
     let went = subst (λ (r : QueueReply g.row.T.Denot). WalkedFrom g.S.Trace.did form c.in-Err.rest.state c.into_trace-in-Err.result r made.1) c.in-Pop.is c.finish_apart-reply.ensures.walked in
     record {
-      walked = asking_went_on (λ (x : SharedCells g.row.T.Denot g.row.R.Denot). x.words.form) g.S.Trace.did form seen.cells.words.form c.in-Err.rest.state seen c.pop_ahead.new.cells (reply.Pop c.in-Pop.answer)
+      walked = asking_went_on (λ (x : SharedCells g.row.T.Denot g.row.R.Denot). x.words.form) g.S.Trace.did form seen.cells.words.form c.in-Err.rest.state seen c.pop_fast.new.cells (reply.Pop c.in-Pop.answer)
           c.args.trace c.into_trace-in-Err.result made.1 c.cells-seen.ensures.form c.cells-seen.ensures.trace c.into_trace-in-Err.ensures ask.Pop c.in-Err.ensures.deeds went;
     }

@@ -1,0 +1,108 @@
+-- Steps of a channel's call that are made on end: what they may answer, and that they leave nothing.
+use Rattle.std.proofs.Common.{◌≡◌, refl, subst, Option, None, Some, Ok, Err, Result, MatchResult}
+use Rattle.concurrent_queue.specs.Replies.{IsAsking, MayCall}
+use Rattle.concurrent_queue.specs.declared.cells.QueueForm.{QueueForm}
+use Rattle.concurrent_queue.specs.declared.call.QueueAsk.TheVariants as ask
+use Rattle.concurrent_queue.specs.declared.call.QueueReply.{QueueReply}
+use Rattle.concurrent_queue.specs.declared.call.QueueReply.TheVariants.{Push, Force, Pop, Close, Flag, Count, Cap}
+use Rattle.concurrent_queue.specs.declared.error.ForcePushError.TheVariants as force_error
+use Rattle.concurrent_queue.specs.declared.error.PushError.TheVariants as push_error
+use Rattle.concurrent_queue.specs.declared.error.PopError.TheVariants as pop_error
+use Rattle.concurrent_queue.specs.declared.queue_call.CallState.{CallState}
+use Rattle.concurrent_queue.specs.declared.queue_call.QueueCall.{QueueCall}
+use Rattle.channel_calls.specs.declared.ask.ChannelAsk.{ChannelAsk}
+use Rattle.channel_calls.specs.declared.ask.ChannelAsk.TheVariants as call
+use Rattle.channel_calls.specs.declared.call.ChannelCall.{ChannelCall}
+use Rattle.channel_calls.specs.declared.reply.Reply.{Reply}
+use Rattle.channel_calls.specs.declared.stage.Purpose.{Purpose}
+use Rattle.channel_calls.specs.declared.stage.Purpose.TheVariants as aim
+use Rattle.channel_calls.specs.declared.stage.Stage.{Stage}
+use Rattle.channel_calls.specs.declared.stage.Stage.TheVariants.{Trying, Finished}
+use Rattle.channel_calls.specs.declared.stage.NextStep.{NextStep}
+use Rattle.channel_calls.specs.Asks.{kept_by}
+use Rattle.channel_calls.specs.Answered.{asked_next, forced_next, received_next, sent_next}
+use Rattle.channel_calls.specs.Replies.{FollowsTurn, FollowsStage, MayEnd, ReplyAllowed}
+use Rattle.channel_calls.specs.Turns.{nothing_kept}
+use Rattle.channel_calls.specs.Walks.{Takes}
+
+module _ {T : Type 0} (W : Type 0) (f : QueueForm) (one : QueueCall T) where
+  pub sends : (v : T) → IsAsking one (ask.Push v) → (r : Reply T) (m : Option T) → MayEnd {W = W} f (Trying one aim.TrySend) r m → ReplyAllowed {W = W} f (call.TrySend v) r m
+  sends v asks r m h = h (ask.Push v) (λ y may. subst (λ (z : CallState T). MayCall f z y) asks may) v refl
+
+  pub displaces : (v : T) → IsAsking one (ask.ForcePush v) → (r : Reply T) (m : Option T) → MayEnd {W = W} f (Trying one aim.ForceSend) r m → ReplyAllowed {W = W} f (call.ForceSend v) r m
+  displaces v asks r m h = h (ask.ForcePush v) (λ y may. subst (λ (z : CallState T). MayCall f z y) asks may) v refl
+
+  pub asks_length : IsAsking one ask.Len → (r : Reply T) (m : Option T) → MayEnd {W = W} f (Trying one aim.Ask) r m → ReplyAllowed {W = W} f call.Len r m
+  asks_length asks r m h = h ask.Len (λ y may. subst (λ (z : CallState T). MayCall f z y) asks may)
+
+  pub receives : IsAsking one ask.Pop → (r : Reply T) (m : Option T) → MayEnd {W = W} f (Trying one aim.TryRecv) r m → ReplyAllowed {W = W} f call.TryRecv r m
+  receives asks r m h = h ask.Pop (λ y may. subst (λ (z : CallState T). MayCall f z y) asks may) refl
+
+module _ {T W : Type 0} where
+  -- a turn that answers leaves nothing
+  abbrev pub KeepsNothing : NextStep T W → Type 0
+  KeepsNothing turn = (r : Reply T) (s : Stage (QueueCall T) T W) → Takes turn s (Some r) → s ≡ Finished nothing_kept
+
+  pub sent_keeps : (y : QueueReply T) → KeepsNothing (sent_next y)
+  sent_keeps (Push (Ok u)) r s t = let e = t.0 in cc
+  sent_keeps (Push (Err (push_error.Full m))) r s t = t.1
+  sent_keeps (Push (Err (push_error.Closed m))) r s t = t.1
+  sent_keeps (Push (Err (push_error.NoMemory m))) r s t = t.1
+  sent_keeps (Force y) r s t = t.1
+  sent_keeps (Pop y) r s t = t.1
+  sent_keeps (Close y) r s t = t.1
+  sent_keeps (Flag y) r s t = t.1
+  sent_keeps (Count y) r s t = t.1
+  sent_keeps (Cap y) r s t = t.1
+
+  pub forced_keeps : (y : QueueReply T) → KeepsNothing (forced_next y)
+  forced_keeps (Force (Ok u)) r s t = let e = t.0 in cc
+  forced_keeps (Force (Err (force_error.Closed m))) r s t = t.1
+  forced_keeps (Force (Err (force_error.NoMemory m))) r s t = t.1
+  forced_keeps (Push y) r s t = t.1
+  forced_keeps (Pop y) r s t = t.1
+  forced_keeps (Close y) r s t = t.1
+  forced_keeps (Flag y) r s t = t.1
+  forced_keeps (Count y) r s t = t.1
+  forced_keeps (Cap y) r s t = t.1
+
+  pub asked_keeps : (y : QueueReply T) → KeepsNothing (asked_next y)
+  asked_keeps (Flag y) r s t = t.1
+  asked_keeps (Count y) r s t = t.1
+  asked_keeps (Cap y) r s t = t.1
+  asked_keeps (Push y) r s t = t.1
+  asked_keeps (Force y) r s t = t.1
+  asked_keeps (Pop y) r s t = t.1
+  asked_keeps (Close y) r s t = t.1
+
+  pub received_keeps : (y : QueueReply T) → KeepsNothing (received_next y)
+  received_keeps (Pop (Ok m)) r s t = let e = t.0 in cc
+  received_keeps (Pop (Err pop_error.Empty)) r s t = t.1
+  received_keeps (Pop (Err pop_error.Closed)) r s t = t.1
+  received_keeps (Push y) r s t = t.1
+  received_keeps (Force y) r s t = t.1
+  received_keeps (Close y) r s t = t.1
+  received_keeps (Flag y) r s t = t.1
+  received_keeps (Count y) r s t = t.1
+  received_keeps (Cap y) r s t = t.1
+
+  pub keeps_by : (turn turn0 : NextStep T W) → turn ≡ turn0 → KeepsNothing turn0 → KeepsNothing turn
+  keeps_by turn turn0 e h r s t = h r s (subst (λ (x : NextStep T W). Takes x s (Some r)) e t)
+
+  -- what `turned` says of a call after its turn
+  abbrev pub Turned : NextStep T W → Result (Reply T) (ChannelCall T W) → Type 0
+  Turned turn result =
+      MatchResult result (λ r. (s : Stage (QueueCall T) T W) × Takes turn s (Some r) × ((b : QueueForm) → FollowsTurn b turn s (Some r)))
+      (λ call. Takes turn call.stage None × ((b : QueueForm) → FollowsTurn b turn call.stage None))
+
+  -- what may be given to a call that is made on end
+  abbrev pub GivesOnEnd : QueueForm → ChannelAsk T W → Result (Reply T) (ChannelCall T W) → Type 0
+  GivesOnEnd f asked result =
+      MatchResult result (λ r. ReplyAllowed f asked r None) (λ call. (r : Reply T) (m : Option T) → MayEnd f call.stage r m → ReplyAllowed f asked r m)
+
+  module _ (f : QueueForm) (one : QueueCall T) (x : Purpose T W) (asked : ChannelAsk T W) (gives : (r : Reply T) (m : Option T) → MayEnd f (Trying one x) r m → ReplyAllowed f asked r m) where
+    pub gives_by : (turn : NextStep T W) (result : Result (Reply T) (ChannelCall T W)) → Turned turn result → KeepsNothing turn
+        → ((s : Stage (QueueCall T) T W) (r : Option (Reply T)) → FollowsTurn f turn s r → FollowsStage f (Trying one x) s r) → GivesOnEnd f asked result
+    gives_by turn (Ok r) (s, taken, follows) keeps through =
+        gives r None (subst (λ (t : Stage (QueueCall T) T W). MayEnd f (Trying one x) r (kept_by t).message) (keeps r s taken) (through s (Some r) (follows f)))
+    gives_by turn (Err left) (taken, follows) keeps through = λ r m may. gives r m (through left.stage None (follows f) r m may)

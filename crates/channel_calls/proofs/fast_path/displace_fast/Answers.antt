@@ -1,0 +1,85 @@
+use Rattle.std.proofs.Common.{◌≡◌, refl, ap, ◌∙◌, subst, Option, Some, Ok}
+use Rattle.channel_calls.specs.Deeds.{stepped, Done}
+use Rattle.channel_calls.proofs.Walking as walking
+use Rattle.concurrent_queue.specs.Step.{mark_of}
+use Rattle.concurrent_queue.specs.declared.call.QueueAsk.TheVariants as queue_ask
+use Rattle.concurrent_queue.specs.declared.call.QueueReply.{QueueReply}
+use Rattle.concurrent_queue.specs.declared.call.QueueReply.TheVariants.{Force}
+use Rattle.channel_calls.specs.Marks.{mark_of_queue}
+use Rattle.channel_calls.specs.Turns.{says, nothing_kept}
+use Rattle.channel_calls.specs.declared.ask.ChannelAsk.TheVariants as ask
+use Rattle.channel_calls.specs.declared.mark.Mark.TheVariants as mark
+use Rattle.channel_calls.specs.declared.reply.Reply.TheVariants as reply
+use Rattle.channel_calls.specs.declared.stage.Purpose.TheVariants as aim
+use Rattle.channel_calls.specs.declared.stage.Stage.TheVariants.{Trying, Working, Finished}
+use Rattle.channel_calls.specs.declared.stage.ListStep.TheVariants.{TellReceive, TellStreams}
+use Rattle.channel_calls.proofs.Replying as replying
+use Rattle.channel_calls.proofs.FastPathSteps as fast
+use Rattle.channel_calls.proofs.fast_path.displace_fast.Goals as goal
+
+pub returns-in-None-clause-answers : goal.returns-in-None-clause-answers
+returns-in-None-clause-answers g c f has r m may =
+    let one = c.force_push-call.result in
+    let two = c.step_queue-answer.new.call in
+    fast.displaces g.row.W.Denot f one c.args.message c.force_push-call.ensures.asked r m
+    (replying.goes_on {W = g.row.W.Denot} f one two aim.ForceSend _ c.in-None.is (c.step_queue-answer.ensures.answers f has) r m may)
+
+pub returns-in-Err-clause-answers : goal.returns-in-Err-clause-answers
+returns-in-Err-clause-answers g c f has =
+    let is = c.in-Some.is ∙ ap (λ (z : QueueReply g.row.T.Denot). Some z) c.in-Err.ensures in
+    let one = c.force_push-call.result in
+    let two = c.step_queue-answer.new.call in
+    fast.gives_by f one aim.ForceSend (ask.ForceSend c.args.message) (fast.displaces g.row.W.Denot f one c.args.message c.force_push-call.ensures.asked) _ _ c.turned.ensures.goes
+    (fast.keeps_by _ _ c.forced_next.ensures (fast.forced_keeps c.in-Err.answer))
+    (replying.answers f one two aim.ForceSend _ c.in-Err.answer is (c.step_queue-answer.ensures.answers f has) _ c.forced_next.ensures)
+
+pub returns-in-None-clause-deeds : goal.returns-in-None-clause-deeds
+returns-in-None-clause-deeds g c =
+    let did = Done g.C.ChannelCells.did g.S.Wakes.wakes in
+    let k = c.args.sink.now in
+    walking.goes_on did (c.args.cells.now, k) (c.step_queue-answer.new.self, k) (queue_ask.ForcePush c.args.message) aim.ForceSend c.force_push-call.result c.step_queue-answer.new.call
+    c.force_push-call.ensures.starts c.force_push-call.ensures.asked _ (c.step_queue-answer.ensures.deed, refl) c.in-None.is c.of_queue-mark.result
+
+pub returns-in-Ok-clause-deeds : goal.returns-in-Ok-clause-deeds
+returns-in-Ok-clause-deeds g c =
+    let one = c.force_push-call.result in
+    let two = c.step_queue-answer.new.call in
+    let s1 = c.step_queue-answer.new.self in
+    let k = c.args.sink.now in
+    let tells : g.row.C.Denot × g.row.S.Denot = (c.tell_one.new.self, c.tell_one.new.sink) in
+    let old = c.in-Ok.old in
+    let ending = says (reply.ForceSend (Ok old)) in
+    let is : c.step_queue-answer.result ≡ Some (Force (Ok old)) = c.in-Some.is ∙ ap (λ (z : QueueReply g.row.T.Denot). Some z) c.in-Ok.ensures in
+    let deed : g.C.ChannelCells.did (stepped one two (Some (Force (Ok old)))) c.args.cells.now s1 =
+    subst (λ (o : Option (QueueReply g.row.T.Denot)). g.C.ChannelCells.did (stepped one two o) c.args.cells.now s1) is c.step_queue-answer.ensures.deed
+    in
+    let first = c.tell_one.ensures.deed in
+    let second = c.tell_all.ensures.deed in (
+      Trying one aim.ForceSend,
+      (one, c.force_push-call.ensures.starts, c.force_push-call.ensures.asked, refl, refl),
+      (
+        2,
+        tells,
+        Working (TellStreams ending),
+        mark.Nothing,
+        Finished nothing_kept,
+        (
+          (s1, k),
+          Working (TellReceive ending),
+          mark_of_queue (mark_of two),
+          (two, Some (Force (Ok old)), (deed, refl), refl, (refl, refl)),
+          (tells, Working (TellStreams ending), mark.Nothing, (first.0, (first.1, first.2), (refl, (refl, refl))), (refl, refl)),
+        ),
+        (second.0, (second.1, second.2), (refl, (refl, refl))),
+        refl,
+      ),
+    )
+
+pub returns-in-Err-clause-deeds : goal.returns-in-Err-clause-deeds
+returns-in-Err-clause-deeds g c =
+    let did = Done g.C.ChannelCells.did g.S.Wakes.wakes in
+    let k = c.args.sink.now in
+    let is = c.in-Some.is ∙ ap (λ (z : QueueReply g.row.T.Denot). Some z) c.in-Err.ensures in
+    walking.answers did (c.args.cells.now, k) (c.step_queue-answer.new.self, k) (queue_ask.ForcePush c.args.message) aim.ForceSend c.force_push-call.result c.step_queue-answer.new.call
+    c.force_push-call.ensures.starts c.force_push-call.ensures.asked _ (c.step_queue-answer.ensures.deed, refl) c.in-Err.answer is _ c.forced_next.ensures
+    (fast.keeps_by _ _ c.forced_next.ensures (fast.forced_keeps c.in-Err.answer)) _ c.turned.ensures.goes

@@ -1,0 +1,208 @@
+//! The steps of the simple calls, made on end: of sends and receives that don't wait, and of the question for the length. What is
+//! saved is the choice of the next step at each of them, so this is a matter of speed alone.
+
+ghost use Rattle.std.specs.Prelude.{◌≡◌, false, None, Some, Ok, Option, MatchResult};
+ghost use Rattle.concurrent_queue.specs.declared.call.QueueReply.TheVariants as queue;
+ghost use Rattle.concurrent_queue.specs.declared.cells.QueueForm.{QueueForm};
+ghost use Rattle.concurrent_queue.specs.declared.queue_call.QueueCall.{QueueCall};
+ghost use Rattle.channel_calls.specs.Deeds.{Done};
+ghost use Rattle.channel_calls.specs.Walks.{Takes, WalkedOn};
+ghost use Rattle.channel_calls.specs.Asks.{first};
+ghost use Rattle.channel_calls.specs.Marks.{is_up};
+ghost use Rattle.channel_calls.specs.Replies.{FollowsTurn, MayEnd, ReplyAllowed};
+ghost use Rattle.channel_calls.specs.declared.ask.ChannelAsk.TheVariants as ask;
+ghost use Rattle.channel_calls.specs.declared.reply.Reply.{Reply};
+ghost use Rattle.channel_calls.specs.declared.stage.Stage.{Stage};
+
+use crate::answered::{asked_next, forced_next, received_next, sent_next};
+use crate::call::ChannelCall;
+use crate::cells::ChannelCells;
+use crate::mark::Mark;
+use crate::reply::Reply;
+use crate::stage::{NextStep, Purpose, Stage, WaitList};
+use crate::step::{Stepped, takes};
+use concurrent_queue::call::QueueReply;
+use concurrent_queue::queue_call::QueueCall;
+use event_listener::wakes::Wakes;
+
+/// Whether a push is in, or what else was answered.
+#[inline(always)]
+fn pushed<T: Drop>(answer: QueueReply<T>) -> Result<(), QueueReply<T>>
+    ensures { MatchResult result (λ _. answer ≡ queue.Push (Ok tt)) (λ other. answer ≡ other) }
+{
+    match answer {
+        QueueReply::Push(Ok(())) => Ok(()),
+        other => Err(other),
+    }
+}
+
+/// What a displacing push that is in took out, or what else was answered.
+#[inline(always)]
+fn displaced<T: Drop>(answer: QueueReply<T>) -> Result<Option<T>, QueueReply<T>>
+    ensures { MatchResult result (λ old. answer ≡ queue.Force (Ok old)) (λ other. answer ≡ other) }
+{
+    match answer {
+        QueueReply::Force(Ok(old)) => Ok(old),
+        other => Err(other),
+    }
+}
+
+/// What a pop took, or what else was answered.
+#[inline(always)]
+fn popped<T: Drop>(answer: QueueReply<T>) -> Result<T, QueueReply<T>>
+    ensures { MatchResult result (λ message. answer ≡ queue.Pop (Ok message)) (λ other. answer ≡ other) }
+{
+    match answer {
+        QueueReply::Pop(Ok(message)) => Ok(message),
+        other => Err(other),
+    }
+}
+
+/// What a call has come to by its turn after a step of the queue: its answer, or the call that has to be stepped on.
+#[inline(always)]
+pub(crate) fn turned<T: Drop, W: Drop>(
+    turn: NextStep<T, W>,
+    mark: Mark,
+) -> Result<Reply<T>, ChannelCall<T, W>>
+    requires unraised { is_up mark ≡ false }
+    ensures goes { MatchResult result (λ r. (s : Stage (QueueCall T) T W) × Takes turn s (Some r) × ((b : QueueForm) → FollowsTurn b turn s (Some r)))
+        (λ call. Takes turn call.stage None × ((b : QueueForm) → FollowsTurn b turn call.stage None)) }
+{
+    let Stepped { stage, mark, reply } = takes(turn, mark);
+    match reply {
+        Some(reply) => {
+            drop(stage);
+            Ok(reply)
+        }
+        None => Err(ChannelCall { stage, mark }),
+    }
+}
+
+/// Makes the steps of a send that doesn't wait, or answers the call that has to be stepped on: where the cells make one step
+/// of the queue's call at a time. Own to this project.
+#[inline(always)]
+pub fn send_fast<T: Drop, W: Drop, C: ChannelCells<T, W>, S: Wakes<W>>(
+    message: T,
+    cells: &mut C,
+    sink: &mut S,
+) -> Result<Reply<T>, ChannelCall<T, W>>
+    ensures deeds { WalkedOn (Done C.did S.wakes) (first (ask.TrySend message)) (cells.old, sink.old) result (cells.new, sink.new) }
+    ensures answers { (f : QueueForm) → C.has_form cells.old f → MatchResult result (λ r. ReplyAllowed {W = W} f (ask.TrySend message) r None)
+        (λ call. (r : Reply T) (m : Option T) → MayEnd f call.stage r m → ReplyAllowed {W = W} f (ask.TrySend message) r m) }
+    ensures form { (f : QueueForm) → C.has_form cells.old f → C.has_form cells.new f }
+{
+    let mut call = QueueCall::push(message);
+    let answer = cells.step_queue(&mut call);
+    let mark = Mark::of_queue(call.last_mark());
+    match answer {
+        None => Err(ChannelCall {
+            stage: Stage::Trying(call, Purpose::TrySend),
+            mark,
+        }),
+        Some(answer) => {
+            drop(call);
+            match pushed(answer) {
+                Ok(()) => {
+                    cells.tell_one(WaitList::Receives, sink);
+                    cells.tell_all(WaitList::Streams, sink);
+                    Ok(Reply::TrySend(Ok(())))
+                }
+                Err(answer) => turned(sent_next(answer), mark),
+            }
+        }
+    }
+}
+
+/// Makes the steps of a send that displaces, or answers the call that has to be stepped on: where the cells make one step
+/// of the queue's call at a time. Own to this project.
+#[inline(always)]
+pub fn displace_fast<T: Drop, W: Drop, C: ChannelCells<T, W>, S: Wakes<W>>(
+    message: T,
+    cells: &mut C,
+    sink: &mut S,
+) -> Result<Reply<T>, ChannelCall<T, W>>
+    ensures deeds { WalkedOn (Done C.did S.wakes) (first (ask.ForceSend message)) (cells.old, sink.old) result (cells.new, sink.new) }
+    ensures answers { (f : QueueForm) → C.has_form cells.old f → MatchResult result (λ r. ReplyAllowed {W = W} f (ask.ForceSend message) r None)
+        (λ call. (r : Reply T) (m : Option T) → MayEnd f call.stage r m → ReplyAllowed {W = W} f (ask.ForceSend message) r m) }
+    ensures form { (f : QueueForm) → C.has_form cells.old f → C.has_form cells.new f }
+{
+    let mut call = QueueCall::force_push(message);
+    let answer = cells.step_queue(&mut call);
+    let mark = Mark::of_queue(call.last_mark());
+    match answer {
+        None => Err(ChannelCall {
+            stage: Stage::Trying(call, Purpose::ForceSend),
+            mark,
+        }),
+        Some(answer) => {
+            drop(call);
+            match displaced(answer) {
+                Ok(old) => {
+                    cells.tell_one(WaitList::Receives, sink);
+                    cells.tell_all(WaitList::Streams, sink);
+                    Ok(Reply::ForceSend(Ok(old)))
+                }
+                Err(answer) => turned(forced_next(answer), mark),
+            }
+        }
+    }
+}
+
+/// Makes the steps of a receive that doesn't wait, or answers the call that has to be stepped on: where the cells make one step
+/// of the queue's call at a time. Own to this project.
+#[inline(always)]
+pub fn receive_fast<T: Drop, W: Drop, C: ChannelCells<T, W>, S: Wakes<W>>(
+    cells: &mut C,
+    sink: &mut S,
+) -> Result<Reply<T>, ChannelCall<T, W>>
+    ensures deeds { WalkedOn (Done C.did S.wakes) (first ask.TryRecv) (cells.old, sink.old) result (cells.new, sink.new) }
+    ensures answers { (f : QueueForm) → C.has_form cells.old f → MatchResult result (λ r. ReplyAllowed {W = W} f ask.TryRecv r None)
+        (λ call. (r : Reply T) (m : Option T) → MayEnd f call.stage r m → ReplyAllowed {W = W} f ask.TryRecv r m) }
+    ensures form { (f : QueueForm) → C.has_form cells.old f → C.has_form cells.new f }
+{
+    let mut call = QueueCall::pop();
+    let answer = cells.step_queue(&mut call);
+    let mark = Mark::of_queue(call.last_mark());
+    match answer {
+        None => Err(ChannelCall {
+            stage: Stage::Trying(call, Purpose::TryRecv),
+            mark,
+        }),
+        Some(answer) => {
+            drop(call);
+            match popped(answer) {
+                Ok(message) => {
+                    cells.tell_one(WaitList::Sends, sink);
+                    Ok(Reply::TryRecv(Ok(message)))
+                }
+                Err(answer) => turned(received_next(answer), mark),
+            }
+        }
+    }
+}
+
+/// Makes the steps of the question for the length, or answers the call that has to be stepped on, likewise. Own to this project.
+#[inline(always)]
+pub fn length_fast<T: Drop, W: Drop, C: ChannelCells<T, W>, S: Wakes<W>>(
+    cells: &mut C,
+    sink: &mut S,
+) -> Result<Reply<T>, ChannelCall<T, W>>
+    ensures deeds { WalkedOn (Done C.did S.wakes) (first ask.Len) (cells.old, sink.old) result (cells.new, sink.new) }
+    ensures answers { (f : QueueForm) → C.has_form cells.old f → MatchResult result (λ r. ReplyAllowed {W = W} f ask.Len r None)
+        (λ call. (r : Reply T) (m : Option T) → MayEnd f call.stage r m → ReplyAllowed {W = W} f ask.Len r m) }
+    ensures form { (f : QueueForm) → C.has_form cells.old f → C.has_form cells.new f }
+{
+    let mut call = QueueCall::len();
+    let answer = cells.step_queue(&mut call);
+    let mark = Mark::of_queue(call.last_mark());
+    match answer {
+        None => Err(ChannelCall {
+            stage: Stage::Trying(call, Purpose::Ask),
+            mark,
+        }),
+        Some(answer) => {
+            drop(call);
+            turned(asked_next(answer), mark)
+        }
+    }
+}

@@ -1,0 +1,63 @@
+-- From what each step of the machine makes of how far the call has come.
+use Rattle.std.proofs.Common.{Ok, refl}
+use Rattle.concurrent_queue.specs.declared.call.QueueAsk.TheVariants as queue_ask
+use Rattle.channel_calls.specs.Turns.{says}
+use Rattle.channel_calls.specs.declared.ask.ChannelAsk.TheVariants as ask
+use Rattle.channel_calls.specs.declared.reply.Reply.TheVariants as reply
+use Rattle.channel_calls.specs.declared.stage.Purpose.TheVariants as aim
+use Rattle.channel_calls.specs.declared.stage.ListStep.TheVariants as work
+use Rattle.channel_calls.specs.Plain.{parts_of}
+use Rattle.channel_steps.proofs.solo.ConfigurationLoop.{answers_alone}
+use Rattle.channel_steps.proofs.solo.FastPathFacts.{comes_in, tries_on, tries_nearer, tries_over, tries_well, tells_one_over}
+use Rattle.channel_steps.proofs.fast_path.receive_alone.Goals as goal
+
+pub loop-answer-init : goal.loop-answer-init
+loop-answer-init g c =
+    comes_in g.S.Wakes.wakes ask.TryRecv c.args.channel.now c.args.sink.now c.args.messages.now queue_ask.Pop aim.TryRecv
+    c.pop-call.result refl c.pop-call.ensures.starts
+
+pub loop-answer-smaller : goal.loop-answer-smaller
+loop-answer-smaller g c =
+    let l = c.loop-answer in
+    tries_nearer g.S.Wakes.wakes ask.TryRecv c.args.channel.now c.args.sink.now c.args.messages.now aim.TryRecv l.channel
+    c.step_queue-answer.new.self l.call c.step_queue-answer.new.call l.sink l.messages c.counted.result l.invariant c.last_mark.result
+    c.last_mark.ensures c.counted.ensures c.step_queue-answer.result c.step_queue-answer.ensures.deed c.in_default.is
+    c.requires.at_rest
+
+pub loop-answer-preserved : goal.loop-answer-preserved
+loop-answer-preserved g c =
+    let l = c.loop-answer in
+    tries_on g.S.Wakes.wakes ask.TryRecv c.args.channel.now c.args.sink.now c.args.messages.now aim.TryRecv l.channel
+    c.step_queue-answer.new.self l.call c.step_queue-answer.new.call l.sink l.messages c.counted.result l.invariant c.last_mark.result
+    c.last_mark.ensures c.counted.ensures c.step_queue-answer.result c.step_queue-answer.ensures.deed c.in_default.is
+
+pub returns-in-Err : goal.returns-in-Err
+returns-in-Err g c =
+    let l = c.loop-answer in
+    let over = tries_over g.S.Wakes.wakes ask.TryRecv c.args.channel.now c.args.sink.now c.args.messages.now aim.TryRecv l.channel
+    c.step_queue-answer.new.self l.call c.step_queue-answer.new.call l.sink l.messages c.counted.result l.invariant c.last_mark.result
+    c.last_mark.ensures c.counted.ensures c.step_queue-answer.result c.step_queue-answer.ensures.deed
+    c.in-Some.answer c.in-Err.reply c.answers.result c.in-Some.is c.in-Err.ensures c.answers.ensures in
+    record {
+      alone = answers_alone g.S.Wakes.wakes ask.TryRecv (parts_of c.args.channel.now) c.args.sink.now c.args.messages.now c.answers.result
+          (parts_of c.step_queue-answer.new.self) l.sink c.counted.result over;
+      configurations = over;
+    }
+
+pub returns-in-Some : goal.returns-in-Some
+returns-in-Some g c =
+    let l = c.loop-answer in
+    let one = c.tell_one.ensures.deed in
+    let over = tells_one_over g.S.Wakes.wakes ask.TryRecv c.args.channel.now c.args.sink.now c.args.messages.now
+    (reply.TryRecv (Ok c.in-Ok.message)) c.answers-in-Some.result c.step_queue-answer.new.self c.tell_one.new.self l.sink
+    c.tell_one.new.sink c.counted.result
+    (tries_well g.S.Wakes.wakes ask.TryRecv c.args.channel.now c.args.sink.now c.args.messages.now aim.TryRecv l.channel
+    c.step_queue-answer.new.self l.call c.step_queue-answer.new.call l.sink l.messages c.counted.result l.invariant c.last_mark.result
+    c.last_mark.ensures c.counted.ensures c.step_queue-answer.result c.step_queue-answer.ensures.deed
+    c.in-Some.answer (work.TellSend (says (reply.TryRecv (Ok c.in-Ok.message)))) c.in-Some.is (rw c.in-Ok.ensures refl))
+    one.0 one.1 one.2 c.answers-in-Some.ensures in
+    record {
+      alone = answers_alone g.S.Wakes.wakes ask.TryRecv (parts_of c.args.channel.now) c.args.sink.now c.args.messages.now c.answers-in-Some.result
+          (parts_of c.tell_one.new.self) c.tell_one.new.sink c.counted.result over;
+      configurations = over;
+    }
