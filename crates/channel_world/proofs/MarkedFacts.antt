@@ -11,7 +11,7 @@ use Rattle.channel_steps.specs.Run.{EachStep, end_of}
 use Rattle.channel_steps.specs.Configuration.{ActiveCall, brought, gone_by, came_by}
 use Rattle.channel_steps.specs.declared.party.Entry.{Entry as ChannelEntry}
 use Rattle.channel_world_runs.proofs.Interface.{none_before}
-use Rattle.channel_world_runs.specs.Kept.{WorldInvariant}
+use Rattle.channel_world_runs.specs.WorldInvariant.{WorldInvariant}
 use Rattle.channel_world_runs.specs.Owners.{All}
 use Rattle.channel_world_runs.specs.Runs.{Moment, LeadsBy}
 use Rattle.channel_world_runs.specs.declared.step.Entry.{Entry}

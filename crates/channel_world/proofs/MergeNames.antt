@@ -9,7 +9,7 @@ use Rattle.channel_steps.specs.declared.run.Step.TheVariants as channel
 use Rattle.channel_steps.specs.every_run.BridgeHeadline.{MergeStepSays}
 use Rattle.channel_steps.specs.every_run.Bridge.{MergeMoment, just_opened, steps_of}
 use Rattle.channel_world_runs.specs.AskedBy.{IsStepOf}
-use Rattle.channel_world_runs.specs.Kept.{NamesKept}
+use Rattle.channel_world_runs.specs.WorldInvariant.{NamesKept}
 use Rattle.channel_world_runs.specs.Refusal.{step_refusal}
 use Rattle.channel_world_runs.specs.Run.{NameState, IsNameStateOf, name_state_begun}
 use Rattle.channel_world_runs.specs.declared.step.PartyId.{PartyId}

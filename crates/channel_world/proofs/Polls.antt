@@ -10,7 +10,7 @@ use Rattle.channel_steps.specs.solo.Alone.{Outcome, Alone}
 use Rattle.channel_world_runs.proofs.Interface.{none_under_way, no_agents}
 use Rattle.channel_world_runs.specs.Bookkeeping.{asks}
 use Rattle.channel_world_runs.specs.WorldState.{parts_in, name_state_of, HasPositions, Shown, IsKept, IsQuiet}
-use Rattle.channel_world_runs.specs.Kept.{WorldInvariant}
+use Rattle.channel_world_runs.specs.WorldInvariant.{WorldInvariant}
 use Rattle.channel_world_runs.specs.Lone.{name_state_alone, BringsWithin, WakesAtMost}
 use Rattle.channel_world_runs.specs.Positions.{accepted_by, brings}
 use Rattle.channel_world_runs.specs.NameTable.{held_of}

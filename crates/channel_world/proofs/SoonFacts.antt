@@ -6,7 +6,7 @@ use Rattle.channel_world_model.specs.declared.name.Waiter.{Waiter}
 use Rattle.channel_steps.specs.Run.{EachStep}
 use Rattle.channel_steps.specs.Configuration.{Configuration}
 use Rattle.channel_world_runs.proofs.Interface.{nobody_still}
-use Rattle.channel_world_runs.specs.Kept.{WorldInvariant}
+use Rattle.channel_world_runs.specs.WorldInvariant.{WorldInvariant}
 use Rattle.channel_world_runs.specs.Runs.{Moment, FewLeft, LeadsBy}
 use Rattle.channel_world_runs.specs.declared.step.Entry.{Entry}
 use Rattle.channel_world_runs.specs.declared.step.Step.{Step}

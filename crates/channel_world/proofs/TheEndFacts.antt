@@ -9,7 +9,7 @@ use Rattle.channel_steps.specs.Run.{EachStep, call_begun}
 use Rattle.channel_steps.specs.Configuration.{ActiveCall, sees, unless_ended}
 use Rattle.channel_world_runs.proofs.Interface.{none_of}
 use Rattle.channel_world_runs.specs.Bookkeeping.{asks}
-use Rattle.channel_world_runs.specs.Kept.{WorldInvariant}
+use Rattle.channel_world_runs.specs.WorldInvariant.{WorldInvariant}
 use Rattle.channel_world_runs.specs.Owners.{All, IsAmong}
 use Rattle.channel_world_runs.specs.Runs.{Moment, LeadsBy}
 use Rattle.channel_world_runs.specs.declared.step.Entry.{Entry}

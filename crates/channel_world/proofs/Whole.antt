@@ -5,7 +5,7 @@ use Rattle.channel_steps.specs.solo.Alone.{Outcome, Alone}
 use Rattle.channel_world_runs.proofs.Interface.{none_under_way, no_agents}
 use Rattle.channel_world_runs.specs.Bookkeeping.{asks}
 use Rattle.channel_world_runs.specs.WorldState.{name_state_of, Shown, IsKept, IsQuiet}
-use Rattle.channel_world_runs.specs.Kept.{WorldInvariant}
+use Rattle.channel_world_runs.specs.WorldInvariant.{WorldInvariant}
 use Rattle.channel_world_runs.specs.Lone.{name_state_alone, CallsAlone, WakesAtMost}
 use Rattle.channel_world_runs.specs.Refusal as names
 use Rattle.channel_world_runs.specs.Run.{NameState}

@@ -8,8 +8,8 @@ use Rattle.channel_world_runs.specs.Owners.{NameStatus, waits, status_by, operat
 use Rattle.channel_world_runs.specs.declared.doing.Doing.{Doing}
 use Rattle.channel_world_runs.specs.declared.names.HandleEntry.{HandleEntry}
 use Rattle.channel_world_runs.specs.declared.names.Operation.{Operation}
-use Rattle.channel_world_runs.specs.declared.names.OperationKind.{OperationKind}
-use Rattle.channel_world_runs.specs.declared.names.OperationKind.TheVariants.{Send}
+use Rattle.channel_world_model.specs.declared.name.OperationKind.{OperationKind}
+use Rattle.channel_world_model.specs.declared.name.OperationKind.TheVariants.{Send}
 use Rattle.channel_world_runs.specs.declared.name_table.NameTable.{NameTable}
 
 -- whether one that stands so is pending on this line, woken or not

@@ -2,15 +2,15 @@
 
 ghost use Rattle.std.specs.Prelude.{◌≡◌, ◌<◌, ◌^◌, IfSome, IsSome};
 ghost use Rattle.channel_world_runs.specs.Owed.{is_woken_on};
-ghost use Rattle.channel_world_runs.specs.NameTable.{line_of_kind};
+ghost use Rattle.channel_world_model.specs.Lines.{line_of_kind};
 ghost use Rattle.channel_world_model.specs.Laws.{same_line};
 ghost use Rattle.channel_world.specs.Kinds.{is_pending_on, may_pend, operation_stance, stream_stance, takings_of};
 
 use super::world::World;
 use channel_calls::stage::WaitList;
-use channel_world_model::name::HandleKind;
+use channel_world_model::name::{HandleKind, OperationKind};
 use channel_world_runs::doing::Doing;
-use channel_world_runs::names::{HandleEntry, Operation, OperationKind, PollState};
+use channel_world_runs::names::{HandleEntry, Operation, PollState};
 
 /// Whether an operation of this kind waits on this line.
 fn waits_on(line: WaitList, kind: OperationKind) -> bool

@@ -2,6 +2,7 @@ pub mod Channel
 pub mod Names
 pub mod Lines
 pub mod State
+pub mod Plan
 pub mod Refusal
 pub mod Answer
 pub mod Asked

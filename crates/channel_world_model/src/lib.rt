@@ -9,6 +9,7 @@ pub mod directory;
 pub mod laws;
 pub mod name;
 pub mod news;
+pub mod plan;
 pub mod refusal;
 pub mod run;
 pub mod space;

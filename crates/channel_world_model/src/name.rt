@@ -1,5 +1,7 @@
 //! The names of handles and operations, and of whoever is woken.
 
+use channel_calls::stage::WaitList;
+
 /// A handle by number: 0 is the first sender, 1 the first receiver.
 #[derive(Clone, Copy, Debug, PartialEq, Eq, Hash)]
 pub struct HandleId(pub u32);
@@ -37,4 +39,31 @@ pub struct Handle {
     pub kind: HandleKind,
     /// How many live operations borrow it.
     pub borrowers: usize,
+}
+
+/// What an operation is.
+#[derive(Clone, Copy, Debug, PartialEq, Eq)]
+pub enum OperationKind {
+    /// A send.
+    Send,
+    /// A receive.
+    Receive,
+    /// A wait for the closing.
+    Closing,
+}
+
+impl OperationKind {
+    ghost use Rattle.std.specs.Prelude.{◌≡◌};
+    ghost use Rattle.channel_world_model.specs.Lines.{line_of_kind};
+
+    /// The line in which it waits.
+    pub fn line(self) -> WaitList
+        ensures { result ≡ line_of_kind self }
+    {
+        match self {
+            OperationKind::Send => WaitList::Sends,
+            OperationKind::Receive => WaitList::Receives,
+            OperationKind::Closing => WaitList::Closings,
+        }
+    }
 }

@@ -8,7 +8,7 @@ use Rattle.channel_world_model.specs.declared.refusal.WorldRefusal.{WorldRefusal
 use Rattle.channel_world_model.specs.declared.refusal.WorldRefusal.TheVariants.{Busy, Idle}
 use Rattle.channel_steps.specs.Configuration.{ActiveCall, Configuration, Steps}
 use Rattle.channel_steps.specs.declared.party.Entry.{Entry as ChannelEntry}
-use Rattle.channel_world_runs.specs.Kept.{NamesKept}
+use Rattle.channel_world_runs.specs.WorldInvariant.{NamesKept}
 use Rattle.channel_world_runs.specs.Owners.{NameStatus, status, Together}
 use Rattle.channel_world_runs.specs.Refusal.{begin_refusal, step_refusal}
 use Rattle.channel_world_runs.specs.NameTable.{is_at_work}

@@ -23,7 +23,7 @@ use Rattle.channel_world_runs.specs.declared.names.HandleEntry.{HandleEntry}
 use Rattle.channel_world_runs.specs.declared.names.Operation.{Operation}
 use Rattle.channel_world_runs.specs.declared.names.PollState.TheVariants.{IsPolled}
 use Rattle.channel_world_runs.specs.declared.name_table.NameTable.{NameTable}
-use Rattle.channel_world_runs.specs.Plan.{plan_of}
+use Rattle.channel_world_model.specs.Plan.{plan_of}
 use Rattle.channel_world_runs.proofs.AskStarts.{asks_lowering, asks_raising}
 use Rattle.channel_world_runs.proofs.AskFacts.{of_polls, of_refused, of_given_up}
 use Rattle.channel_world_runs.proofs.CountNames.{bit, without_live, spent_live, lent_live, borrowed_live, handed_over_live, poll_state_live}

@@ -11,7 +11,7 @@ use Rattle.channel_world_model.specs.declared.name.Waiter.{Waiter}
 use Rattle.channel_steps.specs.Answers.{asks_first}
 use Rattle.channel_steps.specs.Configuration.{ActiveCall, Configuration, OthersQuiet}
 use Rattle.channel_world_runs.specs.WorldState.{Shown, AreAtWork, IsQuiet, Led, LeadsOn, Stands, StandsIn}
-use Rattle.channel_world_runs.specs.Kept.{WorldInvariant, AllTry, NamesKept}
+use Rattle.channel_world_runs.specs.WorldInvariant.{WorldInvariant, AllTry, NamesKept}
 use Rattle.channel_world_runs.specs.Left.{calls_of_others}
 use Rattle.channel_world_runs.specs.Owed.{Owed}
 use Rattle.channel_world_runs.specs.Owners.{All, status}

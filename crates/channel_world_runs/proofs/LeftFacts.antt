@@ -12,7 +12,7 @@ use Rattle.channel_steps.specs.Configuration.{ActiveCall, Configuration, ActiveC
 use Rattle.channel_steps.specs.declared.party.Entry.{Entry as ChannelEntry}
 use Rattle.channel_steps.specs.declared.party.Party.{Party}
 use Rattle.channel_world_runs.specs.WorldState.{name_state_of, parts_in, lefts_in, StandsIn, LedByStep}
-use Rattle.channel_world_runs.specs.Kept.{WorldInvariant}
+use Rattle.channel_world_runs.specs.WorldInvariant.{WorldInvariant}
 use Rattle.channel_world_runs.specs.Left.{calls_of_others, wanted_of, left_of}
 use Rattle.channel_world_runs.specs.Owners.{NameStatus, status, All, AllDiffer, Differ, Owned, Together}
 use Rattle.channel_world_runs.specs.NameTable.{is_at_work}

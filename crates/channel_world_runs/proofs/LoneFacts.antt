@@ -17,7 +17,7 @@ use Rattle.channel_world_runs.specs.Bookkeeping.{asks}
 use Rattle.channel_world_runs.specs.WorldState.{parts_in, name_state_of, AreCounted, HasOnePlace, Shown, AreAtWork, AreOwned, IsKept, IsQuiet, IsSame, LeadsOn, TellsQuiet}
 use Rattle.channel_world_runs.specs.WorldState as place
 use Rattle.channel_world_runs.specs.Doing.{doing_of}
-use Rattle.channel_world_runs.specs.Kept.{WorldInvariant}
+use Rattle.channel_world_runs.specs.WorldInvariant.{WorldInvariant}
 use Rattle.channel_world_runs.specs.Owners.{All}
 use Rattle.channel_world_runs.specs.Lone.{names_alone, order_alone, BringsWithin, CallsAlone, WakesAtMost}
 use Rattle.channel_world_runs.specs.Positions.{brings, accepted_by, is_one_place, yet_in}

@@ -29,7 +29,7 @@ use Rattle.channel_world_model.specs.declared.name.Waiter.TheVariants.{Op, Strea
 use Rattle.channel_steps.specs.Configuration.{Configuration, all_seats}
 use Rattle.channel_world_runs.specs.Bookkeeping.{asks}
 use Rattle.channel_world_runs.specs.WorldState.{parts_in, name_state_of, Shown, AreOwned}
-use Rattle.channel_world_runs.specs.Kept.{WorldInvariant}
+use Rattle.channel_world_runs.specs.WorldInvariant.{WorldInvariant}
 use Rattle.channel_world_runs.specs.OwnerOrder.{was_woken}
 use Rattle.channel_world_runs.specs.OwnerWoken.{IsTold}
 use Rattle.channel_world_runs.specs.Owners.{IsAmong, free, retired, invalid, rests, waits, polled, no_stream_status, stream_status, operation_status, status_by, status}
@@ -38,8 +38,8 @@ use Rattle.channel_world_runs.specs.Settle.{IsWoken}
 use Rattle.channel_world_runs.specs.declared.world_state.WorldState.{WorldState}
 use Rattle.channel_world_runs.specs.declared.names.HandleEntry.{HandleEntry}
 use Rattle.channel_world_runs.specs.declared.names.Operation.{Operation}
-use Rattle.channel_world_runs.specs.declared.names.OperationKind.{OperationKind}
-use Rattle.channel_world_runs.specs.declared.names.OperationKind.TheVariants as kind
+use Rattle.channel_world_model.specs.declared.name.OperationKind.{OperationKind}
+use Rattle.channel_world_model.specs.declared.name.OperationKind.TheVariants as kind
 use Rattle.channel_world_runs.specs.declared.names.PollState.{PollState}
 use Rattle.channel_world_runs.specs.declared.names.PollState.TheVariants.{Rests, Waits, IsPolled}
 use Rattle.channel_world_runs.specs.declared.name_table.NameTable.{NameTable}

@@ -26,13 +26,14 @@ use Rattle.channel_world_runs.specs.Bookkeeping.{asks, names_begun, lent_to_poll
 use Rattle.channel_world_runs.specs.Order.{placed}
 use Rattle.channel_world_runs.specs.Owners.{NameStatus, free, retired, invalid, rests, waits, polled, status_on, status_by, operation_status, status, wait_of, subject, Suits}
 use Rattle.channel_world_runs.specs.Refusal.{begin_refusal, meets_poll, takes_used, takes_again}
-use Rattle.channel_world_runs.specs.NameTable.{key_of, is_polled, line_of_kind, operation_of, names_of, held_of}
+use Rattle.channel_world_runs.specs.NameTable.{key_of, is_polled, operation_of, names_of, held_of}
+use Rattle.channel_world_model.specs.Lines.{line_of_kind}
 use Rattle.channel_world_runs.specs.declared.names.OnReturn.{OnReturn}
 use Rattle.channel_world_runs.specs.declared.names.OnReturn.TheVariants as on_return
 use Rattle.channel_world_runs.specs.declared.names.HandleEntry.{HandleEntry}
 use Rattle.channel_world_runs.specs.declared.names.Operation.{Operation}
-use Rattle.channel_world_runs.specs.declared.names.OperationKind.{OperationKind}
-use Rattle.channel_world_runs.specs.declared.names.OperationKind.TheVariants as kind
+use Rattle.channel_world_model.specs.declared.name.OperationKind.{OperationKind}
+use Rattle.channel_world_model.specs.declared.name.OperationKind.TheVariants as kind
 use Rattle.channel_world_runs.specs.declared.names.PollState.{PollState}
 use Rattle.channel_world_runs.specs.declared.names.PollState.TheVariants.{Rests, Waits, IsPolled}
 use Rattle.channel_world_runs.specs.declared.name_table.NameTable.{NameTable}

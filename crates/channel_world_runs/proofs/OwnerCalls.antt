@@ -25,16 +25,17 @@ use Rattle.channel_world_model.specs.declared.name.Waiter.{Waiter}
 use Rattle.channel_world_model.specs.declared.name.Waiter.TheVariants.{Op, Stream}
 use Rattle.channel_world_runs.specs.Bookkeeping.{asks, on_return_of, names_begun, lent_by, handed_over_by, leave_handle_of, new_from, operation_named, handle_named}
 use Rattle.channel_world_runs.specs.Order.{placed, order_begun}
-use Rattle.channel_world_runs.specs.Plan.{plan_of}
+use Rattle.channel_world_model.specs.Plan.{plan_of}
 use Rattle.channel_world_runs.specs.Owners.{NameStatus, free, retired, invalid, polled, status_on, no_stream_status, stream_status, status_by, status, wait_of, subject, Suits}
 use Rattle.channel_world_runs.specs.Refusal.{is_stream_polled}
-use Rattle.channel_world_runs.specs.NameTable.{key_of, is_polled, line_of_kind, operation_of, names_of, handle_at, held_of, with_lent, with_borrowed, with_poll_state}
+use Rattle.channel_world_runs.specs.NameTable.{key_of, is_polled, operation_of, names_of, handle_at, held_of, with_lent, with_borrowed, with_poll_state}
+use Rattle.channel_world_model.specs.Lines.{line_of_kind}
 use Rattle.channel_world_runs.specs.declared.names.OnReturn.{OnReturn}
 use Rattle.channel_world_runs.specs.declared.names.OnReturn.TheVariants as on_return
 use Rattle.channel_world_runs.specs.declared.names.HandleEntry.{HandleEntry}
 use Rattle.channel_world_runs.specs.declared.names.Operation.{Operation}
-use Rattle.channel_world_runs.specs.declared.names.OperationKind.{OperationKind}
-use Rattle.channel_world_runs.specs.declared.names.OperationKind.TheVariants as kind
+use Rattle.channel_world_model.specs.declared.name.OperationKind.{OperationKind}
+use Rattle.channel_world_model.specs.declared.name.OperationKind.TheVariants as kind
 use Rattle.channel_world_runs.specs.declared.names.PollState.{PollState}
 use Rattle.channel_world_runs.specs.declared.names.PollState.TheVariants.{Rests, IsPolled}
 use Rattle.channel_world_runs.specs.declared.name_table.NameTable.{NameTable}

@@ -17,8 +17,8 @@ use Rattle.channel_world_runs.specs.Owners.{IsAmong, NameStatus, free, retired, 
 use Rattle.channel_world_runs.specs.NameTable.{told, used_more, used_less, borrowed_more, handed_over, with_handle, with_lent, with_given_back, with_borrowed}
 use Rattle.channel_world_runs.specs.declared.names.HandleEntry.{HandleEntry}
 use Rattle.channel_world_runs.specs.declared.names.Operation.{Operation}
-use Rattle.channel_world_runs.specs.declared.names.OperationKind.{OperationKind}
-use Rattle.channel_world_runs.specs.declared.names.OperationKind.TheVariants as kind
+use Rattle.channel_world_model.specs.declared.name.OperationKind.{OperationKind}
+use Rattle.channel_world_model.specs.declared.name.OperationKind.TheVariants as kind
 use Rattle.channel_world_runs.specs.declared.names.PollState.{PollState}
 use Rattle.channel_world_runs.specs.declared.names.PollState.TheVariants.{Rests, Waits, IsPolled}
 use Rattle.channel_world_runs.specs.declared.name_table.NameTable.{NameTable}

@@ -39,8 +39,8 @@ use Rattle.channel_world_runs.specs.Bookkeeping.{asks}
 use Rattle.channel_world_runs.specs.Positions.{has_message, brings, came_in, accepted_by, yet_in}
 use Rattle.channel_world_runs.specs.NameTable.{held_of, handle_at, names_of, operation_at, operation_of}
 use Rattle.channel_world_runs.specs.declared.names.Operation.{Operation}
-use Rattle.channel_world_runs.specs.declared.names.OperationKind.{OperationKind}
-use Rattle.channel_world_runs.specs.declared.names.OperationKind.TheVariants as kind
+use Rattle.channel_world_model.specs.declared.name.OperationKind.{OperationKind}
+use Rattle.channel_world_model.specs.declared.name.OperationKind.TheVariants as kind
 use Rattle.channel_world_runs.specs.declared.name_table.NameTable.{NameTable}
 use Rattle.channel_world_runs.proofs.AskFacts.{of_refused, of_given_up, of_dropped, of_cloned, of_upgraded}
 use Rattle.channel_world_runs.proofs.PositionFacts.{left_queue, step_brings, begin_brings}

@@ -11,15 +11,15 @@ use Rattle.channel_world_model.specs.declared.name.HandleId.{HandleId}
 use Rattle.channel_world_model.specs.declared.refusal.WorldRefusal.{WorldRefusal}
 use Rattle.channel_world_model.specs.declared.refusal.WorldRefusal.TheVariants.{UnknownName, WrongKind, OpUnderWay, Borrowed}
 use Rattle.channel_world_runs.specs.NameTable.{is_polled, operation_of, names_of}
-use Rattle.channel_world_runs.specs.Plan.{want_of, plan_of}
+use Rattle.channel_world_model.specs.Plan.{want_of, plan_of}
 use Rattle.channel_world_runs.specs.Refusal.{is_stream_polled, unfit_handle, or_else, borrowed_refusal, unlike_handles, unfit_operation, unfit_send, planned_refusal, begin_refusal}
 use Rattle.channel_world_runs.specs.declared.names.HandleEntry.{HandleEntry}
 use Rattle.channel_world_runs.specs.declared.names.Operation.{Operation}
 use Rattle.channel_world_runs.specs.declared.name_table.NameTable.{NameTable}
-use Rattle.channel_world_runs.specs.declared.plan.Plan.{Plan}
-use Rattle.channel_world_runs.specs.declared.plan.Plan.TheVariants as plan
-use Rattle.channel_world_runs.specs.declared.plan.Wanted.{Wanted}
-use Rattle.channel_world_runs.specs.declared.plan.Wanted.TheVariants.{Any}
+use Rattle.channel_world_model.specs.declared.plan.Plan.{Plan}
+use Rattle.channel_world_model.specs.declared.plan.Plan.TheVariants as plan
+use Rattle.channel_world_model.specs.declared.plan.Wanted.{Wanted}
+use Rattle.channel_world_model.specs.declared.plan.Wanted.TheVariants.{Any}
 
 pub and_true : (b : Bool) → (b && true) ≡ b
 and_true true = refl

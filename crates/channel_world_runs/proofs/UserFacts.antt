@@ -19,7 +19,7 @@ use Rattle.channel_world_model.specs.declared.name.Waiter.{Waiter}
 use Rattle.channel_world_model.specs.declared.name.Waiter.TheVariants.{Op, Stream}
 use Rattle.channel_world_runs.specs.Bookkeeping.{new_message, returns, names_planned, written_back, installed, with_one_woken, all_woken, lent_by, handed_over_by, lent_to_poll, with_operation, operation_named, handle_named, on_return_of, leave_handle_of, new_from}
 use Rattle.channel_world_runs.specs.NameTable.{poll_state_with, used_more, used_less, borrowed_more, handed_over, with_handle, with_lent, with_given_back, with_borrowed, with_handed_over, with_poll_state, unused, first_name_table, handle_at}
-use Rattle.channel_world_runs.specs.Plan.{kin, plan_of}
+use Rattle.channel_world_model.specs.Plan.{kin, plan_of}
 use Rattle.channel_world_runs.specs.Run.{NameState, name_state_begun, name_state_ended, with_woken}
 use Rattle.channel_world_runs.specs.Users.{one, times_used, all_uses, FewUsers}
 use Rattle.channel_world_runs.specs.declared.names.Agent.{Agent}
@@ -30,8 +30,8 @@ use Rattle.channel_world_runs.specs.declared.names.Operation.{Operation}
 use Rattle.channel_world_runs.specs.declared.names.PollState.{PollState}
 use Rattle.channel_world_runs.specs.declared.names.PollState.TheVariants.{IsPolled}
 use Rattle.channel_world_runs.specs.declared.name_table.NameTable.{NameTable}
-use Rattle.channel_world_runs.specs.declared.plan.Plan.{Plan}
-use Rattle.channel_world_runs.specs.declared.plan.Plan.TheVariants as plan
+use Rattle.channel_world_model.specs.declared.plan.Plan.{Plan}
+use Rattle.channel_world_model.specs.declared.plan.Plan.TheVariants as plan
 use Rattle.channel_world_runs.specs.declared.step.PartyId.{PartyId}
 use Rattle.channel_world_runs.proofs.OwnerNames.{same_number, own_number, number_or, set_there, set_other, found, is_there, handle_none}
 

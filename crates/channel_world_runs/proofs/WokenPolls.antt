@@ -27,8 +27,8 @@ use Rattle.channel_world_runs.specs.Refusal.{begin_refusal}
 use Rattle.channel_world_runs.specs.NameTable.{is_polled, operation_of, names_of}
 use Rattle.channel_world_runs.specs.declared.names.HandleEntry.{HandleEntry}
 use Rattle.channel_world_runs.specs.declared.names.Operation.{Operation}
-use Rattle.channel_world_runs.specs.declared.names.OperationKind.{OperationKind}
-use Rattle.channel_world_runs.specs.declared.names.OperationKind.TheVariants as kind
+use Rattle.channel_world_model.specs.declared.name.OperationKind.{OperationKind}
+use Rattle.channel_world_model.specs.declared.name.OperationKind.TheVariants as kind
 use Rattle.channel_world_runs.specs.declared.names.PollState.{PollState}
 use Rattle.channel_world_runs.specs.declared.names.PollState.TheVariants.{Rests, Waits, IsPolled}
 use Rattle.channel_world_runs.specs.declared.name_table.NameTable.{NameTable}

@@ -17,7 +17,7 @@ use Rattle.channel_steps.specs.declared.run.Step.{Step as ChannelStep}
 use Rattle.channel_steps.specs.declared.run.Step.TheVariants as channel
 use Rattle.channel_world_runs.specs.AskedBy.{IsOrListens, IsStepOf}
 use Rattle.channel_world_runs.specs.Bookkeeping.{asks, on_return_of, all_woken}
-use Rattle.channel_world_runs.specs.Kept.{WorldInvariant, AllTry, NamesKept}
+use Rattle.channel_world_runs.specs.WorldInvariant.{WorldInvariant, AllTry, NamesKept}
 use Rattle.channel_world_runs.specs.Lone.{name_state_alone}
 use Rattle.channel_world_runs.specs.Order.{all_moved_last}
 use Rattle.channel_world_runs.specs.NameTable.{first_name_table, is_at_work}

@@ -47,7 +47,7 @@ use Rattle.channel_world_runs.specs.declared.step.Step.{Step}
 use Rattle.channel_world_runs.specs.declared.step.Step.TheVariants as step
 use Rattle.channel_world_runs.specs.declared.woken.Woken.{Woken as Sink}
 use Rattle.channel_steps.proofs.Interface.{run_none, run_on, few_left, messages_counted, messages_moved, blocks_begun}
-use Rattle.channel_world_runs.specs.Kept.{WorldInvariant}
+use Rattle.channel_world_runs.specs.WorldInvariant.{WorldInvariant}
 use Rattle.channel_world_runs.proofs.AccountFacts.{no_accounts, next_accounts}
 use Rattle.channel_world_runs.proofs.WorldInvariant.{kept_first, kept_next}
 use Rattle.channel_world_runs.proofs.LeftFacts.{comes_nearer, few_of, parties_shown}

@@ -20,20 +20,20 @@ use Rattle.channel_world_model.specs.declared.name.OpId.{OpId}
 use Rattle.channel_world_model.specs.declared.name.Waiter.{Waiter}
 use Rattle.channel_world_model.specs.declared.name.Waiter.TheVariants as waiter
 use Rattle.channel_world_runs.specs.NameTable.{key_of, poll_state_with, told, is_done, unused, names_of, operation_at, handle_at, held_of, with_handle, with_lent, with_given_back, with_borrowed, with_handed_over, with_poll_state}
-use Rattle.channel_world_runs.specs.Plan.{kin, plan_of}
+use Rattle.channel_world_model.specs.Plan.{kin, plan_of}
 use Rattle.channel_world_runs.specs.declared.beginning.Begun.{Begun}
 use Rattle.channel_world_runs.specs.declared.names.OnReturn.{OnReturn}
 use Rattle.channel_world_runs.specs.declared.names.OnReturn.TheVariants.{Nothing, Leave, LeaveBoth, Make, Poll, PollNext, New}
 use Rattle.channel_world_runs.specs.declared.names.HandleEntry.{HandleEntry}
 use Rattle.channel_world_runs.specs.declared.names.Operation.{Operation}
-use Rattle.channel_world_runs.specs.declared.names.OperationKind.{OperationKind}
-use Rattle.channel_world_runs.specs.declared.names.OperationKind.TheVariants.{Send, Receive, Closing}
+use Rattle.channel_world_model.specs.declared.name.OperationKind.{OperationKind}
+use Rattle.channel_world_model.specs.declared.name.OperationKind.TheVariants.{Send, Receive, Closing}
 use Rattle.channel_world_runs.specs.declared.names.PollState.TheVariants.{Rests, IsPolled}
 use Rattle.channel_world_runs.specs.declared.name_table.NameTable.{NameTable}
-use Rattle.channel_world_runs.specs.declared.plan.Kinship.{Kinship}
-use Rattle.channel_world_runs.specs.declared.plan.Kinship.TheVariants as kinship
-use Rattle.channel_world_runs.specs.declared.plan.Plan.{Plan}
-use Rattle.channel_world_runs.specs.declared.plan.Plan.TheVariants as plan
+use Rattle.channel_world_model.specs.declared.plan.Kinship.{Kinship}
+use Rattle.channel_world_model.specs.declared.plan.Kinship.TheVariants as kinship
+use Rattle.channel_world_model.specs.declared.plan.Plan.{Plan}
+use Rattle.channel_world_model.specs.declared.plan.Plan.TheVariants as plan
 
 module _ {T : Type 0} where
   -- ---- the beginning

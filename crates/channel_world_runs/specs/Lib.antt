@@ -1,7 +1,6 @@
 pub mod NameTable
 pub mod Pending
 pub mod Apart
-pub mod Plan
 pub mod Refusal
 pub mod Bookkeeping
 pub mod Woken
@@ -17,7 +16,7 @@ pub mod OwnerOrder
 pub mod OwnerPolled
 pub mod Users
 pub mod Counted
-pub mod Returned
+pub mod WorldInvariant
 pub mod Left
 pub mod Positions
 pub mod Reaches

@@ -9,7 +9,7 @@ use Rattle.channel_world_model.specs.declared.name.Waiter.{Waiter}
 use Rattle.channel_steps.specs.Configuration.{Configuration}
 use Rattle.channel_world_runs.specs.Bookkeeping.{asks, on_return_of, names_begun, written_back, all_woken}
 use Rattle.channel_world_runs.specs.WorldState.{name_state_of, HasPositions, Shown}
-use Rattle.channel_world_runs.specs.Kept.{WorldInvariant}
+use Rattle.channel_world_runs.specs.WorldInvariant.{WorldInvariant}
 use Rattle.channel_world_runs.specs.Order.{order_begun, all_moved_last, order_settled}
 use Rattle.channel_world_runs.specs.Positions.{accepted_by, brings}
 use Rattle.channel_world_runs.specs.Run.{NameState}

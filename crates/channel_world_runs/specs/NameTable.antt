@@ -19,8 +19,8 @@ use Rattle.channel_world_model.specs.declared.refusal.WorldRefusal.TheVariants.{
 use Rattle.channel_world_runs.specs.declared.names.Agent.{Agent}
 use Rattle.channel_world_runs.specs.declared.names.HandleEntry.{HandleEntry}
 use Rattle.channel_world_runs.specs.declared.names.Operation.{Operation}
-use Rattle.channel_world_runs.specs.declared.names.OperationKind.{OperationKind}
-use Rattle.channel_world_runs.specs.declared.names.OperationKind.TheVariants.{Send, Receive, Closing}
+use Rattle.channel_world_model.specs.declared.name.OperationKind.{OperationKind}
+use Rattle.channel_world_model.specs.declared.name.OperationKind.TheVariants.{Send, Receive, Closing}
 use Rattle.channel_world_runs.specs.declared.names.PollState.{PollState}
 use Rattle.channel_world_runs.specs.declared.names.PollState.TheVariants.{Rests, Waits, IsPolled}
 use Rattle.channel_world_runs.specs.declared.name_table.NameTable.{NameTable}
@@ -57,12 +57,6 @@ told (Waits key is_woken) = Waits key true
 told (IsPolled brings) = IsPolled brings
 
 -- ---- operations
-
--- the line in which it waits
-abbrev pub line_of_kind : OperationKind → WaitList
-line_of_kind Send = Sends
-line_of_kind Receive = Receives
-line_of_kind Closing = Closings
 
 -- whether a poll under way has the message
 abbrev pub is_lent : PollState → Bool

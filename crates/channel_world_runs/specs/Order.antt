@@ -5,11 +5,11 @@ use Rattle.channel_world_model.specs.Lines.{is_among, without_waiter}
 use Rattle.channel_world_model.specs.declared.call.Call.{Call}
 use Rattle.channel_world_model.specs.declared.name.Waiter.{Waiter}
 use Rattle.channel_world_model.specs.declared.name.Waiter.TheVariants.{Op, Stream}
-use Rattle.channel_world_runs.specs.Plan.{plan_of}
+use Rattle.channel_world_model.specs.Plan.{plan_of}
 use Rattle.channel_world_runs.specs.declared.names.OnReturn.{OnReturn}
 use Rattle.channel_world_runs.specs.declared.names.OnReturn.TheVariants as on_return
-use Rattle.channel_world_runs.specs.declared.plan.Plan.{Plan}
-use Rattle.channel_world_runs.specs.declared.plan.Plan.TheVariants as plan
+use Rattle.channel_world_model.specs.declared.plan.Plan.{Plan}
+use Rattle.channel_world_model.specs.declared.plan.Plan.TheVariants as plan
 
 -- w has a place from now on
 abbrev pub placed : Waiter → List Waiter → List Waiter

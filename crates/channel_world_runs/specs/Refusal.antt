@@ -9,13 +9,13 @@ use Rattle.channel_world_model.specs.declared.call.Call.TheVariants as call
 use Rattle.channel_world_model.specs.declared.refusal.WorldRefusal.{WorldRefusal}
 use Rattle.channel_world_model.specs.declared.refusal.WorldRefusal.TheVariants.{Busy, Idle, UnknownName, WrongKind, OpUnderWay, Borrowed, NameTaken}
 use Rattle.channel_world_runs.specs.NameTable.{is_polled, polled_refusal, operation_of, names_of, is_at_work}
-use Rattle.channel_world_runs.specs.Plan.{want_of, plan_of}
+use Rattle.channel_world_model.specs.Plan.{want_of, plan_of}
 use Rattle.channel_world_runs.specs.declared.names.Agent.{Agent}
 use Rattle.channel_world_runs.specs.declared.names.HandleEntry.{HandleEntry}
 use Rattle.channel_world_runs.specs.declared.names.Operation.{Operation}
 use Rattle.channel_world_runs.specs.declared.name_table.NameTable.{NameTable}
-use Rattle.channel_world_runs.specs.declared.plan.Plan.{Plan}
-use Rattle.channel_world_runs.specs.declared.plan.Plan.TheVariants as plan
+use Rattle.channel_world_model.specs.declared.plan.Plan.{Plan}
+use Rattle.channel_world_model.specs.declared.plan.Plan.TheVariants as plan
 use Rattle.channel_world_runs.specs.declared.step.Step.{Step}
 use Rattle.channel_world_runs.specs.declared.step.Step.TheVariants as step
 

@@ -7,7 +7,7 @@ use Rattle.channel_steps.specs.Left.{most_left}
 use Rattle.channel_steps.specs.Run.{IsRun, Accounts, Touches}
 use Rattle.channel_steps.specs.Configuration.{Configuration, OthersQuiet, blocks_after}
 use Rattle.channel_world_runs.specs.WorldState.{parts_in, name_state_of, StandsIn}
-use Rattle.channel_world_runs.specs.Kept.{WorldInvariant}
+use Rattle.channel_world_runs.specs.WorldInvariant.{WorldInvariant}
 use Rattle.channel_world_runs.specs.Left.{left_of, calls_of_others, wanted_of}
 use Rattle.channel_world_runs.specs.Run.{NameState, StepIsMade, channel_step}
 use Rattle.channel_world_runs.specs.declared.world_state.WorldState.{WorldState}

@@ -15,7 +15,7 @@ use Rattle.channel_steps.specs.Tellings.{takings}
 use Rattle.channel_world_runs.specs.Doing.{doing_of}
 use Rattle.channel_world_runs.specs.Owed.{Observation, Owed, is_sending, is_receiving, all_unannounced}
 use Rattle.channel_world_runs.specs.Owners.{All}
-use Rattle.channel_world_runs.specs.Kept.{WorldInvariant}
+use Rattle.channel_world_runs.specs.WorldInvariant.{WorldInvariant}
 use Rattle.channel_world_runs.specs.Positions.{brings, is_one_place, yet_in}
 use Rattle.channel_world_runs.specs.NameTable.{first_name_table}
 use Rattle.channel_world_runs.specs.Run.{NameState, StepIsMade, channel_step}

@@ -5,13 +5,13 @@ ghost use Rattle.channel_world_model.specs.Asked.{clone_asked, upgrade_asked};
 ghost use Rattle.channel_world_runs.specs.Bookkeeping.{polled_ask, own_message, drop_ask_of, mint_asked, unpolled};
 
 use crate::name_table::NameTable;
-use crate::names::{OnReturn, Operation, OperationKind, PollState};
-use crate::plan::Kinship;
+use crate::names::{OnReturn, Operation, PollState};
 use channel_calls::ask::{ChannelAsk, lent};
 use channel_calls::several::Limit;
 use channel_calls::stage::{Side, WaitList};
 use channel_world_model::call::Call;
-use channel_world_model::name::{Handle, HandleId, HandleKind, OpId, Waiter};
+use channel_world_model::name::{Handle, HandleId, HandleKind, OpId, OperationKind, Waiter};
+use channel_world_model::plan::Kinship;
 use event_listener::key::Key;
 use std::alloc::Global;
 
@@ -120,7 +120,7 @@ impl<T: Drop> NameTable<T> {
     ghost use Rattle.channel_world_runs.specs.Order.{order_begun};
     ghost use Rattle.channel_world_runs.specs.Refusal.{takes_again};
     ghost use Rattle.channel_world_runs.specs.NameTable.{handle_at, key_of, with_lent, with_borrowed};
-    ghost use Rattle.channel_world_runs.specs.Plan.{kin};
+    ghost use Rattle.channel_world_model.specs.Plan.{kin};
     ghost use Rattle.channel_world_runs.specs.Bookkeeping.{BeginsByName, Starts, IsLent, mint_asked, new_from, operation_named, handle_named};
 
     /// A call through a handle asks this.

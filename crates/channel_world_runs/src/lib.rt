@@ -5,7 +5,7 @@
 //! stands twice), `Plan` (what a call does to the names), `Pending` (how many are pending or woken), `Refusal` (which steps are refused), `Bookkeeping` (what a call asks as it
 //! begins, and what it writes back at its end), `Order` (who may be woken, in the order of waking), `Run` (one step), `Runs` (steps one
 //! after another, and what holds at each moment of them), `Lone` (calls made alone), `Owners` (who holds each listener), `OwnerWoken` (who
-//! was woken is told), `OwnerOrder` (in which order), `OwnerPolled` (who is polled, by whom), `Returned` (all that every step keeps of those
+//! was woken is told), `OwnerOrder` (in which order), `OwnerPolled` (who is polled, by whom), `WorldInvariant` (all that every step keeps of those
 //! who wait), `Doing` (what each call under way is to those who wait, and has done), `Owed` (the wake-ups owed to those who are pending, by
 //! what a channel shows as it is), `WorldState` (the configurations in which a channel by names stands, and how what is done leads from one
 //! to another).
@@ -41,7 +41,6 @@ mod lone;
 pub mod name_table;
 pub mod names;
 pub mod order;
-mod plan;
 mod position;
 pub mod refinement_laws;
 mod refusal;

@@ -1,9 +1,9 @@
 //! The handles and the operations under their names.
 
-use crate::names::{HandleEntry, Operation, OperationKind, PollState};
+use crate::names::{HandleEntry, Operation, PollState};
 use channel_calls::stage::WaitList;
 use channel_world_model::directory::Directory;
-use channel_world_model::name::{Handle, HandleId, HandleKind, OpId, Waiter};
+use channel_world_model::name::{Handle, HandleId, HandleKind, OpId, OperationKind, Waiter};
 use event_listener::key::Key;
 use std::alloc::{AllocError, Global};
 

@@ -1,7 +1,6 @@
 //! What lives under which name, and what a call under way has to write back.
 
-use channel_calls::stage::WaitList;
-use channel_world_model::name::{Handle, HandleId, HandleKind, OpId};
+use channel_world_model::name::{Handle, HandleId, HandleKind, OpId, OperationKind};
 use channel_world_model::refusal::WorldRefusal;
 use event_listener::key::Key;
 
@@ -92,33 +91,6 @@ impl PollState {
                 is_woken: true,
             },
             other => other,
-        }
-    }
-}
-
-/// What an operation is.
-#[derive(Clone, Copy, Debug, PartialEq, Eq)]
-pub enum OperationKind {
-    /// A send.
-    Send,
-    /// A receive.
-    Receive,
-    /// A wait for the closing.
-    Closing,
-}
-
-impl OperationKind {
-    ghost use Rattle.std.specs.Prelude.{◌≡◌};
-    ghost use Rattle.channel_world_runs.specs.NameTable.{line_of_kind};
-
-    /// The line in which it waits.
-    pub(crate) fn line(self) -> WaitList
-        ensures { result ≡ line_of_kind self }
-    {
-        match self {
-            OperationKind::Send => WaitList::Sends,
-            OperationKind::Receive => WaitList::Receives,
-            OperationKind::Closing => WaitList::Closings,
         }
     }
 }

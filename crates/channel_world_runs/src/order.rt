@@ -2,9 +2,9 @@
 
 use crate::name_table::NameTable;
 use crate::names::OnReturn;
-use crate::plan::Plan;
 use channel_world_model::call::Call;
 use channel_world_model::name::Waiter;
+use channel_world_model::plan::Plan;
 use event_listener::key::Key;
 use lru::LruCache;
 use std::alloc::{AllocError, Global};

@@ -1,12 +1,11 @@
 //! Messages that are accepted, and the positions of the queue that are left for them.
 
 use crate::name_table::NameTable;
-use crate::names::OperationKind;
 use crate::world_state::WorldState;
 use channel_calls::mark::Mark;
 use channel_calls::reply::Reply;
 use channel_world_model::call::Call;
-use channel_world_model::name::{OpId, Waiter};
+use channel_world_model::name::{OpId, OperationKind, Waiter};
 use concurrent_queue::cells::QueueForm;
 use futures::task::Poll;
 

@@ -3,10 +3,9 @@ ghost use Rattle.std.specs.Prelude.{◌≡◌, Some, None, if◌then◌else◌};
 ghost use Rattle.channel_world_runs.specs.Refusal.{or_else};
 
 use crate::name_table::NameTable;
-use crate::names::OperationKind;
-use crate::plan::{Plan, Wanted};
 use channel_world_model::call::Call;
-use channel_world_model::name::{HandleId, HandleKind, OpId};
+use channel_world_model::name::{HandleId, HandleKind, OpId, OperationKind};
+use channel_world_model::plan::{Plan, Wanted};
 use channel_world_model::refusal::WorldRefusal;
 
 /// The reason, where it is so.
@@ -29,7 +28,7 @@ fn or_else(first: Option<WorldRefusal>, other: Option<WorldRefusal>) -> Option<W
 impl<T> NameTable<T> {
     ghost use Rattle.std.specs.Prelude.{◌≡◌};
     ghost use Rattle.channel_world_model.specs.Names.{at};
-    ghost use Rattle.channel_world_runs.specs.Plan.{want_of};
+    ghost use Rattle.channel_world_model.specs.Plan.{want_of};
     ghost use Rattle.channel_world_runs.specs.Refusal.{unfit_handle, unlike_handles, unfit_operation, unfit_send, borrowed_refusal, planned_refusal, begin_refusal};
 
     /// Why nothing is begun through this handle, of which this is wanted.

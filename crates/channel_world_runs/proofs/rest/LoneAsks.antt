@@ -3,7 +3,7 @@ use Rattle.channel_world_runs.proofs.rest.Words.{◌≡◌, ℕ, Bool, true, fal
 use Rattle.channel_calls.specs.declared.ask.ChannelAsk.{ChannelAsk}
 use Rattle.channel_world_model.specs.declared.refusal.WorldRefusal.{WorldRefusal}
 use Rattle.channel_world_model.specs.declared.refusal.WorldRefusal.TheVariants.{UnknownName, WrongKind, OpUnderWay, Borrowed, NameTaken}
-use Rattle.channel_world_runs.specs.declared.names.OperationKind.TheVariants.{Send, Receive, Closing}
+use Rattle.channel_world_model.specs.declared.name.OperationKind.TheVariants.{Send, Receive, Closing}
 use Rattle.channel_world_runs.proofs.OwnerCalls.{hold_is}
 use Rattle.channel_world_runs.proofs.RefusalLemmas.{or_false, operation_at, handle_there}
 use Rattle.channel_calls.specs.declared.ask.ChannelAsk.TheVariants as ask

@@ -4,8 +4,8 @@ use Rattle.channel_calls.specs.declared.reply.Reply.TheVariants as reply
 use Rattle.channel_world_model.specs.Names as model
 use Rattle.channel_world_model.specs.declared.call.Call.TheVariants as call
 use Rattle.channel_world_runs.specs.declared.names.OnReturn.TheVariants as on_return
-use Rattle.channel_world_runs.specs.declared.names.OperationKind.TheVariants as kind
-use Rattle.channel_world_runs.specs.Plan.{plan_of}
+use Rattle.channel_world_model.specs.declared.name.OperationKind.TheVariants as kind
+use Rattle.channel_world_model.specs.Plan.{plan_of}
 use Rattle.channel_world_runs.proofs.RefusalLemmas.{handle_through}
 use Rattle.channel_world_runs.proofs.rest.LoneDirectory.{views_set, changed_some, changed_none, changed_twice, same_put_back}
 use Rattle.channel_world_runs.proofs.rest.LoneSeen.{handle_of, with_message, put_twice, borrowed_is, left_names, with_operations, seen_lent, seen_back, seen_poll_state, seen_borrowed, seen_handed_over, seen_to_poll, seen_restored, all_seen}

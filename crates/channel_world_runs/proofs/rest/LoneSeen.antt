@@ -1,7 +1,7 @@
 -- What the parts of a call do to the names, as one call at a time sees them.
 use Rattle.channel_world_runs.proofs.rest.Words.{◌≡◌, ◌+◌, ◌-◌, List, [], ◌∷◌, Option, None, refl, ap, ◌∙◌, Directory, Names, lent_once_more, used_once_less, Handle, HandleId, OpId, Waiter, Op, Stream, Returned, lent_to_poll, restored, with_operation, with_one_woken, all_woken, operation_of, used_more, used_less, borrowed_more, handed_over, names_of, told, with_handle, with_lent, with_given_back, with_borrowed, with_handed_over, with_poll_state, HandleEntry, Operation, OperationKind, PollState, NameTable}
 use Rattle.channel_world_model.specs.Names as model
-use Rattle.channel_world_runs.specs.declared.names.OperationKind.TheVariants as kind
+use Rattle.channel_world_model.specs.declared.name.OperationKind.TheVariants as kind
 use Rattle.channel_world_runs.proofs.rest.LoneDirectory.{changed_at, views_changed, views_kept}
 
 -- ---- handles

@@ -1,7 +1,7 @@
 -- How names stand as calls begin and end, in as much as it tells who is pending and who was woken.
 use Rattle.channel_world_runs.proofs.rest.Words.{◌≡◌, ℕ, nat_eq, Bool, false, Option, None, Some, is_some, refl, ap, ◌∙◌, lookup, set_value, option_map_or, Key, set_absent, same_waiter, Directory, at, HandleId, HandleKind, OpId, Waiter, Op, Stream, lent_to_poll, with_operation, was_woken, NameStatus, free, retired, stream_status, status_by, operation_status, status, with_handle, poll_state_with, HandleEntry, Operation, OperationKind, Rests, IsPolled, NameTable, op_status, handle_entry_status, set_there, set_other}
 use Rattle.channel_world_model.specs.declared.name.HandleKind.TheVariants as handle_kind
-use Rattle.channel_world_runs.specs.declared.names.OperationKind.TheVariants as kind
+use Rattle.channel_world_model.specs.declared.name.OperationKind.TheVariants as kind
 use Rattle.channel_world_runs.proofs.rest.LoneDirectory.{changed_at, changed_none, changed_some}
 use Rattle.channel_world_runs.proofs.rest.LoneWakes.{not_same, is_pending}
 

@@ -4,8 +4,8 @@ use Rattle.channel_calls.specs.declared.reply.Reply.TheVariants as reply
 use Rattle.channel_world_model.specs.declared.call.Call.TheVariants as call
 use Rattle.channel_world_model.specs.declared.name.HandleKind.TheVariants as handle_kind
 use Rattle.channel_world_runs.specs.declared.names.OnReturn.TheVariants as on_return
-use Rattle.channel_world_runs.specs.declared.names.OperationKind.TheVariants as kind
-use Rattle.channel_world_runs.specs.Plan.{plan_of}
+use Rattle.channel_world_model.specs.declared.name.OperationKind.TheVariants as kind
+use Rattle.channel_world_model.specs.Plan.{plan_of}
 use Rattle.channel_world_runs.proofs.OwnerOrderNames.{is_there}
 use Rattle.channel_world_runs.proofs.RefusalLemmas.{handle_through}
 use Rattle.channel_world_runs.proofs.rest.LoneWakes.{Other, not_same, but_append, is_pending, HavePlaces, all_pending, all_last}

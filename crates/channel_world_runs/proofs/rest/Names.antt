@@ -2,7 +2,7 @@
 use Rattle.channel_world_runs.proofs.rest.Words.{◌≡◌, nat_eq, Bool, Option, None, Some, ◌⊎◌, inl, inr, refl, ap, ◌∙◌, lookup, option_map, option_map_or, Key, ListenerRef, WaitList, Sends, Receives, Streams, Closings, at_seen, line_at, line_of_operation, HandleId, HandleKind, Waiter, Op, Stream, NameStatus, free, retired, invalid, rests, waits, polled, status_on, no_stream_status, stream_status, status_by, send_status, operation_status, status, key_of, operation_of, names_of, held_of, HandleEntry, Operation, OperationKind, PollState, Rests, Waits, IsPolled, NameTable, op_status, handle_entry_status}
 use Rattle.channel_world_model.specs.Names as model
 use Rattle.channel_world_model.specs.declared.name.HandleKind.TheVariants as handle_kind
-use Rattle.channel_world_runs.specs.declared.names.OperationKind.TheVariants as kind
+use Rattle.channel_world_model.specs.declared.name.OperationKind.TheVariants as kind
 
 abbrev pub on : WaitList → Key → ListenerRef
 on line key = record { line = line; key = key }

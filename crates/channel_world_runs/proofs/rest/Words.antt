@@ -19,7 +19,7 @@ pub use Rattle.channel_world_runs.proofs.OwnerBegins.{Admitted, admitted, op_is,
 pub use Rattle.channel_world_runs.proofs.OwnerNames.{found, set_there, set_other, Same, given_back_same, op_status, handle_entry_status, Sets, told_status, one_woken, op_spent, handle_spent, lent_same, borrowed_same, handed_over_same}
 pub use Rattle.channel_world_runs.proofs.OwnerWokenLists.{key_of_entry}
 pub use Rattle.channel_world_runs.specs.Bookkeeping.{asks, written_back, unpolled, leave_handle_of, new_from, lent_by, handed_over_by, operation_named, handle_named, lent_to_poll, installed, with_operation, all_woken, restored, with_one_woken, on_return_of, names_begun}
-pub use Rattle.channel_world_runs.specs.Kept.{WorldInvariant}
+pub use Rattle.channel_world_runs.specs.WorldInvariant.{WorldInvariant}
 pub use Rattle.channel_world_runs.specs.Lone.{names_alone, order_alone, name_state_alone}
 pub use Rattle.channel_world_runs.specs.Order.{placed, kept_place, order_settled, moved_last, all_moved_last, order_begun}
 pub use Rattle.channel_world_runs.specs.OwnerOrder.{woken_in, was_woken, Within, woken_keys, NeedsPlace}
@@ -30,7 +30,7 @@ pub use Rattle.channel_world_runs.specs.Run.{NameState}
 pub use Rattle.channel_world_runs.specs.declared.names.OnReturn.{OnReturn}
 pub use Rattle.channel_world_runs.specs.declared.names.HandleEntry.{HandleEntry}
 pub use Rattle.channel_world_runs.specs.declared.names.Operation.{Operation}
-pub use Rattle.channel_world_runs.specs.declared.names.OperationKind.{OperationKind}
+pub use Rattle.channel_world_model.specs.declared.name.OperationKind.{OperationKind}
 pub use Rattle.channel_world_runs.specs.declared.names.PollState.{PollState}
 pub use Rattle.channel_world_runs.specs.declared.names.PollState.TheVariants.{Rests, Waits, IsPolled}
 pub use Rattle.channel_world_runs.specs.declared.name_table.NameTable.{NameTable}

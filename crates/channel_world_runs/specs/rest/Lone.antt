@@ -3,7 +3,7 @@ use Rattle.std.specs.Prelude.{◌≡◌, true, List, [], Option, None, Some}
 use Rattle.channel_calls.specs.declared.stage.WaitList.{WaitList}
 use Rattle.channel_steps.specs.solo.Alone.{Outcome, Alone}
 use Rattle.channel_world_runs.specs.Bookkeeping.{asks}
-use Rattle.channel_world_runs.specs.Kept.{WorldInvariant}
+use Rattle.channel_world_runs.specs.WorldInvariant.{WorldInvariant}
 use Rattle.channel_world_runs.specs.Lone.{name_state_alone}
 use Rattle.channel_world_runs.specs.OwnerOrder.{woken_in}
 use Rattle.channel_world_runs.specs.Owners.{polled, status}

@@ -2,7 +2,7 @@
 use Rattle.std.specs.Prelude.{◌≡◌, [], None}
 use Rattle.event_listener.specs.Lists.{tasks_of}
 use Rattle.channel_steps.specs.solo.Alone.{Outcome, Alone}
-use Rattle.channel_world_runs.specs.Kept.{WorldInvariant}
+use Rattle.channel_world_runs.specs.WorldInvariant.{WorldInvariant}
 use Rattle.channel_world_runs.specs.OwnerOrder.{woken_in}
 use Rattle.channel_world_runs.specs.NameTable.{names_of, held_of}
 use Rattle.channel_world_runs.specs.Run.{NameState}

@@ -1,13 +1,12 @@
 //! What a call does to the names, whatever it asks of the channel. A call is turned once into a plan; all that is said of the names as
 //! calls begin goes over plans.
 
-use crate::names::OperationKind;
-use channel_world_model::call::Call;
-use channel_world_model::name::{HandleId, HandleKind, OpId};
+use crate::call::Call;
+use crate::name::{HandleId, HandleKind, OpId, OperationKind};
 
 /// What is wanted of a handle.
 #[derive(Clone, Copy)]
-pub(crate) enum Wanted {
+pub enum Wanted {
     Sender,
     Receiver,
     Strong,
@@ -18,10 +17,10 @@ pub(crate) enum Wanted {
 impl Wanted {
     ghost use Rattle.std.specs.Prelude.{◌≡◌};
     ghost use Rattle.channel_world_model.specs.Refusal.{handle_fits};
-    ghost use Rattle.channel_world_runs.specs.Plan.{want_of};
+    ghost use Rattle.channel_world_model.specs.Plan.{want_of};
 
     /// Whether a handle of this kind is such a one.
-    pub(crate) fn fits(self, kind: HandleKind) -> bool
+    pub fn fits(self, kind: HandleKind) -> bool
         ensures { result ≡ handle_fits (want_of self) kind }
     {
         match self {
@@ -36,7 +35,7 @@ impl Wanted {
 
 /// Of which kind a handle is that is made from another.
 #[derive(Clone, Copy)]
-pub(crate) enum Kinship {
+pub enum Kinship {
     Own,
     Weak,
     Strong,
@@ -44,10 +43,10 @@ pub(crate) enum Kinship {
 
 impl Kinship {
     ghost use Rattle.std.specs.Prelude.{◌≡◌};
-    ghost use Rattle.channel_world_runs.specs.Plan.{kin};
+    ghost use Rattle.channel_world_model.specs.Plan.{kin};
 
     /// The kind of one that is made from one of this kind.
-    pub(crate) fn of(self, kind: HandleKind) -> HandleKind
+    pub fn of(self, kind: HandleKind) -> HandleKind
         ensures { result ≡ kin self kind }
     {
         match (self, kind) {
@@ -66,7 +65,7 @@ impl Kinship {
 
 /// What a call does to the names.
 #[derive(Clone, Copy)]
-pub(crate) enum Plan {
+pub enum Plan {
     /// It goes through a handle, and leaves it at its end.
     Through(Wanted, HandleId),
     /// It goes through two handles.
@@ -89,10 +88,10 @@ pub(crate) enum Plan {
 
 impl Plan {
     ghost use Rattle.std.specs.Prelude.{◌≡◌};
-    ghost use Rattle.channel_world_runs.specs.Plan.{plan_of};
+    ghost use Rattle.channel_world_model.specs.Plan.{plan_of};
 
     /// The plan of a call.
-    pub(crate) fn of<T>(call: &Call<T>) -> Plan
+    pub fn of<T>(call: &Call<T>) -> Plan
         ensures { result ≡ plan_of call.now }
     {
         match call {

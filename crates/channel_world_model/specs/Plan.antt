@@ -4,13 +4,13 @@ use Rattle.channel_world_model.specs.Refusal as want
 use Rattle.channel_world_model.specs.declared.call.Call.{Call}
 use Rattle.channel_world_model.specs.declared.call.Call.TheVariants as call
 use Rattle.channel_world_model.specs.declared.name.HandleKind.{HandleKind}
-use Rattle.channel_world_runs.specs.declared.names.OperationKind.TheVariants as kind
-use Rattle.channel_world_runs.specs.declared.plan.Kinship.{Kinship}
-use Rattle.channel_world_runs.specs.declared.plan.Kinship.TheVariants as kinship
-use Rattle.channel_world_runs.specs.declared.plan.Plan.{Plan}
-use Rattle.channel_world_runs.specs.declared.plan.Plan.TheVariants.{Through, ThroughBoth, Makes, Polls, GivesUp, Asks, Streams, Drops, Mints}
-use Rattle.channel_world_runs.specs.declared.plan.Wanted.{Wanted}
-use Rattle.channel_world_runs.specs.declared.plan.Wanted.TheVariants.{Sender, Receiver, Strong, Weak, Any}
+use Rattle.channel_world_model.specs.declared.name.OperationKind.TheVariants as kind
+use Rattle.channel_world_model.specs.declared.plan.Kinship.{Kinship}
+use Rattle.channel_world_model.specs.declared.plan.Kinship.TheVariants as kinship
+use Rattle.channel_world_model.specs.declared.plan.Plan.{Plan}
+use Rattle.channel_world_model.specs.declared.plan.Plan.TheVariants.{Through, ThroughBoth, Makes, Polls, GivesUp, Asks, Streams, Drops, Mints}
+use Rattle.channel_world_model.specs.declared.plan.Wanted.{Wanted}
+use Rattle.channel_world_model.specs.declared.plan.Wanted.TheVariants.{Sender, Receiver, Strong, Weak, Any}
 
 -- what is wanted of a handle, as one call at a time wants it
 abbrev pub want_of : Wanted → want.Want
