@@ -7,7 +7,7 @@ use Rattle.channel_calls.specs.declared.stage.WaitList.{WaitList}
 use Rattle.channel_calls.specs.declared.stage.WaitList.TheVariants.{Sends, Receives, Streams}
 use Rattle.channel_world_model.specs.Answer.{Answer, first, found_in}
 use Rattle.channel_world_model.specs.Awake.{AwakeIn, Kind}
-use Rattle.channel_world_model.specs.Channel.{ModelChannel, is_full}
+use Rattle.channel_calls.specs.Model.{ModelChannel, is_full}
 use Rattle.channel_world_model.specs.Laws.{is_line, line_at}
 use Rattle.channel_world_model.specs.Refused.{Answers}
 use Rattle.channel_world_model.specs.Settling.{poll_of}

@@ -5,7 +5,7 @@ use Rattle.channel_calls.specs.declared.error.Refused.{Refused}
 use Rattle.channel_calls.specs.declared.error.TryRecvError.{TryRecvError}
 use Rattle.channel_calls.specs.declared.reply.Reply.TheVariants as reply
 use Rattle.channel_world_model.specs.Answer.{Answer, answer, space_of, Found, first, none_yet, none_ever, found, displacing, next_answer, strong_handles, dropped, one_more, drop_one, drop_answer, poll_answer, poll_refused_answer, give_up_answer, send_poll_answer, recv_poll_answer, try_send_answer, force_send_answer, try_recv_answer, recv_many_answer, clone_answer, downgrade_answer, upgrade_answer, close_answer, strong_of}
-use Rattle.channel_world_model.specs.Channel.{ModelChannel}
+use Rattle.channel_calls.specs.Model.{ModelChannel}
 use Rattle.channel_world_model.specs.Lines.{is_among, untold, gone}
 use Rattle.channel_world_model.specs.Names.{ModelOperation, send, recv, closing, at}
 use Rattle.channel_world_model.specs.Refused.{Answers, Lack, memory, serials, answer_without, not_held, not_received, send_not_polled, recv_not_polled, not_polled, next_not_polled}

@@ -3,7 +3,7 @@ use Rattle.std.proofs.Common.{◌≡◌, inl, inr, ℕ, zero, suc, Err, Bool, tr
 use Rattle.channel_calls.specs.declared.error.Refused.TheVariants.{NoMemory}
 use Rattle.channel_calls.specs.declared.reply.Reply.TheVariants as reply
 use Rattle.channel_world_model.specs.Names.{ModelOperation, send, recv, closing, at}
-use Rattle.channel_world_model.specs.Channel.{ModelChannel}
+use Rattle.channel_calls.specs.Model.{ModelChannel}
 use Rattle.channel_world_model.specs.State.{State}
 use Rattle.channel_world_model.specs.Lines.{is_among}
 use Rattle.channel_world_model.specs.Answer.{Answer, answer, replying, Found, first, none_yet, none_ever, found, space_of}

@@ -8,7 +8,7 @@ use Rattle.channel_calls.specs.declared.stage.WaitList.{WaitList}
 use Rattle.channel_calls.specs.declared.stage.WaitList.TheVariants.{Sends, Receives, Streams, Closings}
 use Rattle.channel_world_model.specs.Answer.{Answer, answer, replying, after_leaving, pending, space_of, Found, first, none_yet, none_ever, found, send_poll_answer, recv_poll_answer, next_answer, closed_poll_answer, poll_answer}
 use Rattle.channel_world_model.specs.Awake.{AwakeIn, Kind, Placed}
-use Rattle.channel_world_model.specs.Channel.{appended, with_messages}
+use Rattle.channel_calls.specs.Model.{appended, with_messages}
 use Rattle.channel_world_model.specs.Laws.{is_line, line_at, line_of_operation}
 use Rattle.channel_world_model.specs.Lines.{Waiting, is_among, untold, told_by, after_news, gone, passed_on, left_after, told_after, standing}
 use Rattle.channel_world_model.specs.Names.{Names, ModelOperation, send, recv, closing, at, with_operation_changed}

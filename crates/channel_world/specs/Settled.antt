@@ -10,7 +10,7 @@ use Rattle.channel_calls.specs.declared.stage.WaitList.TheVariants.{Sends, Recei
 use Rattle.channel_world_runs.specs.Positions.{accepted_by, brings}
 use Rattle.channel_world_model.specs.Answer.{Answer}
 use Rattle.channel_world_model.specs.Awake.{AwakeIn}
-use Rattle.channel_world_model.specs.Channel.{ModelChannel}
+use Rattle.channel_calls.specs.Model.{ModelChannel}
 use Rattle.channel_world_model.specs.Laws.{woken_of_line}
 use Rattle.channel_world_model.specs.Lines.{is_among, untold}
 use Rattle.channel_world_model.specs.Refused.{Answers}

@@ -4,7 +4,7 @@ use Rattle.concurrent_queue.specs.Capacity.{capacity_of}
 use Rattle.concurrent_queue.specs.Step.{items_in, closed_in}
 use Rattle.event_listener.specs.Lists.{tasks_of}
 use Rattle.channel_calls.specs.Parts.{Parts, WaitLists}
-use Rattle.channel_world_model.specs.Channel.{ModelChannel}
+use Rattle.channel_calls.specs.Model.{ModelChannel}
 use Rattle.channel_world_model.specs.Lines.{Waiting}
 use Rattle.channel_world_model.specs.State.{State}
 use Rattle.channel_world_model.specs.declared.call.Call.{Call}

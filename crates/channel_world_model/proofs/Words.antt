@@ -17,7 +17,7 @@ pub use Rattle.channel_calls.specs.declared.stage.WaitList.TheVariants.{Sends, R
 pub use Rattle.channel_world_model.specs.Answer.{Answer, replying, space_of, try_send_answer, force_send_answer, strong_handles, with_strong_handles, without_one, shut, after_telling, after_leaving, pending, Found, first, none_yet, none_ever, found_in, found, displacing, send_poll_answer, try_recv_answer, recv_many_answer, recv_poll_answer, next_answer, poll_next_answer, close_answer, closed_poll_answer, poll_answer, poll_refused_answer, give_up_answer, new_answer, drop_one, dropped, drop_answer, made, spent, weak_of, clone_answer, downgrade_answer, upgrade_answer, one_more, strong_of, answer, upgrade_to, given_up, news_without_one}
 pub use Rattle.channel_world_model.specs.Awake.{Kind, Enough, times, times_in, Placed, Awake, AwakeIn}
 pub use Rattle.channel_world_model.specs.Bounds.{EachDone, says_full, says_closed}
-pub use Rattle.channel_world_model.specs.Channel.{ModelChannel, is_full, appended, with_messages}
+pub use Rattle.channel_calls.specs.Model.{ModelChannel, is_full, appended, with_messages}
 pub use Rattle.channel_world_model.specs.Handles.{live_of, HandlesAreCounted, UpgradesAsOpen, is_of}
 pub use Rattle.channel_world_model.specs.Laws.{same_line, is_line, count_of, free_places, removed_by, brought_by_call, sends_after, removed, accepted, line_of_operation, line_at, NobodyIsLeft}
 pub use Rattle.channel_world_model.specs.Lines.{Waiting, same_waiter, is_among, untold, told_by, after_news, after_rooms, without_waiter, gone, passed_on, at_end, standing, nobody, left_after, told_after, is_stream}

@@ -1,6 +1,6 @@
 -- What a call answers and leaves, when calls are made one at a time and memory is ample: a function of state and call.
 use Rattle.std.specs.Prelude.{ℕ, zero, suc, take, drop, ◌+◌, ◌-◌, ◌^◌, ◌==◌, nat_lt, List, [], ◌∷◌, ◌++◌, length, ◌&&◌, ◌||◌, Bool, true, false, not, Option, None, Some, is_none, Ok, Err, if◌then◌else◌}
-use Rattle.channel_world_model.specs.Channel.{ModelChannel, is_full, appended, with_messages}
+use Rattle.channel_calls.specs.Model.{ModelChannel, is_full, appended, with_messages}
 use Rattle.channel_world_model.specs.Names.{ModelOperation, send, recv, closing, at, with_new, with_spent, without_name, with_handles, with_new_operation, with_operation_changed, without_operation}
 use Rattle.channel_world_model.specs.Lines.{is_among, told_by, after_news, after_rooms, told_by_rooms, gone, left_after, told_after, standing}
 use Rattle.channel_world_model.specs.State.{State, with_channel, with_names, with_waiting}

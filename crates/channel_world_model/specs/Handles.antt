@@ -2,7 +2,7 @@
 use Rattle.std.specs.Prelude.{◌≡◌, ◌⊎◌, ◌≤◌, ◌<◌, ◌-◌, ◌^◌, ℕ, List, length, Bool, true, false, Option, None, Some, IfSome}
 use Rattle.std.specs.List.{filter}
 use Rattle.channel_world_model.specs.Answer.{strong_handles, strong_of}
-use Rattle.channel_world_model.specs.Channel.{ModelChannel}
+use Rattle.channel_calls.specs.Model.{ModelChannel}
 use Rattle.channel_world_model.specs.Names.{Directory, at}
 use Rattle.channel_world_model.specs.Refusal.{are_alike}
 use Rattle.channel_world_model.specs.Run.{MayBeDone, Runs}

@@ -1,4 +1,3 @@
-pub mod Channel
 pub mod Names
 pub mod Lines
 pub mod State

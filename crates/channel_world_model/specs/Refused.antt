@@ -1,6 +1,6 @@
 -- What a call answers where the one growth that it needs is refused; None where it needs none.
 use Rattle.std.specs.Prelude.{◌≡◌, ◌⊎◌, ℕ, zero, suc, Option, None, Some, is_none, Err, if◌then◌else◌}
-use Rattle.channel_world_model.specs.Channel.{ModelChannel}
+use Rattle.channel_calls.specs.Model.{ModelChannel}
 use Rattle.channel_world_model.specs.Names.{ModelOperation, send, recv, closing, at}
 use Rattle.channel_world_model.specs.Lines.{untold, is_among, gone}
 use Rattle.channel_world_model.specs.State.{State, with_waiting}

@@ -1,6 +1,6 @@
 -- The state between two calls, when calls are made one at a time.
 use Rattle.std.specs.Prelude.{ℕ, [], ◌∷◌, Option, Some}
-use Rattle.channel_world_model.specs.Channel.{ModelChannel, opened_model}
+use Rattle.channel_calls.specs.Model.{ModelChannel, opened_model}
 use Rattle.channel_world_model.specs.Names.{Names, Directory}
 use Rattle.channel_world_model.specs.Lines.{Waiting, nobody}
 use Rattle.channel_world_model.specs.declared.name.Handle.{Handle}

@@ -67,7 +67,7 @@ pub use Rattle.channel_steps.specs.every_run.Tasks.{act_by, aim_by, all_by, ask_
 pub use Rattle.channel_steps.specs.every_run.Unlisted.{NoSendListens, SendsUnlisted}
 pub use Rattle.channel_steps.specs.every_run.Waits.{Any, Apart, IsIn, WaitApart, Waits}
 pub use Rattle.channel_steps.specs.every_run.Words.{HasLetIn, IsAtQueue, IsWith, IsWithOne, WordsSay}
-pub use Rattle.channel_world_model.specs.Channel.{ModelChannel}
+pub use Rattle.channel_calls.specs.Model.{ModelChannel}
 pub use Rattle.channel_steps.specs.Answers.{CapacityRow, CloneRow, CloseRow, ClosedPollRow, CountRow, FlagRow, ForceSendRow, NextRow, RecvPollRow, Row, SendPollRow, SeveralRow, TerminatedRow, TryRecvRow, TrySendRow, UpgradeRow}
 pub use Rattle.channel_steps.specs.Known.{Answered, HasTaken, IsFor, StageAt, ToldAt, TriesAt, TriesFor, TryAt, WorkAt, all_from}
 pub use Rattle.channel_steps.specs.Left.{all_left, most_left}

@@ -3,7 +3,7 @@ use Rattle.std.specs.Prelude.{◌≡◌, ◌+◌, ◌-◌, true, List, [], ◌++
 use Rattle.channel_calls.specs.Moves as moves
 use Rattle.channel_calls.specs.declared.mark.Mark.{Mark}
 use Rattle.channel_calls.specs.declared.mark.Mark.TheVariants.{Nothing, Append, Take, TakeDisplaced, Replace, Close, SenderUp, SenderDown, ReceiverUp, ReceiverDown}
-use Rattle.channel_world_model.specs.Channel.{ModelChannel}
+use Rattle.channel_calls.specs.Model.{ModelChannel}
 use Rattle.channel_steps.specs.Configuration.{Configuration}
 
 module _ {T W : Type 0} where

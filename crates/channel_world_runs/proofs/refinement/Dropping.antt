@@ -4,7 +4,7 @@ use Rattle.channel_calls.specs.declared.reply.Reply.TheVariants as reply
 use Rattle.channel_calls.specs.declared.stage.WaitList.TheVariants as list
 use Rattle.channel_steps.specs.solo.Alone as alone
 use Rattle.channel_world_model.specs.Answer as model
-use Rattle.channel_world_model.specs.Channel as plain
+use Rattle.channel_calls.specs.Model as plain
 use Rattle.channel_world_model.specs.declared.call.Call.TheVariants as call
 use Rattle.channel_world_runs.proofs.refinement.Matching.{shows_again, matching}
 use Rattle.channel_world_runs.proofs.refinement.Departing.{departed, streams_are}

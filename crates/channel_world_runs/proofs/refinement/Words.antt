@@ -29,7 +29,7 @@ pub use Rattle.channel_world_model.proofs.WaiterLemmas.{decided, same_refl, same
 pub use Rattle.channel_world_model.specs.Answer.{replying, after_leaving, is_finished, poll_refused_answer, made, dropped, clone_answer, downgrade_answer, upgrade_answer, drop_answer, weak_of, strong_of, pending, closed_poll_answer, poll_answer, after_telling, shut, without_one, news_without_one, Answer, spent, one_more, upgrade_to, new_answer, give_up_answer, given_up, Found, first, none_yet, none_ever, found, recv_poll_answer, send_poll_answer, finished, space_of, next_answer, poll_next_answer, try_recv_answer, recv_many_answer, try_send_answer, force_send_answer, displacing}
 pub use Rattle.channel_world_model.specs.Asked.{poll_asked, refusal_asked, giving_up_asked, drop_asked, clone_asked, upgrade_asked, stream_of, KeysHeld}
 pub use Rattle.channel_world_model.specs.Awake.{AwakeIn, Kind, Placed, times_in, Awake, times}
-pub use Rattle.channel_world_model.specs.Channel.{ModelChannel, with_messages, is_full}
+pub use Rattle.channel_calls.specs.Model.{ModelChannel, with_messages, is_full}
 pub use Rattle.channel_world_model.specs.Laws.{line_at, line_of_operation, same_line, is_line}
 pub use Rattle.channel_world_model.specs.Lines.{is_among, untold, gone, Waiting, is_stream, told_by, after_news, passed_on, same_waiter, without_waiter, with_untold, after_rooms, told_by_rooms, all_told, standing, left_after, told_after}
 pub use Rattle.channel_world_model.specs.Names.{ModelOperation, send, recv, closing, at, Names, Directory, with_handles, with_new_operation, with_operation_changed}

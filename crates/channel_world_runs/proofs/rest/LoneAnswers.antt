@@ -11,7 +11,7 @@ use Rattle.std.specs.Prelude.{zero, suc, nat_lt}
 use Rattle.channel_world_runs.specs.Users.{all_uses}
 use Rattle.channel_world_runs.specs.declared.names.Agent.{Agent}
 use Rattle.channel_world_model.specs.Asked.{KeysHeld as Holding}
-use Rattle.channel_world_model.specs.Channel.{ModelChannel as PlainChannel}
+use Rattle.channel_calls.specs.Model.{ModelChannel as PlainChannel}
 use Rattle.channel_world_model.specs.Refusal as model
 use Rattle.channel_world_model.specs.declared.call.Call.TheVariants as call
 use Rattle.channel_world_runs.proofs.rest.LoneWoken.{left_of, woken_follows}
