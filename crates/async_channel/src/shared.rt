@@ -13,7 +13,7 @@ use crate::bed::Bed;
 use crate::cells::{Counts, SharedCells, SharedWords};
 use crate::listeners::Listeners;
 use crate::seen::{Seen, Trace};
-use crate::waiters::{NextStep, Waiters};
+use crate::waiters::{Turn, Waiters};
 use channel_calls::questions;
 use channel_calls::raised::Counters;
 use channel_calls::stage::{Side, WaitList};
@@ -97,7 +97,7 @@ impl<T: Drop> Shared<T> {
 impl<T: Drop, L: Listeners> Shared<T, L> {
     /// The right to one section on the list of this kind.
     #[inline(always)]
-    pub(crate) fn waiters(&self, line: WaitList) -> NextStep<'_, L> {
+    pub(crate) fn waiters(&self, line: WaitList) -> Turn<'_, L> {
         match line {
             WaitList::Sends => self.sends.turn(),
             WaitList::Receives => self.receives.turn(),
