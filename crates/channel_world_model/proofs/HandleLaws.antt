@@ -1,5 +1,5 @@
 -- That counts count handles, and what an upgrade gives.
-use Rattle.channel_world_model.proofs.Words.{and_parts, arith, ◌≡◌, ◌⊎◌, ◌≤◌, ◌<◌, ◌+◌, ◌-◌, ◌^◌, ◌==◌, ℕ, zero, suc, nat_lt, List, [], ◌∷◌, Bool, true, false, ◌||◌, not, cond, if◌then◌else◌, Option, None, Some, is_some, refl, sym, ap, subst, ◌∙◌, inl, inr, nat_tests, list_all, Answer, replying, strong_handles, strong_of, with_strong_handles, without_one, shut, spent, upgrade_answer, upgrade_to, one_more, ModelChannel, HandlesAreCounted, UpgradesAsOpen, live_of, Directory, at, with_new, without_name, are_alike, is_live, uses, are_fit, takes_borrowed, names_taken, MayBeDone, Runs, State, start, Call, Reply, Handle, HandleId, HandleKind, Sender, Receiver, WeakSender, WeakReceiver, WorldRefusal, UnknownName, WrongKind, Borrowed, NameTaken, Done}
+use Rattle.channel_world_model.proofs.Words.{arith, ◌≡◌, ◌⊎◌, ◌≤◌, ◌<◌, ◌+◌, ◌-◌, ◌^◌, ◌==◌, ℕ, zero, suc, nat_lt, List, [], ◌∷◌, Bool, true, false, ◌||◌, cond, if◌then◌else◌, Option, None, Some, refl, sym, ap, subst, ◌∙◌, inl, inr, nat_tests, Answer, replying, strong_handles, strong_of, with_strong_handles, without_one, shut, spent, upgrade_answer, upgrade_to, one_more, ModelChannel, HandlesAreCounted, UpgradesAsOpen, live_of, Directory, at, with_new, without_name, are_alike, MayBeDone, Runs, State, start, Call, Reply, Handle, HandleId, HandleKind, Sender, Receiver, WeakSender, WeakReceiver, Done}
 use Rattle.channel_world_model.specs.declared.call.Call.TheVariants as call
 use Rattle.channel_calls.specs.declared.reply.Reply.TheVariants as reply
 use Rattle.channel_world_model.proofs.Deeds.{Deed, stays, grows, holds, shuts, adds, drops, deed_of}
@@ -10,10 +10,6 @@ more_than_one : (n : ℕ) → (n == 1) ≡ false → 1 ≤ n → 1 ≤ n - 1
 more_than_one zero t h = absurd (omega (arith, h))
 more_than_one (suc zero) t h = cc t
 more_than_one (suc (suc n)) t h = omega arith
-
-first_reason : {A : Type 0} (b : Bool) (x : A) (o : Option A) → (if not b then Some x else o) ≡ None → b ≡ true
-first_reason true x o e = refl
-first_reason false x o e = cc e
 
 never_none : (n : ℕ) → 1 ≤ n → (n == 0) ≡ false
 never_none n h = grind (arith, nat_tests)
@@ -177,10 +173,4 @@ module _ {T : Type 0} where
       subst (λ (x : Reply T). UpgradesAsOpen world weak x) (sym (ap (λ (a : Answer T). a.reply) e)) (found (at weak.0 world.names.handles) refl) where
         found : (o : Option Handle) → at weak.0 world.names.handles ≡ o → UpgradesAsOpen world weak (upgrade_answer world new o).reply
         found (Some h) there = upgrade_says world weak new h (counts capacity calls rest done why world r) there
-        found None there =
-            let c : Call T = call.Upgrade weak new in
-            let lives : is_some (at weak.0 world.names.handles) ≡ true =
-            (and_parts (is_some (at weak.0 world.names.handles)) true
-            (first_reason (list_all (is_live world.names) (uses c)) UnknownName
-            (if not (are_fit world.names c) then Some WrongKind else (if takes_borrowed world.names c then Some Borrowed else (if names_taken world.names c then Some NameTaken else None))) ok)).0 in
-            absurd (cc (lives, there))
+        found None there = cc (rw there at ok)

@@ -1,5 +1,7 @@
 -- Each call, one at a time, keeps the accounts of messages and leaves nobody asleep.
-use Rattle.channel_world_model.proofs.Words.{cond_both, take-append-drop, zero, suc, take, drop, arith, ◌≡◌, ◌⊎◌, ◌≤◌, ◌+◌, ◌-◌, ◌^◌, ◌==◌, ℕ, nat_eq, nat_lt, List, [], ◌∷◌, ◌++◌, length, Bool, true, false, ◌||◌, ◌&&◌, not, if◌then◌else◌, Option, None, Some, IsSome, is_some, Ok, Err, refl, sym, ap, subst, ◌∙◌, inl, inr, append-nil, append_assoc, length-append, nat_eq_equiv, list_all, option_map_or, option_to_list, lookup, set_value, ModelChannel, is_full, Names, Directory, ModelOperation, send, recv, closing, at, is_taken, with_new_operation, with_operation_changed, without_operation, Waiting, nobody, is_among, untold, after_news, gone, left_after, standing, State, start, with_channel, with_names, with_waiting, Call, Reply, Answer, replying, after_telling, after_leaving, pending, space_of, Found, first, none_yet, none_ever, found_in, found, try_send_answer, force_send_answer, displacing, send_poll_answer, try_recv_answer, recv_many_answer, recv_poll_answer, next_answer, poll_next_answer, close_answer, shut, closed_poll_answer, poll_answer, poll_refused_answer, give_up_answer, given_up, new_answer, drop_one, dropped, drop_answer, made, spent, weak_of, clone_answer, downgrade_answer, upgrade_answer, one_more, strong_of, strong_handles, with_strong_handles, news_without_one, answer, memory, refused, not_listening, Answers, refusal, is_live, uses, are_fit, takes_borrowed, names_taken, removed_by, brought_by_call, sends_after, removed, accepted, line_of_operation, line_at, free_places, NobodyIsLeft, Awake, AwakeIn, times_in, Runs, poll_of, Done, WorldRefusal, WaitList, Sends, Receives, Streams, Closings, Nothing, Message, Room, Closing, Space, Open, Filled, Shut, Waiter, Op, Stream, OpId, HandleId, HandleKind, Sender, Receiver, WeakSender, WeakReceiver, Handle, UnknownName, WrongKind, Borrowed, NameTaken, NoMemory, Ready, Pending}
+use Rattle.channel_world_model.proofs.Words.{cond_both, take-append-drop, zero, suc, take, drop, arith, ◌≡◌, ◌⊎◌, ◌≤◌, ◌+◌, ◌-◌, ◌^◌, ◌==◌, ℕ, nat_eq, nat_lt, List, [], ◌∷◌, ◌++◌, length, Bool, true, false, ◌||◌, ◌&&◌, not, if◌then◌else◌, Option, None, Some, IsSome, is_some, Ok, Err, refl, sym, ap, subst, ◌∙◌, inl, inr, append-nil, append_assoc, length-append, nat_eq_equiv, option_map_or, option_to_list, lookup, set_value, ModelChannel, is_full, Names, Directory, ModelOperation, send, recv, closing, at, is_taken, with_new_operation, with_operation_changed, without_operation, Waiting, nobody, is_among, untold, after_news, gone, left_after, standing, State, start, with_channel, with_names, with_waiting, Call, Reply, Answer, replying, after_telling, after_leaving, pending, space_of, Found, first, none_yet, none_ever, found_in, found, try_send_answer, force_send_answer, displacing, send_poll_answer, try_recv_answer, recv_many_answer, recv_poll_answer, next_answer, poll_next_answer, close_answer, shut, closed_poll_answer, poll_answer, poll_refused_answer, give_up_answer, given_up, new_answer, drop_one, dropped, drop_answer, made, spent, weak_of, clone_answer, downgrade_answer, upgrade_answer, one_more, strong_of, strong_handles, with_strong_handles, news_without_one, answer, memory, refused, not_listening, Answers, refusal, removed_by, brought_by_call, sends_after, removed, accepted, line_of_operation, line_at, free_places, NobodyIsLeft, Awake, AwakeIn, times_in, Runs, poll_of, Done, WorldRefusal, WaitList, Sends, Receives, Streams, Closings, Nothing, Message, Room, Closing, Space, Open, Filled, Shut, Waiter, Op, Stream, OpId, HandleId, HandleKind, Sender, Receiver, WeakSender, WeakReceiver, Handle, NameTaken, NoMemory, Ready, Pending}
+use Rattle.std.specs.Bool.{then_some}
+use Rattle.std.specs.Option.{option_or}
 use Rattle.std.proofs.lemmas.Map.{lookup-set_value}
 pub use Rattle.std.proofs.lemmas.Bool.{cond-false as chosen_no, cond-true as chosen_yes}
 use Rattle.channel_world_model.specs.declared.call.Call.TheVariants as call
@@ -17,12 +19,10 @@ full_idle : (o : Option ℕ) (n : ℕ) → option_map_or (λ (capacity : ℕ). n
 full_idle None n e = cc e
 full_idle (Some c) n e = let same : n ≡ c = same_number n c e in (omega (arith, same), λ h. cc h)
 
-pub last_reason : (a b c d : Bool) → (if not a then Some UnknownName else (if not b then Some WrongKind else (if c then Some Borrowed else (if d then Some NameTaken else None)))) ≡ None → d ≡ false
-last_reason false b c d e = cc e
-last_reason true false c d e = cc e
-last_reason true true true d e = cc e
-last_reason true true false true e = cc e
-last_reason true true false false e = refl
+-- the second of two reasons is not so where there is none
+pub second_reason : (first : Option WorldRefusal) (b : Bool) (why : WorldRefusal) → option_or first (then_some b why) ≡ None → b ≡ false
+second_reason None false why e = refl
+second_reason first b why e = cc e
 
 -- ---- operations under their names
 
@@ -470,24 +470,23 @@ module _ {T : Type 0} where
 
     -- ---- every call with ample memory
 
-    free_name : (op : OpId) (c : Call T) → names_taken s.names c ≡ is_taken op.0 s.names.operations → refusal s c ≡ None → at op.0 s.names.operations ≡ None
-    free_name op c e accepted =
-        untaken op.0 s.names.operations
-        (sym e ∙ last_reason (list_all (is_live s.names) (uses c)) (are_fit s.names c) (takes_borrowed s.names c) (names_taken s.names c) accepted)
+    free_name : (op : OpId) (first : Option WorldRefusal) → option_or first (then_some (is_taken op.0 s.names.operations) NameTaken) ≡ None
+        → at op.0 s.names.operations ≡ None
+    free_name op first ok = untaken op.0 s.names.operations (second_reason first _ NameTaken ok)
 
     pub answered : (c : Call T) → refusal s c ≡ None → Good sends s c (answer s c)
     answered (call.NewSend op sender msg) ok = record {
-      awake = awake_new op (send sender (Some msg)) (free_name op (call.NewSend op sender msg) refl ok);
+      awake = awake_new op (send sender (Some msg)) (free_name op _ ok);
       account = nothing_moved (call.NewSend op sender msg) reply.Made refl refl;
       keeps = new_keeps op (send sender (Some msg)) ((op.0, msg) ∷ sends) (λ h m e. rw (nat_eq_equiv.refl op.0) (cc e)) (λ n off. rw off refl);
     }
     answered (call.NewRecv op receiver) ok = record {
-      awake = awake_new op (recv receiver) (free_name op (call.NewRecv op receiver) refl ok);
+      awake = awake_new op (recv receiver) (free_name op _ ok);
       account = nothing_moved (call.NewRecv op receiver) reply.Made refl refl;
       keeps = new_keeps op (recv receiver) sends (λ h m e. cc e) (λ n off. refl);
     }
     answered (call.NewClosed op sender) ok = record {
-      awake = awake_new op (closing sender) (free_name op (call.NewClosed op sender) refl ok);
+      awake = awake_new op (closing sender) (free_name op _ ok);
       account = nothing_moved (call.NewClosed op sender) reply.Made refl refl;
       keeps = new_keeps op (closing sender) sends (λ h m e. cc e) (λ n off. refl);
     }

@@ -1,6 +1,5 @@
 -- What a call does to the names, whatever it asks of the channel. Each call is turned into a plan once, here.
 use Rattle.channel_world_model.specs.Answer.{weak_of, strong_of}
-use Rattle.channel_world_model.specs.Refusal as want
 use Rattle.channel_world_model.specs.declared.call.Call.{Call}
 use Rattle.channel_world_model.specs.declared.call.Call.TheVariants as call
 use Rattle.channel_world_model.specs.declared.name.HandleKind.{HandleKind}
@@ -9,16 +8,7 @@ use Rattle.channel_world_model.specs.declared.plan.Kinship.{Kinship}
 use Rattle.channel_world_model.specs.declared.plan.Kinship.TheVariants as kinship
 use Rattle.channel_world_model.specs.declared.plan.Plan.{Plan}
 use Rattle.channel_world_model.specs.declared.plan.Plan.TheVariants.{Through, ThroughBoth, Makes, Polls, GivesUp, Asks, Streams, Drops, Mints}
-use Rattle.channel_world_model.specs.declared.plan.Wanted.{Wanted}
 use Rattle.channel_world_model.specs.declared.plan.Wanted.TheVariants.{Sender, Receiver, Strong, Weak, Any}
-
--- what is wanted of a handle, as one call at a time wants it
-abbrev pub want_of : Wanted → want.Want
-want_of Sender = want.a_sender
-want_of Receiver = want.a_receiver
-want_of Strong = want.a_strong_handle
-want_of Weak = want.a_weak_handle
-want_of Any = want.a_handle
 
 -- the kind of a handle that is made from one of this kind
 abbrev pub kin : Kinship → HandleKind → HandleKind

@@ -1,127 +1,113 @@
--- Which calls are refused, when no other call is under way, and why. Room for memory is another matter: see `Run`.
-use Rattle.std.specs.Prelude.{ℕ, nat_lt, List, [], ◌∷◌, Bool, true, false, not, Option, None, Some, is_some, if◌then◌else◌}
-use Rattle.std.specs.List.{list_all}
-use Rattle.std.specs.Option.{option_map_or}
+-- Which calls are refused, and why: the first of five reasons that there is. A name that the call uses is not live; what lives under it is
+-- of the wrong kind; the operation, or the stream, is being polled; a handle that it takes whole is borrowed; its new name was taken
+-- before. Room for memory is another matter: see `Run`.
+use Rattle.std.specs.Prelude.{ℕ, nat_lt, Bool, true, false, not, ◌||◌, Option, None, Some, if◌then◌else◌}
+use Rattle.std.specs.Bool.{then_some}
+use Rattle.std.specs.Option.{option_or}
 use Rattle.channel_world_model.specs.Names.{Names, ModelOperation, send, at, is_taken}
-use Rattle.channel_world_model.specs.declared.name.Handle.{Handle}
+use Rattle.channel_world_model.specs.Plan.{plan_of}
 use Rattle.channel_world_model.specs.State.{State}
 use Rattle.channel_world_model.specs.declared.call.Call.{Call}
-use Rattle.channel_world_model.specs.declared.call.Call.TheVariants as call
+use Rattle.channel_world_model.specs.declared.name.Handle.{Handle}
+use Rattle.channel_world_model.specs.declared.name.HandleId.{HandleId}
 use Rattle.channel_world_model.specs.declared.name.HandleKind.{HandleKind}
-use Rattle.channel_world_model.specs.declared.name.HandleKind.TheVariants.{Sender, Receiver, WeakSender, WeakReceiver}
+use Rattle.channel_world_model.specs.declared.name.HandleKind.TheVariants as handle_kind
+use Rattle.channel_world_model.specs.declared.name.Waiter.{Waiter}
+use Rattle.channel_world_model.specs.declared.name.Waiter.TheVariants.{Op, Stream}
+use Rattle.channel_world_model.specs.declared.plan.Plan.{Plan}
+use Rattle.channel_world_model.specs.declared.plan.Plan.TheVariants.{Through, ThroughBoth, Makes, Polls, GivesUp, Asks, Streams, Drops, Mints}
+use Rattle.channel_world_model.specs.declared.plan.Wanted.{Wanted}
+use Rattle.channel_world_model.specs.declared.plan.Wanted.TheVariants.{Sender, Receiver, Strong, Weak, Any}
 use Rattle.channel_world_model.specs.declared.refusal.WorldRefusal.{WorldRefusal}
-use Rattle.channel_world_model.specs.declared.refusal.WorldRefusal.TheVariants.{UnknownName, WrongKind, Borrowed, NameTaken}
+use Rattle.channel_world_model.specs.declared.refusal.WorldRefusal.TheVariants.{UnknownName, WrongKind, OpUnderWay, Borrowed, NameTaken}
 use Rattle.channel_world_model.specs.declared.refusal.WorldRefusal.TheVariants as why
 
--- what a call wants of a name that it uses
-pub data Want : Type 0 where
-  a_sender : Want
-  a_receiver : Want
-  a_strong_handle : Want
-  a_weak_handle : Want
-  a_handle : Want
-  an_operation : Want
-  a_send : Want
+-- whose poll is under way, and which handles calls under way use
+pub record UnderWay : Type 0 where
+  pub polled : Waiter → Bool
+  pub used : HandleId → Bool
 
--- the used names of a call, and what is wanted of each
-abbrev pub uses : {T : Type 0} → Call T → List (ℕ × Want)
-uses (call.NewSend op sender msg) = (sender.0, a_sender) ∷ []
-uses (call.NewRecv op receiver) = (receiver.0, a_receiver) ∷ []
-uses (call.NewClosed op sender) = (sender.0, a_sender) ∷ []
-uses (call.Poll op) = (op.0, an_operation) ∷ []
-uses (call.PollRefused op) = (op.0, an_operation) ∷ []
-uses (call.GiveUp op) = (op.0, an_operation) ∷ []
-uses (call.SendIsTerminated op) = (op.0, a_send) ∷ []
-uses (call.PollNext receiver) = (receiver.0, a_receiver) ∷ []
-uses (call.StreamIsTerminated receiver) = (receiver.0, a_receiver) ∷ []
-uses (call.TrySend sender msg) = (sender.0, a_sender) ∷ []
-uses (call.ForceSend sender msg) = (sender.0, a_sender) ∷ []
-uses (call.TryRecv receiver) = (receiver.0, a_receiver) ∷ []
-uses (call.RecvMany receiver limit) = (receiver.0, a_receiver) ∷ []
-uses (call.Close handle) = (handle.0, a_strong_handle) ∷ []
-uses (call.Drop handle) = (handle.0, a_handle) ∷ []
-uses (call.TryClone handle new) = (handle.0, a_handle) ∷ []
-uses (call.Downgrade handle new) = (handle.0, a_strong_handle) ∷ []
-uses (call.Upgrade weak new) = (weak.0, a_weak_handle) ∷ []
-uses (call.SameChannel a b) = (a.0, a_strong_handle) ∷ (b.0, a_strong_handle) ∷ []
-uses (call.IsClosed handle) = (handle.0, a_strong_handle) ∷ []
-uses (call.IsEmpty handle) = (handle.0, a_strong_handle) ∷ []
-uses (call.IsFull handle) = (handle.0, a_strong_handle) ∷ []
-uses (call.Len handle) = (handle.0, a_strong_handle) ∷ []
-uses (call.Capacity handle) = (handle.0, a_strong_handle) ∷ []
-uses (call.SenderCount handle) = (handle.0, a_strong_handle) ∷ []
-uses (call.ReceiverCount handle) = (handle.0, a_strong_handle) ∷ []
+-- no call is under way
+abbrev pub nobody_under_way : UnderWay
+nobody_under_way = record { polled = λ w. false; used = λ handle. false }
 
-abbrev is_operation_want : Want → Bool
-is_operation_want an_operation = true
-is_operation_want a_send = true
-is_operation_want _ = false
+-- ---- kinds
 
--- whether the name lives, as a handle or as an operation
-abbrev pub is_live : {T : Type 0} → Names T → ℕ × Want → Bool
-is_live names u = if is_operation_want u.1 then is_some (at u.0 names.operations) else is_some (at u.0 names.handles)
-
-abbrev pub handle_fits : Want → HandleKind → Bool
-handle_fits a_sender Sender = true
-handle_fits a_receiver Receiver = true
-handle_fits a_strong_handle Sender = true
-handle_fits a_strong_handle Receiver = true
-handle_fits a_weak_handle WeakSender = true
-handle_fits a_weak_handle WeakReceiver = true
-handle_fits a_handle kind = true
-handle_fits want kind = false
-
-abbrev pub operation_fits : {T : Type 0} → Want → ModelOperation T → Bool
-operation_fits an_operation operation = true
-operation_fits a_send (send handle msg) = true
-operation_fits want operation = false
-
--- whether what lives under the name is of the wanted kind
-abbrev pub is_fit : {T : Type 0} → Names T → ℕ × Want → Bool
-is_fit names u =
-    if is_operation_want u.1 then option_map_or (operation_fits u.1) (at u.0 names.operations) false
-    else option_map_or (λ (h : Handle). handle_fits u.1 h.kind) (at u.0 names.handles) false
+-- whether a handle of this kind is such a one as is wanted
+abbrev pub handle_fits : Wanted → HandleKind → Bool
+handle_fits Sender handle_kind.Sender = true
+handle_fits Receiver handle_kind.Receiver = true
+handle_fits Strong handle_kind.Sender = true
+handle_fits Strong handle_kind.Receiver = true
+handle_fits Weak handle_kind.WeakSender = true
+handle_fits Weak handle_kind.WeakReceiver = true
+handle_fits Any kind = true
+handle_fits wanted kind = false
 
 -- two senders or two receivers
 abbrev pub are_alike : HandleKind → HandleKind → Bool
-are_alike Sender Sender = true
-are_alike Receiver Receiver = true
+are_alike handle_kind.Sender handle_kind.Sender = true
+are_alike handle_kind.Receiver handle_kind.Receiver = true
 are_alike a b = false
 
-abbrev pub handles_are_alike : {T : Type 0} → Names T → ℕ → ℕ → Bool
-handles_are_alike names a b = option_map_or (λ (x : Handle). option_map_or (λ (y : Handle). are_alike x.kind y.kind) (at b names.handles) false) (at a names.handles) false
+-- ---- what stands against a use of what lives under a name, if anything lives there
 
-abbrev pub are_fit : {T : Type 0} → Names T → Call T → Bool
-are_fit names (call.SameChannel a b) = handles_are_alike names a.0 b.0
-are_fit names c = list_all (is_fit names) (uses c)
+-- against going through a handle of which this is wanted
+abbrev pub unfit_handle : Bool → Wanted → Option Handle → Option WorldRefusal
+unfit_handle is_polled wanted None = Some UnknownName
+unfit_handle is_polled wanted (Some h) = if not (handle_fits wanted h.kind) then Some WrongKind else then_some is_polled OpUnderWay
 
--- whether a live operation borrows the handle
-abbrev pub is_borrowed : {T : Type 0} → ℕ → Names T → Bool
-is_borrowed handle names = option_map_or (λ (h : Handle). nat_lt 0 h.borrowers) (at handle names.handles) false
+-- against going through two, which have to be two senders or two receivers
+abbrev pub unlike_handles : Bool → Option Handle → Option Handle → Option WorldRefusal
+unlike_handles is_polled (Some a) (Some b) = if not (are_alike a.kind b.kind) then Some WrongKind else then_some is_polled OpUnderWay
+unlike_handles is_polled a b = Some UnknownName
 
--- dropping, or polling as a stream, a handle that a live operation borrows
-abbrev pub takes_borrowed : {T : Type 0} → Names T → Call T → Bool
-takes_borrowed names (call.Drop handle) = is_borrowed handle.0 names
-takes_borrowed names (call.PollNext receiver) = is_borrowed receiver.0 names
-takes_borrowed names c = false
+-- against taking a handle whole: an operation borrows it, or a call under way uses it
+abbrev pub borrowed_handle : Bool → Option Handle → Option WorldRefusal
+borrowed_handle is_used None = None
+borrowed_handle is_used (Some h) = then_some (nat_lt 0 h.borrowers || is_used) Borrowed
 
--- a new name that was taken before
-abbrev pub names_taken : {T : Type 0} → Names T → Call T → Bool
-names_taken names (call.NewSend op sender msg) = is_taken op.0 names.operations
-names_taken names (call.NewRecv op receiver) = is_taken op.0 names.operations
-names_taken names (call.NewClosed op sender) = is_taken op.0 names.operations
-names_taken names (call.TryClone handle new) = is_taken new.0 names.handles
-names_taken names (call.Downgrade handle new) = is_taken new.0 names.handles
-names_taken names (call.Upgrade weak new) = is_taken new.0 names.handles
-names_taken names c = false
+-- against polling an operation, or giving it up
+abbrev pub unfit_operation : {T : Type 0} → Bool → Option (ModelOperation T) → Option WorldRefusal
+unfit_operation is_polled None = Some UnknownName
+unfit_operation is_polled (Some operation) = then_some is_polled OpUnderWay
 
--- the first of these reasons that there is
+-- against asking an operation whether it has finished, as a send is asked
+abbrev pub unfit_send : {T : Type 0} → Option (ModelOperation T) → Option WorldRefusal
+unfit_send None = Some UnknownName
+unfit_send (Some (send handle msg)) = None
+unfit_send (Some operation) = Some WrongKind
+
+-- ---- calls
+
+module _ {T : Type 0} (u : UnderWay) (names : Names T) where
+  -- why a call doesn't go through a handle of which this is wanted
+  abbrev pub through_refusal : Wanted → HandleId → Option WorldRefusal
+  through_refusal wanted handle = unfit_handle (u.polled (Stream handle)) wanted (at handle.0 names.handles)
+
+  -- why it doesn't take one whole, for good or to poll it as a stream
+  abbrev pub taking_refusal : Wanted → HandleId → Option WorldRefusal
+  taking_refusal wanted handle = option_or (through_refusal wanted handle) (borrowed_handle (u.used handle) (at handle.0 names.handles))
+
+  -- why a call of this plan is not begun
+  abbrev pub planned_refusal : Plan → Option WorldRefusal
+  planned_refusal (Through wanted handle) = through_refusal wanted handle
+  planned_refusal (ThroughBoth a b) = unlike_handles (u.polled (Stream a) || u.polled (Stream b)) (at a.0 names.handles) (at b.0 names.handles)
+  planned_refusal (Makes wanted handle op kind) = option_or (through_refusal wanted handle) (then_some (is_taken op.0 names.operations) NameTaken)
+  planned_refusal (Polls op) = unfit_operation (u.polled (Op op)) (at op.0 names.operations)
+  planned_refusal (GivesUp op) = unfit_operation (u.polled (Op op)) (at op.0 names.operations)
+  planned_refusal (Asks op) = unfit_send (at op.0 names.operations)
+  planned_refusal (Streams receiver) = taking_refusal Receiver receiver
+  planned_refusal (Drops handle) = taking_refusal Any handle
+  planned_refusal (Mints wanted from new kinship) = option_or (through_refusal wanted from) (then_some (is_taken new.0 names.handles) NameTaken)
+
+  -- why a call is not begun beside these under way
+  abbrev pub refusal_beside : Call T → Option WorldRefusal
+  refusal_beside c = planned_refusal (plan_of c)
+
+-- why a call is refused where none is under way
 abbrev pub refusal : {T : Type 0} → State T → Call T → Option WorldRefusal
-refusal s c =
-    if not (list_all (is_live s.names) (uses c)) then Some UnknownName
-    else (if not (are_fit s.names c) then Some WrongKind
-    else (if takes_borrowed s.names c then Some Borrowed
-    else (if names_taken s.names c then Some NameTaken else None)))
+refusal s c = refusal_beside nobody_under_way s.names c
 
 -- the number by which a script names a refusal
 abbrev pub refusal_number : WorldRefusal → ℕ

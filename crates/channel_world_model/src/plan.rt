@@ -17,11 +17,10 @@ pub enum Wanted {
 impl Wanted {
     ghost use Rattle.std.specs.Prelude.{◌≡◌};
     ghost use Rattle.channel_world_model.specs.Refusal.{handle_fits};
-    ghost use Rattle.channel_world_model.specs.Plan.{want_of};
 
     /// Whether a handle of this kind is such a one.
     pub fn fits(self, kind: HandleKind) -> bool
-        ensures { result ≡ handle_fits (want_of self) kind }
+        ensures { result ≡ handle_fits self kind }
     {
         match self {
             Wanted::Sender => kind == HandleKind::Sender,

@@ -1,8 +1,7 @@
 -- What a call that begins takes over from the names.
-use Rattle.std.proofs.Common.{◌≡◌, ℕ, nat_eq, List, Bool, true, false, not, ◌&&◌, ◌||◌, if◌then◌else◌, Option, None, Some, is_some, ◌⊎◌, inl, inr, refl, sym, ap, ◌∙◌, subst}
-use Rattle.std.specs.List.{list_all}
+use Rattle.std.proofs.Common.{◌≡◌, ℕ, nat_eq, List, Bool, true, false, not, if◌then◌else◌, Option, None, Some, is_some, ◌⊎◌, inl, inr, refl, sym, ap, ◌∙◌, subst}
 use Rattle.std.specs.Map.{lookup}
-use Rattle.std.specs.Option.{option_map, option_map_or}
+use Rattle.std.specs.Option.{option_map, option_map_or, option_or}
 use Rattle.event_listener.specs.declared.key.Key.{Key}
 use Rattle.channel_calls.specs.Asks.{lent}
 use Rattle.channel_calls.specs.Turns.{held_on}
@@ -15,17 +14,26 @@ use Rattle.channel_world_model.specs.Asked.{KeysHeld as HeldBy, poll_asked}
 use Rattle.channel_world_model.specs.Lines.{without_waiter}
 use Rattle.channel_world_model.specs.Names.{Directory, at, is_taken}
 use Rattle.channel_world_model.specs.Names as model
-use Rattle.channel_world_model.specs.Refusal.{uses, is_live, are_fit, takes_borrowed}
+use Rattle.channel_world_model.proofs.DirectoryLemmas.{taken_seen}
+use Rattle.channel_world_model.proofs.LawSteps.{second_reason}
+use Rattle.channel_world_model.specs.Plan.{plan_of}
+use Rattle.channel_world_model.specs.Refusal.{handle_fits, unfit_handle, unfit_operation, through_refusal, planned_refusal}
 use Rattle.channel_world_model.specs.declared.call.Call.{Call}
 use Rattle.channel_world_model.specs.declared.call.Call.TheVariants as call
 use Rattle.channel_world_model.specs.declared.name.HandleId.{HandleId}
 use Rattle.channel_world_model.specs.declared.name.OpId.{OpId}
 use Rattle.channel_world_model.specs.declared.name.Waiter.{Waiter}
 use Rattle.channel_world_model.specs.declared.name.Waiter.TheVariants.{Op}
+use Rattle.channel_world_model.specs.declared.plan.Plan.{Plan}
+use Rattle.channel_world_model.specs.declared.plan.Plan.TheVariants as plan
+use Rattle.channel_world_model.specs.declared.plan.Wanted.{Wanted}
+use Rattle.channel_world_model.specs.declared.plan.Wanted.TheVariants.{Receiver, Any}
+use Rattle.channel_world_model.specs.declared.refusal.WorldRefusal.{WorldRefusal}
+use Rattle.channel_world_model.specs.declared.refusal.WorldRefusal.TheVariants.{OpUnderWay, NameTaken}
 use Rattle.channel_world_runs.specs.Bookkeeping.{asks, names_begun, lent_to_poll, polled_ask, with_operation}
 use Rattle.channel_world_runs.specs.Order.{placed}
 use Rattle.channel_world_runs.specs.Owners.{NameStatus, free, retired, invalid, rests, waits, polled, status_on, status_by, operation_status, status, wait_of, subject, Suits}
-use Rattle.channel_world_runs.specs.Refusal.{begin_refusal, meets_poll, takes_used, takes_again}
+use Rattle.channel_world_runs.specs.Refusal.{under_way_in, begin_refusal, again_planned, takes_again}
 use Rattle.channel_world_runs.specs.NameTable.{key_of, is_polled, operation_of, names_of, held_of}
 use Rattle.channel_world_model.specs.Lines.{line_of_kind}
 use Rattle.channel_world_runs.specs.declared.names.OnReturn.{OnReturn}
@@ -64,9 +72,10 @@ Ordered w x f =
     ((x ≡ retired) × ((ws : List Waiter) → f ws ≡ ws))
     ⊎ (((ws : List Waiter) → f ws ≡ placed w ws) ⊎ ((x ≡ retired) × ((ws : List Waiter) → f ws ≡ without_waiter w ws)))
 
-pub handle_there : (o : Option HandleEntry) → is_some (option_map (λ (h : HandleEntry). h.handle) o) ≡ true → (x : HandleEntry) × (o ≡ Some x)
-handle_there None h = absurd (let no : false ≡ true = h in cc)
-handle_there (Some x) h = (x, refl)
+-- neither of two reasons is there where there is none
+first_none : (first other : Option WorldRefusal) → option_or first other ≡ None → first ≡ None
+first_none None other e = refl
+first_none (Some x) other e = cc e
 
 if_none : {X : Type 0} (b : Bool) (x : X) (y : Option X) → (if b then Some x else y) ≡ None → (b ≡ false) × (y ≡ None)
 if_none true x y e = absurd (let no : Some x ≡ None = e in cc)
@@ -116,41 +125,60 @@ module _ {T : Type 0} where
     pub works : (line : WaitList) → now ≡ polled line → subject e ≡ Some name
     pub order : Ordered name now f
 
-  -- ---- what lives under a name
+  -- ---- what a call finds
 
-  pub there : (o : Option (Operation T)) → is_some (option_map operation_of o) ≡ true → (x : Operation T) × (o ≡ Some x)
-  there None h = absurd (let no : false ≡ true = h in cc)
-  there (Some x) h = (x, refl)
+  -- the operation lives, and no poll of it is under way
+  abbrev pub IsFree : NameTable T → OpId → Type 0
+  IsFree r op = (o : Operation T) × (at op.0 r.operations ≡ Some o) × (is_polled o.poll_state ≡ false)
 
-  -- a call that is not refused
+  -- the handle lives, no poll of it as a stream is under way, and it is as wanted
+  abbrev pub IsFitting : NameTable T → Wanted → HandleId → Type 0
+  IsFitting r wanted handle =
+      (h : HandleEntry) × (at handle.0 r.handles ≡ Some h) × (is_polled h.poll_state ≡ false) × (handle_fits wanted h.handle.kind ≡ true)
+
+  -- what a call polls, or takes for good
+  abbrev pub Finds : NameTable T → Plan → Type 0
+  Finds r (plan.Polls op) = IsFree r op
+  Finds r (plan.GivesUp op) = IsFree r op
+  Finds r (plan.Streams receiver) = IsFitting r Receiver receiver
+  Finds r (plan.Drops handle) = IsFitting r Any handle
+  Finds r p = Unit {0}
+
+  -- a call that is not refused, or only since it takes what is borrowed
   pub record Admitted (r : NameTable T) (c : Call T) : Type 0 where
-    pub live : list_all (is_live (names_of r)) (uses c) ≡ true
-    pub fit : are_fit (names_of r) c ≡ true
-    pub free_of_polls : meets_poll r c ≡ false
+    pub finds : Finds r (plan_of c)
     pub new : takes_again r c ≡ false
 
+  free_found : (o : Option (Operation T))
+      → unfit_operation (option_map_or (λ (x : Operation T). is_polled x.poll_state) o false) (option_map operation_of o) ≡ None
+      → (x : Operation T) × (o ≡ Some x) × (is_polled x.poll_state ≡ false)
+  free_found None e = cc e
+  free_found (Some x) e = (x, refl, second_reason None (is_polled x.poll_state) OpUnderWay e)
+
+  fitting_found : (wanted : Wanted) (o : Option HandleEntry)
+      → unfit_handle (option_map_or (λ (h : HandleEntry). is_polled h.poll_state) o false) wanted (option_map (λ (h : HandleEntry). h.handle) o) ≡ None
+      → (h : HandleEntry) × (o ≡ Some h) × (is_polled h.poll_state ≡ false) × (handle_fits wanted h.handle.kind ≡ true)
+  fitting_found wanted None e = cc e
+  fitting_found wanted (Some h) e =
+      let n = if_none (not (handle_fits wanted h.handle.kind)) _ _ e in
+      (h, refl, second_reason None (is_polled h.poll_state) OpUnderWay n.1, not_false _ n.0)
+
+  finds_planned : (r : NameTable T) (p : Plan) → planned_refusal (under_way_in r) (names_of r) p ≡ None → Finds r p
+  finds_planned r (plan.Polls op) e = free_found (at op.0 r.operations) (seen.polling_seen r op ∙ e)
+  finds_planned r (plan.GivesUp op) e = free_found (at op.0 r.operations) (seen.polling_seen r op ∙ e)
+  finds_planned r (plan.Streams receiver) e = fitting_found Receiver (at receiver.0 r.handles) (seen.through_seen r Receiver receiver ∙ first_none _ _ e)
+  finds_planned r (plan.Drops handle) e = fitting_found Any (at handle.0 r.handles) (seen.through_seen r Any handle ∙ first_none _ _ e)
+  finds_planned r p e = tt
+
+  takes_new : (r : NameTable T) (p : Plan) → planned_refusal (under_way_in r) (names_of r) p ≡ None → again_planned r p ≡ false
+  takes_new r (plan.Makes wanted handle op kind) e =
+      sym (taken_seen operation_of op.0 r.operations) ∙ second_reason (through_refusal (under_way_in r) (names_of r) wanted handle) _ NameTaken e
+  takes_new r (plan.Mints wanted from new to) e =
+      sym (taken_seen (λ (h : HandleEntry). h.handle) new.0 r.handles) ∙ second_reason (through_refusal (under_way_in r) (names_of r) wanted from) _ NameTaken e
+  takes_new r p e = refl
+
   pub admitted : (r : NameTable T) (c : Call T) → begin_refusal r c ≡ None → Admitted r c
-  admitted r c h =
-      let a = if_none (not (list_all (is_live (names_of r)) (uses c))) _ _ h in
-      let b = if_none (not (are_fit (names_of r) c)) _ _ a.1 in
-      let d = if_none (meets_poll r c) _ _ b.1 in
-      let e = if_none (takes_borrowed (names_of r) c || takes_used r c) _ _ d.1 in
-      let f = if_none (takes_again r c) _ None e.1 in
-      record { live = not_false _ a.0; fit = not_false _ b.0; free_of_polls = d.0; new = f.0 }
-
-  pub lives_as : (r : NameTable T) (op : OpId) → (is_some (at op.0 (names_of r).operations) && true) ≡ true
-      → (o : Operation T) × (at op.0 r.operations ≡ Some o)
-  lives_as r op h =
-      there (at op.0 r.operations)
-      (ap (λ o. is_some o) (sym (seen.operation_at r op.0))
-      ∙ (sym (seen.and_true (is_some (at op.0 (names_of r).operations))) ∙ h))
-
-  pub handle_as : (r : NameTable T) (handle : HandleId) → (is_some (at handle.0 (names_of r).handles) && true) ≡ true
-      → (h : HandleEntry) × (at handle.0 r.handles ≡ Some h)
-  handle_as r handle h =
-      handle_there (at handle.0 r.handles)
-      (ap (λ o. is_some o) (sym (seen.handle_at r handle.0))
-      ∙ (sym (seen.and_true (is_some (at handle.0 (names_of r).handles))) ∙ h))
+  admitted r c e = record { finds = finds_planned r (plan_of c) e; new = takes_new r (plan_of c) e }
 
   -- ---- an operation
 
@@ -204,18 +232,8 @@ module _ {T : Type 0} where
   pub op_is : (r : NameTable T) (op : OpId) (o : Operation T) → at op.0 r.operations ≡ Some o → status r (Op op) ≡ op_status o
   op_is r op o e = ap (λ x. status_by op_status x) (found op.0 r.operations o e)
 
-  pub find : (r : NameTable T) (op : OpId) → Sane r → (is_some (at op.0 (names_of r).operations) && true) ≡ true
-      → option_map_or (λ (o : Operation T). is_polled o.poll_state) (at op.0 r.operations) false ≡ false → Found r op
-  find r op sane live idle =
-      let o = lives_as r op live in
-      record {
-        operation = o.0;
-        is = o.1;
-        loose = (
-          sym (ap (λ x. option_map_or (λ (o : Operation T). is_polled o.poll_state) x false) o.1) ∙ idle,
-          λ bad. sane (Op op) (op_is r op o.0 o.1 ∙ bad),
-        );
-      }
+  pub find : (r : NameTable T) (op : OpId) → Sane r → IsFree r op → Found r op
+  find r op sane o = record { operation = o.0; is = o.1; loose = (o.2, λ bad. sane (Op op) (op_is r op o.0 o.1 ∙ bad)) }
 
   pub key_is : (r : NameTable T) (op : OpId) (o : Operation T) → at op.0 r.operations ≡ Some o → held_of r (Op op) ≡ key_of o.poll_state
   key_is r op o e = ap (λ x. option_map_or (λ (o : Operation T). key_of o.poll_state) x None) e

@@ -1,5 +1,5 @@
 -- What each call takes over from the names as it begins.
-use Rattle.std.proofs.Common.{◌≡◌, nat_eq, true, false, ◌&&◌, ◌||◌, Option, None, Some, is_some, ◌⊎◌, inl, inr, refl, sym, ap, ◌∙◌, subst}
+use Rattle.std.proofs.Common.{◌≡◌, nat_eq, true, false, Option, None, Some, is_some, ◌⊎◌, inl, inr, refl, sym, ap, ◌∙◌, subst}
 use Rattle.std.specs.Map.{lookup}
 use Rattle.std.specs.Option.{option_map, option_map_or}
 use Rattle.event_listener.specs.declared.key.Key.{Key}
@@ -13,7 +13,7 @@ use Rattle.channel_world_model.specs.Answer.{weak_of, strong_of}
 use Rattle.channel_world_model.specs.Asked.{KeysHeld as HeldBy, refusal_asked, giving_up_asked, drop_asked}
 use Rattle.channel_world_model.specs.Lines.{without_waiter}
 use Rattle.channel_world_model.specs.Names.{at, is_taken, without_name}
-use Rattle.channel_world_model.specs.Refusal.{handle_fits, a_receiver}
+use Rattle.channel_world_model.specs.Refusal.{handle_fits}
 use Rattle.channel_world_model.specs.declared.call.Call.{Call}
 use Rattle.channel_world_model.specs.declared.call.Call.TheVariants as call
 use Rattle.channel_world_model.specs.declared.name.Handle.{Handle}
@@ -23,12 +23,13 @@ use Rattle.channel_world_model.specs.declared.name.HandleKind.TheVariants as han
 use Rattle.channel_world_model.specs.declared.name.OpId.{OpId}
 use Rattle.channel_world_model.specs.declared.name.Waiter.{Waiter}
 use Rattle.channel_world_model.specs.declared.name.Waiter.TheVariants.{Op, Stream}
+use Rattle.channel_world_model.specs.declared.plan.Wanted.{Wanted}
+use Rattle.channel_world_model.specs.declared.plan.Wanted.TheVariants.{Receiver, Any}
 use Rattle.channel_world_runs.specs.Bookkeeping.{asks, on_return_of, names_begun, lent_by, handed_over_by, leave_handle_of, new_from, operation_named, handle_named}
 use Rattle.channel_world_runs.specs.Order.{placed, order_begun}
 use Rattle.channel_world_model.specs.Plan.{plan_of}
 use Rattle.channel_world_runs.specs.Owners.{NameStatus, free, retired, invalid, polled, status_on, no_stream_status, stream_status, status_by, status, wait_of, subject, Suits}
-use Rattle.channel_world_runs.specs.Refusal.{is_stream_polled}
-use Rattle.channel_world_runs.specs.NameTable.{key_of, is_polled, operation_of, names_of, handle_at, held_of, with_lent, with_borrowed, with_poll_state}
+use Rattle.channel_world_runs.specs.NameTable.{key_of, is_polled, operation_of, handle_at, held_of, with_lent, with_borrowed, with_poll_state}
 use Rattle.channel_world_model.specs.Lines.{line_of_kind}
 use Rattle.channel_world_runs.specs.declared.names.OnReturn.{OnReturn}
 use Rattle.channel_world_runs.specs.declared.names.OnReturn.TheVariants as on_return
@@ -41,10 +42,9 @@ use Rattle.channel_world_runs.specs.declared.names.PollState.TheVariants.{Rests,
 use Rattle.channel_world_runs.specs.declared.name_table.NameTable.{NameTable}
 use Rattle.channel_world_runs.proofs.AskFacts.{of_cloned, of_upgraded}
 use Rattle.channel_world_runs.proofs.AskStarts.{ask_holds}
-use Rattle.channel_world_runs.proofs.OwnerBegins.{IsLoose, held_in, Quiet, Touches, Admitted, handle_as, untaken, on_line, as_model, Sane, Found, find, key_is, held_is, loose_is, polls_with, polls}
+use Rattle.channel_world_runs.proofs.OwnerBegins.{IsLoose, held_in, Quiet, Touches, Admitted, IsFitting, untaken, on_line, as_model, Sane, Found, find, key_is, held_is, loose_is, polls_with, polls}
 use Rattle.channel_world_runs.proofs.OwnerNames.{Sets, Same, same_both, sets_same, op_status, handle_entry_status, found, op_set, op_spent, handle_set, handle_spent, handle_changed, lent_same, borrowed_same, handed_over_same}
 use Rattle.channel_world_runs.proofs.RefusalLemmas.{handle_through}
-use Rattle.channel_world_runs.proofs.RefusalLemmas as seen
 
 abbrev Idle : HandleKind → PollState → Type 0
 Idle k s = (is_polled s ≡ false) × (stream_status k s ≡ invalid → ⊥)
@@ -54,7 +54,7 @@ no_stream_held : (s : PollState) → (no_stream_status s ≡ invalid → ⊥)
 no_stream_held Rests f = (refl, tt)
 no_stream_held s f = absurd (f refl)
 
-is_receiver : (k : HandleKind) → handle_fits a_receiver k ≡ true → k ≡ handle_kind.Receiver
+is_receiver : (k : HandleKind) → handle_fits Receiver k ≡ true → k ≡ handle_kind.Receiver
 is_receiver handle_kind.Receiver e = refl
 is_receiver k e = absurd (let no : false ≡ true = e in cc)
 
@@ -190,19 +190,9 @@ module _ {T : Type 0} where
       → status r (Stream handle) ≡ handle_entry_status h
   hold_is r handle h e = ap (λ x. status_by handle_entry_status x) (found handle.0 r.handles h e)
 
-  see : (r : NameTable T) (handle : HandleId) → Sane r → (is_some (at handle.0 (names_of r).handles) && true) ≡ true
-      → (is_stream_polled handle.0 r || false) ≡ false → Seen r handle
-  see r handle sane live idle =
-      let h = handle_as r handle live in
-      record {
-        handle_entry = h.0;
-        is = h.1;
-        idle = (
-          sym (ap (λ x. option_map_or (λ (h : HandleEntry). is_polled h.poll_state) x false) h.1)
-              ∙ (sym (seen.or_false (is_stream_polled handle.0 r)) ∙ idle),
-          λ bad. sane (Stream handle) (hold_is r handle h.0 h.1 ∙ bad),
-        );
-      }
+  see : (r : NameTable T) (wanted : Wanted) (handle : HandleId) → Sane r → IsFitting r wanted handle → Seen r handle
+  see r wanted handle sane h =
+      record { handle_entry = h.0; is = h.1; idle = (h.2, λ bad. sane (Stream handle) (hold_is r handle h.0 h.1 ∙ bad)) }
 
   stream_key : (r : NameTable T) (handle : HandleId) (h : HandleEntry) → at handle.0 r.handles ≡ Some h
       → held_of r (Stream handle) ≡ key_of h.poll_state
@@ -233,17 +223,6 @@ module _ {T : Type 0} where
         works = λ line i. absurd (let no : retired ≡ polled line = i in cc);
         order = inr (inr (refl, λ ws. refl));
       }
-
-  receives : (r : NameTable T) (handle : HandleId) (h : HandleEntry) → at handle.0 r.handles ≡ Some h
-      → (option_map_or (λ (h : Handle). handle_fits a_receiver h.kind) (at handle.0 (names_of r).handles) false && true) ≡ true
-      → h.handle.kind ≡ handle_kind.Receiver
-  receives r handle h e fit =
-      is_receiver h.handle.kind (
-      ap (λ x. option_map_or (λ (h : Handle). handle_fits a_receiver h.kind) (option_map (λ (h : HandleEntry). h.handle) x) false)
-      (sym e)
-      ∙ (ap (λ x. option_map_or (λ (h : Handle). handle_fits a_receiver h.kind) x false) (sym (seen.handle_at r handle.0))
-      ∙ (sym (seen.and_true _) ∙ fit))
-      )
 
   streams : (r : NameTable T) (handle : HandleId) (f : Seen r handle) → f.handle_entry.handle.kind ≡ handle_kind.Receiver
       → Touches (status r) (status (names_begun r (call.PollNext handle))) (on_return.PollNext handle) (asks r (call.PollNext handle)) (placed (Stream handle))
@@ -300,16 +279,15 @@ module _ {T : Type 0} where
   begins_so r (call.NewSend op sender msg) sane a = inr (names_operation r op sender _ refl a.new)
   begins_so r (call.NewRecv op receiver) sane a = inr (names_operation r op receiver _ refl a.new)
   begins_so r (call.NewClosed op sender) sane a = inr (names_operation r op sender _ refl a.new)
-  begins_so r (call.Poll op) sane a = inr (polls r op (find r op sane a.live a.free_of_polls))
-  begins_so r (call.PollRefused op) sane a = inr (refuses r op (find r op sane a.live a.free_of_polls))
-  begins_so r (call.GiveUp op) sane a = inr (gives_up r op (find r op sane a.live a.free_of_polls))
+  begins_so r (call.Poll op) sane a = inr (polls r op (find r op sane a.finds))
+  begins_so r (call.PollRefused op) sane a = inr (refuses r op (find r op sane a.finds))
+  begins_so r (call.GiveUp op) sane a = inr (gives_up r op (find r op sane a.finds))
   begins_so r (call.SendIsTerminated op) sane a = inl
       (passes r (lent_by (at op.0 r.operations) r) (leave_handle_of (at op.0 r.operations)) _ (lent_by_same r (at op.0 r.operations))
       (leaves_nobody (at op.0 r.operations)) (refl, refl))
   begins_so r (call.PollNext receiver) sane a =
-      let f = see r receiver sane a.live a.free_of_polls in
-      inr (streams r receiver f (receives r receiver f.handle_entry f.is a.fit))
-  begins_so r (call.Drop handle) sane a = inr (drops r handle (see r handle sane a.live a.free_of_polls))
+      let h = a.finds in inr (streams r receiver (see r Receiver receiver sane h) (is_receiver h.0.handle.kind h.3))
+  begins_so r (call.Drop handle) sane a = inr (drops r handle (see r Any handle sane a.finds))
   begins_so r (call.TryClone handle new) sane a =
       let p = of_cloned (Plain T) (refl, refl) (λ side. (refl, refl)) (handle_at handle r) in
       inr (names_handle r handle new (λ k. k) (handle_at handle r) _ a.new p.0 p.1)

@@ -1,30 +1,29 @@
 -- Who is pending and was woken may be polled: a stream also where a live operation borrows its receiver.
-use Rattle.std.proofs.Common.{◌≡◌, Bool, true, false, ◌&&◌, ◌||◌, nat_eq, List, [], ◌∷◌, Option, None, Some, is_some, inl, inr, refl, ap, ◌∙◌}
+use Rattle.std.proofs.Common.{◌≡◌, Bool, true, false, ◌||◌, nat_eq, List, [], ◌∷◌, Option, None, Some, inl, inr, refl, ap, ◌∙◌}
 use Rattle.std.specs.List.{filter}
 use Rattle.std.specs.Map.{lookup}
-use Rattle.std.specs.Option.{option_map, option_map_or}
+use Rattle.std.specs.Option.{option_map_or}
 use Rattle.channel_calls.specs.declared.stage.ListenerRef.{ListenerRef}
 use Rattle.channel_calls.specs.declared.stage.WaitList.TheVariants.{Sends, Receives, Streams, Closings}
 use Rattle.channel_world_model.proofs.WaiterLemmas.{decided, or_true, same_sound}
 use Rattle.channel_world_model.specs.Lines.{same_waiter, is_among}
-use Rattle.channel_world_model.specs.Names as model
 use Rattle.channel_world_model.specs.Names.{at}
-use Rattle.channel_world_model.specs.Refusal.{handle_fits, operation_fits, a_receiver, an_operation}
+use Rattle.channel_world_model.specs.Refusal.{handle_fits}
 use Rattle.channel_world_model.specs.Settling.{poll_of}
 use Rattle.channel_world_model.specs.declared.call.Call.{Call}
 use Rattle.channel_world_model.specs.declared.call.Call.TheVariants as call
-use Rattle.channel_world_model.specs.declared.name.Handle.{Handle}
 use Rattle.channel_world_model.specs.declared.name.HandleId.{HandleId}
 use Rattle.channel_world_model.specs.declared.name.HandleKind.{HandleKind}
 use Rattle.channel_world_model.specs.declared.name.HandleKind.TheVariants as handle_kind
 use Rattle.channel_world_model.specs.declared.name.OpId.{OpId}
 use Rattle.channel_world_model.specs.declared.name.Waiter.{Waiter}
 use Rattle.channel_world_model.specs.declared.name.Waiter.TheVariants.{Op, Stream}
+use Rattle.channel_world_model.specs.declared.plan.Wanted.TheVariants.{Receiver}
 use Rattle.channel_world_runs.specs.Order.{order_begun}
 use Rattle.channel_world_runs.specs.OwnerOrder.{was_woken, woken_in}
 use Rattle.channel_world_runs.specs.Owners.{NameStatus, free, retired, invalid, rests, waits, polled, no_stream_status, stream_status, operation_status, status_by, status}
 use Rattle.channel_world_runs.specs.Refusal.{begin_refusal}
-use Rattle.channel_world_runs.specs.NameTable.{is_polled, operation_of, names_of}
+use Rattle.channel_world_runs.specs.NameTable.{is_polled}
 use Rattle.channel_world_runs.specs.declared.names.HandleEntry.{HandleEntry}
 use Rattle.channel_world_runs.specs.declared.names.Operation.{Operation}
 use Rattle.channel_world_model.specs.declared.name.OperationKind.{OperationKind}
@@ -33,7 +32,7 @@ use Rattle.channel_world_runs.specs.declared.names.PollState.{PollState}
 use Rattle.channel_world_runs.specs.declared.names.PollState.TheVariants.{Rests, Waits, IsPolled}
 use Rattle.channel_world_runs.specs.declared.name_table.NameTable.{NameTable}
 use Rattle.channel_world_runs.proofs.OwnerBegins.{Admitted}
-use Rattle.channel_world_runs.proofs.RefusalLemmas.{handle_at, operation_at}
+use Rattle.channel_world_runs.proofs.RefusalLemmas.{polling_seen}
 
 -- ---- who was woken
 
@@ -115,28 +114,14 @@ module _ {T : Type 0} where
   operation_admitted r op h w e =
       let x = lives_there (lookup (nat_eq op.0) r.operations) h w e in
       let there : at op.0 r.operations ≡ Some x.0 = ap (λ (o : Option (Option (Operation T))). option_map_or (λ (y : Option (Operation T)). y) o None) x.1 in
-      let seen : at op.0 (names_of r).operations ≡ Some (operation_of x.0) = operation_at r op.0 ∙ ap (λ (o : Option (Operation T)). option_map operation_of o) there in
-      record {
-        live = ap (λ (o : Option (model.ModelOperation T)). is_some o && true) seen;
-        fit = ap (λ (o : Option (model.ModelOperation T)). option_map_or (operation_fits an_operation) o false && true) seen;
-        free_of_polls = ap (λ (o : Option (Operation T)). option_map_or (λ (y : Operation T). is_polled y.poll_state) o false) there ∙ x.2;
-        new = refl;
-      }
+      record { finds = (x.0, there, x.2); new = refl }
 
   stream_admitted : (r : NameTable T) (receiver : HandleId) (h : ListenerRef) (w : Bool) → status r (Stream receiver) ≡ waits h w
       → Admitted r (call.PollNext receiver)
   stream_admitted r receiver h w e =
       let x = stands_there (lookup (nat_eq receiver.0) r.handles) h w e in
       let there : at receiver.0 r.handles ≡ Some x.0 = ap (λ (o : Option (Option HandleEntry)). option_map_or (λ (y : Option HandleEntry). y) o None) x.1 in
-      let seen : at receiver.0 (names_of r).handles ≡ Some x.0.handle = handle_at r receiver.0 ∙ ap (λ (o : Option HandleEntry). option_map (λ (y : HandleEntry). y.handle) o) there in
-      record {
-        live = ap (λ (o : Option Handle). is_some o && true) seen;
-        fit = ap (λ (o : Option Handle). option_map_or (λ (y : Handle). handle_fits a_receiver y.kind) o false && true) seen
-            ∙ ap (λ (k : HandleKind). handle_fits a_receiver k && true) x.2;
-        free_of_polls = ap (λ (o : Option HandleEntry). option_map_or (λ (y : HandleEntry). is_polled y.poll_state) o false || false) there
-            ∙ ap (λ (z : Bool). z || false) x.3;
-        new = refl;
-      }
+      record { finds = (x.0, there, x.3, ap (λ (k : HandleKind). handle_fits Receiver k) x.2); new = refl }
 
   admitted_so : (r : NameTable T) (w : Waiter) (h : ListenerRef) → status r w ≡ waits h true → Admitted r (poll_of w)
   admitted_so r (Op op) h e = operation_admitted r op h true e
@@ -157,4 +142,4 @@ module _ {T : Type 0} where
 
   -- an operation that may be polled is not refused
   pub poll_accepted : (r : NameTable T) (op : OpId) → Admitted r (call.Poll op) → begin_refusal r (call.Poll op) ≡ None
-  poll_accepted r op a = rw (a.live, a.fit, a.free_of_polls) refl
+  poll_accepted r op a = let o = a.finds in sym (polling_seen r op) ∙ rw (o.1, o.2) refl

@@ -1,5 +1,5 @@
 -- What lives under which name.
-use Rattle.std.specs.Prelude.{◌≡◌, ℕ, ◌+◌, ◌-◌, ◌^◌, min, Bool, true, false, not, if◌then◌else◌, nat_eq, List, [], ◌∷◌, map, slice_get, Option, None, Some}
+use Rattle.std.specs.Prelude.{◌≡◌, ℕ, ◌+◌, ◌-◌, ◌^◌, min, Bool, true, false, not, nat_eq, List, [], ◌∷◌, map, slice_get, Option, None, Some}
 use Rattle.std.specs.List.{list_any}
 use Rattle.std.specs.Option.{option_map, option_map_or}
 use Rattle.event_listener.specs.declared.key.Key.{Key}
@@ -14,8 +14,6 @@ use Rattle.channel_world_model.specs.declared.name.HandleKind.{HandleKind}
 use Rattle.channel_world_model.specs.declared.name.HandleKind.TheVariants as handle_kind
 use Rattle.channel_world_model.specs.declared.name.OpId.{OpId}
 use Rattle.channel_world_model.specs.declared.name.Waiter.TheVariants.{Op, Stream}
-use Rattle.channel_world_model.specs.declared.refusal.WorldRefusal.{WorldRefusal}
-use Rattle.channel_world_model.specs.declared.refusal.WorldRefusal.TheVariants.{OpUnderWay}
 use Rattle.channel_world_runs.specs.declared.names.Agent.{Agent}
 use Rattle.channel_world_runs.specs.declared.names.HandleEntry.{HandleEntry}
 use Rattle.channel_world_runs.specs.declared.names.Operation.{Operation}
@@ -41,10 +39,6 @@ abbrev pub is_polled : PollState → Bool
 is_polled Rests = false
 is_polled (Waits key is_woken) = false
 is_polled (IsPolled brings) = true
-
--- a poll under way stands against it
-abbrev pub polled_refusal : PollState → Option WorldRefusal
-polled_refusal s = if is_polled s then Some OpUnderWay else None
 
 abbrev pub is_woken : PollState → Bool
 is_woken (Waits key woken) = woken

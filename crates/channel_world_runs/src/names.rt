@@ -1,7 +1,6 @@
 //! What lives under which name, and what a call under way has to write back.
 
 use channel_world_model::name::{Handle, HandleId, HandleKind, OpId, OperationKind};
-use channel_world_model::refusal::WorldRefusal;
 use event_listener::key::Key;
 
 /// How an operation, or a receiver as a stream, stands.
@@ -25,7 +24,7 @@ pub enum PollState {
 
 impl PollState {
     ghost use Rattle.std.specs.Prelude.{◌≡◌};
-    ghost use Rattle.channel_world_runs.specs.NameTable.{key_of, poll_state_with, is_polled, polled_refusal, is_woken, told};
+    ghost use Rattle.channel_world_runs.specs.NameTable.{key_of, poll_state_with, is_polled, is_woken, told};
 
     /// The listener of one that is pending.
     pub(crate) fn key(self) -> Option<Key>
@@ -57,17 +56,6 @@ impl PollState {
         match self {
             PollState::IsPolled { brings: _ } => true,
             PollState::Rests | PollState::Waits { .. } => false,
-        }
-    }
-
-    /// Why nothing is begun that a poll under way stands against.
-    pub(crate) fn refusal(self) -> Option<WorldRefusal>
-        ensures { result ≡ polled_refusal self }
-    {
-        if self.is_polled() {
-            Some(WorldRefusal::OpUnderWay)
-        } else {
-            None
         }
     }
 

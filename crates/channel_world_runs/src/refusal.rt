@@ -1,78 +1,111 @@
 //! Which calls are not begun, and why.
-ghost use Rattle.std.specs.Prelude.{◌≡◌, Some, None, if◌then◌else◌};
-ghost use Rattle.channel_world_runs.specs.Refusal.{or_else};
+ghost use Rattle.std.specs.Prelude.{◌≡◌, ◌||◌, Some};
+ghost use Rattle.channel_world_model.specs.Refusal.{unlike_handles};
+ghost use Rattle.channel_world_runs.specs.NameTable.{is_polled};
 
 use crate::name_table::NameTable;
+use crate::names::HandleEntry;
 use channel_world_model::call::Call;
 use channel_world_model::name::{HandleId, HandleKind, OpId, OperationKind};
 use channel_world_model::plan::{Plan, Wanted};
 use channel_world_model::refusal::WorldRefusal;
 
-/// The reason, where it is so.
-fn where_so(is_so: bool, refusal: WorldRefusal) -> Option<WorldRefusal>
-    ensures { result ≡ (if is_so then Some refusal else None) }
-{
-    if is_so { Some(refusal) } else { None }
+impl HandleEntry {
+    ghost use Rattle.std.specs.Prelude.{◌≡◌, nat_lt, Some};
+    ghost use Rattle.channel_world_model.specs.Refusal.{unfit_handle, borrowed_handle};
+    ghost use Rattle.channel_world_runs.specs.NameTable.{is_polled};
+
+    /// Why a call doesn't go through it that wants such a one.
+    fn unfit(self, wanted: Wanted) -> Option<WorldRefusal>
+        ensures { result ≡ unfit_handle (is_polled self.poll_state) wanted (Some self.handle) }
+    {
+        if !wanted.fits(self.handle.kind) {
+            return Some(WorldRefusal::WrongKind);
+        }
+        self.poll_state.is_polled().then_some(WorldRefusal::OpUnderWay)
+    }
+
+    /// Why a call doesn't take it whole: an operation borrows it, or a call under way uses it.
+    fn borrowed(self) -> Option<WorldRefusal>
+        ensures { result ≡ borrowed_handle (nat_lt 0 self.users) (Some self.handle) }
+    {
+        let is_borrowed = 0 < self.handle.borrowers || 0 < self.users;
+        is_borrowed.then_some(WorldRefusal::Borrowed)
+    }
 }
 
-/// The first of two reasons, if there is one.
-fn or_else(first: Option<WorldRefusal>, other: Option<WorldRefusal>) -> Option<WorldRefusal>
-    ensures { result ≡ or_else first other }
+/// Why a call doesn't go through these two, which have to be two senders or two receivers.
+fn unlike(a: HandleEntry, b: HandleEntry) -> Option<WorldRefusal>
+    ensures { result ≡ unlike_handles (is_polled a.poll_state || is_polled b.poll_state) (Some a.handle) (Some b.handle) }
 {
-    match first {
-        Some(refusal) => Some(refusal),
-        None => other,
+    match (a.handle.kind, b.handle.kind) {
+        (HandleKind::Sender, HandleKind::Sender)
+        | (HandleKind::Receiver, HandleKind::Receiver) => {
+            let is_polled = a.poll_state.is_polled() || b.poll_state.is_polled();
+            is_polled.then_some(WorldRefusal::OpUnderWay)
+        }
+        _ => Some(WorldRefusal::WrongKind),
     }
 }
 
 impl<T> NameTable<T> {
-    ghost use Rattle.std.specs.Prelude.{◌≡◌};
-    ghost use Rattle.channel_world_model.specs.Names.{at};
-    ghost use Rattle.channel_world_model.specs.Plan.{want_of};
-    ghost use Rattle.channel_world_runs.specs.Refusal.{unfit_handle, unlike_handles, unfit_operation, unfit_send, borrowed_refusal, planned_refusal, begin_refusal};
+    ghost use Rattle.std.specs.Prelude.{◌≡◌, ◌||◌};
+    ghost use Rattle.std.specs.Option.{option_or};
+    ghost use Rattle.channel_world_model.specs.Refusal.{unfit_handle, unlike_handles, borrowed_handle, unfit_operation, unfit_send, planned_refusal};
+    ghost use Rattle.channel_world_model.specs.declared.name.Waiter.TheVariants.{Op, Stream};
+    ghost use Rattle.channel_world_runs.specs.NameTable.{handle_at, operation_at, names_of};
+    ghost use Rattle.channel_world_runs.specs.Refusal.{under_way_in, begin_refusal};
 
-    /// Why nothing is begun through this handle, of which this is wanted.
+    /// Why a call doesn't go through this handle that wants such a one.
     fn unfit_handle(&self, wanted: Wanted, handle: HandleId) -> Option<WorldRefusal>
-        ensures { result ≡ unfit_handle (want_of wanted) (at handle.0 self.now.handles) }
+        ensures { let u = under_way_in self.now in result ≡ unfit_handle (u.polled (Stream handle)) wanted (handle_at handle self.now) }
     {
-        let Some(handle_entry) = self.handles.get(handle.0) else {
-            return Some(WorldRefusal::UnknownName);
-        };
-        if !wanted.fits(handle_entry.handle.kind) {
-            return Some(WorldRefusal::WrongKind);
+        match self.handles.get(handle.0) {
+            Some(handle_entry) => (*handle_entry).unfit(wanted),
+            None => Some(WorldRefusal::UnknownName),
         }
-        handle_entry.poll_state.refusal()
     }
 
-    /// Why nothing is begun through these two, which are to be two senders or two receivers.
-    fn unlike_handles(&self, a: HandleId, b: HandleId) -> Option<WorldRefusal>
-        ensures { result ≡ unlike_handles (at a.0 self.now.handles) (at b.0 self.now.handles) }
+    /// Why it doesn't take this handle whole that wants such a one.
+    fn taken_handle(&self, wanted: Wanted, handle: HandleId) -> Option<WorldRefusal>
+        ensures { let u = under_way_in self.now in
+            result ≡ option_or (unfit_handle (u.polled (Stream handle)) wanted (handle_at handle self.now)) (borrowed_handle (u.used handle) (handle_at handle self.now)) }
     {
-        let (Some(a), Some(b)) = (self.handles.get(a.0), self.handles.get(b.0)) else {
-            return Some(WorldRefusal::UnknownName);
-        };
-        match (a.handle.kind, b.handle.kind) {
-            (HandleKind::Sender, HandleKind::Sender)
-            | (HandleKind::Receiver, HandleKind::Receiver) => {
-                or_else(a.poll_state.refusal(), b.poll_state.refusal())
-            }
-            _ => Some(WorldRefusal::WrongKind),
+        match self.handles.get(handle.0) {
+            Some(handle_entry) => (*handle_entry)
+                .unfit(wanted)
+                .or((*handle_entry).borrowed()),
+            None => Some(WorldRefusal::UnknownName),
+        }
+    }
+
+    /// Why it doesn't go through these two.
+    fn unlike_handles(&self, a: HandleId, b: HandleId) -> Option<WorldRefusal>
+        ensures { let u = under_way_in self.now in
+            result ≡ unlike_handles (u.polled (Stream a) || u.polled (Stream b)) (handle_at a self.now) (handle_at b self.now) }
+    {
+        match (self.handles.get(a.0), self.handles.get(b.0)) {
+            (Some(a), Some(b)) => unlike(*a, *b),
+            _ => Some(WorldRefusal::UnknownName),
         }
     }
 
     /// Why this operation is neither polled nor given up.
     fn unfit_operation(&self, op: OpId) -> Option<WorldRefusal>
-        ensures { result ≡ unfit_operation (at op.0 self.now.operations) }
+        ensures { let u = under_way_in self.now in result ≡ unfit_operation (u.polled (Op op)) (operation_at op self.now) }
     {
         match self.operations.get(op.0) {
-            Some(operation) => operation.poll_state.refusal(),
+            Some(operation) => {
+                let is_polled = operation.poll_state.is_polled();
+                is_polled.then_some(WorldRefusal::OpUnderWay)
+            }
             None => Some(WorldRefusal::UnknownName),
         }
     }
 
     /// Why this operation is not asked whether it has finished, as a send is.
     fn unfit_send(&self, op: OpId) -> Option<WorldRefusal>
-        ensures { result ≡ unfit_send (at op.0 self.now.operations) }
+        ensures { result ≡ unfit_send (operation_at op self.now) }
     {
         match self.operations.get(op.0) {
             Some(operation) => match operation.kind {
@@ -83,44 +116,27 @@ impl<T> NameTable<T> {
         }
     }
 
-    /// Why this handle is not taken whole: an operation borrows it, or a call under way uses it.
-    fn borrowed_refusal(&self, handle: HandleId) -> Option<WorldRefusal>
-        ensures { result ≡ borrowed_refusal (at handle.0 self.now.handles) }
-    {
-        match self.handles.get(handle.0) {
-            Some(handle_entry) => where_so(
-                0 < handle_entry.handle.borrowers || 0 < handle_entry.users,
-                WorldRefusal::Borrowed,
-            ),
-            None => None,
-        }
-    }
-
     /// Why a call of this plan is not begun.
     fn planned_refusal(&self, plan: Plan) -> Option<WorldRefusal>
-        ensures { result ≡ planned_refusal self.now plan }
+        ensures { result ≡ planned_refusal (under_way_in self.now) (names_of self.now) plan }
     {
         match plan {
             Plan::Through(wanted, handle) => self.unfit_handle(wanted, handle),
             Plan::ThroughBoth(a, b) => self.unlike_handles(a, b),
+            Plan::Makes(wanted, handle, op, _) => {
+                let is_taken = self.operations.is_taken(op.0);
+                let unfit = self.unfit_handle(wanted, handle);
+                unfit.or(is_taken.then_some(WorldRefusal::NameTaken))
+            }
             Plan::Polls(op) | Plan::GivesUp(op) => self.unfit_operation(op),
             Plan::Asks(op) => self.unfit_send(op),
-            Plan::Streams(receiver) => or_else(
-                self.unfit_handle(Wanted::Receiver, receiver),
-                self.borrowed_refusal(receiver),
-            ),
-            Plan::Drops(handle) => or_else(
-                self.unfit_handle(Wanted::Any, handle),
-                self.borrowed_refusal(handle),
-            ),
-            Plan::Makes(wanted, handle, op, _) => or_else(
-                self.unfit_handle(wanted, handle),
-                where_so(self.operations.is_taken(op.0), WorldRefusal::NameTaken),
-            ),
-            Plan::Mints(wanted, from, new, _) => or_else(
-                self.unfit_handle(wanted, from),
-                where_so(self.handles.is_taken(new.0), WorldRefusal::NameTaken),
-            ),
+            Plan::Streams(receiver) => self.taken_handle(Wanted::Receiver, receiver),
+            Plan::Drops(handle) => self.taken_handle(Wanted::Any, handle),
+            Plan::Mints(wanted, from, new, _) => {
+                let is_taken = self.handles.is_taken(new.0);
+                let unfit = self.unfit_handle(wanted, from);
+                unfit.or(is_taken.then_some(WorldRefusal::NameTaken))
+            }
         }
     }
 

@@ -1,6 +1,6 @@
 -- The calls, one by one.
-use Rattle.channel_world_runs.proofs.refinement.Words.{◌≡◌, ◌⊎◌, ◌&&◌, ◌==◌, ℕ, List, [], length, Bool, true, false, Option, None, Some, Err, refl, sym, ap, ◌∙◌, inl, inr, list_all, option_map, is_filled, is_refused, Channel, says, refused_reply, WaitList, Sends, Receives, Closings, Senders, Receivers, Outcome, Alone, MayLackRoom, ends, sends, force_sends, says_only, replying, after_leaving, is_finished, poll_refused_answer, made, dropped, clone_answer, downgrade_answer, upgrade_answer, drop_answer, weak_of, strong_of, AwakeIn, line_at, line_of_operation, ModelOperation, send, recv, closing, at, State, Call, Handle, HandleId, HandleKind, Sender, Receiver, WeakSender, WeakReceiver, OpId, Waiter, Op, Nothing, last_reason, untaken, poll_asked, refusal_asked, giving_up_asked, drop_asked, clone_asked, upgrade_asked, stream_of, KeysHeld, asked_in, Matches, CallsAreOver, refused_names, made_names, Refines, list_of}
-use Rattle.channel_world_model.specs.Refusal.{refusal, is_live, uses, are_fit, takes_borrowed, names_taken}
+use Rattle.channel_world_runs.proofs.refinement.Words.{◌≡◌, ◌⊎◌, ◌&&◌, ◌==◌, ℕ, List, [], length, Bool, true, Option, None, Some, Err, refl, sym, ap, ◌∙◌, inl, inr, option_map, is_filled, is_refused, Channel, says, refused_reply, WaitList, Sends, Receives, Closings, Senders, Receivers, Outcome, Alone, MayLackRoom, ends, sends, force_sends, says_only, replying, after_leaving, is_finished, poll_refused_answer, made, dropped, clone_answer, downgrade_answer, upgrade_answer, drop_answer, weak_of, strong_of, AwakeIn, line_at, line_of_operation, ModelOperation, send, recv, closing, at, State, Call, Handle, HandleId, HandleKind, Sender, Receiver, WeakSender, WeakReceiver, OpId, Waiter, Op, Nothing, second_reason, untaken, poll_asked, refusal_asked, giving_up_asked, drop_asked, clone_asked, upgrade_asked, stream_of, KeysHeld, asked_in, Matches, CallsAreOver, refused_names, made_names, Refines, list_of}
+use Rattle.channel_world_model.specs.Refusal.{refusal}
 use Rattle.event_listener.specs.declared.error.ListenError.TheVariants as listening
 use Rattle.channel_calls.specs.declared.error.Refused.TheVariants as unmade
 use Rattle.channel_calls.specs.declared.reply.Reply.TheVariants as reply
@@ -18,10 +18,6 @@ use Rattle.channel_world_runs.proofs.refinement.Told.{same_names}
 use Rattle.channel_world_runs.proofs.refinement.Trying.{filled_is, only_answers, try_send, try_send_lacks, force_send, force_send_lacks, try_recv, recv_many, close}
 
 module _ {T : Type 0} (held : KeysHeld) (c : Channel T Waiter) (s : State T) (h : Refines held c s) (awake : AwakeIn s) (o : Outcome T Waiter) where
-  -- a new name is free where the call is begun
-  free_name : (d : Call T) → refusal s d ≡ None → names_taken s.names d ≡ false
-  free_name d ok = last_reason (list_all (is_live s.names) (uses d)) (are_fit s.names d) (takes_borrowed s.names d) (names_taken s.names d) ok
-
   -- ---- calls that do not wait
 
   tried : (sender : HandleId) (m : T) → MayLackRoom (says (reply.TrySend (Err (unmade.NoMemory m)))) c o ⊎ (o ≡ sends m c) → Matches held s (call.TrySend sender m) o
@@ -142,11 +138,11 @@ module _ {T : Type 0} (held : KeysHeld) (c : Channel T Waiter) (s : State T) (h 
 
   every : (d : Call T) → refusal s d ≡ None → Alone (asked_in held s d) c o → Matches held s d o
   every (call.NewSend op sender msg) ok does =
-      new_operation held c s h awake op (call.NewSend op sender msg) (send sender (Some msg)) o refl (untaken op.0 s.names.operations (free_name (call.NewSend op sender msg) ok)) (inl refl) refl does
+      new_operation held c s h awake op (call.NewSend op sender msg) (send sender (Some msg)) o refl (untaken op.0 s.names.operations (second_reason _ _ _ ok)) (inl refl) refl does
   every (call.NewRecv op receiver) ok does =
-      new_operation held c s h awake op (call.NewRecv op receiver) (recv receiver) o refl (untaken op.0 s.names.operations (free_name (call.NewRecv op receiver) ok)) (inl refl) refl does
+      new_operation held c s h awake op (call.NewRecv op receiver) (recv receiver) o refl (untaken op.0 s.names.operations (second_reason _ _ _ ok)) (inl refl) refl does
   every (call.NewClosed op sender) ok does =
-      new_operation held c s h awake op (call.NewClosed op sender) (closing sender) o refl (untaken op.0 s.names.operations (free_name (call.NewClosed op sender) ok)) (inl refl) refl does
+      new_operation held c s h awake op (call.NewClosed op sender) (closing sender) o refl (untaken op.0 s.names.operations (second_reason _ _ _ ok)) (inl refl) refl does
   every (call.Poll op) ok does = polled op (at op.0 s.names.operations) refl ok does
   every (call.PollRefused op) ok does = refused op (at op.0 s.names.operations) refl ok does
   every (call.GiveUp op) ok does = given_up op (at op.0 s.names.operations) refl ok does

@@ -24,7 +24,7 @@ pub use Rattle.channel_calls.specs.declared.stage.Side.{Side}
 pub use Rattle.channel_calls.specs.declared.stage.Side.TheVariants.{Senders, Receivers}
 pub use Rattle.channel_world_model.proofs.Awake.{times_news, times_gone_self, placed_news, empty_news, line_refl, placed_gone, empty_gone, line_sound, awake_without_stream, left_nowhere}
 pub use Rattle.channel_world_model.proofs.Counting.{among_counts, among_self, or_right, among_take, count_append, absent_counts, among_drop}
-pub use Rattle.channel_world_model.proofs.LawSteps.{last_reason, untaken, chosen_no, found_name, set_elsewhere}
+pub use Rattle.channel_world_model.proofs.LawSteps.{second_reason, untaken, chosen_no, found_name, set_elsewhere}
 pub use Rattle.channel_world_model.proofs.WaiterLemmas.{decided, same_refl, same_sound, or_false, or_true, without_absent, untold_gone, same_symm, none_left}
 pub use Rattle.channel_world_model.specs.Answer.{replying, after_leaving, is_finished, poll_refused_answer, made, dropped, clone_answer, downgrade_answer, upgrade_answer, drop_answer, weak_of, strong_of, pending, closed_poll_answer, poll_answer, after_telling, shut, without_one, news_without_one, Answer, spent, one_more, upgrade_to, new_answer, give_up_answer, given_up, Found, first, none_yet, none_ever, found, recv_poll_answer, send_poll_answer, finished, space_of, next_answer, poll_next_answer, try_recv_answer, recv_many_answer, try_send_answer, force_send_answer, displacing}
 pub use Rattle.channel_world_model.specs.Asked.{poll_asked, refusal_asked, giving_up_asked, drop_asked, clone_asked, upgrade_asked, stream_of, KeysHeld}

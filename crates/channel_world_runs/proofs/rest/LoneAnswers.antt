@@ -1,5 +1,5 @@
 -- A call that is made alone on a channel at rest answers as the model may, and leaves the model's state.
-use Rattle.channel_world_runs.proofs.rest.Words.{tasks_are, told_holds, arith, ℕ, ◌≡◌, ◌≤◌, ◌+◌, List, [], ◌∷◌, ◌++◌, Bool, true, false, Option, None, Some, IsSome, is_some, inl, inr, refl, sym, ap, subst, ◌∙◌, filter-append, option_map_or, Key, Channel, Reply, ListenerRef, WaitList, Sends, Receives, Streams, Closings, Outcome, Alone, left_among, or_right, Answer, AwakeIn, times, times_in, line_at, Waiting, same_waiter, is_among, without_waiter, Names, State, Call, Waiter, Op, Stream, HandleId, Admitted, admitted, is_used, at, HandleEntry, keeper, Matches, held_after, with_held, Configuration, asks, WorldInvariant, names_alone, order_alone, name_state_alone, woken_in, IsAmong, invalid, waits, status, begin_refusal, names_of, held_of, NameState, but_for, NonePolled, RefusalsAgree, LoneCallsAnswer, PollsAnswer, state_at, IsWorld}
+use Rattle.channel_world_runs.proofs.rest.Words.{tasks_are, told_holds, arith, ℕ, ◌≡◌, ◌≤◌, ◌+◌, List, [], ◌∷◌, ◌++◌, Bool, true, false, Option, None, Some, IsSome, is_some, inl, inr, refl, sym, ap, subst, ◌∙◌, filter-append, option_map_or, Key, Channel, Reply, ListenerRef, WaitList, Sends, Receives, Streams, Closings, Outcome, Alone, left_among, or_right, Answer, AwakeIn, times, times_in, line_at, Waiting, same_waiter, is_among, without_waiter, Names, State, Call, Waiter, Op, Stream, HandleId, Admitted, admitted, at, HandleEntry, keeper, Matches, held_after, with_held, Configuration, asks, WorldInvariant, names_alone, order_alone, name_state_alone, woken_in, IsAmong, invalid, waits, status, under_way_in, begin_refusal, names_of, held_of, NameState, but_for, NonePolled, RefusalsAgree, LoneCallsAnswer, PollsAnswer, state_at, IsWorld}
 use Rattle.channel_world_runs.proofs.refinement.Names.{among_its_line}
 use Rattle.channel_world_model.proofs.Interface.{awake_after}
 use Rattle.channel_world_model.specs.Refused.{Answers}
@@ -67,14 +67,15 @@ module _ {T : Type 0} where
       let h = kept.polled w line e in subst (λ (l : List (Agent T)). IsAmong h.0 l) none h.1
 
   -- and no handle is used
-  none_used : (b : NameState T) (s : Configuration T Waiter) → WorldInvariant b s → b.agents ≡ [] → (handle : ℕ) → is_used handle b.name_table ≡ false
-  none_used b s kept none handle = by (at handle b.name_table.handles) refl
+  none_used : (b : NameState T) (s : Configuration T Waiter) → WorldInvariant b s → b.agents ≡ [] → (handle : HandleId)
+      → (under_way_in b.name_table).used handle ≡ false
+  none_used b s kept none handle = by (at handle.0 b.name_table.handles) refl
     where
-      by : (o : Option HandleEntry) → at handle b.name_table.handles ≡ o → is_used handle b.name_table ≡ false
+      by : (o : Option HandleEntry) → at handle.0 b.name_table.handles ≡ o → (under_way_in b.name_table).used handle ≡ false
       by None e = rw e refl
       by (Some h) e =
-          let few : h.users ≤ all_uses handle b.agents = (kept.users handle h e).0 in
-          let nobody : all_uses handle b.agents ≡ 0 = ap (all_uses handle) none in
+          let few : h.users ≤ all_uses handle.0 b.agents = (kept.users handle.0 h e).0 in
+          let nobody : all_uses handle.0 b.agents ≡ 0 = ap (all_uses handle.0) none in
           rw e (not_above h.users (omega (arith, few, nobody)))
 
   pub refusals_agree : (b : NameState T) (s : Configuration T Waiter) (c : Call T) → WorldInvariant b s → b.agents ≡ []

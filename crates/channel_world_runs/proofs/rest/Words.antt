@@ -24,7 +24,7 @@ pub use Rattle.channel_world_runs.specs.Lone.{names_alone, order_alone, name_sta
 pub use Rattle.channel_world_runs.specs.Order.{placed, kept_place, order_settled, moved_last, all_moved_last, order_begun}
 pub use Rattle.channel_world_runs.specs.OwnerOrder.{woken_in, was_woken, Within, woken_keys, NeedsPlace}
 pub use Rattle.channel_world_runs.specs.Owners.{IsAmong, NoneTwice, invalid, waits, status, polled, stream_status, operation_status, NameStatus, free, retired, status_by, rests, no_stream_status, status_on, send_status, holding, keys, IsListed, Holder, named, calling, AnyOf, HoldsIn, Owned}
-pub use Rattle.channel_world_runs.specs.Refusal.{begin_refusal, is_operation_polled, is_stream_polled, meets_poll, is_used, takes_used, takes_again}
+pub use Rattle.channel_world_runs.specs.Refusal.{under_way_in, begin_refusal}
 pub use Rattle.channel_world_runs.specs.NameTable.{names_of, held_of, is_polled, has_finished, is_done, operation_of, operation_at, unused, with_given_back, handle_at, with_lent, with_borrowed, with_handed_over, with_poll_state, poll_state_with, with_handle, used_more, used_less, borrowed_more, handed_over, told, key_of}
 pub use Rattle.channel_world_runs.specs.Run.{NameState}
 pub use Rattle.channel_world_runs.specs.declared.names.OnReturn.{OnReturn}
@@ -46,7 +46,6 @@ pub use Rattle.channel_world_model.specs.Awake.{Kind, times, AwakeIn, times_in, 
 pub use Rattle.channel_world_model.specs.Laws.{is_line, same_line, line_at, line_of_operation, count_of, free_places}
 pub use Rattle.channel_world_model.specs.Lines.{same_waiter, is_among, Waiting, without_waiter, untold}
 pub use Rattle.channel_world_model.specs.Names.{Names, at, Directory, with_changed, with_spent, with_new, used_once_less, lent_once_more, is_taken}
-pub use Rattle.channel_world_model.specs.Refusal.{uses, is_live, are_fit, takes_borrowed, Want}
 pub use Rattle.channel_world_model.specs.State.{State}
 pub use Rattle.channel_world_model.specs.declared.call.Call.{Call}
 pub use Rattle.channel_world_model.specs.declared.name.Handle.{Handle}
