@@ -22,7 +22,9 @@ impl HandleEntry {
         if !wanted.fits(self.handle.kind) {
             return Some(WorldRefusal::WrongKind);
         }
-        self.poll_state.is_polled().then_some(WorldRefusal::OpUnderWay)
+        self.poll_state
+            .is_polled()
+            .then_some(WorldRefusal::OpUnderWay)
     }
 
     /// Why a call doesn't take it whole: an operation borrows it, or a call under way uses it.
@@ -39,8 +41,7 @@ fn unlike(a: HandleEntry, b: HandleEntry) -> Option<WorldRefusal>
     ensures { result ≡ unlike_handles (is_polled a.poll_state || is_polled b.poll_state) (Some a.handle) (Some b.handle) }
 {
     match (a.handle.kind, b.handle.kind) {
-        (HandleKind::Sender, HandleKind::Sender)
-        | (HandleKind::Receiver, HandleKind::Receiver) => {
+        (HandleKind::Sender, HandleKind::Sender) | (HandleKind::Receiver, HandleKind::Receiver) => {
             let is_polled = a.poll_state.is_polled() || b.poll_state.is_polled();
             is_polled.then_some(WorldRefusal::OpUnderWay)
         }
@@ -72,9 +73,7 @@ impl<T> NameTable<T> {
             result ≡ option_or (unfit_handle (u.polled (Stream handle)) wanted (handle_at handle self.now)) (borrowed_handle (u.used handle) (handle_at handle self.now)) }
     {
         match self.handles.get(handle.0) {
-            Some(handle_entry) => (*handle_entry)
-                .unfit(wanted)
-                .or((*handle_entry).borrowed()),
+            Some(handle_entry) => (*handle_entry).unfit(wanted).or((*handle_entry).borrowed()),
             None => Some(WorldRefusal::UnknownName),
         }
     }

@@ -4,7 +4,7 @@ pub use Rattle.std.proofs.lemmas.Bool.{false_from_ne_true}
 pub use Rattle.std.proofs.lemmas.Bool.Decides.{nat_tests}
 pub use Rattle.std.proofs.lemmas.List.Elements.{filter-append}
 pub use Rattle.std.proofs.lemmas.Map.Steps.{set_value_same}
-pub use Rattle.std.specs.List.{list_all, AllZip, list_any, filter}
+pub use Rattle.std.specs.List.{AllZip, list_any, filter}
 pub use Rattle.std.specs.Map.{lookup, remove_entry, set_value}
 pub use Rattle.std.specs.Option.{option_map, option_map_or}
 pub use Rattle.concurrent_queue.specs.Queue.{is_filled, Queue, is_full_at}

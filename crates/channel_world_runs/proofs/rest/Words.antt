@@ -1,9 +1,9 @@
 -- The names that most files here cite, passed on from one place.
-pub use Rattle.std.proofs.Common.{◌≡◌, ◌≤◌, Bool, true, false, cond, List, [], ◌∷◌, ◌++◌, length, Option, Some, ◌⊎◌, inl, inr, refl, sym, ap, ◌∙◌, subst, arith, ◌+◌, None, IsSome, is_some, ℕ, not, if◌then◌else◌, ◌||◌, nat_eq, map, ◌-◌, ◌^◌, ◌<◌, min, append_assoc, append-nil}
+pub use Rattle.std.proofs.Common.{◌≡◌, ◌≤◌, Bool, true, false, cond, List, [], ◌∷◌, ◌++◌, length, Option, Some, ◌⊎◌, inl, inr, refl, sym, ap, ◌∙◌, subst, arith, ◌+◌, None, IsSome, is_some, ℕ, not, if◌then◌else◌, nat_eq, map, ◌-◌, ◌^◌, ◌<◌, min, append_assoc, append-nil}
 pub use Rattle.std.proofs.lemmas.Bool.{false_from_ne_true}
 pub use Rattle.std.proofs.lemmas.Cmp.{nat_eq_equiv}
 pub use Rattle.std.proofs.lemmas.List.Elements.{filter-append}
-pub use Rattle.std.specs.List.{AllZip, filter, list_all, list_any}
+pub use Rattle.std.specs.List.{AllZip, filter}
 pub use Rattle.std.specs.Map.{keys_of, lookup, set_value}
 pub use Rattle.std.specs.Option.{option_map_or, option_map}
 pub use Rattle.event_listener.specs.Lists.{Notice, tasks_of}
@@ -38,7 +38,7 @@ pub use Rattle.channel_steps.specs.every_run.Notices.{MayBeTold, EachTold, told_
 pub use Rattle.channel_steps.specs.every_run.Waits.{IsIn, Any}
 pub use Rattle.channel_world_model.proofs.Awake.{line_refl, line_sound}
 pub use Rattle.channel_world_model.proofs.Counting.{absent_counts, or_right, count_append, among_counts, among_self}
-pub use Rattle.channel_world_model.proofs.DirectoryLemmas.{taken_seen, set_twice, at_seen, nothing_to_end, set_absent}
+pub use Rattle.channel_world_model.proofs.DirectoryLemmas.{set_twice, at_seen, nothing_to_end, set_absent}
 pub use Rattle.channel_world_model.proofs.WaiterLemmas.{same_refl, same_sound, decided, or_true, left_among, same_number, without_absent, none_left}
 pub use Rattle.channel_world_model.specs.Answer.{Answer, weak_of, strong_of}
 pub use Rattle.channel_world_model.specs.Asked.{KeysHeld, asked, poll_asked, refusal_asked, giving_up_asked, drop_asked, clone_asked, upgrade_asked, stream_of}

@@ -1,6 +1,14 @@
 use Rattle.std.proofs.Common.{refl}
+use Rattle.channel_world_runs.specs.WorldState.{name_state_of}
+use Rattle.channel_world_runs.proofs.OwnerBegins.{admitted}
+use Rattle.channel_world_runs.proofs.OwnerRuns.{idle_and_free}
 use Rattle.channel_world_runs.proofs.WorldStateFacts.{has_begun}
 use Rattle.channel_world_runs.proofs.world_state.WorldState.start.Goals as goal
+
+pub begin-requires-2 : goal.begin-requires-2
+begin-requires-2 g c =
+    let accepted = idle_and_free c.args.party c.args.call (name_state_of c.args.self.now) c.requires.accepted in
+    let a = admitted c.args.self.now.name_table c.args.call accepted.1 in a.new
 
 pub returns-clause-ok : goal.returns-clause-ok
 returns-clause-ok g c =
