@@ -1,5 +1,5 @@
 -- That counts count handles, and what an upgrade gives.
-use Rattle.channel_world_model.proofs.Words.{arith, ◌≡◌, ◌⊎◌, ◌≤◌, ◌<◌, ◌+◌, ◌-◌, ◌^◌, ◌==◌, ℕ, zero, suc, nat_lt, List, [], ◌∷◌, Bool, true, false, ◌||◌, cond, if◌then◌else◌, Option, None, Some, refl, sym, ap, subst, ◌∙◌, inl, inr, nat_tests, Answer, replying, strong_handles, strong_of, with_strong_handles, without_one, shut, spent, upgrade_answer, upgrade_to, one_more, ModelChannel, HandlesAreCounted, UpgradesAsOpen, live_of, Directory, at, with_new, without_name, are_alike, MayBeDone, Runs, State, start, Call, Reply, Handle, HandleId, HandleKind, Sender, Receiver, WeakSender, WeakReceiver, Done}
+use Rattle.channel_world_model.proofs.Words.{arith, ◌≡◌, ◌⊎◌, ◌≤◌, ◌<◌, ◌+◌, ◌-◌, ◌^◌, ◌==◌, ℕ, zero, suc, nat_lt, List, [], ◌∷◌, Bool, true, false, ◌||◌, cond, if◌then◌else◌, Option, None, Some, refl, sym, ap, subst, ◌∙◌, inl, inr, nat_tests, Answer, replying, strong_handles, strong_of, with_strong_handles, without_one, shut, spent, upgrade_answer, upgrade_to, one_more, ModelChannel, HandlesAreCounted, UpgradesAsOpen, live_of, Directory, at, with_new, without_name, are_alike, MayBeDone, Runs, State, start, Call, Reply, Handle, HandleId, HandleKind, Sender, Receiver, WeakSender, WeakReceiver, WorldRefusal, Done}
 use Rattle.channel_world_model.specs.declared.call.Call.TheVariants as call
 use Rattle.channel_calls.specs.declared.reply.Reply.TheVariants as reply
 use Rattle.channel_world_model.proofs.Deeds.{Deed, stays, grows, holds, shuts, adds, drops, deed_of}

@@ -20,9 +20,9 @@ full_idle None n e = cc e
 full_idle (Some c) n e = let same : n ≡ c = same_number n c e in (omega (arith, same), λ h. cc h)
 
 -- the second of two reasons is not so where there is none
-pub second_reason : (first : Option WorldRefusal) (b : Bool) (why : WorldRefusal) → option_or first (then_some b why) ≡ None → b ≡ false
+pub second_reason : (x : Option WorldRefusal) (b : Bool) (why : WorldRefusal) → option_or x (then_some b why) ≡ None → b ≡ false
 second_reason None false why e = refl
-second_reason first b why e = cc e
+second_reason x b why e = cc e
 
 -- ---- operations under their names
 
@@ -470,9 +470,9 @@ module _ {T : Type 0} where
 
     -- ---- every call with ample memory
 
-    free_name : (op : OpId) (first : Option WorldRefusal) → option_or first (then_some (is_taken op.0 s.names.operations) NameTaken) ≡ None
+    free_name : (op : OpId) (x : Option WorldRefusal) → option_or x (then_some (is_taken op.0 s.names.operations) NameTaken) ≡ None
         → at op.0 s.names.operations ≡ None
-    free_name op first ok = untaken op.0 s.names.operations (second_reason first _ NameTaken ok)
+    free_name op x ok = untaken op.0 s.names.operations (second_reason x _ NameTaken ok)
 
     pub answered : (c : Call T) → refusal s c ≡ None → Good sends s c (answer s c)
     answered (call.NewSend op sender msg) ok = record {

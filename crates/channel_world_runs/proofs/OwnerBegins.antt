@@ -14,7 +14,6 @@ use Rattle.channel_world_model.specs.Asked.{KeysHeld as HeldBy, poll_asked}
 use Rattle.channel_world_model.specs.Lines.{without_waiter}
 use Rattle.channel_world_model.specs.Names.{Directory, at, is_taken}
 use Rattle.channel_world_model.specs.Names as model
-use Rattle.channel_world_model.proofs.DirectoryLemmas.{taken_seen}
 use Rattle.channel_world_model.proofs.LawSteps.{second_reason}
 use Rattle.channel_world_model.specs.Plan.{plan_of}
 use Rattle.channel_world_model.specs.Refusal.{handle_fits, unfit_handle, unfit_operation, through_refusal, planned_refusal}
@@ -84,6 +83,14 @@ if_none false x y e = (refl, e)
 not_false : (b : Bool) → not b ≡ false → b ≡ true
 not_false true e = refl
 not_false false e = absurd (let no : true ≡ false = e in cc)
+
+fitting_found : (wanted : Wanted) (o : Option HandleEntry)
+    → unfit_handle (option_map_or (λ (h : HandleEntry). is_polled h.poll_state) o false) wanted (option_map (λ (h : HandleEntry). h.handle) o) ≡ None
+    → (h : HandleEntry) × (o ≡ Some h) × (is_polled h.poll_state ≡ false) × (handle_fits wanted h.handle.kind ≡ true)
+fitting_found wanted None e = cc e
+fitting_found wanted (Some h) e =
+    let n = if_none (not (handle_fits wanted h.handle.kind)) _ _ e in
+    (h, refl, second_reason None (is_polled h.poll_state) OpUnderWay n.1, not_false _ n.0)
 
 pub untaken : {X : Type 0} (p : X → NameStatus) (n : ℕ) (d : Directory X) → is_taken n d ≡ false → status_by p (lookup (nat_eq n) d) ≡ free
 untaken {X} p n d h = by (lookup (nat_eq n) d) h
@@ -155,14 +162,6 @@ module _ {T : Type 0} where
   free_found None e = cc e
   free_found (Some x) e = (x, refl, second_reason None (is_polled x.poll_state) OpUnderWay e)
 
-  fitting_found : (wanted : Wanted) (o : Option HandleEntry)
-      → unfit_handle (option_map_or (λ (h : HandleEntry). is_polled h.poll_state) o false) wanted (option_map (λ (h : HandleEntry). h.handle) o) ≡ None
-      → (h : HandleEntry) × (o ≡ Some h) × (is_polled h.poll_state ≡ false) × (handle_fits wanted h.handle.kind ≡ true)
-  fitting_found wanted None e = cc e
-  fitting_found wanted (Some h) e =
-      let n = if_none (not (handle_fits wanted h.handle.kind)) _ _ e in
-      (h, refl, second_reason None (is_polled h.poll_state) OpUnderWay n.1, not_false _ n.0)
-
   finds_planned : (r : NameTable T) (p : Plan) → planned_refusal (under_way_in r) (names_of r) p ≡ None → Finds r p
   finds_planned r (plan.Polls op) e = free_found (at op.0 r.operations) (seen.polling_seen r op ∙ e)
   finds_planned r (plan.GivesUp op) e = free_found (at op.0 r.operations) (seen.polling_seen r op ∙ e)
@@ -172,9 +171,9 @@ module _ {T : Type 0} where
 
   takes_new : (r : NameTable T) (p : Plan) → planned_refusal (under_way_in r) (names_of r) p ≡ None → again_planned r p ≡ false
   takes_new r (plan.Makes wanted handle op kind) e =
-      sym (taken_seen operation_of op.0 r.operations) ∙ second_reason (through_refusal (under_way_in r) (names_of r) wanted handle) _ NameTaken e
+      seen.operation_taken r op ∙ second_reason (through_refusal (under_way_in r) (names_of r) wanted handle) _ NameTaken e
   takes_new r (plan.Mints wanted from new to) e =
-      sym (taken_seen (λ (h : HandleEntry). h.handle) new.0 r.handles) ∙ second_reason (through_refusal (under_way_in r) (names_of r) wanted from) _ NameTaken e
+      seen.handle_taken r new ∙ second_reason (through_refusal (under_way_in r) (names_of r) wanted from) _ NameTaken e
   takes_new r p e = refl
 
   pub admitted : (r : NameTable T) (c : Call T) → begin_refusal r c ≡ None → Admitted r c

@@ -1,17 +1,19 @@
 -- Names as one call at a time sees them, and what stands against a call by one look at each name.
-use Rattle.std.proofs.Common.{◌≡◌, ℕ, Bool, true, false, ◌&&◌, Option, sym, ap, refl}
+use Rattle.std.proofs.Common.{◌≡◌, ℕ, Bool, true, false, ◌&&◌, ◌||◌, Option, sym, ap, refl, ◌∙◌}
+use Rattle.std.specs.Bool.{then_some}
 use Rattle.std.specs.Option.{option_map, option_or}
-use Rattle.channel_world_model.proofs.DirectoryLemmas.{at_seen}
-use Rattle.channel_world_model.specs.Names as model
-use Rattle.channel_world_model.specs.Names.{at}
-use Rattle.channel_world_model.specs.Refusal.{unfit_handle, borrowed_handle, unfit_operation, through_refusal, taking_refusal, planned_refusal}
-use Rattle.channel_world_model.specs.declared.name.Handle.{Handle}
+use Rattle.channel_world_model.proofs.DirectoryLemmas.{at_seen, taken_seen}
+use Rattle.channel_world_model.specs.Names.{at, is_taken}
+use Rattle.channel_world_model.specs.Refusal.{unfit_handle, unlike_handles, borrowed_handle, unfit_operation, unfit_send, taking_refusal, planned_refusal}
 use Rattle.channel_world_model.specs.declared.name.HandleId.{HandleId}
 use Rattle.channel_world_model.specs.declared.name.OpId.{OpId}
+use Rattle.channel_world_model.specs.declared.name.Waiter.{Waiter}
 use Rattle.channel_world_model.specs.declared.name.Waiter.TheVariants.{Op, Stream}
 use Rattle.channel_world_model.specs.declared.plan.Plan.{Plan}
 use Rattle.channel_world_model.specs.declared.plan.Plan.TheVariants as plan
 use Rattle.channel_world_model.specs.declared.plan.Wanted.{Wanted}
+use Rattle.channel_world_model.specs.declared.refusal.WorldRefusal.{WorldRefusal}
+use Rattle.channel_world_model.specs.declared.refusal.WorldRefusal.TheVariants.{NameTaken}
 use Rattle.channel_world_runs.specs.NameTable.{operation_of, names_of}
 use Rattle.channel_world_runs.specs.NameTable as table
 use Rattle.channel_world_runs.specs.Refusal.{under_way_in}
@@ -43,20 +45,41 @@ module _ {T : Type 0} (r : NameTable T) (name : ℕ) where
   pub handle_there : option_map (λ (h : HandleEntry). h.handle) (at name r.handles) ≡ at name (names_of r).handles
   handle_there = sym handle_at
 
--- ---- what stands against a call
+-- ---- what stands against a call, by one look at each name
+
+-- what is so in the one place is so in the other, and so is what comes second
+pub then_taken : {x y p : Option WorldRefusal} {b d : Bool} → x ≡ p → y ≡ then_some b NameTaken → b ≡ d → option_or x y ≡ option_or p (then_some d NameTaken)
+then_taken {y = y} {p = p} first other same = ap (λ z. option_or z y) first ∙ ap (option_or p) (other ∙ ap (λ z. then_some z NameTaken) same)
 
 module _ {T : Type 0} (r : NameTable T) where
+  abbrev polled : Waiter → Bool
+  polled w = (under_way_in r).polled w
+
   pub through_seen : (wanted : Wanted) (handle : HandleId)
-      → unfit_handle ((under_way_in r).polled (Stream handle)) wanted (table.handle_at handle r) ≡ through_refusal (under_way_in r) (names_of r) wanted handle
-  through_seen wanted handle = ap (λ (h : Option Handle). unfit_handle ((under_way_in r).polled (Stream handle)) wanted h) (handle_there r handle.0)
+      → unfit_handle (polled (Stream handle)) wanted (table.handle_at handle r) ≡ planned_refusal (under_way_in r) (names_of r) (plan.Through wanted handle)
+  through_seen wanted handle = ap (unfit_handle (polled (Stream handle)) wanted) (handle_there r handle.0)
 
   pub taking_seen : (wanted : Wanted) (handle : HandleId)
-      → option_or (unfit_handle ((under_way_in r).polled (Stream handle)) wanted (table.handle_at handle r)) (borrowed_handle ((under_way_in r).used handle) (table.handle_at handle r))
+      → option_or (unfit_handle (polled (Stream handle)) wanted (table.handle_at handle r)) (borrowed_handle ((under_way_in r).used handle) (table.handle_at handle r))
       ≡ taking_refusal (under_way_in r) (names_of r) wanted handle
   taking_seen wanted handle =
-      ap (λ (h : Option Handle). option_or (unfit_handle ((under_way_in r).polled (Stream handle)) wanted h) (borrowed_handle ((under_way_in r).used handle) h))
-      (handle_there r handle.0)
+      ap (λ h. option_or (unfit_handle (polled (Stream handle)) wanted h) (borrowed_handle ((under_way_in r).used handle) h)) (handle_there r handle.0)
+
+  pub both_seen : (a b : HandleId) → unlike_handles (polled (Stream a) || polled (Stream b)) (table.handle_at a r) (table.handle_at b r)
+      ≡ planned_refusal (under_way_in r) (names_of r) (plan.ThroughBoth a b)
+  both_seen a b =
+      ap (λ x. unlike_handles (polled (Stream a) || polled (Stream b)) x (table.handle_at b r)) (handle_there r a.0)
+      ∙ ap (unlike_handles (polled (Stream a) || polled (Stream b)) (at a.0 (names_of r).handles)) (handle_there r b.0)
 
   pub polling_seen : (op : OpId)
-      → unfit_operation ((under_way_in r).polled (Op op)) (table.operation_at op r) ≡ planned_refusal (under_way_in r) (names_of r) (plan.Polls op)
-  polling_seen op = ap (λ (o : Option (model.ModelOperation T)). unfit_operation ((under_way_in r).polled (Op op)) o) (sym (operation_at r op.0))
+      → unfit_operation (polled (Op op)) (table.operation_at op r) ≡ planned_refusal (under_way_in r) (names_of r) (plan.Polls op)
+  polling_seen op = ap (unfit_operation (polled (Op op))) (sym (operation_at r op.0))
+
+  pub asking_seen : (op : OpId) → unfit_send (table.operation_at op r) ≡ planned_refusal (under_way_in r) (names_of r) (plan.Asks op)
+  asking_seen op = ap unfit_send (sym (operation_at r op.0))
+
+  pub operation_taken : (op : OpId) → is_taken op.0 r.operations ≡ is_taken op.0 (names_of r).operations
+  operation_taken op = sym (taken_seen operation_of op.0 r.operations)
+
+  pub handle_taken : (new : HandleId) → is_taken new.0 r.handles ≡ is_taken new.0 (names_of r).handles
+  handle_taken new = sym (taken_seen (λ (h : HandleEntry). h.handle) new.0 r.handles)
