@@ -190,7 +190,7 @@ module _ {T : Type 0} where
       → status r (Stream handle) ≡ handle_entry_status h
   hold_is r handle h e = ap (λ x. status_by handle_entry_status x) (found handle.0 r.handles h e)
 
-  see : (r : NameTable T) (wanted : Wanted) (handle : HandleId) → Sane r → IsFitting r wanted handle → Seen r handle
+  abbrev see : (r : NameTable T) (wanted : Wanted) (handle : HandleId) → Sane r → IsFitting r wanted handle → Seen r handle
   see r wanted handle sane h =
       record { handle_entry = h.0; is = h.1; idle = (h.2, λ bad. sane (Stream handle) (hold_is r handle h.0 h.1 ∙ bad)) }
 

@@ -2,7 +2,7 @@
 //! interleaving. Where no call is under way, a call may also be made alone, from its beginning to its end.
 //!
 //! What is said of it is in the contracts, and what they mean in `specs/`: `NameTable` (what lives under which name), `Apart` (no name
-//! stands twice), `Plan` (what a call does to the names), `Pending` (how many are pending or woken), `Refusal` (which steps are refused), `Bookkeeping` (what a call asks as it
+//! stands twice), `Pending` (how many are pending or woken), `Refusal` (which steps are refused), `Bookkeeping` (what a call asks as it
 //! begins, and what it writes back at its end), `Order` (who may be woken, in the order of waking), `Run` (one step), `Runs` (steps one
 //! after another, and what holds at each moment of them), `Lone` (calls made alone), `Owners` (who holds each listener), `OwnerWoken` (who
 //! was woken is told), `OwnerOrder` (in which order), `OwnerPolled` (who is polled, by whom), `WorldInvariant` (all that every step keeps of those
