@@ -50,29 +50,29 @@ are_alike handle_kind.Sender handle_kind.Sender = true
 are_alike handle_kind.Receiver handle_kind.Receiver = true
 are_alike a b = false
 
--- ---- what stands against a use of what lives under a name, if anything lives there
+-- ---- what a call needs of what lives under a name, if anything does, and the first thing that it lacks
 
--- against going through a handle of which this is wanted
+-- to go through a handle: that it lives, is such a one as is wanted, and is not being polled as a stream
 abbrev pub unfit_handle : Bool → Wanted → Option Handle → Option WorldRefusal
 unfit_handle is_polled wanted None = Some UnknownName
 unfit_handle is_polled wanted (Some h) = if not (handle_fits wanted h.kind) then Some WrongKind else then_some is_polled OpUnderWay
 
--- against going through two, which have to be two senders or two receivers
+-- to go through two: that they live, are two senders or two receivers, and that neither is being polled as a stream
 abbrev pub unlike_handles : Bool → Option Handle → Option Handle → Option WorldRefusal
 unlike_handles is_polled (Some a) (Some b) = if not (are_alike a.kind b.kind) then Some WrongKind else then_some is_polled OpUnderWay
 unlike_handles is_polled a b = Some UnknownName
 
--- against taking a handle whole: an operation borrows it, or a call under way uses it
+-- to take a handle whole: that no operation borrows it, and no call under way uses it
 abbrev pub borrowed_handle : Bool → Option Handle → Option WorldRefusal
 borrowed_handle is_used None = None
 borrowed_handle is_used (Some h) = then_some (nat_lt 0 h.borrowers || is_used) Borrowed
 
--- against polling an operation, or giving it up
+-- to poll an operation, or give it up: that it lives, and is not being polled
 abbrev pub unfit_operation : {T : Type 0} → Bool → Option (ModelOperation T) → Option WorldRefusal
 unfit_operation is_polled None = Some UnknownName
 unfit_operation is_polled (Some operation) = then_some is_polled OpUnderWay
 
--- against asking an operation whether it has finished, as a send is asked
+-- to ask whether a send has finished: that the operation lives, and is a send
 abbrev pub unfit_send : {T : Type 0} → Option (ModelOperation T) → Option WorldRefusal
 unfit_send None = Some UnknownName
 unfit_send (Some (send handle msg)) = None

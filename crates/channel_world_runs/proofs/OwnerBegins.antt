@@ -1,5 +1,6 @@
 -- What a call that begins takes over from the names.
 use Rattle.std.proofs.Common.{◌≡◌, ℕ, nat_eq, List, Bool, true, false, not, if◌then◌else◌, Option, None, Some, is_some, ◌⊎◌, inl, inr, refl, sym, ap, ◌∙◌, subst}
+use Rattle.std.specs.Bool.{then_some}
 use Rattle.std.specs.Map.{lookup}
 use Rattle.std.specs.Option.{option_map, option_map_or, option_or}
 use Rattle.event_listener.specs.declared.key.Key.{Key}
@@ -28,7 +29,7 @@ use Rattle.channel_world_model.specs.declared.plan.Plan.TheVariants as plan
 use Rattle.channel_world_model.specs.declared.plan.Wanted.{Wanted}
 use Rattle.channel_world_model.specs.declared.plan.Wanted.TheVariants.{Receiver, Any}
 use Rattle.channel_world_model.specs.declared.refusal.WorldRefusal.{WorldRefusal}
-use Rattle.channel_world_model.specs.declared.refusal.WorldRefusal.TheVariants.{OpUnderWay, NameTaken}
+use Rattle.channel_world_model.specs.declared.refusal.WorldRefusal.TheVariants.{WrongKind, OpUnderWay, NameTaken}
 use Rattle.channel_world_runs.specs.Bookkeeping.{asks, names_begun, lent_to_poll, polled_ask, with_operation}
 use Rattle.channel_world_runs.specs.Order.{placed}
 use Rattle.channel_world_runs.specs.Owners.{NameStatus, free, retired, invalid, rests, waits, polled, status_on, status_by, operation_status, status, wait_of, subject, Suits}
@@ -71,26 +72,22 @@ Ordered w x f =
     ((x ≡ retired) × ((ws : List Waiter) → f ws ≡ ws))
     ⊎ (((ws : List Waiter) → f ws ≡ placed w ws) ⊎ ((x ≡ retired) × ((ws : List Waiter) → f ws ≡ without_waiter w ws)))
 
--- neither of two reasons is there where there is none
+-- the first of two reasons is not there where none is
 first_none : (first other : Option WorldRefusal) → option_or first other ≡ None → first ≡ None
 first_none None other e = refl
 first_none (Some x) other e = cc e
 
-if_none : {X : Type 0} (b : Bool) (x : X) (y : Option X) → (if b then Some x else y) ≡ None → (b ≡ false) × (y ≡ None)
-if_none true x y e = absurd (let no : Some x ≡ None = e in cc)
-if_none false x y e = (refl, e)
-
-not_false : (b : Bool) → not b ≡ false → b ≡ true
-not_false true e = refl
-not_false false e = absurd (let no : true ≡ false = e in cc)
+-- what a call goes through is as wanted, and not being polled, where nothing stands against that
+neither : (fits is_polled : Bool) → (if not fits then Some WrongKind else then_some is_polled OpUnderWay) ≡ None → (is_polled ≡ false) × (fits ≡ true)
+neither true is_polled e = (second_reason None is_polled OpUnderWay e, refl)
+neither false is_polled e = cc e
 
 fitting_found : (wanted : Wanted) (o : Option HandleEntry)
     → unfit_handle (option_map_or (λ (h : HandleEntry). is_polled h.poll_state) o false) wanted (option_map (λ (h : HandleEntry). h.handle) o) ≡ None
     → (h : HandleEntry) × (o ≡ Some h) × (is_polled h.poll_state ≡ false) × (handle_fits wanted h.handle.kind ≡ true)
 fitting_found wanted None e = cc e
 fitting_found wanted (Some h) e =
-    let n = if_none (not (handle_fits wanted h.handle.kind)) _ _ e in
-    (h, refl, second_reason None (is_polled h.poll_state) OpUnderWay n.1, not_false _ n.0)
+    let n = neither (handle_fits wanted h.handle.kind) (is_polled h.poll_state) e in (h, refl, n.0, n.1)
 
 pub untaken : {X : Type 0} (p : X → NameStatus) (n : ℕ) (d : Directory X) → is_taken n d ≡ false → status_by p (lookup (nat_eq n) d) ≡ free
 untaken {X} p n d h = by (lookup (nat_eq n) d) h

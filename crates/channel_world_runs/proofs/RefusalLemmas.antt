@@ -1,4 +1,4 @@
--- Names as one call at a time sees them, and what stands against a call by one look at each name.
+-- Names as one call at a time sees them, and why a call is not begun by one look at each name.
 use Rattle.std.proofs.Common.{◌≡◌, ℕ, Bool, true, false, ◌&&◌, ◌||◌, Option, sym, ap, refl, ◌∙◌}
 use Rattle.std.specs.Bool.{then_some}
 use Rattle.std.specs.Option.{option_map, option_or}
@@ -45,9 +45,9 @@ module _ {T : Type 0} (r : NameTable T) (name : ℕ) where
   pub handle_there : option_map (λ (h : HandleEntry). h.handle) (at name r.handles) ≡ at name (names_of r).handles
   handle_there = sym handle_at
 
--- ---- what stands against a call, by one look at each name
+-- ---- why a call is not begun
 
--- what is so in the one place is so in the other, and so is what comes second
+-- a new name that was taken is the second reason
 pub then_taken : {x y p : Option WorldRefusal} {b d : Bool} → x ≡ p → y ≡ then_some b NameTaken → b ≡ d → option_or x y ≡ option_or p (then_some d NameTaken)
 then_taken {y = y} {p = p} first other same = ap (λ z. option_or z y) first ∙ ap (option_or p) (other ∙ ap (λ z. then_some z NameTaken) same)
 
