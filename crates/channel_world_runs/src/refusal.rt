@@ -1,7 +1,4 @@
 //! Which calls are not begun, and why.
-ghost use Rattle.std.specs.Prelude.{◌≡◌, ◌||◌, Some};
-ghost use Rattle.channel_world_model.specs.Refusal.{unlike_handles};
-ghost use Rattle.channel_world_runs.specs.NameTable.{is_polled};
 
 use crate::name_table::NameTable;
 use crate::names::HandleEntry;
@@ -36,19 +33,6 @@ impl HandleEntry {
     }
 }
 
-/// Why a call doesn't go through these two, which have to be two senders or two receivers.
-fn unlike(a: HandleEntry, b: HandleEntry) -> Option<WorldRefusal>
-    ensures { result ≡ unlike_handles (is_polled a.poll_state || is_polled b.poll_state) (Some a.handle) (Some b.handle) }
-{
-    match (a.handle.kind, b.handle.kind) {
-        (HandleKind::Sender, HandleKind::Sender) | (HandleKind::Receiver, HandleKind::Receiver) => {
-            let is_polled = a.poll_state.is_polled() || b.poll_state.is_polled();
-            is_polled.then_some(WorldRefusal::OpUnderWay)
-        }
-        _ => Some(WorldRefusal::WrongKind),
-    }
-}
-
 impl<T> NameTable<T> {
     ghost use Rattle.std.specs.Prelude.{◌≡◌, ◌||◌};
     ghost use Rattle.std.specs.Option.{option_or};
@@ -58,7 +42,7 @@ impl<T> NameTable<T> {
     ghost use Rattle.channel_world_runs.specs.Refusal.{under_way_in, begin_refusal};
 
     /// Why a call doesn't go through this handle that wants such a one.
-    fn unfit_handle(&self, wanted: Wanted, handle: HandleId) -> Option<WorldRefusal>
+    fn through_refusal(&self, wanted: Wanted, handle: HandleId) -> Option<WorldRefusal>
         ensures { let u = under_way_in self.now in result ≡ unfit_handle (u.polled (Stream handle)) wanted (handle_at handle self.now) }
     {
         match self.handles.get(handle.0) {
@@ -68,7 +52,7 @@ impl<T> NameTable<T> {
     }
 
     /// Why it doesn't take this handle whole that wants such a one.
-    fn taken_handle(&self, wanted: Wanted, handle: HandleId) -> Option<WorldRefusal>
+    fn taking_refusal(&self, wanted: Wanted, handle: HandleId) -> Option<WorldRefusal>
         ensures { let u = under_way_in self.now in
             result ≡ option_or (unfit_handle (u.polled (Stream handle)) wanted (handle_at handle self.now)) (borrowed_handle (u.used handle) (handle_at handle self.now)) }
     {
@@ -78,14 +62,21 @@ impl<T> NameTable<T> {
         }
     }
 
-    /// Why it doesn't go through these two.
+    /// Why it doesn't go through these two, which have to be two senders or two receivers.
     fn unlike_handles(&self, a: HandleId, b: HandleId) -> Option<WorldRefusal>
         ensures { let u = under_way_in self.now in
             result ≡ unlike_handles (u.polled (Stream a) || u.polled (Stream b)) (handle_at a self.now) (handle_at b self.now) }
     {
-        match (self.handles.get(a.0), self.handles.get(b.0)) {
-            (Some(a), Some(b)) => unlike(*a, *b),
-            _ => Some(WorldRefusal::UnknownName),
+        let (Some(a), Some(b)) = (self.handles.get(a.0), self.handles.get(b.0)) else {
+            return Some(WorldRefusal::UnknownName);
+        };
+        match (a.handle.kind, b.handle.kind) {
+            (HandleKind::Sender, HandleKind::Sender)
+            | (HandleKind::Receiver, HandleKind::Receiver) => {
+                let is_polled = a.poll_state.is_polled() || b.poll_state.is_polled();
+                is_polled.then_some(WorldRefusal::OpUnderWay)
+            }
+            _ => Some(WorldRefusal::WrongKind),
         }
     }
 
@@ -120,20 +111,20 @@ impl<T> NameTable<T> {
         ensures { result ≡ planned_refusal (under_way_in self.now) (names_of self.now) plan }
     {
         match plan {
-            Plan::Through(wanted, handle) => self.unfit_handle(wanted, handle),
+            Plan::Through(wanted, handle) => self.through_refusal(wanted, handle),
             Plan::ThroughBoth(a, b) => self.unlike_handles(a, b),
             Plan::Makes(wanted, handle, op, _) => {
                 let is_taken = self.operations.is_taken(op.0);
-                let unfit = self.unfit_handle(wanted, handle);
+                let unfit = self.through_refusal(wanted, handle);
                 unfit.or(is_taken.then_some(WorldRefusal::NameTaken))
             }
             Plan::Polls(op) | Plan::GivesUp(op) => self.unfit_operation(op),
             Plan::Asks(op) => self.unfit_send(op),
-            Plan::Streams(receiver) => self.taken_handle(Wanted::Receiver, receiver),
-            Plan::Drops(handle) => self.taken_handle(Wanted::Any, handle),
+            Plan::Streams(receiver) => self.taking_refusal(Wanted::Receiver, receiver),
+            Plan::Drops(handle) => self.taking_refusal(Wanted::Any, handle),
             Plan::Mints(wanted, from, new, _) => {
                 let is_taken = self.handles.is_taken(new.0);
-                let unfit = self.unfit_handle(wanted, from);
+                let unfit = self.through_refusal(wanted, from);
                 unfit.or(is_taken.then_some(WorldRefusal::NameTaken))
             }
         }
