@@ -2,7 +2,7 @@
 use Rattle.std.specs.Prelude.{ℕ, nat_lt, List, [], ◌∷◌, Bool, true, false, not, Option, None, Some, is_some, if◌then◌else◌}
 use Rattle.std.specs.List.{list_all}
 use Rattle.std.specs.Option.{option_map_or}
-use Rattle.channel_world_model.specs.Names.{Names, ModelOperation, send, at, is_taken}
+use Rattle.channel_world_model.specs.Names.{Names, at, is_taken}
 use Rattle.channel_world_model.specs.declared.name.Handle.{Handle}
 use Rattle.channel_world_model.specs.State.{State}
 use Rattle.channel_world_model.specs.declared.call.Call.{Call}
@@ -12,6 +12,8 @@ use Rattle.channel_world_model.specs.declared.name.HandleKind.TheVariants.{Sende
 use Rattle.channel_world_model.specs.declared.refusal.WorldRefusal.{WorldRefusal}
 use Rattle.channel_world_model.specs.declared.refusal.WorldRefusal.TheVariants.{UnknownName, WrongKind, Borrowed, NameTaken}
 use Rattle.channel_world_model.specs.declared.refusal.WorldRefusal.TheVariants as why
+use Rattle.channel_world_model.specs.declared.name.Operation.TheVariants as live
+use Rattle.channel_world_model.specs.declared.name.Operation.{Operation}
 
 -- what a call wants of a name that it uses
 pub data Want : Type 0 where
@@ -71,9 +73,9 @@ handle_fits a_weak_handle WeakReceiver = true
 handle_fits a_handle kind = true
 handle_fits want kind = false
 
-abbrev pub operation_fits : {T : Type 0} → Want → ModelOperation T → Bool
+abbrev pub operation_fits : {T : Type 0} → Want → Operation T → Bool
 operation_fits an_operation operation = true
-operation_fits a_send (send handle msg) = true
+operation_fits a_send (live.Send handle msg) = true
 operation_fits want operation = false
 
 -- whether what lives under the name is of the wanted kind

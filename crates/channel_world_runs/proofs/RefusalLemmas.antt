@@ -10,11 +10,11 @@ use Rattle.channel_world_model.specs.declared.name.Handle.{Handle}
 use Rattle.channel_world_model.specs.declared.name.HandleId.{HandleId}
 use Rattle.channel_world_model.specs.declared.refusal.WorldRefusal.{WorldRefusal}
 use Rattle.channel_world_model.specs.declared.refusal.WorldRefusal.TheVariants.{UnknownName, WrongKind, OpUnderWay, Borrowed}
-use Rattle.channel_world_runs.specs.NameTable.{is_polled, operation_of, names_of}
+use Rattle.channel_world_runs.specs.NameTable.{is_polled, names_of}
 use Rattle.channel_world_model.specs.Plan.{want_of, plan_of}
 use Rattle.channel_world_runs.specs.Refusal.{is_stream_polled, unfit_handle, or_else, borrowed_refusal, unlike_handles, unfit_operation, unfit_send, planned_refusal, begin_refusal}
 use Rattle.channel_world_runs.specs.declared.names.HandleEntry.{HandleEntry}
-use Rattle.channel_world_runs.specs.declared.names.Operation.{Operation}
+use Rattle.channel_world_runs.specs.declared.names.OperationEntry.{OperationEntry}
 use Rattle.channel_world_runs.specs.declared.name_table.NameTable.{NameTable}
 use Rattle.channel_world_model.specs.declared.plan.Plan.{Plan}
 use Rattle.channel_world_model.specs.declared.plan.Plan.TheVariants as plan
@@ -50,8 +50,8 @@ module _ {T : Type 0} (r : NameTable T) (name : ℕ) where
   pub handle_at : at name (names_of r).handles ≡ option_map (λ (h : HandleEntry). h.handle) (at name r.handles)
   handle_at = at_seen (λ (h : HandleEntry). h.handle) name r.handles
 
-  pub operation_at : at name (names_of r).operations ≡ option_map operation_of (at name r.operations)
-  operation_at = at_seen operation_of name r.operations
+  pub operation_at : at name (names_of r).operations ≡ option_map (λ (x : OperationEntry T). x.operation) (at name r.operations)
+  operation_at = at_seen (λ (x : OperationEntry T). x.operation) name r.operations
 
   pub handle_there : option_map (λ (h : HandleEntry). h.handle) (at name r.handles) ≡ at name (names_of r).handles
   handle_there = sym handle_at
@@ -112,20 +112,20 @@ by_two (Some x) (Some y) = by (are_alike x.handle.kind y.handle.kind) (is_polled
 
 module _ {T : Type 0} where
   -- one operation
-  by_operation : (o : Option (Operation T))
-      → (if not (is_some (option_map operation_of o) && true) then Some UnknownName
-      else (if not (option_map_or (operation_fits an_operation) (option_map operation_of o) false && true) then Some WrongKind
-      else (if option_map_or (λ (x : Operation T). is_polled x.poll_state) o false then Some OpUnderWay else None)))
+  by_operation : (o : Option (OperationEntry T))
+      → (if not (is_some (option_map (λ (x : OperationEntry T). x.operation) o) && true) then Some UnknownName
+      else (if not (option_map_or (operation_fits an_operation) (option_map (λ (x : OperationEntry T). x.operation) o) false && true) then Some WrongKind
+      else (if option_map_or (λ (x : OperationEntry T). is_polled x.poll_state) o false then Some OpUnderWay else None)))
       ≡ unfit_operation o
   by_operation None = refl
   by_operation (Some o) = refl
 
-  by_send : (o : Option (Operation T))
-      → (if not (is_some (option_map operation_of o) && true) then Some UnknownName
-      else (if not (option_map_or (operation_fits a_send) (option_map operation_of o) false && true) then Some WrongKind else None))
+  by_send : (o : Option (OperationEntry T))
+      → (if not (is_some (option_map (λ (x : OperationEntry T). x.operation) o) && true) then Some UnknownName
+      else (if not (option_map_or (operation_fits a_send) (option_map (λ (x : OperationEntry T). x.operation) o) false && true) then Some WrongKind else None))
       ≡ unfit_send o
   by_send None = refl
-  by_send (Some o) = rw (and_true (operation_fits a_send (operation_of o))) (by (operation_fits a_send (operation_of o)))
+  by_send (Some o) = rw (and_true (operation_fits a_send o.operation)) (by (operation_fits a_send o.operation))
     where
       by : (fits : Bool) → (if not fits then Some WrongKind else None) ≡ (if fits then None else Some WrongKind)
       by true = refl

@@ -7,7 +7,6 @@ use Rattle.channel_calls.specs.declared.stage.ListenerRef.{ListenerRef}
 use Rattle.channel_calls.specs.declared.stage.WaitList.TheVariants.{Sends, Receives, Streams, Closings}
 use Rattle.channel_world_model.proofs.WaiterLemmas.{decided, or_true, same_sound}
 use Rattle.channel_world_model.specs.Lines.{same_waiter, is_among}
-use Rattle.channel_world_model.specs.Names as model
 use Rattle.channel_world_model.specs.Names.{at}
 use Rattle.channel_world_model.specs.Refusal.{handle_fits, operation_fits, a_receiver, an_operation}
 use Rattle.channel_world_model.specs.Settling.{poll_of}
@@ -18,17 +17,17 @@ use Rattle.channel_world_model.specs.declared.name.HandleId.{HandleId}
 use Rattle.channel_world_model.specs.declared.name.HandleKind.{HandleKind}
 use Rattle.channel_world_model.specs.declared.name.HandleKind.TheVariants as handle_kind
 use Rattle.channel_world_model.specs.declared.name.OpId.{OpId}
+use Rattle.channel_world_model.specs.declared.name.Operation.{Operation}
+use Rattle.channel_world_model.specs.declared.name.Operation.TheVariants as live
 use Rattle.channel_world_model.specs.declared.name.Waiter.{Waiter}
 use Rattle.channel_world_model.specs.declared.name.Waiter.TheVariants.{Op, Stream}
 use Rattle.channel_world_runs.specs.Order.{order_begun}
 use Rattle.channel_world_runs.specs.OwnerOrder.{was_woken, woken_in}
 use Rattle.channel_world_runs.specs.Owners.{NameStatus, free, retired, invalid, rests, waits, polled, no_stream_status, stream_status, operation_status, status_by, status}
 use Rattle.channel_world_runs.specs.Refusal.{begin_refusal}
-use Rattle.channel_world_runs.specs.NameTable.{is_polled, operation_of, names_of}
+use Rattle.channel_world_runs.specs.NameTable.{is_polled, names_of}
 use Rattle.channel_world_runs.specs.declared.names.HandleEntry.{HandleEntry}
-use Rattle.channel_world_runs.specs.declared.names.Operation.{Operation}
-use Rattle.channel_world_model.specs.declared.name.OperationKind.{OperationKind}
-use Rattle.channel_world_model.specs.declared.name.OperationKind.TheVariants as kind
+use Rattle.channel_world_runs.specs.declared.names.OperationEntry.{OperationEntry}
 use Rattle.channel_world_runs.specs.declared.names.PollState.{PollState}
 use Rattle.channel_world_runs.specs.declared.names.PollState.TheVariants.{Rests, Waits, IsPolled}
 use Rattle.channel_world_runs.specs.declared.name_table.NameTable.{NameTable}
@@ -95,31 +94,31 @@ stands_there None h w e = absurd (let no : free ≡ waits h w = e in cc)
 stands_there (Some None) h w e = absurd (let no : retired ≡ waits h w = e in cc)
 stands_there (Some (Some x)) h w e = let k = receives_and_rests x.handle.kind x.poll_state h w e in (x, refl, k.0, k.1)
 
-waits_and_rests : {T : Type 0} → (k : OperationKind) (m : Option T) (x : PollState) (h : ListenerRef) (w : Bool) → operation_status k m x ≡ waits h w
+waits_and_rests : {T : Type 0} → (y : Operation T) (x : PollState) (h : ListenerRef) (w : Bool) → operation_status y x ≡ waits h w
     → is_polled x ≡ false
-waits_and_rests kind.Send None (IsPolled z) h w e = absurd (let no : polled Sends ≡ waits h w = e in cc)
-waits_and_rests kind.Send (Some m) (IsPolled z) h w e = absurd (let no : polled Sends ≡ waits h w = e in cc)
-waits_and_rests kind.Receive m (IsPolled z) h w e = absurd (let no : polled Receives ≡ waits h w = e in cc)
-waits_and_rests kind.Closing m (IsPolled z) h w e = absurd (let no : polled Closings ≡ waits h w = e in cc)
-waits_and_rests k m x h w e = refl
+waits_and_rests (live.Send g None) (IsPolled z) h w e = absurd (let no : polled Sends ≡ waits h w = e in cc)
+waits_and_rests (live.Send g (Some m)) (IsPolled z) h w e = absurd (let no : polled Sends ≡ waits h w = e in cc)
+waits_and_rests (live.Receive g) (IsPolled z) h w e = absurd (let no : polled Receives ≡ waits h w = e in cc)
+waits_and_rests (live.Closing g) (IsPolled z) h w e = absurd (let no : polled Closings ≡ waits h w = e in cc)
+waits_and_rests y x h w e = refl
 
 module _ {T : Type 0} where
-  lives_there : (o : Option (Option (Operation T))) (h : ListenerRef) (w : Bool)
-      → status_by (λ (x : Operation T). operation_status x.kind x.message x.poll_state) o ≡ waits h w
-      → (x : Operation T) × (o ≡ Some (Some x)) × (is_polled x.poll_state ≡ false)
+  lives_there : (o : Option (Option (OperationEntry T))) (h : ListenerRef) (w : Bool)
+      → status_by (λ (x : OperationEntry T). operation_status x.operation x.poll_state) o ≡ waits h w
+      → (x : OperationEntry T) × (o ≡ Some (Some x)) × (is_polled x.poll_state ≡ false)
   lives_there None h w e = absurd (let no : free ≡ waits h w = e in cc)
   lives_there (Some None) h w e = absurd (let no : retired ≡ waits h w = e in cc)
-  lives_there (Some (Some x)) h w e = (x, refl, waits_and_rests x.kind x.message x.poll_state h w e)
+  lives_there (Some (Some x)) h w e = (x, refl, waits_and_rests x.operation x.poll_state h w e)
 
   operation_admitted : (r : NameTable T) (op : OpId) (h : ListenerRef) (w : Bool) → status r (Op op) ≡ waits h w → Admitted r (call.Poll op)
   operation_admitted r op h w e =
       let x = lives_there (lookup (nat_eq op.0) r.operations) h w e in
-      let there : at op.0 r.operations ≡ Some x.0 = ap (λ (o : Option (Option (Operation T))). option_map_or (λ (y : Option (Operation T)). y) o None) x.1 in
-      let seen : at op.0 (names_of r).operations ≡ Some (operation_of x.0) = operation_at r op.0 ∙ ap (λ (o : Option (Operation T)). option_map operation_of o) there in
+      let there : at op.0 r.operations ≡ Some x.0 = ap (λ (o : Option (Option (OperationEntry T))). option_map_or (λ (y : Option (OperationEntry T)). y) o None) x.1 in
+      let seen : at op.0 (names_of r).operations ≡ Some x.0.operation = operation_at r op.0 ∙ ap (λ (o : Option (OperationEntry T)). option_map (λ (y : OperationEntry T). y.operation) o) there in
       record {
-        live = ap (λ (o : Option (model.ModelOperation T)). is_some o && true) seen;
-        fit = ap (λ (o : Option (model.ModelOperation T)). option_map_or (operation_fits an_operation) o false && true) seen;
-        free_of_polls = ap (λ (o : Option (Operation T)). option_map_or (λ (y : Operation T). is_polled y.poll_state) o false) there ∙ x.2;
+        live = ap (λ (o : Option (Operation T)). is_some o && true) seen;
+        fit = ap (λ (o : Option (Operation T)). option_map_or (operation_fits an_operation) o false && true) seen;
+        free_of_polls = ap (λ (o : Option (OperationEntry T)). option_map_or (λ (y : OperationEntry T). is_polled y.poll_state) o false) there ∙ x.2;
         new = refl;
       }
 

@@ -8,11 +8,11 @@ use Rattle.channel_world_model.specs.declared.call.Call.{Call}
 use Rattle.channel_world_model.specs.declared.call.Call.TheVariants as call
 use Rattle.channel_world_model.specs.declared.refusal.WorldRefusal.{WorldRefusal}
 use Rattle.channel_world_model.specs.declared.refusal.WorldRefusal.TheVariants.{Busy, Idle, UnknownName, WrongKind, OpUnderWay, Borrowed, NameTaken}
-use Rattle.channel_world_runs.specs.NameTable.{is_polled, polled_refusal, operation_of, names_of, is_at_work}
+use Rattle.channel_world_runs.specs.NameTable.{is_polled, polled_refusal, names_of, is_at_work}
 use Rattle.channel_world_model.specs.Plan.{want_of, plan_of}
 use Rattle.channel_world_runs.specs.declared.names.Agent.{Agent}
 use Rattle.channel_world_runs.specs.declared.names.HandleEntry.{HandleEntry}
-use Rattle.channel_world_runs.specs.declared.names.Operation.{Operation}
+use Rattle.channel_world_runs.specs.declared.names.OperationEntry.{OperationEntry}
 use Rattle.channel_world_runs.specs.declared.name_table.NameTable.{NameTable}
 use Rattle.channel_world_model.specs.declared.plan.Plan.{Plan}
 use Rattle.channel_world_model.specs.declared.plan.Plan.TheVariants as plan
@@ -43,7 +43,7 @@ unlike_handles a b = Some UnknownName
 module _ {T : Type 0} where
   -- whether a poll of it is under way
   abbrev pub is_operation_polled : ℕ → NameTable T → Bool
-  is_operation_polled op r = option_map_or (λ (o : Operation T). is_polled o.poll_state) (at op r.operations) false
+  is_operation_polled op r = option_map_or (λ (o : OperationEntry T). is_polled o.poll_state) (at op r.operations) false
 
   abbrev pub is_stream_polled : ℕ → NameTable T → Bool
   is_stream_polled handle r = option_map_or (λ (h : HandleEntry). is_polled h.poll_state) (at handle r.handles) false
@@ -87,14 +87,14 @@ module _ {T : Type 0} where
   -- ---- the same, shape by shape, with one look at each name
 
   -- of an operation that is polled or given up
-  abbrev pub unfit_operation : Option (Operation T) → Option WorldRefusal
+  abbrev pub unfit_operation : Option (OperationEntry T) → Option WorldRefusal
   unfit_operation None = Some UnknownName
   unfit_operation (Some o) = polled_refusal o.poll_state
 
   -- of one that is asked whether it has finished
-  abbrev pub unfit_send : Option (Operation T) → Option WorldRefusal
+  abbrev pub unfit_send : Option (OperationEntry T) → Option WorldRefusal
   unfit_send None = Some UnknownName
-  unfit_send (Some o) = if operation_fits a_send (operation_of o) then None else Some WrongKind
+  unfit_send (Some o) = if operation_fits a_send o.operation then None else Some WrongKind
 
   abbrev pub planned_refusal : NameTable T → Plan → Option WorldRefusal
   planned_refusal r (plan.Through wanted handle) = unfit_handle (want_of wanted) (at handle.0 r.handles)

@@ -4,7 +4,7 @@ ghost use Rattle.channel_world_runs.specs.Refusal.{or_else};
 
 use crate::name_table::NameTable;
 use channel_world_model::call::Call;
-use channel_world_model::name::{HandleId, HandleKind, OpId, OperationKind};
+use channel_world_model::name::{HandleId, HandleKind, OpId, Operation};
 use channel_world_model::plan::{Plan, Wanted};
 use channel_world_model::refusal::WorldRefusal;
 
@@ -75,9 +75,11 @@ impl<T> NameTable<T> {
         ensures { result ≡ unfit_send (at op.0 self.now.operations) }
     {
         match self.operations.get(op.0) {
-            Some(operation) => match operation.kind {
-                OperationKind::Send => None,
-                OperationKind::Receive | OperationKind::Closing => Some(WorldRefusal::WrongKind),
+            Some(entry) => match entry.operation {
+                Operation::Send { .. } => None,
+                Operation::Receive { .. } | Operation::Closing { .. } => {
+                    Some(WorldRefusal::WrongKind)
+                }
             },
             None => Some(WorldRefusal::UnknownName),
         }
