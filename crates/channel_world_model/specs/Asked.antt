@@ -1,12 +1,11 @@
 -- What a call by names asks of its channel.
-use Rattle.std.specs.Prelude.{Bool, true, false, Option, None, Some, if◌then◌else◌}
+use Rattle.std.specs.Prelude.{true, Option, None, Some}
 use Rattle.channel_calls.specs.Asks.{lent}
 use Rattle.channel_calls.specs.declared.ask.ChannelAsk.{ChannelAsk}
 use Rattle.channel_calls.specs.declared.ask.ChannelAsk.TheVariants as ask
 use Rattle.channel_calls.specs.declared.stage.Side.TheVariants.{Senders, Receivers}
 use Rattle.channel_world_model.specs.Names.{Names, at, message_of, waits_in}
 use Rattle.channel_world_model.specs.Answer.{is_finished}
-use Rattle.channel_world_model.specs.Plan.{plan_of}
 use Rattle.channel_world_model.specs.declared.call.Call.{Call}
 use Rattle.channel_world_model.specs.declared.call.Call.TheVariants as call
 use Rattle.channel_world_model.specs.declared.name.HandleKind.TheVariants.{Sender, Receiver, WeakSender, WeakReceiver}
@@ -17,10 +16,6 @@ use Rattle.channel_world_model.specs.declared.name.Operation.TheVariants as live
 use Rattle.channel_world_model.specs.declared.name.Waiter.{Waiter}
 use Rattle.channel_world_model.specs.declared.name.Waiter.TheVariants.{Op, Stream}
 use Rattle.channel_world_model.specs.declared.name.Handle.{Handle}
-use Rattle.channel_world_model.specs.declared.plan.Kinship.{Kinship}
-use Rattle.channel_world_model.specs.declared.plan.Kinship.TheVariants as kinship
-use Rattle.channel_world_model.specs.declared.plan.Plan.{Plan}
-use Rattle.channel_world_model.specs.declared.plan.Plan.TheVariants as plan
 use Rattle.event_listener.specs.declared.key.Key.{Key}
 
 -- the key of the listener that an operation or a stream holds
@@ -84,13 +79,7 @@ module _ {T : Type 0} where
     | WeakReceiver ↦ ask.Upgrade Receivers
   ]
 
-  -- what the making of a handle from another asks; a weak one is not counted
-  abbrev pub mint_asked : Kinship → Option Handle → ChannelAsk T Waiter
-  mint_asked kinship.Own h = clone_asked h
-  mint_asked kinship.Weak h = ask.Make
-  mint_asked kinship.Strong h = upgrade_asked h
-
-  -- what a call that goes through one handle asks
+  -- what a call that goes through one handle asks; one that makes an operation or a weak handle asks nothing
   abbrev pub plain_asked : Call T → ChannelAsk T Waiter
   plain_asked (call.StreamIsTerminated receiver) = ask.IsTerminated
   plain_asked (call.TrySend sender msg) = ask.TrySend msg
@@ -107,28 +96,18 @@ module _ {T : Type 0} where
   plain_asked (call.ReceiverCount handle) = ask.HandleCount Receivers
   plain_asked c = ask.Make
 
-  -- a poll that was refused its waker
-  abbrev pub is_refused : Call T → Bool
-  is_refused (call.PollRefused op) = true
-  is_refused c = false
-
-  -- what a call of this plan asks of the channel
-  abbrev pub asked_by : KeysHeld → Names T → Call T → Plan → ChannelAsk T Waiter
-  asked_by held names c (plan.Through wanted handle) = plain_asked c
-  asked_by held names c (plan.ThroughBoth a b) = ask.SameChannel true
-  asked_by held names c (plan.Makes wanted handle op kind) = ask.Make
-  asked_by held names c (plan.Polls op) =
-      let operation = at op.0 names.operations in
-      if is_refused c then refusal_asked (held (Op op)) operation else poll_asked (held (Op op)) op operation
-  asked_by held names c (plan.GivesUp op) = giving_up_asked (held (Op op)) (at op.0 names.operations)
-  asked_by held names c (plan.Asks op) = ask.SendIsTerminated (is_finished (at op.0 names.operations))
-  asked_by held names c (plan.Streams receiver) = ask.PollNext (held (Stream receiver)) (Stream receiver)
-  asked_by held names c (plan.Drops handle) = drop_asked (held (Stream handle)) (at handle.0 names.handles)
-  asked_by held names c (plan.Mints wanted from new to) = mint_asked to (at from.0 names.handles)
-
   -- what a call asks of the channel
   abbrev pub asked : KeysHeld → Names T → Call T → ChannelAsk T Waiter
-  asked held names c = asked_by held names c (plan_of c)
+  asked held names (call.Poll op) = poll_asked (held (Op op)) op (at op.0 names.operations)
+  asked held names (call.PollRefused op) = refusal_asked (held (Op op)) (at op.0 names.operations)
+  asked held names (call.GiveUp op) = giving_up_asked (held (Op op)) (at op.0 names.operations)
+  asked held names (call.SendIsTerminated op) = ask.SendIsTerminated (is_finished (at op.0 names.operations))
+  asked held names (call.PollNext receiver) = ask.PollNext (held (Stream receiver)) (Stream receiver)
+  asked held names (call.Drop handle) = drop_asked (held (Stream handle)) (at handle.0 names.handles)
+  asked held names (call.TryClone handle new) = clone_asked (at handle.0 names.handles)
+  asked held names (call.Upgrade weak new) = upgrade_asked (at weak.0 names.handles)
+  asked held names (call.SameChannel a b) = ask.SameChannel true
+  asked held names c = plain_asked c
 
   -- who keeps the listener that a call leaves, if any does
   abbrev pub keeper_in : Names T → Call T → Option Waiter

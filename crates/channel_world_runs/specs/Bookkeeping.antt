@@ -1,12 +1,12 @@
 -- What a call asks as it begins, what it does to the names then, and what it writes back at its end.
-use Rattle.std.specs.Prelude.{◌≡◌, List, [], ◌∷◌, false, is_some, Option, None, Some}
+use Rattle.std.specs.Prelude.{◌≡◌, List, [], ◌∷◌, Bool, true, false, is_some, Option, None, Some}
 use Rattle.std.specs.Option.{option_map_or}
 use Rattle.channel_calls.specs.declared.ask.ChannelAsk.{ChannelAsk}
 use Rattle.channel_calls.specs.declared.ask.ChannelAsk.TheVariants as ask
 use Rattle.channel_calls.specs.declared.reply.Reply.{Reply}
 use Rattle.channel_calls.specs.declared.reply.Reply.TheVariants as reply
 use Rattle.channel_calls.specs.declared.stage.Returned.{Returned}
-use Rattle.channel_world_model.specs.Asked.{asked_by}
+use Rattle.channel_world_model.specs.Asked.{asked, clone_asked, upgrade_asked}
 use Rattle.channel_world_model.specs.Names.{at, borrowed_by, message_of, with_message, new_operation, with_spent, with_changed, without_name}
 use Rattle.channel_world_model.specs.declared.call.Call.{Call}
 use Rattle.channel_world_model.specs.declared.call.Call.TheVariants as call
@@ -26,20 +26,18 @@ use Rattle.channel_world_runs.specs.declared.names.HandleEntry.{HandleEntry}
 use Rattle.channel_world_runs.specs.declared.names.OperationEntry.{OperationEntry}
 use Rattle.channel_world_runs.specs.declared.names.PollState.TheVariants.{Rests, IsPolled}
 use Rattle.channel_world_runs.specs.declared.name_table.NameTable.{NameTable}
+use Rattle.channel_world_model.specs.declared.plan.Kinship.{Kinship}
+use Rattle.channel_world_model.specs.declared.plan.Kinship.TheVariants as kinship
 use Rattle.channel_world_model.specs.declared.plan.Plan.{Plan}
 use Rattle.channel_world_model.specs.declared.plan.Plan.TheVariants as plan
 
 module _ {T : Type 0} where
   -- ---- the beginning
 
-  -- a send whose message is with a poll under way has not finished; any other call asks what it asks when it is alone
-  abbrev pub asks_by : NameTable T → Call T → Plan → ChannelAsk T Waiter
-  asks_by r c (plan.Asks op) = ask.SendIsTerminated (option_map_or is_done (at op.0 r.operations) false)
-  asks_by r c p = asked_by (held_of r) (names_of r) c p
-
-  -- what a call asks
+  -- what a call asks when it is alone; but a send whose message is with a poll under way has not finished
   abbrev pub asks : NameTable T → Call T → ChannelAsk T Waiter
-  asks r c = asks_by r c (plan_of c)
+  asks r (call.SendIsTerminated op) = ask.SendIsTerminated (option_map_or is_done (at op.0 r.operations) false)
+  asks r c = asked (held_of r) (names_of r) c
 
   -- an operation that was never polled
   abbrev pub unpolled : Operation T → OperationEntry T
@@ -123,6 +121,17 @@ module _ {T : Type 0} where
   -- a call has begun that asks this, has this to write back, and leaves these names
   abbrev pub Starts : ChannelAsk T Waiter → OnReturn T → NameTable T → Begun T → NameTable T → Type 0
   Starts a on_return names begun new = (begun.ask ≡ a) × (begun.on_return ≡ on_return) × (new ≡ names)
+
+  -- what the making of a handle from another asks; a weak one is not counted
+  abbrev pub mint_asked : Kinship → Option Handle → ChannelAsk T Waiter
+  mint_asked kinship.Own h = clone_asked h
+  mint_asked kinship.Weak h = ask.Make
+  mint_asked kinship.Strong h = upgrade_asked h
+
+  -- whether a poll was refused its waker
+  abbrev pub is_refused : Call T → Bool
+  is_refused (call.PollRefused op) = true
+  is_refused c = false
 
   -- a call has begun
   pub record BeginsByName (old : NameTable T) (c : Call T) (begun : Begun T) (new : NameTable T) : Type 0 where

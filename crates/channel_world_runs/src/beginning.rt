@@ -1,8 +1,8 @@
 //! What calls do to the names as they begin, what they ask of the channel, and what they will have to write back.
 
 ghost use Rattle.std.specs.Prelude.{◌≡◌, Some};
-ghost use Rattle.channel_world_model.specs.Asked.{poll_asked, refusal_asked, drop_asked, clone_asked, upgrade_asked, mint_asked, plain_asked, is_refused};
-ghost use Rattle.channel_world_runs.specs.Bookkeeping.{new_message, unpolled};
+ghost use Rattle.channel_world_model.specs.Asked.{poll_asked, refusal_asked, drop_asked, clone_asked, upgrade_asked, plain_asked};
+ghost use Rattle.channel_world_runs.specs.Bookkeeping.{is_refused, mint_asked, new_message, unpolled};
 
 use crate::name_table::NameTable;
 use crate::names::{OnReturn, OperationEntry, PollState};
@@ -153,12 +153,11 @@ fn making<T>(op: OpId, operation: Operation<T>) -> Begun<T>
 impl<T: Drop> NameTable<T> {
     ghost use Rattle.std.specs.Prelude.{◌≡◌, None, Some, List, false, IfOk, OnErr, IfErr, IfSome, IfNone};
     ghost use Rattle.std.specs.Bool.{OnTrue, OnFalse};
-    ghost use Rattle.channel_world_model.specs.Asked.{mint_asked, poll_asked, refusal_asked};
     ghost use Rattle.channel_world_model.specs.Names.{at, is_taken};
     ghost use Rattle.channel_world_model.specs.Plan.{kin};
     ghost use Rattle.channel_world_model.specs.declared.name.Waiter.{Waiter};
     ghost use Rattle.channel_world_model.specs.declared.name.Waiter.TheVariants.{Op};
-    ghost use Rattle.channel_world_runs.specs.Bookkeeping.{BeginsByName, Starts, lent_to_poll, new_from, operation_named, handle_named, with_operation};
+    ghost use Rattle.channel_world_runs.specs.Bookkeeping.{BeginsByName, Starts, lent_to_poll, mint_asked, new_from, operation_named, handle_named, with_operation};
     ghost use Rattle.channel_world_runs.specs.NameTable.{held_of, names_of, with_lent, with_borrowed};
     ghost use Rattle.channel_world_runs.specs.Order.{order_begun};
     ghost use Rattle.channel_world_runs.specs.Refusal.{takes_again};
