@@ -7,6 +7,7 @@ use Rattle.channel_calls.specs.declared.ask.ChannelAsk.{ChannelAsk}
 use Rattle.channel_calls.specs.declared.blocked.Blocked.{Blocked}
 use Rattle.channel_calls.specs.declared.blocked.Blocked.TheVariants.{Send, Receive}
 use Rattle.channel_steps.specs.every_run.BridgeBlocks.{first_poll, poll_refused}
+use Rattle.channel_world_model.proofs.DirectoryLemmas.{at_seen}
 use Rattle.channel_world_model.specs.Asked.{poll_asked, refusal_asked}
 use Rattle.channel_world_model.specs.Names.{at}
 use Rattle.channel_world_model.specs.declared.call.Call.TheVariants.{Poll, PollRefused}
@@ -23,7 +24,6 @@ use Rattle.channel_world_runs.specs.declared.names.PollState.{PollState}
 use Rattle.channel_world_runs.specs.declared.names.PollState.TheVariants.{Rests, Waits}
 use Rattle.channel_world_runs.specs.declared.name_table.NameTable.{NameTable}
 use Rattle.channel_world_runs.proofs.OwnerBegins.{key_is}
-use Rattle.channel_world_runs.proofs.RefusalLemmas.{operation_at}
 use Rattle.channel_world.specs.BlocksByNames.{operation_for, StandsFor, PollsByName}
 
 module _ {T : Type 0} where
@@ -33,7 +33,7 @@ module _ {T : Type 0} where
   -- the operation as one call at a time sees it
   seen : (b : Blocked T) (op : OpId) (r : NameTable T) (s : PollState) (f : StandsFor b s op r)
       → at op.0 (names_of r).operations ≡ Some (operation_for b f.handle)
-  seen b op r s f = operation_at r op.0 ∙ ap (option_map (λ (x : OperationEntry T). x.operation)) f.lives
+  seen b op r s f = at_seen (λ (x : OperationEntry T). x.operation) op.0 r.operations ∙ ap (option_map (λ (x : OperationEntry T). x.operation)) f.lives
 
   holds : (b : Blocked T) (op : OpId) (r : NameTable T) (s : PollState) → StandsFor b s op r → held_of r (Op op) ≡ key_of s
   holds b op r s f = key_is r op _ f.lives

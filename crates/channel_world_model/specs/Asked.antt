@@ -4,7 +4,7 @@ use Rattle.channel_calls.specs.Asks.{lent}
 use Rattle.channel_calls.specs.declared.ask.ChannelAsk.{ChannelAsk}
 use Rattle.channel_calls.specs.declared.ask.ChannelAsk.TheVariants as ask
 use Rattle.channel_calls.specs.declared.stage.Side.TheVariants.{Senders, Receivers}
-use Rattle.channel_world_model.specs.Names.{Names, at, message_of, waits_in}
+use Rattle.channel_world_model.specs.Names.{Names, at, own_message, waits_in}
 use Rattle.channel_world_model.specs.Answer.{is_finished}
 use Rattle.channel_world_model.specs.declared.call.Call.{Call}
 use Rattle.channel_world_model.specs.declared.call.Call.TheVariants as call
@@ -44,11 +44,11 @@ module _ {T : Type 0} where
   poll_asked key op None = ask.Make
 
   abbrev pub refusal_asked : Option Key → Option (Operation T) → ChannelAsk T Waiter
-  refusal_asked key (Some operation) = ask.RefusePoll (waits_in operation) (message_of operation) key
+  refusal_asked key (Some operation) = ask.RefusePoll (waits_in operation) (own_message operation) key
   refusal_asked key None = ask.Make
 
   abbrev pub giving_up_asked : Option Key → Option (Operation T) → ChannelAsk T Waiter
-  giving_up_asked key (Some operation) = ask.GiveUp (waits_in operation) (message_of operation) key
+  giving_up_asked key (Some operation) = ask.GiveUp (waits_in operation) (own_message operation) key
   giving_up_asked key None = ask.Make
 
   -- of a handle, whose stream holds this listener or none

@@ -1,7 +1,7 @@
 -- In which order messages leave, and what becomes of those that are refused: calls made one at a time.
 use Rattle.std.specs.Prelude.{◌≡◌, ◌<◌, ℕ, List, [], length, Option, None, Some, Err, slice_get}
 use Rattle.channel_world_model.specs.Laws.{removed, accepted}
-use Rattle.channel_world_model.specs.Names.{at, message_of}
+use Rattle.channel_world_model.specs.Names.{at, own_message}
 use Rattle.channel_world_model.specs.Run.{MayBeDone, Runs}
 use Rattle.channel_world_model.specs.State.{State, start}
 use Rattle.channel_world_model.specs.declared.call.Call.{Call}
@@ -30,7 +30,7 @@ LeavesInTurn T =
 
 -- the message of the operation, if it is an unfinished send
 abbrev pub unsent_in : {T : Type 0} → Option (Operation T) → Option T
-unsent_in (Some operation) = message_of operation
+unsent_in (Some operation) = own_message operation
 unsent_in None = None
 
 abbrev pub unsent_at : {T : Type 0} → OpId → State T → Option T

@@ -50,10 +50,10 @@ borrowed_by (live.Receive handle) = handle
 borrowed_by (live.Closing handle) = handle
 
 -- the message of an unfinished send
-abbrev pub message_of : {T : Type 0} → Operation T → Option T
-message_of (live.Send handle message) = message
-message_of (live.Receive handle) = None
-message_of (live.Closing handle) = None
+abbrev pub own_message : {T : Type 0} → Operation T → Option T
+own_message (live.Send handle message) = message
+own_message (live.Receive handle) = None
+own_message (live.Closing handle) = None
 
 -- the same, where it is a send with this message, or with none
 abbrev pub with_message : {T : Type 0} → Option T → Operation T → Operation T

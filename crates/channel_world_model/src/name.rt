@@ -93,7 +93,7 @@ fn is_same(a: WaitList, b: WaitList) -> bool
 impl<T> Operation<T> {
     ghost use Rattle.std.specs.Prelude.{◌≡◌, Some, None, is_some};
     ghost use Rattle.channel_world_model.specs.Laws.{is_line, line_of_operation};
-    ghost use Rattle.channel_world_model.specs.Names.{borrowed_by, message_of, with_message, waits_in};
+    ghost use Rattle.channel_world_model.specs.Names.{borrowed_by, own_message, with_message, waits_in};
 
     /// The handle that it borrows.
     pub fn handle(&self) -> HandleId
@@ -132,7 +132,7 @@ impl<T> Operation<T> {
 
     /// Whether it has a message.
     pub fn has_message(&self) -> bool
-        ensures { result ≡ is_some (message_of self.now) }
+        ensures { result ≡ is_some (own_message self.now) }
     {
         match self {
             Operation::Send { handle: _, message } => message.is_some(),
@@ -156,7 +156,7 @@ impl<T> Operation<T> {
 
     /// Its message: that of an unfinished send.
     pub fn into_message(self) -> Option<T>
-        ensures { result ≡ message_of self }
+        ensures { result ≡ own_message self }
     {
         match self {
             Operation::Send { handle: _, message } => message,

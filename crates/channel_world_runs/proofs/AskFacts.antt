@@ -8,7 +8,7 @@ use Rattle.channel_calls.specs.declared.stage.WaitList.{WaitList}
 use Rattle.channel_calls.specs.declared.stage.Side.{Side}
 use Rattle.channel_calls.specs.declared.stage.Side.TheVariants.{Senders, Receivers}
 use Rattle.channel_world_model.specs.Asked.{poll_asked, refusal_asked, giving_up_asked, drop_asked, clone_asked, upgrade_asked}
-use Rattle.channel_world_model.specs.Names.{message_of, waits_in}
+use Rattle.channel_world_model.specs.Names.{own_message, waits_in}
 use Rattle.channel_world_model.specs.declared.name.Handle.{Handle}
 use Rattle.channel_world_model.specs.declared.name.HandleKind.{HandleKind}
 use Rattle.channel_world_model.specs.declared.name.HandleKind.TheVariants.{Sender, Receiver, WeakSender, WeakReceiver}
@@ -30,12 +30,12 @@ module _ {T : Type 0} (P : ChannelAsk T Waiter → Type 0) (make : P ask.Make) w
 
   pub of_refused : ((line : WaitList) (m : Option T) (key : Option Key) → P (ask.RefusePoll line m key))
       → (key : Option Key) (o : Option (Operation T)) → P (refusal_asked key o)
-  of_refused refuses key (Some x) = refuses (waits_in x) (message_of x) key
+  of_refused refuses key (Some x) = refuses (waits_in x) (own_message x) key
   of_refused refuses key None = make
 
   pub of_given_up : ((line : WaitList) (m : Option T) (key : Option Key) → P (ask.GiveUp line m key))
       → (key : Option Key) (o : Option (Operation T)) → P (giving_up_asked key o)
-  of_given_up gives key (Some x) = gives (waits_in x) (message_of x) key
+  of_given_up gives key (Some x) = gives (waits_in x) (own_message x) key
   of_given_up gives key None = make
 
   pub of_dropped : P ask.DropSender → ((key : Option Key) → P (ask.DropReceiver key)) → P ask.DropWeak

@@ -12,7 +12,7 @@ use Rattle.channel_world_model.specs.declared.name.Waiter.{Waiter}
 use Rattle.channel_world_model.specs.declared.name.Waiter.TheVariants.{Op, Stream}
 use Rattle.channel_world_model.specs.declared.plan.Plan.{Plan}
 use Rattle.channel_world_model.specs.declared.plan.Plan.TheVariants as plan
-use Rattle.channel_world_runs.specs.Bookkeeping.{BeginsByName, Starts, asks, is_refused, mint_asked, names_planned, new_message, returns}
+use Rattle.channel_world_runs.specs.Bookkeeping.{BeginsByName, Starts, asks, is_poll_refused, mint_asked, names_planned, new_message, returns}
 use Rattle.channel_world_runs.specs.NameTable.{is_done, held_of, names_of}
 use Rattle.channel_world_runs.specs.Order.{order_begun, order_planned}
 use Rattle.channel_world_runs.specs.Refusal.{again_planned, takes_again}
@@ -27,7 +27,7 @@ module _ {T : Type 0} (old : NameTable T) (c : Call T) where
   asks_by (plan.Makes wanted handle op kind) = ask.Make
   asks_by (plan.Polls op) =
       let operation = at op.0 (names_of old).operations in
-      if is_refused c then refusal_asked (held_of old (Op op)) operation else poll_asked (held_of old (Op op)) op operation
+      if is_poll_refused c then refusal_asked (held_of old (Op op)) operation else poll_asked (held_of old (Op op)) op operation
   asks_by (plan.GivesUp op) = giving_up_asked (held_of old (Op op)) (at op.0 (names_of old).operations)
   asks_by (plan.Asks op) = ask.SendIsTerminated (option_map_or is_done (at op.0 old.operations) false)
   asks_by (plan.Streams receiver) = ask.PollNext (held_of old (Stream receiver)) (Stream receiver)

@@ -11,7 +11,7 @@ use Rattle.channel_calls.specs.declared.stage.WaitList.{WaitList}
 use Rattle.channel_calls.specs.declared.stage.WaitList.TheVariants.{Sends, Receives, Closings}
 use Rattle.channel_world_model.specs.Asked.{poll_asked}
 use Rattle.channel_world_model.specs.Lines.{without_waiter}
-use Rattle.channel_world_model.specs.Names.{Directory, at, is_taken, message_of, with_message, waits_in}
+use Rattle.channel_world_model.specs.Names.{Directory, at, is_taken, own_message, with_message, waits_in}
 use Rattle.channel_world_model.specs.Refusal.{uses, is_live, are_fit, takes_borrowed}
 use Rattle.channel_world_model.specs.declared.call.Call.{Call}
 use Rattle.channel_world_model.specs.declared.call.Call.TheVariants as call
@@ -219,7 +219,7 @@ module _ {T : Type 0} where
       → Sets (status r) (status (with_operation lent_to_poll op r)) (Op op) (polled (waits_in f.operation.operation))
   now_polled r op f =
       let s = op_changed r op lent_to_poll f.operation f.is in
-      record { there = s.there ∙ lent_polled f.operation.operation (is_some (message_of f.operation.operation)); others = s.others }
+      record { there = s.there ∙ lent_polled f.operation.operation (is_some (own_message f.operation.operation)); others = s.others }
 
   -- a poll of an operation, refused its waker or not
   pub polls_with : (r : NameTable T) (op : OpId) (f : Found r op) (a : ChannelAsk T Waiter)

@@ -12,7 +12,7 @@ use Rattle.channel_calls.specs.declared.stage.WaitList.TheVariants.{Streams}
 use Rattle.channel_world_model.specs.Answer.{weak_of, strong_of}
 use Rattle.channel_world_model.specs.Asked.{refusal_asked, giving_up_asked, drop_asked}
 use Rattle.channel_world_model.specs.Lines.{without_waiter}
-use Rattle.channel_world_model.specs.Names.{at, borrowed_by, is_taken, message_of, waits_in, without_name}
+use Rattle.channel_world_model.specs.Names.{at, borrowed_by, is_taken, own_message, waits_in, without_name}
 use Rattle.channel_world_model.specs.Refusal.{handle_fits, a_receiver}
 use Rattle.channel_world_model.specs.declared.call.Call.{Call}
 use Rattle.channel_world_model.specs.declared.call.Call.TheVariants as call
@@ -104,7 +104,7 @@ module _ {T : Type 0} where
       → Touches (status r) (status (names_begun r (call.PollRefused op))) (on_return.Poll op) (asks r (call.PollRefused op)) (placed (Op op))
   refuses r op f =
       let o = f.operation in
-      let same : asks r (call.PollRefused op) ≡ ask.RefusePoll (waits_in o.operation) (message_of o.operation) (key_of o.poll_state) =
+      let same : asks r (call.PollRefused op) ≡ ask.RefusePoll (waits_in o.operation) (own_message o.operation) (key_of o.poll_state) =
       ap (λ (x : Option (Operation T)). refusal_asked (held_of r (Op op)) x) (seen_is r op f)
       ∙ ap (λ (key : Option Key). refusal_asked key (Some o.operation)) (key_is r op o f.is) in
       polls_with r op f (asks r (call.PollRefused op)) (ap ask_holds same) (inl (ap wait_of same))
@@ -113,7 +113,7 @@ module _ {T : Type 0} where
       → Touches (status r) (status (names_begun r (call.GiveUp op))) (on_return_of r (call.GiveUp op)) (asks r (call.GiveUp op)) (without_waiter (Op op))
   gives_up r op f =
       let o = f.operation in
-      let same : asks r (call.GiveUp op) ≡ ask.GiveUp (waits_in o.operation) (message_of o.operation) (key_of o.poll_state) =
+      let same : asks r (call.GiveUp op) ≡ ask.GiveUp (waits_in o.operation) (own_message o.operation) (key_of o.poll_state) =
       ap (λ (x : Option (Operation T)). giving_up_asked (held_of r (Op op)) x) (seen_is r op f)
       ∙ ap (λ (key : Option Key). giving_up_asked key (Some o.operation)) (key_is r op o f.is) in
       let looked : is_some (lookup (nat_eq op.0) r.operations) ≡ true = ap (λ x. is_some x) (found op.0 r.operations o f.is) in

@@ -24,7 +24,7 @@ use Rattle.channel_world_model.specs.Asked.{poll_asked}
 use Rattle.channel_world_model.specs.Laws.{is_line, line_of_operation}
 use Rattle.channel_world_model.specs.Laws as laws
 use Rattle.channel_world_model.specs.Settling.{poll_of}
-use Rattle.channel_world_model.specs.Names.{at, message_of}
+use Rattle.channel_world_model.specs.Names.{at, own_message}
 use Rattle.channel_world_model.specs.declared.call.Call.{Call}
 use Rattle.channel_world_model.specs.declared.call.Call.TheVariants as call
 use Rattle.channel_world_model.specs.declared.name.HandleId.{HandleId}
@@ -51,12 +51,12 @@ module _ {T : Type 0} where
   abbrev BringsNone : ChannelAsk T Waiter → Type 0
   BringsNone a = length (brought a) ≡ 0
 
-  none_polled : (key : Option Key) (op : OpId) (x : Operation T) → is_some (message_of x) ≡ false → length (brought (poll_asked key op (Some x))) ≡ 0
+  none_polled : (key : Option Key) (op : OpId) (x : Operation T) → is_some (own_message x) ≡ false → length (brought (poll_asked key op (Some x))) ≡ 0
   none_polled key op (live.Send h (Some m)) e = absurd (let no : true ≡ false = e in cc)
   none_polled key op x e = refl
 
   by_entry : (key : Option Key) (op : OpId) (o : Option (OperationEntry T))
-      → option_map_or (λ (x : OperationEntry T). is_some (message_of x.operation)) o false ≡ false
+      → option_map_or (λ (x : OperationEntry T). is_some (own_message x.operation)) o false ≡ false
       → length (brought (poll_asked key op (option_map (λ (x : OperationEntry T). x.operation) o))) ≡ 0
   by_entry key op None e = refl
   by_entry key op (Some x) e = none_polled key op x.operation e
@@ -86,11 +86,11 @@ module _ {T : Type 0} where
       ap (λ (o : Option (Operation T)). is_line Sends (line_of_operation o)) (refusals.operation_at r op.0)
       ∙ by (at op.0 r.operations) e
     where
-      brings_one : (x : Operation T) → is_some (message_of x) ≡ true → is_line Sends (line_of_operation (Some x)) ≡ true
+      brings_one : (x : Operation T) → is_some (own_message x) ≡ true → is_line Sends (line_of_operation (Some x)) ≡ true
       brings_one (live.Send h (Some m)) has = refl
       brings_one x has = absurd (let no : false ≡ true = has in cc)
 
-      by : (o : Option (OperationEntry T)) → option_map_or (λ (x : OperationEntry T). is_some (message_of x.operation)) o false ≡ true
+      by : (o : Option (OperationEntry T)) → option_map_or (λ (x : OperationEntry T). is_some (own_message x.operation)) o false ≡ true
           → is_line Sends (line_of_operation (option_map (λ (x : OperationEntry T). x.operation) o)) ≡ true
       by None has = absurd (let no : false ≡ true = has in cc)
       by (Some x) has = brings_one x.operation has

@@ -7,7 +7,7 @@ use Rattle.channel_calls.specs.declared.reply.Reply.{Reply}
 use Rattle.channel_calls.specs.declared.reply.Reply.TheVariants as reply
 use Rattle.channel_calls.specs.declared.stage.Returned.{Returned}
 use Rattle.channel_world_model.specs.Asked.{asked, clone_asked, upgrade_asked}
-use Rattle.channel_world_model.specs.Names.{at, borrowed_by, message_of, with_message, new_operation, with_spent, with_changed, without_name}
+use Rattle.channel_world_model.specs.Names.{at, borrowed_by, own_message, with_message, new_operation, with_spent, with_changed, without_name}
 use Rattle.channel_world_model.specs.declared.call.Call.{Call}
 use Rattle.channel_world_model.specs.declared.call.Call.TheVariants as call
 use Rattle.channel_world_model.specs.declared.name.Handle.{Handle}
@@ -83,7 +83,7 @@ module _ {T : Type 0} where
 
   -- a poll has what the operation had
   abbrev pub lent_to_poll : OperationEntry T → OperationEntry T
-  lent_to_poll o = record { operation = with_message None o.operation; poll_state = IsPolled (is_some (message_of o.operation)) }
+  lent_to_poll o = record { operation = with_message None o.operation; poll_state = IsPolled (is_some (own_message o.operation)) }
 
   -- what lives under the operation's name is changed so, where something lives
   abbrev pub with_operation : (OperationEntry T → OperationEntry T) → OpId → NameTable T → NameTable T
@@ -129,9 +129,9 @@ module _ {T : Type 0} where
   mint_asked kinship.Strong h = upgrade_asked h
 
   -- whether a poll was refused its waker
-  abbrev pub is_refused : Call T → Bool
-  is_refused (call.PollRefused op) = true
-  is_refused c = false
+  abbrev pub is_poll_refused : Call T → Bool
+  is_poll_refused (call.PollRefused op) = true
+  is_poll_refused c = false
 
   -- a call has begun
   pub record BeginsByName (old : NameTable T) (c : Call T) (begun : Begun T) (new : NameTable T) : Type 0 where

@@ -13,7 +13,7 @@ use Rattle.channel_calls.specs.declared.stage.Stage.TheVariants.{Trying, Working
 use Rattle.channel_calls.specs.declared.stage.Waiting.TheVariants as waiting
 use Rattle.channel_calls.specs.declared.stage.ListStep.{ListStep}
 use Rattle.channel_calls.specs.declared.stage.ListStep.TheVariants.{Insert, Register}
-use Rattle.channel_world_model.specs.Names.{at, message_of}
+use Rattle.channel_world_model.specs.Names.{at, own_message}
 use Rattle.channel_world_model.specs.declared.call.Call.{Call}
 use Rattle.channel_world_model.specs.declared.call.Call.TheVariants as call
 use Rattle.channel_steps.specs.Configuration.{ActiveCall}
@@ -60,7 +60,7 @@ module _ {T : Type 0} where
   abbrev pub brings : NameTable T → Call T → Bool
   brings r (call.TrySend sender m) = true
   brings r (call.ForceSend sender m) = true
-  brings r (call.Poll op) = option_map_or (λ (o : OperationEntry T). is_some (message_of o.operation)) (at op.0 r.operations) false
+  brings r (call.Poll op) = option_map_or (λ (o : OperationEntry T). is_some (own_message o.operation)) (at op.0 r.operations) false
   brings r c = false
 
   -- how many a call has brought in that may bring one, by its reply

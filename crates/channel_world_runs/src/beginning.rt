@@ -2,7 +2,7 @@
 
 ghost use Rattle.std.specs.Prelude.{◌≡◌, Some};
 ghost use Rattle.channel_world_model.specs.Asked.{poll_asked, refusal_asked, drop_asked, clone_asked, upgrade_asked, plain_asked};
-ghost use Rattle.channel_world_runs.specs.Bookkeeping.{is_refused, mint_asked, new_message, unpolled};
+ghost use Rattle.channel_world_runs.specs.Bookkeeping.{is_poll_refused, mint_asked, new_message, unpolled};
 
 use crate::name_table::NameTable;
 use crate::names::{OnReturn, OperationEntry, PollState};
@@ -129,8 +129,8 @@ fn new_message<T: Drop>(call: Call<T>) -> Option<T>
 }
 
 /// Whether a poll was refused its waker.
-fn is_refused<T>(call: &Call<T>) -> bool
-    ensures { result ≡ is_refused call.now }
+fn is_poll_refused<T>(call: &Call<T>) -> bool
+    ensures { result ≡ is_poll_refused call.now }
 {
     matches!(call, Call::PollRefused { .. })
 }
@@ -359,7 +359,7 @@ impl<T: Drop> NameTable<T> {
                 }
                 Ok(making(op, Operation::new(kind, handle, new_message(call))))
             }
-            Plan::Polls(op) if is_refused(&call) => Ok(self.poll_refused(op)),
+            Plan::Polls(op) if is_poll_refused(&call) => Ok(self.poll_refused(op)),
             Plan::Polls(op) => Ok(self.poll(op)),
             Plan::GivesUp(op) => Ok(self.give_up(op)),
             Plan::Asks(op) => Ok(self.send_is_terminated(op)),

@@ -1,5 +1,5 @@
 -- How names stand as calls begin and end, in as much as it tells who is pending and who was woken.
-use Rattle.channel_world_runs.proofs.rest.Words.{◌≡◌, ℕ, nat_eq, Bool, false, Option, None, Some, is_some, refl, ap, ◌∙◌, lookup, set_value, option_map_or, Key, set_absent, same_waiter, Directory, at, HandleId, HandleKind, OpId, Waiter, Op, Stream, lent_to_poll, with_operation, was_woken, NameStatus, free, retired, stream_status, status_by, operation_status, status, with_handle, poll_state_with, HandleEntry, OperationEntry, Rests, IsPolled, NameTable, op_status, handle_entry_status, set_there, set_other, Operation, with_message, message_of}
+use Rattle.channel_world_runs.proofs.rest.Words.{◌≡◌, ℕ, nat_eq, Bool, false, Option, None, Some, is_some, refl, ap, ◌∙◌, lookup, set_value, option_map_or, Key, set_absent, same_waiter, Directory, at, HandleId, HandleKind, OpId, Waiter, Op, Stream, lent_to_poll, with_operation, was_woken, NameStatus, free, retired, stream_status, status_by, operation_status, status, with_handle, poll_state_with, HandleEntry, OperationEntry, Rests, IsPolled, NameTable, op_status, handle_entry_status, set_there, set_other, Operation, with_message, own_message}
 use Rattle.channel_world_model.specs.declared.name.HandleKind.TheVariants as handle_kind
 use Rattle.channel_world_model.specs.declared.name.Operation.TheVariants as live
 use Rattle.channel_world_runs.proofs.rest.LoneDirectory.{changed_at, changed_none, changed_some}
@@ -118,7 +118,7 @@ module _ {T : Type 0} where
   -- ---- what is polled is not pending, and what was polled was not woken since
 
   pub lent_off : (o : OperationEntry T) → is_pending (op_status (lent_to_poll o)) ≡ false
-  lent_off o = polled_off o.operation (is_some (message_of o.operation))
+  lent_off o = polled_off o.operation (is_some (own_message o.operation))
 
   pub left_off : (x : Operation T) (m : Option T) (key : Option Key)
       → was_woken (operation_status (with_message m x) (poll_state_with key)) ≡ false

@@ -44,7 +44,7 @@ pub use Rattle.channel_world_model.specs.Asked.{KeysHeld, asked, poll_asked, str
 pub use Rattle.channel_world_model.specs.Awake.{Kind, times, AwakeIn, times_in, Enough, Placed}
 pub use Rattle.channel_world_model.specs.Laws.{is_line, same_line, line_at, line_of_operation, count_of, free_places}
 pub use Rattle.channel_world_model.specs.Lines.{same_waiter, is_among, Waiting, without_waiter, untold}
-pub use Rattle.channel_world_model.specs.Names.{Names, at, borrowed_by, message_of, with_message, Directory, with_changed, with_spent, with_new, used_once_less, lent_once_more, is_taken}
+pub use Rattle.channel_world_model.specs.Names.{Names, at, borrowed_by, own_message, with_message, Directory, with_changed, with_spent, with_new, used_once_less, lent_once_more, is_taken}
 pub use Rattle.channel_world_model.specs.Refusal.{uses, is_live, are_fit, takes_borrowed, Want}
 pub use Rattle.channel_world_model.specs.State.{State}
 pub use Rattle.channel_world_model.specs.declared.call.Call.{Call}
