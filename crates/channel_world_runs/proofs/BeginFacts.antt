@@ -1,56 +1,82 @@
--- A call begins as its plan says.
-use Rattle.std.proofs.Common.{◌≡◌, List, true, false, if◌then◌else◌, refl, sym, ap, ◌∙◌}
-use Rattle.std.specs.Option.{option_map_or}
+-- How calls begin: of what stands in the table as one call at a time sees it.
+use Rattle.std.proofs.Common.{◌≡◌, Option, None, refl, sym, ap, subst, ◌∙◌}
+use Rattle.std.specs.Option.{option_map, option_map_or}
+use Rattle.event_listener.specs.declared.key.Key.{Key}
 use Rattle.channel_calls.specs.declared.ask.ChannelAsk.{ChannelAsk}
-use Rattle.channel_calls.specs.declared.ask.ChannelAsk.TheVariants as ask
-use Rattle.channel_world_model.specs.Asked.{poll_asked, refusal_asked, giving_up_asked, drop_asked, plain_asked}
-use Rattle.channel_world_model.specs.Names.{at}
-use Rattle.channel_world_model.specs.Plan.{plan_of}
+use Rattle.channel_world_model.specs.Asked.{giving_up_asked, drop_asked}
+use Rattle.channel_world_model.specs.Names.{at, without_name}
+use Rattle.channel_world_model.specs.Plan.{kin, plan_of}
 use Rattle.channel_world_model.specs.declared.call.Call.{Call}
 use Rattle.channel_world_model.specs.declared.call.Call.TheVariants as call
+use Rattle.channel_world_model.specs.declared.name.Handle.{Handle}
+use Rattle.channel_world_model.specs.declared.name.HandleId.{HandleId}
+use Rattle.channel_world_model.specs.declared.name.OpId.{OpId}
+use Rattle.channel_world_model.specs.declared.name.Operation.{Operation}
 use Rattle.channel_world_model.specs.declared.name.Waiter.{Waiter}
 use Rattle.channel_world_model.specs.declared.name.Waiter.TheVariants.{Op, Stream}
+use Rattle.channel_world_model.specs.declared.plan.Kinship.{Kinship}
 use Rattle.channel_world_model.specs.declared.plan.Plan.{Plan}
 use Rattle.channel_world_model.specs.declared.plan.Plan.TheVariants as plan
-use Rattle.channel_world_runs.specs.Bookkeeping.{BeginsByName, Starts, asks, is_poll_refused, mint_asked, names_planned, new_message, returns}
-use Rattle.channel_world_runs.specs.NameTable.{is_done, held_of, names_of}
-use Rattle.channel_world_runs.specs.Order.{order_begun, order_planned}
-use Rattle.channel_world_runs.specs.Refusal.{again_planned, takes_again}
+use Rattle.channel_world_model.specs.declared.plan.Wanted.{Wanted}
+use Rattle.channel_world_runs.specs.Bookkeeping.{BeginsByName, Starts, asks, handed_over_by, handle_named, leave_handle_of, mint_asked, names_planned, new_from, new_message, returns}
+use Rattle.channel_world_runs.specs.NameTable.{held_of, key_of, names_of, with_lent}
 use Rattle.channel_world_runs.specs.declared.beginning.Begun.{Begun}
 use Rattle.channel_world_runs.specs.declared.name_table.NameTable.{NameTable}
+use Rattle.channel_world_runs.specs.declared.names.HandleEntry.{HandleEntry}
+use Rattle.channel_world_runs.specs.declared.names.OnReturn.TheVariants as on_return
+use Rattle.channel_world_runs.specs.declared.names.OperationEntry.{OperationEntry}
+use Rattle.channel_world_runs.proofs.RefusalLemmas.{handle_there, operation_at}
 
-module _ {T : Type 0} (old : NameTable T) (c : Call T) where
-  -- what a call of this plan asks
-  abbrev pub asks_by : Plan → ChannelAsk T Waiter
-  asks_by (plan.Through wanted handle) = plain_asked c
-  asks_by (plan.ThroughBoth a b) = ask.SameChannel true
-  asks_by (plan.Makes wanted handle op kind) = ask.Make
-  asks_by (plan.Polls op) =
-      let operation = at op.0 (names_of old).operations in
-      if is_poll_refused c then refusal_asked (held_of old (Op op)) operation else poll_asked (held_of old (Op op)) op operation
-  asks_by (plan.GivesUp op) = giving_up_asked (held_of old (Op op)) (at op.0 (names_of old).operations)
-  asks_by (plan.Asks op) = ask.SendIsTerminated (option_map_or is_done (at op.0 old.operations) false)
-  asks_by (plan.Streams receiver) = ask.PollNext (held_of old (Stream receiver)) (Stream receiver)
-  asks_by (plan.Drops handle) = drop_asked (held_of old (Stream handle)) (at handle.0 (names_of old).handles)
-  asks_by (plan.Mints wanted from new to) = mint_asked to (at from.0 (names_of old).handles)
+module _ {T : Type 0} (r : NameTable T) where
+  pub handle_is : (handle : HandleId) (o : Option HandleEntry) → o ≡ at handle.0 r.handles
+      → option_map (λ (h : HandleEntry). h.handle) o ≡ at handle.0 (names_of r).handles
+  handle_is handle o e = ap (option_map (λ (h : HandleEntry). h.handle)) e ∙ handle_there r handle.0
 
-module _ {T : Type 0} (old : NameTable T) where
-  asked_by : (c : Call T) → asks_by old c (plan_of c) ≡ asks old c
-  asked_by (call.Poll op) = refl
-  asked_by c = refl
+  pub operation_is : (op : OpId) (o : Option (OperationEntry T)) → o ≡ at op.0 r.operations
+      → option_map (λ (x : OperationEntry T). x.operation) o ≡ at op.0 (names_of r).operations
+  operation_is op o e = ap (option_map (λ (x : OperationEntry T). x.operation)) e ∙ sym (operation_at r op.0)
 
-module _ {T : Type 0} (old : NameTable T) (c : Call T) (p : Plan) (is : plan_of c ≡ p) where
-  pub begins_by : (b : Begun T) (new : NameTable T) → Starts (asks_by old c p) (returns old (new_message c) p) (names_planned p old) b new → BeginsByName old c b new
-  begins_by b new s = record {
-    ask = s.0 ∙ (sym (ap (λ (q : Plan). asks_by old c q) is) ∙ asked_by old c);
-    on_return = s.1 ∙ sym (ap (λ (q : Plan). returns old (new_message c) q) is);
-    names = s.2 ∙ sym (ap (λ (q : Plan). names_planned q old) is);
+  -- an operation is given up
+  pub gives_up : (op : OpId) (o : Option (OperationEntry T)) → o ≡ at op.0 r.operations → (b : Begun T) (new : NameTable T)
+      → Starts (giving_up_asked (option_map_or (λ (x : OperationEntry T). key_of x.poll_state) o None) (option_map (λ (x : OperationEntry T). x.operation) o))
+      (leave_handle_of o) (handed_over_by o (record r { operations = without_name op.0 r.operations })) b new → BeginsByName r (call.GiveUp op) b new
+  gives_up op o e b new s = record {
+    ask = s.0 ∙ (ap (λ (x : Option (OperationEntry T)). giving_up_asked (option_map_or (λ (y : OperationEntry T). key_of y.poll_state) x None)
+        (option_map (λ (y : OperationEntry T). y.operation) o)) e
+        ∙ ap (λ (x : Option (Operation T)). giving_up_asked (held_of r (Op op)) x) (operation_is op o e));
+    on_return = s.1 ∙ ap leave_handle_of e;
+    names = s.2 ∙ ap (λ (x : Option (OperationEntry T)). handed_over_by x (record r { operations = without_name op.0 r.operations })) e;
   }
 
-  -- a new name is new
-  pub new_by : takes_again old c ≡ false → again_planned old p ≡ false
-  new_by e = sym (ap (λ (q : Plan). again_planned old q) is) ∙ e
+  -- a handle is dropped
+  pub drops : (handle : HandleId) (o : Option HandleEntry) → o ≡ at handle.0 r.handles → (a : ChannelAsk T Waiter) (new : NameTable T)
+      → a ≡ drop_asked (option_map_or (λ (h : HandleEntry). key_of h.poll_state) o None) (option_map (λ (h : HandleEntry). h.handle) o)
+      → new ≡ record r { handles = without_name handle.0 r.handles }
+      → BeginsByName r (call.Drop handle) (record { ask = a; on_return = on_return.Nothing }) new
+  drops handle o e a new is names = record {
+    ask = is ∙ (ap (λ (x : Option HandleEntry). drop_asked (option_map_or (λ (h : HandleEntry). key_of h.poll_state) x None)
+        (option_map (λ (h : HandleEntry). h.handle) o)) e
+        ∙ ap (λ (x : Option Handle). drop_asked (held_of r (Stream handle)) x) (handle_is handle o e));
+    on_return = refl;
+    names = names;
+  }
 
-  -- and the order of waking stays where the plan leaves it
-  pub ordered_by : (ws : List Waiter) → order_planned p ws ≡ ws → order_begun c ws ≡ ws
-  ordered_by ws e = ap (λ (q : Plan). order_planned q ws) is ∙ e
+  -- what a call asks that makes a handle from another
+  abbrev MintsSo : ChannelAsk T Waiter → Plan → Type 0
+  MintsSo a (plan.Mints wanted from new to) = a ≡ mint_asked to (at from.0 (names_of r).handles)
+  MintsSo a p = Unit {0}
+
+  mints_so : (c : Call T) → MintsSo (asks r c) (plan_of c)
+  mints_so (call.TryClone handle new) = refl
+  mints_so (call.Downgrade handle new) = refl
+  mints_so (call.Upgrade weak new) = refl
+  mints_so c = tt
+
+  pub mints : (c : Call T) (wanted : Wanted) (from new : HandleId) (to : Kinship) → plan_of c ≡ plan.Mints wanted from new to → (b : Begun T) (after : NameTable T)
+      → Starts (mint_asked to (at from.0 (names_of r).handles)) (new_from from new (kin to) (at from.0 (names_of r).handles)) (with_lent from (handle_named new r)) b after
+      → BeginsByName r c b after
+  mints c wanted from new to is b after s = record {
+    ask = s.0 ∙ sym (subst (λ (p : Plan). MintsSo (asks r c) p) is (mints_so c));
+    on_return = s.1 ∙ sym (ap (λ (p : Plan). returns r (new_message c) p) is);
+    names = s.2 ∙ sym (ap (λ (p : Plan). names_planned p r) is);
+  }

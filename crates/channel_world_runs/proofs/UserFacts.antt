@@ -34,6 +34,7 @@ use Rattle.channel_world_model.specs.declared.plan.Plan.{Plan}
 use Rattle.channel_world_model.specs.declared.plan.Plan.TheVariants as plan
 use Rattle.channel_world_runs.specs.declared.step.PartyId.{PartyId}
 use Rattle.channel_world_runs.proofs.OwnerNames.{same_number, own_number, number_or, set_there, set_other, found, is_there, handle_none}
+use Rattle.channel_world_runs.proofs.RefusalLemmas.{handle_there}
 
 -- a handle is used by no more calls, and borrowed by no more operations, than these
 abbrev Few : ℕ → ℕ → HandleEntry → Type 0
@@ -230,7 +231,10 @@ module _ {T : Type 0} where
     named : (handle new : HandleId) (kind : HandleKind → HandleKind)
         → AreFew (λ name. n name + times_used name (let e : OnReturn T = new_from handle new kind (at handle.0 (names_of r).handles) in e)) (length r.operations)
         (with_lent handle (handle_named new r)).handles
-    named handle new kind = by (at handle.0 r.handles) refl where
+    named handle new kind =
+        subst (λ (x : Option Handle). AreFew (λ name. n name + times_used name (let e : OnReturn T = new_from handle new kind x in e)) (length r.operations)
+        (with_lent handle (handle_named new r)).handles) (handle_there r handle.0) (by (at handle.0 r.handles) refl)
+    where
       spent : AreFew n (length r.operations) (handle_named new r).handles
       spent = spent_few n (length r.operations) new.0 r.handles few
 

@@ -10,7 +10,6 @@ use Rattle.channel_world_model.specs.declared.call.Call.TheVariants as call
 use Rattle.channel_world_runs.proofs.refinement.Matching.{shows_moved, matching}
 use Rattle.channel_world_runs.proofs.refinement.News.{shut_lines, keys_news, keys_rooms, rooms_woken, room_lines, room_wakes, rooms_lines, rooms_wakes, message_lines, message_wakes, closing_lines, closing_wakes}
 use Rattle.channel_world_runs.proofs.refinement.Telling.{Lined}
-use Rattle.channel_world_model.specs.declared.name.Operation.TheVariants as live
 
 pub full_as : {T : Type 0} → (cap : Option ℕ) (items : List T) → is_full_at cap items ≡ option_map_or (λ (n : ℕ). length items == n) cap false
 full_as None items = refl
@@ -200,8 +199,8 @@ module _ {T : Type 0} (held : KeysHeld) (c : Channel T Waiter) (s : State T) (h 
 
     closing : (handle : HandleId) (closed : Bool) → c.queue.closed ≡ closed
         → Matches held s (call.Close handle) (if closed then ends [] (closer_ending closer.Call false) c else ends of_closing (closer_ending closer.Call true) (over_queue alone.with_closed c))
-    live.Closing handle true e = only_answers (call.Close handle) (reply.Closed false) _ refl (inl (rw (sym h.closed ∙ e) refl)) refl refl
-    live.Closing handle false e =
+    closing handle true e = only_answers (call.Close handle) (reply.Closed false) _ refl (inl (rw (sym h.closed ∙ e) refl)) refl refl
+    closing handle false e =
         let woken = closing_wakes (line_at s.names) held s.channel.closed c.roster s.waiting [] h.lines ∙ append-nil _ in
         record {
           answer = after_telling Closing (with_channel (shut s.channel) s) (reply.Closed true);
@@ -222,4 +221,4 @@ module _ {T : Type 0} (held : KeysHeld) (c : Channel T Waiter) (s : State T) (h 
         }
 
     pub close : (handle : HandleId) (o : Outcome T Waiter) → o ≡ closes closer.Call c → Matches held s (call.Close handle) o
-    close handle o e = subst (λ (x : Outcome T Waiter). Matches held s (call.Close handle) x) (sym e) (live.Closing handle c.queue.closed refl)
+    close handle o e = subst (λ (x : Outcome T Waiter). Matches held s (call.Close handle) x) (sym e) (closing handle c.queue.closed refl)
