@@ -233,8 +233,7 @@ module _ {T : Type 0} where
         (with_lent handle (handle_named new r)).handles
     named handle new kind =
         subst (λ (x : Option Handle). AreFew (λ name. n name + times_used name (let e : OnReturn T = new_from handle new kind x in e)) (length r.operations)
-        (with_lent handle (handle_named new r)).handles) (handle_there r handle.0) (by (at handle.0 r.handles) refl)
-    where
+        (with_lent handle (handle_named new r)).handles) (handle_there r handle.0) (by (at handle.0 r.handles) refl) where
       spent : AreFew n (length r.operations) (handle_named new r).handles
       spent = spent_few n (length r.operations) new.0 r.handles few
 
