@@ -8,7 +8,7 @@ use Rattle.channel_calls.specs.declared.stage.WaitList.TheVariants.{Sends, Recei
 use Rattle.channel_world_model.specs.Answer.{Answer, answer, replying, after_telling, space_of, Found, first, none_yet, none_ever, found, displacing, next_answer, strong_handles, dropped, one_more, news_without_one, drop_one, drop_answer, poll_answer, poll_refused_answer, give_up_answer, send_poll_answer, recv_poll_answer, try_send_answer, force_send_answer, try_recv_answer, recv_many_answer, clone_answer, downgrade_answer, upgrade_answer, close_answer, shut, strong_of}
 use Rattle.channel_calls.specs.Model.{ModelChannel}
 use Rattle.channel_world_model.specs.Lines.{Waiting, untold, told_by, after_news, told_by_rooms, gone, passed_on, told_after, is_among, is_stream, without_waiter}
-use Rattle.channel_world_model.specs.Names.{ModelOperation, send, recv, closing, at}
+use Rattle.channel_world_model.specs.Names.{at}
 use Rattle.channel_world_model.specs.Refused.{Answers, Lack, memory, serials, answer_without, not_held, send_not_polled, recv_not_polled, not_polled, next_not_polled}
 use Rattle.channel_world_model.specs.State.{State, with_channel, with_waiting}
 use Rattle.channel_world_model.specs.declared.call.Call.{Call}
@@ -18,6 +18,8 @@ use Rattle.channel_world_model.specs.declared.name.HandleId.{HandleId}
 use Rattle.channel_world_model.specs.declared.name.HandleKind.{HandleKind}
 use Rattle.channel_world_model.specs.declared.name.HandleKind.TheVariants.{Sender, Receiver, WeakSender, WeakReceiver}
 use Rattle.channel_world_model.specs.declared.name.OpId.{OpId}
+use Rattle.channel_world_model.specs.declared.name.Operation.{Operation}
+use Rattle.channel_world_model.specs.declared.name.Operation.TheVariants as live
 use Rattle.channel_world_model.specs.declared.name.Waiter.{Waiter}
 use Rattle.channel_world_model.specs.declared.name.Waiter.TheVariants.{Op, Stream}
 use Rattle.channel_world_model.specs.declared.news.News.TheVariants.{Nothing, Message, Room, Closing, NextIn}
@@ -178,23 +180,23 @@ module _ {T : Type 0} where
   few_recv s op none_yet = none s
   few_recv s op none_ever = few_leave_nothing Receives (Op op) s
 
-  few_poll : (s : State T) (op : OpId) (o : Option (ModelOperation T)) → Few s (poll_answer s op o)
-  few_poll s op (Some (send handle (Some m))) = few_send s op handle m (space_of s.channel)
-  few_poll s op (Some (send handle None)) = none s
-  few_poll s op (Some (recv handle)) = few_recv s op (found s.channel)
-  few_poll s op (Some (closing handle)) = few_if s.channel.closed _ _ _ (few_leave_nothing Closings (Op op) s) (none s)
+  few_poll : (s : State T) (op : OpId) (o : Option (Operation T)) → Few s (poll_answer s op o)
+  few_poll s op (Some (live.Send handle (Some m))) = few_send s op handle m (space_of s.channel)
+  few_poll s op (Some (live.Send handle None)) = none s
+  few_poll s op (Some (live.Receive handle)) = few_recv s op (found s.channel)
+  few_poll s op (Some (live.Closing handle)) = few_if s.channel.closed _ _ _ (few_leave_nothing Closings (Op op) s) (none s)
   few_poll s op None = none s
 
-  few_refused : (s : State T) (op : OpId) (o : Option (ModelOperation T)) → Few s (poll_refused_answer s op o)
-  few_refused s op (Some (send handle msg)) = few_leave_nothing Sends (Op op) s
-  few_refused s op (Some (recv handle)) = few_leave_nothing Receives (Op op) s
-  few_refused s op (Some (closing handle)) = few_leave_nothing Closings (Op op) s
+  few_refused : (s : State T) (op : OpId) (o : Option (Operation T)) → Few s (poll_refused_answer s op o)
+  few_refused s op (Some (live.Send handle msg)) = few_leave_nothing Sends (Op op) s
+  few_refused s op (Some (live.Receive handle)) = few_leave_nothing Receives (Op op) s
+  few_refused s op (Some (live.Closing handle)) = few_leave_nothing Closings (Op op) s
   few_refused s op None = none s
 
-  few_give_up : (s : State T) (op : OpId) (o : Option (ModelOperation T)) → Few s (give_up_answer s op o)
-  few_give_up s op (Some (send handle msg)) = few_leave_nothing Sends (Op op) s
-  few_give_up s op (Some (recv handle)) = few_leave_nothing Receives (Op op) s
-  few_give_up s op (Some (closing handle)) = few_leave_nothing Closings (Op op) s
+  few_give_up : (s : State T) (op : OpId) (o : Option (Operation T)) → Few s (give_up_answer s op o)
+  few_give_up s op (Some (live.Send handle msg)) = few_leave_nothing Sends (Op op) s
+  few_give_up s op (Some (live.Receive handle)) = few_leave_nothing Receives (Op op) s
+  few_give_up s op (Some (live.Closing handle)) = few_leave_nothing Closings (Op op) s
   few_give_up s op None = none s
 
   few_drop_one : (s t : State T) (handle : HandleId) (kind : HandleKind) → t.waiting ≡ s.waiting → length (drop_one t handle kind).woken ≤ untold_count s.waiting
@@ -290,11 +292,11 @@ module _ {T : Type 0} where
   few_closing_lacks true s o f = tt
   few_closing_lacks false s o f = f
 
-  few_poll_lacks : (lack : Lack) (s : State T) (op : OpId) (o : Option (ModelOperation T)) → FewOf s (not_polled lack s op o)
-  few_poll_lacks lack s op (Some (send handle (Some m))) = few_send_lacks lack s op (space_of s.channel)
-  few_poll_lacks lack s op (Some (send handle None)) = tt
-  few_poll_lacks lack s op (Some (recv handle)) = few_recv_lacks lack s op (found s.channel)
-  few_poll_lacks lack s op (Some (closing handle)) = few_closing_lacks s.channel.closed s _ (few_unless (is_among (Op op) (untold Closings s.waiting)) s _ (none s))
+  few_poll_lacks : (lack : Lack) (s : State T) (op : OpId) (o : Option (Operation T)) → FewOf s (not_polled lack s op o)
+  few_poll_lacks lack s op (Some (live.Send handle (Some m))) = few_send_lacks lack s op (space_of s.channel)
+  few_poll_lacks lack s op (Some (live.Send handle None)) = tt
+  few_poll_lacks lack s op (Some (live.Receive handle)) = few_recv_lacks lack s op (found s.channel)
+  few_poll_lacks lack s op (Some (live.Closing handle)) = few_closing_lacks s.channel.closed s _ (few_unless (is_among (Op op) (untold Closings s.waiting)) s _ (none s))
   few_poll_lacks lack s op None = tt
 
   few_next_lacks : (lack : Lack) (s : State T) (w : Waiter) (f : Found T) → FewOf s (next_not_polled lack s w f)

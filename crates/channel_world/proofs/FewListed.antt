@@ -7,7 +7,7 @@ use Rattle.channel_calls.specs.declared.reply.Reply.TheVariants as reply
 use Rattle.channel_world_model.specs.Answer.{Answer, answer, space_of, Found, first, none_yet, none_ever, found, displacing, next_answer, strong_handles, dropped, one_more, drop_one, drop_answer, poll_answer, poll_refused_answer, give_up_answer, send_poll_answer, recv_poll_answer, try_send_answer, force_send_answer, try_recv_answer, recv_many_answer, clone_answer, downgrade_answer, upgrade_answer, close_answer, strong_of}
 use Rattle.channel_calls.specs.Model.{ModelChannel}
 use Rattle.channel_world_model.specs.Lines.{is_among, untold, gone}
-use Rattle.channel_world_model.specs.Names.{ModelOperation, send, recv, closing, at}
+use Rattle.channel_world_model.specs.Names.{at}
 use Rattle.channel_world_model.specs.Refused.{Answers, Lack, memory, serials, answer_without, not_held, not_received, send_not_polled, recv_not_polled, not_polled, next_not_polled}
 use Rattle.channel_world_model.specs.State.{State, with_waiting}
 use Rattle.channel_calls.specs.declared.stage.WaitList.TheVariants.{Sends, Receives, Streams, Closings}
@@ -18,6 +18,8 @@ use Rattle.channel_world_model.specs.declared.name.HandleId.{HandleId}
 use Rattle.channel_world_model.specs.declared.name.HandleKind.{HandleKind}
 use Rattle.channel_world_model.specs.declared.name.HandleKind.TheVariants.{Sender, Receiver, WeakSender, WeakReceiver}
 use Rattle.channel_world_model.specs.declared.name.OpId.{OpId}
+use Rattle.channel_world_model.specs.declared.name.Operation.{Operation}
+use Rattle.channel_world_model.specs.declared.name.Operation.TheVariants as live
 use Rattle.channel_world_model.specs.declared.name.Waiter.{Waiter}
 use Rattle.channel_world_model.specs.declared.name.Waiter.TheVariants.{Op, Stream}
 use Rattle.channel_world_model.specs.declared.space.Space.{Space}
@@ -70,23 +72,23 @@ module _ {T : Type 0} where
   bare_recv s op none_yet = omega arith
   bare_recv s op none_ever = omega arith
 
-  bare_poll : (s : State T) (op : OpId) (o : Option (ModelOperation T)) → Bare (poll_answer s op o)
-  bare_poll s op (Some (send handle (Some m))) = bare_send s op handle m (space_of s.channel)
-  bare_poll s op (Some (send handle None)) = omega arith
-  bare_poll s op (Some (recv handle)) = bare_recv s op (found s.channel)
-  bare_poll s op (Some (closing handle)) = bare_if s.channel.closed _ _ no_list no_list
+  bare_poll : (s : State T) (op : OpId) (o : Option (Operation T)) → Bare (poll_answer s op o)
+  bare_poll s op (Some (live.Send handle (Some m))) = bare_send s op handle m (space_of s.channel)
+  bare_poll s op (Some (live.Send handle None)) = omega arith
+  bare_poll s op (Some (live.Receive handle)) = bare_recv s op (found s.channel)
+  bare_poll s op (Some (live.Closing handle)) = bare_if s.channel.closed _ _ no_list no_list
   bare_poll s op None = omega arith
 
-  bare_refused : (s : State T) (op : OpId) (o : Option (ModelOperation T)) → Bare (poll_refused_answer s op o)
-  bare_refused s op (Some (send handle msg)) = omega arith
-  bare_refused s op (Some (recv handle)) = omega arith
-  bare_refused s op (Some (closing handle)) = omega arith
+  bare_refused : (s : State T) (op : OpId) (o : Option (Operation T)) → Bare (poll_refused_answer s op o)
+  bare_refused s op (Some (live.Send handle msg)) = omega arith
+  bare_refused s op (Some (live.Receive handle)) = omega arith
+  bare_refused s op (Some (live.Closing handle)) = omega arith
   bare_refused s op None = omega arith
 
-  bare_give_up : (s : State T) (op : OpId) (o : Option (ModelOperation T)) → Bare (give_up_answer s op o)
-  bare_give_up s op (Some (send handle msg)) = omega arith
-  bare_give_up s op (Some (recv handle)) = omega arith
-  bare_give_up s op (Some (closing handle)) = omega arith
+  bare_give_up : (s : State T) (op : OpId) (o : Option (Operation T)) → Bare (give_up_answer s op o)
+  bare_give_up s op (Some (live.Send handle msg)) = omega arith
+  bare_give_up s op (Some (live.Receive handle)) = omega arith
+  bare_give_up s op (Some (live.Closing handle)) = omega arith
   bare_give_up s op None = omega arith
 
   bare_drop_one : (t : State T) (handle : HandleId) (kind : HandleKind) → Bare (drop_one t handle kind)
@@ -193,11 +195,11 @@ module _ {T : Type 0} where
   bare_closing_lacks true o f = tt
   bare_closing_lacks false o f = f
 
-  bare_poll_lacks : (lack : Lack) (s : State T) (op : OpId) (o : Option (ModelOperation T)) → BareOf (not_polled lack s op o)
-  bare_poll_lacks lack s op (Some (send handle (Some m))) = bare_send_lacks lack s op (space_of s.channel)
-  bare_poll_lacks lack s op (Some (send handle None)) = tt
-  bare_poll_lacks lack s op (Some (recv handle)) = bare_recv_lacks lack s op (found s.channel)
-  bare_poll_lacks lack s op (Some (closing handle)) =
+  bare_poll_lacks : (lack : Lack) (s : State T) (op : OpId) (o : Option (Operation T)) → BareOf (not_polled lack s op o)
+  bare_poll_lacks lack s op (Some (live.Send handle (Some m))) = bare_send_lacks lack s op (space_of s.channel)
+  bare_poll_lacks lack s op (Some (live.Send handle None)) = tt
+  bare_poll_lacks lack s op (Some (live.Receive handle)) = bare_recv_lacks lack s op (found s.channel)
+  bare_poll_lacks lack s op (Some (live.Closing handle)) =
       bare_closing_lacks s.channel.closed _ (bare_unless (is_among (Op op) (untold Closings s.waiting)) _ no_list)
   bare_poll_lacks lack s op None = tt
 

@@ -2,7 +2,7 @@
 use Rattle.std.proofs.Common.{◌≡◌, inl, inr, ℕ, zero, suc, Err, Bool, true, false, cond, Option, Some, None, is_none, refl, subst}
 use Rattle.channel_calls.specs.declared.error.Refused.TheVariants.{NoMemory}
 use Rattle.channel_calls.specs.declared.reply.Reply.TheVariants as reply
-use Rattle.channel_world_model.specs.Names.{ModelOperation, send, recv, closing, at}
+use Rattle.channel_world_model.specs.Names.{at}
 use Rattle.channel_calls.specs.Model.{ModelChannel}
 use Rattle.channel_world_model.specs.State.{State}
 use Rattle.channel_world_model.specs.Lines.{is_among}
@@ -14,6 +14,8 @@ use Rattle.channel_world_language.specs.Text.{wants_growth}
 use Rattle.channel_world_model.specs.declared.space.Space.{Space}
 use Rattle.channel_world_model.specs.declared.space.Space.TheVariants.{Open, Filled, Shut}
 use Rattle.channel_world_model.specs.declared.name.OpId.{OpId}
+use Rattle.channel_world_model.specs.declared.name.Operation.{Operation}
+use Rattle.channel_world_model.specs.declared.name.Operation.TheVariants as live
 use Rattle.channel_world_model.specs.declared.name.Waiter.{Waiter}
 use Rattle.channel_world_model.specs.declared.name.Waiter.TheVariants.{Op, Stream}
 
@@ -48,12 +50,12 @@ closing_polled : (b : Bool) (o : Option (Answer ℕ)) (x : Answer ℕ) → (o �
 closing_polled true o x h e = cc
 closing_polled false o x h e = h e
 
-polled : (lack : Lack) (s : State ℕ) (op : OpId) (o : Option (ModelOperation ℕ)) (x : Answer ℕ) → not_polled lack s op o ≡ Some x → wants_growth x.reply ≡ true
-polled lack s op (Some (send handle (Some m))) x e = send_polled lack s op (space_of s.channel) x e
-polled lack s op (Some (send handle None)) x e = cc
-polled lack s op (Some (recv handle)) x e = recv_polled lack s op (found s.channel) x e
-polled memory s op (Some (closing handle)) x e = closing_polled s.channel.closed _ x (where_false (is_among (Op op) s.waiting.closings) _ x refl) e
-polled serials s op (Some (closing handle)) x e = closing_polled s.channel.closed _ x (where_false (is_among (Op op) s.waiting.closings) _ x refl) e
+polled : (lack : Lack) (s : State ℕ) (op : OpId) (o : Option (Operation ℕ)) (x : Answer ℕ) → not_polled lack s op o ≡ Some x → wants_growth x.reply ≡ true
+polled lack s op (Some (live.Send handle (Some m))) x e = send_polled lack s op (space_of s.channel) x e
+polled lack s op (Some (live.Send handle None)) x e = cc
+polled lack s op (Some (live.Receive handle)) x e = recv_polled lack s op (found s.channel) x e
+polled memory s op (Some (live.Closing handle)) x e = closing_polled s.channel.closed _ x (where_false (is_among (Op op) s.waiting.closings) _ x refl) e
+polled serials s op (Some (live.Closing handle)) x e = closing_polled s.channel.closed _ x (where_false (is_among (Op op) s.waiting.closings) _ x refl) e
 polled lack s op None x e = cc
 
 next_polled : (lack : Lack) (s : State ℕ) (w : Waiter) (f : Found ℕ) (x : Answer ℕ) → next_not_polled lack s w f ≡ Some x → wants_growth x.reply ≡ true

@@ -24,7 +24,7 @@ use Rattle.channel_world_runs.specs.Owners.{NameStatus, waits, status_by, stream
 use Rattle.channel_world_runs.specs.declared.doing.Doing.{Doing}
 use Rattle.channel_world_runs.specs.declared.world_state.WorldState.{WorldState}
 use Rattle.channel_world_runs.specs.declared.names.HandleEntry.{HandleEntry}
-use Rattle.channel_world_runs.specs.declared.names.Operation.{Operation}
+use Rattle.channel_world_runs.specs.declared.names.OperationEntry.{OperationEntry}
 use Rattle.channel_world_runs.specs.declared.name_table.NameTable.{NameTable}
 use Rattle.channel_world_runs.proofs.OwedCounts.{one_if, count_first}
 use Rattle.channel_world.specs.Asleep.{ALineIsAwake, NobodySleepsWhereClosed, NoReceiveSleeps, NoSendSleeps, NoStreamSleeps}
@@ -49,15 +49,15 @@ module _ {X : Type 0} (p : Waiter → Bool) (test : Option X → Bool) (name : �
 module _ {T : Type 0} (test : NameStatus → Bool) (r : NameTable T) (apart : AreApart r) where
   -- by how what lives there stands, no name twice
   pub by_entries : count_by (λ w. test (status r w)) (all_names r)
-      ≡ count_by (λ (e : ℕ × Option (Operation T)). test (operation_stance e.1)) r.operations
+      ≡ count_by (λ (e : ℕ × Option (OperationEntry T)). test (operation_stance e.1)) r.operations
       + count_by (λ (e : ℕ × Option HandleEntry). test (stream_stance e.1)) r.handles
   by_entries =
       let p : Waiter → Bool = λ w. test (status r w) in
       let op_name : ℕ → Waiter = λ n. Op (record { 0 = n }) in
       let stream_name : ℕ → Waiter = λ n. Stream (record { 0 = n }) in
-      let a = just_named p (λ (o : Option (Operation T)). test (operation_stance o)) op_name r.operations
+      let a = just_named p (λ (o : Option (OperationEntry T)). test (operation_stance o)) op_name r.operations
       (all_from _ r.operations (λ e there.
-      ap (λ (o : Option (Option (Operation T))). test (status_by (λ (x : Operation T). operation_status x.kind x.message x.poll_state) o))
+      ap (λ (o : Option (Option (OperationEntry T))). test (status_by (λ (x : OperationEntry T). operation_status x.operation x.poll_state) o))
       (lookup-from_Contains nat_eq_equiv e.0 e.1 r.operations apart.operations there))) in
       let b = just_named p (λ (o : Option HandleEntry). test (stream_stance o)) stream_name r.handles
       (all_from _ r.handles (λ e there.
@@ -86,21 +86,21 @@ abbrev stream_pends : WaitList → Option HandleEntry → Bool
 stream_pends line o = is_pending_on line (stream_stance o)
 
 module _ {T : Type 0} where
-  abbrev entry_woken : WaitList → Option (Operation T) → Bool
+  abbrev entry_woken : WaitList → Option (OperationEntry T) → Bool
   entry_woken line o = is_woken_on line (operation_stance o)
 
-  abbrev entry_pends : WaitList → Option (Operation T) → Bool
+  abbrev entry_pends : WaitList → Option (OperationEntry T) → Bool
   entry_pends line o = is_pending_on line (operation_stance o)
 
   -- where one of a line sleeps more are pending on it than are woken
   more_of_line : (line : WaitList) (name : Waiter) (r : NameTable T) → AreApart r → IsUnwoken line name r → suc (woken_on line r) ≤ pending_on_line line r
   more_of_line line name r apart asleep = by name asleep
     where
-      woken : woken_on line r ≡ count_by (λ (e : ℕ × Option (Operation T)). entry_woken line e.1) r.operations
+      woken : woken_on line r ≡ count_by (λ (e : ℕ × Option (OperationEntry T)). entry_woken line e.1) r.operations
           + count_by (λ (e : ℕ × Option HandleEntry). stream_woken line e.1) r.handles
       woken = by_entries (is_woken_on line) r apart
 
-      pends : pending_on_line line r ≡ count_by (λ (e : ℕ × Option (Operation T)). entry_pends line e.1) r.operations
+      pends : pending_on_line line r ≡ count_by (λ (e : ℕ × Option (OperationEntry T)). entry_pends line e.1) r.operations
           + count_by (λ (e : ℕ × Option HandleEntry). stream_pends line e.1) r.handles
       pends = by_entries (is_pending_on line) r apart
 
@@ -113,8 +113,8 @@ module _ {T : Type 0} where
       by : (w : Waiter) → IsUnwoken line w r → suc (woken_on line r) ≤ pending_on_line line r
       by (Op op) (key, e) = at_op (lookup (nat_eq op.0) r.operations) refl e
         where
-          at_op : (o : Option (Option (Operation T))) → lookup (nat_eq op.0) r.operations ≡ o
-              → status_by (λ (x : Operation T). operation_status x.kind x.message x.poll_state) o ≡ waits (record { line = line; key = key }) false
+          at_op : (o : Option (Option (OperationEntry T))) → lookup (nat_eq op.0) r.operations ≡ o
+              → status_by (λ (x : OperationEntry T). operation_status x.operation x.poll_state) o ≡ waits (record { line = line; key = key }) false
               → suc (woken_on line r) ≤ pending_on_line line r
           at_op None there so = cc so
           at_op (Some o) there so =
@@ -132,7 +132,7 @@ module _ {T : Type 0} where
           at_handle (Some o) there so =
               let more = one_more (stream_woken line) (stream_pends line) (λ x k. woken_pends line (stream_stance x) k) handle.0 o r.handles there
               (out _ key so) (on _ key so) in
-              let others = count_more (λ (f : ℕ × Option (Operation T)). entry_woken line f.1) (λ (f : ℕ × Option (Operation T)). entry_pends line f.1)
+              let others = count_more (λ (f : ℕ × Option (OperationEntry T)). entry_woken line f.1) (λ (f : ℕ × Option (OperationEntry T)). entry_pends line f.1)
               (λ f k. woken_pends line (operation_stance f.1) k) r.operations in
               omega (arith, more, others, woken, pends)
 

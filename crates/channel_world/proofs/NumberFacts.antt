@@ -27,9 +27,9 @@ use Rattle.channel_world_runs.specs.WorldInvariant.{WorldInvariant}
 use Rattle.channel_world_runs.specs.Run.{NameState}
 use Rattle.channel_world_runs.specs.declared.world_state.WorldState.{WorldState}
 use Rattle.channel_world_runs.specs.declared.names.HandleEntry.{HandleEntry}
-use Rattle.channel_world_runs.specs.declared.names.Operation.{Operation}
-use Rattle.channel_world_model.specs.declared.name.OperationKind.{OperationKind}
-use Rattle.channel_world_model.specs.declared.name.OperationKind.TheVariants as kind
+use Rattle.channel_world_runs.specs.declared.names.OperationEntry.{OperationEntry}
+use Rattle.channel_world_model.specs.declared.name.Operation.{Operation}
+use Rattle.channel_world_model.specs.declared.name.Operation.TheVariants as live
 use Rattle.channel_world_runs.specs.declared.names.PollState.{PollState}
 use Rattle.channel_world_runs.specs.declared.names.PollState.TheVariants.{Rests, Waits, IsPolled}
 use Rattle.channel_world_runs.specs.declared.name_table.NameTable.{NameTable}
@@ -138,7 +138,7 @@ module _ {T : Type 0} (r : NameTable T) where
   pub pending_holds : (w : Waiter) → stands_so stands_pending r w ≡ is_some (held_of r w)
   pending_holds (Op op) = by (at op.0 r.operations)
     where
-      by : (o : Option (Operation T)) → operation_stands stands_pending o ≡ is_some (option_map_or (λ (x : Operation T). key_of x.poll_state) o None)
+      by : (o : Option (OperationEntry T)) → operation_stands stands_pending o ≡ is_some (option_map_or (λ (x : OperationEntry T). key_of x.poll_state) o None)
       by None = refl
       by (Some x) = refl
   pending_holds (Stream handle) = by (at handle.0 r.handles)
@@ -171,17 +171,17 @@ module _ {T : Type 0} (r : NameTable T) where
   woken_send None (IsPolled brings) fine = refl
   woken_send (Some m) s fine = woken_on Sends s
 
-  woken_operation : (k : OperationKind) (m : Option T) (s : PollState) → (operation_status k m s ≡ invalid → ⊥)
-      → is_woken s ≡ was_woken (operation_status k m s)
-  woken_operation kind.Send m s fine = woken_send m s fine
-  woken_operation kind.Receive m s fine = woken_on Receives s
-  woken_operation kind.Closing m s fine = woken_on Closings s
+  woken_operation : (x : Operation T) (s : PollState) → (operation_status x s ≡ invalid → ⊥)
+      → is_woken s ≡ was_woken (operation_status x s)
+  woken_operation (live.Send h m) s fine = woken_send m s fine
+  woken_operation (live.Receive h) s fine = woken_on Receives s
+  woken_operation (live.Closing h) s fine = woken_on Closings s
 
   abbrev lives : {X : Type 0} → Option (Option X) → Option X
   lives o = option_map_or (λ (x : Option _). x) o None
 
-  abbrev operation_seen : Option (Option (Operation T)) → NameStatus
-  operation_seen o = status_by (λ (x : Operation T). operation_status x.kind x.message x.poll_state) o
+  abbrev operation_seen : Option (Option (OperationEntry T)) → NameStatus
+  operation_seen o = status_by (λ (x : OperationEntry T). operation_status x.operation x.poll_state) o
 
   abbrev handle_seen : Option (Option HandleEntry) → NameStatus
   handle_seen o = status_by (λ (x : HandleEntry). stream_status x.handle.kind x.poll_state) o
@@ -190,11 +190,11 @@ module _ {T : Type 0} (r : NameTable T) where
   pub woken_so : (w : Waiter) → (status r w ≡ invalid → ⊥) → stands_so is_woken r w ≡ was_woken (status r w)
   woken_so (Op op) fine = by (lookup (nat_eq op.0) r.operations) fine
     where
-      by : (o : Option (Option (Operation T))) → (operation_seen o ≡ invalid → ⊥)
+      by : (o : Option (Option (OperationEntry T))) → (operation_seen o ≡ invalid → ⊥)
           → operation_stands is_woken (lives o) ≡ was_woken (operation_seen o)
       by None f = refl
       by (Some None) f = refl
-      by (Some (Some x)) f = woken_operation x.kind x.message x.poll_state f
+      by (Some (Some x)) f = woken_operation x.operation x.poll_state f
   woken_so (Stream handle) fine = by (lookup (nat_eq handle.0) r.handles) fine
     where
       by : (o : Option (Option HandleEntry)) → (handle_seen o ≡ invalid → ⊥) → stream_stands is_woken (lives o) ≡ was_woken (handle_seen o)
@@ -211,7 +211,7 @@ module _ {T : Type 0} (r : NameTable T) where
   woken_are_pending : (w : Waiter) → stands_so is_woken r w ≡ true → stands_so stands_pending r w ≡ true
   woken_are_pending (Op op) e = by (at op.0 r.operations) e
     where
-      by : (o : Option (Operation T)) → operation_stands is_woken o ≡ true → operation_stands stands_pending o ≡ true
+      by : (o : Option (OperationEntry T)) → operation_stands is_woken o ≡ true → operation_stands stands_pending o ≡ true
       by None f = f
       by (Some x) f = woken_pends x.poll_state f
   woken_are_pending (Stream handle) e = by (at handle.0 r.handles) e

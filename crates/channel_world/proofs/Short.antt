@@ -11,12 +11,14 @@ use Rattle.channel_world_model.specs.Awake.{AwakeIn, Kind, Placed}
 use Rattle.channel_calls.specs.Model.{appended, with_messages}
 use Rattle.channel_world_model.specs.Laws.{is_line, line_at, line_of_operation}
 use Rattle.channel_world_model.specs.Lines.{Waiting, is_among, untold, told_by, after_news, gone, passed_on, left_after, told_after, standing}
-use Rattle.channel_world_model.specs.Names.{Names, ModelOperation, send, recv, closing, at, with_operation_changed}
+use Rattle.channel_world_model.specs.Names.{Names, at, with_operation_changed}
 use Rattle.channel_world_model.specs.Refused.{Lack, memory, serials, refused, not_listening, not_standing, not_held, send_not_polled, recv_not_polled, not_polled, next_not_polled, answer_without, Answers}
 use Rattle.channel_world_model.specs.Settling.{poll_of, SettlesTo}
 use Rattle.channel_world_model.specs.State.{State, with_waiting}
 use Rattle.channel_world_model.specs.declared.name.HandleId.{HandleId}
 use Rattle.channel_world_model.specs.declared.name.OpId.{OpId}
+use Rattle.channel_world_model.specs.declared.name.Operation.{Operation}
+use Rattle.channel_world_model.specs.declared.name.Operation.TheVariants as live
 use Rattle.channel_world_model.specs.declared.name.Waiter.{Waiter}
 use Rattle.channel_world_model.specs.declared.name.Waiter.TheVariants.{Op, Stream}
 use Rattle.channel_world_model.specs.declared.news.News.{News}
@@ -206,19 +208,19 @@ module _ {T : Type 0} where
     kept : KeepsLines s.names
     kept line v e = e
 
-    finishes : (op : OpId) (handle : HandleId) (x : ModelOperation T) → at op.0 s.names.operations ≡ Some x
-        → KeepsLines (with_operation_changed op (send handle None) s.names)
+    finishes : (op : OpId) (handle : HandleId) (x : Operation T) → at op.0 s.names.operations ≡ Some x
+        → KeepsLines (with_operation_changed op (live.Send handle None) s.names)
     finishes op handle x there line (Stream r) e = e
     finishes op handle x there line (Op other) e =
         let named = found_name op.0 s.names.operations x there in
         elim (decided (nat_eq op.0 other.0)) [
           | inl t ↦
-              let here = ap (λ (o : Option (ModelOperation T)). is_line line (line_of_operation o))
-              (set_here op.0 other.0 (Some (send handle None)) s.names.operations named t) in
+              let here = ap (λ (o : Option (Operation T)). is_line line (line_of_operation o))
+              (set_here op.0 other.0 (Some (live.Send handle None)) s.names.operations named t) in
               absurd (let no : false ≡ true = sym here ∙ e in cc)
           | inr t ↦
-              sym (ap (λ (o : Option (ModelOperation T)). is_line line (line_of_operation o))
-              (set_elsewhere op.0 other.0 (Some (send handle None)) s.names.operations named t)) ∙ e
+              sym (ap (λ (o : Option (Operation T)). is_line line (line_of_operation o))
+              (set_elsewhere op.0 other.0 (Some (live.Send handle None)) s.names.operations named t)) ∙ e
         ]
 
     pub AllPolled : WaitList → Waiter → Option (Answer T) → Type 0
@@ -253,7 +255,7 @@ module _ {T : Type 0} where
       unheld line serials x a h = none_polled line w
 
     module _ (awake : AwakeIn s) (op : OpId) (e : is_among (Op op) s.waiting.woken ≡ true) where
-      send_so : (handle : HandleId) (m : T) (x : Space) → space_of s.channel ≡ x → at op.0 s.names.operations ≡ Some (send handle (Some m))
+      send_so : (handle : HandleId) (m : T) (x : Space) → space_of s.channel ≡ x → at op.0 s.names.operations ≡ Some (live.Send handle (Some m))
           → Polled Sends (Op op) (send_poll_answer s op handle m x)
       send_so handle m Open fits there =
           let left = accepted (line_at s.names) (Op op) s.waiting awake.placed e in (
@@ -310,26 +312,26 @@ module _ {T : Type 0} where
       pub lacking : (lack : Lack) → AllPolled line w (answer_without lack s (poll_of w))
 
     module _ (awake : AwakeIn s) where
-      operation_on : (op : OpId) (o : Option (ModelOperation T)) → at op.0 s.names.operations ≡ o → IsSome (line_of_operation o)
+      operation_on : (op : OpId) (o : Option (Operation T)) → at op.0 s.names.operations ≡ o → IsSome (line_of_operation o)
           → is_among (Op op) s.waiting.woken ≡ true → PolledOn (Op op)
-      operation_on op (Some (send handle (Some m))) there some e = record {
+      operation_on op (Some (live.Send handle (Some m))) there some e = record {
         line = Sends;
-        own = ap (λ (o : Option (ModelOperation T)). line_of_operation o) there;
-        ample = subst (λ (o : Option (ModelOperation T)). Polled Sends (Op op) (poll_answer s op o)) (sym there) (send_so awake op e handle m (space_of s.channel) refl there);
-        lacking = λ lack. subst (λ (o : Option (ModelOperation T)). AllPolled Sends (Op op) (not_polled lack s op o)) (sym there) (send_lacks awake op e lack (space_of s.channel));
+        own = ap (λ (o : Option (Operation T)). line_of_operation o) there;
+        ample = subst (λ (o : Option (Operation T)). Polled Sends (Op op) (poll_answer s op o)) (sym there) (send_so awake op e handle m (space_of s.channel) refl there);
+        lacking = λ lack. subst (λ (o : Option (Operation T)). AllPolled Sends (Op op) (not_polled lack s op o)) (sym there) (send_lacks awake op e lack (space_of s.channel));
       }
-      operation_on op (Some (send handle None)) there some e = cc some
-      operation_on op (Some (recv handle)) there some e = record {
+      operation_on op (Some (live.Send handle None)) there some e = cc some
+      operation_on op (Some (live.Receive handle)) there some e = record {
         line = Receives;
-        own = ap (λ (o : Option (ModelOperation T)). line_of_operation o) there;
-        ample = subst (λ (o : Option (ModelOperation T)). Polled Receives (Op op) (poll_answer s op o)) (sym there) (recv_so awake op e (found s.channel) refl);
-        lacking = λ lack. subst (λ (o : Option (ModelOperation T)). AllPolled Receives (Op op) (not_polled lack s op o)) (sym there) (recv_lacks awake op e lack (found s.channel));
+        own = ap (λ (o : Option (Operation T)). line_of_operation o) there;
+        ample = subst (λ (o : Option (Operation T)). Polled Receives (Op op) (poll_answer s op o)) (sym there) (recv_so awake op e (found s.channel) refl);
+        lacking = λ lack. subst (λ (o : Option (Operation T)). AllPolled Receives (Op op) (not_polled lack s op o)) (sym there) (recv_lacks awake op e lack (found s.channel));
       }
-      operation_on op (Some (closing handle)) there some e = record {
+      operation_on op (Some (live.Closing handle)) there some e = record {
         line = Closings;
-        own = ap (λ (o : Option (ModelOperation T)). line_of_operation o) there;
-        ample = subst (λ (o : Option (ModelOperation T)). Polled Closings (Op op) (poll_answer s op o)) (sym there) (closed_so awake op e);
-        lacking = λ lack. subst (λ (o : Option (ModelOperation T)). AllPolled Closings (Op op) (not_polled lack s op o)) (sym there) (closed_lacks awake op e lack);
+        own = ap (λ (o : Option (Operation T)). line_of_operation o) there;
+        ample = subst (λ (o : Option (Operation T)). Polled Closings (Op op) (poll_answer s op o)) (sym there) (closed_so awake op e);
+        lacking = λ lack. subst (λ (o : Option (Operation T)). AllPolled Closings (Op op) (not_polled lack s op o)) (sym there) (closed_lacks awake op e lack);
       }
       operation_on op None there some e = cc some
 

@@ -33,9 +33,9 @@ use Rattle.channel_world_runs.specs.declared.doing.Role.TheVariants.{Sending, Re
 use Rattle.channel_world_runs.specs.declared.world_state.WorldState.{WorldState}
 use Rattle.channel_world_runs.specs.declared.names.Agent.{Agent}
 use Rattle.channel_world_runs.specs.declared.names.HandleEntry.{HandleEntry}
-use Rattle.channel_world_runs.specs.declared.names.Operation.{Operation}
-use Rattle.channel_world_model.specs.declared.name.OperationKind.{OperationKind}
-use Rattle.channel_world_model.specs.declared.name.OperationKind.TheVariants as kind
+use Rattle.channel_world_runs.specs.declared.names.OperationEntry.{OperationEntry}
+use Rattle.channel_world_model.specs.declared.name.Operation.{Operation}
+use Rattle.channel_world_model.specs.declared.name.Operation.TheVariants as live
 use Rattle.channel_world_runs.specs.declared.names.PollState.{PollState}
 use Rattle.channel_world_runs.specs.declared.names.PollState.TheVariants.{Rests, Waits, IsPolled}
 use Rattle.channel_world_runs.specs.declared.name_table.NameTable.{NameTable}
@@ -194,8 +194,8 @@ none_fits (Some c) m n le fits places = omega (arith, le, fits, places)
 -- ---- the names, and all that a world shows
 
 module _ {T : Type 0} where
-  abbrev operation_seen : Option (Option (Operation T)) → NameStatus
-  operation_seen o = status_by (λ (x : Operation T). operation_status x.kind x.message x.poll_state) o
+  abbrev operation_seen : Option (Option (OperationEntry T)) → NameStatus
+  operation_seen o = status_by (λ (x : OperationEntry T). operation_status x.operation x.poll_state) o
 
   woken_send : (line : WaitList) (m : Option T) (s : PollState) → is_woken_on line (send_status m s) ≡ true → is_woken s ≡ true
   woken_send line None Rests e = no e
@@ -203,14 +203,14 @@ module _ {T : Type 0} where
   woken_send line None (IsPolled brings) e = no e
   woken_send line (Some m) s e = woken_status line Sends s e
 
-  woken_kind : (line : WaitList) (k : OperationKind) (m : Option T) (s : PollState) → is_woken_on line (operation_status k m s) ≡ true → is_woken s ≡ true
-  woken_kind line kind.Send m s e = woken_send line m s e
-  woken_kind line kind.Receive m s e = woken_status line Receives s e
-  woken_kind line kind.Closing m s e = woken_status line _ s e
+  woken_kind : (line : WaitList) (x : Operation T) (s : PollState) → is_woken_on line (operation_status x s) ≡ true → is_woken s ≡ true
+  woken_kind line (live.Send h m) s e = woken_send line m s e
+  woken_kind line (live.Receive h) s e = woken_status line Receives s e
+  woken_kind line (live.Closing h) s e = woken_status line _ s e
 
-  woken_operation : (line : WaitList) (o : Option (Operation T)) → is_woken_on line (operation_seen (Some o)) ≡ true → operation_stands is_woken o ≡ true
+  woken_operation : (line : WaitList) (o : Option (OperationEntry T)) → is_woken_on line (operation_seen (Some o)) ≡ true → operation_stands is_woken o ≡ true
   woken_operation line None e = no e
-  woken_operation line (Some x) e = woken_kind line x.kind x.message x.poll_state e
+  woken_operation line (Some x) e = woken_kind line x.operation x.poll_state e
 
   -- those of a line who are woken are no more than all who are
   few_woken : (line : WaitList) (r : NameTable T) → AreApart r → woken_on line r ≤ how_many is_woken r
@@ -220,7 +220,7 @@ module _ {T : Type 0} where
       let stream_name : ℕ → Waiter = λ n. Stream (record { 0 = n }) in
       let a = few_named p (operation_stands is_woken) op_name r.operations
       (all_from _ r.operations (λ e there woken.
-      woken_operation line e.1 (ap (λ (o : Option (Option (Operation T))). is_woken_on line (operation_seen o))
+      woken_operation line e.1 (ap (λ (o : Option (Option (OperationEntry T))). is_woken_on line (operation_seen o))
       (sym (lookup-from_Contains nat_eq_equiv e.0 e.1 r.operations apart.operations there)) ∙ woken))) in
       let b = few_named p (stream_stands is_woken) stream_name r.handles
       (all_from _ r.handles (λ e there woken.
@@ -229,16 +229,16 @@ module _ {T : Type 0} where
       let both = count_both p (map op_name (keys_of r.operations)) (map stream_name (keys_of r.handles)) in
       omega (arith, a, b, both)
 
-  asleep_kind : (line : WaitList) (key : Key) (k : OperationKind) (m : Option T) (s : PollState) → Sleeps line key (operation_status k m s)
+  asleep_kind : (line : WaitList) (key : Key) (x : Operation T) (s : PollState) → Sleeps line key (operation_status x s)
       → (is_woken s ≡ false) × (stands_pending s ≡ true)
-  asleep_kind line key kind.Send None Rests e = cc e
-  asleep_kind line key kind.Send None (Waits k woken) e = cc e
-  asleep_kind line key kind.Send None (IsPolled brings) e = cc e
-  asleep_kind line key kind.Send (Some m) s e = asleep_status line Sends key s e
-  asleep_kind line key kind.Receive m s e = asleep_status line Receives key s e
-  asleep_kind line key kind.Closing m s e = asleep_status line _ key s e
+  asleep_kind line key (live.Send h None) Rests e = cc e
+  asleep_kind line key (live.Send h None) (Waits k woken) e = cc e
+  asleep_kind line key (live.Send h None) (IsPolled brings) e = cc e
+  asleep_kind line key (live.Send h (Some m)) s e = asleep_status line Sends key s e
+  asleep_kind line key (live.Receive h) s e = asleep_status line Receives key s e
+  asleep_kind line key (live.Closing h) s e = asleep_status line _ key s e
 
-  woken_stands : (o : Option (Operation T)) → operation_stands is_woken o ≡ true → operation_stands stands_pending o ≡ true
+  woken_stands : (o : Option (OperationEntry T)) → operation_stands is_woken o ≡ true → operation_stands stands_pending o ≡ true
   woken_stands None e = e
   woken_stands (Some x) e = pends x.poll_state e
 
@@ -246,12 +246,12 @@ module _ {T : Type 0} where
   more_pending : (line : WaitList) (name : Waiter) (r : NameTable T) → IsUnwoken line name r → suc (how_many is_woken r) ≤ how_many stands_pending r
   more_pending line (Op op) r (key, e) = by (lookup (nat_eq op.0) r.operations) refl e
     where
-      by : (o : Option (Option (Operation T))) → lookup (nat_eq op.0) r.operations ≡ o → Sleeps line key (operation_seen o)
+      by : (o : Option (Option (OperationEntry T))) → lookup (nat_eq op.0) r.operations ≡ o → Sleeps line key (operation_seen o)
           → suc (how_many is_woken r) ≤ how_many stands_pending r
       by None there e = cc e
       by (Some None) there e = cc e
       by (Some (Some x)) there e =
-          let so = asleep_kind line key x.kind x.message x.poll_state e in
+          let so = asleep_kind line key x.operation x.poll_state e in
           let more = one_more (operation_stands is_woken) (operation_stands stands_pending) woken_stands op.0 (Some x) r.operations there so.0 so.1 in
           let others = count_more (λ (f : ℕ × Option HandleEntry). stream_stands is_woken f.1) (λ (f : ℕ × Option HandleEntry). stream_stands stands_pending f.1)
           (λ f k. woken_streams f.1 k) r.handles in
@@ -265,7 +265,7 @@ module _ {T : Type 0} where
       by (Some (Some x)) there e =
           let so = asleep_stream line key x.handle.kind x.poll_state e in
           let more = one_more (stream_stands is_woken) (stream_stands stands_pending) woken_streams handle.0 (Some x) r.handles there so.0 so.1 in
-          let others = count_more (λ (f : ℕ × Option (Operation T)). operation_stands is_woken f.1) (λ (f : ℕ × Option (Operation T)). operation_stands stands_pending f.1)
+          let others = count_more (λ (f : ℕ × Option (OperationEntry T)). operation_stands is_woken f.1) (λ (f : ℕ × Option (OperationEntry T)). operation_stands stands_pending f.1)
           (λ f k. woken_stands f.1 k) r.operations in
           omega (arith, more, others)
 

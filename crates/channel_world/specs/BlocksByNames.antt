@@ -1,8 +1,7 @@
 -- The polls that a call makes which blocks, as those of an operation by name. Their task is the name.
 use Rattle.std.specs.Prelude.{◌≡◌, Bool, Some}
 use Rattle.event_listener.specs.declared.key.Key.{Key}
-use Rattle.channel_calls.specs.Blocks.{waiting_of, poll_woken}
-use Rattle.channel_calls.specs.Turns.{message_of}
+use Rattle.channel_calls.specs.Blocks.{poll_woken}
 use Rattle.channel_calls.specs.declared.blocked.Blocked.{Blocked}
 use Rattle.channel_calls.specs.declared.blocked.Blocked.TheVariants as blocked
 use Rattle.channel_steps.specs.every_run.BridgeBlocks.{first_poll, poll_refused}
@@ -10,25 +9,25 @@ use Rattle.channel_world_model.specs.Names.{at}
 use Rattle.channel_world_model.specs.declared.call.Call.TheVariants.{Poll, PollRefused}
 use Rattle.channel_world_model.specs.declared.name.HandleId.{HandleId}
 use Rattle.channel_world_model.specs.declared.name.OpId.{OpId}
+use Rattle.channel_world_model.specs.declared.name.Operation.{Operation}
+use Rattle.channel_world_model.specs.declared.name.Operation.TheVariants as live
 use Rattle.channel_world_model.specs.declared.name.Waiter.TheVariants.{Op}
 use Rattle.channel_world_runs.specs.AskedBy.{IsOrListens}
 use Rattle.channel_world_runs.specs.Bookkeeping.{asks}
-use Rattle.channel_world_model.specs.declared.name.OperationKind.{OperationKind}
-use Rattle.channel_world_model.specs.declared.name.OperationKind.TheVariants as kind
 use Rattle.channel_world_runs.specs.declared.names.PollState.{PollState}
 use Rattle.channel_world_runs.specs.declared.names.PollState.TheVariants.{Rests, Waits}
 use Rattle.channel_world_runs.specs.declared.name_table.NameTable.{NameTable}
 
 module _ {T : Type 0} where
-  abbrev pub kind_of : Blocked T → OperationKind
-  kind_of (blocked.Send m) = kind.Send
-  kind_of blocked.Receive = kind.Receive
+  -- the operation of a call that blocks
+  abbrev pub operation_for : Blocked T → HandleId → Operation T
+  operation_for (blocked.Send m) handle = live.Send handle (Some m)
+  operation_for blocked.Receive handle = live.Receive handle
 
-  -- an operation with the message of a call that blocks lives under this name, and stands so
+  -- it lives under this name, and stands so
   pub record StandsFor (b : Blocked T) (poll_state : PollState) (op : OpId) (r : NameTable T) : Type 0 where
     pub handle : HandleId
-    pub lives : at op.0 r.operations
-        ≡ Some (record { kind = kind_of b; handle = handle; message = message_of (waiting_of b); poll_state = poll_state })
+    pub lives : at op.0 r.operations ≡ Some (record { operation = operation_for b handle; poll_state = poll_state })
 
 -- Where the operation isn't pending its poll is the call's first poll. Where it is pending, woken or not, its poll is the one that the
 -- call makes when it has woken, but that this asks the listener first; and so is the poll that is refused its task.

@@ -1,5 +1,5 @@
 -- Who is pending on which line, and how many messages calls under way have taken: numbers that a world tells.
-use Rattle.std.specs.Prelude.{ℕ, ◌+◌, Bool, false, true, List, [], ◌∷◌, Option, Some, is_some}
+use Rattle.std.specs.Prelude.{ℕ, ◌+◌, Bool, false, List, [], ◌∷◌, Option, Some}
 use Rattle.std.specs.List.{count_by}
 use Rattle.channel_calls.specs.declared.stage.WaitList.{WaitList}
 use Rattle.channel_world_model.specs.Laws.{same_line}
@@ -7,9 +7,7 @@ use Rattle.channel_world_runs.specs.Owed.{all_names}
 use Rattle.channel_world_runs.specs.Owners.{NameStatus, waits, status_by, operation_status, stream_status, status}
 use Rattle.channel_world_runs.specs.declared.doing.Doing.{Doing}
 use Rattle.channel_world_runs.specs.declared.names.HandleEntry.{HandleEntry}
-use Rattle.channel_world_runs.specs.declared.names.Operation.{Operation}
-use Rattle.channel_world_model.specs.declared.name.OperationKind.{OperationKind}
-use Rattle.channel_world_model.specs.declared.name.OperationKind.TheVariants.{Send}
+use Rattle.channel_world_runs.specs.declared.names.OperationEntry.{OperationEntry}
 use Rattle.channel_world_runs.specs.declared.name_table.NameTable.{NameTable}
 
 -- whether one that stands so is pending on this line, woken or not
@@ -28,13 +26,8 @@ takings_of (d ∷ ds) = d.taken + takings_of ds
 
 module _ {T : Type 0} where
   -- how an operation stands
-  abbrev pub operation_stance : Option (Operation T) → NameStatus
-  operation_stance o = status_by (λ (x : Operation T). operation_status x.kind x.message x.poll_state) (Some o)
-
-  -- a finished send is never pending
-  abbrev pub may_pend : OperationKind → Option T → Bool
-  may_pend Send m = is_some m
-  may_pend kind m = true
+  abbrev pub operation_stance : Option (OperationEntry T) → NameStatus
+  operation_stance o = status_by (λ (x : OperationEntry T). operation_status x.operation x.poll_state) (Some o)
 
   -- how many are pending on this line
   abbrev pub pending_on_line : WaitList → NameTable T → ℕ

@@ -2,35 +2,14 @@
 
 ghost use Rattle.std.specs.Prelude.{◌≡◌, ◌<◌, ◌^◌, IfSome, IsSome};
 ghost use Rattle.channel_world_runs.specs.Owed.{is_woken_on};
-ghost use Rattle.channel_world_model.specs.Lines.{line_of_kind};
 ghost use Rattle.channel_world_model.specs.Laws.{same_line};
-ghost use Rattle.channel_world.specs.Kinds.{is_pending_on, may_pend, operation_stance, stream_stance, takings_of};
+ghost use Rattle.channel_world.specs.Kinds.{is_pending_on, operation_stance, stream_stance, takings_of};
 
 use super::world::World;
 use channel_calls::stage::WaitList;
-use channel_world_model::name::{HandleKind, OperationKind};
+use channel_world_model::name::HandleKind;
 use channel_world_runs::doing::Doing;
-use channel_world_runs::names::{HandleEntry, Operation, PollState};
-
-/// Whether an operation of this kind waits on this line.
-fn waits_on(line: WaitList, kind: OperationKind) -> bool
-    ensures { result ≡ same_line line (line_of_kind kind) }
-{
-    match kind {
-        OperationKind::Send => match line {
-            WaitList::Sends => true,
-            WaitList::Receives | WaitList::Streams | WaitList::Closings => false,
-        },
-        OperationKind::Receive => match line {
-            WaitList::Receives => true,
-            WaitList::Sends | WaitList::Streams | WaitList::Closings => false,
-        },
-        OperationKind::Closing => match line {
-            WaitList::Closings => true,
-            WaitList::Sends | WaitList::Receives | WaitList::Streams => false,
-        },
-    }
-}
+use channel_world_runs::names::{HandleEntry, OperationEntry, PollState};
 
 /// Whether streams wait on this line.
 fn is_of_streams(line: WaitList) -> bool
@@ -42,23 +21,13 @@ fn is_of_streams(line: WaitList) -> bool
     }
 }
 
-/// Whether an operation may be pending: a finished send never is.
-fn may_pend<T>(operation: &Operation<T>) -> bool
-    ensures { result ≡ may_pend operation.now.kind operation.now.message }
-{
-    match operation.kind {
-        OperationKind::Send => operation.message.is_some(),
-        OperationKind::Receive | OperationKind::Closing => true,
-    }
-}
-
 /// Whether an operation is pending on this line.
-fn pends_on<T>(line: WaitList, operation: &Option<Operation<T>>) -> bool
+fn pends_on<T>(line: WaitList, operation: &Option<OperationEntry<T>>) -> bool
     ensures { result ≡ is_pending_on line (operation_stance operation.now) }
 {
     match operation {
-        Some(operation) => match operation.poll_state {
-            PollState::Waits { .. } => may_pend(operation) && waits_on(line, operation.kind),
+        Some(entry) => match entry.poll_state {
+            PollState::Waits { .. } => entry.operation.is_on(line),
             PollState::Rests | PollState::IsPolled { .. } => false,
         },
         None => false,
@@ -66,14 +35,12 @@ fn pends_on<T>(line: WaitList, operation: &Option<Operation<T>>) -> bool
 }
 
 /// Whether an operation is pending on this line and was woken.
-fn is_woken_on<T>(line: WaitList, operation: &Option<Operation<T>>) -> bool
+fn is_woken_on<T>(line: WaitList, operation: &Option<OperationEntry<T>>) -> bool
     ensures { result ≡ is_woken_on line (operation_stance operation.now) }
 {
     match operation {
-        Some(operation) => match operation.poll_state {
-            PollState::Waits { key: _, is_woken } => {
-                is_woken && may_pend(operation) && waits_on(line, operation.kind)
-            }
+        Some(entry) => match entry.poll_state {
+            PollState::Waits { key: _, is_woken } => is_woken && entry.operation.is_on(line),
             PollState::Rests | PollState::IsPolled { .. } => false,
         },
         None => false,

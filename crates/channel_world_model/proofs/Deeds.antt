@@ -1,9 +1,10 @@
 -- What one call does to a channel and to the number of its handles.
-use Rattle.channel_world_model.proofs.Words.{cond_both, zero, suc, take, drop, arith, ◌≡◌, ◌⊎◌, ◌+◌, ◌^◌, ◌-◌, ◌==◌, ℕ, nat_lt, List, [], ◌∷◌, ◌++◌, length, true, false, ◌||◌, Option, None, Some, Ok, refl, sym, ap, subst, inl, inr, length-append, take-append-drop, says_closed, appended, with_messages, live_of, Directory, ModelOperation, send, recv, closing, at, with_new, without_name, with_new_operation, is_among, gone, State, with_channel, with_waiting, Call, Answer, replying, after_telling, after_leaving, pending, space_of, Found, first, found, try_send_answer, force_send_answer, displacing, send_poll_answer, try_recv_answer, recv_many_answer, recv_poll_answer, next_answer, poll_next_answer, close_answer, shut, closed_poll_answer, poll_answer, poll_refused_answer, give_up_answer, new_answer, drop_one, dropped, drop_answer, made, spent, weak_of, clone_answer, downgrade_answer, upgrade_answer, one_more, strong_of, strong_handles, with_strong_handles, without_one, answer, Answers, Closings, Nothing, Closing, Space, Open, Filled, Shut, Op, Stream, OpId, HandleId, HandleKind, Sender, Receiver, WeakSender, WeakReceiver, Handle, Ready, Pending}
+use Rattle.channel_world_model.proofs.Words.{cond_both, zero, suc, take, drop, arith, ◌≡◌, ◌⊎◌, ◌+◌, ◌^◌, ◌-◌, ◌==◌, ℕ, nat_lt, List, [], ◌∷◌, ◌++◌, length, true, false, ◌||◌, Option, None, Some, Ok, refl, sym, ap, subst, inl, inr, length-append, take-append-drop, says_closed, appended, with_messages, live_of, Directory, Operation, at, with_new, without_name, with_new_operation, is_among, gone, State, with_channel, with_waiting, Call, Answer, replying, after_telling, after_leaving, pending, space_of, Found, first, found, try_send_answer, force_send_answer, displacing, send_poll_answer, try_recv_answer, recv_many_answer, recv_poll_answer, next_answer, poll_next_answer, close_answer, shut, closed_poll_answer, poll_answer, poll_refused_answer, give_up_answer, new_answer, drop_one, dropped, drop_answer, made, spent, weak_of, clone_answer, downgrade_answer, upgrade_answer, one_more, strong_of, strong_handles, with_strong_handles, without_one, answer, Answers, Closings, Nothing, Closing, Space, Open, Filled, Shut, Op, Stream, OpId, HandleId, HandleKind, Sender, Receiver, WeakSender, WeakReceiver, Handle, Ready, Pending}
 use Rattle.channel_world_model.specs.declared.call.Call.TheVariants as call
 use Rattle.channel_calls.specs.declared.reply.Reply.TheVariants as reply
 use Rattle.channel_world_model.proofs.Lacking.{Lacking, lacking, found_first}
 use Rattle.channel_world_model.proofs.Live.{lent_alike, back_alike}
+use Rattle.channel_world_model.specs.declared.name.Operation.TheVariants as live
 
 module _ {T : Type 0} where
   -- as many handles of either side live
@@ -70,20 +71,20 @@ module _ {T : Type 0} where
         (λ (a : Answer T). Deed s a)
         (λ t. stays refl (λ side. refl) refl) (λ t. stays refl (λ side. refl) refl)
 
-    poll : (op : OpId) (o : Option (ModelOperation T)) → Deed s (poll_answer s op o)
-    poll op (Some (send handle (Some m))) = send_poll op handle m (space_of s.channel) refl
-    poll op (Some (recv handle)) = recv_poll op (found s.channel) refl
-    poll op (Some (closing handle)) = closed_poll op
+    poll : (op : OpId) (o : Option (Operation T)) → Deed s (poll_answer s op o)
+    poll op (Some (live.Send handle (Some m))) = send_poll op handle m (space_of s.channel) refl
+    poll op (Some (live.Receive handle)) = recv_poll op (found s.channel) refl
+    poll op (Some (live.Closing handle)) = closed_poll op
     poll op o = stays refl (λ side. refl) refl
 
-    poll_refused : (op : OpId) (o : Option (ModelOperation T)) → Deed s (poll_refused_answer s op o)
-    poll_refused op (Some (send handle msg)) = stays refl (λ side. refl) refl
+    poll_refused : (op : OpId) (o : Option (Operation T)) → Deed s (poll_refused_answer s op o)
+    poll_refused op (Some (live.Send handle msg)) = stays refl (λ side. refl) refl
     poll_refused op o = stays refl (λ side. refl) refl
 
-    give_up : (op : OpId) (o : Option (ModelOperation T)) → Deed s (give_up_answer s op o)
-    give_up op (Some (send handle msg)) = stays refl (λ side. back_alike side handle s.names.handles) refl
-    give_up op (Some (recv handle)) = stays refl (λ side. back_alike side handle s.names.handles) refl
-    give_up op (Some (closing handle)) = stays refl (λ side. back_alike side handle s.names.handles) refl
+    give_up : (op : OpId) (o : Option (Operation T)) → Deed s (give_up_answer s op o)
+    give_up op (Some (live.Send handle msg)) = stays refl (λ side. back_alike side handle s.names.handles) refl
+    give_up op (Some (live.Receive handle)) = stays refl (λ side. back_alike side handle s.names.handles) refl
+    give_up op (Some (live.Closing handle)) = stays refl (λ side. back_alike side handle s.names.handles) refl
     give_up op None = stays refl (λ side. refl) refl
 
     next : (receiver : HandleId) (x : Found T) → found s.channel ≡ x → Deed s (next_answer (with_waiting (gone (Stream receiver) s.waiting) s) receiver x)
@@ -141,15 +142,15 @@ module _ {T : Type 0} where
         (λ t. stays refl (λ side. refl) refl) (λ t. more new (strong_of h.kind))
     upgrade new None = stays refl (λ side. refl) refl
 
-    begun : (op : OpId) (x : ModelOperation T) (handle : HandleId) → (new_answer s op x).after.names.handles ≡ (with_new_operation op (recv handle) s.names).handles → Deed s (new_answer s op x)
+    begun : (op : OpId) (x : Operation T) (handle : HandleId) → (new_answer s op x).after.names.handles ≡ (with_new_operation op (live.Receive handle) s.names).handles → Deed s (new_answer s op x)
     begun op x handle e = stays refl (λ side. subst (λ (d : Directory Handle). live_of side d ≡ live_of side s.names.handles) (sym e) (lent_alike side handle s.names.handles)) refl
 
     -- ---- every call
 
     answered : (c : Call T) → Deed s (answer s c)
-    answered (call.NewSend op sender msg) = begun op (send sender (Some msg)) sender refl
-    answered (call.NewRecv op receiver) = begun op (recv receiver) receiver refl
-    answered (call.NewClosed op sender) = begun op (closing sender) sender refl
+    answered (call.NewSend op sender msg) = begun op (live.Send sender (Some msg)) sender refl
+    answered (call.NewRecv op receiver) = begun op (live.Receive receiver) receiver refl
+    answered (call.NewClosed op sender) = begun op (live.Closing sender) sender refl
     answered (call.Poll op) = poll op (at op.0 s.names.operations)
     answered (call.PollRefused op) = poll_refused op (at op.0 s.names.operations)
     answered (call.GiveUp op) = give_up op (at op.0 s.names.operations)

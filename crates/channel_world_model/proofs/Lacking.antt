@@ -1,8 +1,9 @@
 -- What a call may answer where the one growth that it needs is refused, case by case.
-use Rattle.channel_world_model.proofs.Words.{◌∙◌, subst, ◌≡◌, ℕ, suc, List, [], ◌∷◌, Bool, true, false, Option, None, Some, is_none, Err, refl, sym, inl, inr, cond-false, NoMemory, Reply, WaitList, Sends, Receives, Streams, Closings, Answer, replying, after_leaving, space_of, Found, first, none_yet, found_in, found, is_among, untold, gone, ModelOperation, send, recv, closing, at, Lack, memory, refused, not_listening, not_standing, not_held, send_not_polled, recv_not_polled, not_polled, next_not_polled, not_received, answer_without, State, with_waiting, Call, HandleId, OpId, Waiter, Op, Stream, Nothing, Space, Open, Filled, Ready}
+use Rattle.channel_world_model.proofs.Words.{◌∙◌, subst, ◌≡◌, ℕ, suc, List, [], ◌∷◌, Bool, true, false, Option, None, Some, is_none, Err, refl, sym, inl, inr, cond-false, NoMemory, Reply, WaitList, Sends, Receives, Streams, Closings, Answer, replying, after_leaving, space_of, Found, first, none_yet, found_in, found, is_among, untold, gone, Operation, at, Lack, memory, refused, not_listening, not_standing, not_held, send_not_polled, recv_not_polled, not_polled, next_not_polled, not_received, answer_without, State, with_waiting, Call, HandleId, OpId, Waiter, Op, Stream, Nothing, Space, Open, Filled, Ready}
 use Rattle.channel_calls.specs.declared.reply.Reply.TheVariants as reply
 use Rattle.channel_world_model.specs.declared.call.Call.TheVariants as call
 use Rattle.channel_world_model.proofs.WaiterLemmas.{decided}
+use Rattle.channel_world_model.specs.declared.name.Operation.TheVariants as live
 
 module _ {T : Type 0} where
   pub found_first : (ms : List T) (closed : Bool) (m : T) (rest : List T) → found_in ms closed ≡ first m rest → ms ≡ m ∷ rest
@@ -21,13 +22,13 @@ module _ {T : Type 0} (s : State T) where
     pub try_send : (sender : HandleId) (m : T) → P (call.TrySend sender m) (replying s (reply.TrySend (Err (NoMemory m))))
     pub force_send : (sender : HandleId) (m : T) → P (call.ForceSend sender m) (replying s (reply.ForceSend (Err (NoMemory m))))
     pub recv_many : (receiver : HandleId) (limit : ℕ) → P (call.RecvMany receiver limit) (replying s (reply.RecvMany (Err (NoMemory tt))))
-    pub leaves : (op : OpId) (handle : HandleId) (m : T) → at op.0 s.names.operations ≡ Some (send handle (Some m))
+    pub leaves : (op : OpId) (handle : HandleId) (m : T) → at op.0 s.names.operations ≡ Some (live.Send handle (Some m))
         → P (call.Poll op) (after_leaving Nothing Sends (Op op) s (reply.SendPoll (Ready (Err (refused memory)))))
-    pub send_out : (lack : Lack) (op : OpId) (handle : HandleId) (m : T) → at op.0 s.names.operations ≡ Some (send handle (Some m)) → space_of s.channel ≡ Filled
+    pub send_out : (lack : Lack) (op : OpId) (handle : HandleId) (m : T) → at op.0 s.names.operations ≡ Some (live.Send handle (Some m)) → space_of s.channel ≡ Filled
         → P (call.Poll op) (out (Op op) (reply.SendPoll (Ready (Err (refused lack)))))
-    pub recv_out : (lack : Lack) (op : OpId) (handle : HandleId) → at op.0 s.names.operations ≡ Some (recv handle) → found s.channel ≡ none_yet
+    pub recv_out : (lack : Lack) (op : OpId) (handle : HandleId) → at op.0 s.names.operations ≡ Some (live.Receive handle) → found s.channel ≡ none_yet
         → P (call.Poll op) (out (Op op) (reply.RecvPoll (Ready (Err (refused lack)))))
-    pub closing_out : (lack : Lack) (op : OpId) (handle : HandleId) → at op.0 s.names.operations ≡ Some (closing handle)
+    pub closing_out : (lack : Lack) (op : OpId) (handle : HandleId) → at op.0 s.names.operations ≡ Some (live.Closing handle)
         → P (call.Poll op) (out (Op op) (reply.ClosedPoll (Ready (Err (not_listening lack)))))
     pub next_out : (lack : Lack) (receiver : HandleId) → found s.channel ≡ none_yet
         → P (call.PollNext receiver) (out (Stream receiver) (reply.Next (Ready (Some (Err (not_listening lack))))))
@@ -44,23 +45,23 @@ module _ {T : Type 0} (s : State T) where
     so : (c : Call T) (x a : Answer T) → P c x → x ≡ a → P c a
     so c x a p e = subst (λ (y : Answer T). P c y) e p
 
-    sends : (lack : Lack) (op : OpId) (handle : HandleId) (m : T) (x : Space) (a : Answer T) → at op.0 s.names.operations ≡ Some (send handle (Some m)) → space_of s.channel ≡ x
+    sends : (lack : Lack) (op : OpId) (handle : HandleId) (m : T) (x : Space) (a : Answer T) → at op.0 s.names.operations ≡ Some (live.Send handle (Some m)) → space_of s.channel ≡ x
         → send_not_polled lack s op x ≡ Some a → P (call.Poll op) a
     sends memory op handle m Open a there is e = so (call.Poll op) _ a (h.leaves op handle m there) (held_is memory Open _ a e)
     sends lack op handle m Filled a there is e =
         so (call.Poll op) _ a (h.send_out lack op handle m there is) (out_is Sends (Op op) (reply.SendPoll (Ready (Err (refused lack)))) a e)
     sends lack op handle m x a there is e = cc e
 
-    receives : (lack : Lack) (op : OpId) (handle : HandleId) (x : Found T) (a : Answer T) → at op.0 s.names.operations ≡ Some (recv handle) → found s.channel ≡ x
+    receives : (lack : Lack) (op : OpId) (handle : HandleId) (x : Found T) (a : Answer T) → at op.0 s.names.operations ≡ Some (live.Receive handle) → found s.channel ≡ x
         → recv_not_polled lack s op x ≡ Some a → P (call.Poll op) a
     receives lack op handle none_yet a there is e =
         so (call.Poll op) _ a (h.recv_out lack op handle there is) (out_is Receives (Op op) (reply.RecvPoll (Ready (Err (refused lack)))) a e)
     receives lack op handle x a there is e = cc e
 
-    polls : (lack : Lack) (op : OpId) (o : Option (ModelOperation T)) (a : Answer T) → at op.0 s.names.operations ≡ o → not_polled lack s op o ≡ Some a → P (call.Poll op) a
-    polls lack op (Some (send handle (Some m))) a there e = sends lack op handle m (space_of s.channel) a there refl e
-    polls lack op (Some (recv handle)) a there e = receives lack op handle (found s.channel) a there refl e
-    polls lack op (Some (closing handle)) a there e = elim (decided s.channel.closed) [
+    polls : (lack : Lack) (op : OpId) (o : Option (Operation T)) (a : Answer T) → at op.0 s.names.operations ≡ o → not_polled lack s op o ≡ Some a → P (call.Poll op) a
+    polls lack op (Some (live.Send handle (Some m))) a there e = sends lack op handle m (space_of s.channel) a there refl e
+    polls lack op (Some (live.Receive handle)) a there e = receives lack op handle (found s.channel) a there refl e
+    polls lack op (Some (live.Closing handle)) a there e = elim (decided s.channel.closed) [
       | inl t ↦ cc (rw t at e)
       | inr t ↦
           let r : Reply T = reply.ClosedPoll (Ready (Err (not_listening lack))) in

@@ -1,5 +1,5 @@
 -- Each call, one at a time, keeps the accounts of messages and leaves nobody asleep.
-use Rattle.channel_world_model.proofs.Words.{cond_both, take-append-drop, zero, suc, take, drop, arith, ◌≡◌, ◌⊎◌, ◌≤◌, ◌+◌, ◌-◌, ◌^◌, ◌==◌, ℕ, nat_eq, nat_lt, List, [], ◌∷◌, ◌++◌, length, Bool, true, false, ◌||◌, ◌&&◌, not, if◌then◌else◌, Option, None, Some, IsSome, is_some, Ok, Err, refl, sym, ap, subst, ◌∙◌, inl, inr, append-nil, append_assoc, length-append, nat_eq_equiv, option_map_or, option_to_list, lookup, set_value, ModelChannel, is_full, Names, Directory, ModelOperation, send, recv, closing, at, is_taken, with_new_operation, with_operation_changed, without_operation, Waiting, nobody, is_among, untold, after_news, gone, left_after, standing, State, start, with_channel, with_names, with_waiting, Call, Reply, Answer, replying, after_telling, after_leaving, pending, space_of, Found, first, none_yet, none_ever, found_in, found, try_send_answer, force_send_answer, displacing, send_poll_answer, try_recv_answer, recv_many_answer, recv_poll_answer, next_answer, poll_next_answer, close_answer, shut, closed_poll_answer, poll_answer, poll_refused_answer, give_up_answer, given_up, new_answer, drop_one, dropped, drop_answer, made, spent, weak_of, clone_answer, downgrade_answer, upgrade_answer, one_more, strong_of, strong_handles, with_strong_handles, news_without_one, answer, memory, refused, not_listening, Answers, refusal, removed_by, brought_by_call, sends_after, removed, accepted, line_of_operation, line_at, free_places, NobodyIsLeft, Awake, AwakeIn, times_in, Runs, poll_of, Done, WorldRefusal, WaitList, Sends, Receives, Streams, Closings, Nothing, Message, Room, Closing, Space, Open, Filled, Shut, Waiter, Op, Stream, OpId, HandleId, HandleKind, Sender, Receiver, WeakSender, WeakReceiver, Handle, NameTaken, NoMemory, Ready, Pending}
+use Rattle.channel_world_model.proofs.Words.{cond_both, take-append-drop, zero, suc, take, drop, arith, ◌≡◌, ◌⊎◌, ◌≤◌, ◌+◌, ◌-◌, ◌^◌, ◌==◌, ℕ, nat_eq, nat_lt, List, [], ◌∷◌, ◌++◌, length, Bool, true, false, ◌||◌, ◌&&◌, not, if◌then◌else◌, Option, None, Some, IsSome, is_some, Ok, Err, refl, sym, ap, subst, ◌∙◌, inl, inr, append-nil, append_assoc, length-append, nat_eq_equiv, option_map_or, option_to_list, lookup, set_value, ModelChannel, is_full, Names, Directory, Operation, at, is_taken, with_new_operation, with_operation_changed, without_operation, Waiting, nobody, is_among, untold, after_news, gone, left_after, standing, State, start, with_channel, with_names, with_waiting, Call, Reply, Answer, replying, after_telling, after_leaving, pending, space_of, Found, first, none_yet, none_ever, found_in, found, try_send_answer, force_send_answer, displacing, send_poll_answer, try_recv_answer, recv_many_answer, recv_poll_answer, next_answer, poll_next_answer, close_answer, shut, closed_poll_answer, poll_answer, poll_refused_answer, give_up_answer, given_up, new_answer, drop_one, dropped, drop_answer, made, spent, weak_of, clone_answer, downgrade_answer, upgrade_answer, one_more, strong_of, strong_handles, with_strong_handles, news_without_one, answer, memory, refused, not_listening, Answers, refusal, removed_by, brought_by_call, sends_after, removed, accepted, line_of_operation, line_at, free_places, NobodyIsLeft, Awake, AwakeIn, times_in, Runs, poll_of, Done, WorldRefusal, WaitList, Sends, Receives, Streams, Closings, Nothing, Message, Room, Closing, Space, Open, Filled, Shut, Waiter, Op, Stream, OpId, HandleId, HandleKind, Sender, Receiver, WeakSender, WeakReceiver, Handle, NameTaken, NoMemory, Ready, Pending}
 use Rattle.std.specs.Bool.{then_some}
 use Rattle.std.specs.Option.{option_or}
 use Rattle.std.proofs.lemmas.Map.{lookup-set_value}
@@ -10,6 +10,7 @@ use Rattle.event_listener.specs.declared.error.ListenError.TheVariants as listen
 use Rattle.channel_world_model.proofs.Lacking.{Lacking, lacking, out, found_first}
 use Rattle.channel_world_model.proofs.WaiterLemmas.{decided, same_number}
 use Rattle.channel_world_model.proofs.Awake.{awake_leave, awake_leave_spent, awake_nothing, awake_message, awake_room, awake_rooms, awake_closing, awake_gone, awake_without_stream, awake_standing, Idle, awake_renamed, stands, left_nowhere}
+use Rattle.channel_world_model.specs.declared.name.Operation.TheVariants as live
 
 no_line : {A : Type 0} (o : Option WaitList) → IsSome o → o ≡ None → A
 no_line None h e = cc h
@@ -29,7 +30,7 @@ second_reason x b why e = cc e
 module _ {T : Type 0} where
   -- the message of each unfinished send is that of the call that made it
   abbrev pub Keeps : List (ℕ × T) → Names T → Type 0
-  Keeps sends names = (n : ℕ) (h : HandleId) (m : T) → at n names.operations ≡ Some (send h (Some m)) → lookup (nat_eq n) sends ≡ Some m
+  Keeps sends names = (n : ℕ) (h : HandleId) (m : T) → at n names.operations ≡ Some (live.Send h (Some m)) → lookup (nat_eq n) sends ≡ Some m
 
   -- what an answer has to keep
   pub record Good (sends : List (ℕ × T)) (s : State T) (c : Call T) (a : Answer T) : Type 0 where
@@ -37,27 +38,27 @@ module _ {T : Type 0} where
     pub account : removed_by a.reply ++ a.after.channel.messages ≡ s.channel.messages ++ brought_by_call sends c a.reply
     pub keeps : Keeps (sends_after sends c) a.after.names
 
-  pub found_name : (n : ℕ) (d : Directory (ModelOperation T)) (x : ModelOperation T) → at n d ≡ Some x → IsSome (lookup (nat_eq n) d)
+  pub found_name : (n : ℕ) (d : Directory (Operation T)) (x : Operation T) → at n d ≡ Some x → IsSome (lookup (nat_eq n) d)
   found_name n d x e = some (lookup (nat_eq n) d) e where
-    some : (o : Option (Option (ModelOperation T))) → option_map_or (λ (y : Option (ModelOperation T)). y) o None ≡ Some x → IsSome o
+    some : (o : Option (Option (Operation T))) → option_map_or (λ (y : Option (Operation T)). y) o None ≡ Some x → IsSome o
     some None h = cc h
     some (Some y) h = refl
 
   -- what stands under other names stays when one is changed
-  pub set_elsewhere : (n m : ℕ) (v : Option (ModelOperation T)) (d : Directory (ModelOperation T)) → IsSome (lookup (nat_eq n) d) → nat_eq n m ≡ false → at m (set_value (nat_eq n) d v) ≡ at m d
+  pub set_elsewhere : (n m : ℕ) (v : Option (Operation T)) (d : Directory (Operation T)) → IsSome (lookup (nat_eq n) d) → nat_eq n m ≡ false → at m (set_value (nat_eq n) d v) ≡ at m d
   set_elsewhere n m v d there off =
       let now : lookup (nat_eq m) (set_value (nat_eq n) d v) ≡ lookup (nat_eq m) d =
       lookup-set_value nat_eq_equiv (nat_eq n) (λ x y t. nat_eq_equiv.congr n x y t) m v d there ∙ chosen_no (nat_eq n m) (Some v) (lookup (nat_eq m) d) off in
-      ap (λ (o : Option (Option (ModelOperation T))). option_map_or (λ (y : Option (ModelOperation T)). y) o None) now
+      ap (λ (o : Option (Option (Operation T))). option_map_or (λ (y : Option (Operation T)). y) o None) now
 
-  pub set_here : (n m : ℕ) (v : Option (ModelOperation T)) (d : Directory (ModelOperation T)) → IsSome (lookup (nat_eq n) d) → nat_eq n m ≡ true → at m (set_value (nat_eq n) d v) ≡ v
+  pub set_here : (n m : ℕ) (v : Option (Operation T)) (d : Directory (Operation T)) → IsSome (lookup (nat_eq n) d) → nat_eq n m ≡ true → at m (set_value (nat_eq n) d v) ≡ v
   set_here n m v d there on =
       let now : lookup (nat_eq m) (set_value (nat_eq n) d v) ≡ Some v =
       lookup-set_value nat_eq_equiv (nat_eq n) (λ x y t. nat_eq_equiv.congr n x y t) m v d there ∙ chosen_yes (nat_eq n m) (Some v) (lookup (nat_eq m) d) on in
-      ap (λ (o : Option (Option (ModelOperation T))). option_map_or (λ (y : Option (ModelOperation T)). y) o None) now
+      ap (λ (o : Option (Option (Operation T))). option_map_or (λ (y : Option (Operation T)). y) o None) now
 
   -- one operation was changed, which stands in no line
-  awake_changed : (op : OpId) (v : Option (ModelOperation T)) (x : ModelOperation T) (names names' : Names T) (capacity : Option ℕ) (closed : Bool) (n : ℕ) (l : Waiting)
+  awake_changed : (op : OpId) (v : Option (Operation T)) (x : Operation T) (names names' : Names T) (capacity : Option ℕ) (closed : Bool) (n : ℕ) (l : Waiting)
       → at op.0 names.operations ≡ Some x → names'.operations ≡ set_value (nat_eq op.0) names.operations v → times_in (Op op) l ≡ 0
       → Awake (line_at names) capacity closed n l → Awake (line_at names') capacity closed n l
   awake_changed op v x names names' capacity closed n l there set zero_times a = awake_renamed (line_at names) (line_at names') capacity closed n l same a where
@@ -67,16 +68,16 @@ module _ {T : Type 0} where
       | inl t ↦
           let here : times_in (Op other) l ≡ 0 = subst (λ (n : ℕ). times_in (Op (record { 0 = n })) l ≡ 0) (same_number op.0 other.0 t) zero_times in
           absurd (omega (arith, h, here))
-      | inr t ↦ ap (λ (o : Option (ModelOperation T)). line_of_operation o)
-          (ap (λ (d : Directory (ModelOperation T)). at other.0 d) set ∙ set_elsewhere op.0 other.0 v names.operations (found_name op.0 names.operations x there) t)
+      | inr t ↦ ap (λ (o : Option (Operation T)). line_of_operation o)
+          (ap (λ (d : Directory (Operation T)). at other.0 d) set ∙ set_elsewhere op.0 other.0 v names.operations (found_name op.0 names.operations x there) t)
     ]
 
-  keeps_changed : (op : OpId) (v : Option (ModelOperation T)) (x : ModelOperation T) (sends : List (ℕ × T)) (names names' : Names T)
-      → ((h : HandleId) (m : T) → v ≡ Some (send h (Some m)) → ⊥)
+  keeps_changed : (op : OpId) (v : Option (Operation T)) (x : Operation T) (sends : List (ℕ × T)) (names names' : Names T)
+      → ((h : HandleId) (m : T) → v ≡ Some (live.Send h (Some m)) → ⊥)
       → at op.0 names.operations ≡ Some x → names'.operations ≡ set_value (nat_eq op.0) names.operations v
       → Keeps sends names → Keeps sends names'
   keeps_changed op v x sends names names' spent there set keeps n h m e =
-      let now : at n (set_value (nat_eq op.0) names.operations v) ≡ Some (send h (Some m)) = subst (λ (d : Directory (ModelOperation T)). at n d ≡ Some (send h (Some m))) set e in
+      let now : at n (set_value (nat_eq op.0) names.operations v) ≡ Some (live.Send h (Some m)) = subst (λ (d : Directory (Operation T)). at n d ≡ Some (live.Send h (Some m))) set e in
       elim (decided (nat_eq op.0 n)) [
         | inl t ↦ absurd (spent h m (sym (set_here op.0 n v names.operations (found_name op.0 names.operations x there) t) ∙ now))
         | inr t ↦ keeps n h m (sym (set_elsewhere op.0 n v names.operations (found_name op.0 names.operations x there) t) ∙ now)
@@ -88,7 +89,7 @@ module _ {T : Type 0} where
   awake_handles names names' capacity closed n l e a = awake_renamed (line_at names) (line_at names') capacity closed n l same a where
     same : (w : Waiter) → 1 ≤ times_in w l → line_at names' w ≡ line_at names w
     same (Stream receiver) h = refl
-    same (Op other) h = ap (λ (d : Directory (ModelOperation T)). line_of_operation (at other.0 d)) e
+    same (Op other) h = ap (λ (d : Directory (Operation T)). line_of_operation (at other.0 d)) e
 
   -- ---- what a call finds
 
@@ -111,9 +112,9 @@ module _ {T : Type 0} where
 
   -- ---- answers
 
-  pub untaken : (n : ℕ) (d : Directory (ModelOperation T)) → is_taken n d ≡ false → at n d ≡ None
+  pub untaken : (n : ℕ) (d : Directory (Operation T)) → is_taken n d ≡ false → at n d ≡ None
   untaken n d e = none (lookup (nat_eq n) d) e where
-    none : (o : Option (Option (ModelOperation T))) → is_some o ≡ false → option_map_or (λ (y : Option (ModelOperation T)). y) o None ≡ None
+    none : (o : Option (Option (Operation T))) → is_some o ≡ false → option_map_or (λ (y : Option (Operation T)). y) o None ≡ None
     none None h = refl
     none (Some y) h = cc h
 
@@ -136,7 +137,7 @@ module _ {T : Type 0} where
     good c a w account ops same = record {
       awake = w;
       account = account;
-      keeps = λ n h m e. subst (λ (ss : List (ℕ × T)). lookup (nat_eq n) ss ≡ Some m) (sym same) (keeps n h m (subst (λ (d : Directory (ModelOperation T)). at n d ≡ Some (send h (Some m))) ops e));
+      keeps = λ n h m e. subst (λ (ss : List (ℕ × T)). lookup (nat_eq n) ss ≡ Some m) (sym same) (keeps n h m (subst (λ (d : Directory (Operation T)). at n d ≡ Some (live.Send h (Some m))) ops e));
     }
 
     stay : (c : Call T) (r : Reply T) → removed_by r ≡ [] → brought_by_call sends c r ≡ [] → sends_after sends c ≡ sends → Good sends s c (replying s r)
@@ -216,15 +217,15 @@ module _ {T : Type 0} where
         subst (λ (b : Bool). Awake (line_at s.names) s.channel.capacity b (length s.channel.messages) (pending own w s r).after.waiting) (sym o)
         (awake_standing (line_at s.names) s.channel.capacity (length s.channel.messages) own w s.waiting e i (awake_open o))
 
-    send_poll : (op : OpId) (handle : HandleId) (m : T) (x : Space) → at op.0 s.names.operations ≡ Some (send handle (Some m)) → space_of s.channel ≡ x → Good sends s (call.Poll op) (send_poll_answer s op handle m x)
+    send_poll : (op : OpId) (handle : HandleId) (m : T) (x : Space) → at op.0 s.names.operations ≡ Some (live.Send handle (Some m)) → space_of s.channel ≡ x → Good sends s (call.Poll op) (send_poll_answer s op handle m x)
     send_poll op handle m Open there e =
         let own : line_at s.names (Op op) ≡ Some Sends = ap line_of_operation there in
         record {
-          awake = awake_changed op (Some (send handle None)) (send handle (Some m)) s.names (with_operation_changed op (send handle None) s.names) s.channel.capacity s.channel.closed (length (s.channel.messages ++ m ∷ [])) (left_after Message Sends (Op op) s.waiting)
+          awake = awake_changed op (Some (live.Send handle None)) (live.Send handle (Some m)) s.names (with_operation_changed op (live.Send handle None) s.names) s.channel.capacity s.channel.closed (length (s.channel.messages ++ m ∷ [])) (left_after Message Sends (Op op) s.waiting)
               there refl (left_nowhere Sends (Op op) (after_news Message s.waiting))
               (awake_leave (line_at s.names) s.channel.capacity s.channel.closed (length (s.channel.messages ++ m ∷ [])) Sends (Op op) (after_news Message s.waiting) own (awake_more m));
           account = ap (λ (o : Option T). s.channel.messages ++ option_to_list o) (sym (keeps op.0 handle m there));
-          keeps = keeps_changed op (Some (send handle None)) (send handle (Some m)) sends s.names (with_operation_changed op (send handle None) s.names) (λ h v q. cc q) there refl keeps;
+          keeps = keeps_changed op (Some (live.Send handle None)) (live.Send handle (Some m)) sends s.names (with_operation_changed op (live.Send handle None) s.names) (λ h v q. cc q) there refl keeps;
         }
     send_poll op handle m Filled there e =
         let own : line_at s.names (Op op) ≡ Some Sends = ap line_of_operation there in
@@ -235,13 +236,13 @@ module _ {T : Type 0} where
     send_poll op handle m Shut there e =
         let own : line_at s.names (Op op) ≡ Some Sends = ap line_of_operation there in
         record {
-          awake = awake_changed op (Some (send handle None)) (send handle (Some m)) s.names (with_operation_changed op (send handle None) s.names) s.channel.capacity s.channel.closed (length s.channel.messages) (left_after Nothing Sends (Op op) s.waiting)
+          awake = awake_changed op (Some (live.Send handle None)) (live.Send handle (Some m)) s.names (with_operation_changed op (live.Send handle None) s.names) s.channel.capacity s.channel.closed (length s.channel.messages) (left_after Nothing Sends (Op op) s.waiting)
               there refl (left_nowhere Sends (Op op) (after_news Nothing s.waiting)) (awake_left Sends (Op op) own);
           account = nothing_moved (call.Poll op) (send_poll_answer s op handle m Shut).reply refl refl;
-          keeps = keeps_changed op (Some (send handle None)) (send handle (Some m)) sends s.names (with_operation_changed op (send handle None) s.names) (λ h v q. cc q) there refl keeps;
+          keeps = keeps_changed op (Some (live.Send handle None)) (live.Send handle (Some m)) sends s.names (with_operation_changed op (live.Send handle None) s.names) (λ h v q. cc q) there refl keeps;
         }
 
-    recv_poll : (op : OpId) (handle : HandleId) (x : Found T) → at op.0 s.names.operations ≡ Some (recv handle) → found s.channel ≡ x → Good sends s (call.Poll op) (recv_poll_answer s op x)
+    recv_poll : (op : OpId) (handle : HandleId) (x : Found T) → at op.0 s.names.operations ≡ Some (live.Receive handle) → found s.channel ≡ x → Good sends s (call.Poll op) (recv_poll_answer s op x)
     recv_poll op handle (first m rest) there e =
         let own : line_at s.names (Op op) ≡ Some Receives = ap line_of_operation there in
         let is_first = found_first s.channel.messages s.channel.closed m rest e in
@@ -258,7 +259,7 @@ module _ {T : Type 0} where
         good (call.Poll op) (recv_poll_answer s op none_ever) (awake_left Receives (Op op) own)
         (nothing_moved (call.Poll op) (recv_poll_answer s op none_ever).reply refl refl) refl refl
 
-    closed_poll : (op : OpId) (handle : HandleId) → at op.0 s.names.operations ≡ Some (closing handle) → Good sends s (call.Poll op) (closed_poll_answer s op)
+    closed_poll : (op : OpId) (handle : HandleId) → at op.0 s.names.operations ≡ Some (live.Closing handle) → Good sends s (call.Poll op) (closed_poll_answer s op)
     closed_poll op handle there =
         let own : line_at s.names (Op op) ≡ Some Closings = ap line_of_operation there in
         cond_both s.channel.closed (after_leaving Nothing Closings (Op op) s (reply.ClosedPoll (Ready (Ok tt)))) (pending Closings (Op op) s (reply.ClosedPoll Pending))
@@ -266,11 +267,11 @@ module _ {T : Type 0} where
         (λ t. good (call.Poll op) (after_leaving Nothing Closings (Op op) s (reply.ClosedPoll (Ready (Ok tt)))) (awake_left Closings (Op op) own) (nothing_moved (call.Poll op) (reply.ClosedPoll (Ready (Ok tt))) refl refl) refl refl)
         (λ t. good (call.Poll op) (pending Closings (Op op) s (reply.ClosedPoll Pending)) (awake_pending Closings (Op op) (reply.ClosedPoll Pending) own t tt) (nothing_moved (call.Poll op) (reply.ClosedPoll Pending) refl refl) refl refl)
 
-    poll : (op : OpId) (o : Option (ModelOperation T)) → at op.0 s.names.operations ≡ o → Good sends s (call.Poll op) (poll_answer s op o)
-    poll op (Some (send handle (Some m))) there = send_poll op handle m (space_of s.channel) there refl
-    poll op (Some (send handle None)) there = stay (call.Poll op) (reply.SendPoll Pending) refl refl refl
-    poll op (Some (recv handle)) there = recv_poll op handle (found s.channel) there refl
-    poll op (Some (closing handle)) there = closed_poll op handle there
+    poll : (op : OpId) (o : Option (Operation T)) → at op.0 s.names.operations ≡ o → Good sends s (call.Poll op) (poll_answer s op o)
+    poll op (Some (live.Send handle (Some m))) there = send_poll op handle m (space_of s.channel) there refl
+    poll op (Some (live.Send handle None)) there = stay (call.Poll op) (reply.SendPoll Pending) refl refl refl
+    poll op (Some (live.Receive handle)) there = recv_poll op handle (found s.channel) there refl
+    poll op (Some (live.Closing handle)) there = closed_poll op handle there
     poll op None there = stay (call.Poll op) reply.Unit refl refl refl
 
     -- an operation of this line, and a finished send, leaves
@@ -279,14 +280,14 @@ module _ {T : Type 0} where
     refused_poll op own r (inl e) f g = good (call.PollRefused op) (after_leaving Nothing own (Op op) s r) (awake_left own (Op op) e) (nothing_moved (call.PollRefused op) r f g) refl refl
     refused_poll op own r (inr e) f g = good (call.PollRefused op) (after_leaving Nothing own (Op op) s r) (awake_left_spent own (Op op) e) (nothing_moved (call.PollRefused op) r f g) refl refl
 
-    poll_refused : (op : OpId) (o : Option (ModelOperation T)) → at op.0 s.names.operations ≡ o → Good sends s (call.PollRefused op) (poll_refused_answer s op o)
-    poll_refused op (Some (send handle (Some m))) there = refused_poll op Sends (reply.SendPoll (Ready (Err (NoMemory tt)))) (inl (ap line_of_operation there)) refl refl
-    poll_refused op (Some (send handle None)) there = refused_poll op Sends (reply.SendPoll (Ready (Err (NoMemory tt)))) (inr (ap line_of_operation there)) refl refl
-    poll_refused op (Some (recv handle)) there = refused_poll op Receives (reply.RecvPoll (Ready (Err (NoMemory tt)))) (inl (ap line_of_operation there)) refl refl
-    poll_refused op (Some (closing handle)) there = refused_poll op Closings (reply.ClosedPoll (Ready (Err listen.NoMemory))) (inl (ap line_of_operation there)) refl refl
+    poll_refused : (op : OpId) (o : Option (Operation T)) → at op.0 s.names.operations ≡ o → Good sends s (call.PollRefused op) (poll_refused_answer s op o)
+    poll_refused op (Some (live.Send handle (Some m))) there = refused_poll op Sends (reply.SendPoll (Ready (Err (NoMemory tt)))) (inl (ap line_of_operation there)) refl refl
+    poll_refused op (Some (live.Send handle None)) there = refused_poll op Sends (reply.SendPoll (Ready (Err (NoMemory tt)))) (inr (ap line_of_operation there)) refl refl
+    poll_refused op (Some (live.Receive handle)) there = refused_poll op Receives (reply.RecvPoll (Ready (Err (NoMemory tt)))) (inl (ap line_of_operation there)) refl refl
+    poll_refused op (Some (live.Closing handle)) there = refused_poll op Closings (reply.ClosedPoll (Ready (Err listen.NoMemory))) (inl (ap line_of_operation there)) refl refl
     poll_refused op None there = stay (call.PollRefused op) reply.Unit refl refl refl
 
-    given : (op : OpId) (x : ModelOperation T) (own : WaitList) (r : Reply T) → at op.0 s.names.operations ≡ Some x → removed_by r ≡ [] → brought_by_call sends (call.GiveUp op) r ≡ []
+    given : (op : OpId) (x : Operation T) (own : WaitList) (r : Reply T) → at op.0 s.names.operations ≡ Some x → removed_by r ≡ [] → brought_by_call sends (call.GiveUp op) r ≡ []
         → Awake (line_at s.names) s.channel.capacity s.channel.closed (length s.channel.messages) (left_after Nothing own (Op op) s.waiting)
         → Good sends s (call.GiveUp op) (after_leaving Nothing own (Op op) (given_up s op x) r)
     given op x own r there f g w = record {
@@ -296,19 +297,19 @@ module _ {T : Type 0} where
       keeps = keeps_changed op None x sends s.names (without_operation op x s.names) (λ h v q. cc q) there refl keeps;
     }
 
-    give_up : (op : OpId) (o : Option (ModelOperation T)) → at op.0 s.names.operations ≡ o → Good sends s (call.GiveUp op) (give_up_answer s op o)
-    give_up op (Some (send handle (Some m))) there =
-        given op (send handle (Some m)) Sends (reply.GivenUp (Some m)) there refl refl (awake_left Sends (Op op) (ap line_of_operation there))
-    give_up op (Some (send handle None)) there =
-        given op (send handle None) Sends (reply.GivenUp None) there refl refl (awake_left_spent Sends (Op op) (ap line_of_operation there))
-    give_up op (Some (recv handle)) there =
-        given op (recv handle) Receives (reply.GivenUp None) there refl refl (awake_left Receives (Op op) (ap line_of_operation there))
-    give_up op (Some (closing handle)) there =
-        given op (closing handle) Closings (reply.GivenUp None) there refl refl (awake_left Closings (Op op) (ap line_of_operation there))
+    give_up : (op : OpId) (o : Option (Operation T)) → at op.0 s.names.operations ≡ o → Good sends s (call.GiveUp op) (give_up_answer s op o)
+    give_up op (Some (live.Send handle (Some m))) there =
+        given op (live.Send handle (Some m)) Sends (reply.GivenUp (Some m)) there refl refl (awake_left Sends (Op op) (ap line_of_operation there))
+    give_up op (Some (live.Send handle None)) there =
+        given op (live.Send handle None) Sends (reply.GivenUp None) there refl refl (awake_left_spent Sends (Op op) (ap line_of_operation there))
+    give_up op (Some (live.Receive handle)) there =
+        given op (live.Receive handle) Receives (reply.GivenUp None) there refl refl (awake_left Receives (Op op) (ap line_of_operation there))
+    give_up op (Some (live.Closing handle)) there =
+        given op (live.Closing handle) Closings (reply.GivenUp None) there refl refl (awake_left Closings (Op op) (ap line_of_operation there))
     give_up op None there = stay (call.GiveUp op) reply.Unit refl refl refl
 
     -- a new operation stands in no line
-    awake_new : (op : OpId) (x : ModelOperation T) → at op.0 s.names.operations ≡ None → AwakeIn (new_answer s op x).after
+    awake_new : (op : OpId) (x : Operation T) → at op.0 s.names.operations ≡ None → AwakeIn (new_answer s op x).after
     awake_new op x free = awake_renamed (line_at s.names) (line_at (with_new_operation op x s.names)) s.channel.capacity s.channel.closed (length s.channel.messages) s.waiting same awake where
       same : (w : Waiter) → 1 ≤ times_in w s.waiting → line_at (with_new_operation op x s.names) w ≡ line_at s.names w
       same (Stream receiver) h = refl
@@ -319,7 +320,7 @@ module _ {T : Type 0} where
         | inr t ↦ rw t refl
       ]
 
-    new_keeps : (op : OpId) (x : ModelOperation T) (ss : List (ℕ × T)) → ((h : HandleId) (m : T) → Some x ≡ Some (send h (Some m)) → lookup (nat_eq op.0) ss ≡ Some m)
+    new_keeps : (op : OpId) (x : Operation T) (ss : List (ℕ × T)) → ((h : HandleId) (m : T) → Some x ≡ Some (live.Send h (Some m)) → lookup (nat_eq op.0) ss ≡ Some m)
         → ((n : ℕ) → nat_eq n op.0 ≡ false → lookup (nat_eq n) ss ≡ lookup (nat_eq n) sends) → Keeps ss (with_new_operation op x s.names)
     new_keeps op x ss mine others n h m e = elim (decided (nat_eq n op.0)) [
       | inl t ↦
@@ -476,19 +477,19 @@ module _ {T : Type 0} where
 
     pub answered : (c : Call T) → refusal s c ≡ None → Good sends s c (answer s c)
     answered (call.NewSend op sender msg) ok = record {
-      awake = awake_new op (send sender (Some msg)) (free_name op _ ok);
+      awake = awake_new op (live.Send sender (Some msg)) (free_name op _ ok);
       account = nothing_moved (call.NewSend op sender msg) reply.Made refl refl;
-      keeps = new_keeps op (send sender (Some msg)) ((op.0, msg) ∷ sends) (λ h m e. rw (nat_eq_equiv.refl op.0) (cc e)) (λ n off. rw off refl);
+      keeps = new_keeps op (live.Send sender (Some msg)) ((op.0, msg) ∷ sends) (λ h m e. rw (nat_eq_equiv.refl op.0) (cc e)) (λ n off. rw off refl);
     }
     answered (call.NewRecv op receiver) ok = record {
-      awake = awake_new op (recv receiver) (free_name op _ ok);
+      awake = awake_new op (live.Receive receiver) (free_name op _ ok);
       account = nothing_moved (call.NewRecv op receiver) reply.Made refl refl;
-      keeps = new_keeps op (recv receiver) sends (λ h m e. cc e) (λ n off. refl);
+      keeps = new_keeps op (live.Receive receiver) sends (λ h m e. cc e) (λ n off. refl);
     }
     answered (call.NewClosed op sender) ok = record {
-      awake = awake_new op (closing sender) (free_name op _ ok);
+      awake = awake_new op (live.Closing sender) (free_name op _ ok);
       account = nothing_moved (call.NewClosed op sender) reply.Made refl refl;
-      keeps = new_keeps op (closing sender) sends (λ h m e. cc e) (λ n off. refl);
+      keeps = new_keeps op (live.Closing sender) sends (λ h m e. cc e) (λ n off. refl);
     }
     answered (call.Poll op) ok = poll op (at op.0 s.names.operations) refl
     answered (call.PollRefused op) ok = poll_refused op (at op.0 s.names.operations) refl
@@ -613,35 +614,35 @@ module _ {T : Type 0} where
   -- ---- from any state
 
   -- the unfinished sends, each with its message
-  sends_of : Directory (ModelOperation T) → List (ℕ × T)
+  sends_of : Directory (Operation T) → List (ℕ × T)
   sends_of [] = []
-  sends_of ((name, Some (send h (Some m))) ∷ d) = (name, m) ∷ sends_of d
-  sends_of ((name, Some (send h None)) ∷ d) = sends_of d
-  sends_of ((name, Some (recv h)) ∷ d) = sends_of d
-  sends_of ((name, Some (closing h)) ∷ d) = sends_of d
+  sends_of ((name, Some (live.Send h (Some m))) ∷ d) = (name, m) ∷ sends_of d
+  sends_of ((name, Some (live.Send h None)) ∷ d) = sends_of d
+  sends_of ((name, Some (live.Receive h)) ∷ d) = sends_of d
+  sends_of ((name, Some (live.Closing h)) ∷ d) = sends_of d
   sends_of ((name, None) ∷ d) = sends_of d
 
-  sends_found : (d : Directory (ModelOperation T)) (n : ℕ) (h : HandleId) (m : T) → at n d ≡ Some (send h (Some m)) → lookup (nat_eq n) (sends_of d) ≡ Some m
+  sends_found : (d : Directory (Operation T)) (n : ℕ) (h : HandleId) (m : T) → at n d ≡ Some (live.Send h (Some m)) → lookup (nat_eq n) (sends_of d) ≡ Some m
   unfolding sends_of
   sends_found [] n h m e = cc e
-  sends_found ((name, Some (send g (Some x))) ∷ d) n h m e = elim (decided (nat_eq n name)) [
-    | inl t ↦ let same : Some (send g (Some x)) ≡ Some (send h (Some m)) = rw t at e in rw t (cc same)
+  sends_found ((name, Some (live.Send g (Some x))) ∷ d) n h m e = elim (decided (nat_eq n name)) [
+    | inl t ↦ let same : Some (live.Send g (Some x)) ≡ Some (live.Send h (Some m)) = rw t at e in rw t (cc same)
     | inr t ↦ rw t (sends_found d n h m (rw t at e))
   ]
-  sends_found ((name, Some (send g None)) ∷ d) n h m e = elim (decided (nat_eq n name)) [
-    | inl t ↦ let same : Some (send g None) ≡ Some (send h (Some m)) = rw t at e in cc same
+  sends_found ((name, Some (live.Send g None)) ∷ d) n h m e = elim (decided (nat_eq n name)) [
+    | inl t ↦ let same : Some (live.Send g None) ≡ Some (live.Send h (Some m)) = rw t at e in cc same
     | inr t ↦ sends_found d n h m (rw t at e)
   ]
-  sends_found ((name, Some (recv g)) ∷ d) n h m e = elim (decided (nat_eq n name)) [
-    | inl t ↦ let same : Some (recv g) ≡ Some (send h (Some m)) = rw t at e in cc same
+  sends_found ((name, Some (live.Receive g)) ∷ d) n h m e = elim (decided (nat_eq n name)) [
+    | inl t ↦ let same : Some (live.Receive g) ≡ Some (live.Send h (Some m)) = rw t at e in cc same
     | inr t ↦ sends_found d n h m (rw t at e)
   ]
-  sends_found ((name, Some (closing g)) ∷ d) n h m e = elim (decided (nat_eq n name)) [
-    | inl t ↦ let same : Some (closing g) ≡ Some (send h (Some m)) = rw t at e in cc same
+  sends_found ((name, Some (live.Closing g)) ∷ d) n h m e = elim (decided (nat_eq n name)) [
+    | inl t ↦ let same : Some (live.Closing g) ≡ Some (live.Send h (Some m)) = rw t at e in cc same
     | inr t ↦ sends_found d n h m (rw t at e)
   ]
   sends_found ((name, None) ∷ d) n h m e = elim (decided (nat_eq n name)) [
-    | inl t ↦ let same : None ≡ Some (send h (Some m)) = rw t at e in cc same
+    | inl t ↦ let same : None ≡ Some (live.Send h (Some m)) = rw t at e in cc same
     | inr t ↦ sends_found d n h m (rw t at e)
   ]
 

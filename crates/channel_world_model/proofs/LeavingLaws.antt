@@ -1,11 +1,12 @@
 -- That messages leave in the order in which they were accepted, and that refused ones are not in the channel.
-use Rattle.channel_world_model.proofs.Words.{arith, ◌≡◌, ◌<◌, ℕ, zero, suc, List, [], ◌∷◌, ◌++◌, length, Bool, true, false, if◌then◌else◌, Option, None, Some, Ok, Err, refl, sym, ap, subst, ◌∙◌, inl, inr, nat_eq_equiv, Answer, after_leaving, pending, displacing, space_of, Found, first, found, try_send_answer, force_send_answer, send_poll_answer, recv_poll_answer, poll_answer, poll_refused_answer, removed, accepted, ModelOperation, send, recv, closing, at, Lack, memory, serials, refused, Answers, MayBeDone, Runs, State, start, Call, Closings, Nothing, HandleId, OpId, Op, WorldRefusal, Done, Space, Open, Filled, Shut, Ready, Pending}
+use Rattle.channel_world_model.proofs.Words.{arith, ◌≡◌, ◌<◌, ℕ, zero, suc, List, [], ◌∷◌, ◌++◌, length, Bool, true, false, if◌then◌else◌, Option, None, Some, Ok, Err, refl, sym, ap, subst, ◌∙◌, inl, inr, nat_eq_equiv, Answer, after_leaving, pending, displacing, space_of, Found, first, found, try_send_answer, force_send_answer, send_poll_answer, recv_poll_answer, poll_answer, poll_refused_answer, removed, accepted, Operation, at, Lack, memory, serials, refused, Answers, MayBeDone, Runs, State, start, Call, Closings, Nothing, HandleId, OpId, Op, WorldRefusal, Done, Space, Open, Filled, Shut, Ready, Pending}
 use Rattle.std.proofs.Common.{slice_get}
 use Rattle.channel_world_model.specs.Leaving.{RefusesWhole, unsent_in, unsent_at}
 use Rattle.channel_world_model.specs.declared.call.Call.TheVariants as call
 use Rattle.channel_calls.specs.declared.reply.Reply.TheVariants as reply
 use Rattle.channel_world_model.proofs.Lacking.{Lacking, lacking, out}
 use Rattle.channel_world_model.proofs.LawSteps.{found_name, in_order, set_here}
+use Rattle.channel_world_model.specs.declared.name.Operation.TheVariants as live
 
 -- ---- order
 
@@ -38,16 +39,16 @@ module _ {T : Type 0} where
     force_send sender m Shut = (refl, refl)
 
     -- the send has its message no more
-    emptied : (op : OpId) (handle : HandleId) (m : T) → at op.0 s.names.operations ≡ Some (send handle (Some m)) → unsent_at op (send_poll_answer s op handle m Shut).after ≡ None
+    emptied : (op : OpId) (handle : HandleId) (m : T) → at op.0 s.names.operations ≡ Some (live.Send handle (Some m)) → unsent_at op (send_poll_answer s op handle m Shut).after ≡ None
     emptied op handle m there =
-        ap (λ (o : Option (ModelOperation T)). unsent_in o)
-        (set_here op.0 op.0 (Some (send handle None)) s.names.operations (found_name op.0 s.names.operations (send handle (Some m)) there) (nat_eq_equiv.refl op.0))
+        ap (λ (o : Option (Operation T)). unsent_in o)
+        (set_here op.0 op.0 (Some (live.Send handle None)) s.names.operations (found_name op.0 s.names.operations (live.Send handle (Some m)) there) (nat_eq_equiv.refl op.0))
 
-    send_poll : (op : OpId) (handle : HandleId) (m : T) (x : Space) → at op.0 s.names.operations ≡ Some (send handle (Some m))
+    send_poll : (op : OpId) (handle : HandleId) (m : T) (x : Space) → at op.0 s.names.operations ≡ Some (live.Send handle (Some m))
         → RefusesWhole s (call.Poll op) (send_poll_answer s op handle m x).reply (send_poll_answer s op handle m x).after
     send_poll op handle m Open there = tt
     send_poll op handle m Filled there = (refl, refl)
-    send_poll op handle m Shut there = (ap (λ (o : Option (ModelOperation T)). unsent_in o) there, emptied op handle m there, refl)
+    send_poll op handle m Shut there = (ap (λ (o : Option (Operation T)). unsent_in o) there, emptied op handle m there, refl)
 
     recv_poll : (op : OpId) (x : Found T) → RefusesWhole s (call.Poll op) (recv_poll_answer s op x).reply (recv_poll_answer s op x).after
     recv_poll op (first m ms) = tt
@@ -59,15 +60,15 @@ module _ {T : Type 0} where
     closed_poll op true = tt
     closed_poll op false = tt
 
-    poll : (op : OpId) (o : Option (ModelOperation T)) → at op.0 s.names.operations ≡ o → RefusesWhole s (call.Poll op) (poll_answer s op o).reply (poll_answer s op o).after
-    poll op (Some (send handle (Some m))) there = send_poll op handle m (space_of s.channel) there
-    poll op (Some (send handle None)) there = (refl, refl)
-    poll op (Some (recv handle)) there = recv_poll op (found s.channel)
-    poll op (Some (closing handle)) there = closed_poll op s.channel.closed
+    poll : (op : OpId) (o : Option (Operation T)) → at op.0 s.names.operations ≡ o → RefusesWhole s (call.Poll op) (poll_answer s op o).reply (poll_answer s op o).after
+    poll op (Some (live.Send handle (Some m))) there = send_poll op handle m (space_of s.channel) there
+    poll op (Some (live.Send handle None)) there = (refl, refl)
+    poll op (Some (live.Receive handle)) there = recv_poll op (found s.channel)
+    poll op (Some (live.Closing handle)) there = closed_poll op s.channel.closed
     poll op None there = tt
 
-    poll_refused : (op : OpId) (o : Option (ModelOperation T)) → RefusesWhole s (call.PollRefused op) (poll_refused_answer s op o).reply (poll_refused_answer s op o).after
-    poll_refused op (Some (send handle msg)) = (refl, refl)
+    poll_refused : (op : OpId) (o : Option (Operation T)) → RefusesWhole s (call.PollRefused op) (poll_refused_answer s op o).reply (poll_refused_answer s op o).after
+    poll_refused op (Some (live.Send handle msg)) = (refl, refl)
     poll_refused op o = tt
 
     -- ---- where a growth is refused

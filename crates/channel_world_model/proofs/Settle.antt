@@ -1,5 +1,5 @@
 -- Settling ends: each poll of the oldest woken one brings it nearer, and with w pending it makes no more than w(w+1)/2 polls.
-use Rattle.channel_world_model.proofs.Words.{cond_both, false_from_ne_true, arith, ◌≡◌, ◌⊎◌, ◌≤◌, ◌+◌, ◌*◌, ℕ, zero, suc, List, [], ◌∷◌, ◌++◌, length, take, drop, Bool, true, false, if◌then◌else◌, not, Option, Some, IsSome, Ok, refl, sym, ap, subst, ◌∙◌, ◌&&◌, inl, inr, append-nil, append_assoc, filter, list_any, filter-append, slice_get, Answer, after_leaving, pending, space_of, Found, first, none_yet, none_ever, found, send_poll_answer, recv_poll_answer, next_answer, closed_poll_answer, poll_answer, answer, AwakeIn, Enough, Kind, Placed, times, count_of, free_places, line_at, line_of_operation, Waiting, same_waiter, is_among, untold, told_by, after_news, without_waiter, gone, passed_on, left_after, told_after, at_end, standing, is_stream, ModelOperation, send, recv, closing, at, Lack, answer_without, Answers, Call, poll_of, Settles, SettlesTo, NobodyGoesOn, pending_count, pairs, polls_left, State, with_waiting, Reply, WaitList, Sends, Receives, Streams, Closings, News, Nothing, Message, Room, Closing, NextIn, Space, Open, Filled, Shut, Waiter, Op, Stream, OpId, HandleId, Ready, Pending}
+use Rattle.channel_world_model.proofs.Words.{cond_both, false_from_ne_true, arith, ◌≡◌, ◌⊎◌, ◌≤◌, ◌+◌, ◌*◌, ℕ, zero, suc, List, [], ◌∷◌, ◌++◌, length, take, drop, Bool, true, false, if◌then◌else◌, not, Option, Some, IsSome, Ok, refl, sym, ap, subst, ◌∙◌, ◌&&◌, inl, inr, append-nil, append_assoc, filter, list_any, filter-append, slice_get, Answer, after_leaving, pending, space_of, Found, first, none_yet, none_ever, found, send_poll_answer, recv_poll_answer, next_answer, closed_poll_answer, poll_answer, answer, AwakeIn, Enough, Kind, Placed, times, count_of, free_places, line_at, line_of_operation, Waiting, same_waiter, is_among, untold, told_by, after_news, without_waiter, gone, passed_on, left_after, told_after, at_end, standing, is_stream, Operation, at, Lack, answer_without, Answers, Call, poll_of, Settles, SettlesTo, NobodyGoesOn, pending_count, pairs, polls_left, State, with_waiting, Reply, WaitList, Sends, Receives, Streams, Closings, News, Nothing, Message, Room, Closing, NextIn, Space, Open, Filled, Shut, Waiter, Op, Stream, OpId, HandleId, Ready, Pending}
 use Rattle.std.proofs.Math.Nat.{suc-mul, mul-suc}
 use Rattle.channel_world_model.specs.declared.call.Call.TheVariants as call
 use Rattle.channel_calls.specs.declared.reply.Reply.TheVariants as reply
@@ -9,6 +9,7 @@ use Rattle.channel_world_model.proofs.Lacking.{Lacking, lacking}
 use Rattle.channel_world_model.proofs.Awake.{told_stood, woken_end}
 use Rattle.channel_world_model.proofs.LawSteps.{poll_awake}
 pub use Rattle.channel_world_model.proofs.Counting.{one_if, count_all, count_news, count_gone, count_gone_one, count_end}
+use Rattle.channel_world_model.specs.declared.name.Operation.TheVariants as live
 
 -- ---- how many
 
@@ -164,10 +165,10 @@ module _ {T : Type 0} where
         (λ t. c.left Nothing tt Closings) (λ t. c.stands Closings)
 
     -- who is woken belongs to a line
-    poll_so : (op : OpId) (o : Option (ModelOperation T)) → IsSome (line_of_operation o) → Cases (Op op) s.waiting P → So (poll_answer s op o)
-    poll_so op (Some (send handle (Some m))) h c = send_so op handle m (space_of s.channel) c
-    poll_so op (Some (recv handle)) h c = recv_so op (found s.channel) c
-    poll_so op (Some (closing handle)) h c = closed_so op c
+    poll_so : (op : OpId) (o : Option (Operation T)) → IsSome (line_of_operation o) → Cases (Op op) s.waiting P → So (poll_answer s op o)
+    poll_so op (Some (live.Send handle (Some m))) h c = send_so op handle m (space_of s.channel) c
+    poll_so op (Some (live.Receive handle)) h c = recv_so op (found s.channel) c
+    poll_so op (Some (live.Closing handle)) h c = closed_so op c
     poll_so op o h c = cc h
 
     next_so : (receiver : HandleId) (x : Found T) → Cases (Stream receiver) s.waiting P

@@ -21,7 +21,7 @@ pub use Rattle.channel_calls.specs.Model.{ModelChannel, is_full, appended, with_
 pub use Rattle.channel_world_model.specs.Handles.{live_of, HandlesAreCounted, UpgradesAsOpen, is_of}
 pub use Rattle.channel_world_model.specs.Laws.{same_line, is_line, count_of, free_places, removed_by, brought_by_call, sends_after, removed, accepted, line_of_operation, line_at, NobodyIsLeft}
 pub use Rattle.channel_world_model.specs.Lines.{Waiting, same_waiter, is_among, untold, told_by, after_news, after_rooms, without_waiter, gone, passed_on, at_end, standing, nobody, left_after, told_after, is_stream}
-pub use Rattle.channel_world_model.specs.Names.{Directory, ModelOperation, send, recv, closing, at, with_new, without_name, with_new_operation, is_taken, Names, with_operation_changed, without_operation, lent_once_more, used_once_less, with_changed}
+pub use Rattle.channel_world_model.specs.Names.{Directory, at, with_new, without_name, with_new_operation, is_taken, Names, with_operation_changed, without_operation, lent_once_more, used_once_less, with_changed}
 pub use Rattle.channel_world_model.specs.Refusal.{are_alike, refusal}
 pub use Rattle.channel_world_model.specs.Refused.{Answers, Lack, memory, serials, refused, not_listening, not_standing, not_held, send_not_polled, recv_not_polled, not_polled, next_not_polled, not_received, answer_without}
 pub use Rattle.channel_world_model.specs.Run.{Runs, MayBeDone, Stops, MayStop}
@@ -33,6 +33,7 @@ pub use Rattle.channel_world_model.specs.declared.name.HandleId.{HandleId}
 pub use Rattle.channel_world_model.specs.declared.name.HandleKind.{HandleKind}
 pub use Rattle.channel_world_model.specs.declared.name.HandleKind.TheVariants.{Sender, Receiver, WeakSender, WeakReceiver}
 pub use Rattle.channel_world_model.specs.declared.name.OpId.{OpId}
+pub use Rattle.channel_world_model.specs.declared.name.Operation.{Operation}
 pub use Rattle.channel_world_model.specs.declared.name.Waiter.{Waiter}
 pub use Rattle.channel_world_model.specs.declared.name.Waiter.TheVariants.{Op, Stream}
 pub use Rattle.channel_world_model.specs.declared.news.News.{News}

@@ -1,7 +1,7 @@
 -- What a call answers and leaves, when calls are made one at a time and memory is ample: a function of state and call.
 use Rattle.std.specs.Prelude.{ℕ, zero, suc, take, drop, ◌+◌, ◌-◌, ◌^◌, ◌==◌, nat_lt, List, [], ◌∷◌, ◌++◌, length, ◌&&◌, ◌||◌, Bool, true, false, not, Option, None, Some, is_none, Ok, Err, if◌then◌else◌}
 use Rattle.channel_calls.specs.Model.{ModelChannel, is_full, appended, with_messages}
-use Rattle.channel_world_model.specs.Names.{ModelOperation, send, recv, closing, at, with_new, with_spent, without_name, with_handles, with_new_operation, with_operation_changed, without_operation}
+use Rattle.channel_world_model.specs.Names.{at, with_new, with_spent, without_name, with_handles, with_new_operation, with_operation_changed, without_operation}
 use Rattle.channel_world_model.specs.Lines.{is_among, told_by, after_news, after_rooms, told_by_rooms, gone, left_after, told_after, standing}
 use Rattle.channel_world_model.specs.State.{State, with_channel, with_names, with_waiting}
 use Rattle.channel_world_model.specs.declared.call.Call.{Call}
@@ -17,6 +17,8 @@ use Rattle.channel_world_model.specs.declared.space.Space.TheVariants.{Open, Fil
 use Rattle.channel_world_model.specs.declared.name.Waiter.{Waiter}
 use Rattle.channel_world_model.specs.declared.name.Waiter.TheVariants.{Op, Stream}
 use Rattle.channel_world_model.specs.declared.name.OpId.{OpId}
+use Rattle.channel_world_model.specs.declared.name.Operation.{Operation}
+use Rattle.channel_world_model.specs.declared.name.Operation.TheVariants as live
 use Rattle.channel_world_model.specs.declared.name.HandleId.{HandleId}
 use Rattle.channel_world_model.specs.declared.name.HandleKind.{HandleKind}
 use Rattle.channel_world_model.specs.declared.name.HandleKind.TheVariants.{Sender, Receiver, WeakSender, WeakReceiver}
@@ -93,7 +95,7 @@ force_send_answer s m Shut = replying s (reply.ForceSend (Err (Plain (record { 0
 
 -- the send has its message no more
 abbrev pub finished : {T : Type 0} → State T → OpId → HandleId → State T
-finished s op handle = with_names (with_operation_changed op (send handle None) s.names) s
+finished s op handle = with_names (with_operation_changed op (live.Send handle None) s.names) s
 
 -- a send that has its message
 abbrev pub send_poll_answer : {T : Type 0} → State T → OpId → HandleId → T → Space → Answer T
@@ -147,36 +149,36 @@ closed_poll_answer s op =
 -- ---- operations
 
 -- a finished send stays pending, and stands in no line
-abbrev pub poll_answer : {T : Type 0} → State T → OpId → Option (ModelOperation T) → Answer T
-poll_answer s op (Some (send handle (Some m))) = send_poll_answer s op handle m (space_of s.channel)
-poll_answer s op (Some (send handle None)) = replying s (reply.SendPoll Pending)
-poll_answer s op (Some (recv handle)) = recv_poll_answer s op (found s.channel)
-poll_answer s op (Some (closing handle)) = closed_poll_answer s op
+abbrev pub poll_answer : {T : Type 0} → State T → OpId → Option (Operation T) → Answer T
+poll_answer s op (Some (live.Send handle (Some m))) = send_poll_answer s op handle m (space_of s.channel)
+poll_answer s op (Some (live.Send handle None)) = replying s (reply.SendPoll Pending)
+poll_answer s op (Some (live.Receive handle)) = recv_poll_answer s op (found s.channel)
+poll_answer s op (Some (live.Closing handle)) = closed_poll_answer s op
 poll_answer s op None = replying s reply.Unit
 
 -- a poll whose copy of the waker was refused: it leaves its line, and a send keeps its message
-abbrev pub poll_refused_answer : {T : Type 0} → State T → OpId → Option (ModelOperation T) → Answer T
-poll_refused_answer s op (Some (send handle msg)) = after_leaving Nothing Sends (Op op) s (reply.SendPoll (Ready (Err (NoMemory tt))))
-poll_refused_answer s op (Some (recv handle)) = after_leaving Nothing Receives (Op op) s (reply.RecvPoll (Ready (Err (NoMemory tt))))
-poll_refused_answer s op (Some (closing handle)) = after_leaving Nothing Closings (Op op) s (reply.ClosedPoll (Ready (Err listen.NoMemory)))
+abbrev pub poll_refused_answer : {T : Type 0} → State T → OpId → Option (Operation T) → Answer T
+poll_refused_answer s op (Some (live.Send handle msg)) = after_leaving Nothing Sends (Op op) s (reply.SendPoll (Ready (Err (NoMemory tt))))
+poll_refused_answer s op (Some (live.Receive handle)) = after_leaving Nothing Receives (Op op) s (reply.RecvPoll (Ready (Err (NoMemory tt))))
+poll_refused_answer s op (Some (live.Closing handle)) = after_leaving Nothing Closings (Op op) s (reply.ClosedPoll (Ready (Err listen.NoMemory)))
 poll_refused_answer s op None = replying s reply.Unit
 
 -- the operation that is given up lives no more
-abbrev pub given_up : {T : Type 0} → State T → OpId → ModelOperation T → State T
+abbrev pub given_up : {T : Type 0} → State T → OpId → Operation T → State T
 given_up s op operation = with_names (without_operation op operation s.names) s
 
-abbrev pub give_up_answer : {T : Type 0} → State T → OpId → Option (ModelOperation T) → Answer T
-give_up_answer s op (Some (send handle msg)) = after_leaving Nothing Sends (Op op) (given_up s op (send handle msg)) (reply.GivenUp msg)
-give_up_answer s op (Some (recv handle)) = after_leaving Nothing Receives (Op op) (given_up s op (recv handle)) (reply.GivenUp None)
-give_up_answer s op (Some (closing handle)) = after_leaving Nothing Closings (Op op) (given_up s op (closing handle)) (reply.GivenUp None)
+abbrev pub give_up_answer : {T : Type 0} → State T → OpId → Option (Operation T) → Answer T
+give_up_answer s op (Some (live.Send handle msg)) = after_leaving Nothing Sends (Op op) (given_up s op (live.Send handle msg)) (reply.GivenUp msg)
+give_up_answer s op (Some (live.Receive handle)) = after_leaving Nothing Receives (Op op) (given_up s op (live.Receive handle)) (reply.GivenUp None)
+give_up_answer s op (Some (live.Closing handle)) = after_leaving Nothing Closings (Op op) (given_up s op (live.Closing handle)) (reply.GivenUp None)
 give_up_answer s op None = replying s reply.Unit
 
-abbrev pub is_finished : {T : Type 0} → Option (ModelOperation T) → Bool
-is_finished (Some (send handle msg)) = is_none msg
+abbrev pub is_finished : {T : Type 0} → Option (Operation T) → Bool
+is_finished (Some (live.Send handle msg)) = is_none msg
 is_finished operation = false
 
 -- a new operation, which is not polled yet
-abbrev pub new_answer : {T : Type 0} → State T → OpId → ModelOperation T → Answer T
+abbrev pub new_answer : {T : Type 0} → State T → OpId → Operation T → Answer T
 new_answer s op operation = replying (with_names (with_new_operation op operation s.names) s) reply.Made
 
 -- ---- handles
@@ -263,9 +265,9 @@ upgrade_answer s new None = replying s reply.Unit
 -- ---- the calls
 
 abbrev pub answer : {T : Type 0} → State T → Call T → Answer T
-answer s (call.NewSend op sender msg) = new_answer s op (send sender (Some msg))
-answer s (call.NewRecv op receiver) = new_answer s op (recv receiver)
-answer s (call.NewClosed op sender) = new_answer s op (closing sender)
+answer s (call.NewSend op sender msg) = new_answer s op (live.Send sender (Some msg))
+answer s (call.NewRecv op receiver) = new_answer s op (live.Receive receiver)
+answer s (call.NewClosed op sender) = new_answer s op (live.Closing sender)
 answer s (call.Poll op) = poll_answer s op (at op.0 s.names.operations)
 answer s (call.PollRefused op) = poll_refused_answer s op (at op.0 s.names.operations)
 answer s (call.GiveUp op) = give_up_answer s op (at op.0 s.names.operations)

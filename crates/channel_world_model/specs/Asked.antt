@@ -3,15 +3,16 @@ use Rattle.std.specs.Prelude.{true, Option, None, Some}
 use Rattle.channel_calls.specs.Asks.{lent}
 use Rattle.channel_calls.specs.declared.ask.ChannelAsk.{ChannelAsk}
 use Rattle.channel_calls.specs.declared.ask.ChannelAsk.TheVariants as ask
-use Rattle.channel_calls.specs.declared.stage.WaitList.TheVariants as list
 use Rattle.channel_calls.specs.declared.stage.Side.TheVariants.{Senders, Receivers}
-use Rattle.channel_world_model.specs.Names.{Names, ModelOperation, send, recv, closing, at}
+use Rattle.channel_world_model.specs.Names.{Names, at, own_message, waits_in}
 use Rattle.channel_world_model.specs.Answer.{is_finished}
 use Rattle.channel_world_model.specs.declared.call.Call.{Call}
 use Rattle.channel_world_model.specs.declared.call.Call.TheVariants as call
 use Rattle.channel_world_model.specs.declared.name.HandleKind.TheVariants.{Sender, Receiver, WeakSender, WeakReceiver}
 use Rattle.channel_world_model.specs.declared.name.HandleId.{HandleId}
 use Rattle.channel_world_model.specs.declared.name.OpId.{OpId}
+use Rattle.channel_world_model.specs.declared.name.Operation.{Operation}
+use Rattle.channel_world_model.specs.declared.name.Operation.TheVariants as live
 use Rattle.channel_world_model.specs.declared.name.Waiter.{Waiter}
 use Rattle.channel_world_model.specs.declared.name.Waiter.TheVariants.{Op, Stream}
 use Rattle.channel_world_model.specs.declared.name.Handle.{Handle}
@@ -34,32 +35,28 @@ stream_of handle (Some h) = elim h.kind [
 ]
 
 module _ {T : Type 0} where
-  -- of an operation; a world never asks for one that doesn't live
-  abbrev pub poll_asked : KeysHeld → OpId → Option (ModelOperation T) → ChannelAsk T Waiter
-  poll_asked held op (Some (send handle (Some m))) = ask.PollSend m (lent (held (Op op))) (Op op)
-  poll_asked held op (Some (send handle None)) = ask.PollFinishedSend
-  poll_asked held op (Some (recv handle)) = ask.PollRecv (lent (held (Op op))) (Op op)
-  poll_asked held op (Some (closing handle)) = ask.PollClosed (held (Op op)) (Op op)
-  poll_asked held op None = ask.Make
+  -- of an operation, which holds this listener or none; a world never asks for one that doesn't live
+  abbrev pub poll_asked : Option Key → OpId → Option (Operation T) → ChannelAsk T Waiter
+  poll_asked key op (Some (live.Send handle (Some m))) = ask.PollSend m (lent key) (Op op)
+  poll_asked key op (Some (live.Send handle None)) = ask.PollFinishedSend
+  poll_asked key op (Some (live.Receive handle)) = ask.PollRecv (lent key) (Op op)
+  poll_asked key op (Some (live.Closing handle)) = ask.PollClosed key (Op op)
+  poll_asked key op None = ask.Make
 
-  abbrev pub refusal_asked : KeysHeld → OpId → Option (ModelOperation T) → ChannelAsk T Waiter
-  refusal_asked held op (Some (send handle msg)) = ask.RefusePoll list.Sends msg (held (Op op))
-  refusal_asked held op (Some (recv handle)) = ask.RefusePoll list.Receives None (held (Op op))
-  refusal_asked held op (Some (closing handle)) = ask.RefusePoll list.Closings None (held (Op op))
-  refusal_asked held op None = ask.Make
+  abbrev pub refusal_asked : Option Key → Option (Operation T) → ChannelAsk T Waiter
+  refusal_asked key (Some operation) = ask.RefusePoll (waits_in operation) (own_message operation) key
+  refusal_asked key None = ask.Make
 
-  abbrev pub giving_up_asked : KeysHeld → OpId → Option (ModelOperation T) → ChannelAsk T Waiter
-  giving_up_asked held op (Some (send handle msg)) = ask.GiveUp list.Sends msg (held (Op op))
-  giving_up_asked held op (Some (recv handle)) = ask.GiveUp list.Receives None (held (Op op))
-  giving_up_asked held op (Some (closing handle)) = ask.GiveUp list.Closings None (held (Op op))
-  giving_up_asked held op None = ask.Make
+  abbrev pub giving_up_asked : Option Key → Option (Operation T) → ChannelAsk T Waiter
+  giving_up_asked key (Some operation) = ask.GiveUp (waits_in operation) (own_message operation) key
+  giving_up_asked key None = ask.Make
 
-  -- of a handle
-  abbrev pub drop_asked : KeysHeld → HandleId → Option Handle → ChannelAsk T Waiter
-  drop_asked held handle None = ask.Make
-  drop_asked held handle (Some h) = elim h.kind [
+  -- of a handle, whose stream holds this listener or none
+  abbrev pub drop_asked : Option Key → Option Handle → ChannelAsk T Waiter
+  drop_asked key None = ask.Make
+  drop_asked key (Some h) = elim h.kind [
     | Sender ↦ ask.DropSender
-    | Receiver ↦ ask.DropReceiver (held (Stream handle))
+    | Receiver ↦ ask.DropReceiver key
     | WeakSender ↦ ask.DropWeak
     | WeakReceiver ↦ ask.DropWeak
   ]
@@ -82,35 +79,35 @@ module _ {T : Type 0} where
     | WeakReceiver ↦ ask.Upgrade Receivers
   ]
 
-  -- of a call that asks and changes nothing; one that makes an operation or a weak handle asks nothing
-  abbrev pub question_asked : Call T → ChannelAsk T Waiter
-  question_asked (call.StreamIsTerminated receiver) = ask.IsTerminated
-  question_asked (call.SameChannel a b) = ask.SameChannel true
-  question_asked (call.IsClosed handle) = ask.IsClosed
-  question_asked (call.IsEmpty handle) = ask.IsEmpty
-  question_asked (call.IsFull handle) = ask.IsFull
-  question_asked (call.Len handle) = ask.Len
-  question_asked (call.Capacity handle) = ask.Capacity
-  question_asked (call.SenderCount handle) = ask.HandleCount Senders
-  question_asked (call.ReceiverCount handle) = ask.HandleCount Receivers
-  question_asked c = ask.Make
+  -- what a call that goes through one handle asks; one that makes an operation or a weak handle asks nothing
+  abbrev pub plain_asked : Call T → ChannelAsk T Waiter
+  plain_asked (call.StreamIsTerminated receiver) = ask.IsTerminated
+  plain_asked (call.TrySend sender msg) = ask.TrySend msg
+  plain_asked (call.ForceSend sender msg) = ask.ForceSend msg
+  plain_asked (call.TryRecv receiver) = ask.TryRecv
+  plain_asked (call.RecvMany receiver limit) = ask.RecvMany limit
+  plain_asked (call.Close handle) = ask.Close
+  plain_asked (call.IsClosed handle) = ask.IsClosed
+  plain_asked (call.IsEmpty handle) = ask.IsEmpty
+  plain_asked (call.IsFull handle) = ask.IsFull
+  plain_asked (call.Len handle) = ask.Len
+  plain_asked (call.Capacity handle) = ask.Capacity
+  plain_asked (call.SenderCount handle) = ask.HandleCount Senders
+  plain_asked (call.ReceiverCount handle) = ask.HandleCount Receivers
+  plain_asked c = ask.Make
 
   -- what a call asks of the channel
   abbrev pub asked : KeysHeld → Names T → Call T → ChannelAsk T Waiter
-  asked held names (call.Poll op) = poll_asked held op (at op.0 names.operations)
-  asked held names (call.PollRefused op) = refusal_asked held op (at op.0 names.operations)
-  asked held names (call.GiveUp op) = giving_up_asked held op (at op.0 names.operations)
+  asked held names (call.Poll op) = poll_asked (held (Op op)) op (at op.0 names.operations)
+  asked held names (call.PollRefused op) = refusal_asked (held (Op op)) (at op.0 names.operations)
+  asked held names (call.GiveUp op) = giving_up_asked (held (Op op)) (at op.0 names.operations)
   asked held names (call.SendIsTerminated op) = ask.SendIsTerminated (is_finished (at op.0 names.operations))
   asked held names (call.PollNext receiver) = ask.PollNext (held (Stream receiver)) (Stream receiver)
-  asked held names (call.TrySend sender msg) = ask.TrySend msg
-  asked held names (call.ForceSend sender msg) = ask.ForceSend msg
-  asked held names (call.TryRecv receiver) = ask.TryRecv
-  asked held names (call.RecvMany receiver limit) = ask.RecvMany limit
-  asked held names (call.Close handle) = ask.Close
-  asked held names (call.Drop handle) = drop_asked held handle (at handle.0 names.handles)
+  asked held names (call.Drop handle) = drop_asked (held (Stream handle)) (at handle.0 names.handles)
   asked held names (call.TryClone handle new) = clone_asked (at handle.0 names.handles)
   asked held names (call.Upgrade weak new) = upgrade_asked (at weak.0 names.handles)
-  asked held names c = question_asked c
+  asked held names (call.SameChannel a b) = ask.SameChannel true
+  asked held names c = plain_asked c
 
   -- who keeps the listener that a call leaves, if any does
   abbrev pub keeper_in : Names T → Call T → Option Waiter

@@ -3,7 +3,7 @@ use Rattle.std.specs.Prelude.{◌≡◌, ◌⊎◌, ◌≤◌, ◌-◌, ℕ, nat
 use Rattle.std.specs.List.{filter}
 use Rattle.std.specs.Map.{lookup}
 use Rattle.std.specs.Option.{option_to_list}
-use Rattle.channel_world_model.specs.Names.{Names, ModelOperation, send, recv, closing, at}
+use Rattle.channel_world_model.specs.Names.{Names, at}
 use Rattle.channel_world_model.specs.Lines.{untold}
 use Rattle.channel_world_model.specs.State.{State, start}
 use Rattle.channel_world_model.specs.declared.call.Call.{Call}
@@ -18,6 +18,8 @@ use Rattle.channel_world_model.specs.declared.name.Waiter.TheVariants.{Op, Strea
 use Rattle.channel_calls.specs.declared.stage.WaitList.{WaitList}
 use Rattle.channel_calls.specs.declared.stage.WaitList.TheVariants.{Sends, Receives, Streams, Closings}
 use Rattle.futures.specs.declared.task.Poll.TheVariants.{Ready}
+use Rattle.channel_world_model.specs.declared.name.Operation.TheVariants as live
+use Rattle.channel_world_model.specs.declared.name.Operation.{Operation}
 
 -- ---- nothing is lost, doubled or reordered
 
@@ -63,11 +65,11 @@ NothingIsLost T =
 -- ---- nobody is left asleep
 
 -- the line that an operation belongs to while it is pending; a finished send is never pending
-abbrev pub line_of_operation : {T : Type 0} → Option (ModelOperation T) → Option WaitList
-line_of_operation (Some (send handle (Some m))) = Some Sends
-line_of_operation (Some (send handle None)) = None
-line_of_operation (Some (recv handle)) = Some Receives
-line_of_operation (Some (closing handle)) = Some Closings
+abbrev pub line_of_operation : {T : Type 0} → Option (Operation T) → Option WaitList
+line_of_operation (Some (live.Send handle (Some m))) = Some Sends
+line_of_operation (Some (live.Send handle None)) = None
+line_of_operation (Some (live.Receive handle)) = Some Receives
+line_of_operation (Some (live.Closing handle)) = Some Closings
 line_of_operation None = None
 
 abbrev pub line_at : {T : Type 0} → Names T → Waiter → Option WaitList

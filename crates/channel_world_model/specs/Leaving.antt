@@ -1,12 +1,13 @@
 -- In which order messages leave, and what becomes of those that are refused: calls made one at a time.
 use Rattle.std.specs.Prelude.{◌≡◌, ◌<◌, ℕ, List, [], length, Option, None, Some, Err, slice_get}
 use Rattle.channel_world_model.specs.Laws.{removed, accepted}
-use Rattle.channel_world_model.specs.Names.{ModelOperation, send, recv, closing, at}
+use Rattle.channel_world_model.specs.Names.{at, own_message}
 use Rattle.channel_world_model.specs.Run.{MayBeDone, Runs}
 use Rattle.channel_world_model.specs.State.{State, start}
 use Rattle.channel_world_model.specs.declared.call.Call.{Call}
 use Rattle.channel_world_model.specs.declared.call.Call.TheVariants as call
 use Rattle.channel_world_model.specs.declared.name.OpId.{OpId}
+use Rattle.channel_world_model.specs.declared.name.Operation.{Operation}
 use Rattle.channel_calls.specs.Errors.{unsent, handed_back, try_handed_back}
 use Rattle.channel_calls.specs.declared.error.Refused.TheVariants as refused
 use Rattle.channel_calls.specs.declared.reply.Reply.{Reply}
@@ -28,10 +29,8 @@ LeavesInTurn T =
 -- ---- refused sends
 
 -- the message of the operation, if it is an unfinished send
-abbrev pub unsent_in : {T : Type 0} → Option (ModelOperation T) → Option T
-unsent_in (Some (send handle m)) = m
-unsent_in (Some (recv handle)) = None
-unsent_in (Some (closing handle)) = None
+abbrev pub unsent_in : {T : Type 0} → Option (Operation T) → Option T
+unsent_in (Some operation) = own_message operation
 unsent_in None = None
 
 abbrev pub unsent_at : {T : Type 0} → OpId → State T → Option T

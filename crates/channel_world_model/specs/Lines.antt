@@ -3,8 +3,6 @@ use Rattle.std.specs.Prelude.{ℕ, zero, suc, ◌==◌, ◌&&◌, List, [], ◌�
 use Rattle.std.specs.List.{list_any, filter}
 use Rattle.channel_world_model.specs.declared.name.Waiter.{Waiter}
 use Rattle.channel_world_model.specs.declared.name.Waiter.TheVariants.{Op, Stream}
-use Rattle.channel_world_model.specs.declared.name.OperationKind.{OperationKind}
-use Rattle.channel_world_model.specs.declared.name.OperationKind.TheVariants as kind
 use Rattle.channel_calls.specs.declared.stage.WaitList.{WaitList}
 use Rattle.channel_calls.specs.declared.stage.WaitList.TheVariants.{Sends, Receives, Streams, Closings}
 use Rattle.channel_world_model.specs.declared.news.News.{News}
@@ -22,12 +20,6 @@ pub record Waiting : Type 0 where
 
 abbrev pub nobody : Waiting
 nobody = record { sends = []; receives = []; streams = []; closings = []; woken = [] }
-
--- the line in which an operation of this kind waits
-abbrev pub line_of_kind : OperationKind → WaitList
-line_of_kind kind.Send = Sends
-line_of_kind kind.Receive = Receives
-line_of_kind kind.Closing = Closings
 
 abbrev pub same_waiter : Waiter → Waiter → Bool
 same_waiter (Op a) (Op b) = a.0 == b.0

@@ -5,6 +5,12 @@ use Rattle.std.specs.Map.{lookup, set_value}
 use Rattle.channel_world_model.specs.declared.name.HandleId.{HandleId}
 use Rattle.channel_world_model.specs.declared.name.OpId.{OpId}
 use Rattle.channel_world_model.specs.declared.name.Handle.{Handle}
+use Rattle.channel_world_model.specs.declared.name.Operation.{Operation}
+use Rattle.channel_world_model.specs.declared.name.Operation.TheVariants as live
+use Rattle.channel_world_model.specs.declared.name.OperationKind.{OperationKind}
+use Rattle.channel_world_model.specs.declared.name.OperationKind.TheVariants as kind
+use Rattle.channel_calls.specs.declared.stage.WaitList.{WaitList}
+use Rattle.channel_calls.specs.declared.stage.WaitList.TheVariants.{Sends, Receives, Closings}
 
 -- The names of one sort that were ever taken, the latest first: each with what lives under it, or with None where that
 -- lives no more.
@@ -35,16 +41,39 @@ with_changed name x directory = set_value (nat_eq name) directory (Some x)
 abbrev pub without_name : {X : Type 0} → ℕ → Directory X → Directory X
 without_name name directory = set_value (nat_eq name) directory None
 
--- An operation, with the handle that it borrows. A send has its message until it is finished.
-pub data ModelOperation (T : Type 0) : Type 0 where
-  send : HandleId → Option T → ModelOperation T
-  recv : HandleId → ModelOperation T
-  closing : HandleId → ModelOperation T
+-- ---- an operation
 
-abbrev pub borrowed_by : {T : Type 0} → ModelOperation T → HandleId
-borrowed_by (send handle msg) = handle
-borrowed_by (recv handle) = handle
-borrowed_by (closing handle) = handle
+-- the handle that it borrows
+abbrev pub borrowed_by : {T : Type 0} → Operation T → HandleId
+borrowed_by (live.Send handle message) = handle
+borrowed_by (live.Receive handle) = handle
+borrowed_by (live.Closing handle) = handle
+
+-- the message of an unfinished send
+abbrev pub own_message : {T : Type 0} → Operation T → Option T
+own_message (live.Send handle message) = message
+own_message (live.Receive handle) = None
+own_message (live.Closing handle) = None
+
+-- the same, where it is a send with this message, or with none
+abbrev pub with_message : {T : Type 0} → Option T → Operation T → Operation T
+with_message message (live.Send handle before) = live.Send handle message
+with_message message (live.Receive handle) = live.Receive handle
+with_message message (live.Closing handle) = live.Closing handle
+
+-- the line in which it waits
+abbrev pub waits_in : {T : Type 0} → Operation T → WaitList
+waits_in (live.Send handle message) = Sends
+waits_in (live.Receive handle) = Receives
+waits_in (live.Closing handle) = Closings
+
+-- a new one of this kind, which borrows the handle; a send has this message
+abbrev pub new_operation : {T : Type 0} → OperationKind → HandleId → Option T → Operation T
+new_operation kind.Send handle message = live.Send handle message
+new_operation kind.Receive handle message = live.Receive handle
+new_operation kind.Closing handle message = live.Closing handle
+
+-- ---- all names
 
 -- one more live operation borrows the handle, or one less
 abbrev pub lent_once_more : HandleId → Directory Handle → Directory Handle
@@ -55,21 +84,21 @@ used_once_less handle directory = option_map_or (λ (h : Handle). with_changed h
 
 pub record Names (T : Type 0) : Type 0 where
   pub handles : Directory Handle
-  pub operations : Directory (ModelOperation T)
+  pub operations : Directory (Operation T)
 
 -- a new operation, which borrows its handle as long as it lives
-abbrev pub with_new_operation : {T : Type 0} → OpId → ModelOperation T → Names T → Names T
+abbrev pub with_new_operation : {T : Type 0} → OpId → Operation T → Names T → Names T
 with_new_operation op operation names = record {
   handles = lent_once_more (borrowed_by operation) names.handles;
   operations = with_new op.0 operation names.operations;
 }
 
 -- the operation is another from now on, over the same handle
-abbrev pub with_operation_changed : {T : Type 0} → OpId → ModelOperation T → Names T → Names T
+abbrev pub with_operation_changed : {T : Type 0} → OpId → Operation T → Names T → Names T
 with_operation_changed op operation names = record names { operations = with_changed op.0 operation names.operations }
 
 -- the operation lives no more
-abbrev pub without_operation : {T : Type 0} → OpId → ModelOperation T → Names T → Names T
+abbrev pub without_operation : {T : Type 0} → OpId → Operation T → Names T → Names T
 without_operation op operation names = record {
   handles = used_once_less (borrowed_by operation) names.handles;
   operations = without_name op.0 names.operations;

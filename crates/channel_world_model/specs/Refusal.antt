@@ -4,7 +4,7 @@
 use Rattle.std.specs.Prelude.{ℕ, nat_lt, Bool, true, false, not, ◌||◌, Option, None, Some, if◌then◌else◌}
 use Rattle.std.specs.Bool.{then_some}
 use Rattle.std.specs.Option.{option_or}
-use Rattle.channel_world_model.specs.Names.{Names, ModelOperation, send, at, is_taken}
+use Rattle.channel_world_model.specs.Names.{Names, at, is_taken}
 use Rattle.channel_world_model.specs.Plan.{plan_of}
 use Rattle.channel_world_model.specs.State.{State}
 use Rattle.channel_world_model.specs.declared.call.Call.{Call}
@@ -21,6 +21,8 @@ use Rattle.channel_world_model.specs.declared.plan.Wanted.TheVariants.{Sender, R
 use Rattle.channel_world_model.specs.declared.refusal.WorldRefusal.{WorldRefusal}
 use Rattle.channel_world_model.specs.declared.refusal.WorldRefusal.TheVariants.{UnknownName, WrongKind, OpUnderWay, Borrowed, NameTaken}
 use Rattle.channel_world_model.specs.declared.refusal.WorldRefusal.TheVariants as why
+use Rattle.channel_world_model.specs.declared.name.Operation.TheVariants as live
+use Rattle.channel_world_model.specs.declared.name.Operation.{Operation}
 
 -- whose poll is under way, and which handles calls under way use
 pub record UnderWay : Type 0 where
@@ -68,14 +70,14 @@ borrowed_handle is_used None = None
 borrowed_handle is_used (Some h) = then_some (nat_lt 0 h.borrowers || is_used) Borrowed
 
 -- to poll an operation, or give it up: that it lives, and is not being polled
-abbrev pub unfit_operation : {T : Type 0} → Bool → Option (ModelOperation T) → Option WorldRefusal
+abbrev pub unfit_operation : {T : Type 0} → Bool → Option (Operation T) → Option WorldRefusal
 unfit_operation is_polled None = Some UnknownName
 unfit_operation is_polled (Some operation) = then_some is_polled OpUnderWay
 
 -- to ask whether a send has finished: that the operation lives, and is a send
-abbrev pub unfit_send : {T : Type 0} → Option (ModelOperation T) → Option WorldRefusal
+abbrev pub unfit_send : {T : Type 0} → Option (Operation T) → Option WorldRefusal
 unfit_send None = Some UnknownName
-unfit_send (Some (send handle msg)) = None
+unfit_send (Some (live.Send handle msg)) = None
 unfit_send (Some operation) = Some WrongKind
 
 -- ---- calls

@@ -1,7 +1,7 @@
 -- What a call answers where the one growth that it needs is refused; None where it needs none.
 use Rattle.std.specs.Prelude.{◌≡◌, ◌⊎◌, ℕ, zero, suc, Option, None, Some, is_none, Err, if◌then◌else◌}
 use Rattle.channel_calls.specs.Model.{ModelChannel}
-use Rattle.channel_world_model.specs.Names.{ModelOperation, send, recv, closing, at}
+use Rattle.channel_world_model.specs.Names.{at}
 use Rattle.channel_world_model.specs.Lines.{untold, is_among, gone}
 use Rattle.channel_world_model.specs.State.{State, with_waiting}
 use Rattle.channel_world_model.specs.Answer.{Answer, replying, after_leaving, space_of, Found, first, none_yet, none_ever, found, answer}
@@ -17,6 +17,8 @@ use Rattle.channel_world_model.specs.declared.space.Space.TheVariants.{Open, Fil
 use Rattle.channel_world_model.specs.declared.name.Waiter.{Waiter}
 use Rattle.channel_world_model.specs.declared.name.Waiter.TheVariants.{Op, Stream}
 use Rattle.channel_world_model.specs.declared.name.OpId.{OpId}
+use Rattle.channel_world_model.specs.declared.name.Operation.{Operation}
+use Rattle.channel_world_model.specs.declared.name.Operation.TheVariants as live
 use Rattle.channel_calls.specs.declared.error.Refused.{Refused}
 use Rattle.channel_calls.specs.declared.error.Refused.TheVariants.{NoMemory, SerialsUsedUp}
 use Rattle.event_listener.specs.declared.error.ListenError.{ListenError}
@@ -58,11 +60,11 @@ recv_not_polled lack s op none_yet = not_standing Receives (Op op) s (reply.Recv
 recv_not_polled lack s op (first m ms) = None
 recv_not_polled lack s op none_ever = None
 
-abbrev pub not_polled : {T : Type 0} → Lack → State T → OpId → Option (ModelOperation T) → Option (Answer T)
-not_polled lack s op (Some (send handle (Some m))) = send_not_polled lack s op (space_of s.channel)
-not_polled lack s op (Some (send handle None)) = None
-not_polled lack s op (Some (recv handle)) = recv_not_polled lack s op (found s.channel)
-not_polled lack s op (Some (closing handle)) =
+abbrev pub not_polled : {T : Type 0} → Lack → State T → OpId → Option (Operation T) → Option (Answer T)
+not_polled lack s op (Some (live.Send handle (Some m))) = send_not_polled lack s op (space_of s.channel)
+not_polled lack s op (Some (live.Send handle None)) = None
+not_polled lack s op (Some (live.Receive handle)) = recv_not_polled lack s op (found s.channel)
+not_polled lack s op (Some (live.Closing handle)) =
     if s.channel.closed then None else not_standing Closings (Op op) s (reply.ClosedPoll (Ready (Err (not_listening lack))))
 not_polled lack s op None = None
 

@@ -52,18 +52,142 @@ pub enum OperationKind {
     Closing,
 }
 
-impl OperationKind {
-    ghost use Rattle.std.specs.Prelude.{◌≡◌};
-    ghost use Rattle.channel_world_model.specs.Lines.{line_of_kind};
+/// A live operation, with the handle that it borrows. A send has its message until it is finished.
+#[derive(Drop)]
+pub enum Operation<T> {
+    /// A send.
+    Send {
+        /// The sender that it borrows.
+        handle: HandleId,
+        /// Its message.
+        message: Option<T>,
+    },
+    /// A receive.
+    Receive {
+        /// The receiver that it borrows.
+        handle: HandleId,
+    },
+    /// A wait for the closing.
+    Closing {
+        /// The sender that it borrows.
+        handle: HandleId,
+    },
+}
 
-    /// The line in which it waits.
-    pub fn line(self) -> WaitList
-        ensures { result ≡ line_of_kind self }
+ghost use Rattle.std.specs.Prelude.{◌≡◌};
+ghost use Rattle.channel_world_model.specs.Laws.{same_line};
+
+/// Whether these are one line.
+fn is_same(a: WaitList, b: WaitList) -> bool
+    ensures { result ≡ same_line a b }
+{
+    match (a, b) {
+        (WaitList::Sends, WaitList::Sends)
+        | (WaitList::Receives, WaitList::Receives)
+        | (WaitList::Streams, WaitList::Streams)
+        | (WaitList::Closings, WaitList::Closings) => true,
+        _ => false,
+    }
+}
+
+impl<T> Operation<T> {
+    ghost use Rattle.std.specs.Prelude.{◌≡◌, Some, None, is_some};
+    ghost use Rattle.channel_world_model.specs.Laws.{is_line, line_of_operation};
+    ghost use Rattle.channel_world_model.specs.Names.{borrowed_by, own_message, with_message, waits_in};
+
+    /// The handle that it borrows.
+    pub fn handle(&self) -> HandleId
+        ensures { result ≡ borrowed_by self.now }
     {
         match self {
-            OperationKind::Send => WaitList::Sends,
-            OperationKind::Receive => WaitList::Receives,
-            OperationKind::Closing => WaitList::Closings,
+            Operation::Send { handle, .. }
+            | Operation::Receive { handle }
+            | Operation::Closing { handle } => *handle,
+        }
+    }
+
+    /// The line in which it waits.
+    pub fn waits_in(&self) -> WaitList
+        ensures { result ≡ waits_in self.now }
+    {
+        match self {
+            Operation::Send { .. } => WaitList::Sends,
+            Operation::Receive { .. } => WaitList::Receives,
+            Operation::Closing { .. } => WaitList::Closings,
+        }
+    }
+
+    /// Whether it belongs to this line: that in which it waits. A finished send belongs to none.
+    pub fn is_on(&self, line: WaitList) -> bool
+        ensures { result ≡ is_line line (line_of_operation (Some self.now)) }
+    {
+        match self {
+            Operation::Send { handle: _, message } => {
+                message.is_some() && is_same(line, WaitList::Sends)
+            }
+            Operation::Receive { .. } => is_same(line, WaitList::Receives),
+            Operation::Closing { .. } => is_same(line, WaitList::Closings),
+        }
+    }
+
+    /// Whether it has a message.
+    pub fn has_message(&self) -> bool
+        ensures { result ≡ is_some (own_message self.now) }
+    {
+        match self {
+            Operation::Send { handle: _, message } => message.is_some(),
+            Operation::Receive { .. } | Operation::Closing { .. } => false,
+        }
+    }
+
+    /// What is left of it while its message is elsewhere.
+    pub fn without_message(&self) -> Operation<T>
+        ensures { result ≡ with_message None self.now }
+    {
+        match self {
+            Operation::Send { handle, message: _ } => Operation::Send {
+                handle: *handle,
+                message: None,
+            },
+            Operation::Receive { handle } => Operation::Receive { handle: *handle },
+            Operation::Closing { handle } => Operation::Closing { handle: *handle },
+        }
+    }
+
+    /// Its message: that of an unfinished send.
+    pub fn into_message(self) -> Option<T>
+        ensures { result ≡ own_message self }
+    {
+        match self {
+            Operation::Send { handle: _, message } => message,
+            Operation::Receive { .. } | Operation::Closing { .. } => None,
+        }
+    }
+}
+
+impl<T: Drop> Operation<T> {
+    ghost use Rattle.std.specs.Prelude.{◌≡◌};
+    ghost use Rattle.channel_world_model.specs.Names.{new_operation, with_message};
+
+    /// A new one of this kind, which borrows the handle. A send has this message.
+    pub fn new(kind: OperationKind, handle: HandleId, message: Option<T>) -> Operation<T>
+        ensures { result ≡ new_operation kind handle message }
+    {
+        match kind {
+            OperationKind::Send => Operation::Send { handle, message },
+            OperationKind::Receive => Operation::Receive { handle },
+            OperationKind::Closing => Operation::Closing { handle },
+        }
+    }
+
+    /// The same, where it is a send with this message, or with none.
+    pub fn with_message(self, message: Option<T>) -> Operation<T>
+        ensures { result ≡ with_message message self }
+    {
+        match self {
+            Operation::Send { handle, message: _ } => Operation::Send { handle, message },
+            Operation::Receive { handle } => Operation::Receive { handle },
+            Operation::Closing { handle } => Operation::Closing { handle },
         }
     }
 }

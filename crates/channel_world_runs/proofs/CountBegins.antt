@@ -1,12 +1,13 @@
 -- What a call that begins is to do to the counts, and what it does to the names.
-use Rattle.std.proofs.Common.{arith, ◌≡◌, ℕ, ◌+◌, false, Option, None, Some, refl, sym, ap, ◌∙◌}
+use Rattle.std.proofs.Common.{arith, ◌≡◌, ℕ, ◌+◌, false, Option, None, Some, refl, sym, ap, subst, ◌∙◌}
 use Rattle.std.specs.Option.{option_map}
+use Rattle.event_listener.specs.declared.key.Key.{Key}
 use Rattle.channel_calls.specs.declared.ask.ChannelAsk.{ChannelAsk}
 use Rattle.channel_calls.specs.declared.stage.Side.{Side}
 use Rattle.channel_calls.specs.declared.stage.Side.TheVariants.{Senders, Receivers}
 use Rattle.channel_world_model.specs.Answer.{weak_of, strong_of}
-use Rattle.channel_world_model.specs.Asked.{KeysHeld, drop_asked, clone_asked, upgrade_asked}
-use Rattle.channel_world_model.specs.Names.{at, without_name}
+use Rattle.channel_world_model.specs.Asked.{drop_asked, clone_asked, upgrade_asked}
+use Rattle.channel_world_model.specs.Names.{at, borrowed_by, without_name}
 use Rattle.channel_world_model.specs.declared.call.Call.{Call}
 use Rattle.channel_world_model.specs.declared.call.Call.TheVariants as call
 use Rattle.channel_world_model.specs.declared.name.Handle.{Handle}
@@ -15,19 +16,20 @@ use Rattle.channel_world_model.specs.declared.name.HandleKind.{HandleKind}
 use Rattle.channel_world_model.specs.declared.name.HandleKind.TheVariants as handle_kind
 use Rattle.channel_world_model.specs.declared.name.OpId.{OpId}
 use Rattle.channel_world_model.specs.declared.name.Waiter.{Waiter}
+use Rattle.channel_world_model.specs.declared.name.Waiter.TheVariants.{Op, Stream}
 use Rattle.channel_world_runs.specs.Bookkeeping.{asks, on_return_of, names_begun, lent_by, leave_handle_of, new_from, operation_named, handle_named}
 use Rattle.channel_world_runs.specs.Counted.{is_strong, strong_lives, live_on, makes_strong}
-use Rattle.channel_world_runs.specs.NameTable.{operation_at, held_of, with_lent, with_borrowed, with_poll_state}
+use Rattle.channel_world_runs.specs.NameTable.{held_of, names_of, with_lent, with_borrowed, with_poll_state}
 use Rattle.channel_world_runs.specs.declared.names.OnReturn.{OnReturn}
 use Rattle.channel_world_runs.specs.declared.names.HandleEntry.{HandleEntry}
-use Rattle.channel_world_runs.specs.declared.names.Operation.{Operation}
+use Rattle.channel_world_runs.specs.declared.names.OperationEntry.{OperationEntry}
 use Rattle.channel_world_runs.specs.declared.names.PollState.TheVariants.{IsPolled}
 use Rattle.channel_world_runs.specs.declared.name_table.NameTable.{NameTable}
 use Rattle.channel_world_model.specs.Plan.{plan_of}
 use Rattle.channel_world_runs.proofs.AskStarts.{asks_lowering, asks_raising}
 use Rattle.channel_world_runs.proofs.AskFacts.{of_polls, of_refused, of_given_up}
 use Rattle.channel_world_runs.proofs.CountNames.{bit, without_live, spent_live, lent_live, borrowed_live, handed_over_live, poll_state_live}
-use Rattle.channel_world_runs.proofs.RefusalLemmas.{handle_through}
+use Rattle.channel_world_runs.proofs.RefusalLemmas.{handle_there, handle_through}
 
 weak_strong : (side : Side) (k : HandleKind) → is_strong side (weak_of k) ≡ false
 weak_strong Senders handle_kind.Sender = refl
@@ -40,18 +42,18 @@ module _ (T : Type 0) where
   Aside side a = (asks_lowering side a ≡ false) × (asks_raising side a ≡ false)
 
   -- the drop of a strong handle is to lower the count of its side, and no other
-  drop_kind : (side : Side) (held : KeysHeld) (handle : HandleId) (k : HandleKind) (n : ℕ)
-      → (let a : ChannelAsk T Waiter = drop_asked held handle (Some (record { kind = k; borrowers = n })) in
+  drop_kind : (side : Side) (key : Option Key) (k : HandleKind) (n : ℕ)
+      → (let a : ChannelAsk T Waiter = drop_asked key (Some (record { kind = k; borrowers = n })) in
       (asks_lowering side a ≡ is_strong side k) × (asks_raising side a ≡ false))
-  drop_kind Senders held handle handle_kind.Sender n = (refl, refl)
-  drop_kind Receivers held handle handle_kind.Sender n = (refl, refl)
-  drop_kind side held handle k n = (refl, refl)
+  drop_kind Senders key handle_kind.Sender n = (refl, refl)
+  drop_kind Receivers key handle_kind.Sender n = (refl, refl)
+  drop_kind side key k n = (refl, refl)
 
-  drop_lowers : (side : Side) (held : KeysHeld) (handle : HandleId) (o : Option HandleEntry)
-      → (let a : ChannelAsk T Waiter = drop_asked held handle (option_map (λ (h : HandleEntry). h.handle) o) in
+  drop_lowers : (side : Side) (key : Option Key) (o : Option HandleEntry)
+      → (let a : ChannelAsk T Waiter = drop_asked key (option_map (λ (h : HandleEntry). h.handle) o) in
       (asks_lowering side a ≡ strong_lives side o) × (asks_raising side a ≡ false))
-  drop_lowers side held handle None = (refl, refl)
-  drop_lowers side held handle (Some h) = drop_kind side held handle h.handle.kind h.handle.borrowers
+  drop_lowers side key None = (refl, refl)
+  drop_lowers side key (Some h) = drop_kind side key h.handle.kind h.handle.borrowers
 
   -- a clone makes a handle of its own kind
   clone_kind : (side : Side) (k : HandleKind) (n : ℕ)
@@ -93,44 +95,44 @@ module _ (T : Type 0) where
         → l + bit (asks_lowering side a) ≡ live_on side r.handles
     aside l a none same = let n : bit (asks_lowering side a) ≡ 0 = ap bit none in omega (arith, n, same)
 
-    lent_by_live : (o : Option (Operation T)) → live_on side (lent_by o r).handles ≡ live_on side r.handles
+    lent_by_live : (o : Option (OperationEntry T)) → live_on side (lent_by o r).handles ≡ live_on side r.handles
     lent_by_live None = refl
-    lent_by_live (Some o) = lent_live side o.handle r
+    lent_by_live (Some o) = lent_live side (borrowed_by o.operation) r
 
-    leaves_aside : (o : Option (Operation T)) → (let e : OnReturn T = leave_handle_of o in makes_strong side e ≡ false)
+    leaves_aside : (o : Option (OperationEntry T)) → (let e : OnReturn T = leave_handle_of o in makes_strong side e ≡ false)
     leaves_aside None = refl
     leaves_aside (Some o) = refl
 
-    cloned : (handle new : HandleId) (o : Option HandleEntry)
-        → (let x : Option Handle = option_map (λ (h : HandleEntry). h.handle) o in let e : OnReturn T = new_from handle new (λ k. k) x in
+    cloned : (handle new : HandleId) (x : Option Handle)
+        → (let e : OnReturn T = new_from handle new (λ k. k) x in
         let a : ChannelAsk T Waiter = clone_asked x in (asks_lowering side a ≡ false) × (makes_strong side e ≡ asks_raising side a))
     cloned handle new None = (refl, refl)
-    cloned handle new (Some h) = clone_kind side h.handle.kind h.handle.borrowers
+    cloned handle new (Some h) = clone_kind side h.kind h.borrowers
 
-    upgraded : (handle new : HandleId) (o : Option HandleEntry)
-        → (let x : Option Handle = option_map (λ (h : HandleEntry). h.handle) o in let e : OnReturn T = new_from handle new strong_of x in
+    upgraded : (handle new : HandleId) (x : Option Handle)
+        → (let e : OnReturn T = new_from handle new strong_of x in
         let a : ChannelAsk T Waiter = upgrade_asked x in (asks_lowering side a ≡ false) × (makes_strong side e ≡ asks_raising side a))
     upgraded handle new None = (refl, refl)
-    upgraded handle new (Some h) = upgrade_kind side h.handle.kind h.handle.borrowers
+    upgraded handle new (Some h) = upgrade_kind side h.kind h.borrowers
 
-    downgraded : (handle new : HandleId) (o : Option HandleEntry)
-        → (let x : Option Handle = option_map (λ (h : HandleEntry). h.handle) o in let e : OnReturn T = new_from handle new weak_of x in
+    downgraded : (handle new : HandleId) (x : Option Handle)
+        → (let e : OnReturn T = new_from handle new weak_of x in
         makes_strong side e ≡ false)
     downgraded handle new None = refl
-    downgraded handle new (Some h) = weak_strong side h.handle.kind
+    downgraded handle new (Some h) = weak_strong side h.kind
 
     pub begins_so : (c : Call T) → BeginsSo side r c
     begins_so (call.NewSend op sender msg) = (made op sender, refl)
     begins_so (call.NewRecv op receiver) = (made op receiver, refl)
     begins_so (call.NewClosed op sender) = (made op sender, refl)
     begins_so (call.Poll op) =
-        let a = of_polls (Aside side) (refl, refl) (λ m key w. (refl, refl)) (refl, refl) (λ key w. (refl, refl)) (λ key w. (refl, refl)) (held_of r) op (operation_at op r) in
+        let a = of_polls (Aside side) (refl, refl) (λ m key w. (refl, refl)) (refl, refl) (λ key w. (refl, refl)) (λ key w. (refl, refl)) (held_of r (Op op)) op (at op.0 (names_of r).operations) in
         (aside (live_on side r.handles) (asks r (call.Poll op)) a.0 refl, sym a.1)
     begins_so (call.PollRefused op) =
-        let a = of_refused (Aside side) (refl, refl) (λ line m key. (refl, refl)) (held_of r) op (operation_at op r) in
+        let a = of_refused (Aside side) (refl, refl) (λ line m key. (refl, refl)) (held_of r (Op op)) (at op.0 (names_of r).operations) in
         (aside (live_on side r.handles) (asks r (call.PollRefused op)) a.0 refl, sym a.1)
     begins_so (call.GiveUp op) =
-        let a = of_given_up (Aside side) (refl, refl) (λ line m key. (refl, refl)) (held_of r) op (operation_at op r) in
+        let a = of_given_up (Aside side) (refl, refl) (λ line m key. (refl, refl)) (held_of r (Op op)) (at op.0 (names_of r).operations) in
         let live = handed_over_live side (at op.0 r.operations) (record r { operations = without_name op.0 r.operations }) in
         (aside _ (asks r (call.GiveUp op)) a.0 live, leaves_aside (at op.0 r.operations) ∙ sym a.1)
     begins_so (call.SendIsTerminated op) =
@@ -141,17 +143,19 @@ module _ (T : Type 0) where
         let used = lent_live side receiver (with_poll_state (IsPolled false) receiver r) in
         (omega (arith, stands, used), refl)
     begins_so (call.Drop handle) =
-        let a = drop_lowers side (held_of r) handle (at handle.0 r.handles) in
+        let a = subst (λ (x : Option Handle). let a : ChannelAsk T Waiter = drop_asked (held_of r (Stream handle)) x in
+        (asks_lowering side a ≡ strong_lives side (at handle.0 r.handles)) × (asks_raising side a ≡ false))
+        (handle_there r handle.0) (drop_lowers side (held_of r (Stream handle)) (at handle.0 r.handles)) in
         let low : bit (asks_lowering side (asks r (call.Drop handle))) ≡ bit (strong_lives side (at handle.0 r.handles)) = ap bit a.0 in
         let gone = without_live side handle.0 r.handles in
         (omega (arith, low, gone), sym a.1)
     begins_so (call.TryClone handle new) =
-        let a = cloned handle new (at handle.0 r.handles) in
+        let a = cloned handle new (at handle.0 (names_of r).handles) in
         (aside _ (asks r (call.TryClone handle new)) a.0 (named handle new), a.1)
     begins_so (call.Downgrade handle new) =
-        (aside _ (asks r (call.Downgrade handle new)) refl (named handle new), downgraded handle new (at handle.0 r.handles))
+        (aside _ (asks r (call.Downgrade handle new)) refl (named handle new), downgraded handle new (at handle.0 (names_of r).handles))
     begins_so (call.Upgrade weak new) =
-        let a = upgraded weak new (at weak.0 r.handles) in
+        let a = upgraded weak new (at weak.0 (names_of r).handles) in
         (aside _ (asks r (call.Upgrade weak new)) a.0 (named weak new), a.1)
     begins_so (call.SameChannel a b) =
         let one = lent_live side a r in

@@ -8,7 +8,7 @@ use Rattle.channel_calls.specs.declared.reply.Reply.TheVariants as reply
 use Rattle.channel_calls.specs.declared.stage.Returned.{Returned}
 use Rattle.channel_calls.specs.declared.stage.WaitList.{WaitList}
 use Rattle.channel_calls.specs.declared.stage.Side.{Side}
-use Rattle.channel_world_model.specs.Names.{Directory, at, with_spent, with_changed, without_name}
+use Rattle.channel_world_model.specs.Names.{Directory, at, borrowed_by, with_spent, with_changed, without_name}
 use Rattle.channel_world_model.specs.declared.name.HandleId.{HandleId}
 use Rattle.channel_world_model.specs.declared.name.HandleKind.{HandleKind}
 use Rattle.channel_world_model.specs.declared.name.HandleKind.TheVariants as handle_kind
@@ -21,7 +21,7 @@ use Rattle.channel_world_runs.specs.NameTable.{poll_state_with, unused, used_mor
 use Rattle.channel_world_runs.specs.declared.names.OnReturn.{OnReturn}
 use Rattle.channel_world_runs.specs.declared.names.OnReturn.TheVariants as on_return
 use Rattle.channel_world_runs.specs.declared.names.HandleEntry.{HandleEntry}
-use Rattle.channel_world_runs.specs.declared.names.Operation.{Operation}
+use Rattle.channel_world_runs.specs.declared.names.OperationEntry.{OperationEntry}
 use Rattle.channel_world_runs.specs.declared.names.PollState.{PollState}
 use Rattle.channel_world_runs.specs.declared.names.PollState.TheVariants.{Rests, Waits, IsPolled}
 use Rattle.channel_world_runs.specs.declared.name_table.NameTable.{NameTable}
@@ -128,10 +128,10 @@ module _ {T : Type 0} where
       → live_on side (with_borrowed handle r).handles ≡ live_on side r.handles
   borrowed_live side handle r = handle_live side borrowed_more handle r (λ h. refl)
 
-  pub handed_over_live : (side : Side) (o : Option (Operation T)) (r : NameTable T)
+  pub handed_over_live : (side : Side) (o : Option (OperationEntry T)) (r : NameTable T)
       → live_on side (handed_over_by o r).handles ≡ live_on side r.handles
   handed_over_live side None r = refl
-  handed_over_live side (Some o) r = handle_live side handed_over o.handle r (λ h. refl)
+  handed_over_live side (Some o) r = handle_live side handed_over (borrowed_by o.operation) r (λ h. refl)
 
   pub poll_state_live : (side : Side) (s : PollState) (handle : HandleId) (r : NameTable T)
       → live_on side (with_poll_state s handle r).handles ≡ live_on side r.handles

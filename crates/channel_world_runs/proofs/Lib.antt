@@ -14,6 +14,7 @@ pub mod OwnerCalls
 pub mod OwnerTogether
 pub mod AskFacts
 pub mod AskStarts
+mod BeginFacts
 mod TriesFirst
 pub mod OwnerEnds
 pub mod OwnerSteps

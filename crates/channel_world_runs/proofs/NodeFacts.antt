@@ -16,7 +16,6 @@ use Rattle.channel_calls.specs.declared.stage.WaitList.TheVariants.{Sends, Recei
 use Rattle.channel_steps.specs.solo.Ample.{lacks_memory, IsOnList, HasNode}
 use Rattle.channel_steps.specs.every_run.Unlisted.{NoSendListens}
 use Rattle.channel_world_model.specs.Asked.{poll_asked}
-use Rattle.channel_world_model.specs.Asked as model
 use Rattle.channel_world_model.specs.Names.{at}
 use Rattle.channel_world_model.specs.Settling.{poll_of}
 use Rattle.channel_world_model.specs.declared.call.Call.TheVariants as call
@@ -24,6 +23,8 @@ use Rattle.channel_world_model.specs.declared.name.HandleId.{HandleId}
 use Rattle.channel_world_model.specs.declared.name.HandleKind.{HandleKind}
 use Rattle.channel_world_model.specs.declared.name.HandleKind.TheVariants as handle_kind
 use Rattle.channel_world_model.specs.declared.name.OpId.{OpId}
+use Rattle.channel_world_model.specs.declared.name.Operation.{Operation}
+use Rattle.channel_world_model.specs.declared.name.Operation.TheVariants as live
 use Rattle.channel_world_model.specs.declared.name.Waiter.{Waiter}
 use Rattle.channel_world_model.specs.declared.name.Waiter.TheVariants.{Op, Stream}
 use Rattle.channel_steps.specs.Configuration.{Configuration, all_seats}
@@ -33,17 +34,16 @@ use Rattle.channel_world_runs.specs.WorldInvariant.{WorldInvariant}
 use Rattle.channel_world_runs.specs.OwnerOrder.{was_woken}
 use Rattle.channel_world_runs.specs.OwnerWoken.{IsTold}
 use Rattle.channel_world_runs.specs.Owners.{IsAmong, free, retired, invalid, rests, waits, polled, no_stream_status, stream_status, operation_status, status_by, status}
-use Rattle.channel_world_runs.specs.NameTable.{key_of, operation_of, held_of}
+use Rattle.channel_world_runs.specs.NameTable.{key_of, names_of, held_of}
 use Rattle.channel_world_runs.specs.Settle.{IsWoken}
 use Rattle.channel_world_runs.specs.declared.world_state.WorldState.{WorldState}
 use Rattle.channel_world_runs.specs.declared.names.HandleEntry.{HandleEntry}
-use Rattle.channel_world_runs.specs.declared.names.Operation.{Operation}
-use Rattle.channel_world_model.specs.declared.name.OperationKind.{OperationKind}
-use Rattle.channel_world_model.specs.declared.name.OperationKind.TheVariants as kind
+use Rattle.channel_world_runs.specs.declared.names.OperationEntry.{OperationEntry}
 use Rattle.channel_world_runs.specs.declared.names.PollState.{PollState}
 use Rattle.channel_world_runs.specs.declared.names.PollState.TheVariants.{Rests, Waits, IsPolled}
 use Rattle.channel_world_runs.specs.declared.name_table.NameTable.{NameTable}
 use Rattle.channel_world_runs.proofs.OwnerLists.{same_self}
+use Rattle.channel_world_runs.proofs.RefusalLemmas.{operation_at}
 use Rattle.channel_world_runs.proofs.WokenPolls.{among_filter, woken_waits}
 
 -- one that was told is listed
@@ -83,35 +83,35 @@ module _ {T : Type 0} where
   MayWait h p = h.line ≡ Sends → is_some (capacity_of p.cells.form) ≡ true
 
   module _ (p : Parts T Waiter) (h : ListenerRef) (there : IsThere h p.roster) (bound : MayWait h p) where
-    by_kind : (held : model.KeysHeld) (op : OpId) (handle : HandleId) (k : OperationKind) (m : Option T) (s : PollState)
-        → held (Op op) ≡ key_of s → operation_status k m s ≡ waits h true
-        → HasNode (poll_asked held op (Some (operation_of (record { kind = k; handle = handle; message = m; poll_state = s })))) p
-    by_kind held op handle kind.Send None Rests e f = absurd (let no : rests Sends ≡ waits h true = f in cc)
-    by_kind held op handle kind.Send None (Waits key z) e f = absurd (let no : invalid ≡ waits h true = f in cc)
-    by_kind held op handle kind.Send None (IsPolled z) e f = absurd (let no : polled Sends ≡ waits h true = f in cc)
-    by_kind held op handle kind.Send (Some m) Rests e f = absurd (let no : rests Sends ≡ waits h true = f in cc)
-    by_kind held op handle kind.Send (Some m) (IsPolled z) e f = absurd (let no : polled Sends ≡ waits h true = f in cc)
-    by_kind held op handle kind.Send (Some m) (Waits key z) e f =
-        let same = same_held Sends key z h f in
+    by_operation : (key : Option Key) (op : OpId) (x : Operation T) (s : PollState) → key ≡ key_of s → operation_status x s ≡ waits h true
+        → HasNode (poll_asked key op (Some x)) p
+    by_operation key op (live.Send g None) Rests e f = absurd (let no : rests Sends ≡ waits h true = f in cc)
+    by_operation key op (live.Send g None) (Waits own z) e f = absurd (let no : invalid ≡ waits h true = f in cc)
+    by_operation key op (live.Send g None) (IsPolled z) e f = absurd (let no : polled Sends ≡ waits h true = f in cc)
+    by_operation key op (live.Send g (Some m)) Rests e f = absurd (let no : rests Sends ≡ waits h true = f in cc)
+    by_operation key op (live.Send g (Some m)) (IsPolled z) e f = absurd (let no : polled Sends ≡ waits h true = f in cc)
+    by_operation key op (live.Send g (Some m)) (Waits own z) e f =
+        let same = same_held Sends own z h f in
         (rw e (subst (λ (x : ListenerRef). IsThere x p.roster) (sym same) there), bound (ap (λ (x : ListenerRef). x.line) (sym same)))
-    by_kind held op handle kind.Receive m Rests e f = absurd (let no : rests Receives ≡ waits h true = f in cc)
-    by_kind held op handle kind.Receive m (IsPolled z) e f = absurd (let no : polled Receives ≡ waits h true = f in cc)
-    by_kind held op handle kind.Receive m (Waits key z) e f =
-        rw e (subst (λ (x : ListenerRef). IsThere x p.roster) (sym (same_held Receives key z h f)) there)
-    by_kind held op handle kind.Closing m Rests e f = absurd (let no : rests Closings ≡ waits h true = f in cc)
-    by_kind held op handle kind.Closing m (IsPolled z) e f = absurd (let no : polled Closings ≡ waits h true = f in cc)
-    by_kind held op handle kind.Closing m (Waits key z) e f =
-        rw e (subst (λ (x : ListenerRef). IsThere x p.roster) (sym (same_held Closings key z h f)) there)
+    by_operation key op (live.Receive g) Rests e f = absurd (let no : rests Receives ≡ waits h true = f in cc)
+    by_operation key op (live.Receive g) (IsPolled z) e f = absurd (let no : polled Receives ≡ waits h true = f in cc)
+    by_operation key op (live.Receive g) (Waits own z) e f =
+        rw e (subst (λ (x : ListenerRef). IsThere x p.roster) (sym (same_held Receives own z h f)) there)
+    by_operation key op (live.Closing g) Rests e f = absurd (let no : rests Closings ≡ waits h true = f in cc)
+    by_operation key op (live.Closing g) (IsPolled z) e f = absurd (let no : polled Closings ≡ waits h true = f in cc)
+    by_operation key op (live.Closing g) (Waits own z) e f =
+        rw e (subst (λ (x : ListenerRef). IsThere x p.roster) (sym (same_held Closings own z h f)) there)
 
-    operation_node : (r : NameTable T) (op : OpId) (o : Option (Option (Operation T))) → lookup (nat_eq op.0) r.operations ≡ o
-        → status_by (λ (x : Operation T). operation_status x.kind x.message x.poll_state) o ≡ waits h true → HasNode (asks r (call.Poll op)) p
+    operation_node : (r : NameTable T) (op : OpId) (o : Option (Option (OperationEntry T))) → lookup (nat_eq op.0) r.operations ≡ o
+        → status_by (λ (x : OperationEntry T). operation_status x.operation x.poll_state) o ≡ waits h true → HasNode (asks r (call.Poll op)) p
     operation_node r op None e f = absurd (let no : free ≡ waits h true = f in cc)
     operation_node r op (Some None) e f = absurd (let no : retired ≡ waits h true = f in cc)
     operation_node r op (Some (Some x)) e f =
-        let there : at op.0 r.operations ≡ Some x = ap (λ (o : Option (Option (Operation T))). option_map_or (λ (y : Option (Operation T)). y) o None) e in
-        subst (λ (o : Option (Operation T)). HasNode (poll_asked (held_of r) op (option_map operation_of o)) p) (sym there)
-        (by_kind (held_of r) op x.handle x.kind x.message x.poll_state
-        (ap (λ (o : Option (Operation T)). option_map_or (λ (y : Operation T). key_of y.poll_state) o None) there) f)
+        let there : at op.0 r.operations ≡ Some x = ap (λ (o : Option (Option (OperationEntry T))). option_map_or (λ (y : Option (OperationEntry T)). y) o None) e in
+        let seen : at op.0 (names_of r).operations ≡ Some x.operation = operation_at r op.0 ∙ ap (option_map (λ (y : OperationEntry T). y.operation)) there in
+        subst (λ (o : Option (Operation T)). HasNode (poll_asked (held_of r (Op op)) op o) p) (sym seen)
+        (by_operation (held_of r (Op op)) op x.operation x.poll_state
+        (ap (λ (o : Option (OperationEntry T)). option_map_or (λ (y : OperationEntry T). key_of y.poll_state) o None) there) f)
 
     -- a receiver that is pending as a stream
     by_stream : (k : HandleKind) (s : PollState) (key : Option Key) → key ≡ key_of s → stream_status k s ≡ waits h true

@@ -4,17 +4,14 @@ use Rattle.std.specs.Bool.{then_some}
 use Rattle.std.specs.Map.{lookup}
 use Rattle.std.specs.Option.{option_map, option_map_or, option_or}
 use Rattle.event_listener.specs.declared.key.Key.{Key}
-use Rattle.channel_calls.specs.Asks.{lent}
 use Rattle.channel_calls.specs.Turns.{held_on}
 use Rattle.channel_calls.specs.declared.ask.ChannelAsk.{ChannelAsk}
-use Rattle.channel_calls.specs.declared.ask.ChannelAsk.TheVariants as ask
 use Rattle.channel_calls.specs.declared.stage.ListenerRef.{ListenerRef}
 use Rattle.channel_calls.specs.declared.stage.WaitList.{WaitList}
 use Rattle.channel_calls.specs.declared.stage.WaitList.TheVariants.{Sends, Receives, Closings}
-use Rattle.channel_world_model.specs.Asked.{KeysHeld as HeldBy, poll_asked}
+use Rattle.channel_world_model.specs.Asked.{poll_asked}
 use Rattle.channel_world_model.specs.Lines.{without_waiter}
-use Rattle.channel_world_model.specs.Names.{Directory, at, is_taken}
-use Rattle.channel_world_model.specs.Names as model
+use Rattle.channel_world_model.specs.Names.{Directory, at, is_taken, own_message, with_message, waits_in}
 use Rattle.channel_world_model.proofs.LawSteps.{second_reason}
 use Rattle.channel_world_model.specs.Plan.{plan_of}
 use Rattle.channel_world_model.specs.Refusal.{handle_fits, unfit_handle, unfit_operation, through_refusal, planned_refusal}
@@ -22,6 +19,8 @@ use Rattle.channel_world_model.specs.declared.call.Call.{Call}
 use Rattle.channel_world_model.specs.declared.call.Call.TheVariants as call
 use Rattle.channel_world_model.specs.declared.name.HandleId.{HandleId}
 use Rattle.channel_world_model.specs.declared.name.OpId.{OpId}
+use Rattle.channel_world_model.specs.declared.name.Operation.{Operation}
+use Rattle.channel_world_model.specs.declared.name.Operation.TheVariants as live
 use Rattle.channel_world_model.specs.declared.name.Waiter.{Waiter}
 use Rattle.channel_world_model.specs.declared.name.Waiter.TheVariants.{Op}
 use Rattle.channel_world_model.specs.declared.plan.Plan.{Plan}
@@ -30,18 +29,15 @@ use Rattle.channel_world_model.specs.declared.plan.Wanted.{Wanted}
 use Rattle.channel_world_model.specs.declared.plan.Wanted.TheVariants.{Receiver, Any}
 use Rattle.channel_world_model.specs.declared.refusal.WorldRefusal.{WorldRefusal}
 use Rattle.channel_world_model.specs.declared.refusal.WorldRefusal.TheVariants.{WrongKind, OpUnderWay, NameTaken}
-use Rattle.channel_world_runs.specs.Bookkeeping.{asks, names_begun, lent_to_poll, polled_ask, with_operation}
+use Rattle.channel_world_runs.specs.Bookkeeping.{asks, names_begun, lent_to_poll, with_operation}
 use Rattle.channel_world_runs.specs.Order.{placed}
 use Rattle.channel_world_runs.specs.Owners.{NameStatus, free, retired, invalid, rests, waits, polled, status_on, status_by, operation_status, status, wait_of, subject, Suits}
 use Rattle.channel_world_runs.specs.Refusal.{under_way_in, begin_refusal, again_planned, takes_again}
-use Rattle.channel_world_runs.specs.NameTable.{key_of, is_polled, operation_of, names_of, held_of}
-use Rattle.channel_world_model.specs.Lines.{line_of_kind}
+use Rattle.channel_world_runs.specs.NameTable.{key_of, is_polled, names_of, held_of}
 use Rattle.channel_world_runs.specs.declared.names.OnReturn.{OnReturn}
 use Rattle.channel_world_runs.specs.declared.names.OnReturn.TheVariants as on_return
 use Rattle.channel_world_runs.specs.declared.names.HandleEntry.{HandleEntry}
-use Rattle.channel_world_runs.specs.declared.names.Operation.{Operation}
-use Rattle.channel_world_model.specs.declared.name.OperationKind.{OperationKind}
-use Rattle.channel_world_model.specs.declared.name.OperationKind.TheVariants as kind
+use Rattle.channel_world_runs.specs.declared.names.OperationEntry.{OperationEntry}
 use Rattle.channel_world_runs.specs.declared.names.PollState.{PollState}
 use Rattle.channel_world_runs.specs.declared.names.PollState.TheVariants.{Rests, Waits, IsPolled}
 use Rattle.channel_world_runs.specs.declared.name_table.NameTable.{NameTable}
@@ -101,9 +97,9 @@ pub on_line : (line : WaitList) (s : PollState) → is_polled s ≡ false
 on_line line (IsPolled b) e = absurd (let no : true ≡ false = e in cc)
 on_line line x e = (refl, tt)
 
-lent_polled : (T : Type 0) (k : OperationKind) (b : Bool) → operation_status {T = T} k None (IsPolled b) ≡ polled (line_of_kind k)
-lent_polled T kind.Send b = refl
-lent_polled T x b = refl
+lent_polled : {T : Type 0} (x : Operation T) (b : Bool) → operation_status (with_message None x) (IsPolled b) ≡ polled (waits_in x)
+lent_polled (live.Send h m) b = refl
+lent_polled x b = refl
 
 module _ {T : Type 0} where
   -- ---- what a call touches
@@ -133,7 +129,7 @@ module _ {T : Type 0} where
 
   -- the operation lives, and no poll of it is under way
   abbrev pub IsFree : NameTable T → OpId → Type 0
-  IsFree r op = (o : Operation T) × (at op.0 r.operations ≡ Some o) × (is_polled o.poll_state ≡ false)
+  IsFree r op = (o : OperationEntry T) × (at op.0 r.operations ≡ Some o) × (is_polled o.poll_state ≡ false)
 
   -- the handle lives, no poll of it as a stream is under way, and it is as wanted
   abbrev pub IsFitting : NameTable T → Wanted → HandleId → Type 0
@@ -153,9 +149,9 @@ module _ {T : Type 0} where
     pub finds : Finds r (plan_of c)
     pub new : takes_again r c ≡ false
 
-  free_found : (o : Option (Operation T))
-      → unfit_operation (option_map_or (λ (x : Operation T). is_polled x.poll_state) o false) (option_map operation_of o) ≡ None
-      → (x : Operation T) × (o ≡ Some x) × (is_polled x.poll_state ≡ false)
+  free_found : (o : Option (OperationEntry T))
+      → unfit_operation (option_map_or (λ (x : OperationEntry T). is_polled x.poll_state) o false) (option_map (λ (x : OperationEntry T). x.operation) o) ≡ None
+      → (x : OperationEntry T) × (o ≡ Some x) × (is_polled x.poll_state ≡ false)
   free_found None e = cc e
   free_found (Some x) e = (x, refl, second_reason None (is_polled x.poll_state) OpUnderWay e)
 
@@ -178,104 +174,98 @@ module _ {T : Type 0} where
 
   -- ---- an operation
 
-  abbrev pub as_model : OperationKind → HandleId → Option T → model.ModelOperation T
-  as_model k h m = elim k [ kind.Send ↦ model.send h m | kind.Receive ↦ model.recv h | kind.Closing ↦ model.closing h ]
+  abbrev pub Free : Operation T → PollState → Type 0
+  Free x s = (is_polled s ≡ false) × (operation_status x s ≡ invalid → ⊥)
 
-  pub poll_is : (held : HeldBy) (op : OpId) (k : OperationKind) (h : HandleId) (m : Option T) (key : Option Key)
-      → held (Op op) ≡ key → poll_asked held op (Some (as_model k h m)) ≡ polled_ask k m key op
-  poll_is held op kind.Send h None key e = refl
-  poll_is held op kind.Send h (Some m) key e = ap (λ x. ask.PollSend m (lent x) (Op op)) e
-  poll_is held op kind.Receive h m key e = ap (λ x. ask.PollRecv (lent x) (Op op)) e
-  poll_is held op kind.Closing h m key e = ap (λ x. ask.PollClosed x (Op op)) e
+  pub op_held : (x : Operation T) (s : PollState) → Free x s
+      → (held_on (waits_in x) (key_of s) ≡ held_in (operation_status x s)) × IsLoose (operation_status x s)
+  op_held (live.Send h None) Rests f = (refl, tt)
+  op_held (live.Send h None) (Waits key is_woken) f = absurd (f.1 refl)
+  op_held (live.Send h None) (IsPolled b) f = absurd (let no : true ≡ false = f.0 in cc)
+  op_held (live.Send h (Some m)) s f = on_line Sends s f.0
+  op_held (live.Receive h) s f = on_line Receives s f.0
+  op_held (live.Closing h) s f = on_line Closings s f.0
 
-  abbrev pub Free : OperationKind → Option T → PollState → Type 0
-  Free k m s = (is_polled s ≡ false) × (operation_status k m s ≡ invalid → ⊥)
+  poll_holds : (op : OpId) (x : Operation T) (s : PollState) → Free x s
+      → ask_holds (poll_asked (key_of s) op (Some x)) ≡ held_on (waits_in x) (key_of s)
+  poll_holds op (live.Send h None) Rests f = refl
+  poll_holds op (live.Send h None) (Waits key is_woken) f = absurd (f.1 refl)
+  poll_holds op (live.Send h None) (IsPolled b) f = absurd (let no : true ≡ false = f.0 in cc)
+  poll_holds op (live.Send h (Some m)) s f = refl
+  poll_holds op (live.Receive h) s f = refl
+  poll_holds op (live.Closing h) s f = refl
 
-  pub op_held : (k : OperationKind) (m : Option T) (s : PollState) → Free k m s
-      → (held_on (line_of_kind k) (key_of s) ≡ held_in (operation_status k m s)) × IsLoose (operation_status k m s)
-  op_held kind.Send None Rests f = (refl, tt)
-  op_held kind.Send None (Waits key is_woken) f = absurd (f.1 refl)
-  op_held kind.Send None (IsPolled b) f = absurd (let no : true ≡ false = f.0 in cc)
-  op_held kind.Send (Some m) s f = on_line Sends s f.0
-  op_held kind.Receive m s f = on_line Receives s f.0
-  op_held kind.Closing m s f = on_line Closings s f.0
-
-  poll_holds : (op : OpId) (k : OperationKind) (m : Option T) (s : PollState) → Free k m s
-      → ask_holds (polled_ask k m (key_of s) op) ≡ held_on (line_of_kind k) (key_of s)
-  poll_holds op kind.Send None Rests f = refl
-  poll_holds op kind.Send None (Waits key is_woken) f = absurd (f.1 refl)
-  poll_holds op kind.Send None (IsPolled b) f = absurd (let no : true ≡ false = f.0 in cc)
-  poll_holds op kind.Send (Some m) s f = refl
-  poll_holds op kind.Receive m s f = refl
-  poll_holds op kind.Closing m s f = refl
-
-  poll_waits : (op : OpId) (k : OperationKind) (m : Option T) (key : Option Key)
-      → (wait_of (polled_ask k m key op) ≡ None) ⊎ (wait_of (polled_ask k m key op) ≡ Some (line_of_kind k, Op op))
-  poll_waits op kind.Send None key = inl refl
-  poll_waits op kind.Send (Some m) key = inr refl
-  poll_waits op kind.Receive m key = inr refl
-  poll_waits op kind.Closing m key = inr refl
+  poll_waits : (op : OpId) (x : Operation T) (key : Option Key)
+      → (wait_of (poll_asked key op (Some x)) ≡ None) ⊎ (wait_of (poll_asked key op (Some x)) ≡ Some (waits_in x, Op op))
+  poll_waits op (live.Send h None) key = inl refl
+  poll_waits op (live.Send h (Some m)) key = inr refl
+  poll_waits op (live.Receive h) key = inr refl
+  poll_waits op (live.Closing h) key = inr refl
 
   -- what is known of an operation that a call begins to poll, or gives up
   pub record Found (r : NameTable T) (op : OpId) : Type 0 where
-    pub operation : Operation T
+    pub operation : OperationEntry T
     pub is : at op.0 r.operations ≡ Some operation
-    pub loose : Free operation.kind operation.message operation.poll_state
+    pub loose : Free operation.operation operation.poll_state
 
   abbrev pub Sane : NameTable T → Type 0
   Sane r = (w : Waiter) → status r w ≡ invalid → ⊥
 
-  pub op_is : (r : NameTable T) (op : OpId) (o : Operation T) → at op.0 r.operations ≡ Some o → status r (Op op) ≡ op_status o
+  pub op_is : (r : NameTable T) (op : OpId) (o : OperationEntry T) → at op.0 r.operations ≡ Some o → status r (Op op) ≡ op_status o
   op_is r op o e = ap (λ x. status_by op_status x) (found op.0 r.operations o e)
 
   pub find : (r : NameTable T) (op : OpId) → Sane r → IsFree r op → Found r op
   find r op sane o = record { operation = o.0; is = o.1; loose = (o.2, λ bad. sane (Op op) (op_is r op o.0 o.1 ∙ bad)) }
 
-  pub key_is : (r : NameTable T) (op : OpId) (o : Operation T) → at op.0 r.operations ≡ Some o → held_of r (Op op) ≡ key_of o.poll_state
-  key_is r op o e = ap (λ x. option_map_or (λ (o : Operation T). key_of o.poll_state) x None) e
+  pub key_is : (r : NameTable T) (op : OpId) (o : OperationEntry T) → at op.0 r.operations ≡ Some o → held_of r (Op op) ≡ key_of o.poll_state
+  key_is r op o e = ap (λ x. option_map_or (λ (o : OperationEntry T). key_of o.poll_state) x None) e
 
   pub held_is : (r : NameTable T) (op : OpId) (f : Found r op)
-      → held_on (line_of_kind f.operation.kind) (key_of f.operation.poll_state) ≡ held_in (status r (Op op))
-  held_is r op f = (op_held f.operation.kind f.operation.message f.operation.poll_state f.loose).0
+      → held_on (waits_in f.operation.operation) (key_of f.operation.poll_state) ≡ held_in (status r (Op op))
+  held_is r op f = (op_held f.operation.operation f.operation.poll_state f.loose).0
       ∙ ap held_in (sym (op_is r op f.operation f.is))
 
   pub loose_is : (r : NameTable T) (op : OpId) (f : Found r op) → IsLoose (status r (Op op))
   loose_is r op f = subst IsLoose (sym (op_is r op f.operation f.is))
-      (op_held f.operation.kind f.operation.message f.operation.poll_state f.loose).1
+      (op_held f.operation.operation f.operation.poll_state f.loose).1
 
   pub now_polled : (r : NameTable T) (op : OpId) (f : Found r op)
-      → Sets (status r) (status (with_operation lent_to_poll op r)) (Op op) (polled (line_of_kind f.operation.kind))
+      → Sets (status r) (status (with_operation lent_to_poll op r)) (Op op) (polled (waits_in f.operation.operation))
   now_polled r op f =
       let s = op_changed r op lent_to_poll f.operation f.is in
-      record { there = s.there ∙ lent_polled T f.operation.kind (is_some f.operation.message); others = s.others }
+      record { there = s.there ∙ lent_polled f.operation.operation (is_some (own_message f.operation.operation)); others = s.others }
 
   -- a poll of an operation, refused its waker or not
   pub polls_with : (r : NameTable T) (op : OpId) (f : Found r op) (a : ChannelAsk T Waiter)
-      → ask_holds a ≡ held_on (line_of_kind f.operation.kind) (key_of f.operation.poll_state)
-      → (wait_of a ≡ None) ⊎ (wait_of a ≡ Some (line_of_kind f.operation.kind, Op op))
+      → ask_holds a ≡ held_on (waits_in f.operation.operation) (key_of f.operation.poll_state)
+      → (wait_of a ≡ None) ⊎ (wait_of a ≡ Some (waits_in f.operation.operation, Op op))
       → Touches (status r) (status (with_operation lent_to_poll op r)) (on_return.Poll op) a (placed (Op op))
   polls_with r op f a holds for_it =
       let s = now_polled r op f in
       record {
         name = Op op;
-        now = polled (line_of_kind f.operation.kind);
+        now = polled (waits_in f.operation.operation);
         sets = s;
         busy = tt;
         loose = loose_is r op f;
         takes = holds ∙ held_is r op f;
-        suits = (line_of_kind f.operation.kind, s.there, for_it);
+        suits = (waits_in f.operation.operation, s.there, for_it);
         whose = inr refl;
         works = λ line i. refl;
         order = inr (inl (λ ws. refl));
       }
 
+  -- as one call at a time sees it, and the listener that it holds
+  pub seen_is : (r : NameTable T) (op : OpId) (f : Found r op) → at op.0 (names_of r).operations ≡ Some f.operation.operation
+  seen_is r op f = seen.operation_at r op.0 ∙ ap (option_map (λ (x : OperationEntry T). x.operation)) f.is
+
   pub polls : (r : NameTable T) (op : OpId) → Found r op
       → Touches (status r) (status (names_begun r (call.Poll op))) (on_return.Poll op) (asks r (call.Poll op)) (placed (Op op))
   polls r op f =
       let o = f.operation in
-      let same : asks r (call.Poll op) ≡ polled_ask o.kind o.message (key_of o.poll_state) op = ap (λ x. poll_asked (held_of r) op
-      (option_map operation_of x)) f.is ∙ poll_is (held_of r) op o.kind o.handle o.message (key_of o.poll_state)
-      (key_is r op o f.is) in
-      polls_with r op f (asks r (call.Poll op)) (ap ask_holds same ∙ poll_holds op o.kind o.message o.poll_state f.loose)
-      (subst (λ (a : ChannelAsk T Waiter). (wait_of a ≡ None) ⊎ (wait_of a ≡ Some (line_of_kind o.kind, Op op))) (sym same)
-      (poll_waits op o.kind o.message (key_of o.poll_state)))
+      let same : asks r (call.Poll op) ≡ poll_asked (key_of o.poll_state) op (Some o.operation) =
+      ap (λ (x : Option (Operation T)). poll_asked (held_of r (Op op)) op x) (seen_is r op f)
+      ∙ ap (λ (key : Option Key). poll_asked key op (Some o.operation)) (key_is r op o f.is) in
+      polls_with r op f (asks r (call.Poll op)) (ap ask_holds same ∙ poll_holds op o.operation o.poll_state f.loose)
+      (subst (λ (a : ChannelAsk T Waiter). (wait_of a ≡ None) ⊎ (wait_of a ≡ Some (waits_in o.operation, Op op))) (sym same)
+      (poll_waits op o.operation (key_of o.poll_state)))

@@ -8,11 +8,11 @@ use Rattle.channel_calls.specs.declared.ask.ChannelAsk.{ChannelAsk}
 use Rattle.channel_calls.specs.declared.ask.ChannelAsk.TheVariants as ask
 use Rattle.channel_calls.specs.declared.stage.ListenerRef.{ListenerRef}
 use Rattle.channel_calls.specs.declared.stage.WaitList.{WaitList}
-use Rattle.channel_calls.specs.declared.stage.WaitList.TheVariants.{Sends, Receives, Streams, Closings}
+use Rattle.channel_calls.specs.declared.stage.WaitList.TheVariants.{Streams}
 use Rattle.channel_world_model.specs.Answer.{weak_of, strong_of}
-use Rattle.channel_world_model.specs.Asked.{KeysHeld as HeldBy, refusal_asked, giving_up_asked, drop_asked}
+use Rattle.channel_world_model.specs.Asked.{refusal_asked, giving_up_asked, drop_asked}
 use Rattle.channel_world_model.specs.Lines.{without_waiter}
-use Rattle.channel_world_model.specs.Names.{at, is_taken, without_name}
+use Rattle.channel_world_model.specs.Names.{at, borrowed_by, is_taken, own_message, waits_in, without_name}
 use Rattle.channel_world_model.specs.Refusal.{handle_fits}
 use Rattle.channel_world_model.specs.declared.call.Call.{Call}
 use Rattle.channel_world_model.specs.declared.call.Call.TheVariants as call
@@ -21,6 +21,7 @@ use Rattle.channel_world_model.specs.declared.name.HandleId.{HandleId}
 use Rattle.channel_world_model.specs.declared.name.HandleKind.{HandleKind}
 use Rattle.channel_world_model.specs.declared.name.HandleKind.TheVariants as handle_kind
 use Rattle.channel_world_model.specs.declared.name.OpId.{OpId}
+use Rattle.channel_world_model.specs.declared.name.Operation.{Operation}
 use Rattle.channel_world_model.specs.declared.name.Waiter.{Waiter}
 use Rattle.channel_world_model.specs.declared.name.Waiter.TheVariants.{Op, Stream}
 use Rattle.channel_world_model.specs.declared.plan.Wanted.{Wanted}
@@ -29,22 +30,20 @@ use Rattle.channel_world_runs.specs.Bookkeeping.{asks, on_return_of, names_begun
 use Rattle.channel_world_runs.specs.Order.{placed, order_begun}
 use Rattle.channel_world_model.specs.Plan.{plan_of}
 use Rattle.channel_world_runs.specs.Owners.{NameStatus, free, retired, invalid, polled, status_on, no_stream_status, stream_status, status_by, status, wait_of, subject, Suits}
-use Rattle.channel_world_runs.specs.NameTable.{key_of, is_polled, operation_of, handle_at, held_of, with_lent, with_borrowed, with_poll_state}
-use Rattle.channel_world_model.specs.Lines.{line_of_kind}
+use Rattle.channel_world_runs.specs.NameTable.{key_of, is_polled, names_of, held_of, with_lent, with_borrowed, with_poll_state}
 use Rattle.channel_world_runs.specs.declared.names.OnReturn.{OnReturn}
 use Rattle.channel_world_runs.specs.declared.names.OnReturn.TheVariants as on_return
 use Rattle.channel_world_runs.specs.declared.names.HandleEntry.{HandleEntry}
-use Rattle.channel_world_runs.specs.declared.names.Operation.{Operation}
-use Rattle.channel_world_model.specs.declared.name.OperationKind.{OperationKind}
-use Rattle.channel_world_model.specs.declared.name.OperationKind.TheVariants as kind
+use Rattle.channel_world_runs.specs.declared.names.OperationEntry.{OperationEntry}
 use Rattle.channel_world_runs.specs.declared.names.PollState.{PollState}
 use Rattle.channel_world_runs.specs.declared.names.PollState.TheVariants.{Rests, IsPolled}
 use Rattle.channel_world_runs.specs.declared.name_table.NameTable.{NameTable}
 use Rattle.channel_world_runs.proofs.AskFacts.{of_cloned, of_upgraded}
 use Rattle.channel_world_runs.proofs.AskStarts.{ask_holds}
-use Rattle.channel_world_runs.proofs.OwnerBegins.{IsLoose, held_in, Quiet, Touches, Admitted, IsFitting, untaken, on_line, as_model, Sane, Found, find, key_is, held_is, loose_is, polls_with, polls}
+use Rattle.channel_world_runs.proofs.OwnerBegins.{IsLoose, held_in, Quiet, Touches, Admitted, IsFitting, untaken, on_line, Sane, Found, find, seen_is, key_is, held_is, loose_is, polls_with, polls}
 use Rattle.channel_world_runs.proofs.OwnerNames.{Sets, Same, same_both, sets_same, op_status, handle_entry_status, found, op_set, op_spent, handle_set, handle_spent, handle_changed, lent_same, borrowed_same, handed_over_same}
 use Rattle.channel_world_runs.proofs.RefusalLemmas.{handle_through}
+use Rattle.channel_world_runs.proofs.RefusalLemmas as seen
 
 abbrev Idle : HandleKind → PollState → Type 0
 Idle k s = (is_polled s ≡ false) × (stream_status k s ≡ invalid → ⊥)
@@ -91,25 +90,11 @@ module _ (T : Type 0) where
   Plain a = (wait_of a ≡ None) × (ask_holds a ≡ None)
 
 module _ {T : Type 0} where
-  refusal_is : (held : HeldBy) (op : OpId) (k : OperationKind) (h : HandleId) (m : Option T) (key : Option Key)
-      → held (Op op) ≡ key
-      → (n : Option T) × (refusal_asked held op (Some (as_model k h m)) ≡ ask.RefusePoll (line_of_kind k) n key)
-  refusal_is held op kind.Send h m key e = (m, ap (λ x. ask.RefusePoll Sends m x) e)
-  refusal_is held op kind.Receive h m key e = (None, ap (λ x. ask.RefusePoll Receives None x) e)
-  refusal_is held op kind.Closing h m key e = (None, ap (λ x. ask.RefusePoll Closings None x) e)
-
-  giving_up_is : (held : HeldBy) (op : OpId) (k : OperationKind) (h : HandleId) (m : Option T) (key : Option Key)
-      → held (Op op) ≡ key
-      → (n : Option T) × (giving_up_asked held op (Some (as_model k h m)) ≡ ask.GiveUp (line_of_kind k) n key)
-  giving_up_is held op kind.Send h m key e = (m, ap (λ x. ask.GiveUp Sends m x) e)
-  giving_up_is held op kind.Receive h m key e = (None, ap (λ x. ask.GiveUp Receives None x) e)
-  giving_up_is held op kind.Closing h m key e = (None, ap (λ x. ask.GiveUp Closings None x) e)
-
-  leaves_nobody : (o : Option (Operation T)) → subject (leave_handle_of o) ≡ None
+  leaves_nobody : (o : Option (OperationEntry T)) → subject (leave_handle_of o) ≡ None
   leaves_nobody None = refl
   leaves_nobody (Some o) = refl
 
-  leaves_suit : (p : Waiter → NameStatus) (o : Option (Operation T)) (wait : Option (WaitList × Waiter)) → wait ≡ None
+  leaves_suit : (p : Waiter → NameStatus) (o : Option (OperationEntry T)) (wait : Option (WaitList × Waiter)) → wait ≡ None
       → Suits p (leave_handle_of o) wait
   leaves_suit p None wait e = e
   leaves_suit p (Some o) wait e = e
@@ -120,18 +105,18 @@ module _ {T : Type 0} where
       → Touches (status r) (status (names_begun r (call.PollRefused op))) (on_return.Poll op) (asks r (call.PollRefused op)) (placed (Op op))
   refuses r op f =
       let o = f.operation in
-      let is = refusal_is (held_of r) op o.kind o.handle o.message (key_of o.poll_state) (key_is r op o f.is) in
-      let same : asks r (call.PollRefused op) ≡ ask.RefusePoll (line_of_kind o.kind) is.0 (key_of o.poll_state) =
-      ap (λ x. refusal_asked (held_of r) op (option_map operation_of x)) f.is ∙ is.1 in
+      let same : asks r (call.PollRefused op) ≡ ask.RefusePoll (waits_in o.operation) (own_message o.operation) (key_of o.poll_state) =
+      ap (λ (x : Option (Operation T)). refusal_asked (held_of r (Op op)) x) (seen_is r op f)
+      ∙ ap (λ (key : Option Key). refusal_asked key (Some o.operation)) (key_is r op o f.is) in
       polls_with r op f (asks r (call.PollRefused op)) (ap ask_holds same) (inl (ap wait_of same))
 
   gives_up : (r : NameTable T) (op : OpId) → Found r op
       → Touches (status r) (status (names_begun r (call.GiveUp op))) (on_return_of r (call.GiveUp op)) (asks r (call.GiveUp op)) (without_waiter (Op op))
   gives_up r op f =
       let o = f.operation in
-      let is = giving_up_is (held_of r) op o.kind o.handle o.message (key_of o.poll_state) (key_is r op o f.is) in
-      let same : asks r (call.GiveUp op) ≡ ask.GiveUp (line_of_kind o.kind) is.0 (key_of o.poll_state) =
-      ap (λ x. giving_up_asked (held_of r) op (option_map operation_of x)) f.is ∙ is.1 in
+      let same : asks r (call.GiveUp op) ≡ ask.GiveUp (waits_in o.operation) (own_message o.operation) (key_of o.poll_state) =
+      ap (λ (x : Option (Operation T)). giving_up_asked (held_of r (Op op)) x) (seen_is r op f)
+      ∙ ap (λ (key : Option Key). giving_up_asked key (Some o.operation)) (key_is r op o f.is) in
       let looked : is_some (lookup (nat_eq op.0) r.operations) ≡ true = ap (λ x. is_some x) (found op.0 r.operations o f.is) in
       let gone : NameTable T = record r { operations = without_name op.0 r.operations } in
       record {
@@ -165,7 +150,7 @@ module _ {T : Type 0} where
     order = inl (refl, λ ws. refl);
   }
 
-  names_operation : (r : NameTable T) (op : OpId) (handle : HandleId) (o : Operation T) → o.poll_state ≡ Rests
+  names_operation : (r : NameTable T) (op : OpId) (handle : HandleId) (o : OperationEntry T) → o.poll_state ≡ Rests
       → is_taken op.0 r.operations ≡ false
       → Touches (status r) (status (with_borrowed handle (operation_named op r))) (on_return.Make op o) ask.Make (λ ws. ws)
   names_operation r op handle o new untook =
@@ -174,9 +159,9 @@ module _ {T : Type 0} where
       names_new (status r) (status (with_borrowed handle (operation_named op r))) (Op op) (on_return.Make op o) ask.Make s
       (untaken op_status op.0 r.operations untook) refl (s.there, new, refl) (inr refl)
 
-  lent_by_same : (r : NameTable T) (o : Option (Operation T)) → Same (status r) (status (lent_by o r))
+  lent_by_same : (r : NameTable T) (o : Option (OperationEntry T)) → Same (status r) (status (lent_by o r))
   lent_by_same r None v = refl
-  lent_by_same r (Some o) v = lent_same r o.handle v
+  lent_by_same r (Some o) v = lent_same r (borrowed_by o.operation) v
 
   -- ---- handles
 
@@ -198,17 +183,13 @@ module _ {T : Type 0} where
       → held_of r (Stream handle) ≡ key_of h.poll_state
   stream_key r handle h e = ap (λ x. option_map_or (λ (h : HandleEntry). key_of h.poll_state) x None) e
 
-  drop_asks : (held : HeldBy) (handle : HandleId) (h : Handle) (key : Option Key) → held (Stream handle) ≡ key
-      → drop_asked {T = T} held handle (Some h) ≡ drop_is T h.kind key
-  drop_asks held handle h key e = ap (λ x. drop_is T h.kind x) e
-
   drops : (r : NameTable T) (handle : HandleId) → Seen r handle
       → Touches (status r) (status (names_begun r (call.Drop handle))) on_return.Nothing (asks r (call.Drop handle)) (without_waiter (Stream handle))
   drops r handle f =
       let h = f.handle_entry in
       let same : asks r (call.Drop handle) ≡ drop_is T h.handle.kind (key_of h.poll_state) =
-      ap (λ x. drop_asked (held_of r) handle (option_map (λ (h : HandleEntry). h.handle) x)) f.is
-      ∙ drop_asks (held_of r) handle h.handle (key_of h.poll_state) (stream_key r handle h f.is) in
+      ap (λ (x : Option Handle). drop_asked (held_of r (Stream handle)) x) (seen.handle_at r handle.0 ∙ ap (option_map (λ (h : HandleEntry). h.handle)) f.is)
+      ∙ ap (λ (key : Option Key). drop_is T h.handle.kind key) (stream_key r handle h f.is) in
       let held = drop_held T h.handle.kind h.poll_state f.idle in
       let looked : is_some (lookup (nat_eq handle.0) r.handles) ≡ true = ap (λ x. is_some x) (found handle.0 r.handles h f.is) in
       record {
@@ -289,13 +270,13 @@ module _ {T : Type 0} where
       let h = a.finds in inr (streams r receiver (see r Receiver receiver sane h) (is_receiver h.0.handle.kind h.3))
   begins_so r (call.Drop handle) sane a = inr (drops r handle (see r Any handle sane a.finds))
   begins_so r (call.TryClone handle new) sane a =
-      let p = of_cloned (Plain T) (refl, refl) (λ side. (refl, refl)) (handle_at handle r) in
-      inr (names_handle r handle new (λ k. k) (handle_at handle r) _ a.new p.0 p.1)
+      let p = of_cloned (Plain T) (refl, refl) (λ side. (refl, refl)) (at handle.0 (names_of r).handles) in
+      inr (names_handle r handle new (λ k. k) (at handle.0 (names_of r).handles) _ a.new p.0 p.1)
   begins_so r (call.Downgrade handle new) sane a =
-      inr (names_handle r handle new weak_of (handle_at handle r) ask.Make a.new refl refl)
+      inr (names_handle r handle new weak_of (at handle.0 (names_of r).handles) ask.Make a.new refl refl)
   begins_so r (call.Upgrade weak new) sane a =
-      let p = of_upgraded (Plain T) (refl, refl) (λ side. (refl, refl)) (handle_at weak r) in
-      inr (names_handle r weak new strong_of (handle_at weak r) _ a.new p.0 p.1)
+      let p = of_upgraded (Plain T) (refl, refl) (λ side. (refl, refl)) (at weak.0 (names_of r).handles) in
+      inr (names_handle r weak new strong_of (at weak.0 (names_of r).handles) _ a.new p.0 p.1)
   begins_so r (call.SameChannel x y) sane a = inl
       (passes r (with_lent y (with_lent x r)) (on_return.LeaveBoth x y) _
       (same_both (status r) (status (with_lent x r)) (status (with_lent y (with_lent x r))) (lent_same r x) (lent_same (with_lent x r) y))

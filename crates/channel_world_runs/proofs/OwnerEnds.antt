@@ -14,23 +14,22 @@ use Rattle.channel_calls.specs.declared.stage.Returned.{Returned}
 use Rattle.channel_calls.specs.declared.stage.WaitList.{WaitList}
 use Rattle.channel_calls.specs.declared.stage.WaitList.TheVariants.{Sends, Receives, Streams, Closings}
 use Rattle.channel_steps.specs.Answers.{PollKeeps, Keeps}
-use Rattle.channel_world_model.specs.Names.{Directory, at}
+use Rattle.channel_world_model.specs.Names.{Directory, at, waits_in, with_message}
 use Rattle.channel_world_model.specs.declared.name.HandleId.{HandleId}
 use Rattle.channel_world_model.specs.declared.name.HandleKind.{HandleKind}
 use Rattle.channel_world_model.specs.declared.name.HandleKind.TheVariants as handle_kind
 use Rattle.channel_world_model.specs.declared.name.OpId.{OpId}
+use Rattle.channel_world_model.specs.declared.name.Operation.{Operation}
+use Rattle.channel_world_model.specs.declared.name.Operation.TheVariants as live
 use Rattle.channel_world_model.specs.declared.name.Waiter.{Waiter}
 use Rattle.channel_world_model.specs.declared.name.Waiter.TheVariants.{Op, Stream}
 use Rattle.channel_world_runs.specs.Bookkeeping.{restored, installed, written_back}
 use Rattle.channel_world_runs.specs.Owners.{NameStatus, free, retired, invalid, rests, waits, polled, status_on, no_stream_status, stream_status, status_by, operation_status, status, wait_of, subject, Suits}
 use Rattle.channel_world_runs.specs.NameTable.{poll_state_with, unused, with_given_back, with_poll_state}
-use Rattle.channel_world_model.specs.Lines.{line_of_kind}
 use Rattle.channel_world_runs.specs.declared.names.OnReturn.{OnReturn}
 use Rattle.channel_world_runs.specs.declared.names.OnReturn.TheVariants as on_return
 use Rattle.channel_world_runs.specs.declared.names.HandleEntry.{HandleEntry}
-use Rattle.channel_world_runs.specs.declared.names.Operation.{Operation}
-use Rattle.channel_world_model.specs.declared.name.OperationKind.{OperationKind}
-use Rattle.channel_world_model.specs.declared.name.OperationKind.TheVariants as kind
+use Rattle.channel_world_runs.specs.declared.names.OperationEntry.{OperationEntry}
 use Rattle.channel_world_runs.specs.declared.names.PollState.{PollState}
 use Rattle.channel_world_runs.specs.declared.names.PollState.TheVariants.{Rests, Waits, IsPolled}
 use Rattle.channel_world_runs.specs.declared.name_table.NameTable.{NameTable}
@@ -100,30 +99,30 @@ own_wait wait line l w task (inr some) e =
     (ap (λ (x : WaitList × Waiter). x.0) same, ap (λ (x : WaitList × Waiter). x.1) same)
 
 module _ {T : Type 0} where
-  op_line : (k : OperationKind) (m : Option T) (l : WaitList) (s : PollState) → operation_status k m s ≡ polled l → line_of_kind k ≡ l
-  op_line kind.Send None l Rests e = absurd (no_busy (rests Sends) l e)
-  op_line kind.Send None l (Waits key w) e = absurd (no_busy invalid l e)
-  op_line kind.Send None l (IsPolled b) e = polled_is Sends l e
-  op_line kind.Send (Some m) l s e = on_line Sends l s e
-  op_line kind.Receive m l s e = on_line Receives l s e
-  op_line kind.Closing m l s e = on_line Closings l s e
+  op_line : (x : Operation T) (l : WaitList) (s : PollState) → operation_status x s ≡ polled l → waits_in x ≡ l
+  op_line (live.Send h None) l Rests e = absurd (no_busy (rests Sends) l e)
+  op_line (live.Send h None) l (Waits key w) e = absurd (no_busy invalid l e)
+  op_line (live.Send h None) l (IsPolled b) e = polled_is Sends l e
+  op_line (live.Send h (Some m)) l s e = on_line Sends l s e
+  op_line (live.Receive h) l s e = on_line Receives l s e
+  op_line (live.Closing h) l s e = on_line Closings l s e
 
-  calm_op : (k : OperationKind) (m : Option T) → IsCalm (operation_status k m Rests)
-  calm_op kind.Send None = tt
-  calm_op kind.Send (Some m) = tt
-  calm_op kind.Receive m = tt
-  calm_op kind.Closing m = tt
+  calm_op : (x : Operation T) → IsCalm (operation_status x Rests)
+  calm_op (live.Send h None) = tt
+  calm_op (live.Send h (Some m)) = tt
+  calm_op (live.Receive h) = tt
+  calm_op (live.Closing h) = tt
 
   -- a send that waits has its message
   abbrev pub Carries : WaitList → Option T → Type 0
   Carries line m = line ≡ Sends → (v : T) × (m ≡ Some v)
 
-  waiting_op : (k : OperationKind) (m : Option T) (key : Key) → Carries (line_of_kind k) m
-      → operation_status k m (Waits key false) ≡ waits (record { line = line_of_kind k; key = key }) false
-  waiting_op kind.Send None key c = absurd (let f = c refl in let no : None ≡ Some f.0 = f.1 in cc)
-  waiting_op kind.Send (Some m) key c = refl
-  waiting_op kind.Receive m key c = refl
-  waiting_op kind.Closing m key c = refl
+  waiting_op : (x : Operation T) (m : Option T) (key : Key) → Carries (waits_in x) m
+      → operation_status (with_message m x) (Waits key false) ≡ waits (record { line = waits_in x; key = key }) false
+  waiting_op (live.Send h n) None key c = absurd (let f = c refl in let no : None ≡ Some f.0 = f.1 in cc)
+  waiting_op (live.Send h n) (Some m) key c = refl
+  waiting_op (live.Receive h) m key c = refl
+  waiting_op (live.Closing h) m key c = refl
 
   -- ---- what is left
 
@@ -169,13 +168,13 @@ module _ {T : Type 0} where
   calm_at p e w x whose is calm v s =
       subst (λ (y : Waiter). IsCalm (p y)) (some_is w v (sym whose ∙ s)) (subst IsCalm (sym is) calm)
 
-  makes : (r : NameTable T) (op : OpId) (o : Operation T) (y : Reply T) (kept : Returned T) (wait : Option (WaitList × Waiter))
+  makes : (r : NameTable T) (op : OpId) (o : OperationEntry T) (y : Reply T) (kept : Returned T) (wait : Option (WaitList × Waiter))
       → IsLeft kept wait → Suits {T = T} (status r) (on_return.Make op o) wait
       → Settles (status r) (status (written_back (on_return.Make op o) y kept r)) (on_return.Make op o) kept wait
   makes r op o y kept wait l f =
       let s = op_set r op (Some o) (vacant_taken op_status (lookup (nat_eq op.0) r.operations) f.0) in
       let calm : IsCalm (op_status o) =
-      subst (λ (z : PollState). IsCalm (operation_status o.kind o.message z)) (sym f.1) (calm_op o.kind o.message) in
+      subst (λ (z : PollState). IsCalm (operation_status o.operation z)) (sym f.1) (calm_op o.operation) in
       set (status r) (status (written_back (on_return.Make op o) y kept r)) (on_return.Make op o) kept wait (Op op) (op_status o) refl s
       (no_wait (status (written_back (on_return.Make op o) y kept r)) (on_return.Make op o) kept wait l f.2
       (calm_at (status (written_back (on_return.Make op o) y kept r)) (on_return.Make op o) (Op op) (op_status o) refl s.there calm))
@@ -207,11 +206,11 @@ module _ {T : Type 0} where
       let there = polled_there op_status op.0 r.operations f.0 f.1 in
       let o = there.0 in
       let s = op_changed r op (restored kept) o there.1 in
-      let line = op_line o.kind o.message f.0 o.poll_state there.2 in
+      let line = op_line o.operation f.0 o.poll_state there.2 in
       set (status r) (status (written_back (on_return.Poll op) y kept r)) (on_return.Poll op) kept wait (Op op) _ refl s
       (comes (status (written_back (on_return.Poll op) y kept r)) (on_return.Poll op) (Op op)
-      (λ k. operation_status o.kind kept.message (poll_state_with k)) f.0 kept wait refl s.there (calm_op o.kind kept.message)
-      (λ key c. waiting_op o.kind kept.message key (λ sends. c (sym line ∙ sends))
+      (λ k. operation_status (with_message kept.message o.operation) (poll_state_with k)) f.0 kept wait refl s.there (calm_op (with_message kept.message o.operation))
+      (λ key c. waiting_op o.operation kept.message key (λ sends. c (sym line ∙ sends))
       ∙ ap (λ (x : WaitList). waits (record { line = x; key = key }) false) line) f.2 l)
 
   nexts : (r : NameTable T) (receiver : HandleId) (y : Reply T) (kept : Returned T) (wait : Option (WaitList × Waiter)) → IsLeft kept wait

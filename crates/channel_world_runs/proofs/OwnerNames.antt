@@ -5,20 +5,20 @@ use Rattle.std.specs.Map.{lookup, set_value}
 use Rattle.std.specs.Option.{option_map_or}
 use Rattle.channel_calls.specs.declared.stage.WaitList.{WaitList}
 use Rattle.channel_calls.specs.declared.stage.WaitList.TheVariants.{Sends, Receives, Streams, Closings}
-use Rattle.channel_world_model.specs.Names.{Directory, at, with_spent, with_changed}
+use Rattle.channel_world_model.specs.Names.{Directory, at, borrowed_by, with_spent, with_changed}
 use Rattle.channel_world_model.specs.declared.name.HandleId.{HandleId}
 use Rattle.channel_world_model.specs.declared.name.HandleKind.{HandleKind}
 use Rattle.channel_world_model.specs.declared.name.HandleKind.TheVariants as handle_kind
 use Rattle.channel_world_model.specs.declared.name.OpId.{OpId}
+use Rattle.channel_world_model.specs.declared.name.Operation.{Operation}
+use Rattle.channel_world_model.specs.declared.name.Operation.TheVariants as live
 use Rattle.channel_world_model.specs.declared.name.Waiter.{Waiter}
 use Rattle.channel_world_model.specs.declared.name.Waiter.TheVariants.{Op, Stream}
 use Rattle.channel_world_runs.specs.Bookkeeping.{with_operation, handed_over_by, operation_named, handle_named, with_one_woken, all_woken}
 use Rattle.channel_world_runs.specs.Owners.{IsAmong, NameStatus, free, retired, invalid, rests, waits, polled, status_on, no_stream_status, stream_status, status_by, send_status, operation_status, status}
 use Rattle.channel_world_runs.specs.NameTable.{told, used_more, used_less, borrowed_more, handed_over, with_handle, with_lent, with_given_back, with_borrowed}
 use Rattle.channel_world_runs.specs.declared.names.HandleEntry.{HandleEntry}
-use Rattle.channel_world_runs.specs.declared.names.Operation.{Operation}
-use Rattle.channel_world_model.specs.declared.name.OperationKind.{OperationKind}
-use Rattle.channel_world_model.specs.declared.name.OperationKind.TheVariants as kind
+use Rattle.channel_world_runs.specs.declared.names.OperationEntry.{OperationEntry}
 use Rattle.channel_world_runs.specs.declared.names.PollState.{PollState}
 use Rattle.channel_world_runs.specs.declared.names.PollState.TheVariants.{Rests, Waits, IsPolled}
 use Rattle.channel_world_runs.specs.declared.name_table.NameTable.{NameTable}
@@ -179,18 +179,18 @@ abbrev pub MayBeTold : (Waiter → NameStatus) → (Waiter → NameStatus) → W
 MayBeTold p p' v = (p' v ≡ p v) ⊎ (p' v ≡ told_status (p v))
 
 module _ {T : Type 0} where
-  abbrev pub op_status : Operation T → NameStatus
-  op_status o = operation_status o.kind o.message o.poll_state
+  abbrev pub op_status : OperationEntry T → NameStatus
+  op_status o = operation_status o.operation o.poll_state
 
   -- ---- operations
 
-  op_others : (r : NameTable T) (op : OpId) (d : Directory (Operation T)) → ((n : ℕ) → (n ≡ op.0 → ⊥) → status_by op_status (lookup (nat_eq n) d) ≡ status_by op_status (lookup (nat_eq n) r.operations))
+  op_others : (r : NameTable T) (op : OpId) (d : Directory (OperationEntry T)) → ((n : ℕ) → (n ≡ op.0 → ⊥) → status_by op_status (lookup (nat_eq n) d) ≡ status_by op_status (lookup (nat_eq n) r.operations))
       → (v : Waiter) → (v ≡ Op op → ⊥) → status (record r { operations = d }) v ≡ status r v
   op_others r op d f (Op a) other = f a.0 (λ e. other (op_named a op e))
   op_others r op d f (Stream h) other = refl
 
   -- a value under the name of an operation
-  pub op_set : (r : NameTable T) (op : OpId) (v : Option (Operation T)) → is_some (lookup (nat_eq op.0) r.operations) ≡ true → Sets (status r) (status (record r { operations = set_value (nat_eq op.0) r.operations v })) (Op op) (status_by op_status (Some v))
+  pub op_set : (r : NameTable T) (op : OpId) (v : Option (OperationEntry T)) → is_some (lookup (nat_eq op.0) r.operations) ≡ true → Sets (status r) (status (record r { operations = set_value (nat_eq op.0) r.operations v })) (Op op) (status_by op_status (Some v))
   op_set r op v e =
       record {
         there = ap (λ o. status_by op_status o) (set_there op.0 r.operations v e);
@@ -205,10 +205,10 @@ module _ {T : Type 0} where
       }
 
   -- what lives there is changed
-  pub op_changed : (r : NameTable T) (op : OpId) (change : Operation T → Operation T) (o : Operation T) → at op.0 r.operations ≡ Some o → Sets (status r) (status (with_operation change op r)) (Op op) (op_status (change o))
+  pub op_changed : (r : NameTable T) (op : OpId) (change : OperationEntry T → OperationEntry T) (o : OperationEntry T) → at op.0 r.operations ≡ Some o → Sets (status r) (status (with_operation change op r)) (Op op) (op_status (change o))
   op_changed r op change o e =
-      subst (λ (d : Directory (Operation T)). Sets (status r) (status (record r { operations = d })) (Op op) (op_status (change o)))
-      (sym (ap (λ (x : Option (Operation T)). option_map_or (λ (y : Operation T). with_changed op.0 (change y) r.operations) x r.operations) e))
+      subst (λ (d : Directory (OperationEntry T)). Sets (status r) (status (record r { operations = d })) (Op op) (op_status (change o)))
+      (sym (ap (λ (x : Option (OperationEntry T)). option_map_or (λ (y : OperationEntry T). with_changed op.0 (change y) r.operations) x r.operations) e))
       (op_set r op (Some (change o)) (is_there (lookup (nat_eq op.0) r.operations) (Some o) (found op.0 r.operations o e)))
 
   -- ---- handles
@@ -265,9 +265,9 @@ module _ {T : Type 0} where
   pub borrowed_same : (r : NameTable T) (handle : HandleId) → Same (status r) (status (with_borrowed handle r))
   borrowed_same r handle = handle_kept r handle borrowed_more (λ h. refl)
 
-  pub handed_over_same : (r : NameTable T) (o : Option (Operation T)) → Same (status r) (status (handed_over_by o r))
+  pub handed_over_same : (r : NameTable T) (o : Option (OperationEntry T)) → Same (status r) (status (handed_over_by o r))
   handed_over_same r None v = refl
-  handed_over_same r (Some o) v = handle_kept r o.handle handed_over (λ h. refl) v
+  handed_over_same r (Some o) v = handle_kept r (borrowed_by o.operation) handed_over (λ h. refl) v
 
   -- ---- wakes
 
@@ -277,28 +277,28 @@ module _ {T : Type 0} where
   told_send None (IsPolled brings) = refl
   told_send (Some m) s = told_on Sends s
 
-  told_operation : (k : OperationKind) (m : Option T) (s : PollState) → operation_status k m (told s) ≡ told_status (operation_status k m s)
-  told_operation kind.Send m s = told_send m s
-  told_operation kind.Receive m s = told_on Receives s
-  told_operation kind.Closing m s = told_on Closings s
+  told_operation : (x : Operation T) (s : PollState) → operation_status x (told s) ≡ told_status (operation_status x s)
+  told_operation (live.Send h m) s = told_send m s
+  told_operation (live.Receive h) s = told_on Receives s
+  told_operation (live.Closing h) s = told_on Closings s
 
-  op_none : (r : NameTable T) (op : OpId) (change : Operation T → Operation T) → at op.0 r.operations ≡ None → with_operation change op r ≡ r
+  op_none : (r : NameTable T) (op : OpId) (change : OperationEntry T → OperationEntry T) → at op.0 r.operations ≡ None → with_operation change op r ≡ r
   op_none r op change e =
-      ap (λ (d : Directory (Operation T)). record r { operations = d }) (ap (λ (x : Option (Operation T)). option_map_or (λ (y : Operation T). with_changed op.0 (change y) r.operations) x r.operations) e)
+      ap (λ (d : Directory (OperationEntry T)). record r { operations = d }) (ap (λ (x : Option (OperationEntry T)). option_map_or (λ (y : OperationEntry T). with_changed op.0 (change y) r.operations) x r.operations) e)
 
   pub one_woken : (w : Waiter) (r : NameTable T) → Sets (status r) (status (with_one_woken w r)) w (told_status (status r w))
   one_woken (Op op) r = by (at op.0 r.operations) refl
     where
-      change : Operation T → Operation T
+      change : OperationEntry T → OperationEntry T
       change o = record o { poll_state = told o.poll_state }
 
-      by : (o : Option (Operation T)) → at op.0 r.operations ≡ o → Sets (status r) (status (with_one_woken (Op op) r)) (Op op) (told_status (status r (Op op)))
+      by : (o : Option (OperationEntry T)) → at op.0 r.operations ≡ o → Sets (status r) (status (with_one_woken (Op op) r)) (Op op) (told_status (status r (Op op)))
       by None e =
           subst (λ (x : NameTable T). Sets (status r) (status x) (Op op) (told_status (status r (Op op)))) (sym (op_none r op change e))
           (record { there = sym (not_there op_status op.0 r.operations e); others = λ v other. refl })
       by (Some o) e =
           let s = op_changed r op change o e in
-          record { there = s.there ∙ (told_operation o.kind o.message o.poll_state ∙ sym (ap (λ x. told_status (status_by op_status x)) (found op.0 r.operations o e))); others = s.others }
+          record { there = s.there ∙ (told_operation o.operation o.poll_state ∙ sym (ap (λ x. told_status (status_by op_status x)) (found op.0 r.operations o e))); others = s.others }
   one_woken (Stream handle) r = by (at handle.0 r.handles) refl
     where
       change : HandleEntry → HandleEntry

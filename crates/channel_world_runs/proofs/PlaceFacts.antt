@@ -1,5 +1,5 @@
 -- Messages that a call made alone brings in, and the positions that are left.
-use Rattle.std.proofs.Common.{arith, ◌≡◌, ℕ, ◌+◌, ◌≤◌, Bool, true, false, if◌then◌else◌, List, [], ◌∷◌, length, slice_get, Option, None, Some, Ok, Err, inl, inr, ◌⊎◌, refl, sym, ap, ◌∙◌, subst}
+use Rattle.std.proofs.Common.{arith, ◌≡◌, ℕ, ◌+◌, ◌≤◌, Bool, true, false, if◌then◌else◌, List, [], ◌∷◌, length, slice_get, is_some, Option, None, Some, Ok, Err, inl, inr, ◌⊎◌, refl, sym, ap, ◌∙◌, subst}
 use Rattle.std.specs.Option.{option_map, option_map_or}
 use Rattle.futures.specs.declared.task.Poll.TheVariants as poll
 use Rattle.concurrent_queue.specs.Queue.{Queue, is_filled}
@@ -24,23 +24,22 @@ use Rattle.channel_world_model.specs.Asked.{poll_asked}
 use Rattle.channel_world_model.specs.Laws.{is_line, line_of_operation}
 use Rattle.channel_world_model.specs.Laws as laws
 use Rattle.channel_world_model.specs.Settling.{poll_of}
-use Rattle.channel_world_model.specs.Names.{at}
-use Rattle.channel_world_model.specs.Names as model
+use Rattle.channel_world_model.specs.Names.{at, own_message}
 use Rattle.channel_world_model.specs.declared.call.Call.{Call}
 use Rattle.channel_world_model.specs.declared.call.Call.TheVariants as call
 use Rattle.channel_world_model.specs.declared.name.HandleId.{HandleId}
 use Rattle.channel_world_model.specs.declared.name.OpId.{OpId}
+use Rattle.channel_world_model.specs.declared.name.Operation.{Operation}
+use Rattle.channel_world_model.specs.declared.name.Operation.TheVariants as live
 use Rattle.channel_world_model.specs.declared.name.Waiter.{Waiter}
 use Rattle.channel_world_model.specs.declared.name.Waiter.TheVariants.{Op, Stream}
 use Rattle.channel_steps.specs.Run.{EachStep, NextConfiguration, end_of}
 use Rattle.channel_steps.specs.Configuration.{Configuration, brought}
 use Rattle.channel_steps.specs.declared.party.Entry.{Entry}
 use Rattle.channel_world_runs.specs.Bookkeeping.{asks}
-use Rattle.channel_world_runs.specs.Positions.{has_message, brings, came_in, accepted_by, yet_in}
-use Rattle.channel_world_runs.specs.NameTable.{held_of, handle_at, names_of, operation_at, operation_of}
-use Rattle.channel_world_runs.specs.declared.names.Operation.{Operation}
-use Rattle.channel_world_model.specs.declared.name.OperationKind.{OperationKind}
-use Rattle.channel_world_model.specs.declared.name.OperationKind.TheVariants as kind
+use Rattle.channel_world_runs.specs.Positions.{brings, came_in, accepted_by, yet_in}
+use Rattle.channel_world_runs.specs.NameTable.{held_of, names_of}
+use Rattle.channel_world_runs.specs.declared.names.OperationEntry.{OperationEntry}
 use Rattle.channel_world_runs.specs.declared.name_table.NameTable.{NameTable}
 use Rattle.channel_world_runs.proofs.AskFacts.{of_refused, of_given_up, of_dropped, of_cloned, of_upgraded}
 use Rattle.channel_world_runs.proofs.PositionFacts.{left_queue, step_brings, begin_brings}
@@ -52,17 +51,15 @@ module _ {T : Type 0} where
   abbrev BringsNone : ChannelAsk T Waiter → Type 0
   BringsNone a = length (brought a) ≡ 0
 
-  none_polled : (r : NameTable T) (op : OpId) (o : Option (Operation T))
-      → option_map_or (λ (x : Operation T). has_message x.kind x.message) o false ≡ false
-      → length (brought (poll_asked (held_of r) op (option_map operation_of o))) ≡ 0
-  none_polled r op None e = refl
-  none_polled r op (Some o) e = by o.kind o.message e where
-    by : (k : OperationKind) (m : Option T) → has_message k m ≡ false
-        → length (brought (poll_asked (held_of r) op (Some (elim k [ kind.Send ↦ model.send o.handle m | kind.Receive ↦ model.recv o.handle | kind.Closing ↦ model.closing o.handle ])))) ≡ 0
-    by kind.Send None e = refl
-    by kind.Send (Some m) e = absurd (let no : true ≡ false = e in cc)
-    by kind.Receive m e = refl
-    by kind.Closing m e = refl
+  none_polled : (key : Option Key) (op : OpId) (x : Operation T) → is_some (own_message x) ≡ false → length (brought (poll_asked key op (Some x))) ≡ 0
+  none_polled key op (live.Send h (Some m)) e = absurd (let no : true ≡ false = e in cc)
+  none_polled key op x e = refl
+
+  by_entry : (key : Option Key) (op : OpId) (o : Option (OperationEntry T))
+      → option_map_or (λ (x : OperationEntry T). is_some (own_message x.operation)) o false ≡ false
+      → length (brought (poll_asked key op (option_map (λ (x : OperationEntry T). x.operation) o))) ≡ 0
+  by_entry key op None e = refl
+  by_entry key op (Some x) e = none_polled key op x.operation e
 
   -- no call brings more than one
   pub brought_most : (a : ChannelAsk T Waiter) → length (brought a) ≤ 1
@@ -72,32 +69,31 @@ module _ {T : Type 0} where
   pub no_message : (r : NameTable T) (c : Call T) → brings r c ≡ false → length (brought (asks r c)) ≡ 0
   no_message r (call.TrySend sender m) e = absurd (let no : true ≡ false = e in cc)
   no_message r (call.ForceSend sender m) e = absurd (let no : true ≡ false = e in cc)
-  no_message r (call.Poll op) e = none_polled r op (at op.0 r.operations) e
-  no_message r (call.PollRefused op) e = of_refused BringsNone refl (λ line m key. refl) (held_of r) op (operation_at op r)
-  no_message r (call.GiveUp op) e = of_given_up BringsNone refl (λ line m key. refl) (held_of r) op (operation_at op r)
-  no_message r (call.Drop handle) e = of_dropped BringsNone refl refl (λ key. refl) refl (held_of r) handle (handle_at handle r)
-  no_message r (call.TryClone handle new) e = of_cloned BringsNone refl (λ side. refl) (handle_at handle r)
-  no_message r (call.Upgrade weak new) e = of_upgraded BringsNone refl (λ side. refl) (handle_at weak r)
+  no_message r (call.Poll op) e =
+      ap (λ (o : Option (Operation T)). length (brought (poll_asked (held_of r (Op op)) op o))) (refusals.operation_at r op.0)
+      ∙ by_entry (held_of r (Op op)) op (at op.0 r.operations) e
+  no_message r (call.PollRefused op) e = of_refused BringsNone refl (λ line m key. refl) (held_of r (Op op)) (at op.0 (names_of r).operations)
+  no_message r (call.GiveUp op) e = of_given_up BringsNone refl (λ line m key. refl) (held_of r (Op op)) (at op.0 (names_of r).operations)
+  no_message r (call.Drop handle) e = of_dropped BringsNone refl refl (λ key. refl) refl (held_of r (Stream handle)) (at handle.0 (names_of r).handles)
+  no_message r (call.TryClone handle new) e = of_cloned BringsNone refl (λ side. refl) (at handle.0 (names_of r).handles)
+  no_message r (call.Upgrade weak new) e = of_upgraded BringsNone refl (λ side. refl) (at weak.0 (names_of r).handles)
   no_message r c e = refl
 
   -- a poll that may bring one is that of a send
   pub only_sends_bring : (r : NameTable T) (w : Waiter) → brings r (poll_of w) ≡ true → is_line Sends (laws.line_at (names_of r) w) ≡ true
   only_sends_bring r (Stream receiver) e = absurd (let no : false ≡ true = e in cc)
   only_sends_bring r (Op op) e =
-      ap (λ (o : Option (model.ModelOperation T)). is_line Sends (line_of_operation o)) (refusals.operation_at r op.0)
+      ap (λ (o : Option (Operation T)). is_line Sends (line_of_operation o)) (refusals.operation_at r op.0)
       ∙ by (at op.0 r.operations) e
     where
-      kinds : (handle : HandleId) (k : OperationKind) (m : Option T) → has_message k m ≡ true
-          → is_line Sends (line_of_operation (Some (elim k [ kind.Send ↦ model.send handle m | kind.Receive ↦ model.recv handle | kind.Closing ↦ model.closing handle ]))) ≡ true
-      kinds handle kind.Send (Some m) has = refl
-      kinds handle kind.Send None has = absurd (let no : false ≡ true = has in cc)
-      kinds handle kind.Receive m has = absurd (let no : false ≡ true = has in cc)
-      kinds handle kind.Closing m has = absurd (let no : false ≡ true = has in cc)
+      brings_one : (x : Operation T) → is_some (own_message x) ≡ true → is_line Sends (line_of_operation (Some x)) ≡ true
+      brings_one (live.Send h (Some m)) has = refl
+      brings_one x has = absurd (let no : false ≡ true = has in cc)
 
-      by : (o : Option (Operation T)) → option_map_or (λ (x : Operation T). has_message x.kind x.message) o false ≡ true
-          → is_line Sends (line_of_operation (option_map operation_of o)) ≡ true
+      by : (o : Option (OperationEntry T)) → option_map_or (λ (x : OperationEntry T). is_some (own_message x.operation)) o false ≡ true
+          → is_line Sends (line_of_operation (option_map (λ (x : OperationEntry T). x.operation) o)) ≡ true
       by None has = absurd (let no : false ≡ true = has in cc)
-      by (Some o) has = kinds o.handle o.kind o.message has
+      by (Some x) has = brings_one x.operation has
 
   -- ---- what a call made alone brings in, its reply says
 

@@ -14,10 +14,11 @@ use Rattle.channel_world_model.specs.declared.plan.Plan.TheVariants as plan
 use Rattle.channel_world_model.specs.declared.plan.Wanted.{Wanted}
 use Rattle.channel_world_model.specs.declared.refusal.WorldRefusal.{WorldRefusal}
 use Rattle.channel_world_model.specs.declared.refusal.WorldRefusal.TheVariants.{NameTaken}
-use Rattle.channel_world_runs.specs.NameTable.{operation_of, names_of}
-use Rattle.channel_world_runs.specs.NameTable as table
+use Rattle.channel_world_runs.specs.NameTable.{names_of}
+use Rattle.channel_world_runs.specs.Refusal as table
 use Rattle.channel_world_runs.specs.Refusal.{under_way_in}
 use Rattle.channel_world_runs.specs.declared.names.HandleEntry.{HandleEntry}
+use Rattle.channel_world_runs.specs.declared.names.OperationEntry.{OperationEntry}
 use Rattle.channel_world_runs.specs.declared.name_table.NameTable.{NameTable}
 
 pub and_true : (b : Bool) → (b && true) ≡ b
@@ -39,8 +40,8 @@ module _ {T : Type 0} (r : NameTable T) (name : ℕ) where
   pub handle_at : at name (names_of r).handles ≡ option_map (λ (h : HandleEntry). h.handle) (at name r.handles)
   handle_at = at_seen (λ (h : HandleEntry). h.handle) name r.handles
 
-  pub operation_at : at name (names_of r).operations ≡ option_map operation_of (at name r.operations)
-  operation_at = at_seen operation_of name r.operations
+  pub operation_at : at name (names_of r).operations ≡ option_map (λ (x : OperationEntry T). x.operation) (at name r.operations)
+  operation_at = at_seen (λ (x : OperationEntry T). x.operation) name r.operations
 
   pub handle_there : option_map (λ (h : HandleEntry). h.handle) (at name r.handles) ≡ at name (names_of r).handles
   handle_there = sym handle_at
@@ -79,7 +80,7 @@ module _ {T : Type 0} (r : NameTable T) where
   asking_seen op = ap unfit_send (sym (operation_at r op.0))
 
   pub operation_taken : (op : OpId) → is_taken op.0 r.operations ≡ is_taken op.0 (names_of r).operations
-  operation_taken op = sym (taken_seen operation_of op.0 r.operations)
+  operation_taken op = sym (taken_seen (λ (x : OperationEntry T). x.operation) op.0 r.operations)
 
   pub handle_taken : (new : HandleId) → is_taken new.0 r.handles ≡ is_taken new.0 (names_of r).handles
   handle_taken new = sym (taken_seen (λ (h : HandleEntry). h.handle) new.0 r.handles)

@@ -8,7 +8,7 @@ use Rattle.channel_calls.specs.declared.reply.Reply.{Reply}
 use Rattle.channel_calls.specs.declared.reply.Reply.TheVariants as reply
 use Rattle.channel_calls.specs.declared.stage.Returned.{Returned}
 use Rattle.channel_world_model.proofs.WaiterLemmas.{decided}
-use Rattle.channel_world_model.specs.Names.{Directory, at, with_changed, without_name, with_spent}
+use Rattle.channel_world_model.specs.Names.{Directory, at, borrowed_by, with_changed, without_name, with_spent}
 use Rattle.channel_world_model.specs.declared.call.Call.{Call}
 use Rattle.channel_world_model.specs.declared.name.Handle.{Handle}
 use Rattle.channel_world_model.specs.declared.name.HandleId.{HandleId}
@@ -18,7 +18,7 @@ use Rattle.channel_world_model.specs.declared.name.OpId.{OpId}
 use Rattle.channel_world_model.specs.declared.name.Waiter.{Waiter}
 use Rattle.channel_world_model.specs.declared.name.Waiter.TheVariants.{Op, Stream}
 use Rattle.channel_world_runs.specs.Bookkeeping.{new_message, returns, names_planned, written_back, installed, with_one_woken, all_woken, lent_by, handed_over_by, lent_to_poll, with_operation, operation_named, handle_named, on_return_of, leave_handle_of, new_from}
-use Rattle.channel_world_runs.specs.NameTable.{poll_state_with, used_more, used_less, borrowed_more, handed_over, with_handle, with_lent, with_given_back, with_borrowed, with_handed_over, with_poll_state, unused, first_name_table, handle_at}
+use Rattle.channel_world_runs.specs.NameTable.{poll_state_with, used_more, used_less, borrowed_more, handed_over, with_handle, with_lent, with_given_back, with_borrowed, with_handed_over, with_poll_state, unused, first_name_table, names_of}
 use Rattle.channel_world_model.specs.Plan.{kin, plan_of}
 use Rattle.channel_world_runs.specs.Run.{NameState, name_state_begun, name_state_ended, with_woken}
 use Rattle.channel_world_runs.specs.Users.{one, times_used, all_uses, FewUsers}
@@ -26,7 +26,7 @@ use Rattle.channel_world_runs.specs.declared.names.Agent.{Agent}
 use Rattle.channel_world_runs.specs.declared.names.OnReturn.{OnReturn}
 use Rattle.channel_world_runs.specs.declared.names.OnReturn.TheVariants as on_return
 use Rattle.channel_world_runs.specs.declared.names.HandleEntry.{HandleEntry}
-use Rattle.channel_world_runs.specs.declared.names.Operation.{Operation}
+use Rattle.channel_world_runs.specs.declared.names.OperationEntry.{OperationEntry}
 use Rattle.channel_world_runs.specs.declared.names.PollState.{PollState}
 use Rattle.channel_world_runs.specs.declared.names.PollState.TheVariants.{IsPolled}
 use Rattle.channel_world_runs.specs.declared.name_table.NameTable.{NameTable}
@@ -34,6 +34,7 @@ use Rattle.channel_world_model.specs.declared.plan.Plan.{Plan}
 use Rattle.channel_world_model.specs.declared.plan.Plan.TheVariants as plan
 use Rattle.channel_world_runs.specs.declared.step.PartyId.{PartyId}
 use Rattle.channel_world_runs.proofs.OwnerNames.{same_number, own_number, number_or, set_there, set_other, found, is_there, handle_none}
+use Rattle.channel_world_runs.proofs.RefusalLemmas.{handle_there}
 
 -- a handle is used by no more calls, and borrowed by no more operations, than these
 abbrev Few : ℕ → ℕ → HandleEntry → Type 0
@@ -205,11 +206,11 @@ module _ {T : Type 0} where
 
   -- ---- the beginning of a call
 
-  operation_length : (change : Operation T → Operation T) (op : OpId) (r : NameTable T)
+  operation_length : (change : OperationEntry T → OperationEntry T) (op : OpId) (r : NameTable T)
       → length (with_operation change op r).operations ≡ length r.operations
   operation_length change op r = by (at op.0 r.operations) where
-    by : (o : Option (Operation T))
-        → length (option_map_or (λ (x : Operation T). with_changed op.0 (change x) r.operations) o r.operations) ≡ length r.operations
+    by : (o : Option (OperationEntry T))
+        → length (option_map_or (λ (x : OperationEntry T). with_changed op.0 (change x) r.operations) o r.operations) ≡ length r.operations
     by None = refl
     by (Some x) = set_length op.0 r.operations (Some (change x))
 
@@ -228,9 +229,11 @@ module _ {T : Type 0} where
 
     -- a handle is made from one that lives, or that doesn't
     named : (handle new : HandleId) (kind : HandleKind → HandleKind)
-        → AreFew (λ name. n name + times_used name (let e : OnReturn T = new_from handle new kind (handle_at handle r) in e)) (length r.operations)
+        → AreFew (λ name. n name + times_used name (let e : OnReturn T = new_from handle new kind (at handle.0 (names_of r).handles) in e)) (length r.operations)
         (with_lent handle (handle_named new r)).handles
-    named handle new kind = by (at handle.0 r.handles) refl where
+    named handle new kind =
+        subst (λ (x : Option Handle). AreFew (λ name. n name + times_used name (let e : OnReturn T = new_from handle new kind x in e)) (length r.operations)
+        (with_lent handle (handle_named new r)).handles) (handle_there r handle.0) (by (at handle.0 r.handles) refl) where
       spent : AreFew n (length r.operations) (handle_named new r).handles
       spent = spent_few n (length r.operations) new.0 r.handles few
 
@@ -246,22 +249,22 @@ module _ {T : Type 0} where
     same : (l : ℕ) → l ≡ length r.operations → AreFew (λ name. n name + 0) l r.handles
     same l e = more_few n (λ name. n name + 0) (length r.operations) l r.handles (λ name. omega arith) (omega (arith, e)) few
 
-    lent_by_few : (o : Option (Operation T))
+    lent_by_few : (o : Option (OperationEntry T))
         → AreFew (λ name. n name + times_used name (let e : OnReturn T = leave_handle_of o in e)) (length (lent_by o r).operations) (lent_by o r).handles
     lent_by_few None = same (length r.operations) refl
-    lent_by_few (Some o) = once o.handle
+    lent_by_few (Some o) = once (borrowed_by o.operation)
 
     -- an operation is given up
-    handed_over_by_few : (op : OpId) (o : Option (Operation T))
+    handed_over_by_few : (op : OpId) (o : Option (OperationEntry T))
         → (let gone : NameTable T = record r { operations = without_name op.0 r.operations } in
         AreFew (λ name. n name + times_used name (let e : OnReturn T = leave_handle_of o in e)) (length (handed_over_by o gone).operations) (handed_over_by o gone).handles)
     handed_over_by_few op None = same (length (without_name op.0 r.operations)) (set_length op.0 r.operations None)
     handed_over_by_few op (Some o) =
         let gone : NameTable T = record r { operations = without_name op.0 r.operations } in
         let as_many = set_length op.0 r.operations None in
-        more_few (λ name. n name + one name o.handle) (λ name. n name + one name o.handle) (length r.operations)
-        (length (without_name op.0 r.operations)) (with_handed_over o.handle gone).handles (λ name. omega arith) (omega (arith, as_many))
-        (handed_over_few n (length r.operations) o.handle gone few)
+        more_few (λ name. n name + one name (borrowed_by o.operation)) (λ name. n name + one name (borrowed_by o.operation)) (length r.operations)
+        (length (without_name op.0 r.operations)) (with_handed_over (borrowed_by o.operation) gone).handles (λ name. omega arith) (omega (arith, as_many))
+        (handed_over_few n (length r.operations) (borrowed_by o.operation) gone few)
 
     pub begun_few : (m : Option T) (p : Plan)
         → AreFew (λ name. n name + times_used name (returns r m p)) (length (names_planned p r).operations) (names_planned p r).handles

@@ -16,6 +16,8 @@ use Rattle.channel_world_model.specs.declared.name.HandleId.{HandleId}
 use Rattle.channel_world_model.specs.declared.name.HandleKind.{HandleKind}
 use Rattle.channel_world_model.specs.declared.name.HandleKind.TheVariants as handle_kind
 use Rattle.channel_world_model.specs.declared.name.OpId.{OpId}
+use Rattle.channel_world_model.specs.declared.name.Operation.{Operation}
+use Rattle.channel_world_model.specs.declared.name.Operation.TheVariants as live
 use Rattle.channel_world_model.specs.declared.name.Waiter.{Waiter}
 use Rattle.channel_world_model.specs.declared.name.Waiter.TheVariants.{Op, Stream}
 use Rattle.channel_world_model.specs.declared.plan.Wanted.TheVariants.{Receiver}
@@ -25,9 +27,7 @@ use Rattle.channel_world_runs.specs.Owners.{NameStatus, free, retired, invalid, 
 use Rattle.channel_world_runs.specs.Refusal.{begin_refusal}
 use Rattle.channel_world_runs.specs.NameTable.{is_polled}
 use Rattle.channel_world_runs.specs.declared.names.HandleEntry.{HandleEntry}
-use Rattle.channel_world_runs.specs.declared.names.Operation.{Operation}
-use Rattle.channel_world_model.specs.declared.name.OperationKind.{OperationKind}
-use Rattle.channel_world_model.specs.declared.name.OperationKind.TheVariants as kind
+use Rattle.channel_world_runs.specs.declared.names.OperationEntry.{OperationEntry}
 use Rattle.channel_world_runs.specs.declared.names.PollState.{PollState}
 use Rattle.channel_world_runs.specs.declared.names.PollState.TheVariants.{Rests, Waits, IsPolled}
 use Rattle.channel_world_runs.specs.declared.name_table.NameTable.{NameTable}
@@ -94,26 +94,26 @@ stands_there None h w e = absurd (let no : free ≡ waits h w = e in cc)
 stands_there (Some None) h w e = absurd (let no : retired ≡ waits h w = e in cc)
 stands_there (Some (Some x)) h w e = let k = receives_and_rests x.handle.kind x.poll_state h w e in (x, refl, k.0, k.1)
 
-waits_and_rests : {T : Type 0} → (k : OperationKind) (m : Option T) (x : PollState) (h : ListenerRef) (w : Bool) → operation_status k m x ≡ waits h w
+waits_and_rests : {T : Type 0} → (y : Operation T) (x : PollState) (h : ListenerRef) (w : Bool) → operation_status y x ≡ waits h w
     → is_polled x ≡ false
-waits_and_rests kind.Send None (IsPolled z) h w e = absurd (let no : polled Sends ≡ waits h w = e in cc)
-waits_and_rests kind.Send (Some m) (IsPolled z) h w e = absurd (let no : polled Sends ≡ waits h w = e in cc)
-waits_and_rests kind.Receive m (IsPolled z) h w e = absurd (let no : polled Receives ≡ waits h w = e in cc)
-waits_and_rests kind.Closing m (IsPolled z) h w e = absurd (let no : polled Closings ≡ waits h w = e in cc)
-waits_and_rests k m x h w e = refl
+waits_and_rests (live.Send g None) (IsPolled z) h w e = absurd (let no : polled Sends ≡ waits h w = e in cc)
+waits_and_rests (live.Send g (Some m)) (IsPolled z) h w e = absurd (let no : polled Sends ≡ waits h w = e in cc)
+waits_and_rests (live.Receive g) (IsPolled z) h w e = absurd (let no : polled Receives ≡ waits h w = e in cc)
+waits_and_rests (live.Closing g) (IsPolled z) h w e = absurd (let no : polled Closings ≡ waits h w = e in cc)
+waits_and_rests y x h w e = refl
 
 module _ {T : Type 0} where
-  lives_there : (o : Option (Option (Operation T))) (h : ListenerRef) (w : Bool)
-      → status_by (λ (x : Operation T). operation_status x.kind x.message x.poll_state) o ≡ waits h w
-      → (x : Operation T) × (o ≡ Some (Some x)) × (is_polled x.poll_state ≡ false)
+  lives_there : (o : Option (Option (OperationEntry T))) (h : ListenerRef) (w : Bool)
+      → status_by (λ (x : OperationEntry T). operation_status x.operation x.poll_state) o ≡ waits h w
+      → (x : OperationEntry T) × (o ≡ Some (Some x)) × (is_polled x.poll_state ≡ false)
   lives_there None h w e = absurd (let no : free ≡ waits h w = e in cc)
   lives_there (Some None) h w e = absurd (let no : retired ≡ waits h w = e in cc)
-  lives_there (Some (Some x)) h w e = (x, refl, waits_and_rests x.kind x.message x.poll_state h w e)
+  lives_there (Some (Some x)) h w e = (x, refl, waits_and_rests x.operation x.poll_state h w e)
 
   operation_admitted : (r : NameTable T) (op : OpId) (h : ListenerRef) (w : Bool) → status r (Op op) ≡ waits h w → Admitted r (call.Poll op)
   operation_admitted r op h w e =
       let x = lives_there (lookup (nat_eq op.0) r.operations) h w e in
-      let there : at op.0 r.operations ≡ Some x.0 = ap (λ (o : Option (Option (Operation T))). option_map_or (λ (y : Option (Operation T)). y) o None) x.1 in
+      let there : at op.0 r.operations ≡ Some x.0 = ap (λ (o : Option (Option (OperationEntry T))). option_map_or (λ (y : Option (OperationEntry T)). y) o None) x.1 in
       record { finds = (x.0, there, x.2); new = refl }
 
   stream_admitted : (r : NameTable T) (receiver : HandleId) (h : ListenerRef) (w : Bool) → status r (Stream receiver) ≡ waits h w

@@ -1,33 +1,29 @@
 -- What a call asks as it begins, what it does to the names then, and what it writes back at its end.
-use Rattle.std.specs.Prelude.{◌≡◌, List, [], ◌∷◌, false, is_some, Option, None, Some}
+use Rattle.std.specs.Prelude.{◌≡◌, List, [], ◌∷◌, Bool, true, false, is_some, Option, None, Some}
 use Rattle.std.specs.Option.{option_map_or}
-use Rattle.channel_calls.specs.Asks.{lent}
 use Rattle.channel_calls.specs.declared.ask.ChannelAsk.{ChannelAsk}
 use Rattle.channel_calls.specs.declared.ask.ChannelAsk.TheVariants as ask
 use Rattle.channel_calls.specs.declared.reply.Reply.{Reply}
 use Rattle.channel_calls.specs.declared.reply.Reply.TheVariants as reply
 use Rattle.channel_calls.specs.declared.stage.Returned.{Returned}
-use Rattle.channel_world_model.specs.Asked.{asked, poll_asked, refusal_asked, giving_up_asked, drop_asked, clone_asked, upgrade_asked}
-use Rattle.channel_world_model.specs.Names.{at, with_spent, with_changed, without_name}
+use Rattle.channel_world_model.specs.Asked.{asked, clone_asked, upgrade_asked}
+use Rattle.channel_world_model.specs.Names.{at, borrowed_by, own_message, with_message, new_operation, with_spent, with_changed, without_name}
 use Rattle.channel_world_model.specs.declared.call.Call.{Call}
 use Rattle.channel_world_model.specs.declared.call.Call.TheVariants as call
 use Rattle.channel_world_model.specs.declared.name.Handle.{Handle}
 use Rattle.channel_world_model.specs.declared.name.HandleId.{HandleId}
 use Rattle.channel_world_model.specs.declared.name.HandleKind.{HandleKind}
-use Rattle.channel_world_model.specs.declared.name.HandleKind.TheVariants as handle_kind
-use Rattle.event_listener.specs.declared.key.Key.{Key}
 use Rattle.channel_world_model.specs.declared.name.OpId.{OpId}
+use Rattle.channel_world_model.specs.declared.name.Operation.{Operation}
 use Rattle.channel_world_model.specs.declared.name.Waiter.{Waiter}
 use Rattle.channel_world_model.specs.declared.name.Waiter.TheVariants as waiter
-use Rattle.channel_world_runs.specs.NameTable.{key_of, poll_state_with, told, is_done, unused, names_of, operation_at, handle_at, held_of, with_handle, with_lent, with_given_back, with_borrowed, with_handed_over, with_poll_state}
+use Rattle.channel_world_runs.specs.NameTable.{poll_state_with, told, is_done, unused, names_of, held_of, with_handle, with_lent, with_given_back, with_borrowed, with_handed_over, with_poll_state}
 use Rattle.channel_world_model.specs.Plan.{kin, plan_of}
 use Rattle.channel_world_runs.specs.declared.beginning.Begun.{Begun}
 use Rattle.channel_world_runs.specs.declared.names.OnReturn.{OnReturn}
 use Rattle.channel_world_runs.specs.declared.names.OnReturn.TheVariants.{Nothing, Leave, LeaveBoth, Make, Poll, PollNext, New}
 use Rattle.channel_world_runs.specs.declared.names.HandleEntry.{HandleEntry}
-use Rattle.channel_world_runs.specs.declared.names.Operation.{Operation}
-use Rattle.channel_world_model.specs.declared.name.OperationKind.{OperationKind}
-use Rattle.channel_world_model.specs.declared.name.OperationKind.TheVariants.{Send, Receive, Closing}
+use Rattle.channel_world_runs.specs.declared.names.OperationEntry.{OperationEntry}
 use Rattle.channel_world_runs.specs.declared.names.PollState.TheVariants.{Rests, IsPolled}
 use Rattle.channel_world_runs.specs.declared.name_table.NameTable.{NameTable}
 use Rattle.channel_world_model.specs.declared.plan.Kinship.{Kinship}
@@ -38,25 +34,19 @@ use Rattle.channel_world_model.specs.declared.plan.Plan.TheVariants as plan
 module _ {T : Type 0} where
   -- ---- the beginning
 
-  -- a call asks what it asks when it is alone; a send whose message is with a poll under way has not finished
+  -- what a call asks when it is alone; but a send whose message is with a poll under way has not finished
   abbrev pub asks : NameTable T → Call T → ChannelAsk T Waiter
-  asks r (call.Poll op) = poll_asked (held_of r) op (operation_at op r)
-  asks r (call.PollRefused op) = refusal_asked (held_of r) op (operation_at op r)
-  asks r (call.GiveUp op) = giving_up_asked (held_of r) op (operation_at op r)
   asks r (call.SendIsTerminated op) = ask.SendIsTerminated (option_map_or is_done (at op.0 r.operations) false)
-  asks r (call.Drop handle) = drop_asked (held_of r) handle (handle_at handle r)
-  asks r (call.TryClone handle new) = clone_asked (handle_at handle r)
-  asks r (call.Upgrade weak new) = upgrade_asked (handle_at weak r)
   asks r c = asked (held_of r) (names_of r) c
 
   -- an operation that was never polled
-  abbrev pub unpolled : OperationKind → HandleId → Option T → Operation T
-  unpolled kind handle message = record { kind = kind; handle = handle; message = message; poll_state = Rests }
+  abbrev pub unpolled : Operation T → OperationEntry T
+  unpolled operation = record { operation = operation; poll_state = Rests }
 
   -- the handle of an operation is used no more
-  abbrev pub leave_handle_of : Option (Operation T) → OnReturn T
+  abbrev pub leave_handle_of : Option (OperationEntry T) → OnReturn T
   leave_handle_of None = Nothing
-  leave_handle_of (Some o) = Leave o.handle
+  leave_handle_of (Some o) = Leave (borrowed_by o.operation)
 
   -- a handle is used no more; one of a kind that follows from its own lives, if it was made
   abbrev pub new_from : HandleId → HandleId → (HandleKind → HandleKind) → Option Handle → OnReturn T
@@ -72,13 +62,13 @@ module _ {T : Type 0} where
   abbrev pub returns : NameTable T → Option T → Plan → OnReturn T
   returns r m (plan.Through wanted handle) = Leave handle
   returns r m (plan.ThroughBoth a b) = LeaveBoth a b
-  returns r m (plan.Makes wanted handle op kind) = Make op (unpolled kind handle m)
+  returns r m (plan.Makes wanted handle op kind) = Make op (unpolled (new_operation kind handle m))
   returns r m (plan.Polls op) = Poll op
   returns r m (plan.GivesUp op) = leave_handle_of (at op.0 r.operations)
   returns r m (plan.Asks op) = leave_handle_of (at op.0 r.operations)
   returns r m (plan.Streams receiver) = PollNext receiver
   returns r m (plan.Drops handle) = Nothing
-  returns r m (plan.Mints wanted from new to) = new_from from new (kin to) (handle_at from r)
+  returns r m (plan.Mints wanted from new to) = new_from from new (kin to) (at from.0 (names_of r).handles)
 
   -- what a call has to write back
   abbrev pub on_return_of : NameTable T → Call T → OnReturn T
@@ -92,22 +82,22 @@ module _ {T : Type 0} where
   handle_named new r = record r { handles = with_spent new.0 r.handles }
 
   -- a poll has what the operation had
-  abbrev pub lent_to_poll : Operation T → Operation T
-  lent_to_poll o = record o { message = None; poll_state = IsPolled (is_some o.message) }
+  abbrev pub lent_to_poll : OperationEntry T → OperationEntry T
+  lent_to_poll o = record { operation = with_message None o.operation; poll_state = IsPolled (is_some (own_message o.operation)) }
 
   -- what lives under the operation's name is changed so, where something lives
-  abbrev pub with_operation : (Operation T → Operation T) → OpId → NameTable T → NameTable T
-  with_operation change op r = record r { operations = option_map_or (λ (o : Operation T). with_changed op.0 (change o) r.operations) (at op.0 r.operations) r.operations }
+  abbrev pub with_operation : (OperationEntry T → OperationEntry T) → OpId → NameTable T → NameTable T
+  with_operation change op r = record r { operations = option_map_or (λ (o : OperationEntry T). with_changed op.0 (change o) r.operations) (at op.0 r.operations) r.operations }
 
   -- a call uses the handle of this operation
-  abbrev pub lent_by : Option (Operation T) → NameTable T → NameTable T
+  abbrev pub lent_by : Option (OperationEntry T) → NameTable T → NameTable T
   lent_by None r = r
-  lent_by (Some o) r = with_lent o.handle r
+  lent_by (Some o) r = with_lent (borrowed_by o.operation) r
 
   -- the handle of this operation goes over to the call that gives it up
-  abbrev pub handed_over_by : Option (Operation T) → NameTable T → NameTable T
+  abbrev pub handed_over_by : Option (OperationEntry T) → NameTable T → NameTable T
   handed_over_by None r = r
-  handed_over_by (Some o) r = with_handed_over o.handle r
+  handed_over_by (Some o) r = with_handed_over (borrowed_by o.operation) r
 
   -- the names once a call of this plan has begun: what it makes has its name, and an operation borrows its handle, what it polls is
   -- lent to it, what it gives up or drops lives no more, and the handles that it goes through are in use
@@ -132,36 +122,16 @@ module _ {T : Type 0} where
   abbrev pub Starts : ChannelAsk T Waiter → OnReturn T → NameTable T → Begun T → NameTable T → Type 0
   Starts a on_return names begun new = (begun.ask ≡ a) × (begun.on_return ≡ on_return) × (new ≡ names)
 
-  -- what a poll of an operation asks
-  abbrev pub polled_ask : OperationKind → Option T → Option Key → OpId → ChannelAsk T Waiter
-  polled_ask Send (Some m) key op = ask.PollSend m (lent key) (waiter.Op op)
-  polled_ask Send None key op = ask.PollFinishedSend
-  polled_ask Receive m key op = ask.PollRecv (lent key) (waiter.Op op)
-  polled_ask Closing m key op = ask.PollClosed key (waiter.Op op)
-
-  -- the message of a send; any other operation has none
-  abbrev pub own_message : OperationKind → Option T → Option T
-  own_message Send m = m
-  own_message Receive m = None
-  own_message Closing m = None
-
-  -- what the drop of a handle asks
-  abbrev pub drop_ask_of : HandleKind → Option Key → ChannelAsk T Waiter
-  drop_ask_of handle_kind.Sender key = ask.DropSender
-  drop_ask_of handle_kind.Receiver key = ask.DropReceiver key
-  drop_ask_of handle_kind.WeakSender key = ask.DropWeak
-  drop_ask_of handle_kind.WeakReceiver key = ask.DropWeak
-
-  -- what the making of a handle from another asks
+  -- what the making of a handle from another asks; a weak one is not counted
   abbrev pub mint_asked : Kinship → Option Handle → ChannelAsk T Waiter
   mint_asked kinship.Own h = clone_asked h
   mint_asked kinship.Weak h = ask.Make
   mint_asked kinship.Strong h = upgrade_asked h
 
-  -- what a poll got of an operation that it found
-  abbrev pub IsLent : OpId → Option (Operation T) → NameTable T → Option (OperationKind × Option T × Option Key) → NameTable T → Type 0
-  IsLent op None old got new = (got ≡ None) × (new ≡ old)
-  IsLent op (Some o) old got new = (got ≡ Some (o.kind, o.message, key_of o.poll_state)) × (new ≡ with_operation lent_to_poll op old)
+  -- whether a poll was refused its waker
+  abbrev pub is_poll_refused : Call T → Bool
+  is_poll_refused (call.PollRefused op) = true
+  is_poll_refused c = false
 
   -- a call has begun
   pub record BeginsByName (old : NameTable T) (c : Call T) (begun : Begun T) (new : NameTable T) : Type 0 where
@@ -172,8 +142,8 @@ module _ {T : Type 0} where
   -- ---- the end
 
   -- an operation has what its poll left to it
-  abbrev pub restored : Returned T → Operation T → Operation T
-  restored kept o = record o { message = kept.message; poll_state = poll_state_with kept.key }
+  abbrev pub restored : Returned T → OperationEntry T → OperationEntry T
+  restored kept o = record { operation = with_message kept.message o.operation; poll_state = poll_state_with kept.key }
 
   -- a handle of this kind lives under the name, if the reply says that it was made
   abbrev pub installed : HandleId → HandleKind → Reply T → NameTable T → NameTable T
@@ -194,7 +164,7 @@ module _ {T : Type 0} where
 
   -- one that is pending is woken
   abbrev pub with_one_woken : Waiter → NameTable T → NameTable T
-  with_one_woken (waiter.Op op) r = with_operation (λ (o : Operation T). record o { poll_state = told o.poll_state }) op r
+  with_one_woken (waiter.Op op) r = with_operation (λ (o : OperationEntry T). record o { poll_state = told o.poll_state }) op r
   with_one_woken (waiter.Stream handle) r = with_handle (λ (h : HandleEntry). record h { poll_state = told h.poll_state }) handle r
 
   abbrev pub all_woken : List Waiter → NameTable T → NameTable T

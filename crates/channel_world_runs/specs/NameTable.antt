@@ -7,18 +7,15 @@ use Rattle.channel_calls.specs.declared.stage.WaitList.{WaitList}
 use Rattle.channel_calls.specs.declared.stage.WaitList.TheVariants.{Sends, Receives, Closings}
 use Rattle.channel_world_model.specs.Asked.{KeysHeld}
 use Rattle.channel_world_model.specs.Names.{Directory, Names, at, with_changed}
-use Rattle.channel_world_model.specs.Names as model
-use Rattle.channel_world_model.specs.declared.name.Handle.{Handle}
 use Rattle.channel_world_model.specs.declared.name.HandleId.{HandleId}
 use Rattle.channel_world_model.specs.declared.name.HandleKind.{HandleKind}
 use Rattle.channel_world_model.specs.declared.name.HandleKind.TheVariants as handle_kind
-use Rattle.channel_world_model.specs.declared.name.OpId.{OpId}
+use Rattle.channel_world_model.specs.declared.name.Operation.{Operation}
+use Rattle.channel_world_model.specs.declared.name.Operation.TheVariants as live
 use Rattle.channel_world_model.specs.declared.name.Waiter.TheVariants.{Op, Stream}
 use Rattle.channel_world_runs.specs.declared.names.Agent.{Agent}
 use Rattle.channel_world_runs.specs.declared.names.HandleEntry.{HandleEntry}
-use Rattle.channel_world_runs.specs.declared.names.Operation.{Operation}
-use Rattle.channel_world_model.specs.declared.name.OperationKind.{OperationKind}
-use Rattle.channel_world_model.specs.declared.name.OperationKind.TheVariants.{Send, Receive, Closing}
+use Rattle.channel_world_runs.specs.declared.names.OperationEntry.{OperationEntry}
 use Rattle.channel_world_runs.specs.declared.names.PollState.{PollState}
 use Rattle.channel_world_runs.specs.declared.names.PollState.TheVariants.{Rests, Waits, IsPolled}
 use Rattle.channel_world_runs.specs.declared.name_table.NameTable.{NameTable}
@@ -59,16 +56,12 @@ is_lent s = false
 
 module _ {T : Type 0} where
   -- a send is finished whose message is gone, and that no poll under way has
-  abbrev pub has_finished : OperationKind → Option T → PollState → Bool
-  has_finished Send None s = not (is_lent s)
-  has_finished kind m s = false
+  abbrev pub has_finished : Operation T → PollState → Bool
+  has_finished (live.Send handle None) s = not (is_lent s)
+  has_finished operation s = false
 
-  abbrev pub is_done : Operation T → Bool
-  is_done o = has_finished o.kind o.message o.poll_state
-
-  -- an operation as one call at a time sees it
-  abbrev pub operation_of : Operation T → model.ModelOperation T
-  operation_of o = elim o.kind [ Send ↦ model.send o.handle o.message | Receive ↦ model.recv o.handle | Closing ↦ model.closing o.handle ]
+  abbrev pub is_done : OperationEntry T → Bool
+  is_done o = has_finished o.operation o.poll_state
 
 -- ---- all names
 
@@ -98,24 +91,17 @@ module _ {T : Type 0} where
   abbrev pub first_name_table : NameTable T
   first_name_table = record { handles = first_handles; operations = [] }
 
-  -- what lives under a name, as one call at a time sees it
-  abbrev pub handle_at : HandleId → NameTable T → Option Handle
-  handle_at handle r = option_map (λ (h : HandleEntry). h.handle) (at handle.0 r.handles)
-
-  abbrev pub operation_at : OpId → NameTable T → Option (model.ModelOperation T)
-  operation_at op r = option_map operation_of (at op.0 r.operations)
-
   -- all that lives, as one call at a time sees it
   abbrev pub names_of : NameTable T → Names T
   names_of r = record {
     handles = map (λ e. (e.0, option_map (λ (h : HandleEntry). h.handle) e.1)) r.handles;
-    operations = map (λ e. (e.0, option_map operation_of e.1)) r.operations;
+    operations = map (λ e. (e.0, option_map (λ (o : OperationEntry T). o.operation) e.1)) r.operations;
   }
 
   -- the listener that each holds that is pending
   abbrev pub held_of : NameTable T → KeysHeld
   held_of r = λ w. elim w [
-    | Op op ↦ option_map_or (λ (o : Operation T). key_of o.poll_state) (at op.0 r.operations) None
+    | Op op ↦ option_map_or (λ (o : OperationEntry T). key_of o.poll_state) (at op.0 r.operations) None
     | Stream handle ↦ option_map_or (λ (h : HandleEntry). key_of h.poll_state) (at handle.0 r.handles) None
   ]
 

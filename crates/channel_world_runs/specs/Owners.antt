@@ -30,9 +30,9 @@ use Rattle.channel_world_runs.specs.declared.names.Agent.{Agent}
 use Rattle.channel_world_runs.specs.declared.names.OnReturn.{OnReturn}
 use Rattle.channel_world_runs.specs.declared.names.OnReturn.TheVariants as on_return
 use Rattle.channel_world_runs.specs.declared.names.HandleEntry.{HandleEntry}
-use Rattle.channel_world_runs.specs.declared.names.Operation.{Operation}
-use Rattle.channel_world_model.specs.declared.name.OperationKind.{OperationKind}
-use Rattle.channel_world_model.specs.declared.name.OperationKind.TheVariants as kind
+use Rattle.channel_world_runs.specs.declared.names.OperationEntry.{OperationEntry}
+use Rattle.channel_world_model.specs.declared.name.Operation.{Operation}
+use Rattle.channel_world_model.specs.declared.name.Operation.TheVariants as live
 use Rattle.channel_world_runs.specs.declared.names.PollState.{PollState}
 use Rattle.channel_world_runs.specs.declared.names.PollState.TheVariants.{Rests, Waits, IsPolled}
 use Rattle.channel_world_runs.specs.declared.name_table.NameTable.{NameTable}
@@ -101,13 +101,13 @@ module _ {T : Type 0} where
   send_status None (IsPolled brings) = polled Sends
   send_status (Some m) s = status_on Sends s
 
-  abbrev pub operation_status : OperationKind → Option T → PollState → NameStatus
-  operation_status kind.Send m s = send_status m s
-  operation_status kind.Receive m s = status_on Receives s
-  operation_status kind.Closing m s = status_on Closings s
+  abbrev pub operation_status : Operation T → PollState → NameStatus
+  operation_status (live.Send handle m) s = send_status m s
+  operation_status (live.Receive handle) s = status_on Receives s
+  operation_status (live.Closing handle) s = status_on Closings s
 
   abbrev pub status : NameTable T → Waiter → NameStatus
-  status r (Op op) = status_by (λ (o : Operation T). operation_status o.kind o.message o.poll_state) (lookup (nat_eq op.0) r.operations)
+  status r (Op op) = status_by (λ (o : OperationEntry T). operation_status o.operation o.poll_state) (lookup (nat_eq op.0) r.operations)
   status r (Stream handle) = status_by (λ (h : HandleEntry). stream_status h.handle.kind h.poll_state) (lookup (nat_eq handle.0) r.handles)
 
 -- ---- the calls under way

@@ -4,7 +4,7 @@ use Rattle.std.specs.List.{count_by}
 use Rattle.std.specs.Option.{option_map_or}
 use Rattle.channel_world_runs.specs.NameTable.{key_of}
 use Rattle.channel_world_runs.specs.declared.names.HandleEntry.{HandleEntry}
-use Rattle.channel_world_runs.specs.declared.names.Operation.{Operation}
+use Rattle.channel_world_runs.specs.declared.names.OperationEntry.{OperationEntry}
 use Rattle.channel_world_runs.specs.declared.names.PollState.{PollState}
 use Rattle.channel_world_runs.specs.declared.name_table.NameTable.{NameTable}
 
@@ -18,8 +18,8 @@ stream_stands test x = option_map_or (λ (h : HandleEntry). test h.poll_state) x
 
 module _ {T : Type 0} where
   -- whether an operation lives there that stands so
-  abbrev pub operation_stands : (PollState → Bool) → Option (Operation T) → Bool
-  operation_stands test x = option_map_or (λ (o : Operation T). test o.poll_state) x false
+  abbrev pub operation_stands : (PollState → Bool) → Option (OperationEntry T) → Bool
+  operation_stands test x = option_map_or (λ (o : OperationEntry T). test o.poll_state) x false
 
   -- how many operations and streams stand so, under all names that were ever taken
   abbrev pub how_many : (PollState → Bool) → NameTable T → ℕ

@@ -13,13 +13,11 @@ use Rattle.channel_calls.specs.declared.stage.Stage.TheVariants.{Trying, Working
 use Rattle.channel_calls.specs.declared.stage.Waiting.TheVariants as waiting
 use Rattle.channel_calls.specs.declared.stage.ListStep.{ListStep}
 use Rattle.channel_calls.specs.declared.stage.ListStep.TheVariants.{Insert, Register}
-use Rattle.channel_world_model.specs.Names.{at}
+use Rattle.channel_world_model.specs.Names.{at, own_message}
 use Rattle.channel_world_model.specs.declared.call.Call.{Call}
 use Rattle.channel_world_model.specs.declared.call.Call.TheVariants as call
 use Rattle.channel_steps.specs.Configuration.{ActiveCall}
-use Rattle.channel_world_runs.specs.declared.names.Operation.{Operation}
-use Rattle.channel_world_model.specs.declared.name.OperationKind.{OperationKind}
-use Rattle.channel_world_model.specs.declared.name.OperationKind.TheVariants.{Send, Receive, Closing}
+use Rattle.channel_world_runs.specs.declared.names.OperationEntry.{OperationEntry}
 use Rattle.channel_world_runs.specs.declared.name_table.NameTable.{NameTable}
 
 -- whether a queue of this capacity has one place alone: it counts no positions
@@ -58,16 +56,11 @@ module _ {T W : Type 0} where
 -- ---- by names
 
 module _ {T : Type 0} where
-  abbrev pub has_message : OperationKind → Option T → Bool
-  has_message Send m = is_some m
-  has_message Receive m = false
-  has_message Closing m = false
-
   -- whether a call may bring a message
   abbrev pub brings : NameTable T → Call T → Bool
   brings r (call.TrySend sender m) = true
   brings r (call.ForceSend sender m) = true
-  brings r (call.Poll op) = option_map_or (λ (o : Operation T). has_message o.kind o.message) (at op.0 r.operations) false
+  brings r (call.Poll op) = option_map_or (λ (o : OperationEntry T). is_some (own_message o.operation)) (at op.0 r.operations) false
   brings r c = false
 
   -- how many a call has brought in that may bring one, by its reply

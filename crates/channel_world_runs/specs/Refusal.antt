@@ -1,10 +1,14 @@
 -- Which steps are refused, and why. Room for memory is another matter: see `Run`.
 use Rattle.std.specs.Prelude.{nat_lt, List, Bool, false, Option, None, Some, if◌then◌else◌}
-use Rattle.std.specs.Option.{option_map_or}
+use Rattle.std.specs.Option.{option_map, option_map_or}
 use Rattle.channel_world_model.specs.Names.{at, is_taken}
 use Rattle.channel_world_model.specs.Plan.{plan_of}
 use Rattle.channel_world_model.specs.Refusal.{UnderWay, refusal_beside}
 use Rattle.channel_world_model.specs.declared.call.Call.{Call}
+use Rattle.channel_world_model.specs.declared.name.Handle.{Handle}
+use Rattle.channel_world_model.specs.declared.name.HandleId.{HandleId}
+use Rattle.channel_world_model.specs.declared.name.OpId.{OpId}
+use Rattle.channel_world_model.specs.declared.name.Operation.{Operation}
 use Rattle.channel_world_model.specs.declared.name.Waiter.TheVariants.{Op, Stream}
 use Rattle.channel_world_model.specs.declared.plan.Plan.{Plan}
 use Rattle.channel_world_model.specs.declared.plan.Plan.TheVariants as plan
@@ -13,7 +17,7 @@ use Rattle.channel_world_model.specs.declared.refusal.WorldRefusal.TheVariants.{
 use Rattle.channel_world_runs.specs.NameTable.{is_polled, names_of, is_at_work}
 use Rattle.channel_world_runs.specs.declared.names.Agent.{Agent}
 use Rattle.channel_world_runs.specs.declared.names.HandleEntry.{HandleEntry}
-use Rattle.channel_world_runs.specs.declared.names.Operation.{Operation}
+use Rattle.channel_world_runs.specs.declared.names.OperationEntry.{OperationEntry}
 use Rattle.channel_world_runs.specs.declared.name_table.NameTable.{NameTable}
 use Rattle.channel_world_runs.specs.declared.step.Step.{Step}
 use Rattle.channel_world_runs.specs.declared.step.Step.TheVariants as step
@@ -23,11 +27,23 @@ module _ {T : Type 0} where
   abbrev pub under_way_in : NameTable T → UnderWay
   under_way_in r = record {
     polled = λ w. elim w [
-      | Op op ↦ option_map_or (λ (o : Operation T). is_polled o.poll_state) (at op.0 r.operations) false
+      | Op op ↦ option_map_or (λ (o : OperationEntry T). is_polled o.poll_state) (at op.0 r.operations) false
       | Stream handle ↦ option_map_or (λ (h : HandleEntry). is_polled h.poll_state) (at handle.0 r.handles) false
     ];
     used = λ handle. option_map_or (λ (h : HandleEntry). nat_lt 0 h.users) (at handle.0 r.handles) false;
   }
+
+  -- ---- one look at each name
+
+  -- the handle under a name, as its entry has it
+  abbrev pub handle_at : HandleId → NameTable T → Option Handle
+  handle_at handle r = option_map (λ (h : HandleEntry). h.handle) (at handle.0 r.handles)
+
+  -- the operation
+  abbrev pub operation_at : OpId → NameTable T → Option (Operation T)
+  operation_at op r = option_map (λ (o : OperationEntry T). o.operation) (at op.0 r.operations)
+
+  -- ---- refusals
 
   -- why a call is not begun beside those under way
   abbrev pub begin_refusal : NameTable T → Call T → Option WorldRefusal

@@ -1,17 +1,17 @@
 //! What calls do to the names as they begin, what they ask of the channel, and what they will have to write back.
 
 ghost use Rattle.std.specs.Prelude.{◌≡◌, Some};
-ghost use Rattle.channel_world_model.specs.Asked.{clone_asked, upgrade_asked};
-ghost use Rattle.channel_world_runs.specs.Bookkeeping.{polled_ask, own_message, drop_ask_of, mint_asked, unpolled};
+ghost use Rattle.channel_world_model.specs.Asked.{poll_asked, refusal_asked, drop_asked, clone_asked, upgrade_asked, plain_asked};
+ghost use Rattle.channel_world_runs.specs.Bookkeeping.{is_poll_refused, mint_asked, new_message, unpolled};
 
 use crate::name_table::NameTable;
-use crate::names::{OnReturn, Operation, PollState};
+use crate::names::{OnReturn, OperationEntry, PollState};
 use channel_calls::ask::{ChannelAsk, lent};
 use channel_calls::several::Limit;
-use channel_calls::stage::{Side, WaitList};
+use channel_calls::stage::Side;
 use channel_world_model::call::Call;
-use channel_world_model::name::{Handle, HandleId, HandleKind, OpId, OperationKind, Waiter};
-use channel_world_model::plan::Kinship;
+use channel_world_model::name::{Handle, HandleId, HandleKind, OpId, Operation, Waiter};
+use channel_world_model::plan::{Kinship, Plan};
 use event_listener::key::Key;
 use std::alloc::Global;
 
@@ -54,55 +54,94 @@ fn mint_ask<T>(kinship: Kinship, handle: Handle) -> ChannelAsk<T, Waiter>
     }
 }
 
-/// What the drop of a handle of this kind asks.
-fn drop_ask<T>(kind: HandleKind, key: Option<Key>) -> ChannelAsk<T, Waiter>
-    ensures { result ≡ drop_ask_of kind key }
+/// What the drop of a handle asks.
+fn drop_ask<T>(handle: Handle, key: Option<Key>) -> ChannelAsk<T, Waiter>
+    ensures { result ≡ drop_asked key (Some handle) }
 {
-    match kind {
+    match handle.kind {
         HandleKind::Sender => ChannelAsk::DropSender,
         HandleKind::Receiver => ChannelAsk::DropReceiver(key),
         HandleKind::WeakSender | HandleKind::WeakReceiver => ChannelAsk::DropWeak,
     }
 }
 
-/// What a poll of an operation of this kind asks.
-fn poll_ask<T: Drop>(
-    kind: OperationKind,
-    message: Option<T>,
-    key: Option<Key>,
-    op: OpId,
-) -> ChannelAsk<T, Waiter>
-    ensures { result ≡ polled_ask kind message key op }
+/// What a poll of an operation asks.
+fn poll_ask<T>(operation: Operation<T>, key: Option<Key>, op: OpId) -> ChannelAsk<T, Waiter>
+    ensures { result ≡ poll_asked key op (Some operation) }
 {
-    match (kind, message) {
-        (OperationKind::Send, Some(message)) => {
-            ChannelAsk::PollSend(message, lent(key), Waiter::Op(op))
-        }
-        (OperationKind::Send, None) => ChannelAsk::PollFinishedSend,
-        (OperationKind::Receive, _) => ChannelAsk::PollRecv(lent(key), Waiter::Op(op)),
-        (OperationKind::Closing, _) => ChannelAsk::PollClosed(key, Waiter::Op(op)),
+    match operation {
+        Operation::Send {
+            handle: _,
+            message: Some(message),
+        } => ChannelAsk::PollSend(message, lent(key), Waiter::Op(op)),
+        Operation::Send {
+            handle: _,
+            message: None,
+        } => ChannelAsk::PollFinishedSend,
+        Operation::Receive { .. } => ChannelAsk::PollRecv(lent(key), Waiter::Op(op)),
+        Operation::Closing { .. } => ChannelAsk::PollClosed(key, Waiter::Op(op)),
     }
 }
 
-/// The message of a send; any other operation has none.
-fn own_message<T: Drop>(kind: OperationKind, message: Option<T>) -> Option<T>
-    ensures { result ≡ own_message kind message }
+/// What a poll of an operation asks that was refused its waker.
+fn refusal_ask<T>(operation: Operation<T>, key: Option<Key>) -> ChannelAsk<T, Waiter>
+    ensures { result ≡ refusal_asked key (Some operation) }
 {
-    match kind {
-        OperationKind::Send => message,
-        OperationKind::Receive | OperationKind::Closing => None,
+    ChannelAsk::RefusePoll(operation.waits_in(), operation.into_message(), key)
+}
+
+/// What a call asks that goes through one handle. A receive of several messages takes its room from `alloc`, at its first step.
+fn plain_ask<T: Drop>(call: Call<T>, alloc: Global) -> ChannelAsk<T, Waiter>
+    ensures { result ≡ plain_asked call }
+{
+    match call {
+        Call::StreamIsTerminated { .. } => ChannelAsk::IsTerminated,
+        Call::TrySend { sender: _, msg } => ChannelAsk::TrySend(msg),
+        Call::ForceSend { sender: _, msg } => ChannelAsk::ForceSend(msg),
+        Call::TryRecv { .. } => ChannelAsk::TryRecv,
+        Call::RecvMany { receiver: _, limit } => ChannelAsk::RecvMany(Limit::new(limit, alloc)),
+        Call::Close { .. } => ChannelAsk::Close,
+        Call::IsClosed { .. } => ChannelAsk::IsClosed,
+        Call::IsEmpty { .. } => ChannelAsk::IsEmpty,
+        Call::IsFull { .. } => ChannelAsk::IsFull,
+        Call::Len { .. } => ChannelAsk::Len,
+        Call::Capacity { .. } => ChannelAsk::Capacity,
+        Call::SenderCount { .. } => ChannelAsk::HandleCount(Side::Senders),
+        Call::ReceiverCount { .. } => ChannelAsk::HandleCount(Side::Receivers),
+        other => {
+            drop(other);
+            ChannelAsk::Make
+        }
     }
+}
+
+/// The message of a new send.
+fn new_message<T: Drop>(call: Call<T>) -> Option<T>
+    ensures { result ≡ new_message call }
+{
+    match call {
+        Call::NewSend { msg, .. } => Some(msg),
+        other => {
+            drop(other);
+            None
+        }
+    }
+}
+
+/// Whether a poll was refused its waker.
+fn is_poll_refused<T>(call: &Call<T>) -> bool
+    ensures { result ≡ is_poll_refused call.now }
+{
+    matches!(call, Call::PollRefused { .. })
 }
 
 /// An operation whose name was taken is being made.
-fn making<T: Drop>(op: OpId, handle: HandleId, kind: OperationKind, message: Option<T>) -> Begun<T>
+fn making<T>(op: OpId, operation: Operation<T>) -> Begun<T>
     ensures ask { result.ask ≡ ChannelAsk.Make }
-    ensures on_return { result.on_return ≡ OnReturn.Make op (unpolled kind handle message) }
+    ensures on_return { result.on_return ≡ OnReturn.Make op (unpolled operation) }
 {
-    let operation = Operation {
-        kind,
-        handle,
-        message,
+    let operation = OperationEntry {
+        operation,
         poll_state: PollState::Rests,
     };
     Begun {
@@ -112,16 +151,16 @@ fn making<T: Drop>(op: OpId, handle: HandleId, kind: OperationKind, message: Opt
 }
 
 impl<T: Drop> NameTable<T> {
-    ghost use Rattle.std.specs.Prelude.{◌≡◌, None, Some, List, false, is_some, IfOk, OnErr, IfErr, IfSome, IfNone};
+    ghost use Rattle.std.specs.Prelude.{◌≡◌, None, Some, List, false, IfOk, OnErr, IfErr, IfSome, IfNone};
     ghost use Rattle.std.specs.Bool.{OnTrue, OnFalse};
-    ghost use Rattle.std.specs.Option.{option_map};
     ghost use Rattle.channel_world_model.specs.Names.{at, is_taken};
+    ghost use Rattle.channel_world_model.specs.Plan.{kin};
     ghost use Rattle.channel_world_model.specs.declared.name.Waiter.{Waiter};
+    ghost use Rattle.channel_world_model.specs.declared.name.Waiter.TheVariants.{Op};
+    ghost use Rattle.channel_world_runs.specs.Bookkeeping.{BeginsByName, Starts, lent_to_poll, mint_asked, new_from, operation_named, handle_named, with_operation};
+    ghost use Rattle.channel_world_runs.specs.NameTable.{held_of, names_of, with_lent, with_borrowed};
     ghost use Rattle.channel_world_runs.specs.Order.{order_begun};
     ghost use Rattle.channel_world_runs.specs.Refusal.{takes_again};
-    ghost use Rattle.channel_world_runs.specs.NameTable.{handle_at, key_of, with_lent, with_borrowed};
-    ghost use Rattle.channel_world_model.specs.Plan.{kin};
-    ghost use Rattle.channel_world_runs.specs.Bookkeeping.{BeginsByName, Starts, IsLent, mint_asked, new_from, operation_named, handle_named};
 
     /// A call through a handle asks this.
     fn through(&mut self, handle: HandleId, ask: ChannelAsk<T, Waiter>) -> Begun<T>
@@ -153,32 +192,35 @@ impl<T: Drop> NameTable<T> {
         true
     }
 
-    /// A poll takes what the operation has; refused its waker or not.
-    fn lend_operation(&mut self, op: OpId) -> Option<(OperationKind, Option<T>, Option<Key>)>
-        ensures { IsLent op (at op.0 self.old.operations) self.old result self.new }
+    /// A poll takes the operation as it is, with its message and its listener; refused its waker or not.
+    fn lend_operation(&mut self, op: OpId) -> (Option<Operation<T>>, Option<Key>)
+        ensures operation { result.0 ≡ at op.0 (names_of self.old).operations }
+        ensures key { result.1 ≡ held_of self.old (Op op) }
+        ensures names { self.new ≡ with_operation lent_to_poll op self.old }
     {
-        let Some(operation) = self.operations.take(op.0) else {
-            return None;
+        let Some(entry) = self.operations.take(op.0) else {
+            return (None, None);
         };
-        let (kind, key) = (operation.kind, operation.poll_state.key());
-        let message = operation.message;
-        let lent = Operation {
-            kind,
-            handle: operation.handle,
-            message: None,
+        let OperationEntry {
+            operation,
+            poll_state,
+        } = entry;
+        let lent = OperationEntry {
+            operation: operation.without_message(),
             poll_state: PollState::IsPolled {
-                brings: message.is_some(),
+                brings: operation.has_message(),
             },
         };
         self.operations.set(op.0, lent);
-        Some((kind, message, key))
+        (Some(operation), poll_state.key())
     }
 
     pub(crate) fn poll(&mut self, op: OpId) -> Begun<T>
         ensures { BeginsByName self.old (Call.Poll op) result self.new }
     {
-        let ask = match self.lend_operation(op) {
-            Some((kind, message, key)) => poll_ask(kind, message, key, op),
+        let (operation, key) = self.lend_operation(op);
+        let ask = match operation {
+            Some(operation) => poll_ask(operation, key, op),
             None => ChannelAsk::Make,
         };
         Begun {
@@ -190,10 +232,9 @@ impl<T: Drop> NameTable<T> {
     fn poll_refused(&mut self, op: OpId) -> Begun<T>
         ensures { BeginsByName self.old (Call.PollRefused op) result self.new }
     {
-        let ask = match self.lend_operation(op) {
-            Some((kind, message, key)) => {
-                ChannelAsk::RefusePoll(kind.line(), own_message(kind, message), key)
-            }
+        let (operation, key) = self.lend_operation(op);
+        let ask = match operation {
+            Some(operation) => refusal_ask(operation, key),
             None => ChannelAsk::Make,
         };
         Begun {
@@ -205,17 +246,24 @@ impl<T: Drop> NameTable<T> {
     fn give_up(&mut self, op: OpId) -> Begun<T>
         ensures { BeginsByName self.old (Call.GiveUp op) result self.new }
     {
-        let Some(operation) = self.operations.take(op.0) else {
+        let Some(entry) = self.operations.take(op.0) else {
             return Begun {
                 ask: ChannelAsk::Make,
                 on_return: OnReturn::Nothing,
             };
         };
-        let (kind, handle) = (operation.kind, operation.handle);
-        let key = operation.poll_state.key();
+        let OperationEntry {
+            operation,
+            poll_state,
+        } = entry;
+        let handle = operation.handle();
         self.hand_over(handle);
         Begun {
-            ask: ChannelAsk::GiveUp(kind.line(), own_message(kind, operation.message), key),
+            ask: ChannelAsk::GiveUp(
+                operation.waits_in(),
+                operation.into_message(),
+                poll_state.key(),
+            ),
             on_return: OnReturn::Leave { handle },
         }
     }
@@ -224,14 +272,14 @@ impl<T: Drop> NameTable<T> {
     fn send_is_terminated(&mut self, op: OpId) -> Begun<T>
         ensures { BeginsByName self.old (Call.SendIsTerminated op) result self.new }
     {
-        let Some(operation) = self.operations.get(op.0) else {
+        let Some(entry) = self.operations.get(op.0) else {
             return Begun {
                 ask: ChannelAsk::SendIsTerminated(false),
                 on_return: OnReturn::Nothing,
             };
         };
-        let handle = operation.handle;
-        let is_finished = operation.is_finished();
+        let handle = entry.operation.handle();
+        let is_finished = entry.is_finished();
         self.through(handle, ChannelAsk::SendIsTerminated(is_finished))
     }
 
@@ -250,7 +298,7 @@ impl<T: Drop> NameTable<T> {
         ensures { BeginsByName self.old (Call.Drop handle) result self.new }
     {
         let ask = match self.handles.take(handle.0) {
-            Some(handle_entry) => drop_ask(handle_entry.handle.kind, handle_entry.poll_state.key()),
+            Some(handle_entry) => drop_ask(handle_entry.handle, handle_entry.poll_state.key()),
             None => ChannelAsk::Make,
         };
         Begun {
@@ -263,8 +311,8 @@ impl<T: Drop> NameTable<T> {
     fn mint(&mut self, from: HandleId, new: HandleId, kinship: Kinship) -> Option<Begun<T>>
         requires { is_taken new.0 self.old.handles ≡ false }
         ensures some { IfSome result
-            (λ b. Starts (mint_asked kinship (handle_at from self.old)) (new_from from new (kin kinship) (handle_at from self.old))
-            (with_lent from (handle_named new self.old)) b self.new) }
+            (λ b. let seen = at from.0 (names_of self.old).handles in
+            Starts (mint_asked kinship seen) (new_from from new (kin kinship) seen) (with_lent from (handle_named new self.old)) b self.new) }
         ensures none { IfNone result (self.new ≡ self.old) }
     {
         let seen = self.seen(from)?;
@@ -293,8 +341,8 @@ impl<T: Drop> NameTable<T> {
         }
     }
 
-    /// A call that is not refused begins; or it comes back where its new name found no room, with nothing changed. One that
-    /// comes back gives and takes no place. A receive of several messages takes its room from `alloc`, at its first step.
+    /// A call that is not refused begins, by its plan; or it comes back where its new name found no room, with nothing changed.
+    /// One that comes back gives and takes no place. A receive of several messages takes its room from `alloc`, at its first step.
     pub(crate) fn begin(&mut self, call: Call<T>, alloc: Global) -> Result<Begun<T>, Call<T>>
         requires { takes_again self.old call ≡ false }
         ensures ok { IfOk result (λ b. BeginsByName self.old call b self.new) }
@@ -302,67 +350,25 @@ impl<T: Drop> NameTable<T> {
         ensures back { IfErr result (λ c. c ≡ call) }
         ensures places { OnErr result ((ws : List Waiter) → order_begun call ws ≡ ws) }
     {
-        match call {
-            Call::NewSend { op, sender, msg } => {
-                if !self.name_operation(op, sender) {
-                    return Err(Call::NewSend { op, sender, msg });
+        match Plan::of(&call) {
+            Plan::Through(_, handle) => Ok(self.through(handle, plain_ask(call, alloc))),
+            Plan::ThroughBoth(a, b) => Ok(self.same_channel(a, b)),
+            Plan::Makes(_, handle, op, kind) => {
+                if !self.name_operation(op, handle) {
+                    return Err(call);
                 }
-                Ok(making(op, sender, OperationKind::Send, Some(msg)))
+                Ok(making(op, Operation::new(kind, handle, new_message(call))))
             }
-            Call::NewRecv { op, receiver } => {
-                if !self.name_operation(op, receiver) {
-                    return Err(Call::NewRecv { op, receiver });
-                }
-                Ok(making(op, receiver, OperationKind::Receive, None))
-            }
-            Call::NewClosed { op, sender } => {
-                if !self.name_operation(op, sender) {
-                    return Err(Call::NewClosed { op, sender });
-                }
-                Ok(making(op, sender, OperationKind::Closing, None))
-            }
-            Call::TryClone { handle, new } => match self.mint(handle, new, Kinship::Own) {
+            Plan::Polls(op) if is_poll_refused(&call) => Ok(self.poll_refused(op)),
+            Plan::Polls(op) => Ok(self.poll(op)),
+            Plan::GivesUp(op) => Ok(self.give_up(op)),
+            Plan::Asks(op) => Ok(self.send_is_terminated(op)),
+            Plan::Streams(receiver) => Ok(self.poll_next(receiver)),
+            Plan::Drops(handle) => Ok(self.drop_handle(handle)),
+            Plan::Mints(_, from, new, kinship) => match self.mint(from, new, kinship) {
                 Some(begun) => Ok(begun),
-                None => Err(Call::TryClone { handle, new }),
+                None => Err(call),
             },
-            Call::Downgrade { handle, new } => match self.mint(handle, new, Kinship::Weak) {
-                Some(begun) => Ok(begun),
-                None => Err(Call::Downgrade { handle, new }),
-            },
-            Call::Upgrade { weak, new } => match self.mint(weak, new, Kinship::Strong) {
-                Some(begun) => Ok(begun),
-                None => Err(Call::Upgrade { weak, new }),
-            },
-            Call::Poll { op } => Ok(self.poll(op)),
-            Call::PollRefused { op } => Ok(self.poll_refused(op)),
-            Call::GiveUp { op } => Ok(self.give_up(op)),
-            Call::SendIsTerminated { op } => Ok(self.send_is_terminated(op)),
-            Call::PollNext { receiver } => Ok(self.poll_next(receiver)),
-            Call::Drop { handle } => Ok(self.drop_handle(handle)),
-            Call::SameChannel { a, b } => Ok(self.same_channel(a, b)),
-            Call::TrySend { sender, msg } => Ok(self.through(sender, ChannelAsk::TrySend(msg))),
-            Call::ForceSend { sender, msg } => {
-                Ok(self.through(sender, ChannelAsk::ForceSend(msg)))
-            }
-            Call::TryRecv { receiver } => Ok(self.through(receiver, ChannelAsk::TryRecv)),
-            Call::RecvMany { receiver, limit } => {
-                Ok(self.through(receiver, ChannelAsk::RecvMany(Limit::new(limit, alloc))))
-            }
-            Call::StreamIsTerminated { receiver } => {
-                Ok(self.through(receiver, ChannelAsk::IsTerminated))
-            }
-            Call::Close { handle } => Ok(self.through(handle, ChannelAsk::Close)),
-            Call::IsClosed { handle } => Ok(self.through(handle, ChannelAsk::IsClosed)),
-            Call::IsEmpty { handle } => Ok(self.through(handle, ChannelAsk::IsEmpty)),
-            Call::IsFull { handle } => Ok(self.through(handle, ChannelAsk::IsFull)),
-            Call::Len { handle } => Ok(self.through(handle, ChannelAsk::Len)),
-            Call::Capacity { handle } => Ok(self.through(handle, ChannelAsk::Capacity)),
-            Call::SenderCount { handle } => {
-                Ok(self.through(handle, ChannelAsk::HandleCount(Side::Senders)))
-            }
-            Call::ReceiverCount { handle } => {
-                Ok(self.through(handle, ChannelAsk::HandleCount(Side::Receivers)))
-            }
         }
     }
 }

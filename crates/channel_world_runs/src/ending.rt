@@ -1,7 +1,7 @@
 //! What calls write back as they end, and whom they wake.
 
 use crate::name_table::NameTable;
-use crate::names::{Agent, HandleEntry, OnReturn, Operation, PollState};
+use crate::names::{Agent, HandleEntry, OnReturn, OperationEntry, PollState};
 use crate::order::Order;
 use channel_calls::reply::Reply;
 use channel_calls::stage::Returned;
@@ -10,17 +10,15 @@ use channel_world_model::name::{HandleId, HandleKind, OpId, Waiter};
 impl<T: Drop> NameTable<T> {
     ghost use Rattle.std.specs.Prelude.{◌≡◌, Option};
     ghost use Rattle.channel_world_runs.specs.Bookkeeping.{with_operation, restored, installed, written_back, with_one_woken, all_woken};
-    ghost use Rattle.channel_world_runs.specs.declared.names.Operation.{Operation};
 
     /// The operation gets back what its poll left to it.
     fn restore(&mut self, op: OpId, kept: Returned<T>)
         ensures { self.new ≡ with_operation (restored kept) op self.old }
     {
-        if let Some(operation) = self.operations.take(op.0) {
-            let restored = Operation {
-                message: kept.message,
+        if let Some(entry) = self.operations.take(op.0) {
+            let restored = OperationEntry {
+                operation: entry.operation.with_message(kept.message),
                 poll_state: PollState::with(kept.key),
-                ..operation
             };
             self.operations.set(op.0, restored);
         }
@@ -65,11 +63,11 @@ impl<T: Drop> NameTable<T> {
     {
         match name {
             Waiter::Op(op) => {
-                if let Some(operation) = self.operations.take(op.0) {
-                    let poll_state = operation.poll_state.told();
-                    let told = Operation {
+                if let Some(entry) = self.operations.take(op.0) {
+                    let poll_state = entry.poll_state.told();
+                    let told = OperationEntry {
                         poll_state,
-                        ..operation
+                        ..entry
                     };
                     self.operations.set(op.0, told);
                 }

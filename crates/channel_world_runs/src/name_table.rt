@@ -1,9 +1,9 @@
 //! The handles and the operations under their names.
 
-use crate::names::{HandleEntry, Operation, PollState};
+use crate::names::{HandleEntry, OperationEntry, PollState};
 use channel_calls::stage::WaitList;
 use channel_world_model::directory::Directory;
-use channel_world_model::name::{Handle, HandleId, HandleKind, OpId, OperationKind, Waiter};
+use channel_world_model::name::{Handle, HandleId, HandleKind, Waiter};
 use event_listener::key::Key;
 use std::alloc::{AllocError, Global};
 
@@ -13,7 +13,7 @@ pub struct NameTable<T> {
     /// The handles.
     pub handles: Directory<HandleEntry>,
     /// The operations.
-    pub operations: Directory<Operation<T>>,
+    pub operations: Directory<OperationEntry<T>>,
 }
 
 ghost use Rattle.std.specs.Prelude.{◌≡◌, IfOk};
@@ -84,12 +84,12 @@ impl<T> NameTable<T> {
     ghost use Rattle.std.specs.Prelude.{◌≡◌, None, false};
     ghost use Rattle.std.specs.Option.{option_map, option_map_or};
     ghost use Rattle.channel_world_model.specs.Names.{at};
-    ghost use Rattle.channel_world_runs.specs.NameTable.{key_of, handle_at, with_poll_state};
+    ghost use Rattle.channel_world_runs.specs.NameTable.{key_of, names_of, with_poll_state};
     ghost use Rattle.channel_world_runs.specs.declared.names.HandleEntry.{HandleEntry};
 
     /// What a handle is, and how many operations borrow it.
     pub(crate) fn seen(&self, handle: HandleId) -> Option<Handle>
-        ensures { result ≡ handle_at handle self.now }
+        ensures { result ≡ at handle.0 (names_of self.now).handles }
     {
         match self.handles.get(handle.0) {
             Some(handle_entry) => Some(handle_entry.handle),
@@ -135,7 +135,7 @@ ghost use Rattle.channel_world_runs.specs.NameTable.{is_woken};
 ghost use Rattle.channel_world_runs.specs.Pending.{stands_pending, operation_stands, stream_stands};
 
 /// Whether an operation is pending.
-fn is_pending<T>(operation: &Option<Operation<T>>) -> bool
+fn is_pending<T>(operation: &Option<OperationEntry<T>>) -> bool
     ensures { result ≡ operation_stands stands_pending operation.now }
 {
     match operation {
@@ -155,7 +155,7 @@ fn is_stream_pending(handle_entry: &Option<HandleEntry>) -> bool
 }
 
 /// Whether an operation is pending and was woken.
-fn is_woken<T>(operation: &Option<Operation<T>>) -> bool
+fn is_woken<T>(operation: &Option<OperationEntry<T>>) -> bool
     ensures { result ≡ operation_stands is_woken operation.now }
 {
     match operation {
@@ -203,71 +203,22 @@ impl<T> NameTable<T> {
     }
 }
 
-ghost use Rattle.channel_world_model.specs.Laws.{same_line};
-
-/// Whether these are one line.
-fn is_same(a: WaitList, b: WaitList) -> bool
-    ensures { result ≡ same_line a b }
-{
-    match (a, b) {
-        (WaitList::Sends, WaitList::Sends)
-        | (WaitList::Receives, WaitList::Receives)
-        | (WaitList::Streams, WaitList::Streams)
-        | (WaitList::Closings, WaitList::Closings) => true,
-        _ => false,
-    }
-}
-
 impl<T> NameTable<T> {
     ghost use Rattle.std.specs.Prelude.{◌≡◌};
-    ghost use Rattle.std.specs.Option.{option_map};
-    ghost use Rattle.channel_world_model.specs.Laws.{is_line, line_at, line_of_operation};
-    ghost use Rattle.channel_world_model.specs.Names.{at};
-    ghost use Rattle.channel_world_model.specs.declared.name.Waiter.TheVariants.{Op};
-    ghost use Rattle.channel_world_runs.specs.NameTable.{names_of, operation_of};
-
-    /// The line to which an operation belongs, as it is kept here.
-    fn kept_line(&self, op: OpId) -> Option<WaitList>
-        ensures { result ≡ line_of_operation (option_map operation_of (at op.0 self.now.operations)) }
-    {
-        match self.operations.get(op.0) {
-            Some(operation) => match operation.kind {
-                OperationKind::Send => match &operation.message {
-                    Some(_) => Some(WaitList::Sends),
-                    None => None,
-                },
-                OperationKind::Receive => Some(WaitList::Receives),
-                OperationKind::Closing => Some(WaitList::Closings),
-            },
-            None => None,
-        }
-    }
-
-    /// The line to which an operation belongs: a finished send to none.
-    fn operation_line(&self, op: OpId) -> Option<WaitList>
-        ensures { result ≡ line_at (names_of self.now) (Op op) }
-    {
-        self.kept_line(op)
-    }
-
-    /// The line to which what has this name belongs.
-    fn line(&self, name: Waiter) -> Option<WaitList>
-        ensures { result ≡ line_at (names_of self.now) name }
-    {
-        match name {
-            Waiter::Op(op) => self.operation_line(op),
-            Waiter::Stream(_) => Some(WaitList::Streams),
-        }
-    }
+    ghost use Rattle.channel_world_model.specs.Laws.{is_line, line_at};
+    ghost use Rattle.channel_world_runs.specs.NameTable.{names_of};
 
     /// Whether what has this name belongs to this line: a pending send, receive or wait for the closing to its own, and a stream to
     /// that of the streams. A finished send belongs to none, nor does a name under which nothing lives. Own to this project.
     pub fn is_on(&self, line: WaitList, name: Waiter) -> bool
         ensures { result ≡ is_line line (line_at (names_of self.now) name) }
     {
-        match self.line(name) {
-            Some(own) => is_same(line, own),
-            None => false,
+        match name {
+            Waiter::Op(op) => match self.operations.get(op.0) {
+                Some(entry) => entry.operation.is_on(line),
+                None => false,
+            },
+            Waiter::Stream(_) => matches!(line, WaitList::Streams),
         }
     }
 }

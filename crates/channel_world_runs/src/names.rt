@@ -1,6 +1,6 @@
 //! What lives under which name, and what a call under way has to write back.
 
-use channel_world_model::name::{Handle, HandleId, HandleKind, OpId, OperationKind};
+use channel_world_model::name::{Handle, HandleId, HandleKind, OpId, Operation};
 use event_listener::key::Key;
 
 /// How an operation, or a receiver as a stream, stands.
@@ -83,20 +83,16 @@ impl PollState {
     }
 }
 
-/// A live operation.
+/// A live operation, and how it stands.
 #[derive(Drop)]
-pub struct Operation<T> {
-    /// What it is.
-    pub kind: OperationKind,
-    /// The handle that it borrows.
-    pub handle: HandleId,
-    /// The message of an unfinished send that no poll has.
-    pub message: Option<T>,
+pub struct OperationEntry<T> {
+    /// What it is. The message of a send whose poll is under way is with the poll.
+    pub operation: Operation<T>,
     /// How it stands.
     pub poll_state: PollState,
 }
 
-impl<T> Operation<T> {
+impl<T> OperationEntry<T> {
     ghost use Rattle.std.specs.Prelude.{◌≡◌};
     ghost use Rattle.channel_world_runs.specs.NameTable.{is_done};
 
@@ -104,9 +100,21 @@ impl<T> Operation<T> {
     pub(crate) fn is_finished(&self) -> bool
         ensures { result ≡ is_done self.now }
     {
-        match (self.kind, &self.message, self.poll_state) {
-            (OperationKind::Send, None, PollState::IsPolled { brings }) => !brings,
-            (OperationKind::Send, None, _) => true,
+        match (&self.operation, self.poll_state) {
+            (
+                Operation::Send {
+                    handle: _,
+                    message: None,
+                },
+                PollState::IsPolled { brings },
+            ) => !brings,
+            (
+                Operation::Send {
+                    handle: _,
+                    message: None,
+                },
+                _,
+            ) => true,
             _ => false,
         }
     }
@@ -207,8 +215,8 @@ pub enum OnReturn<T> {
     Make {
         /// Its name.
         op: OpId,
-        /// What it is.
-        operation: Operation<T>,
+        /// What it is, and how it stands.
+        operation: OperationEntry<T>,
     },
     /// The operation gets its listener and its message back.
     Poll {

@@ -5,7 +5,7 @@ use crate::world_state::WorldState;
 use channel_calls::mark::Mark;
 use channel_calls::reply::Reply;
 use channel_world_model::call::Call;
-use channel_world_model::name::{OpId, OperationKind, Waiter};
+use channel_world_model::name::{OpId, Waiter};
 use concurrent_queue::cells::QueueForm;
 use futures::task::Poll;
 
@@ -65,10 +65,7 @@ impl<T> NameTable<T> {
         ensures { result ≡ brings self.now (Call.Poll op) }
     {
         match self.operations.get(op.0) {
-            Some(operation) => match operation.kind {
-                OperationKind::Send => operation.message.is_some(),
-                OperationKind::Receive | OperationKind::Closing => false,
-            },
+            Some(entry) => entry.operation.has_message(),
             None => false,
         }
     }

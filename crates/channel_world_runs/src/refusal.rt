@@ -3,7 +3,7 @@
 use crate::name_table::NameTable;
 use crate::names::HandleEntry;
 use channel_world_model::call::Call;
-use channel_world_model::name::{HandleId, HandleKind, OpId, OperationKind};
+use channel_world_model::name::{HandleId, HandleKind, OpId, Operation};
 use channel_world_model::plan::{Plan, Wanted};
 use channel_world_model::refusal::WorldRefusal;
 
@@ -38,8 +38,8 @@ impl<T> NameTable<T> {
     ghost use Rattle.std.specs.Option.{option_or};
     ghost use Rattle.channel_world_model.specs.Refusal.{unfit_handle, unlike_handles, borrowed_handle, unfit_operation, unfit_send, planned_refusal};
     ghost use Rattle.channel_world_model.specs.declared.name.Waiter.TheVariants.{Op, Stream};
-    ghost use Rattle.channel_world_runs.specs.NameTable.{handle_at, operation_at, names_of};
-    ghost use Rattle.channel_world_runs.specs.Refusal.{under_way_in, begin_refusal};
+    ghost use Rattle.channel_world_runs.specs.NameTable.{names_of};
+    ghost use Rattle.channel_world_runs.specs.Refusal.{under_way_in, handle_at, operation_at, begin_refusal};
 
     /// Why a call doesn't go through this handle that wants such a one.
     fn through_refusal(&self, wanted: Wanted, handle: HandleId) -> Option<WorldRefusal>
@@ -98,9 +98,11 @@ impl<T> NameTable<T> {
         ensures { result ≡ unfit_send (operation_at op self.now) }
     {
         match self.operations.get(op.0) {
-            Some(operation) => match operation.kind {
-                OperationKind::Send => None,
-                OperationKind::Receive | OperationKind::Closing => Some(WorldRefusal::WrongKind),
+            Some(entry) => match entry.operation {
+                Operation::Send { .. } => None,
+                Operation::Receive { .. } | Operation::Closing { .. } => {
+                    Some(WorldRefusal::WrongKind)
+                }
             },
             None => Some(WorldRefusal::UnknownName),
         }

@@ -1,5 +1,5 @@
 -- The calls, one by one.
-use Rattle.channel_world_runs.proofs.refinement.Words.{◌≡◌, ◌⊎◌, ◌&&◌, ◌==◌, ℕ, List, [], length, Bool, true, Option, None, Some, Err, refl, sym, ap, ◌∙◌, inl, inr, option_map, is_filled, is_refused, Channel, says, refused_reply, WaitList, Sends, Receives, Closings, Senders, Receivers, Outcome, Alone, MayLackRoom, ends, sends, force_sends, says_only, replying, after_leaving, is_finished, poll_refused_answer, made, dropped, clone_answer, downgrade_answer, upgrade_answer, drop_answer, weak_of, strong_of, AwakeIn, line_at, line_of_operation, ModelOperation, send, recv, closing, at, State, Call, Handle, HandleId, HandleKind, Sender, Receiver, WeakSender, WeakReceiver, OpId, Waiter, Op, Nothing, second_reason, untaken, poll_asked, refusal_asked, giving_up_asked, drop_asked, clone_asked, upgrade_asked, stream_of, KeysHeld, asked_in, Matches, CallsAreOver, refused_names, made_names, Refines, list_of}
+use Rattle.channel_world_runs.proofs.refinement.Words.{◌≡◌, ◌⊎◌, ◌&&◌, ◌==◌, ℕ, List, [], length, Bool, true, Option, None, Some, Err, refl, sym, ap, ◌∙◌, inl, inr, option_map, is_filled, is_refused, Channel, says, refused_reply, WaitList, Sends, Receives, Closings, Senders, Receivers, Outcome, Alone, MayLackRoom, ends, sends, force_sends, says_only, replying, after_leaving, is_finished, poll_refused_answer, made, dropped, clone_answer, downgrade_answer, upgrade_answer, drop_answer, weak_of, strong_of, AwakeIn, line_at, line_of_operation, Operation, at, State, Call, Handle, HandleId, HandleKind, Sender, Receiver, WeakSender, WeakReceiver, OpId, Waiter, Op, Nothing, second_reason, untaken, poll_asked, refusal_asked, giving_up_asked, drop_asked, clone_asked, upgrade_asked, stream_of, KeysHeld, asked_in, Matches, CallsAreOver, refused_names, made_names, Refines, list_of}
 use Rattle.channel_world_model.specs.Refusal.{refusal}
 use Rattle.event_listener.specs.declared.error.ListenError.TheVariants as listening
 use Rattle.channel_calls.specs.declared.error.Refused.TheVariants as unmade
@@ -16,6 +16,7 @@ use Rattle.channel_world_runs.proofs.refinement.Sending.{poll_send}
 use Rattle.channel_world_runs.proofs.refinement.Streams.{poll_next}
 use Rattle.channel_world_runs.proofs.refinement.Told.{same_names}
 use Rattle.channel_world_runs.proofs.refinement.Trying.{filled_is, only_answers, try_send, try_send_lacks, force_send, force_send_lacks, try_recv, recv_many, close}
+use Rattle.channel_world_model.specs.declared.name.Operation.TheVariants as live
 
 module _ {T : Type 0} (held : KeysHeld) (c : Channel T Waiter) (s : State T) (h : Refines held c s) (awake : AwakeIn s) (o : Outcome T Waiter) where
   -- ---- calls that do not wait
@@ -30,39 +31,39 @@ module _ {T : Type 0} (held : KeysHeld) (c : Channel T Waiter) (s : State T) (h 
 
   -- ---- operations
 
-  polled : (op : OpId) (x : Option (ModelOperation T)) → at op.0 s.names.operations ≡ x → refusal s (call.Poll op) ≡ None → Alone (poll_asked held op x) c o → Matches held s (call.Poll op) o
-  polled op (Some (send handle (Some m))) there ok does = poll_send held c s h awake op handle m there o does
-  polled op (Some (send handle None)) there ok does = poll_finished held c s h awake op handle o there does
-  polled op (Some (recv handle)) there ok does = poll_recv held c s h awake op handle there o does
-  polled op (Some (closing handle)) there ok does = poll_closing held c s h awake op handle there o does
+  polled : (op : OpId) (x : Option (Operation T)) → at op.0 s.names.operations ≡ x → refusal s (call.Poll op) ≡ None → Alone (poll_asked (held (Op op)) op x) c o → Matches held s (call.Poll op) o
+  polled op (Some (live.Send handle (Some m))) there ok does = poll_send held c s h awake op handle m there o does
+  polled op (Some (live.Send handle None)) there ok does = poll_finished held c s h awake op handle o there does
+  polled op (Some (live.Receive handle)) there ok does = poll_recv held c s h awake op handle there o does
+  polled op (Some (live.Closing handle)) there ok does = poll_closing held c s h awake op handle there o does
   polled op None there ok does = cc (rw there at ok)
 
   -- an operation that got no copy of its waker
-  refused_as : (op : OpId) (x : ModelOperation T) (line : WaitList) (msg : Option T) → at op.0 s.names.operations ≡ Some x → (line_at s.names (Op op) ≡ Some line) ⊎ (line_at s.names (Op op) ≡ None)
+  refused_as : (op : OpId) (x : Operation T) (line : WaitList) (msg : Option T) → at op.0 s.names.operations ≡ Some x → (line_at s.names (Op op) ≡ Some line) ⊎ (line_at s.names (Op op) ≡ None)
       → poll_refused_answer s op (Some x) ≡ after_leaving Nothing line (Op op) s (refused_reply (list_of line) listening.NoMemory) → s.names ≡ refused_names op (Some x) msg s.names
       → o ≡ ends [] (is_refused (list_of line) msg (held (Op op))) c → Matches held s (call.PollRefused op) o
   refused_as op x line msg there k answer_is names e =
       ends_so held c s h awake (call.PollRefused op) line (Op op) (refused_reply (list_of line) listening.NoMemory) msg o refl k
-      (inl (sym answer_is ∙ ap (λ (y : Option (ModelOperation T)). poll_refused_answer s op y) (sym there)))
-      (names ∙ ap (λ (y : Option (ModelOperation T)). refused_names op y msg s.names) (sym there)) e
+      (inl (sym answer_is ∙ ap (λ (y : Option (Operation T)). poll_refused_answer s op y) (sym there)))
+      (names ∙ ap (λ (y : Option (Operation T)). refused_names op y msg s.names) (sym there)) e
 
-  kind_is : (op : OpId) (x : ModelOperation T) → at op.0 s.names.operations ≡ Some x → line_at s.names (Op op) ≡ line_of_operation (Some x)
-  kind_is op x there = ap (λ (y : Option (ModelOperation T)). line_of_operation y) there
+  kind_is : (op : OpId) (x : Operation T) → at op.0 s.names.operations ≡ Some x → line_at s.names (Op op) ≡ line_of_operation (Some x)
+  kind_is op x there = ap (λ (y : Option (Operation T)). line_of_operation y) there
 
-  refused : (op : OpId) (x : Option (ModelOperation T)) → at op.0 s.names.operations ≡ x → refusal s (call.PollRefused op) ≡ None → Alone (refusal_asked held op x) c o → Matches held s (call.PollRefused op) o
-  refused op (Some (send handle (Some m))) there ok does =
-      refused_as op (send handle (Some m)) Sends (Some m) there (inl (kind_is op (send handle (Some m)) there)) refl (sym (same_names op (send handle (Some m)) s.names there)) does
-  refused op (Some (send handle None)) there ok does =
-      refused_as op (send handle None) Sends None there (inr (kind_is op (send handle None) there)) refl (sym (same_names op (send handle None) s.names there)) does
-  refused op (Some (recv handle)) there ok does = refused_as op (recv handle) Receives None there (inl (kind_is op (recv handle) there)) refl refl does
-  refused op (Some (closing handle)) there ok does = refused_as op (closing handle) Closings None there (inl (kind_is op (closing handle) there)) refl refl does
+  refused : (op : OpId) (x : Option (Operation T)) → at op.0 s.names.operations ≡ x → refusal s (call.PollRefused op) ≡ None → Alone (refusal_asked (held (Op op)) x) c o → Matches held s (call.PollRefused op) o
+  refused op (Some (live.Send handle (Some m))) there ok does =
+      refused_as op (live.Send handle (Some m)) Sends (Some m) there (inl (kind_is op (live.Send handle (Some m)) there)) refl (sym (same_names op (live.Send handle (Some m)) s.names there)) does
+  refused op (Some (live.Send handle None)) there ok does =
+      refused_as op (live.Send handle None) Sends None there (inr (kind_is op (live.Send handle None) there)) refl (sym (same_names op (live.Send handle None) s.names there)) does
+  refused op (Some (live.Receive handle)) there ok does = refused_as op (live.Receive handle) Receives None there (inl (kind_is op (live.Receive handle) there)) refl refl does
+  refused op (Some (live.Closing handle)) there ok does = refused_as op (live.Closing handle) Closings None there (inl (kind_is op (live.Closing handle) there)) refl refl does
   refused op None there ok does = cc (rw there at ok)
 
-  given_up : (op : OpId) (x : Option (ModelOperation T)) → at op.0 s.names.operations ≡ x → refusal s (call.GiveUp op) ≡ None → Alone (giving_up_asked held op x) c o → Matches held s (call.GiveUp op) o
-  given_up op (Some (send handle (Some m))) there ok does = give_up held c s h awake op (send handle (Some m)) Sends (Some m) o there (inl (kind_is op (send handle (Some m)) there)) refl does
-  given_up op (Some (send handle None)) there ok does = give_up held c s h awake op (send handle None) Sends None o there (inr (kind_is op (send handle None) there)) refl does
-  given_up op (Some (recv handle)) there ok does = give_up held c s h awake op (recv handle) Receives None o there (inl (kind_is op (recv handle) there)) refl does
-  given_up op (Some (closing handle)) there ok does = give_up held c s h awake op (closing handle) Closings None o there (inl (kind_is op (closing handle) there)) refl does
+  given_up : (op : OpId) (x : Option (Operation T)) → at op.0 s.names.operations ≡ x → refusal s (call.GiveUp op) ≡ None → Alone (giving_up_asked (held (Op op)) x) c o → Matches held s (call.GiveUp op) o
+  given_up op (Some (live.Send handle (Some m))) there ok does = give_up held c s h awake op (live.Send handle (Some m)) Sends (Some m) o there (inl (kind_is op (live.Send handle (Some m)) there)) refl does
+  given_up op (Some (live.Send handle None)) there ok does = give_up held c s h awake op (live.Send handle None) Sends None o there (inr (kind_is op (live.Send handle None) there)) refl does
+  given_up op (Some (live.Receive handle)) there ok does = give_up held c s h awake op (live.Receive handle) Receives None o there (inl (kind_is op (live.Receive handle) there)) refl does
+  given_up op (Some (live.Closing handle)) there ok does = give_up held c s h awake op (live.Closing handle) Closings None o there (inl (kind_is op (live.Closing handle) there)) refl does
   given_up op None there ok does = cc (rw there at ok)
 
   -- ---- handles
@@ -74,13 +75,13 @@ module _ {T : Type 0} (held : KeysHeld) (c : Channel T Waiter) (s : State T) (h 
         renames held c s h (call.Drop handle) (ap (λ (y : Option Handle). stream_of handle y) there ∙ nobody) (dropped s handle).names.handles reply.Unit o
         (inl (sym answer_is ∙ ap (λ (y : Option Handle). drop_answer s handle y) (sym there))) refl e
 
-    dropped_as : (kind : HandleKind) (borrowers : ℕ) → (let x : Handle = record { kind = kind; borrowers = borrowers } in (at handle.0 s.names.handles ≡ Some x) → Alone (drop_asked held handle (Some x)) c o → Matches held s (call.Drop handle) o)
+    dropped_as : (kind : HandleKind) (borrowers : ℕ) → (let x : Handle = record { kind = kind; borrowers = borrowers } in (at handle.0 s.names.handles ≡ Some x) → Alone (drop_asked (held (Stream handle)) (Some x)) c o → Matches held s (call.Drop handle) o)
     dropped_as Sender borrowers there does = drop_sender held c s h awake handle borrowers there o does
     dropped_as Receiver borrowers there does = drop_receiver held c s h awake handle borrowers there o does
     dropped_as WeakSender borrowers there does = dropped_weak WeakSender (record { kind = WeakSender; borrowers = borrowers }) there refl refl does
     dropped_as WeakReceiver borrowers there does = dropped_weak WeakReceiver (record { kind = WeakReceiver; borrowers = borrowers }) there refl refl does
 
-    dropped_by : (x : Option Handle) → at handle.0 s.names.handles ≡ x → refusal s (call.Drop handle) ≡ None → Alone (drop_asked held handle x) c o → Matches held s (call.Drop handle) o
+    dropped_by : (x : Option Handle) → at handle.0 s.names.handles ≡ x → refusal s (call.Drop handle) ≡ None → Alone (drop_asked (held (Stream handle)) x) c o → Matches held s (call.Drop handle) o
     dropped_by (Some x) there ok does = dropped_as x.kind x.borrowers there does
     dropped_by None there ok does = cc (rw there at ok)
 
@@ -138,11 +139,11 @@ module _ {T : Type 0} (held : KeysHeld) (c : Channel T Waiter) (s : State T) (h 
 
   every : (d : Call T) → refusal s d ≡ None → Alone (asked_in held s d) c o → Matches held s d o
   every (call.NewSend op sender msg) ok does =
-      new_operation held c s h awake op (call.NewSend op sender msg) (send sender (Some msg)) o refl (untaken op.0 s.names.operations (second_reason _ _ _ ok)) (inl refl) refl does
+      new_operation held c s h awake op (call.NewSend op sender msg) (live.Send sender (Some msg)) o refl (untaken op.0 s.names.operations (second_reason _ _ _ ok)) (inl refl) refl does
   every (call.NewRecv op receiver) ok does =
-      new_operation held c s h awake op (call.NewRecv op receiver) (recv receiver) o refl (untaken op.0 s.names.operations (second_reason _ _ _ ok)) (inl refl) refl does
+      new_operation held c s h awake op (call.NewRecv op receiver) (live.Receive receiver) o refl (untaken op.0 s.names.operations (second_reason _ _ _ ok)) (inl refl) refl does
   every (call.NewClosed op sender) ok does =
-      new_operation held c s h awake op (call.NewClosed op sender) (closing sender) o refl (untaken op.0 s.names.operations (second_reason _ _ _ ok)) (inl refl) refl does
+      new_operation held c s h awake op (call.NewClosed op sender) (live.Closing sender) o refl (untaken op.0 s.names.operations (second_reason _ _ _ ok)) (inl refl) refl does
   every (call.Poll op) ok does = polled op (at op.0 s.names.operations) refl ok does
   every (call.PollRefused op) ok does = refused op (at op.0 s.names.operations) refl ok does
   every (call.GiveUp op) ok does = given_up op (at op.0 s.names.operations) refl ok does

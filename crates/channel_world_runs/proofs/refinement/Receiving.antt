@@ -1,5 +1,5 @@
 -- Polls of a receive.
-use Rattle.channel_world_runs.proofs.refinement.Words.{with_held, Refines, ◌≡◌, List, [], ◌∷◌, ◌++◌, false, Option, None, Some, Ok, Err, refl, sym, ap, subst, ◌∙◌, inl, inr, append-nil, Queue, ListenError, Key, Channel, leaves, tells_one, held_on, refused_reply, over, Outcome, ends, of_room, over_queue, WaitsOrGoesOn, PollsFor, PollsReceive, Found, first, none_yet, none_ever, found, replying, recv_poll_answer, poll_answer, AwakeIn, line_at, line_of_operation, after_news, told_by, is_among, untold, gone, ModelOperation, recv, at, recv_not_polled, not_polled, State, with_waiting, HandleId, OpId, Waiter, Op, Room, Receives, placed_news, empty_news, decided, Matches, polled_names, KeysHeld}
+use Rattle.channel_world_runs.proofs.refinement.Words.{with_held, Refines, ◌≡◌, List, [], ◌∷◌, ◌++◌, false, Option, None, Some, Ok, Err, refl, sym, ap, subst, ◌∙◌, inl, inr, append-nil, Queue, ListenError, Key, Channel, leaves, tells_one, held_on, refused_reply, over, Outcome, ends, of_room, over_queue, WaitsOrGoesOn, PollsFor, PollsReceive, Found, first, none_yet, none_ever, found, replying, recv_poll_answer, poll_answer, AwakeIn, line_at, line_of_operation, after_news, told_by, is_among, untold, gone, Operation, at, recv_not_polled, not_polled, State, with_waiting, HandleId, OpId, Waiter, Op, Room, Receives, placed_news, empty_news, decided, Matches, polled_names, KeysHeld}
 use Rattle.event_listener.specs.declared.error.ListenError.TheVariants as listening
 use Rattle.futures.specs.declared.task.Poll.TheVariants as poll
 use Rattle.channel_calls.specs.declared.error.Refused.TheVariants as unmade
@@ -15,16 +15,17 @@ use Rattle.channel_world_runs.proofs.refinement.News.{room_lines, room_wakes, ke
 use Rattle.channel_world_runs.proofs.refinement.Operations.{lack_of, not_standing_is, poll_waited}
 use Rattle.channel_world_runs.proofs.refinement.Polling.{WaitsAs, where_true, where_false, wait_ends}
 use Rattle.channel_world_runs.proofs.refinement.Told.{told_left_as}
+use Rattle.channel_world_model.specs.declared.name.Operation.TheVariants as live
 
-module _ {T : Type 0} (held : KeysHeld) (c : Channel T Waiter) (s : State T) (h : Refines held c s) (awake : AwakeIn s) (op : OpId) (handle : HandleId) (there : at op.0 s.names.operations ≡ Some (recv handle)) where
+module _ {T : Type 0} (held : KeysHeld) (c : Channel T Waiter) (s : State T) (h : Refines held c s) (awake : AwakeIn s) (op : OpId) (handle : HandleId) (there : at op.0 s.names.operations ≡ Some (live.Receive handle)) where
   recv_kind : line_at s.names (Op op) ≡ Some Receives
-  recv_kind = ap (λ (o : Option (ModelOperation T)). line_of_operation o) there
+  recv_kind = ap (λ (o : Option (Operation T)). line_of_operation o) there
 
   by_found : (x : Found T) → found s.channel ≡ x → recv_poll_answer s op x ≡ poll_answer s op (at op.0 s.names.operations)
-  by_found x e = ap (λ (y : Found T). recv_poll_answer s op y) (sym e) ∙ ap (λ (o : Option (ModelOperation T)). poll_answer s op o) (sym there)
+  by_found x e = ap (λ (y : Found T). recv_poll_answer s op y) (sym e) ∙ ap (λ (o : Option (Operation T)). poll_answer s op o) (sym there)
 
   names_stay : (m : Option T) → s.names ≡ polled_names op (at op.0 s.names.operations) m s.names
-  names_stay m = ap (λ (o : Option (ModelOperation T)). polled_names op o m s.names) (sym there)
+  names_stay m = ap (λ (o : Option (Operation T)). polled_names op o m s.names) (sym there)
 
   -- ---- a message is there
 
@@ -61,7 +62,7 @@ module _ {T : Type 0} (held : KeysHeld) (c : Channel T Waiter) (s : State T) (h 
   recv_waits (Some key) o x = x
 
   lacks_recv : found s.channel ≡ none_yet → (error : ListenError) → is_among (Op op) (untold Receives s.waiting) ≡ false
-      → not_polled (lack_of error) s op (Some (recv handle)) ≡ Some (replying (with_waiting (gone (Op op) s.waiting) s) (refused_reply list.Receives error))
+      → not_polled (lack_of error) s op (Some (live.Receive handle)) ≡ Some (replying (with_waiting (gone (Op op) s.waiting) s) (refused_reply list.Receives error))
   lacks_recv none listening.NoMemory u = ap (λ (x : Found T). recv_not_polled (lack_of listening.NoMemory) s op x) none ∙ not_standing_is Receives (Op op) s (refused_reply list.Receives listening.NoMemory) u
   lacks_recv none listening.SerialsUsedUp u = ap (λ (x : Found T). recv_not_polled (lack_of listening.SerialsUsedUp) s op x) none ∙ not_standing_is Receives (Op op) s (refused_reply list.Receives listening.SerialsUsedUp) u
 
@@ -76,7 +77,7 @@ module _ {T : Type 0} (held : KeysHeld) (c : Channel T Waiter) (s : State T) (h 
         (inl (by_found none_ever none)) (names_stay None) (where_true c.queue.closed _ _ t x)
     | inr t ↦
         let none : found s.channel ≡ none_yet = rw (sym h.messages ∙ e, sym h.closed ∙ t) refl in
-        poll_waited held c s h awake op (recv handle) Receives (reply.RecvPoll poll.Pending) (λ e. refused_reply list.Receives e) None there
+        poll_waited held c s h awake op (live.Receive handle) Receives (reply.RecvPoll poll.Pending) (λ e. refused_reply list.Receives e) None there
         (ap (λ (y : Found T). recv_poll_answer s op y) none) (lacks_recv none) refl o
         (wait_ends Receives (reply.RecvPoll poll.Pending) (λ e. refused_reply list.Receives e) None (Op op) held c s h awake recv_kind (held (Op op)) o refl
         (recv_waits (held (Op op)) o (where_false c.queue.closed _ _ t x)))

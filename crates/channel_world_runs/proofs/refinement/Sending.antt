@@ -1,5 +1,5 @@
 -- Polls of a send.
-use Rattle.channel_world_runs.proofs.refinement.Words.{with_held, Refines, ◌≡◌, List, [], ◌∷◌, ◌++◌, false, Option, None, Some, Ok, Err, refl, sym, ap, subst, ◌∙◌, inl, inr, append-nil, Queue, is_filled, Key, ListenError, Channel, leaves, tells_one, tells_all, held_on, refused_reply, over, Outcome, ends, of_message, over_queue, WaitsOrGoesOn, PollsSend, MayLackRoom, replying, after_leaving, send_poll_answer, poll_answer, finished, space_of, memory, refused, not_polled, send_not_polled, line_at, line_of_operation, is_among, untold, after_news, told_by, gone, ModelOperation, send, at, Reply, AwakeIn, State, with_waiting, HandleId, OpId, Waiter, Op, Nothing, Message, Space, Open, Filled, Shut, Sends, decided, placed_news, empty_news, KeysHeld, Matches, polled_names}
+use Rattle.channel_world_runs.proofs.refinement.Words.{with_held, Refines, ◌≡◌, List, [], ◌∷◌, ◌++◌, false, Option, None, Some, Ok, Err, refl, sym, ap, subst, ◌∙◌, inl, inr, append-nil, Queue, is_filled, Key, ListenError, Channel, leaves, tells_one, tells_all, held_on, refused_reply, over, Outcome, ends, of_message, over_queue, WaitsOrGoesOn, PollsSend, MayLackRoom, replying, after_leaving, send_poll_answer, poll_answer, finished, space_of, memory, refused, not_polled, send_not_polled, line_at, line_of_operation, is_among, untold, after_news, told_by, gone, Operation, at, Reply, AwakeIn, State, with_waiting, HandleId, OpId, Waiter, Op, Nothing, Message, Space, Open, Filled, Shut, Sends, decided, placed_news, empty_news, KeysHeld, Matches, polled_names}
 use Rattle.event_listener.specs.declared.error.ListenError.TheVariants as listening
 use Rattle.futures.specs.declared.task.Poll.TheVariants as poll
 use Rattle.channel_calls.specs.declared.error.Refused.TheVariants as unmade
@@ -16,10 +16,11 @@ use Rattle.channel_world_runs.proofs.refinement.Ends.{leaves_now, ends_so}
 use Rattle.channel_world_runs.proofs.refinement.Operations.{lack_of, not_standing_is, poll_waited, changed_lines}
 use Rattle.channel_world_runs.proofs.refinement.Told.{told_left_as, same_names}
 use Rattle.channel_world_runs.proofs.refinement.Trying.{shut_space, filled_space, open_space, lacking_space}
+use Rattle.channel_world_model.specs.declared.name.Operation.TheVariants as live
 
-module _ {T : Type 0} (held : KeysHeld) (c : Channel T Waiter) (s : State T) (h : Refines held c s) (awake : AwakeIn s) (op : OpId) (handle : HandleId) (msg : T) (there : at op.0 s.names.operations ≡ Some (send handle (Some msg))) where
+module _ {T : Type 0} (held : KeysHeld) (c : Channel T Waiter) (s : State T) (h : Refines held c s) (awake : AwakeIn s) (op : OpId) (handle : HandleId) (msg : T) (there : at op.0 s.names.operations ≡ Some (live.Send handle (Some msg))) where
   send_is : line_at s.names (Op op) ≡ Some Sends
-  send_is = ap (λ (o : Option (ModelOperation T)). line_of_operation o) there
+  send_is = ap (λ (o : Option (Operation T)). line_of_operation o) there
 
   send_waits : (key : Option Key) (o : Outcome T Waiter) → WaitsOrGoesOn (waiting.Send msg) key (Op op) c o
       → WaitsAs Sends (reply.SendPoll poll.Pending) (λ e. refused_reply list.Sends e) (Some msg) (Op op) key c o
@@ -27,23 +28,23 @@ module _ {T : Type 0} (held : KeysHeld) (c : Channel T Waiter) (s : State T) (h 
   send_waits (Some key) o x = x
 
   by_space : (x : Space) → space_of s.channel ≡ x → send_poll_answer s op handle msg x ≡ poll_answer s op (at op.0 s.names.operations)
-  by_space x e = ap (λ (y : Space). send_poll_answer s op handle msg y) (sym e) ∙ ap (λ (o : Option (ModelOperation T)). poll_answer s op o) (sym there)
+  by_space x e = ap (λ (y : Space). send_poll_answer s op handle msg y) (sym e) ∙ ap (λ (o : Option (Operation T)). poll_answer s op o) (sym there)
 
   names_stay : s.names ≡ polled_names op (at op.0 s.names.operations) (Some msg) s.names
-  names_stay = sym (same_names op (send handle (Some msg)) s.names there) ∙ ap (λ (o : Option (ModelOperation T)). polled_names op o (Some msg) s.names) (sym there)
+  names_stay = sym (same_names op (live.Send handle (Some msg)) s.names there) ∙ ap (λ (o : Option (Operation T)). polled_names op o (Some msg) s.names) (sym there)
 
   -- ---- a full channel
 
   lacks_send : space_of s.channel ≡ Filled → (error : ListenError) → is_among (Op op) (untold Sends s.waiting) ≡ false
-      → not_polled (lack_of error) s op (Some (send handle (Some msg))) ≡ Some (replying (with_waiting (gone (Op op) s.waiting) s) (refused_reply list.Sends error))
+      → not_polled (lack_of error) s op (Some (live.Send handle (Some msg))) ≡ Some (replying (with_waiting (gone (Op op) s.waiting) s) (refused_reply list.Sends error))
   lacks_send full listening.NoMemory u = ap (λ (x : Space). send_not_polled (lack_of listening.NoMemory) s op x) full ∙ not_standing_is Sends (Op op) s (refused_reply list.Sends listening.NoMemory) u
   lacks_send full listening.SerialsUsedUp u = ap (λ (x : Space). send_not_polled (lack_of listening.SerialsUsedUp) s op x) full ∙ not_standing_is Sends (Op op) s (refused_reply list.Sends listening.SerialsUsedUp) u
 
   send_waited : space_of s.channel ≡ Filled → (o : Outcome T Waiter)
       → WaitEnds Sends (reply.SendPoll poll.Pending) (λ e. refused_reply list.Sends e) (Some msg) (Op op) held s o → Matches held s (call.Poll op) o
   send_waited full o x =
-      poll_waited held c s h awake op (send handle (Some msg)) Sends (reply.SendPoll poll.Pending) (λ e. refused_reply list.Sends e) (Some msg) there
-      (ap (λ (y : Space). send_poll_answer s op handle msg y) full) (lacks_send full) (sym (same_names op (send handle (Some msg)) s.names there)) o x
+      poll_waited held c s h awake op (live.Send handle (Some msg)) Sends (reply.SendPoll poll.Pending) (λ e. refused_reply list.Sends e) (Some msg) there
+      (ap (λ (y : Space). send_poll_answer s op handle msg y) full) (lacks_send full) (sym (same_names op (live.Send handle (Some msg)) s.names there)) o x
 
   -- ---- memory is refused to the message, by an open channel without a bound
 
@@ -52,7 +53,7 @@ module _ {T : Type 0} (held : KeysHeld) (c : Channel T Waiter) (s : State T) (h 
       let r : Reply T = reply.SendPoll (poll.Ready (Err (refused memory))) in
       let without : send_not_polled memory s op Open ≡ Some (after_leaving Nothing Sends (Op op) s r) = rw (sym h.capacity ∙ lack.1) refl in
       ends_so held c s h awake (call.Poll op) Sends (Op op) r (Some msg) o refl (inl send_is)
-      (inr (memory, ap (λ (x : Option (ModelOperation T)). not_polled memory s op x) there ∙ ap (λ (x : Space). send_not_polled memory s op x) (lacking_space held c s h lack.0 lack.1) ∙ without))
+      (inr (memory, ap (λ (x : Option (Operation T)). not_polled memory s op x) there ∙ ap (λ (x : Space). send_not_polled memory s op x) (lacking_space held c s h lack.0 lack.1) ∙ without))
       names_stay lack.2
 
   -- ---- the send is finished
@@ -61,7 +62,7 @@ module _ {T : Type 0} (held : KeysHeld) (c : Channel T Waiter) (s : State T) (h 
       → o ≡ ends [] (over (reply.SendPoll (poll.Ready (Err (unmade.Plain (record { 0 = msg }))))) None list.Sends (held (Op op))) c → Matches held s (call.Poll op) o
   send_shut o closed e =
       let g = leaves_now held c s h awake Sends (Op op) (inl send_is) in
-      let changed = changed_lines held c s h awake op (send handle (Some msg)) Sends (after_news Nothing s.waiting) (Some (send handle None)) (finished s op handle).names c _ _ s.channel.closed there refl g in
+      let changed = changed_lines held c s h awake op (live.Send handle (Some msg)) Sends (after_news Nothing s.waiting) (Some (live.Send handle None)) (finished s op handle).names c _ _ s.channel.closed there refl g in
       let woken = append-nil _ ∙ g.wakes in
       subst (λ (x : Outcome T Waiter). Matches held s (call.Poll op) x) (sym e)
       (record {
@@ -70,7 +71,7 @@ module _ {T : Type 0} (held : KeysHeld) (c : Channel T Waiter) (s : State T) (h 
         reply = refl;
         woken = woken;
         shows = shows_again h _ (with_held (Op op) None held) (send_poll_answer s op handle msg Shut).after refl g.queue g.senders g.receivers changed.0 changed.1;
-        names = ap (λ (y : Option (ModelOperation T)). polled_names op y None s.names) (sym there);
+        names = ap (λ (y : Option (Operation T)). polled_names op y None s.names) (sym there);
         told = told_left_as Nothing Sends (Op op) s.waiting _ woken;
       })
 
@@ -82,7 +83,7 @@ module _ {T : Type 0} (held : KeysHeld) (c : Channel T Waiter) (s : State T) (h 
       departed (line_at s.names) held s.channel.closed (streams_are s.names) Sends (Op op) (inl send_is) (after_news Message s.waiting)
       (placed_news (line_at s.names) Message s.waiting awake.placed) (keys_news (line_at s.names) held Message s.waiting h.keys)
       (λ f own. empty_news Message own s.waiting (awake.opened f own)) d (message_lines (line_at s.names) held s.channel.closed c.roster s.waiting awake.placed.lines h.lines) (held (Op op)) refl in
-      let changed = changed_lines held c s h awake op (send handle (Some msg)) Sends (after_news Message s.waiting) (Some (send handle None)) (finished s op handle).names d _ _ s.channel.closed there refl g in
+      let changed = changed_lines held c s h awake op (live.Send handle (Some msg)) Sends (after_news Message s.waiting) (Some (live.Send handle None)) (finished s op handle).names d _ _ s.channel.closed there refl g in
       let woken =
       message_wakes (line_at s.names) held s.channel.closed c.roster s.waiting ((leaves (held_on list.Sends (held (Op op))) d).woken ++ []) h.lines
       ∙ ap (λ (ws : List Waiter). told_by Message s.waiting ++ ws) (append-nil _ ∙ g.wakes) in
@@ -95,7 +96,7 @@ module _ {T : Type 0} (held : KeysHeld) (c : Channel T Waiter) (s : State T) (h 
         shows =
             shows_moved h _ (with_held (Op op) None held) (send_poll_answer s op handle msg Open).after refl (ap (λ (q : Queue T). q.items) g.queue ∙ ap (λ (items : List T). items ++ msg ∷ []) h.messages)
             (ap (λ (q : Queue T). q.closed) g.queue) (ap (λ (q : Queue T). q.capacity) g.queue) g.senders g.receivers changed.0 changed.1;
-        names = ap (λ (y : Option (ModelOperation T)). polled_names op y None s.names) (sym there);
+        names = ap (λ (y : Option (Operation T)). polled_names op y None s.names) (sym there);
         told = told_left_as Message Sends (Op op) s.waiting _ woken;
       })
 

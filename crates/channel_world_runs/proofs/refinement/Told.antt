@@ -1,5 +1,5 @@
 -- Those who are woken after a call, and the names whose operation is what it was.
-use Rattle.channel_world_runs.proofs.refinement.Words.{arith, ◌≡◌, ◌≤◌, ◌+◌, nat_eq, List, [], ◌++◌, Bool, true, false, not, Option, None, Some, refl, sym, ap, ◌∙◌, append-nil, append_assoc, inl, inr, lookup, option_map_or, filter-append, set_value_same, Kind, Placed, times, times_in, Waiting, same_waiter, is_among, without_waiter, untold, told_by, after_news, gone, passed_on, left_after, told_after, standing, Names, Directory, ModelOperation, at, with_operation_changed, OpId, Waiter, News, WaitList, Sends, decided, without_absent, none_left, among_counts, left_nowhere}
+use Rattle.channel_world_runs.proofs.refinement.Words.{arith, ◌≡◌, ◌≤◌, ◌+◌, nat_eq, List, [], ◌++◌, Bool, true, false, not, Option, None, Some, refl, sym, ap, ◌∙◌, append-nil, append_assoc, inl, inr, lookup, option_map_or, filter-append, set_value_same, Kind, Placed, times, times_in, Waiting, same_waiter, is_among, without_waiter, untold, told_by, after_news, gone, passed_on, left_after, told_after, standing, Names, Directory, Operation, at, with_operation_changed, OpId, Waiter, News, WaitList, Sends, decided, without_absent, none_left, among_counts, left_nowhere}
 use Rattle.channel_world_runs.proofs.refinement.Departing.{times_nowhere}
 
 -- ---- those who are woken
@@ -58,12 +58,12 @@ told_standing kind line w l placed = elim (decided (is_among w (untold line l)))
 -- ---- names
 
 module _ {T : Type 0} where
-  found_as : (o : Option (Option (ModelOperation T))) (x : ModelOperation T) → option_map_or (λ (y : Option (ModelOperation T)). y) o None ≡ Some x → o ≡ Some (Some x)
+  found_as : (o : Option (Option (Operation T))) (x : Operation T) → option_map_or (λ (y : Option (Operation T)). y) o None ≡ Some x → o ≡ Some (Some x)
   found_as None x e = cc e
-  found_as (Some y) x e = ap (λ (z : Option (ModelOperation T)). Some z) e
+  found_as (Some y) x e = ap (λ (z : Option (Operation T)). Some z) e
 
   -- an operation that is changed to what it was
-  pub same_names : (op : OpId) (x : ModelOperation T) (names : Names T) → at op.0 names.operations ≡ Some x → with_operation_changed op x names ≡ names
+  pub same_names : (op : OpId) (x : Operation T) (names : Names T) → at op.0 names.operations ≡ Some x → with_operation_changed op x names ≡ names
   same_names op x names there =
-      ap (λ (d : Directory (ModelOperation T)). let n : Names T = record { handles = names.handles; operations = d } in n)
+      ap (λ (d : Directory (Operation T)). let n : Names T = record { handles = names.handles; operations = d } in n)
       (set_value_same (nat_eq op.0) names.operations (Some x) (found_as (lookup (nat_eq op.0) names.operations) x there))

@@ -32,7 +32,7 @@ pub use Rattle.channel_world_model.specs.Awake.{AwakeIn, Kind, Placed, times_in,
 pub use Rattle.channel_calls.specs.Model.{ModelChannel, with_messages, is_full}
 pub use Rattle.channel_world_model.specs.Laws.{line_at, line_of_operation, same_line, is_line}
 pub use Rattle.channel_world_model.specs.Lines.{is_among, untold, gone, Waiting, is_stream, told_by, after_news, passed_on, same_waiter, without_waiter, with_untold, after_rooms, told_by_rooms, all_told, standing, left_after, told_after}
-pub use Rattle.channel_world_model.specs.Names.{ModelOperation, send, recv, closing, at, Names, Directory, with_handles, with_new_operation, with_operation_changed}
+pub use Rattle.channel_world_model.specs.Names.{at, Names, Directory, with_handles, with_new_operation, with_operation_changed}
 pub use Rattle.channel_world_model.specs.Refused.{not_polled, Answers, Lack, memory, serials, not_standing, recv_not_polled, refused, send_not_polled, next_not_polled, answer_without, not_held}
 pub use Rattle.channel_world_model.specs.State.{State, with_waiting, with_channel, with_names, start}
 pub use Rattle.channel_world_model.specs.declared.call.Call.{Call}
@@ -41,6 +41,7 @@ pub use Rattle.channel_world_model.specs.declared.name.HandleId.{HandleId}
 pub use Rattle.channel_world_model.specs.declared.name.HandleKind.{HandleKind}
 pub use Rattle.channel_world_model.specs.declared.name.HandleKind.TheVariants.{Sender, Receiver, WeakSender, WeakReceiver}
 pub use Rattle.channel_world_model.specs.declared.name.OpId.{OpId}
+pub use Rattle.channel_world_model.specs.declared.name.Operation.{Operation}
 pub use Rattle.channel_world_model.specs.declared.name.Waiter.{Waiter}
 pub use Rattle.channel_world_model.specs.declared.name.Waiter.TheVariants.{Op, Stream}
 pub use Rattle.channel_world_model.specs.declared.news.News.{News}

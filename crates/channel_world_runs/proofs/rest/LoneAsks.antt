@@ -1,15 +1,15 @@
 -- Where no poll is under way a call asks what it asks in the model, and is refused where and why it is refused there.
-use Rattle.channel_world_runs.proofs.rest.Words.{◌≡◌, Bool, true, false, Option, None, Some, ◌⊎◌, inl, inr, refl, sym, ap, ◌∙◌, option_map, option_map_or, WaitList, Sends, Receives, Streams, Closings, asked, poll_asked, refusal_asked, giving_up_asked, drop_asked, clone_asked, upgrade_asked, at, State, Call, Handle, HandleId, HandleKind, OpId, Waiter, Op, Stream, asks, invalid, polled, stream_status, operation_status, status, under_way_in, begin_refusal, is_polled, has_finished, is_done, operation_of, names_of, held_of, HandleEntry, Operation, OperationKind, PollState, Rests, Waits, IsPolled, NameTable, op_is, NonePolled}
+use Rattle.channel_world_runs.proofs.rest.Words.{◌≡◌, Bool, true, false, Option, None, Some, ◌⊎◌, inl, inr, refl, sym, ap, ◌∙◌, option_map, option_map_or, WaitList, Sends, Receives, Streams, Closings, asked, at, State, Call, HandleId, HandleKind, OpId, Waiter, Op, Stream, asks, invalid, polled, stream_status, operation_status, status, under_way_in, begin_refusal, is_polled, has_finished, is_done, names_of, held_of, HandleEntry, OperationEntry, PollState, Rests, Waits, IsPolled, NameTable, op_is, NonePolled, Operation}
 use Rattle.channel_calls.specs.declared.ask.ChannelAsk.{ChannelAsk}
-use Rattle.channel_world_model.specs.declared.name.OperationKind.TheVariants.{Send, Receive, Closing}
 use Rattle.channel_world_runs.proofs.OwnerCalls.{hold_is}
-use Rattle.channel_world_runs.proofs.RefusalLemmas.{operation_at, handle_there}
+use Rattle.channel_world_runs.proofs.RefusalLemmas.{operation_at}
 use Rattle.channel_calls.specs.declared.ask.ChannelAsk.TheVariants as ask
 use Rattle.channel_world_model.specs.Answer as model
 use Rattle.channel_world_model.specs.Names as names
 use Rattle.channel_world_model.specs.Refusal.{UnderWay, nobody_under_way, refusal_beside, refusal}
 use Rattle.channel_world_model.specs.declared.call.Call.TheVariants as call
 use Rattle.channel_world_model.specs.declared.name.HandleKind.TheVariants as handle_kind
+use Rattle.channel_world_model.specs.declared.name.Operation.TheVariants as live
 
 -- where no poll is under way and no handle is used, none is
 nobody : (u : UnderWay) → ((w : Waiter) → u.polled w ≡ false) → ((handle : HandleId) → u.used handle ≡ false) → u ≡ nobody_under_way
@@ -24,33 +24,28 @@ polled_stream handle_kind.Receiver (IsPolled b) e = inl (Streams, refl)
 polled_stream k s e = inr refl
 
 module _ {T : Type 0} where
-  polled_operation : (k : OperationKind) (m : Option T) (s : PollState) → is_polled s ≡ true
-      → (line : WaitList) × (operation_status k m s ≡ polled line)
-  polled_operation Send None (IsPolled b) e = (Sends, refl)
-  polled_operation Send (Some m) (IsPolled b) e = (Sends, refl)
-  polled_operation Receive m (IsPolled b) e = (Receives, refl)
-  polled_operation Closing m (IsPolled b) e = (Closings, refl)
-  polled_operation k m x e = absurd (let no : false ≡ true = e in cc)
+  polled_operation : (x : Operation T) (s : PollState) → is_polled s ≡ true → (line : WaitList) × (operation_status x s ≡ polled line)
+  polled_operation (live.Send h None) (IsPolled b) e = (Sends, refl)
+  polled_operation (live.Send h (Some m)) (IsPolled b) e = (Sends, refl)
+  polled_operation (live.Receive h) (IsPolled b) e = (Receives, refl)
+  polled_operation (live.Closing h) (IsPolled b) e = (Closings, refl)
+  polled_operation x s e = absurd (let no : false ≡ true = e in cc)
 
-  abbrev seen_as : OperationKind → HandleId → Option T → names.ModelOperation T
-  seen_as k handle m = elim k [ Send ↦ names.send handle m | Receive ↦ names.recv handle | Closing ↦ names.closing handle ]
-
-  finished_as : (k : OperationKind) (handle : HandleId) (m : Option T) (s : PollState) → is_polled s ≡ false
-      → has_finished k m s ≡ model.is_finished (Some (seen_as k handle m))
-  finished_as Send handle None Rests e = refl
-  finished_as Send handle None (Waits key w) e = refl
-  finished_as Send handle None (IsPolled b) e = absurd (let no : true ≡ false = e in cc)
-  finished_as Send handle (Some m) s e = refl
-  finished_as k handle m s e = refl
+  finished_as : (x : Operation T) (s : PollState) → is_polled s ≡ false → has_finished x s ≡ model.is_finished (Some x)
+  finished_as (live.Send h None) Rests e = refl
+  finished_as (live.Send h None) (Waits key w) e = refl
+  finished_as (live.Send h None) (IsPolled b) e = absurd (let no : true ≡ false = e in cc)
+  finished_as (live.Send h (Some m)) s e = refl
+  finished_as x s e = refl
 
   module _ (r : NameTable T) (none : NonePolled r) where
-    unpolled : (op : OpId) (o : Operation T) → at op.0 r.operations ≡ Some o → is_polled o.poll_state ≡ false
+    unpolled : (op : OpId) (o : OperationEntry T) → at op.0 r.operations ≡ Some o → is_polled o.poll_state ≡ false
     unpolled op o e = by (is_polled o.poll_state) refl
       where
         by : (b : Bool) → is_polled o.poll_state ≡ b → is_polled o.poll_state ≡ false
         by false f = f
         by true f =
-            let p = polled_operation o.kind o.message o.poll_state f in
+            let p = polled_operation o.operation o.poll_state f in
             absurd (none (Op op) p.0 (op_is r op o e ∙ p.1))
 
     -- ---- what is asked
@@ -59,23 +54,15 @@ module _ {T : Type 0} where
         → option_map_or is_done (at op.0 r.operations) false ≡ model.is_finished (at op.0 (names_of r).operations)
     finished_same op = by (at op.0 r.operations) refl ∙ sym (ap model.is_finished (operation_at r op.0))
       where
-        by : (x : Option (Operation T)) → at op.0 r.operations ≡ x
+        by : (x : Option (OperationEntry T)) → at op.0 r.operations ≡ x
             → option_map_or is_done (at op.0 r.operations) false ≡ model.is_finished
-            (option_map operation_of (at op.0 r.operations))
+            (option_map (λ (x : OperationEntry T). x.operation) (at op.0 r.operations))
         by None e = rw e refl
-        by (Some o) e = rw e (finished_as o.kind o.handle o.message o.poll_state (unpolled op o e))
+        by (Some o) e = rw e (finished_as o.operation o.poll_state (unpolled op o e))
 
     pub asks_same : (c : Call T) → asks r c ≡ asked (held_of r) (names_of r) c
-    asks_same (call.Poll op) = ap (λ (o : Option (names.ModelOperation T)). poll_asked (held_of r) op o) (sym (operation_at r op.0))
-    asks_same (call.PollRefused op) =
-        ap (λ (o : Option (names.ModelOperation T)). refusal_asked (held_of r) op o) (sym (operation_at r op.0))
-    asks_same (call.GiveUp op) =
-        ap (λ (o : Option (names.ModelOperation T)). giving_up_asked (held_of r) op o) (sym (operation_at r op.0))
     asks_same (call.SendIsTerminated op) =
         ap (λ (b : Bool). let x : ChannelAsk T Waiter = ask.SendIsTerminated b in x) (finished_same op)
-    asks_same (call.Drop handle) = ap (λ (h : Option Handle). drop_asked (held_of r) handle h) (handle_there r handle.0)
-    asks_same (call.TryClone handle new) = ap (λ (h : Option Handle). clone_asked h) (handle_there r handle.0)
-    asks_same (call.Upgrade weak new) = ap (λ (h : Option Handle). upgrade_asked h) (handle_there r weak.0)
     asks_same c = refl
 
     -- ---- what is refused
@@ -84,7 +71,7 @@ module _ {T : Type 0} where
       idle : (w : Waiter) → (under_way_in r).polled w ≡ false
       idle (Op op) = by (at op.0 r.operations) refl
         where
-          by : (x : Option (Operation T)) → at op.0 r.operations ≡ x → (under_way_in r).polled (Op op) ≡ false
+          by : (x : Option (OperationEntry T)) → at op.0 r.operations ≡ x → (under_way_in r).polled (Op op) ≡ false
           by None e = rw e refl
           by (Some o) e = rw e (unpolled op o e)
       idle (Stream handle) = by (at handle.0 r.handles) refl

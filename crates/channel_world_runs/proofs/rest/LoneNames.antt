@@ -1,14 +1,14 @@
 -- A call that was made alone leaves the names that the model leaves.
-use Rattle.channel_world_runs.proofs.rest.Words.{◌≡◌, ℕ, nat_eq, true, false, List, Option, None, Some, refl, sym, ap, ◌∙◌, nat_eq_equiv, option_map, Channel, Reply, Returned, Outcome, Alone, at_seen, nothing_to_end, weak_of, strong_of, poll_asked, Directory, Names, at, with_spent, with_new, with_changed, State, Call, Handle, HandleId, HandleKind, OpId, Waiter, polled_names, refused_names, given_up_names, made_names, kind_at, names_after, asks, unpolled, leave_handle_of, new_from, lent_by, handed_over_by, operation_named, handle_named, lent_to_poll, installed, written_back, with_operation, all_woken, names_of, operation_of, operation_at, handle_at, held_of, unused, with_lent, with_borrowed, with_handed_over, with_poll_state, with_given_back, poll_state_with, OnReturn, Operation, IsPolled, NameTable, names_alone}
+use Rattle.channel_world_runs.proofs.rest.Words.{◌≡◌, ℕ, nat_eq, true, false, List, Option, None, Some, refl, sym, ap, ◌∙◌, nat_eq_equiv, option_map, Channel, Reply, Returned, Outcome, Alone, at_seen, nothing_to_end, weak_of, strong_of, poll_asked, Directory, Names, at, with_spent, with_new, with_changed, State, Call, Handle, HandleId, HandleKind, OpId, Waiter, polled_names, refused_names, given_up_names, made_names, kind_at, names_after, asks, unpolled, leave_handle_of, new_from, lent_by, handed_over_by, operation_named, handle_named, lent_to_poll, installed, written_back, with_operation, all_woken, names_of, held_of, unused, with_lent, with_borrowed, with_handed_over, with_poll_state, with_given_back, poll_state_with, OnReturn, OperationEntry, IsPolled, NameTable, names_alone, Operation, borrowed_by, with_message, Op}
 use Rattle.channel_calls.specs.declared.reply.Reply.TheVariants as reply
 use Rattle.channel_world_model.specs.Names as model
 use Rattle.channel_world_model.specs.declared.call.Call.TheVariants as call
 use Rattle.channel_world_runs.specs.declared.names.OnReturn.TheVariants as on_return
-use Rattle.channel_world_model.specs.declared.name.OperationKind.TheVariants as kind
 use Rattle.channel_world_model.specs.Plan.{plan_of}
 use Rattle.channel_world_runs.proofs.RefusalLemmas.{handle_through}
 use Rattle.channel_world_runs.proofs.rest.LoneDirectory.{views_set, changed_some, changed_none, changed_twice, same_put_back}
-use Rattle.channel_world_runs.proofs.rest.LoneSeen.{handle_of, with_message, put_twice, borrowed_is, left_names, with_operations, seen_lent, seen_back, seen_poll_state, seen_borrowed, seen_handed_over, seen_to_poll, seen_restored, all_seen}
+use Rattle.channel_world_runs.proofs.rest.LoneSeen.{handle_of, operation_in, put_twice, left_names, with_operations, seen_lent, seen_back, seen_poll_state, seen_borrowed, seen_handed_over, seen_to_poll, seen_restored, all_seen}
+use Rattle.channel_world_model.specs.declared.name.Operation.TheVariants as live
 
 own : (n : ℕ) → nat_eq n n ≡ true
 own n = nat_eq_equiv.refl n
@@ -31,7 +31,7 @@ module _ {T : Type 0} where
 
   abbrev settled_names : OnReturn T → Reply T → Returned T → Names T → Names T
   settled_names (on_return.Make op operation) x kept n =
-      with_operations (with_changed op.0 (operation_of operation) n.operations) n
+      with_operations (with_changed op.0 operation.operation n.operations) n
   settled_names (on_return.Poll op) x kept n = left_names kept.message op n
   settled_names (on_return.New from new k) x kept n = installed_names new k x n
   settled_names y x kept n = n
@@ -49,8 +49,8 @@ module _ {T : Type 0} where
   seen_settled (on_return.Leave handle) x kept r = seen_back r handle
   seen_settled (on_return.LeaveBoth a b) x kept r = seen_back (with_given_back a r) b ∙ seen_back r a
   seen_settled (on_return.Make op operation) x kept r =
-      ap (λ (d : Directory (model.ModelOperation T)). with_operations d (names_of r))
-      (views_set operation_of op.0 r.operations (Some operation))
+      ap (λ (d : Directory (Operation T)). with_operations d (names_of r))
+      (views_set operation_in op.0 r.operations (Some operation))
   seen_settled (on_return.Poll op) x kept r = seen_restored r kept op
   seen_settled (on_return.PollNext receiver) x kept r =
       seen_back (with_poll_state (poll_state_with kept.key) receiver r) receiver ∙ seen_poll_state r (poll_state_with kept.key) receiver
@@ -67,14 +67,8 @@ module _ {T : Type 0} where
     abbrev handles : Directory Handle
     handles = (names_of r).handles
 
-    abbrev operations : Directory (model.ModelOperation T)
+    abbrev operations : Directory (Operation T)
     operations = (names_of r).operations
-
-    seen_at : (handle : HandleId) → at handle.0 handles ≡ handle_at handle r
-    seen_at handle = at_seen handle_of handle.0 r.handles
-
-    operation_seen : (op : OpId) → at op.0 operations ≡ operation_at op r
-    operation_seen op = at_seen operation_of op.0 r.operations
 
     -- a new handle is as one call at a time makes it, or doesn't
     installed_is : (new : HandleId) (k : HandleKind) (x : Reply T)
@@ -94,40 +88,40 @@ module _ {T : Type 0} where
     polls op x kept ws =
         ends_so (on_return.Poll op) x kept ws (with_operation lent_to_poll op r) (left_names None op (names_of r))
         (seen_to_poll r op)
-        ∙ ap (λ (d : Directory (model.ModelOperation T)). with_operations d (names_of r))
+        ∙ ap (λ (d : Directory (Operation T)). with_operations d (names_of r))
         (changed_twice (with_message None) (with_message kept.message) (with_message kept.message)
         (put_twice None kept.message) op.0 operations)
 
-    changed : (op : OpId) (left : Option T) (y : model.ModelOperation T) → at op.0 operations ≡ Some y
+    changed : (op : OpId) (left : Option T) (y : Operation T) → at op.0 operations ≡ Some y
         → left_names left op (names_of r) ≡ model.with_operation_changed op (with_message left y) (names_of r)
     changed op left y e =
-        ap (λ (d : Directory (model.ModelOperation T)). with_operations d (names_of r))
+        ap (λ (d : Directory (Operation T)). with_operations d (names_of r))
         (changed_some (with_message left) op.0 operations y e)
 
-    unchanged : (op : OpId) (left : Option T) (y : model.ModelOperation T) → at op.0 operations ≡ Some y → with_message left y ≡ y
+    unchanged : (op : OpId) (left : Option T) (y : Operation T) → at op.0 operations ≡ Some y → with_message left y ≡ y
         → left_names left op (names_of r) ≡ names_of r
     unchanged op left y e same =
-        changed op left y e ∙ ap (λ (d : Directory (model.ModelOperation T)). with_operations d (names_of r))
-        (ap (λ (z : model.ModelOperation T). with_changed op.0 z operations) same ∙ same_put_back op.0 operations y e)
+        changed op left y e ∙ ap (λ (d : Directory (Operation T)). with_operations d (names_of r))
+        (ap (λ (z : Operation T). with_changed op.0 z operations) same ∙ same_put_back op.0 operations y e)
 
     nothing : (op : OpId) (left : Option T) → at op.0 operations ≡ None → left_names left op (names_of r) ≡ names_of r
     nothing op left e =
-        ap (λ (d : Directory (model.ModelOperation T)). with_operations d (names_of r))
+        ap (λ (d : Directory (Operation T)). with_operations d (names_of r))
         (changed_none (with_message left) op.0 operations e)
 
     -- only an unfinished send is changed by it
-    polled_is : (op : OpId) (y : Option (model.ModelOperation T)) (channel : Channel T Waiter) (o : Outcome T Waiter)
-        → at op.0 operations ≡ y → Alone (poll_asked (held_of r) op y) channel o
+    polled_is : (op : OpId) (y : Option (Operation T)) (channel : Channel T Waiter) (o : Outcome T Waiter)
+        → at op.0 operations ≡ y → Alone (poll_asked (held_of r (Op op)) op y) channel o
         → left_names o.kept.message op (names_of r) ≡ polled_names op y o.kept.message (names_of r)
-    polled_is op (Some (model.send handle (Some m))) channel o e alone = changed op o.kept.message _ e
-    polled_is op (Some (model.send handle None)) channel o e alone =
-        unchanged op o.kept.message _ e (ap (λ (p : Outcome T Waiter). model.send handle p.kept.message) alone)
+    polled_is op (Some (live.Send handle (Some m))) channel o e alone = changed op o.kept.message _ e
+    polled_is op (Some (live.Send handle None)) channel o e alone =
+        unchanged op o.kept.message _ e (ap (λ (p : Outcome T Waiter). live.Send handle p.kept.message) alone)
     polled_is op None channel o e alone = nothing op o.kept.message e
     polled_is op x channel o e alone = unchanged op o.kept.message _ e refl
 
-    refused_is : (op : OpId) (y : Option (model.ModelOperation T)) (left : Option T) → at op.0 operations ≡ y
+    refused_is : (op : OpId) (y : Option (Operation T)) (left : Option T) → at op.0 operations ≡ y
         → left_names left op (names_of r) ≡ refused_names op y left (names_of r)
-    refused_is op (Some (model.send handle msg)) left e = changed op left _ e
+    refused_is op (Some (live.Send handle msg)) left e = changed op left _ e
     refused_is op None left e = nothing op left e
     refused_is op y left e = unchanged op left _ e refl
 
@@ -138,22 +132,20 @@ module _ {T : Type 0} where
 
     gone : (op : OpId) → names_of (without op) ≡ with_operations (model.without_name op.0 operations) (names_of r)
     gone op =
-        ap (λ (d : Directory (model.ModelOperation T)). with_operations d (names_of r)) (views_set operation_of op.0 r.operations None)
+        ap (λ (d : Directory (Operation T)). with_operations d (names_of r)) (views_set operation_in op.0 r.operations None)
 
-    gives_up : (op : OpId) (y : Option (Operation T)) (x : Reply T) (kept : Returned T) (ws : List Waiter) → at op.0 r.operations ≡ y
+    gives_up : (op : OpId) (y : Option (OperationEntry T)) (x : Reply T) (kept : Returned T) (ws : List Waiter) → at op.0 r.operations ≡ y
         → names_of (written_back (leave_handle_of y) x kept (all_woken ws (handed_over_by y (without op))))
-        ≡ given_up_names op (option_map operation_of y) (names_of r)
+        ≡ given_up_names op (option_map operation_in y) (names_of r)
     gives_up op None x kept ws e =
         ends_so on_return.Nothing x kept ws (without op) (names_of r)
-        (gone op ∙ ap (λ (d : Directory (model.ModelOperation T)). with_operations d (names_of r))
-        (nothing_to_end op.0 operations (at_seen operation_of op.0 r.operations ∙ ap (option_map operation_of) e)))
+        (gone op ∙ ap (λ (d : Directory (Operation T)). with_operations d (names_of r))
+        (nothing_to_end op.0 operations (at_seen operation_in op.0 r.operations ∙ ap (option_map operation_in) e)))
     gives_up op (Some y) x kept ws e =
-        ends_so (on_return.Leave y.handle) x kept ws (with_handed_over y.handle (without op)) _
-        (seen_handed_over (without op) y.handle
-        ∙ ap (λ (n : Names T). model.with_handles (model.used_once_less y.handle n.handles) n) (gone op))
-        ∙ ap (λ (h : HandleId). let n : Names T =
-        record { handles = model.used_once_less h handles; operations = model.without_name op.0 operations } in n)
-        (sym (borrowed_is y))
+        let handle = borrowed_by y.operation in
+        ends_so (on_return.Leave handle) x kept ws (with_handed_over handle (without op)) _
+        (seen_handed_over (without op) handle
+        ∙ ap (λ (n : Names T). model.with_handles (model.used_once_less handle n.handles) n) (gone op))
 
     drops : (handle : HandleId) (x : Reply T) (kept : Returned T) (ws : List Waiter)
         → names_of (written_back on_return.Nothing x kept (all_woken ws (record r { handles = model.without_name handle.0 r.handles })))
@@ -183,36 +175,33 @@ module _ {T : Type 0} where
         (seen_lent (with_poll_state (IsPolled false) receiver r) receiver ∙ seen_poll_state r (IsPolled false) receiver)
 
     -- a call through the handle of an operation
-    through_of : (o : Option (Operation T)) (x : Reply T) (kept : Returned T) (ws : List Waiter)
+    through_of : (o : Option (OperationEntry T)) (x : Reply T) (kept : Returned T) (ws : List Waiter)
         → names_of (written_back (leave_handle_of o) x kept (all_woken ws (lent_by o r))) ≡ names_of r
     through_of None x kept ws = ends_so on_return.Nothing x kept ws r (names_of r) refl
-    through_of (Some o) x kept ws = through o.handle x kept ws
+    through_of (Some o) x kept ws = through (borrowed_by o.operation) x kept ws
 
     -- ---- new operations
 
-    made : (op : OpId) (handle : HandleId) (operation : Operation T) (x : Reply T) (kept : Returned T) (ws : List Waiter)
-        → operation.handle ≡ handle
-        → names_of (written_back (on_return.Make op operation) x kept (all_woken ws (with_borrowed handle (operation_named op r))))
-        ≡ model.with_new_operation op (operation_of operation) (names_of r)
-    made op handle operation x kept ws same =
-        ends_so (on_return.Make op operation) x kept ws (with_borrowed handle (operation_named op r)) _
+    made : (op : OpId) (operation : Operation T) (x : Reply T) (kept : Returned T) (ws : List Waiter)
+        → names_of (written_back (on_return.Make op (unpolled operation)) x kept (all_woken ws (with_borrowed (borrowed_by operation) (operation_named op r))))
+        ≡ model.with_new_operation op operation (names_of r)
+    made op operation x kept ws =
+        let handle = borrowed_by operation in
+        ends_so (on_return.Make op (unpolled operation)) x kept ws (with_borrowed handle (operation_named op r)) _
         (seen_borrowed (operation_named op r) handle)
-        ∙ (ap (λ (d : Directory (model.ModelOperation T)). let n : Names T =
+        ∙ ap (λ (d : Directory (Operation T)). let n : Names T =
         record { handles = model.lent_once_more handle (handles r); operations = d } in n)
-        (set_first op.0 (operation_of operation) (operations r))
-        ∙ ap (λ (h : HandleId). let n : Names T =
-        record { handles = model.lent_once_more h (handles r); operations = with_new op.0 (operation_of operation) (operations r) } in n)
-        (sym (borrowed_is operation ∙ same)))
+        (set_first op.0 operation (operations r))
 
     -- ---- new handles
 
     newly : (from new : HandleId) (to : HandleKind → HandleKind) (o : Option Handle) (x : Reply T) (kept : Returned T)
-        (ws : List Waiter) → at from.0 (handles r) ≡ o
+        (ws : List Waiter)
         → names_of (written_back (new_from from new to o) x kept (all_woken ws (with_lent from (handle_named new r))))
         ≡ made_names new (option_map (λ (h : Handle). to h.kind) o) x (names_of r)
-    newly from new to None x kept ws e =
+    newly from new to None x kept ws =
         ends_so on_return.Nothing x kept ws (with_lent from (handle_named new r)) _ (seen_lent (handle_named new r) from)
-    newly from new to (Some h) x kept ws e =
+    newly from new to (Some h) x kept ws =
         ends_so (on_return.New from new (to h.kind)) x kept ws (with_lent from (handle_named new r)) _
         (seen_lent (handle_named new r) from)
         ∙ installed_is r new (to h.kind) x
@@ -222,40 +211,34 @@ module _ {T : Type 0} where
     follow : (f : Names T → Names T) (n : Names T) → n ≡ f (names_of r) → n ≡ f s.names
     follow f n h = h ∙ sym (ap f same)
 
-    begins : (op : OpId) (handle : HandleId) (operation : Operation T) → operation.handle ≡ handle
-        → names_of (written_back (on_return.Make op operation) o.reply o.kept (all_woken o.woken (with_borrowed handle (operation_named op r))))
-        ≡ model.with_new_operation op (operation_of operation) s.names
-    begins op handle operation is =
-        follow (λ n. model.with_new_operation op (operation_of operation) n) _ (made r op handle operation o.reply o.kept o.woken is)
+    begins : (op : OpId) (operation : Operation T)
+        → names_of (written_back (on_return.Make op (unpolled operation)) o.reply o.kept
+        (all_woken o.woken (with_borrowed (borrowed_by operation) (operation_named op r)))) ≡ model.with_new_operation op operation s.names
+    begins op operation = follow (λ n. model.with_new_operation op operation n) _ (made r op operation o.reply o.kept o.woken)
 
     renewed : (from new : HandleId) (to : HandleKind → HandleKind)
-        → names_of (written_back (new_from from new to (handle_at from r)) o.reply o.kept (all_woken o.woken (with_lent from (handle_named new r))))
+        → names_of (written_back (new_from from new to (at from.0 (handles r))) o.reply o.kept (all_woken o.woken (with_lent from (handle_named new r))))
         ≡ made_names new (option_map to (kind_at from (names_of r))) o.reply (names_of r)
     renewed from new to =
-        newly r from new to (handle_at from r) o.reply o.kept o.woken (seen_at r from)
-        ∙ ap (λ k. made_names new k o.reply (names_of r)) (sym (kinds to (handle_at from r))
-        ∙ ap (λ y. option_map to (option_map (λ (h : Handle). h.kind) y)) (sym (seen_at r from)))
+        newly r from new to (at from.0 (handles r)) o.reply o.kept o.woken
+        ∙ ap (λ k. made_names new k o.reply (names_of r)) (sym (kinds to (at from.0 (handles r))))
 
     -- a call made alone leaves just the names that the model leaves; one that goes through a handle leaves them as they were
     pub names_follow : (c : Call T) → Alone (asks r c) channel o
         → names_of (names_alone r c o.reply o.kept o.woken) ≡ names_after s c o
-    names_follow (call.NewSend op sender msg) alone = begins op sender (unpolled kind.Send sender (Some msg)) refl
-    names_follow (call.NewRecv op receiver) alone = begins op receiver (unpolled kind.Receive receiver None) refl
-    names_follow (call.NewClosed op sender) alone = begins op sender (unpolled kind.Closing sender None) refl
+    names_follow (call.NewSend op sender msg) alone = begins op (live.Send sender (Some msg))
+    names_follow (call.NewRecv op receiver) alone = begins op (live.Receive receiver)
+    names_follow (call.NewClosed op sender) alone = begins op (live.Closing sender)
     names_follow (call.Poll op) alone =
         follow (λ n. polled_names op (at op.0 n.operations) o.kept.message n) _
-        (polls r op o.reply o.kept o.woken
-        ∙ (polled_is r op (operation_at op r) channel o (operation_seen r op) alone
-        ∙ ap (λ y. polled_names op y o.kept.message (names_of r)) (sym (operation_seen r op))))
+        (polls r op o.reply o.kept o.woken ∙ polled_is r op (at op.0 (operations r)) channel o refl alone)
     names_follow (call.PollRefused op) alone =
         follow (λ n. refused_names op (at op.0 n.operations) o.kept.message n) _
-        (polls r op o.reply o.kept o.woken
-        ∙ (refused_is r op (operation_at op r) o.kept.message (operation_seen r op)
-        ∙ ap (λ y. refused_names op y o.kept.message (names_of r)) (sym (operation_seen r op))))
+        (polls r op o.reply o.kept o.woken ∙ refused_is r op (at op.0 (operations r)) o.kept.message refl)
     names_follow (call.GiveUp op) alone =
         follow (λ n. given_up_names op (at op.0 n.operations) n) _
         (gives_up r op (at op.0 r.operations) o.reply o.kept o.woken refl
-        ∙ ap (λ y. given_up_names op y (names_of r)) (sym (operation_seen r op)))
+        ∙ ap (λ y. given_up_names op y (names_of r)) (sym (at_seen operation_in op.0 r.operations)))
     names_follow (call.SendIsTerminated op) alone =
         follow (λ n. n) _ (through_of r (at op.0 r.operations) o.reply o.kept o.woken)
     names_follow (call.PollNext receiver) alone = follow (λ n. n) _ (streamed r receiver o.reply o.kept o.woken)
@@ -263,8 +246,7 @@ module _ {T : Type 0} where
         follow (λ n. model.with_handles (model.without_name handle.0 n.handles) n) _ (drops r handle o.reply o.kept o.woken)
     names_follow (call.TryClone handle new) alone =
         follow (λ n. made_names new (kind_at handle n) o.reply n) _
-        (newly r handle new (λ k. k) (handle_at handle r) o.reply o.kept o.woken (seen_at r handle)
-        ∙ ap (λ y. made_names new (option_map (λ (h : Handle). h.kind) y) o.reply (names_of r)) (sym (seen_at r handle)))
+        (newly r handle new (λ k. k) (at handle.0 (handles r)) o.reply o.kept o.woken)
     names_follow (call.Downgrade handle new) alone =
         follow (λ n. made_names new (option_map weak_of (kind_at handle n)) o.reply n) _ (renewed handle new weak_of)
     names_follow (call.Upgrade weak new) alone =

@@ -1,13 +1,13 @@
 -- How names stand as calls begin and end, in as much as it tells who is pending and who was woken.
-use Rattle.channel_world_runs.proofs.rest.Words.{◌≡◌, ℕ, nat_eq, Bool, false, Option, None, Some, is_some, refl, ap, ◌∙◌, lookup, set_value, option_map_or, Key, set_absent, same_waiter, Directory, at, HandleId, HandleKind, OpId, Waiter, Op, Stream, lent_to_poll, with_operation, was_woken, NameStatus, free, retired, stream_status, status_by, operation_status, status, with_handle, poll_state_with, HandleEntry, Operation, OperationKind, Rests, IsPolled, NameTable, op_status, handle_entry_status, set_there, set_other}
+use Rattle.channel_world_runs.proofs.rest.Words.{◌≡◌, ℕ, nat_eq, Bool, false, Option, None, Some, is_some, refl, ap, ◌∙◌, lookup, set_value, option_map_or, Key, set_absent, same_waiter, Directory, at, HandleId, HandleKind, OpId, Waiter, Op, Stream, lent_to_poll, with_operation, was_woken, NameStatus, free, retired, stream_status, status_by, operation_status, status, with_handle, poll_state_with, HandleEntry, OperationEntry, Rests, IsPolled, NameTable, op_status, handle_entry_status, set_there, set_other, Operation, with_message, own_message}
 use Rattle.channel_world_model.specs.declared.name.HandleKind.TheVariants as handle_kind
-use Rattle.channel_world_model.specs.declared.name.OperationKind.TheVariants as kind
+use Rattle.channel_world_model.specs.declared.name.Operation.TheVariants as live
 use Rattle.channel_world_runs.proofs.rest.LoneDirectory.{changed_at, changed_none, changed_some}
 use Rattle.channel_world_runs.proofs.rest.LoneWakes.{not_same, is_pending}
 
-polled_off : (T : Type 0) (k : OperationKind) (b : Bool) → is_pending (operation_status {T = T} k None (IsPolled b)) ≡ false
-polled_off T kind.Send b = refl
-polled_off T x b = refl
+polled_off : {T : Type 0} (x : Operation T) (b : Bool) → is_pending (operation_status (with_message None x) (IsPolled b)) ≡ false
+polled_off (live.Send h m) b = refl
+polled_off x b = refl
 
 -- a test that no name passes under which nothing lives
 pub record Sees (f : NameStatus → Bool) : Type 0 where
@@ -71,20 +71,20 @@ other_handle handle v other e =
     not_same (Stream v) (Stream handle) other (ap (λ (n : ℕ). let w : Waiter = Stream (record { 0 = n }) in w) e)
 
 module _ {T : Type 0} where
-  abbrev pub with_op_value : OpId → Option (Operation T) → NameTable T → NameTable T
+  abbrev pub with_op_value : OpId → Option (OperationEntry T) → NameTable T → NameTable T
   with_op_value op x r = record r { operations = set_value (nat_eq op.0) r.operations x }
 
   abbrev pub with_handle_value : HandleId → Option HandleEntry → NameTable T → NameTable T
   with_handle_value handle x r = record r { handles = set_value (nat_eq handle.0) r.handles x }
 
   module _ (r : NameTable T) where
-    pub op_other : (op : OpId) (change : Operation T → Operation T) (v : Waiter) → same_waiter (Op op) v ≡ false
+    pub op_other : (op : OpId) (change : OperationEntry T → OperationEntry T) (v : Waiter) → same_waiter (Op op) v ≡ false
         → status (with_operation change op r) v ≡ status r v
     op_other op change (Op v) other = changed_beside op_status change r.operations op.0 v.0 (other_op op v other)
     op_other op change (Stream v) other = refl
 
-    pub op_own : (op : OpId) (change : Operation T → Operation T) (f : NameStatus → Bool) → Sees f
-        → ((o : Operation T) → f (op_status (change o)) ≡ false) → f (status (with_operation change op r) (Op op)) ≡ false
+    pub op_own : (op : OpId) (change : OperationEntry T → OperationEntry T) (f : NameStatus → Bool) → Sees f
+        → ((o : OperationEntry T) → f (op_status (change o)) ≡ false) → f (status (with_operation change op r) (Op op)) ≡ false
     op_own op change f s off = changed_own op_status change r.operations op.0 f s off
 
     pub handle_other : (handle : HandleId) (change : HandleEntry → HandleEntry) (v : Waiter) → same_waiter (Stream handle) v ≡ false
@@ -97,12 +97,12 @@ module _ {T : Type 0} where
         → ((h : HandleEntry) → f (handle_entry_status (change h)) ≡ false) → f (status (with_handle change handle r) (Stream handle)) ≡ false
     handle_own handle change f s off = changed_own handle_entry_status change r.handles handle.0 f s off
 
-    pub op_value_other : (op : OpId) (x : Option (Operation T)) (v : Waiter) → same_waiter (Op op) v ≡ false
+    pub op_value_other : (op : OpId) (x : Option (OperationEntry T)) (v : Waiter) → same_waiter (Op op) v ≡ false
         → status (with_op_value op x r) v ≡ status r v
     op_value_other op x (Op v) other = set_beside op_status r.operations op.0 v.0 x (other_op op v other)
     op_value_other op x (Stream v) other = refl
 
-    pub op_value_own : (op : OpId) (x : Option (Operation T)) (f : NameStatus → Bool) → Sees f → f (status_by op_status (Some x)) ≡ false
+    pub op_value_own : (op : OpId) (x : Option (OperationEntry T)) (f : NameStatus → Bool) → Sees f → f (status_by op_status (Some x)) ≡ false
         → f (status (with_op_value op x r) (Op op)) ≡ false
     op_value_own op x f s off = set_own op_status r.operations op.0 x f s off
 
@@ -117,21 +117,23 @@ module _ {T : Type 0} where
 
   -- ---- what is polled is not pending, and what was polled was not woken since
 
-  pub lent_off : (o : Operation T) → is_pending (op_status (lent_to_poll o)) ≡ false
-  lent_off o = polled_off T o.kind (is_some o.message)
+  pub lent_off : (o : OperationEntry T) → is_pending (op_status (lent_to_poll o)) ≡ false
+  lent_off o = polled_off o.operation (is_some (own_message o.operation))
 
-  pub left_off : (k : OperationKind) (m : Option T) (key : Option Key)
-      → was_woken (operation_status k m (poll_state_with key)) ≡ false
-  left_off kind.Send None None = refl
-  left_off kind.Send (Some m) None = refl
-  left_off kind.Receive m None = refl
-  left_off kind.Closing m None = refl
-  left_off k m key = refl
+  pub left_off : (x : Operation T) (m : Option T) (key : Option Key)
+      → was_woken (operation_status (with_message m x) (poll_state_with key)) ≡ false
+  left_off (live.Send h n) None None = refl
+  left_off (live.Send h n) (Some m) None = refl
+  left_off (live.Send h n) None (Some key) = refl
+  left_off (live.Send h n) (Some m) (Some key) = refl
+  left_off (live.Receive h) m None = refl
+  left_off (live.Closing h) m None = refl
+  left_off x m key = refl
 
-  pub resting_off : (k : OperationKind) (m : Option T) → is_pending (operation_status k m Rests) ≡ false
-  resting_off kind.Send None = refl
-  resting_off kind.Send (Some m) = refl
-  resting_off k m = refl
+  pub resting_off : (x : Operation T) → is_pending (operation_status x Rests) ≡ false
+  resting_off (live.Send h None) = refl
+  resting_off (live.Send h (Some m)) = refl
+  resting_off x = refl
 
 pub stream_polled_off : (k : HandleKind) (b : Bool) → is_pending (stream_status k (IsPolled b)) ≡ false
 stream_polled_off handle_kind.Receiver b = refl

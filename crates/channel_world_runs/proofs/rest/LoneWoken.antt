@@ -1,10 +1,10 @@
 -- A call that was made alone leaves those who were woken in the order in which the model leaves them.
-use Rattle.channel_world_runs.proofs.rest.Words.{◌≡◌, ◌≤◌, nat_eq, List, ◌++◌, Bool, true, false, Option, None, Some, refl, sym, ap, subst, ◌∙◌, lookup, option_map, option_map_or, Reply, ListenerRef, Outcome, at_seen, left_among, weak_of, strong_of, stream_of, times, same_waiter, is_among, without_waiter, Names, at, is_taken, State, Call, Handle, HandleId, HandleKind, OpId, Waiter, Op, Stream, keeper, woken_after, on_return_of, names_begun, unpolled, leave_handle_of, new_from, lent_by, handed_over_by, operation_named, handle_named, lent_to_poll, restored, installed, with_operation, all_woken, placed, order_begun, all_moved_last, was_woken, woken_in, IsAmong, NameStatus, waits, no_stream_status, stream_status, status_by, status, names_of, handle_at, unused, with_lent, with_borrowed, with_poll_state, with_given_back, poll_state_with, HandleEntry, Operation, OperationKind, PollState, Rests, IsPolled, NameTable, Admitted, untaken, found, op_status, handle_entry_status, op_spent, handle_spent, lent_same, borrowed_same, handed_over_same, given_back_same, names_alone, order_alone, but_for}
+use Rattle.channel_world_runs.proofs.rest.Words.{◌≡◌, ◌≤◌, nat_eq, List, ◌++◌, Bool, true, false, Option, None, Some, refl, sym, ap, subst, ◌∙◌, lookup, option_map, option_map_or, Reply, ListenerRef, Outcome, at_seen, left_among, weak_of, strong_of, stream_of, times, same_waiter, is_among, without_waiter, Names, at, is_taken, State, Call, Handle, HandleId, HandleKind, OpId, Waiter, Op, Stream, keeper, woken_after, on_return_of, names_begun, unpolled, leave_handle_of, new_from, lent_by, handed_over_by, operation_named, handle_named, lent_to_poll, restored, installed, with_operation, all_woken, placed, order_begun, all_moved_last, was_woken, woken_in, IsAmong, NameStatus, waits, no_stream_status, stream_status, status_by, status, names_of, unused, with_lent, with_borrowed, with_poll_state, with_given_back, poll_state_with, HandleEntry, OperationEntry, PollState, Rests, IsPolled, NameTable, Admitted, untaken, found, op_status, handle_entry_status, op_spent, handle_spent, lent_same, borrowed_same, handed_over_same, given_back_same, names_alone, order_alone, but_for, Operation, borrowed_by}
 use Rattle.channel_calls.specs.declared.reply.Reply.TheVariants as reply
 use Rattle.channel_world_model.specs.declared.call.Call.TheVariants as call
 use Rattle.channel_world_model.specs.declared.name.HandleKind.TheVariants as handle_kind
 use Rattle.channel_world_runs.specs.declared.names.OnReturn.TheVariants as on_return
-use Rattle.channel_world_model.specs.declared.name.OperationKind.TheVariants as kind
+use Rattle.channel_world_model.specs.declared.name.Operation.TheVariants as live
 use Rattle.channel_world_model.specs.Plan.{plan_of}
 use Rattle.channel_world_runs.proofs.OwnerOrderNames.{is_there}
 use Rattle.channel_world_runs.proofs.RefusalLemmas.{handle_through}
@@ -50,20 +50,20 @@ module _ {T : Type 0} where
 
     -- ---- through the handle of an operation
 
-    lends_by : (o : Option (Operation T)) → Starts r (lent_by o r) order order None
+    lends_by : (o : Option (OperationEntry T)) → Starts r (lent_by o r) order order None
     lends_by None = alike_starts r r order (same_alike r r (λ v. refl))
-    lends_by (Some o) = lends o.handle
+    lends_by (Some o) = lends (borrowed_by o.operation)
 
-    leaves_by : (r' : NameTable T) (o : Option (Operation T)) → EndsSo r' (leave_handle_of o) None
+    leaves_by : (r' : NameTable T) (o : Option (OperationEntry T)) → EndsSo r' (leave_handle_of o) None
     leaves_by r' None x kept new ws p = refl
-    leaves_by r' (Some o) x kept new ws p = left_woken new o.handle ws
+    leaves_by r' (Some o) x kept new ws p = left_woken new (borrowed_by o.operation) ws
 
     -- ---- new names
 
-    makes : (op : OpId) (handle : HandleId) (k : OperationKind) (m : Option T) → is_taken op.0 r.operations ≡ false
+    makes : (op : OpId) (handle : HandleId) (y : Operation T) → is_taken op.0 r.operations ≡ false
         → Starts r (with_borrowed handle (operation_named op r)) order order None
-        × EndsSo (with_borrowed handle (operation_named op r)) (on_return.Make op (unpolled k handle m)) None
-    makes op handle k m untook = (alike_starts r new order (off_alike r new (Op op) same was is), ends)
+        × EndsSo (with_borrowed handle (operation_named op r)) (on_return.Make op (unpolled y)) None
+    makes op handle y untook = (alike_starts r new order (off_alike r new (Op op) same was is), ends)
       where
         new : NameTable T
         new = with_borrowed handle (operation_named op r)
@@ -78,12 +78,12 @@ module _ {T : Type 0} where
         is : is_pending (status (with_borrowed handle (operation_named op r)) (Op op)) ≡ false
         is = ap is_pending (borrowed_same (operation_named op r) handle (Op op) ∙ (op_spent r op).there)
 
-        ends : EndsSo (with_borrowed handle (operation_named op r)) (on_return.Make op (unpolled k handle m)) None
+        ends : EndsSo (with_borrowed handle (operation_named op r)) (on_return.Make op (unpolled y)) None
         ends x kept r' ws p =
-            let made = with_op_value op (Some (unpolled k handle m)) r' in
-            let a : Alike r' made = off_alike r' made (Op op) (op_value_other r' op (Some (unpolled k handle m)))
+            let made = with_op_value op (Some (unpolled y)) r' in
+            let a : Alike r' made = off_alike r' made (Op op) (op_value_other r' op (Some (unpolled y)))
             (p (Op op) ∙ is)
-            (op_value_own r' op (Some (unpolled k handle m)) is_pending sees_pending (resting_off k m)) in
+            (op_value_own r' op (Some (unpolled y)) is_pending sees_pending (resting_off y)) in
             same_woken r' made ws a.woken
 
     installs : (from new : HandleId) (k : HandleKind) (x : Reply T) (r' : NameTable T) (ws : List Waiter)
@@ -132,7 +132,7 @@ module _ {T : Type 0} where
     polls_end : (r' : NameTable T) (op : OpId) → EndsSo r' (on_return.Poll op) (Some (Op op))
     polls_end r' op x kept new ws p =
         polled_woken new (with_operation (restored kept) op new) (Op op) kept.key ws (op_other new op (restored kept))
-        (op_own new op (restored kept) was_woken sees_woken (λ y. left_off y.kind kept.message kept.key))
+        (op_own new op (restored kept) was_woken sees_woken (λ y. left_off y.operation kept.message kept.key))
 
     nexts : (receiver : HandleId)
         → Starts r (with_lent receiver (with_poll_state (IsPolled false) receiver r)) order (placed (Stream receiver) order)
@@ -163,22 +163,22 @@ module _ {T : Type 0} where
     given_up : (op : OpId) → is_pending (status (with_op_value op None r) (Op op)) ≡ false
     given_up op = op_value_own r op None is_pending sees_pending refl
 
-    abbrev hands_over : OpId → Option (Operation T) → NameTable T
+    abbrev hands_over : OpId → Option (OperationEntry T) → NameTable T
     hands_over op o = handed_over_by o (with_op_value op None r)
 
-    handed : (op : OpId) (o : Option (Operation T)) → is_pending (status (hands_over op o) (Op op)) ≡ false
+    handed : (op : OpId) (o : Option (OperationEntry T)) → is_pending (status (hands_over op o) (Op op)) ≡ false
     handed op o = ap is_pending (handed_over_same (with_op_value op None r) o (Op op)) ∙ given_up op
 
-    gives_up : (op : OpId) (o : Option (Operation T))
+    gives_up : (op : OpId) (o : Option (OperationEntry T))
         → Starts r (hands_over op o) order (without_waiter (Op op) order) (Some (Op op))
     gives_up op o =
         gone_starts r (hands_over op o) (Op op)
         (λ v t. handed_over_same (with_op_value op None r) o v ∙ op_value_other r op None v t) (handed op o) order
 
-    gives_up_end : (op : OpId) (o : Option (Operation T)) → EndsSo (hands_over op o) (leave_handle_of o) (Some (Op op))
+    gives_up_end : (op : OpId) (o : Option (OperationEntry T)) → EndsSo (hands_over op o) (leave_handle_of o) (Some (Op op))
     gives_up_end op None x kept new ws p = off_woken new (Op op) ws (p (Op op) ∙ handed op None)
     gives_up_end op (Some o) x kept new ws p =
-        left_woken new o.handle ws ∙ off_woken new (Op op) ws (p (Op op) ∙ handed op (Some o))
+        left_woken new (borrowed_by o.operation) ws ∙ off_woken new (Op op) ws (p (Op op) ∙ handed op (Some o))
 
     dropped : (handle : HandleId) → is_pending (status (with_handle_value handle None r) (Stream handle)) ≡ false
     dropped handle = handle_value_own r handle None is_pending sees_pending refl
@@ -205,8 +205,10 @@ module _ {T : Type 0} where
     no_stream Rests = refl
     no_stream s = refl
 
-    drops : (handle : HandleId) → Drops handle (stream_of handle (handle_at handle r))
-    drops handle = by (at handle.0 r.handles) refl
+    drops : (handle : HandleId) → Drops handle (stream_of handle (at handle.0 (names_of r).handles))
+    drops handle =
+        subst (λ (x : Option Handle). Drops handle (stream_of handle x)) (sym (at_seen (λ (h : HandleEntry). h.handle) handle.0 r.handles))
+        (by (at handle.0 r.handles) refl)
       where
         by : (o : Option HandleEntry) → at handle.0 r.handles ≡ o
             → Drops handle (stream_of handle (option_map (λ (h : HandleEntry). h.handle) o))
@@ -229,11 +231,11 @@ module _ {T : Type 0} where
   module _ (r : NameTable T) (s : State T) (order : List Waiter) (same : s.names ≡ names_of r) where
     goes : (c : Call T) → Admitted r c → Goes r c order (keeper s c)
     goes (call.NewSend op sender msg) a =
-        let m = makes r order op sender kind.Send (Some msg) a.new in record { starts = m.0; ends = m.1 }
+        let m = makes r order op sender (live.Send sender (Some msg)) a.new in record { starts = m.0; ends = m.1 }
     goes (call.NewRecv op receiver) a =
-        let m = makes r order op receiver kind.Receive None a.new in record { starts = m.0; ends = m.1 }
+        let m = makes r order op receiver (live.Receive receiver) a.new in record { starts = m.0; ends = m.1 }
     goes (call.NewClosed op sender) a =
-        let m = makes r order op sender kind.Closing None a.new in record { starts = m.0; ends = m.1 }
+        let m = makes r order op sender (live.Closing sender) a.new in record { starts = m.0; ends = m.1 }
     goes (call.Poll op) a =
         record { starts = polls r order op; ends = polls_end r order (names_begun r (call.Poll op)) op }
     goes (call.PollRefused op) a =
@@ -248,17 +250,16 @@ module _ {T : Type 0} where
     goes (call.PollNext receiver) a =
         record { starts = nexts r order receiver; ends = nexts_end r order (names_begun r (call.PollNext receiver)) receiver }
     goes (call.Drop handle) a =
-        let k : stream_of handle (handle_at handle r) ≡ keeper s (call.Drop handle) =
-        sym (ap (λ (n : Names T). stream_of handle (at handle.0 n.handles)) same
-        ∙ ap (stream_of handle) (at_seen (λ (h : HandleEntry). h.handle) handle.0 r.handles)) in
+        let k : stream_of handle (at handle.0 (names_of r).handles) ≡ keeper s (call.Drop handle) =
+        sym (ap (λ (n : Names T). stream_of handle (at handle.0 n.handles)) same) in
         let d = subst (Drops r order handle) k (drops r order handle) in
         record { starts = d.0; ends = d.1 }
     goes (call.TryClone handle new) a =
-        let m = makes_handle r order handle new (λ k. k) (handle_at handle r) a.new in record { starts = m.0; ends = m.1 }
+        let m = makes_handle r order handle new (λ k. k) (at handle.0 (names_of r).handles) a.new in record { starts = m.0; ends = m.1 }
     goes (call.Downgrade handle new) a =
-        let m = makes_handle r order handle new weak_of (handle_at handle r) a.new in record { starts = m.0; ends = m.1 }
+        let m = makes_handle r order handle new weak_of (at handle.0 (names_of r).handles) a.new in record { starts = m.0; ends = m.1 }
     goes (call.Upgrade weak new) a =
-        let m = makes_handle r order weak new strong_of (handle_at weak r) a.new in record { starts = m.0; ends = m.1 }
+        let m = makes_handle r order weak new strong_of (at weak.0 (names_of r).handles) a.new in record { starts = m.0; ends = m.1 }
     goes (call.SameChannel x y) a =
         record {
           starts = lends_both r order x y;

@@ -1,8 +1,7 @@
 -- The line and the listener of a name that is pending, as one call at a time sees them.
-use Rattle.channel_world_runs.proofs.rest.Words.{◌≡◌, nat_eq, Bool, Option, None, Some, ◌⊎◌, inl, inr, refl, ap, ◌∙◌, lookup, option_map, option_map_or, Key, ListenerRef, WaitList, Sends, Receives, Streams, Closings, at_seen, line_at, line_of_operation, HandleId, HandleKind, Waiter, Op, Stream, NameStatus, free, retired, invalid, rests, waits, polled, status_on, no_stream_status, stream_status, status_by, send_status, operation_status, status, key_of, operation_of, names_of, held_of, HandleEntry, Operation, OperationKind, PollState, Rests, Waits, IsPolled, NameTable, op_status, handle_entry_status}
-use Rattle.channel_world_model.specs.Names as model
+use Rattle.channel_world_runs.proofs.rest.Words.{◌≡◌, nat_eq, Bool, Option, None, Some, ◌⊎◌, inl, inr, refl, ap, ◌∙◌, lookup, option_map, option_map_or, Key, ListenerRef, WaitList, Sends, Receives, Streams, Closings, at_seen, line_at, line_of_operation, HandleId, HandleKind, Waiter, Op, Stream, NameStatus, free, retired, invalid, rests, waits, polled, status_on, no_stream_status, stream_status, status_by, send_status, operation_status, status, key_of, names_of, held_of, HandleEntry, OperationEntry, PollState, Rests, Waits, IsPolled, NameTable, op_status, handle_entry_status, Operation}
 use Rattle.channel_world_model.specs.declared.name.HandleKind.TheVariants as handle_kind
-use Rattle.channel_world_model.specs.declared.name.OperationKind.TheVariants as kind
+use Rattle.channel_world_model.specs.declared.name.Operation.TheVariants as live
 
 abbrev pub on : WaitList → Key → ListenerRef
 on line key = record { line = line; key = key }
@@ -72,59 +71,52 @@ handle_entry_pends (Some (Some x)) key e = stream_pends x.handle.kind x.poll_sta
 handle_entry_pends o key e = absurd (let no : None ≡ Some key = e in cc)
 
 module _ {T : Type 0} where
-  abbrev seen_as : OperationKind → HandleId → Option T → model.ModelOperation T
-  seen_as k handle m =
-      elim k [ kind.Send ↦ model.send handle m | kind.Receive ↦ model.recv handle | kind.Closing ↦ model.closing handle ]
-
   -- the line of what is pending
-  abbrev InLine : Option Key → Option (model.ModelOperation T) → ListenerRef → Type 0
+  abbrev InLine : Option Key → Option (Operation T) → ListenerRef → Type 0
   InLine key o h = (key ≡ Some h.key) × (line_of_operation o ≡ Some h.line)
 
   send_is : (handle : HandleId) (m : Option T) (s : PollState) (h : ListenerRef) (b : Bool) → send_status m s ≡ waits h b
-      → InLine (key_of s) (Some (model.send handle m)) h
+      → InLine (key_of s) (Some (live.Send handle m)) h
   send_is handle None Rests h b e = absurd (let no : rests Sends ≡ waits h b = e in cc)
   send_is handle None (Waits key is_woken) h b e = absurd (let no : invalid ≡ waits h b = e in cc)
   send_is handle None (IsPolled brings) h b e = absurd (let no : polled Sends ≡ waits h b = e in cc)
   send_is handle (Some m) s h b e = in_line (key_of s) Sends h (on_is Sends s h b e)
 
-  operation_is : (k : OperationKind) (handle : HandleId) (m : Option T) (s : PollState) (h : ListenerRef) (b : Bool)
-      → operation_status k m s ≡ waits h b
-      → InLine (key_of s) (Some (seen_as k handle m)) h
-  operation_is kind.Send handle m s h b e = send_is handle m s h b e
-  operation_is kind.Receive handle m s h b e = in_line (key_of s) Receives h (on_is Receives s h b e)
-  operation_is kind.Closing handle m s h b e = in_line (key_of s) Closings h (on_is Closings s h b e)
+  operation_is : (x : Operation T) (s : PollState) (h : ListenerRef) (b : Bool) → operation_status x s ≡ waits h b → InLine (key_of s) (Some x) h
+  operation_is (live.Send handle m) s h b e = send_is handle m s h b e
+  operation_is (live.Receive handle) s h b e = in_line (key_of s) Receives h (on_is Receives s h b e)
+  operation_is (live.Closing handle) s h b e = in_line (key_of s) Closings h (on_is Closings s h b e)
 
   send_pends : (m : Option T) (s : PollState) (key : Key) → key_of s ≡ Some key → Pends (send_status m s) key
   send_pends None (Waits k is_woken) key e = inl refl
   send_pends (Some m) s key e = on_pends Sends s key e
   send_pends m s key e = absurd (let no : None ≡ Some key = e in cc)
 
-  operation_pends : (k : OperationKind) (m : Option T) (s : PollState) (key : Key) → key_of s ≡ Some key
-      → Pends (operation_status k m s) key
-  operation_pends kind.Send m s key e = send_pends m s key e
-  operation_pends kind.Receive m s key e = on_pends Receives s key e
-  operation_pends kind.Closing m s key e = on_pends Closings s key e
+  operation_pends : (x : Operation T) (s : PollState) (key : Key) → key_of s ≡ Some key → Pends (operation_status x s) key
+  operation_pends (live.Send handle m) s key e = send_pends m s key e
+  operation_pends (live.Receive handle) s key e = on_pends Receives s key e
+  operation_pends (live.Closing handle) s key e = on_pends Closings s key e
 
   -- ---- by their names
 
-  abbrev op_key : Option (Option (Operation T)) → Option Key
-  op_key o = option_map_or (λ (x : Operation T). key_of x.poll_state) (lives o) None
+  abbrev op_key : Option (Option (OperationEntry T)) → Option Key
+  op_key o = option_map_or (λ (x : OperationEntry T). key_of x.poll_state) (lives o) None
 
-  op_at : (o : Option (Option (Operation T))) (h : ListenerRef) (b : Bool) → status_by op_status o ≡ waits h b
-      → InLine (op_key o) (option_map operation_of (lives o)) h
+  op_at : (o : Option (Option (OperationEntry T))) (h : ListenerRef) (b : Bool) → status_by op_status o ≡ waits h b
+      → InLine (op_key o) (option_map (λ (x : OperationEntry T). x.operation) (lives o)) h
   op_at None h b e = absurd (let no : free ≡ waits h b = e in cc)
   op_at (Some None) h b e = absurd (let no : retired ≡ waits h b = e in cc)
-  op_at (Some (Some o)) h b e = operation_is o.kind o.handle o.message o.poll_state h b e
+  op_at (Some (Some o)) h b e = operation_is o.operation o.poll_state h b e
 
-  op_pends : (o : Option (Option (Operation T))) (key : Key) → op_key o ≡ Some key → Pends (status_by op_status o) key
-  op_pends (Some (Some o)) key e = operation_pends o.kind o.message o.poll_state key e
+  op_pends : (o : Option (Option (OperationEntry T))) (key : Key) → op_key o ≡ Some key → Pends (status_by op_status o) key
+  op_pends (Some (Some o)) key e = operation_pends o.operation o.poll_state key e
   op_pends o key e = absurd (let no : None ≡ Some key = e in cc)
 
   module _ (r : NameTable T) where
     -- the line of a pending name is that of its listener
     pub line_is : (w : Waiter) (h : ListenerRef) (b : Bool) → status r w ≡ waits h b → line_at (names_of r) w ≡ Some h.line
     line_is (Op op) h b e =
-        ap (λ (o : Option (model.ModelOperation T)). line_of_operation o) (at_seen operation_of op.0 r.operations) ∙
+        ap (λ (o : Option (Operation T)). line_of_operation o) (at_seen (λ (x : OperationEntry T). x.operation) op.0 r.operations) ∙
         (op_at (lookup (nat_eq op.0) r.operations) h b e).1
     line_is (Stream handle) h b e =
         ap (λ (x : WaitList). let o : Option WaitList = Some x in o) (hold_at (lookup (nat_eq handle.0) r.handles) h b e).1

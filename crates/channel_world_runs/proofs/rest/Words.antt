@@ -25,12 +25,11 @@ pub use Rattle.channel_world_runs.specs.Order.{placed, kept_place, order_settled
 pub use Rattle.channel_world_runs.specs.OwnerOrder.{woken_in, was_woken, Within, woken_keys, NeedsPlace}
 pub use Rattle.channel_world_runs.specs.Owners.{IsAmong, NoneTwice, invalid, waits, status, polled, stream_status, operation_status, NameStatus, free, retired, status_by, rests, no_stream_status, status_on, send_status, holding, keys, IsListed, Holder, named, calling, AnyOf, HoldsIn, Owned}
 pub use Rattle.channel_world_runs.specs.Refusal.{under_way_in, begin_refusal}
-pub use Rattle.channel_world_runs.specs.NameTable.{names_of, held_of, is_polled, has_finished, is_done, operation_of, operation_at, unused, with_given_back, handle_at, with_lent, with_borrowed, with_handed_over, with_poll_state, poll_state_with, with_handle, used_more, used_less, borrowed_more, handed_over, told, key_of}
+pub use Rattle.channel_world_runs.specs.NameTable.{names_of, held_of, is_polled, has_finished, is_done, unused, with_given_back, with_lent, with_borrowed, with_handed_over, with_poll_state, poll_state_with, with_handle, used_more, used_less, borrowed_more, handed_over, told, key_of}
 pub use Rattle.channel_world_runs.specs.Run.{NameState}
 pub use Rattle.channel_world_runs.specs.declared.names.OnReturn.{OnReturn}
 pub use Rattle.channel_world_runs.specs.declared.names.HandleEntry.{HandleEntry}
-pub use Rattle.channel_world_runs.specs.declared.names.Operation.{Operation}
-pub use Rattle.channel_world_model.specs.declared.name.OperationKind.{OperationKind}
+pub use Rattle.channel_world_runs.specs.declared.names.OperationEntry.{OperationEntry}
 pub use Rattle.channel_world_runs.specs.declared.names.PollState.{PollState}
 pub use Rattle.channel_world_runs.specs.declared.names.PollState.TheVariants.{Rests, Waits, IsPolled}
 pub use Rattle.channel_world_runs.specs.declared.name_table.NameTable.{NameTable}
@@ -41,17 +40,18 @@ pub use Rattle.channel_world_model.proofs.Counting.{absent_counts, or_right, cou
 pub use Rattle.channel_world_model.proofs.DirectoryLemmas.{set_twice, at_seen, nothing_to_end, set_absent}
 pub use Rattle.channel_world_model.proofs.WaiterLemmas.{same_refl, same_sound, decided, or_true, left_among, same_number, without_absent, none_left}
 pub use Rattle.channel_world_model.specs.Answer.{Answer, weak_of, strong_of}
-pub use Rattle.channel_world_model.specs.Asked.{KeysHeld, asked, poll_asked, refusal_asked, giving_up_asked, drop_asked, clone_asked, upgrade_asked, stream_of}
+pub use Rattle.channel_world_model.specs.Asked.{KeysHeld, asked, poll_asked, stream_of}
 pub use Rattle.channel_world_model.specs.Awake.{Kind, times, AwakeIn, times_in, Enough, Placed}
 pub use Rattle.channel_world_model.specs.Laws.{is_line, same_line, line_at, line_of_operation, count_of, free_places}
 pub use Rattle.channel_world_model.specs.Lines.{same_waiter, is_among, Waiting, without_waiter, untold}
-pub use Rattle.channel_world_model.specs.Names.{Names, at, Directory, with_changed, with_spent, with_new, used_once_less, lent_once_more, is_taken}
+pub use Rattle.channel_world_model.specs.Names.{Names, at, borrowed_by, own_message, with_message, Directory, with_changed, with_spent, with_new, used_once_less, lent_once_more, is_taken}
 pub use Rattle.channel_world_model.specs.State.{State}
 pub use Rattle.channel_world_model.specs.declared.call.Call.{Call}
 pub use Rattle.channel_world_model.specs.declared.name.Handle.{Handle}
 pub use Rattle.channel_world_model.specs.declared.name.HandleId.{HandleId}
 pub use Rattle.channel_world_model.specs.declared.name.HandleKind.{HandleKind}
 pub use Rattle.channel_world_model.specs.declared.name.OpId.{OpId}
+pub use Rattle.channel_world_model.specs.declared.name.Operation.{Operation}
 pub use Rattle.channel_world_model.specs.declared.name.Waiter.{Waiter}
 pub use Rattle.channel_world_model.specs.declared.name.Waiter.TheVariants.{Op, Stream}
 pub use Rattle.channel_world_runs.proofs.refinement.Entries.{zip_append, tasks_are, told_holds}

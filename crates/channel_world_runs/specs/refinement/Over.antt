@@ -9,7 +9,7 @@ use Rattle.channel_steps.specs.solo.Alone.{Outcome, Alone}
 use Rattle.channel_world_model.specs.Answer.{Answer, weak_of, strong_of}
 use Rattle.channel_world_model.specs.Awake.{AwakeIn}
 use Rattle.channel_world_model.specs.Lines.{without_waiter}
-use Rattle.channel_world_model.specs.Names.{Names, ModelOperation, send, recv, closing, at, with_new, with_spent, with_handles, with_new_operation, with_operation_changed, without_operation}
+use Rattle.channel_world_model.specs.Names.{Names, at, with_new, with_spent, with_handles, with_new_operation, with_operation_changed, without_operation}
 use Rattle.channel_world_model.specs.Names as names
 use Rattle.channel_world_model.specs.Refusal.{refusal}
 use Rattle.channel_world_model.specs.Refused.{Answers}
@@ -20,6 +20,8 @@ use Rattle.channel_world_model.specs.declared.name.Handle.{Handle}
 use Rattle.channel_world_model.specs.declared.name.HandleId.{HandleId}
 use Rattle.channel_world_model.specs.declared.name.HandleKind.{HandleKind}
 use Rattle.channel_world_model.specs.declared.name.OpId.{OpId}
+use Rattle.channel_world_model.specs.declared.name.Operation.{Operation}
+use Rattle.channel_world_model.specs.declared.name.Operation.TheVariants as live
 use Rattle.channel_world_model.specs.declared.name.Waiter.{Waiter}
 use Rattle.channel_world_runs.specs.refinement.Asked.{asked_in, keeper}
 use Rattle.channel_world_model.specs.Asked.{KeysHeld}
@@ -29,15 +31,15 @@ module _ {T : Type 0} where
   -- ---- what becomes of the names
 
   -- a send has the message that its poll left to it
-  abbrev pub polled_names : OpId → Option (ModelOperation T) → Option T → Names T → Names T
-  polled_names op (Some (send handle (Some m))) left names = with_operation_changed op (send handle left) names
+  abbrev pub polled_names : OpId → Option (Operation T) → Option T → Names T → Names T
+  polled_names op (Some (live.Send handle (Some m))) left names = with_operation_changed op (live.Send handle left) names
   polled_names op operation left names = names
 
-  abbrev pub refused_names : OpId → Option (ModelOperation T) → Option T → Names T → Names T
-  refused_names op (Some (send handle msg)) left names = with_operation_changed op (send handle left) names
+  abbrev pub refused_names : OpId → Option (Operation T) → Option T → Names T → Names T
+  refused_names op (Some (live.Send handle msg)) left names = with_operation_changed op (live.Send handle left) names
   refused_names op operation left names = names
 
-  abbrev pub given_up_names : OpId → Option (ModelOperation T) → Names T → Names T
+  abbrev pub given_up_names : OpId → Option (Operation T) → Names T → Names T
   given_up_names op (Some operation) names = without_operation op operation names
   given_up_names op None names = names
 
@@ -50,9 +52,9 @@ module _ {T : Type 0} where
   kind_at handle names = option_map (λ (h : Handle). h.kind) (at handle.0 names.handles)
 
   abbrev pub names_after : State T → Call T → Outcome T Waiter → Names T
-  names_after s (call.NewSend op sender msg) o = with_new_operation op (send sender (Some msg)) s.names
-  names_after s (call.NewRecv op receiver) o = with_new_operation op (recv receiver) s.names
-  names_after s (call.NewClosed op sender) o = with_new_operation op (closing sender) s.names
+  names_after s (call.NewSend op sender msg) o = with_new_operation op (live.Send sender (Some msg)) s.names
+  names_after s (call.NewRecv op receiver) o = with_new_operation op (live.Receive receiver) s.names
+  names_after s (call.NewClosed op sender) o = with_new_operation op (live.Closing sender) s.names
   names_after s (call.Poll op) o = polled_names op (at op.0 s.names.operations) o.kept.message s.names
   names_after s (call.PollRefused op) o = refused_names op (at op.0 s.names.operations) o.kept.message s.names
   names_after s (call.GiveUp op) o = given_up_names op (at op.0 s.names.operations) s.names
