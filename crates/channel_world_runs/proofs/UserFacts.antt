@@ -234,17 +234,17 @@ module _ {T : Type 0} where
     named handle new kind =
         subst (λ (x : Option Handle). AreFew (λ name. n name + times_used name (let e : OnReturn T = new_from handle new kind x in e)) (length r.operations)
         (with_lent handle (handle_named new r)).handles) (handle_there r handle.0) (by (at handle.0 r.handles) refl) where
-      spent : AreFew n (length r.operations) (handle_named new r).handles
-      spent = spent_few n (length r.operations) new.0 r.handles few
+          spent : AreFew n (length r.operations) (handle_named new r).handles
+          spent = spent_few n (length r.operations) new.0 r.handles few
 
-      by : (o : Option HandleEntry) → at handle.0 r.handles ≡ o
-          → AreFew (λ name. n name + times_used name (let e : OnReturn T = new_from handle new kind (let f : Option Handle = option_map (λ (h : HandleEntry). h.handle) o in f) in e)) (length r.operations)
-          (with_lent handle (handle_named new r)).handles
-      by None e =
-          subst (λ (x : NameTable T). AreFew (λ name. n name + 0) (length r.operations) x.handles)
-          (sym (handle_none (handle_named new r) handle used_more (spent_none new.0 handle.0 r.handles e)))
-          (more_few n (λ name. n name + 0) (length r.operations) (length r.operations) (handle_named new r).handles (λ name. omega arith) (omega arith) spent)
-      by (Some h) e = lent_few n (length r.operations) handle (handle_named new r) spent
+          by : (o : Option HandleEntry) → at handle.0 r.handles ≡ o
+              → AreFew (λ name. n name + times_used name (let e : OnReturn T = new_from handle new kind (let f : Option Handle = option_map (λ (h : HandleEntry). h.handle) o in f) in e)) (length r.operations)
+              (with_lent handle (handle_named new r)).handles
+          by None e =
+              subst (λ (x : NameTable T). AreFew (λ name. n name + 0) (length r.operations) x.handles)
+              (sym (handle_none (handle_named new r) handle used_more (spent_none new.0 handle.0 r.handles e)))
+              (more_few n (λ name. n name + 0) (length r.operations) (length r.operations) (handle_named new r).handles (λ name. omega arith) (omega arith) spent)
+          by (Some h) e = lent_few n (length r.operations) handle (handle_named new r) spent
 
     same : (l : ℕ) → l ≡ length r.operations → AreFew (λ name. n name + 0) l r.handles
     same l e = more_few n (λ name. n name + 0) (length r.operations) l r.handles (λ name. omega arith) (omega (arith, e)) few

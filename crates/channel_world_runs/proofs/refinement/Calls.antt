@@ -1,5 +1,5 @@
 -- The calls, one by one.
-use Rattle.channel_world_runs.proofs.refinement.Words.{◌≡◌, ◌⊎◌, ◌&&◌, ◌==◌, ℕ, List, [], length, Bool, true, Option, None, Some, Err, refl, sym, ap, ◌∙◌, inl, inr, option_map, is_filled, is_refused, Channel, says, refused_reply, WaitList, Sends, Receives, Closings, Senders, Receivers, Outcome, Alone, MayLackRoom, ends, sends, force_sends, says_only, replying, after_leaving, is_finished, poll_refused_answer, made, dropped, clone_answer, downgrade_answer, upgrade_answer, drop_answer, weak_of, strong_of, AwakeIn, line_at, line_of_operation, Operation, at, State, Call, Handle, HandleId, HandleKind, Sender, Receiver, WeakSender, WeakReceiver, OpId, Waiter, Op, Nothing, second_reason, untaken, poll_asked, refusal_asked, giving_up_asked, drop_asked, clone_asked, upgrade_asked, stream_of, KeysHeld, asked_in, Matches, CallsAreOver, refused_names, made_names, Refines, list_of}
+use Rattle.channel_world_runs.proofs.refinement.Words.{◌≡◌, ◌⊎◌, ◌&&◌, ◌==◌, ℕ, List, [], length, Bool, true, Option, None, Some, Err, refl, sym, ap, ◌∙◌, inl, inr, option_map, is_filled, is_refused, Channel, says, refused_reply, WaitList, Sends, Receives, Closings, Senders, Receivers, Outcome, Alone, MayLackRoom, ends, sends, force_sends, says_only, replying, after_leaving, is_finished, poll_refused_answer, made, dropped, clone_answer, downgrade_answer, upgrade_answer, drop_answer, weak_of, strong_of, AwakeIn, line_at, line_of_operation, Operation, at, State, Call, Handle, HandleId, HandleKind, Sender, Receiver, WeakSender, WeakReceiver, OpId, Waiter, Op, Stream, Nothing, second_reason, untaken, poll_asked, refusal_asked, giving_up_asked, drop_asked, clone_asked, upgrade_asked, stream_of, KeysHeld, asked_in, Matches, CallsAreOver, refused_names, made_names, Refines, list_of}
 use Rattle.channel_world_model.specs.Refusal.{refusal}
 use Rattle.event_listener.specs.declared.error.ListenError.TheVariants as listening
 use Rattle.channel_calls.specs.declared.error.Refused.TheVariants as unmade
