@@ -51,7 +51,7 @@ use Rattle.channel_calls.specs.declared.stage.Waiting.{Waiting}
 use Rattle.channel_calls.specs.declared.stage.Waiting.TheVariants as waiting
 use Rattle.channel_calls.specs.declared.stage.ListStep.{ListStep}
 use Rattle.channel_calls.specs.declared.stage.ListStep.TheVariants.{TellReceive, TellStreams, TellSend, Insert, Register, Leave}
-use Rattle.channel_calls.specs.declared.whole.Given.{Completed}
+use Rattle.channel_calls.specs.declared.whole.Completed.{Completed}
 use Rattle.channel_calls.proofs.Listed.{TurnFair}
 use Rattle.channel_calls.proofs.Walking.{leads_on}
 

@@ -22,7 +22,7 @@ use Rattle.channel_calls.specs.declared.stage.Stage.TheVariants.{Working}
 use Rattle.channel_calls.specs.declared.stage.Waiting.{Waiting}
 use Rattle.channel_calls.specs.declared.stage.Waiting.TheVariants as waiting
 use Rattle.channel_calls.specs.declared.stage.ListStep.TheVariants.{Register}
-use Rattle.channel_calls.specs.declared.whole.Given.{Completed}
+use Rattle.channel_calls.specs.declared.whole.Completed.{Completed}
 
 module _ {T : Type 0} where
   -- the operation whose polls it makes

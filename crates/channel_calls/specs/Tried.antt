@@ -26,7 +26,7 @@ use Rattle.channel_calls.specs.declared.stage.Returned.{Returned}
 use Rattle.channel_calls.specs.declared.stage.WaitList.{WaitList}
 use Rattle.channel_calls.specs.declared.stage.Stage.{Stage}
 use Rattle.channel_calls.specs.declared.stage.NextStep.{NextStep}
-use Rattle.channel_calls.specs.declared.whole.Given.{Completed}
+use Rattle.channel_calls.specs.declared.whole.Completed.{Completed}
 
 module _ {T : Type 0} where
   -- a poll that is over leaves no listener

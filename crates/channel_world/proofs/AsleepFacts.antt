@@ -11,7 +11,7 @@ use Rattle.channel_steps.specs.declared.party.Party.{Party}
 use Rattle.channel_world_runs.specs.Apart.{AreApart}
 use Rattle.channel_world_runs.specs.WorldState.{calls_in, messages_in, name_state_of, AreAtWork, IsQuiet, Stands}
 use Rattle.channel_world_runs.specs.declared.world_state.WorldState.{WorldState}
-use Rattle.channel_world_runs.specs.declared.names.Agent.{Agent}
+use Rattle.channel_world_runs.specs.Calls.{Agent}
 use Rattle.channel_world_runs.proofs.Interface.{none_under_way}
 use Rattle.channel_world_runs.specs.rest.Rest.{RestIsAWorld}
 use Rattle.channel_world.proofs.Opening.{at_rest_is}
@@ -26,16 +26,16 @@ none_of [] e = refl
 none_of (x ∷ xs) e = absurd (omega (arith, e))
 
 module _ {T : Type 0} (w : WorldState T) (at_work : AreAtWork w) where
-  parties_number : length w.parties.items ≡ calls_in w
+  parties_number : length (parties_of w) ≡ calls_in w
   parties_number =
-      let a = length-map w.agents.items (λ (x : Agent T). x.party) in
-      let b = length-map w.parties.items (λ (x : Party T Waiter). x.id) in
+      let a = length-map (agents_of w) (λ (x : Agent T). x.party) in
+      let b = length-map (parties_of w) (λ (x : Party T Waiter). x.id) in
       let same = ap (λ (ns : List ℕ). length ns) at_work in
       omega (arith, a, b, same)
 
   pub calls_at_rest : CallsAtRest (view_of w)
   calls_at_rest = record {
-    none = λ e. none_of w.parties.items (parties_number ∙ e);
+    none = λ e. none_of (parties_of w) (parties_number ∙ e);
     quiet = λ q. sym parties_number ∙ ap (λ (ps : List (Party T Waiter)). length ps) q;
   }
 

@@ -93,7 +93,7 @@ module _ {T : Type 0} where
   module _ (w : WorldState T) (s : Configuration T Waiter) (sh : Shown w s) where
     shown_tally : (p : Stage (Phase T) T Waiter → Bool) (q : Stage (QueueCall T) T Waiter → Bool)
         → ((f : Phase T) (z : Stage (QueueCall T) T Waiter) → p (phase f z) ≡ q z)
-        → tally (λ (u : ActiveCall T Waiter). p u.at) s.under_way ≡ tally (λ (x : Party T Waiter). q x.call.stage) w.parties.items
+        → tally (λ (u : ActiveCall T Waiter). p u.at) s.under_way ≡ tally (λ (x : Party T Waiter). q x.call.stage) (parties_of w)
     shown_tally p q same =
         ap (λ (us : List (ActiveCall T Waiter)). tally (λ (u : ActiveCall T Waiter). p u.at) us) sh.shows.under_way
         ∙ (same_tally p q same sh.shows.witnesses

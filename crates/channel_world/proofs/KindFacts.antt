@@ -21,7 +21,7 @@ use Rattle.channel_world_runs.specs.Apart.{AreApart}
 use Rattle.channel_world_runs.specs.WorldState.{observation_of, Stands}
 use Rattle.channel_world_runs.specs.Owed.{IsUnwoken, all_names, is_woken_on, woken_on, unannounced, all_unannounced}
 use Rattle.channel_world_runs.specs.Owners.{NameStatus, waits, status_by, stream_status, operation_status, status}
-use Rattle.channel_world_runs.specs.declared.doing.Doing.{Doing}
+use Rattle.channel_world_runs.specs.declared.activity.Activity.{Activity}
 use Rattle.channel_world_runs.specs.declared.world_state.WorldState.{WorldState}
 use Rattle.channel_world_runs.specs.declared.names.HandleEntry.{HandleEntry}
 use Rattle.channel_world_runs.specs.declared.names.Operation.{Operation}
@@ -138,14 +138,14 @@ module _ {T : Type 0} where
 
   -- ---- places
 
-  few_unannounced : (p : Party T Waiter) (d : Doing) → unannounced p.call.stage d ≤ d.taken
+  few_unannounced : (p : Party T Waiter) (d : Activity) → unannounced p.call.stage d ≤ d.taken
   few_unannounced p d = by p.call.stage
     where
       by : (at : Stage (QueueCall T) T Waiter) → unannounced at d ≤ d.taken
       by (Working (Leave x)) = omega arith
       by at = omega arith
 
-  all_few : (ps : List (Party T Waiter)) (ds : List Doing) → all_unannounced ps ds ≤ takings_of ds
+  all_few : (ps : List (Party T Waiter)) (ds : List Activity) → all_unannounced ps ds ≤ takings_of ds
   all_few [] ds = omega arith
   all_few (p ∷ ps) [] = omega arith
   all_few (p ∷ ps) (d ∷ ds) =
@@ -163,7 +163,7 @@ module _ {T : Type 0} where
     no_send_sleeps is_open fits = record {
       none = λ name asleep.
           let o = k.stands.owed in
-          let few = all_few w.parties.items w.doings.items in
+          let few = all_few (parties_of w) (activities_of w) in
           none_fits (observation_of w).capacity _ _ (omega (arith, few)) fits (o.sends name asleep is_open);
     }
 

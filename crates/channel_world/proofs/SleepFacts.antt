@@ -21,17 +21,17 @@ use Rattle.channel_world_model.proofs.WaiterLemmas.{decided}
 use Rattle.channel_steps.specs.Configuration.{ActiveCall}
 use Rattle.channel_steps.specs.declared.party.Party.{Party}
 use Rattle.channel_world_runs.specs.Apart.{AreApart}
-use Rattle.channel_world_runs.specs.Doing.{doing_of}
+use Rattle.channel_world_runs.specs.Activity.{activity_of}
 use Rattle.channel_world_runs.specs.WorldState.{calls_in, messages_in, observation_of, Stands}
 use Rattle.channel_world_runs.specs.Owed.{Owed, IsUnwoken, is_sending, is_receiving, is_woken_on, woken_on, all_unannounced}
 use Rattle.channel_world_runs.specs.Owners.{NameStatus, waits, status_by, status_on, no_stream_status, stream_status, send_status, operation_status, status, Together}
 use Rattle.channel_world_runs.specs.Pending.{stands_pending, how_many, operation_stands, stream_stands}
 use Rattle.channel_world_runs.specs.NameTable.{is_woken}
-use Rattle.channel_world_runs.specs.declared.doing.Doing.{Doing}
-use Rattle.channel_world_runs.specs.declared.doing.Role.{Role}
-use Rattle.channel_world_runs.specs.declared.doing.Role.TheVariants.{Sending, Receiving, Other}
+use Rattle.channel_world_runs.specs.declared.activity.Activity.{Activity}
+use Rattle.channel_world_runs.specs.declared.activity.Role.{Role}
+use Rattle.channel_world_runs.specs.declared.activity.Role.TheVariants.{Sending, Receiving, Other}
 use Rattle.channel_world_runs.specs.declared.world_state.WorldState.{WorldState}
-use Rattle.channel_world_runs.specs.declared.names.Agent.{Agent}
+use Rattle.channel_world_runs.specs.Calls.{Agent}
 use Rattle.channel_world_runs.specs.declared.names.HandleEntry.{HandleEntry}
 use Rattle.channel_world_runs.specs.declared.names.Operation.{Operation}
 use Rattle.channel_world_model.specs.declared.name.OperationKind.{OperationKind}
@@ -172,13 +172,13 @@ one_role Sending = omega arith
 one_role Receiving = omega arith
 one_role Other = omega arith
 
-few_roles : (ds : List Doing) → count_by (λ (d : Doing). is_sending d.role) ds + count_by (λ (d : Doing). is_receiving d.role) ds ≤ length ds
+few_roles : (ds : List Activity) → count_by (λ (d : Activity). is_sending d.role) ds + count_by (λ (d : Activity). is_receiving d.role) ds ≤ length ds
 few_roles [] = omega arith
 few_roles (d ∷ ds) =
     let rest = few_roles ds in
     let one = one_role d.role in
-    let a = count_first (λ (x : Doing). is_sending x.role) d ds in
-    let b = count_first (λ (x : Doing). is_receiving x.role) d ds in
+    let a = count_first (λ (x : Activity). is_sending x.role) d ds in
+    let b = count_first (λ (x : Activity). is_receiving x.role) d ds in
     omega (arith, rest, one, a, b)
 
 -- ---- places
@@ -275,7 +275,7 @@ module _ {T : Type 0} where
   together_many p (a ∷ agents) [] t = absurd t
   together_many p (a ∷ agents) (u ∷ us) t = ap (λ n. suc n) (together_many p agents us t.1)
 
-  none_unannounced : (ps : List (Party T Waiter)) (ds : List Doing) → length ds ≡ 0 → all_unannounced ps ds ≡ 0
+  none_unannounced : (ps : List (Party T Waiter)) (ds : List Activity) → length ds ≡ 0 → all_unannounced ps ds ≡ 0
   none_unannounced [] ds e = refl
   none_unannounced (p ∷ ps) [] e = refl
   none_unannounced (p ∷ ps) (d ∷ ds) e = absurd (omega (arith, e))
@@ -284,20 +284,20 @@ module _ {T : Type 0} where
     owed : Owed (observation_of w)
     owed = k.stands.owed
 
-    doings_many : length w.doings.items ≡ calls_in w
-    doings_many =
-        let noted = ap (λ (ds : List Doing). length ds) k.stands.shown.doings ∙ length-map k.configuration.under_way (λ (u : ActiveCall T Waiter). doing_of u) in
-        let together = together_many _ w.agents.items k.configuration.under_way k.stands.kept.owned.together in
+    activities_many : length (activities_of w) ≡ calls_in w
+    activities_many =
+        let noted = ap (λ (ds : List Activity). length ds) k.stands.shown.activities ∙ length-map k.configuration.under_way (λ (u : ActiveCall T Waiter). activity_of u) in
+        let together = together_many _ (agents_of w) k.configuration.under_way k.stands.kept.owned.together in
         noted ∙ together
 
     few_at_work : (observation_of w).sending + (observation_of w).receiving ≤ calls_in w
-    few_at_work = let few = few_roles w.doings.items in let many = doings_many in omega (arith, few, many)
+    few_at_work = let few = few_roles (activities_of w) in let many = activities_many in omega (arith, few, many)
 
     few_sending : (observation_of w).sending ≤ calls_in w
     few_sending = let few = few_at_work in omega (arith, few)
 
     few_closers : (observation_of w).closers ≤ calls_in w
-    few_closers = let few = count_by-le-length (λ (d : Doing). d.has_closed) w.doings.items in let many = doings_many in omega (arith, few, many)
+    few_closers = let few = count_by-le-length (λ (d : Activity). d.has_closed) (activities_of w) in let many = activities_many in omega (arith, few, many)
 
     pub receives_answered : ReceivesAreAnswered (view_of w)
     receives_answered name asleep =
@@ -340,7 +340,7 @@ module _ {T : Type 0} where
 
     pub no_send_beside_a_place : NoSendSleepsBesideAPlace (view_of w)
     no_send_beside_a_place quiet none is_open fits =
-        let freed = none_unannounced w.parties.items w.doings.items (doings_many ∙ quiet) in
+        let freed = none_unannounced (parties_of w) (activities_of w) (activities_many ∙ quiet) in
         record {
           none = λ name asleep.
               none_fits (observation_of w).capacity (messages_in w) _ (omega (arith, quiet, none, freed)) fits (sends_answered name asleep is_open);

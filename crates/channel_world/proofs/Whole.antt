@@ -25,7 +25,7 @@ use Rattle.channel_world.proofs.Opening.{at_rest_is}
 
 module _ {T : Type 0} where
   module _ (agree : RefusalsAgree T) (f : WorldState T) (kept : IsKept f) (quiet : IsQuiet f) (c : Call T) where
-    abbrev nobody : f.agents.items ≡ []
+    abbrev nobody : (agents_of f) ≡ []
     nobody = no_agents f kept.at_work quiet
 
     -- why a call is refused

@@ -4,7 +4,7 @@ ghost use Rattle.std.specs.Prelude.{◌≡◌};
 ghost use Rattle.channel_world_runs.specs.Owed.{is_sending, is_receiving};
 
 use super::world::World;
-use channel_world_runs::doing::{Doing, Role};
+use channel_world_runs::activity::{Activity, Role};
 
 /// How many calls are under way, by what they are to those who wait. One that has closed the channel is neither sending nor receiving,
 /// and so are questions, clones and drops. Own to this project.
@@ -19,20 +19,20 @@ pub struct UnderWay {
 }
 
 /// Whether it is sending.
-fn is_sending(doing: &Doing) -> bool
-    ensures { result ≡ is_sending doing.now.role }
+fn is_sending(activity: &Activity) -> bool
+    ensures { result ≡ is_sending activity.now.role }
 {
-    match doing.role {
+    match activity.role {
         Role::Sending => true,
         Role::Receiving | Role::Other => false,
     }
 }
 
 /// Whether it is receiving.
-fn is_receiving(doing: &Doing) -> bool
-    ensures { result ≡ is_receiving doing.now.role }
+fn is_receiving(activity: &Activity) -> bool
+    ensures { result ≡ is_receiving activity.now.role }
 {
-    match doing.role {
+    match activity.role {
         Role::Receiving => true,
         Role::Sending | Role::Other => false,
     }
@@ -48,11 +48,11 @@ impl<T: Drop> World<T> {
         ensures receiving { result.receiving ≡ (observation_of self.now).receiving }
         ensures closers { result.closers ≡ (observation_of self.now).closers }
     {
-        let doings = &self.world_state.doings;
+        let activities = &self.world_state.activities;
         UnderWay {
-            sending: doings.iter().filter(|doing| is_sending(*doing)).count(),
-            receiving: doings.iter().filter(|doing| is_receiving(*doing)).count(),
-            closers: doings.iter().filter(|doing| doing.has_closed).count(),
+            sending: activities.iter().filter(|activity| is_sending(*activity)).count(),
+            receiving: activities.iter().filter(|activity| is_receiving(*activity)).count(),
+            closers: activities.iter().filter(|activity| activity.has_closed).count(),
         }
     }
 }

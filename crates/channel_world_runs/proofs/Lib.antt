@@ -34,7 +34,7 @@ pub mod OwedFacts
 mod OwedRows
 pub mod ShownFacts
 pub mod ObservationFacts
-pub mod DoingFacts
+pub mod ActivityFacts
 pub mod UserFacts
 pub mod CountNames
 pub mod CountTurns

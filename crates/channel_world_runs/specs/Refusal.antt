@@ -10,7 +10,7 @@ use Rattle.channel_world_model.specs.declared.refusal.WorldRefusal.{WorldRefusal
 use Rattle.channel_world_model.specs.declared.refusal.WorldRefusal.TheVariants.{Busy, Idle, UnknownName, WrongKind, OpUnderWay, Borrowed, NameTaken}
 use Rattle.channel_world_runs.specs.NameTable.{is_polled, polled_refusal, operation_of, names_of, is_at_work}
 use Rattle.channel_world_model.specs.Plan.{want_of, plan_of}
-use Rattle.channel_world_runs.specs.declared.names.Agent.{Agent}
+use Rattle.channel_world_runs.specs.Calls.{Agent}
 use Rattle.channel_world_runs.specs.declared.names.HandleEntry.{HandleEntry}
 use Rattle.channel_world_runs.specs.declared.names.Operation.{Operation}
 use Rattle.channel_world_runs.specs.declared.name_table.NameTable.{NameTable}

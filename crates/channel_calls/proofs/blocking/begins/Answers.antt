@@ -6,7 +6,7 @@ use Rattle.channel_calls.specs.Turns.{again, line_of, message_of, leaving, refus
 use Rattle.channel_calls.specs.Walks.{WalkedFrom}
 use Rattle.channel_calls.specs.declared.blocked.Blocked.{Blocked}
 use Rattle.channel_calls.specs.declared.stage.WaitList.{WaitList}
-use Rattle.channel_calls.specs.declared.whole.Given.{Completed}
+use Rattle.channel_calls.specs.declared.whole.Completed.{Completed}
 use Rattle.channel_calls.proofs.BlockedPolls as polls
 use Rattle.channel_calls.proofs.blocking.begins.Given.{Over}
 use Rattle.channel_calls.proofs.blocking.begins.Goals as goal

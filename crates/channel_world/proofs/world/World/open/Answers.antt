@@ -16,5 +16,5 @@ returns-clause-shown g c =
 pub returns-clause-open : goal.returns-clause-open
 returns-clause-open g c =
     let f = c.in-Ok.world_state in
-    let quiet = no_parties (parts_in f) f.parties.items (new_configuration (capacity_of c.args.form)) refl c.in-Ok.ensures.shown.shows in
+    let quiet = no_parties (parts_in f) (parties_of f) (new_configuration (capacity_of c.args.form)) refl c.in-Ok.ensures.shown.shows in
     opened_is f (capacity_of c.args.form) (returns-clause-shown g c) quiet
