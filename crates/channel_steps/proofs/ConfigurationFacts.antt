@@ -1,7 +1,7 @@
 -- A step of one party among all.
 use Rattle.std.proofs.Common.{◌≡◌, ℕ, zero, suc, ◌+◌, ◌<◌, unwrap_or, List, [], ◌∷◌, ◌++◌, map, length, slice_get, slice_set, Option, None, Some, refl, sym, ap, ◌∙◌, subst, append_assoc}
 use Rattle.std.specs.List.{remove}
-use Rattle.channel_steps.proofs.Words.{Queue, Phase, IsInRange, Contents, ActiveQueueCall, chain_after, PhasesQuiet, phases, QueueForm, Bounded, Unbounded, Parts, QueueCall, Channel, Effect, channel, seats, phase, Made, ChannelCall, Mark, Reply, kept_by, Returned, Stage, Trying, Working, Finished, FitsForm, IsStepOver, IsChannelStep, OnePlace, Party, Entry, StageAt, party_left, all_left, left_at, MarkedMoment, with_marked, ActiveCall, Configuration, MayHave, blocks_after, sees, does, gone_by, came_by, Known, AllKnown, IsBalanced, OthersQuiet, ActiveCallWitness, active_call_of, seats_of, all_seats, Represents, parties_in, unless_answered, after_step, left_by, StepsNearer, PartySteps, telling}
+use Rattle.channel_steps.proofs.Words.{Queue, Phase, IsInRange, Contents, ActiveQueueCall, chain_after, PhasesQuiet, phases, QueueForm, Bounded, Unbounded, Parts, QueueCall, Channel, Effect, channel, seats, phase, Made, Mark, Reply, kept_by, Stage, Trying, Working, Finished, FitsForm, IsStepOver, IsChannelStep, OnePlace, Party, Entry, StageAt, party_left, all_left, left_at, MarkedMoment, with_marked, ActiveCall, Configuration, MayHave, blocks_after, sees, does, gone_by, came_by, Known, AllKnown, IsBalanced, OthersQuiet, ActiveCallWitness, active_call_of, seats_of, all_seats, Represents, parties_in, unless_answered, after_step, left_by, StepsNearer, PartySteps, telling}
 use Rattle.concurrent_queue.specs.Step.{FitsAt}
 use Rattle.concurrent_queue.proofs.Callers.{itself}
 use Rattle.channel_steps.proofs.AfterStep.{after-same, get-map, map-after}

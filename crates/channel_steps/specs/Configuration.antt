@@ -9,7 +9,7 @@ use Rattle.concurrent_queue.specs.declared.cells.QueueForm.TheVariants.{Bounded,
 use Rattle.event_listener.specs.Notices.{Woken}
 use Rattle.channel_calls.specs.Asks.{kept_by}
 use Rattle.channel_calls.specs.Parts.{Parts}
-use Rattle.channel_calls.specs.Moves.{Channel, channel, Moves, seats, phase, OnePlace, IsChannelStep}
+use Rattle.channel_calls.specs.Moves.{Channel, channel, Moves, seats, phase, OnePlace}
 use Rattle.channel_calls.specs.declared.ask.ChannelAsk.{ChannelAsk}
 use Rattle.channel_calls.specs.declared.ask.ChannelAsk.TheVariants.{TrySend, ForceSend, PollSend}
 use Rattle.channel_calls.specs.declared.call.ChannelCall.{ChannelCall}

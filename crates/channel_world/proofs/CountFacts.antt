@@ -24,7 +24,8 @@ use Rattle.channel_world_model.specs.declared.name.Waiter.{Waiter}
 use Rattle.channel_steps.specs.Configuration.{ActiveCall, Configuration, ActiveCallWitness, active_call_of, all_seats}
 use Rattle.channel_steps.specs.declared.party.Party.{Party}
 use Rattle.channel_world_runs.specs.Counted.{tally, is_strong, strong_lives, live_on, is_lowering, is_closing}
-use Rattle.channel_world_runs.specs.WorldState.{parts_in, Shown, IsQuiet, Stands}
+use Rattle.channel_world_runs.specs.WorldState.{parties_of, parts_in, Shown, IsQuiet, Stands}
+use Rattle.channel_world_runs.proofs.LoneFacts.{no_parties}
 use Rattle.channel_world_runs.specs.declared.world_state.WorldState.{WorldState}
 use Rattle.channel_world_runs.specs.declared.names.HandleEntry.{HandleEntry}
 use Rattle.channel_world.specs.Counts.{strong_kind, live, CountsLive, OpenHasBoth, AreByDrops, CountsAtRest}
@@ -128,10 +129,10 @@ module _ {T : Type 0} where
           inr (omega (arith, h, close))
 
     none_lowers : IsQuiet w → (side : Side) → to_lower side (view_of w) ≡ 0
-    none_lowers quiet side = ap (λ (ps : List (Party T Waiter)). tally (λ (p : Party T Waiter). is_lowering side p.call.stage) ps) quiet
+    none_lowers quiet side = ap (λ (ps : List (Party T Waiter)). tally (λ (p : Party T Waiter). is_lowering side p.call.stage) ps) (no_parties w quiet)
 
     none_closes : IsQuiet w → (side : Side) → to_close side (view_of w) ≡ 0
-    none_closes quiet side = ap (λ (ps : List (Party T Waiter)). tally (λ (p : Party T Waiter). is_closing side p.call.stage) ps) quiet
+    none_closes quiet side = ap (λ (ps : List (Party T Waiter)). tally (λ (p : Party T Waiter). is_closing side p.call.stage) ps) (no_parties w quiet)
 
     all_live : IsQuiet w → (side : Side) → count_in side (view_of w) ≡ live side (view_of w)
     all_live quiet side = let c = counts_live side in let none = none_lowers quiet side in omega (arith, c, none)

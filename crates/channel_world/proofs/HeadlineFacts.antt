@@ -13,7 +13,7 @@ use Rattle.channel_steps.specs.declared.party.Entry.{Entry as ChannelEntry}
 use Rattle.channel_steps.specs.declared.run.Step.{Step as ChannelStep}
 use Rattle.channel_steps.proofs.Interface.{each_says}
 use Rattle.channel_world_runs.specs.WorldInvariant.{WorldInvariant}
-use Rattle.channel_world_runs.specs.WorldState.{name_state_of, parts_in, messages_in, StandsIn, Stands}
+use Rattle.channel_world_runs.specs.WorldState.{name_state_of, parties_of, parts_in, messages_in, StandsIn, Stands}
 use Rattle.channel_world_runs.specs.Run.{StopsAt, channel_step}
 use Rattle.channel_world_runs.specs.Runs.{Moment, Holds, LeadsBy, accepted_in, left_in, moment_of, RanTo}
 use Rattle.channel_world_runs.specs.declared.world_state.WorldState.{WorldState}

@@ -10,7 +10,7 @@ use Rattle.channel_world_model.specs.declared.run.Stopped.{Stopped}
 use Rattle.channel_steps.specs.Run.{EachStep, IsRun, end_of}
 use Rattle.channel_steps.specs.Configuration.{Configuration}
 use Rattle.channel_steps.proofs.Interface.{run_on}
-use Rattle.channel_world_runs.specs.WorldState.{name_state_of, Stands}
+use Rattle.channel_world_runs.specs.WorldState.{agents_of, name_state_of, Stands}
 use Rattle.channel_world_runs.specs.Refusal.{step_refusal}
 use Rattle.channel_world_runs.specs.Run.{NameState, StepIsMade, MayRefuseStep, StopsAt, name_state_ended, with_woken}
 use Rattle.channel_world_runs.specs.Runs.{Moment, LeadsBy, RanTo, accepted_in, left_in, moment_of}

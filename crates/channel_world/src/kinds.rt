@@ -9,7 +9,7 @@ ghost use Rattle.channel_world.specs.Kinds.{is_pending_on, may_pend, operation_s
 use super::world::World;
 use channel_calls::stage::WaitList;
 use channel_world_model::name::{HandleKind, OperationKind};
-use channel_world_runs::activity::Activity;
+use channel_world_runs::calls::CallUnderWay;
 use channel_world_runs::names::{HandleEntry, Operation, PollState};
 
 /// Whether an operation of this kind waits on this line.
@@ -109,13 +109,13 @@ fn is_stream_woken_on(line: WaitList, handle_entry: &Option<HandleEntry>) -> boo
 }
 
 /// How many messages these calls have taken. None where there is no such number.
-fn taken_by(activities: &Vec<Activity>) -> Option<u64>
-    ensures told { IfSome result (λ n. n ≡ takings_of activities.now.items) }
-    ensures known { takings_of activities.now.items < 2 ^ 64 → IsSome result }
+fn taken_by<T>(calls: &Vec<CallUnderWay<T>>) -> Option<u64>
+    ensures told { IfSome result (λ n. n ≡ takings_of calls.now.items) }
+    ensures known { takings_of calls.now.items < 2 ^ 64 → IsSome result }
 {
     let mut taken = 0u64;
-    for k in 0..activities.len() {
-        taken = taken.checked_add(activities[k].taken)?;
+    for k in 0..calls.len() {
+        taken = taken.checked_add(calls[k].activity.taken)?;
     }
     Some(taken)
 }
@@ -159,6 +159,6 @@ impl<T: Drop> World<T> {
         ensures told { IfSome result (λ n. n ≡ taken_in self.now) }
         ensures known { taken_in self.now < 2 ^ 64 → IsSome result }
     {
-        taken_by(&self.world_state.activities)
+        taken_by(&self.world_state.calls)
     }
 }

@@ -47,8 +47,7 @@ use Rattle.channel_world_runs.specs.declared.step.Entry.{Entry}
 use Rattle.channel_world_runs.specs.declared.step.Step.{Step}
 use Rattle.channel_world_runs.specs.declared.step.Step.TheVariants as step
 use Rattle.channel_world_runs.specs.declared.woken.Woken.{Woken as Sink}
-use Rattle.channel_steps.proofs.AfterStep.{after-same, get-map, map-after}
-use Rattle.channel_steps.proofs.Interface.{run_none, run_on, few_left, messages_counted, messages_moved, blocks_begun}
+use Rattle.channel_steps.proofs.Interface.{after-same, get-map, map-after, run_none, run_on, few_left, messages_counted, messages_moved, blocks_begun}
 use Rattle.channel_world_runs.specs.WorldInvariant.{WorldInvariant}
 use Rattle.channel_world_runs.proofs.AccountFacts.{no_accounts, next_accounts}
 use Rattle.channel_world_runs.proofs.WorldInvariant.{kept_first, kept_next}
@@ -171,7 +170,7 @@ module _ {T : Type 0} where
         made = record {
           not_refused = fine;
           kept = None;
-          next = rw (mark, reply) b.begins, woken;
+          next = rw (mark, reply) (b.begins, woken);
           name_state = name_state;
         };
         nearer = tt;

@@ -1,6 +1,6 @@
 use Rattle.std.proofs.Common.{arith, ◌≡◌, length, vec_len, refl, sym}
 use Rattle.std.proofs.lemmas.Option.{slice_get_within}
-use Rattle.channel_steps.proofs.AfterStep.{after-set, get-set}
+use Rattle.channel_steps.proofs.Interface.{after-set, get-set}
 use Rattle.channel_world_runs.proofs.WorldStateFacts.{has_stepped}
 use Rattle.channel_world_runs.proofs.world_state.WorldState.go_on.Goals as goal
 

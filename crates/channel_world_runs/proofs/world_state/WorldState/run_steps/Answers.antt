@@ -24,7 +24,7 @@ loop-step-preserved g c =
     let in_front : c.loop-step.steps.items ≡ c.unwrap-step.result ∷ c.pop_front.new.self.items =
     c.pop_front.ensures.items ∙ ap (λ o. option_to_list o ++ c.pop_front.new.self.items) c.unwrap-step.ensures in
     rw (c.push_reserved.ensures.items, c.stop.ensures.items)
-          (ran_more c.args.steps.now.items c.pop_front.new.self.items c.unwrap-step.result c.args.self.now c.loop-step.trace.items
+    (ran_more c.args.steps.now.items c.pop_front.new.self.items c.unwrap-step.result c.args.self.now c.loop-step.trace.items
     c.loop-step.self c.in-Ok.entry c.turn.new.self (rw (sym in_front) c.loop-step.invariant) c.in-Ok.ensures.ok)
 
 pub returns-in-Err-clause-ran : goal.returns-in-Err-clause-ran
