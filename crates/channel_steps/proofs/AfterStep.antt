@@ -16,7 +16,7 @@ map-remove g [] (suc k) = refl
 map-remove g (x ∷ xs) zero = refl
 map-remove g (x ∷ xs) (suc k) = ap (λ zs. g x ∷ zs) (map-remove g xs k)
 
-set-same : {A : Type 0} (xs : List A) (k : ℕ) (x : A) → slice_get xs k ≡ Some x → slice_set xs k x ≡ xs
+pub set-same : {A : Type 0} (xs : List A) (k : ℕ) (x : A) → slice_get xs k ≡ Some x → slice_set xs k x ≡ xs
 set-same [] k x there = refl
 set-same (y ∷ ys) zero x there = let same : y ≡ x = cc in ap (λ z. z ∷ ys) (sym same)
 set-same (y ∷ ys) (suc k) x there = ap (λ zs. y ∷ zs) (set-same ys k x there)

@@ -8,7 +8,7 @@ pub use Rattle.channel_steps.proofs.QueueFacts.{answer_marks, answered_by}
 use Rattle.channel_steps.proofs.OwnFacts.{moves_on, all_see, own_known, begins_known}
 use Rattle.channel_steps.proofs.ConfigurationFacts.{known_left, known_right, known_both}
 use Rattle.channel_steps.proofs.CountFacts as count_facts
-pub use Rattle.channel_steps.proofs.AfterStep.{after-same, after-set, get-map, get-set, map-after}
+pub use Rattle.channel_steps.proofs.AfterStep.{after-set, get-map, get-set, map-after, set-same}
 pub use Rattle.channel_steps.proofs.FewFacts.{few_left}
 pub use Rattle.channel_steps.proofs.IdleFacts.{hold_still}
 pub use Rattle.channel_steps.proofs.LineFacts.{fresh_waits, same_line}

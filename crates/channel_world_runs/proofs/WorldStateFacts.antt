@@ -1,6 +1,6 @@
 -- Steps of an interleaved channel, and runs of them.
-use Rattle.std.proofs.Common.{arith, ◌≡◌, ℕ, ◌+◌, ◌-◌, ◌^◌, ◌≤◌, ◌<◌, min, Bool, true, false, nat_lt, slice_index_or, List, [], ◌∷◌, ◌++◌, map, length, slice_get, vec_len, vec_capacity, Option, None, Some, ◌⊎◌, inl, inr, refl, sym, ap, ◌∙◌, subst, append_assoc}
-use Rattle.std.proofs.lemmas.List.{length-map, map-append}
+use Rattle.std.proofs.Common.{arith, ◌≡◌, ℕ, ◌+◌, ◌-◌, ◌^◌, ◌≤◌, ◌<◌, min, Bool, true, false, nat_lt, slice_index_or, List, [], ◌∷◌, ◌++◌, map, length, slice_get, slice_set, vec_len, vec_capacity, Option, None, Some, ◌⊎◌, inl, inr, refl, sym, ap, ◌∙◌, subst, append_assoc}
+use Rattle.std.proofs.lemmas.List.{length-map, map-append, map-set}
 use Rattle.concurrent_queue.specs.Queue.{IsInRange}
 use Rattle.concurrent_queue.proofs.Interface.{shows}
 use Rattle.channel_steps.specs.solo.Run as queue
@@ -20,7 +20,7 @@ use Rattle.channel_steps.specs.Count.{counted, brought_in, taken_out}
 use Rattle.channel_steps.specs.Run.{IsRun, new_configuration, Begins, PartyBegins}
 use Rattle.channel_steps.specs.Tellings.{telling, dropping}
 use Rattle.channel_steps.specs.Left.{left_at}
-use Rattle.channel_steps.specs.Configuration.{Configuration, ActiveCallWitness, PartySteps, Represents, StepsAt, StepsNearer, active_call_of, after_step, all_seats, blocks_after, brought, left_by, unless_answered, IsBalanced}
+use Rattle.channel_steps.specs.Configuration.{Configuration, ActiveCallWitness, PartySteps, Represents, StepsAt, StepsNearer, active_call_of, after_step, all_seats, blocks_after, brought, left_by, IsBalanced}
 use Rattle.channel_steps.specs.Configuration.{Steps as ChannelSteps}
 use Rattle.channel_steps.specs.declared.party.Entry.{Entry as ChannelEntry}
 use Rattle.channel_steps.specs.declared.party.Party.{Party}
@@ -47,7 +47,7 @@ use Rattle.channel_world_runs.specs.declared.step.Entry.{Entry}
 use Rattle.channel_world_runs.specs.declared.step.Step.{Step}
 use Rattle.channel_world_runs.specs.declared.step.Step.TheVariants as step
 use Rattle.channel_world_runs.specs.declared.woken.Woken.{Woken as Sink}
-use Rattle.channel_steps.proofs.Interface.{after-same, get-map, map-after, run_none, run_on, few_left, messages_counted, messages_moved, blocks_begun}
+use Rattle.channel_steps.proofs.Interface.{get-map, map-after, set-same, run_none, run_on, few_left, messages_counted, messages_moved, blocks_begun}
 use Rattle.channel_world_runs.specs.WorldInvariant.{WorldInvariant}
 use Rattle.channel_world_runs.proofs.AccountFacts.{no_accounts, next_accounts}
 use Rattle.channel_world_runs.proofs.WorldInvariant.{kept_first, kept_next}
@@ -221,37 +221,36 @@ module _ {T : Type 0} where
         within = omega (arith, within, fewer, brought, counts);
       })
 
-  -- the k-th call under way has become this one, and answered this
-  module _ (k : ℕ) (c d : CallUnderWay T) (old new : WorldState T) (r : Option (Reply T)) (there : slice_get old.calls.items k ≡ Some c)
-      (calls : new.calls.items ≡ after_step old.calls.items k d r) where
-    read_off : {A : Type 0} (f : CallUnderWay T → A) → map f new.calls.items ≡ after_step (map f old.calls.items) k (f d) r
-    read_off f = ap (λ (cs : List (CallUnderWay T)). map f cs) calls ∙ map-after f old.calls.items k d r
+  -- what is read off the calls under way, once the k-th has become this one, or answered
+  read_off : {A : Type 0} (f : CallUnderWay T → A) (k : ℕ) (d : CallUnderWay T) (old new : WorldState T) (r : Option (Reply T))
+      → new.calls.items ≡ after_step old.calls.items k d r → map f new.calls.items ≡ after_step (map f old.calls.items) k (f d) r
+  read_off f k d old new r calls = ap (λ (cs : List (CallUnderWay T)). map f cs) calls ∙ map-after f old.calls.items k d r
 
-    -- what it has to write back stays
-    agents_then : agent_of d ≡ agent_of c → agents_of new ≡ unless_answered k r (agents_of old)
-    agents_then same =
-        read_off agent_of
-        ∙ (ap (λ (a : Agent T). after_step (agents_of old) k a r) same ∙ after-same (agents_of old) k (agent_of c) r (get-map agent_of old.calls.items k c there))
+  -- a step leaves to a call what it has to write back
+  pub agents_kept : (calls : List (CallUnderWay T)) (k : ℕ) (c d : CallUnderWay T) → slice_get calls k ≡ Some c → agent_of d ≡ agent_of c
+      → map agent_of (slice_set calls k d) ≡ map agent_of calls
+  agents_kept calls k c d there same =
+      map-set agent_of calls k d
+      ∙ (ap (λ (a : Agent T). slice_set (map agent_of calls) k a) same ∙ set-same (map agent_of calls) k (agent_of c) (get-map agent_of calls k c there))
 
   pub has_stepped : (p : PartyId) (k n came : ℕ) (c d : CallUnderWay T) (old new : WorldState T) (empty full : Sink) (e : Entry T)
       → slice_get old.calls.items k ≡ Some c → c.party.id ≡ p.0
       → PartySteps Hears (parts_in old) c.party empty e.reply (parts_in new) d.party full → e.mark ≡ d.party.call.mark
-      → agent_of d ≡ agent_of c → d.activity ≡ activity_after d.party.call.mark c.activity
+      → d.activity ≡ activity_after d.party.call.mark c.activity
       → new.calls.items ≡ after_step old.calls.items k d e.reply
       → empty.names.items ≡ [] → ((line : WaitList) → length (listeners line (parts_in old).roster).waiting ≤ n)
       → n ≤ vec_capacity empty.names → e.woken.items ≡ full.names.items
-      → record { name_table = new.name_table; order = new.order; agents = unless_answered k e.reply (agents_of old) }
-      ≡ name_state_ended k (agent_of c) e.reply (left_by d.party e.reply) (with_woken full.names.items (name_state_of old))
+      → name_state_of new ≡ name_state_ended k (agent_of c) e.reply (left_by d.party e.reply) (with_woken full.names.items (name_state_of old))
       → new.messages ≡ counted old.messages e.mark → came ≡ brought_in e.mark
       → new.accepted ≡ min (old.accepted + came) (2 ^ 64 - 1) → new.has_one_place ≡ old.has_one_place
       → step_refusal old.name_table (agents_of old) (step.Step p) ≡ None
       → LeadsByStep (step.Step p) old e new
-  has_stepped p k n came c d old new empty full e there whose steps mark agent active calls none most room woken ended messages
+  has_stepped p k n came c d old new empty full e there whose steps mark active calls none most room woken ended messages
       brought counts place fine s sh =
       let entry : ChannelEntry T = record { mark = e.mark; reply = e.reply; kept = left_by d.party e.reply } in
       let position = has_position old s sh in
       let range : IsInRange s.now.queue = in_range s.now.queue position in
-      let left : parties_of new ≡ after_step (parties_of old) k d.party e.reply = read_off k c d old new e.reply there calls party_in in
+      let left : parties_of new ≡ after_step (parties_of old) k d.party e.reply = read_off party_in k d old new e.reply calls in
       let made : StepsAt Hears (parts_in old) (parties_of old) k empty entry (parts_in new) (parties_of new) full =
       rw (mark, left) (steps (parties_of old) k (get-map party_in old.calls.items k c there)) in
       let h = made s c.party range sh.shows (get-map party_in old.calls.items k c there) in
@@ -266,7 +265,6 @@ module _ {T : Type 0} where
       let messages_now = counted_now new s c.party.id entry h.names h.after h.steps.step (balanced_in _ _ s sh.shows) h.shown position in
       let kept_capacity = (step_bounded s h.after c.party.id entry h.names h.steps.step).capacity in
       let his : StepsNearer k (lefts_in old) (lefts_in new) s p.0 entry e.woken.items h.after = rw (woken, heard, sym whose) h.steps in
-      let agents : agents_of new ≡ unless_answered k e.reply (agents_of old) = agents_then k c d old new e.reply there calls agent in
       record {
         after = h.after;
         touches = h.one_place;
@@ -275,7 +273,7 @@ module _ {T : Type 0} where
           not_refused = fine;
           kept = left_by d.party e.reply;
           next = his.step;
-          name_state = (k, agent_of c, get-map agent_of old.calls.items k c there, whose, rw (agents, woken) ended);
+          name_state = (k, agent_of c, get-map agent_of old.calls.items k c there, whose, rw woken ended);
         };
         nearer = λ goes_on handle_entry.
             subst (λ (j : ℕ). left_at j (lefts_in new) < left_at j (lefts_in old)) (sym his.place) (his.nearer goes_on handle_entry);
@@ -284,7 +282,7 @@ module _ {T : Type 0} where
           place = place ∙ (sh.place ∙ sym (ap (λ (cap : Option ℕ). is_one_place cap) kept_capacity));
           positions = counted_then old new s c.party.id entry h.names h.after came h.steps.step brought counts place sh.positions;
           messages = messages ∙ (ap (λ m. counted m e.mark) sh.messages ∙ messages_now);
-          activities = read_off k c d old new e.reply there calls (λ (x : CallUnderWay T). x.activity)
+          activities = read_off (λ (x : CallUnderWay T). x.activity) k d old new e.reply calls
               ∙ stepped_noted s c.party.id entry h.names h.after h.steps.step k h.steps.place (activities_of old) c.activity d.activity sh.activities
               (get-map (λ (x : CallUnderWay T). x.activity) old.calls.items k c there) (active ∙ ap (λ (m : Mark). activity_after m c.activity) (sym mark));
           few = stepped_few s c.party.id entry h.names h.after h.steps.step (balanced_in _ _ s sh.shows)

@@ -110,7 +110,7 @@ pub(crate) fn write_back<T: Drop>(
     requires { k < vec_len calls.old }
     ensures calls { calls.new.items ≡ unless_answered k reply.now calls.old.items }
     ensures names { (c : CallUnderWay T) → slice_get calls.old.items k ≡ Some c
-        → record { name_table = name_table.new; order = order.new; agents = unless_answered k reply.now (map agent_of calls.old.items) }
+        → record { name_table = name_table.new; order = order.new; agents = map agent_of calls.new.items }
         ≡ name_state_ended k (agent_of c) reply.now (left_by c.party reply.now)
         (record { name_table = name_table.old; order = order.old; agents = map agent_of calls.old.items }) }
 {
