@@ -11,7 +11,7 @@ use Rattle.channel_steps.proofs.Interface.{hold_still}
 use Rattle.channel_steps.specs.Configuration.{ActiveCall, Configuration, ActiveCallWitness, OthersQuiet, Represents, Steps, sees, does, active_call_of, unless_ended, wanted_at, parties_in}
 use Rattle.channel_steps.specs.declared.party.Entry.{Entry as ChannelEntry}
 use Rattle.channel_steps.specs.declared.party.Party.{Party}
-use Rattle.channel_world_runs.specs.WorldState.{name_state_of, parts_in, lefts_in, StandsIn, LedByStep}
+use Rattle.channel_world_runs.specs.WorldState.{name_state_of, parties_of, parts_in, lefts_in, StandsIn, LedByStep}
 use Rattle.channel_world_runs.specs.WorldInvariant.{WorldInvariant}
 use Rattle.channel_world_runs.specs.Left.{calls_of_others, wanted_of, left_of}
 use Rattle.channel_world_runs.specs.Owners.{NameStatus, status, All, AllDiffer, Differ, Owned, Together}

@@ -34,6 +34,7 @@ pub mod OwedFacts
 mod OwedRows
 pub mod ShownFacts
 pub mod ObservationFacts
+pub mod CallFacts
 pub mod ActivityFacts
 pub mod UserFacts
 pub mod CountNames

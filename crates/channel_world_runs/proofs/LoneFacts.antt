@@ -29,10 +29,11 @@ use Rattle.channel_world_runs.specs.Calls.{agent_of}
 use Rattle.channel_world_runs.specs.declared.calls.CallUnderWay.{CallUnderWay}
 use Rattle.channel_world_runs.specs.declared.woken.Woken.{Woken as Sink}
 use Rattle.channel_world_runs.proofs.WorldInvariant.{kept_alone}
+use Rattle.channel_world_runs.proofs.CallFacts.{none_read}
 use Rattle.channel_world_runs.proofs.AccountFacts.{no_accounts, run_accounts}
 use Rattle.channel_world_runs.proofs.ActivityFacts.{TookFew}
 use Rattle.channel_world_runs.proofs.OwnerBegins.{Admitted, admitted}
-use Rattle.channel_world_runs.proofs.WorldStateFacts.{none_read, stands_in, stands_same}
+use Rattle.channel_world_runs.proofs.WorldStateFacts.{stands_in, stands_same}
 use Rattle.channel_world_runs.proofs.PlaceFacts.{Counted, came_most, counted_alone}
 use Rattle.channel_world_runs.proofs.ShownFacts.{has_position}
 use Rattle.channel_world_runs.proofs.ReachesFacts.{no_way, lone_way}

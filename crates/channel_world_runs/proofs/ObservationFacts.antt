@@ -56,16 +56,16 @@ all_announced (t ∷ ts) n besides e = omega arith
 is_closing : (m : Mark) → m ≡ Close → is_close m ≡ true
 is_closing m e = ap is_close e
 
+counted : {A : Type 0} (f : A → Activity) (test : Activity → Bool) (xs : List A) → count_by test (map f xs) ≡ count_by (λ (x : A). test (f x)) xs
+counted f test [] = refl
+counted {A} f test (x ∷ xs) =
+    let here = count_first test (f x) (map f xs) in
+    let there = count_first (λ (y : A). test (f y)) x xs in
+    let rest = counted f test xs in
+    omega (arith, here, there, rest)
+
 module _ {T : Type 0} where
   -- ---- numbers
-
-  counted : {A : Type 0} (f : A → Activity) (test : Activity → Bool) (xs : List A) → count_by test (map f xs) ≡ count_by (λ (x : A). test (f x)) xs
-  counted f test [] = refl
-  counted {A} f test (x ∷ xs) =
-      let here = count_first test (f x) (map f xs) in
-      let there = count_first (λ (y : A). test (f y)) x xs in
-      let rest = counted f test xs in
-      omega (arith, here, there, rest)
 
   some_counts : (P : ActiveCall T Waiter → Type 0) (test : ActiveCall T Waiter → Bool) → ((u : ActiveCall T Waiter) → P u → test u ≡ true)
       → (us : List (ActiveCall T Waiter)) → AnyOf P us → 0 < count_by test us

@@ -1,6 +1,6 @@
 -- Steps of an interleaved channel, and runs of them.
-use Rattle.std.proofs.Common.{arith, ◌≡◌, ℕ, ◌+◌, ◌-◌, ◌^◌, ◌≤◌, ◌<◌, min, Bool, true, false, nat_lt, slice_index_or, List, [], ◌∷◌, ◌++◌, map, length, slice_get, slice_set, vec_len, vec_capacity, Option, None, Some, ◌⊎◌, inl, inr, refl, sym, ap, ◌∙◌, subst, append_assoc}
-use Rattle.std.proofs.lemmas.List.{length-map, map-append, map-set}
+use Rattle.std.proofs.Common.{arith, ◌≡◌, ℕ, ◌+◌, ◌-◌, ◌^◌, ◌≤◌, ◌<◌, min, Bool, true, false, nat_lt, slice_index_or, List, [], ◌∷◌, ◌++◌, map, length, slice_get, vec_len, vec_capacity, Option, None, Some, ◌⊎◌, inl, inr, refl, sym, ap, ◌∙◌, subst, append_assoc}
+use Rattle.std.proofs.lemmas.List.{length-map, map-append}
 use Rattle.concurrent_queue.specs.Queue.{IsInRange}
 use Rattle.concurrent_queue.proofs.Interface.{shows}
 use Rattle.channel_steps.specs.solo.Run as queue
@@ -20,7 +20,7 @@ use Rattle.channel_steps.specs.Count.{counted, brought_in, taken_out}
 use Rattle.channel_steps.specs.Run.{IsRun, new_configuration, Begins, PartyBegins}
 use Rattle.channel_steps.specs.Tellings.{telling, dropping}
 use Rattle.channel_steps.specs.Left.{left_at}
-use Rattle.channel_steps.specs.Configuration.{Configuration, ActiveCallWitness, PartySteps, Represents, StepsAt, StepsNearer, active_call_of, after_step, all_seats, blocks_after, brought, left_by, IsBalanced}
+use Rattle.channel_steps.specs.Configuration.{ActiveCall, Configuration, ActiveCallWitness, PartySteps, Represents, StepsAt, StepsNearer, active_call_of, after_step, all_seats, blocks_after, brought, left_by, IsBalanced}
 use Rattle.channel_steps.specs.Configuration.{Steps as ChannelSteps}
 use Rattle.channel_steps.specs.declared.party.Entry.{Entry as ChannelEntry}
 use Rattle.channel_steps.specs.declared.party.Party.{Party}
@@ -47,9 +47,10 @@ use Rattle.channel_world_runs.specs.declared.step.Entry.{Entry}
 use Rattle.channel_world_runs.specs.declared.step.Step.{Step}
 use Rattle.channel_world_runs.specs.declared.step.Step.TheVariants as step
 use Rattle.channel_world_runs.specs.declared.woken.Woken.{Woken as Sink}
-use Rattle.channel_steps.proofs.Interface.{get-map, map-after, set-same, run_none, run_on, few_left, messages_counted, messages_moved, blocks_begun}
+use Rattle.channel_steps.proofs.Interface.{get-map, map-after, run_none, run_on, few_left, messages_counted, messages_moved, blocks_begun}
 use Rattle.channel_world_runs.specs.WorldInvariant.{WorldInvariant}
 use Rattle.channel_world_runs.proofs.AccountFacts.{no_accounts, next_accounts}
+use Rattle.channel_world_runs.proofs.CallFacts.{none_read}
 use Rattle.channel_world_runs.proofs.WorldInvariant.{kept_first, kept_next}
 use Rattle.channel_world_runs.proofs.LeftFacts.{comes_nearer, few_of, parties_shown}
 use Rattle.channel_world_runs.proofs.ActivityFacts.{begun_noted, begun_few, stepped_noted, stepped_few}
@@ -59,11 +60,6 @@ use Rattle.channel_world_runs.proofs.ObservationFacts.{observation_owed, observa
 use Rattle.channel_world_runs.proofs.PlaceFacts.{brought_most, no_message}
 use Rattle.channel_world_runs.proofs.PositionFacts.{step_brings, begin_brings, yet_most}
 use Rattle.channel_world_runs.proofs.WokenFacts.{all_heard, few_woken}
-
--- what is read off none is none
-pub none_read : {A B : Type 0} (f : A → B) (xs : List A) → map f xs ≡ [] → xs ≡ []
-none_read f [] e = refl
-none_read f (x ∷ xs) e = absurd cc
 
 module _ {T : Type 0} where
   -- ---- the calls under way
@@ -106,7 +102,7 @@ module _ {T : Type 0} where
   -- what is read off the calls under way, once one more is
   one_more : {A : Type 0} (f : CallUnderWay T → A) (old new : List (CallUnderWay T)) (x : CallUnderWay T) (y : A) → new ≡ old ++ x ∷ [] → f x ≡ y
       → map f new ≡ map f old ++ y ∷ []
-  one_more f old new x y calls is = ap (λ (cs : List (CallUnderWay T)). map f cs) calls ∙ (map-append f old (x ∷ []) ∙ ap (λ (z : A). map f old ++ z ∷ []) is)
+  one_more {A} f old new x y calls is = ap (λ (cs : List (CallUnderWay T)). map f cs) calls ∙ (map-append f old (x ∷ []) ∙ ap (λ (z : A). map f old ++ z ∷ []) is)
 
   -- where a call begins that has a position, the messages that may yet come are within the positions
   begun_counted : (p : PartyId) (c : Call T) (f g : WorldState T) (s t : Configuration T Waiter) (entry : ChannelEntry T) → HasPosition c f
@@ -225,13 +221,6 @@ module _ {T : Type 0} where
   read_off : {A : Type 0} (f : CallUnderWay T → A) (k : ℕ) (d : CallUnderWay T) (old new : WorldState T) (r : Option (Reply T))
       → new.calls.items ≡ after_step old.calls.items k d r → map f new.calls.items ≡ after_step (map f old.calls.items) k (f d) r
   read_off f k d old new r calls = ap (λ (cs : List (CallUnderWay T)). map f cs) calls ∙ map-after f old.calls.items k d r
-
-  -- a step leaves to a call what it has to write back
-  pub agents_kept : (calls : List (CallUnderWay T)) (k : ℕ) (c d : CallUnderWay T) → slice_get calls k ≡ Some c → agent_of d ≡ agent_of c
-      → map agent_of (slice_set calls k d) ≡ map agent_of calls
-  agents_kept calls k c d there same =
-      map-set agent_of calls k d
-      ∙ (ap (λ (a : Agent T). slice_set (map agent_of calls) k a) same ∙ set-same (map agent_of calls) k (agent_of c) (get-map agent_of calls k c there))
 
   pub has_stepped : (p : PartyId) (k n came : ℕ) (c d : CallUnderWay T) (old new : WorldState T) (empty full : Sink) (e : Entry T)
       → slice_get old.calls.items k ≡ Some c → c.party.id ≡ p.0

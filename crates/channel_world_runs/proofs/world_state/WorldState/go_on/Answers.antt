@@ -2,7 +2,8 @@ use Rattle.std.proofs.Common.{arith, ◌≡◌, ◌<◌, ◌∙◌, length, vec_
 use Rattle.std.proofs.lemmas.Option.{slice_get_within, slice_get_read}
 use Rattle.channel_steps.proofs.Interface.{after-set, get-set}
 use Rattle.channel_world_runs.specs.declared.calls.CallUnderWay.{CallUnderWay}
-use Rattle.channel_world_runs.proofs.WorldStateFacts.{agents_kept, has_stepped}
+use Rattle.channel_world_runs.proofs.CallFacts.{agents_kept}
+use Rattle.channel_world_runs.proofs.WorldStateFacts.{has_stepped}
 use Rattle.channel_world_runs.proofs.world_state.WorldState.go_on.Goals as goal
 
 pub index_mut-call-requires : goal.index_mut-call-requires
