@@ -1,43 +1,22 @@
 -- A step of one party among all.
 use Rattle.std.proofs.Common.{◌≡◌, ℕ, zero, suc, ◌+◌, ◌<◌, unwrap_or, List, [], ◌∷◌, ◌++◌, map, length, slice_get, slice_set, Option, None, Some, refl, sym, ap, ◌∙◌, subst, append_assoc}
 use Rattle.std.specs.List.{remove}
-use Rattle.channel_steps.proofs.Words.{Queue, Phase, IsInRange, Contents, ActiveQueueCall, chain_after, PhasesQuiet, phases, QueueForm, Bounded, Unbounded, Parts, QueueCall, Channel, Effect, channel, seats, phase, Made, ChannelCall, Mark, Reply, kept_by, Returned, Stage, Trying, Working, Finished, FitsForm, IsStepOver, IsChannelStep, OnePlace, Party, Entry, StageAt, party_left, all_left, left_at, MarkedMoment, with_marked, ActiveCall, Configuration, MayHave, blocks_after, sees, does, gone_by, came_by, Known, AllKnown, IsBalanced, OthersQuiet, ActiveCallWitness, active_call_of, seats_of, all_seats, Represents, parties_in, unless_answered, parties_after, left_by, StepsNearer, SteppedAt, StepsAt, telling}
+use Rattle.channel_steps.proofs.Words.{Queue, Phase, IsInRange, Contents, ActiveQueueCall, chain_after, PhasesQuiet, phases, QueueForm, Bounded, Unbounded, Parts, QueueCall, Channel, Effect, channel, seats, phase, Made, Mark, Reply, kept_by, Stage, Trying, Working, Finished, FitsForm, IsStepOver, IsChannelStep, OnePlace, Party, Entry, StageAt, party_left, all_left, left_at, MarkedMoment, with_marked, ActiveCall, Configuration, MayHave, blocks_after, sees, does, gone_by, came_by, Known, AllKnown, IsBalanced, OthersQuiet, ActiveCallWitness, active_call_of, seats_of, all_seats, Represents, parties_in, unless_answered, after_step, left_by, StepsNearer, PartySteps, telling}
 use Rattle.concurrent_queue.specs.Step.{FitsAt}
 use Rattle.concurrent_queue.proofs.Callers.{itself}
+use Rattle.channel_steps.proofs.AfterStep.{after-same, get-map, map-after}
 use Rattle.channel_steps.proofs.IdleFacts.{idle_holds}
 use Rattle.channel_steps.proofs.LeftFacts.{IsAtWork, step_lessens}
 use Rattle.channel_steps.proofs.MoveFacts.{answered_alone, kept_at}
 use Rattle.channel_steps.proofs.TryFacts.{Progress}
 use Rattle.channel_steps.proofs.OwnFacts.{moves_on, names_of, moves_held, all_see, own_known, own_finishes, own_in_time}
 
-pub remove-set : {A : Type 0} (xs : List A) (k : ℕ) (y : A) → remove (slice_set xs k y) k ≡ remove xs k
-remove-set [] k y = refl
-remove-set (x ∷ xs) zero y = refl
-remove-set (x ∷ xs) (suc k) y = ap (λ zs. x ∷ zs) (remove-set xs k y)
-
-pub get-set : {A : Type 0} (xs : List A) (k : ℕ) (y z : A) → slice_get xs k ≡ Some z → slice_get (slice_set xs k y) k ≡ Some y
-get-set [] k y z e = absurd cc
-get-set (x ∷ xs) zero y z e = refl
-get-set (x ∷ xs) (suc k) y z e = get-set xs k y z e
-
--- ---- whose the calls are
-
-map-remove : {A B : Type 0} (g : A → B) (xs : List A) (k : ℕ) → map g (remove xs k) ≡ remove (map g xs) k
-map-remove g [] zero = refl
-map-remove g [] (suc k) = refl
-map-remove g (x ∷ xs) zero = refl
-map-remove g (x ∷ xs) (suc k) = ap (λ zs. g x ∷ zs) (map-remove g xs k)
-
-map-set : {A B : Type 0} (g : A → B) (xs : List A) (k : ℕ) (x y : A) → slice_get xs k ≡ Some x → g y ≡ g x → map g (slice_set xs k y) ≡ map g xs
-map-set g [] k x y e same = absurd cc
-map-set g (z ∷ zs) zero x y e same = let first : z ≡ x = cc in ap (λ b. b ∷ map g zs) (same ∙ sym (ap g first))
-map-set g (z ∷ zs) (suc k) x y e same = ap (λ bs. g z ∷ bs) (map-set g zs k x y e same)
-
 module _ {T W : Type 0} where
   pub ids_after : (ps : List (Party T W)) (k : ℕ) (x y : Party T W) → slice_get ps k ≡ Some x → y.id ≡ x.id → (r : Option (Reply T))
-      → parties_in (parties_after ps k y r) ≡ unless_answered k r (parties_in ps)
-  ids_after ps k x y there same None = map-set (λ (p : Party T W). p.id) ps k x y there same
-  ids_after ps k x y there same (Some r) = map-remove (λ (p : Party T W). p.id) ps k
+      → parties_in (after_step ps k y r) ≡ unless_answered k r (parties_in ps)
+  ids_after ps k x y there same r =
+      map-after (λ (p : Party T W). p.id) ps k y r
+      ∙ (ap (λ (n : ℕ). after_step (parties_in ps) k n r) same ∙ after-same (parties_in ps) k x.id r (get-map (λ (p : Party T W). p.id) ps k x there))
 
 module _ {A B : Type 0} (g : A → B) where
   -- where the k-th of the images is, and what the list is round it
@@ -198,7 +177,7 @@ module _ {T W : Type 0} where
         × Represents parts' parties' t × OnePlace parts parts' × (t.blocks ≡ blocks_now)
 
     pub core : (reply : Option (Reply T)) → IsStepOver parts x.party.call.stage names parts' p'.call.stage m reply
-        → Outcome reply (parties_after (map party_of (l ++ (x ∷ r))) (length l) p' reply)
+        → Outcome reply (after_step (map party_of (l ++ (x ∷ r))) (length l) p' reply)
     core None step =
         let made = step blocks q x.inner (all_seats l) (all_seats r) range round in
         let q' : Queue T = made.queue in
@@ -315,57 +294,46 @@ module _ {T W : Type 0} where
           refl,
         )
 
-  -- a step of the k-th party, as the code makes it, is a step in each configuration that is shown
-  pub stepped_at : {S : Type 0} (wakes : S → W → S → Type 0) (parts parts' : Parts T W) (parties parties' : List (Party T W)) (k : ℕ) (sink sink' : S) (e : Entry T)
-      → SteppedAt wakes parts parties k sink e parts' parties' sink' → StepsAt wakes parts parties k sink e parts' parties' sink'
-  stepped_at wakes parts parts' parties parties' k sink sink' e h s p range sh there =
-      let d = split party_of sh.witnesses k p (subst (λ (zs : List (Party T W)). slice_get zs k ≡ Some p) sh.parties_are there) in
+  -- a step of a party's call, as the code makes it, is a step in each configuration that is shown, wherever the party stands
+  pub party_steps : {S : Type 0} (wakes : S → W → S → Type 0) (parts parts' : Parts T W) (sink sink' : S) (p p' : Party T W) (reply : Option (Reply T)) → p'.id ≡ p.id
+      → IsChannelStep wakes parts p.call.stage sink parts' p'.call.stage p'.call.mark reply sink' → PartySteps wakes parts p sink reply parts' p' sink'
+  party_steps wakes parts parts' sink sink' p p' reply id step parties k there s y range sh there' =
+      let d = split party_of sh.witnesses k y (subst (λ (zs : List (Party T W)). slice_get zs k ≡ Some y) sh.parties_are there') in
       let l = d.0 in
       let x = d.1 in
       let r = d.2 in
-      let at_x : slice_get parties k ≡ Some x.party = subst (λ (y : Party T W). slice_get parties k ≡ Some y) (sym d.4) there in
-      let c = h x.party at_x in
+      let same : y ≡ p = cc in
+      let is : x.party ≡ p = d.4 ∙ same in
+      let own : p'.id ≡ x.party.id = id ∙ sym (ap (λ (z : Party T W). z.id) is) in
+      let made : IsChannelStep wakes parts x.party.call.stage sink parts' p'.call.stage p'.call.mark reply sink' =
+      subst (λ (z : Party T W). IsChannelStep wakes parts z.call.stage sink parts' p'.call.stage p'.call.mark reply sink') (sym is) step in
+      let names = made.0 in
       let in_range : IsInRange sh.queue = subst (λ (z : Channel T W). IsInRange z.queue) sh.now range in
       let fits : FitsAt s.blocks parts.cells sh.queue (all_seats (l ++ (x ∷ r))) = subst (λ (xs : List (ActiveCallWitness T W)). FitsAt s.blocks parts.cells sh.queue (all_seats xs)) d.3 sh.fits in
       let active_call_is : s.under_way ≡ map active_call_of (l ++ (x ∷ r)) = sh.under_way ∙ ap (λ (xs : List (ActiveCallWitness T W)). map active_call_of xs) d.3 in
       let known : AllKnown (channel sh.queue parts) (map active_call_of (l ++ (x ∷ r))) = subst (λ (us : List (ActiveCall T W)). AllKnown (channel sh.queue parts) us) active_call_is (subst (λ (z : Channel T W). AllKnown z s.under_way) sh.now sh.known) in
-      let o = core parts parts' l r x sh.queue c.0 e.mark c.2.0 c.1 s.blocks in_range fits known sh.balanced s.gone s.came e.reply c.2.2 in
-      let parties_is : parties ≡ map party_of (l ++ (x ∷ r)) = sh.parties_are ∙ ap (λ (xs : List (ActiveCallWitness T W)). map party_of xs) d.3 in
-      let left : parties_after (map party_of (l ++ (x ∷ r))) (length l) c.0 e.reply ≡ parties' =
-      ap (λ (zs : List (Party T W)). parties_after zs (length l) c.0 e.reply) (sym parties_is) ∙ (ap (λ n. parties_after parties n c.0 e.reply) d.5 ∙ sym c.4) in
-      let configuration_is : configuration_of s.blocks sh.queue parts (l ++ (x ∷ r)) s.gone s.came ≡ s = same_configuration s (channel sh.queue parts) (map active_call_of (l ++ (x ∷ r))) (sym sh.now) (sym active_call_is) in
-      let before_all : Configuration T W = configuration_of s.blocks sh.queue parts (l ++ (x ∷ r)) s.gone s.came in
-      let names = c.2.0 in
+      let o = core parts parts' l r x sh.queue p' p'.call.mark names own s.blocks in_range fits known sh.balanced s.gone s.came reply made.2 in
       let t = o.0 in
+      let e : Entry T = record { mark = p'.call.mark; reply = reply; kept = left_by p' reply } in
+      let parties_is : parties ≡ map party_of (l ++ (x ∷ r)) = sh.parties_are ∙ ap (λ (xs : List (ActiveCallWitness T W)). map party_of xs) d.3 in
+      let left : after_step (map party_of (l ++ (x ∷ r))) (length l) p' reply ≡ after_step parties k p' reply =
+      ap (λ (zs : List (Party T W)). after_step zs (length l) p' reply) (sym parties_is) ∙ ap (λ n. after_step parties n p' reply) d.5 in
+      let configuration_is : configuration_of s.blocks sh.queue parts (l ++ (x ∷ r)) s.gone s.came ≡ s = same_configuration s (channel sh.queue parts) (map active_call_of (l ++ (x ∷ r))) (sym sh.now) (sym active_call_is) in
       let first : List ℕ = all_left parts (map party_of (l ++ (x ∷ r))) in
-      let last : List ℕ = all_left parts' (parties_after (map party_of (l ++ (x ∷ r))) (length l) c.0 e.reply) in
-      let of_entry : StepsNearer (length l) first last before_all x.party.id e names t =
-      subst (λ (kept : Option (Returned T)). StepsNearer (length l) first last before_all x.party.id (record { mark = e.mark; reply = e.reply; kept = kept }) names t) (sym c.3) o.1 in
-      let of_party : StepsNearer (length l) first last s p.id e names t =
-      subst (λ (n : ℕ). StepsNearer (length l) first last s n e names t) (ap (λ (y : Party T W). y.id) d.4)
-      (subst (λ (z : Configuration T W). StepsNearer (length l) first last z x.party.id e names t) configuration_is of_entry) in
-      let from_here : StepsNearer (length l) (all_left parts parties) last s p.id e names t =
-      subst (λ (zs : List (Party T W)). StepsNearer (length l) (all_left parts zs) last s p.id e names t) (sym parties_is) of_party in
-      let to_there : StepsNearer (length l) (all_left parts parties) (all_left parts' parties') s p.id e names t =
-      subst (λ (zs : List (Party T W)). StepsNearer (length l) (all_left parts parties) (all_left parts' zs) s p.id e names t) left from_here in
-      let there_now : StepsNearer k (all_left parts parties) (all_left parts' parties') s p.id e names t =
-      subst (λ n. StepsNearer n (all_left parts parties) (all_left parts' parties') s p.id e names t) d.5 to_there in
+      let last : List ℕ = all_left parts' (after_step (map party_of (l ++ (x ∷ r))) (length l) p' reply) in
+      let of_party : StepsNearer (length l) first last s y.id e names t =
+      subst (λ (n : ℕ). StepsNearer (length l) first last s n e names t) (ap (λ (z : Party T W). z.id) d.4)
+      (subst (λ (z : Configuration T W). StepsNearer (length l) first last z x.party.id e names t) configuration_is o.1) in
+      let from_here : StepsNearer (length l) (all_left parts parties) last s y.id e names t =
+      subst (λ (zs : List (Party T W)). StepsNearer (length l) (all_left parts zs) last s y.id e names t) (sym parties_is) of_party in
+      let to_there : StepsNearer (length l) (all_left parts parties) (all_left parts' (after_step parties k p' reply)) s y.id e names t =
+      subst (λ (zs : List (Party T W)). StepsNearer (length l) (all_left parts parties) (all_left parts' zs) s y.id e names t) left from_here in
       record {
-        names = c.2.0;
-        woken = c.2.1;
-        after = o.0;
-        steps = there_now;
+        names = names;
+        woken = made.1;
+        after = t;
+        steps = subst (λ n. StepsNearer n (all_left parts parties) (all_left parts' (after_step parties k p' reply)) s y.id e names t) d.5 to_there;
         one_place = o.3;
         blocks = o.4;
-        shown = subst (λ (zs : List (Party T W)). Represents parts' zs o.0) left o.2;
+        shown = subst (λ (zs : List (Party T W)). Represents parts' zs t) left o.2;
       }
-
-  pub made_at : {S : Type 0} (wakes : S → W → S → Type 0) (parts parts' : Parts T W) (parties parties' : List (Party T W)) (k : ℕ) (sink sink' : S) (x : Party T W) (next : ChannelCall T W) (m : Mark) (r : Option (Reply T))
-      (kept : Option (Returned T)) → slice_get parties k ≡ Some x → m ≡ next.mark → IsChannelStep wakes parts x.call.stage sink parts' next.stage next.mark r sink'
-      → kept ≡ left_by (record { id = x.id; call = next }) r → parties' ≡ parties_after parties k (record { id = x.id; call = next }) r
-      → SteppedAt wakes parts parties k sink (record { mark = m; reply = r; kept = kept }) parts' parties' sink'
-  made_at wakes parts parts' parties parties' k sink sink' x next m r kept there e step given left p there' =
-      let next_party : Party T W = record { id = x.id; call = next } in
-      let at_x : IsChannelStep wakes parts x.call.stage sink parts' next.stage m r sink' = subst (λ (n : Mark). IsChannelStep wakes parts x.call.stage sink parts' next.stage n r sink') (sym e) step in
-      let same : x ≡ p = cc in
-      (next_party, ap (λ (y : Party T W). y.id) same, subst (λ (y : Party T W). IsChannelStep wakes parts y.call.stage sink parts' next.stage m r sink') same at_x, given, left)

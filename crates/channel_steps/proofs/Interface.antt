@@ -1,6 +1,6 @@
 -- What a layer above may use: runs, one after another and by induction; what is known of the calls under way stays known over every
--- entry of a run; a step of the only call under way; how a step changes the number of messages; how few steps a call has left; and
--- that a listener which was just added waits.
+-- entry of a run; a step of the only call under way; how a step changes the number of messages; how few steps a call has left; who is at
+-- work after a step; and that a listener which was just added waits.
 use Rattle.std.proofs.Common.{◌≡◌, ℕ, suc, ◌+◌, ◌^◌, ◌<◌, List, [], ◌∷◌, ◌++◌, map, length, Option, None, Some, refl, ap, sym, ◌∙◌, subst}
 use Rattle.channel_steps.proofs.Words.{Phase, Channel, Effect, Moves, Mark, Reply, Stage, counted, brought_in, taken_out, ActiveCall, Configuration, sees, does, unless_ended, Known, AllKnown, IsBalanced, Steps, EachStep, IsRun, end_of, Next, call_begun, Entry, Step}
 use Rattle.channel_steps.specs.declared.run.Step.TheVariants as step
@@ -8,6 +8,7 @@ pub use Rattle.channel_steps.proofs.QueueFacts.{answer_marks, answered_by}
 use Rattle.channel_steps.proofs.OwnFacts.{moves_on, all_see, own_known, begins_known}
 use Rattle.channel_steps.proofs.ConfigurationFacts.{known_left, known_right, known_both}
 use Rattle.channel_steps.proofs.CountFacts as count_facts
+pub use Rattle.channel_steps.proofs.AfterStep.{after-set, get-map, get-set, map-after, set-same}
 pub use Rattle.channel_steps.proofs.FewFacts.{few_left}
 pub use Rattle.channel_steps.proofs.IdleFacts.{hold_still}
 pub use Rattle.channel_steps.proofs.LineFacts.{fresh_waits, same_line}

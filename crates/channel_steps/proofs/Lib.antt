@@ -13,6 +13,7 @@ pub mod LineFacts
 pub mod LeftFacts
 pub mod IdleFacts
 pub mod FewFacts
+pub mod AfterStep
 pub mod ConfigurationFacts
 pub mod RunFacts
 pub mod StartFacts

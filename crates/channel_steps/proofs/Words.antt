@@ -35,7 +35,7 @@ pub use Rattle.channel_steps.specs.Known.{Answered, AreBehind, HasTaken, IsDropO
 pub use Rattle.channel_steps.specs.Left.{all_left, left_after_try, left_at, left_to_work, listening_try, most_left, most_wanted, one_try, party_left, steps_left, told_try}
 pub use Rattle.channel_steps.specs.Moments.{Appended, Crowded, Displaced, Drained, HasMessage, HasRoom, LeftLast, MadeRoom, MarkedMoment, Once, Open, RanOut, Refuses, Replaced, Shut, Took, TookAll, is_empty, with_marked}
 pub use Rattle.channel_steps.specs.Run.{EachStep, HasBegun, HasRange, IsRun, Next, call_begun, end_of, new_configuration}
-pub use Rattle.channel_steps.specs.Configuration.{AllKnown, AreIdle, EndsInTime, Finishes, IsBalanced, Known, MayFinish, MayHave, OthersQuiet, Represents, Configuration, ActiveCallWitness, SteppedAt, Steps, StepsAt, StepsNearer, ActiveCall, all_seats, blocks_after, brought, came_by, does, gone_by, left_by, parties_after, parties_in, seats_of, sees, active_call_of, unless_answered, unless_ended, wanted_at}
+pub use Rattle.channel_steps.specs.Configuration.{AllKnown, AreIdle, EndsInTime, Finishes, IsBalanced, Known, MayFinish, MayHave, OthersQuiet, Represents, Configuration, ActiveCallWitness, PartySteps, Steps, StepsAt, StepsNearer, ActiveCall, after_step, all_seats, blocks_after, brought, came_by, does, gone_by, left_by, parties_in, seats_of, sees, active_call_of, unless_answered, unless_ended, wanted_at}
 pub use Rattle.channel_steps.specs.Start.{EachConfigurationTellsQuiet, IsQuietOrNot}
 pub use Rattle.channel_steps.specs.Tellings.{Telling, WokenBy, all_of, dropping, more_of, one_of, owed, owed_besides, owed_for, owed_takings, takings, telling, with_taking}
 pub use Rattle.channel_steps.specs.declared.party.Entry.{Entry}

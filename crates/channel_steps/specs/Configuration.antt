@@ -9,7 +9,7 @@ use Rattle.concurrent_queue.specs.declared.cells.QueueForm.TheVariants.{Bounded,
 use Rattle.event_listener.specs.Notices.{Woken}
 use Rattle.channel_calls.specs.Asks.{kept_by}
 use Rattle.channel_calls.specs.Parts.{Parts}
-use Rattle.channel_calls.specs.Moves.{Channel, channel, Moves, seats, phase, OnePlace, IsChannelStep}
+use Rattle.channel_calls.specs.Moves.{Channel, channel, Moves, seats, phase, OnePlace}
 use Rattle.channel_calls.specs.declared.ask.ChannelAsk.{ChannelAsk}
 use Rattle.channel_calls.specs.declared.ask.ChannelAsk.TheVariants.{TrySend, ForceSend, PollSend}
 use Rattle.channel_calls.specs.declared.call.ChannelCall.{ChannelCall}
@@ -81,9 +81,14 @@ module _ {T : Type 0} where
   gone_by m items = []
 
   -- the k-th of those at work is so no more, if its call has answered
-  abbrev pub unless_answered : ℕ → Option (Reply T) → List ℕ → List ℕ
-  unless_answered k None ids = ids
-  unless_answered k (Some r) ids = remove ids k
+  abbrev pub unless_answered : {A : Type 0} → ℕ → Option (Reply T) → List A → List A
+  unless_answered k None xs = xs
+  unless_answered k (Some r) xs = remove xs k
+
+  -- those at work after a step of the k-th, who stands so then
+  abbrev pub after_step : {A : Type 0} → List A → ℕ → A → Option (Reply T) → List A
+  after_step xs k x None = slice_set xs k x
+  after_step xs k x (Some r) = remove xs k
 
   -- a quick call ends by its eighth step
   abbrev pub EndsInTime : ℕ → Option (Reply T) → Type 0
@@ -222,10 +227,6 @@ module _ {T W : Type 0} where
   abbrev pub HasParty : ℕ → List (Party T W) → ℕ → Type 0
   HasParty p parties k = (call : ChannelCall T W) × (slice_get parties k ≡ Some (record { id = p; call = call }))
 
-  abbrev pub parties_after : List (Party T W) → ℕ → Party T W → Option (Reply T) → List (Party T W)
-  parties_after parties k q None = slice_set parties k q
-  parties_after parties k q (Some r) = remove parties k
-
   -- what the call of the k-th party leaves to its operation
   abbrev pub IsLeftBy : List (Party T W) → ℕ → Returned T → Type 0
   IsLeftBy parties k kept = (p : Party T W) → slice_get parties k ≡ Some p → kept ≡ kept_by p.call.stage
@@ -242,12 +243,6 @@ module _ {T W : Type 0} where
     pub nearer : e.reply ≡ None → OthersQuiet s.now (step.before ++ step.behind) → left_at k left' < left_at k left
 
   module _ {S : Type 0} (wakes : S → W → S → Type 0) where
-    -- the code of one step
-    abbrev pub SteppedAt : Parts T W → List (Party T W) → ℕ → S → Entry T → Parts T W → List (Party T W) → S → Type 0
-    SteppedAt parts parties k sink e parts' parties' sink' =
-        (p : Party T W) → slice_get parties k ≡ Some p →
-        (p' : Party T W) × (p'.id ≡ p.id) × IsChannelStep wakes parts p.call.stage sink parts' p'.call.stage e.mark e.reply sink' × (e.kept ≡ left_by p' e.reply) × (parties' ≡ parties_after parties k p' e.reply)
-
     -- a step of the k-th call that was made in the configuration s
     pub record Stepped (parts : Parts T W) (parties : List (Party T W)) (k : ℕ) (sink : S) (e : Entry T) (parts' : Parts T W) (parties' : List (Party T W)) (sink' : S) (s : Configuration T W) (p : ℕ) : Type 0 where
       pub names : List W
@@ -262,3 +257,9 @@ module _ {T W : Type 0} where
     abbrev pub StepsAt : Parts T W → List (Party T W) → ℕ → S → Entry T → Parts T W → List (Party T W) → S → Type 0
     StepsAt parts parties k sink e parts' parties' sink' =
         (s : Configuration T W) (p : Party T W) → IsInRange s.now.queue → Represents parts parties s → slice_get parties k ≡ Some p → Stepped parts parties k sink e parts' parties' sink' s p.id
+
+    -- a step of a party's call that leaves this party, wherever the party stands among others
+    abbrev pub PartySteps : Parts T W → Party T W → S → Option (Reply T) → Parts T W → Party T W → S → Type 0
+    PartySteps parts p sink reply parts' p' sink' =
+        (parties : List (Party T W)) (k : ℕ) → slice_get parties k ≡ Some p
+        → StepsAt parts parties k sink (record { mark = p'.call.mark; reply = reply; kept = left_by p' reply }) parts' (after_step parties k p' reply) sink'

@@ -74,6 +74,11 @@ module _ {T W : Type 0} where
   abbrev pub HasBegun : ℕ → ChannelAsk T W → List (Party T W) → Entry T → List (Party T W) → Type 0
   HasBegun p ask parties e parties' = (parts : Parts T W) (s : Configuration T W) → Represents parts parties s → Began p ask parts e parties' s
 
+  -- so it is wherever the party comes after others
+  abbrev pub PartyBegins : ℕ → ChannelAsk T W → Party T W → Type 0
+  PartyBegins p ask party =
+      (parties : List (Party T W)) → HasBegun p ask parties (record { mark = Nothing; reply = None; kept = None }) (parties ++ party ∷ [])
+
   -- one entry of a run, which wakes these
   abbrev pub Next : Configuration T W → Step T W → Entry T → List W → Configuration T W → Type 0
   Next s (step.Begin p ask) e names t = Begins s p ask e t × (names ≡ [])

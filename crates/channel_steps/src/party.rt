@@ -20,6 +20,55 @@ pub struct Party<T, W> {
     pub(crate) call: ChannelCall<T, W>,
 }
 
+impl<T: Drop, W: Drop> Party<T, W> {
+    ghost use Rattle.std.specs.Prelude.{◌≡◌};
+    ghost use Rattle.channel_calls.specs.Asks.{kept_by};
+    ghost use Rattle.channel_steps.specs.Run.{PartyBegins};
+    ghost use Rattle.channel_steps.specs.Configuration.{PartySteps};
+
+    /// A party that begins a call. No cell is touched, and nobody is woken. Own to this project.
+    pub fn new(party: u32, ask: ChannelAsk<T, W>) -> Party<T, W>
+        ensures begins { PartyBegins party ask result }
+        ensures id { result.id ≡ party }
+    {
+        let call = ChannelCall::new(ask);
+        Party { id: party, call }
+    }
+
+    /// Whose the call is. Own to this project.
+    pub fn id(&self) -> u32
+        ensures { result ≡ self.now.id }
+    {
+        self.id
+    }
+
+    /// One step of its call, which gives the reply if it is the last. Nothing waits. Own to this project.
+    pub fn step<C: ChannelCells<T, W>, S: Wakes<W>>(
+        &mut self,
+        cells: &mut C,
+        sink: &mut S,
+    ) -> Option<Reply<T>>
+        ensures steps { C.known → PartySteps S.wakes (C.parts cells.old) self.old sink.old result (C.parts cells.new) self.new sink.new }
+        ensures id { self.new.id ≡ self.old.id }
+    {
+        self.call.step(cells, sink)
+    }
+
+    /// What the last step of its call did to the channel. Own to this project.
+    pub fn last_mark(&self) -> Mark
+        ensures { result ≡ self.now.call.mark }
+    {
+        self.call.last_mark()
+    }
+
+    /// What its call, once it has answered, leaves to its operation. Own to this project.
+    pub fn into_kept(self) -> Returned<T>
+        ensures { result ≡ kept_by self.call.stage }
+    {
+        self.call.into_kept()
+    }
+}
+
 /// What one step of a run did: its mark, and the reply where a call ended. Own to this project.
 #[derive(Drop)]
 pub struct Entry<T> {
@@ -29,17 +78,6 @@ pub struct Entry<T> {
     pub reply: Option<Reply<T>>,
     /// What it leaves to its operation then: the listener of a pending one, the message of an unfinished send.
     pub kept: Option<Returned<T>>,
-}
-
-/// Appends within the room that was taken.
-fn append<X: Drop>(items: &mut Vec<X>, item: X)
-    requires { vec_len items.old < vec_capacity items.old }
-    ensures { items.new.items ≡ items.old.items ++ item ∷ [] }
-{
-    match items.push(item) {
-        Ok(()) => {}
-        Err(_) => unreachable!(),
-    }
 }
 
 /// Begins a call, within the room that was taken for its party. No cell is touched, and nobody is woken. Own to this project.
@@ -52,8 +90,7 @@ pub fn begin<T: Drop, W: Drop>(
     ensures begins { HasBegun party ask parties.old.items result parties.new.items }
     ensures parties { parties_in parties.new.items ≡ parties_in parties.old.items ++ party ∷ [] }
 {
-    let call = ChannelCall::new(ask);
-    append(parties, Party { id: party, call });
+    parties.push_reserved(Party::new(party, ask));
     Entry {
         mark: Mark::Nothing,
         reply: None,
@@ -67,8 +104,7 @@ fn leave<T: Drop, W: Drop>(parties: &mut Vec<Party<T, W>>, k: usize) -> Returned
     ensures parties { parties.new.items ≡ remove parties.old.items k }
     ensures kept { IsLeftBy parties.old.items k result }
 {
-    let party = parties.remove(k);
-    party.call.into_kept()
+    parties.remove(k).into_kept()
 }
 
 /// One step of the k-th call under way. A call that answers is under way no more. Nothing waits. Own to this project.
@@ -83,8 +119,8 @@ pub fn step_at<T: Drop, W: Drop, C: ChannelCells<T, W>, S: Wakes<W>>(
     ensures parties { parties_in parties.new.items ≡ unless_answered k result.reply (parties_in parties.old.items) }
 {
     let party = &mut parties[k];
-    let reply = party.call.step(cells, sink);
-    let mark = party.call.last_mark();
+    let reply = party.step(cells, sink);
+    let mark = party.last_mark();
     let kept = match &reply {
         Some(_) => Some(leave(parties, k)),
         None => None,

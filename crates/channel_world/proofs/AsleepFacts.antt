@@ -1,17 +1,16 @@
 -- What answers for who sleeps, in the numbers that a world tells.
-use Rattle.std.proofs.Common.{arith, ◌≡◌, ◌⊎◌, ◌<◌, ℕ, List, [], ◌∷◌, length, Option, None, Some, inl, inr, refl, sym, ap, subst, ◌∙◌}
-use Rattle.std.proofs.lemmas.List.{length-map}
+use Rattle.std.proofs.Common.{arith, ◌≡◌, ◌⊎◌, ◌<◌, ◌==◌, ℕ, Bool, List, [], ◌∷◌, length, Option, None, Some, inl, inr, refl, sym, ap, subst, ◌∙◌, vec_len}
+use Rattle.std.proofs.lemmas.Bool.Decides.{nat_tests}
 use Rattle.channel_world_model.specs.Awake.{AwakeIn}
 use Rattle.channel_world_model.specs.Laws.{free_places}
 use Rattle.channel_world_model.specs.Settling.{NobodyGoesOn}
 use Rattle.channel_world_model.specs.State.{State}
 use Rattle.channel_world_model.specs.declared.name.Waiter.{Waiter}
 use Rattle.channel_world_model.proofs.Settle.{at_rest as settled_rest}
-use Rattle.channel_steps.specs.declared.party.Party.{Party}
 use Rattle.channel_world_runs.specs.Apart.{AreApart}
-use Rattle.channel_world_runs.specs.WorldState.{calls_in, messages_in, name_state_of, AreAtWork, IsQuiet, Stands}
+use Rattle.channel_world_runs.specs.WorldState.{calls_in, messages_in, name_state_of, IsQuiet, Stands, TellsQuiet}
 use Rattle.channel_world_runs.specs.declared.world_state.WorldState.{WorldState}
-use Rattle.channel_world_runs.specs.declared.names.Agent.{Agent}
+use Rattle.channel_world_runs.specs.declared.calls.CallUnderWay.{CallUnderWay}
 use Rattle.channel_world_runs.proofs.Interface.{none_under_way}
 use Rattle.channel_world_runs.specs.rest.Rest.{RestIsAWorld}
 use Rattle.channel_world.proofs.Opening.{at_rest_is}
@@ -25,19 +24,17 @@ none_of : {A : Type 0} (xs : List A) → length xs ≡ 0 → xs ≡ []
 none_of [] e = refl
 none_of (x ∷ xs) e = absurd (omega (arith, e))
 
-module _ {T : Type 0} (w : WorldState T) (at_work : AreAtWork w) where
-  parties_number : length w.parties.items ≡ calls_in w
-  parties_number =
-      let a = length-map w.agents.items (λ (x : Agent T). x.party) in
-      let b = length-map w.parties.items (λ (x : Party T Waiter). x.id) in
-      let same = ap (λ (ns : List ℕ). length ns) at_work in
-      omega (arith, a, b, same)
-
+module _ {T : Type 0} (w : WorldState T) where
   pub calls_at_rest : CallsAtRest (view_of w)
-  calls_at_rest = record {
-    none = λ e. none_of w.parties.items (parties_number ∙ e);
-    quiet = λ q. sym parties_number ∙ ap (λ (ps : List (Party T Waiter)). length ps) q;
-  }
+  calls_at_rest = record { none = none_of w.calls.items; quiet = λ q. ap (λ (cs : List (CallUnderWay T)). length cs) q }
+
+  pub tells_quiet : (quiet : Bool) → quiet ≡ (vec_len w.calls == 0) → TellsQuiet w quiet
+  tells_quiet quiet is =
+      let size : vec_len w.calls ≡ length w.calls.items = w.calls.ok.0 in
+      record {
+        told = λ yes. none_of w.calls.items (grind (arith, nat_tests));
+        busy = λ no none. let empty : length w.calls.items ≡ 0 = ap (λ (cs : List (CallUnderWay T)). length cs) none in absurd (grind (arith, nat_tests));
+      }
 
 -- ---- at rest
 

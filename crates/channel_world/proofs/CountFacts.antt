@@ -24,7 +24,8 @@ use Rattle.channel_world_model.specs.declared.name.Waiter.{Waiter}
 use Rattle.channel_steps.specs.Configuration.{ActiveCall, Configuration, ActiveCallWitness, active_call_of, all_seats}
 use Rattle.channel_steps.specs.declared.party.Party.{Party}
 use Rattle.channel_world_runs.specs.Counted.{tally, is_strong, strong_lives, live_on, is_lowering, is_closing}
-use Rattle.channel_world_runs.specs.WorldState.{parts_in, Shown, IsQuiet, Stands}
+use Rattle.channel_world_runs.specs.WorldState.{parties_of, parts_in, Shown, IsQuiet, Stands}
+use Rattle.channel_world_runs.proofs.LoneFacts.{no_parties}
 use Rattle.channel_world_runs.specs.declared.world_state.WorldState.{WorldState}
 use Rattle.channel_world_runs.specs.declared.names.HandleEntry.{HandleEntry}
 use Rattle.channel_world.specs.Counts.{strong_kind, live, CountsLive, OpenHasBoth, AreByDrops, CountsAtRest}
@@ -93,7 +94,7 @@ module _ {T : Type 0} where
   module _ (w : WorldState T) (s : Configuration T Waiter) (sh : Shown w s) where
     shown_tally : (p : Stage (Phase T) T Waiter → Bool) (q : Stage (QueueCall T) T Waiter → Bool)
         → ((f : Phase T) (z : Stage (QueueCall T) T Waiter) → p (phase f z) ≡ q z)
-        → tally (λ (u : ActiveCall T Waiter). p u.at) s.under_way ≡ tally (λ (x : Party T Waiter). q x.call.stage) w.parties.items
+        → tally (λ (u : ActiveCall T Waiter). p u.at) s.under_way ≡ tally (λ (x : Party T Waiter). q x.call.stage) (parties_of w)
     shown_tally p q same =
         ap (λ (us : List (ActiveCall T Waiter)). tally (λ (u : ActiveCall T Waiter). p u.at) us) sh.shows.under_way
         ∙ (same_tally p q same sh.shows.witnesses
@@ -128,10 +129,10 @@ module _ {T : Type 0} where
           inr (omega (arith, h, close))
 
     none_lowers : IsQuiet w → (side : Side) → to_lower side (view_of w) ≡ 0
-    none_lowers quiet side = ap (λ (ps : List (Party T Waiter)). tally (λ (p : Party T Waiter). is_lowering side p.call.stage) ps) quiet
+    none_lowers quiet side = ap (λ (ps : List (Party T Waiter)). tally (λ (p : Party T Waiter). is_lowering side p.call.stage) ps) (no_parties w quiet)
 
     none_closes : IsQuiet w → (side : Side) → to_close side (view_of w) ≡ 0
-    none_closes quiet side = ap (λ (ps : List (Party T Waiter)). tally (λ (p : Party T Waiter). is_closing side p.call.stage) ps) quiet
+    none_closes quiet side = ap (λ (ps : List (Party T Waiter)). tally (λ (p : Party T Waiter). is_closing side p.call.stage) ps) (no_parties w quiet)
 
     all_live : IsQuiet w → (side : Side) → count_in side (view_of w) ≡ live side (view_of w)
     all_live quiet side = let c = counts_live side in let none = none_lowers quiet side in omega (arith, c, none)

@@ -13,7 +13,7 @@ use Rattle.channel_steps.specs.declared.party.Entry.{Entry as ChannelEntry}
 use Rattle.channel_steps.specs.declared.run.Step.{Step as ChannelStep}
 use Rattle.channel_steps.proofs.Interface.{each_says}
 use Rattle.channel_world_runs.specs.WorldInvariant.{WorldInvariant}
-use Rattle.channel_world_runs.specs.WorldState.{name_state_of, parts_in, messages_in, StandsIn, Stands}
+use Rattle.channel_world_runs.specs.WorldState.{name_state_of, parties_of, parts_in, messages_in, StandsIn, Stands}
 use Rattle.channel_world_runs.specs.Run.{StopsAt, channel_step}
 use Rattle.channel_world_runs.specs.Runs.{Moment, Holds, LeadsBy, accepted_in, left_in, moment_of, RanTo}
 use Rattle.channel_world_runs.specs.declared.world_state.WorldState.{WorldState}
@@ -40,8 +40,8 @@ use Rattle.channel_world.specs.View.{view_of, WorldView}
 module _ {T : Type 0} where
   -- ---- a moment
 
-  say_words : (f : WorldState T) (s : Configuration T Waiter) → StandsIn f s → WordsSay (parts_in f).cells f.parties.items s
-  say_words f s k = words_say (parts_in f) f.parties.items s k.shown.shows
+  say_words : (f : WorldState T) (s : Configuration T Waiter) → StandsIn f s → WordsSay (parts_in f).cells (parties_of f) s
+  say_words f s k = words_say (parts_in f) (parties_of f) s k.shown.shows
 
   moment_says : (m : Moment T) → Holds m → MomentSays m
   moment_says m h =
@@ -55,7 +55,7 @@ module _ {T : Type 0} where
         stands = is.stands;
         begun = all_begin m.configuration.now m.configuration.under_way known.known;
         owed = owed_at m.name_state m.configuration kept;
-        words = subst (λ (p : Parts T Waiter). WordsSay p.cells h.world_state.parties.items m.configuration) (sym same) (say_words h.world_state m.configuration is.stands);
+        words = subst (λ (p : Parts T Waiter). WordsSay p.cells (parties_of h.world_state) m.configuration) (sym same) (say_words h.world_state m.configuration is.stands);
         few = h.few;
       }
 

@@ -16,12 +16,12 @@ use Rattle.channel_world_model.specs.Laws.{same_line}
 use Rattle.channel_world_model.specs.Names.{Directory}
 use Rattle.channel_world_model.specs.declared.name.Waiter.{Waiter}
 use Rattle.channel_world_model.specs.declared.name.Waiter.TheVariants.{Op, Stream}
-use Rattle.channel_steps.specs.declared.party.Party.{Party}
 use Rattle.channel_world_runs.specs.Apart.{AreApart}
 use Rattle.channel_world_runs.specs.WorldState.{observation_of, Stands}
 use Rattle.channel_world_runs.specs.Owed.{IsUnwoken, all_names, is_woken_on, woken_on, unannounced, all_unannounced}
 use Rattle.channel_world_runs.specs.Owners.{NameStatus, waits, status_by, stream_status, operation_status, status}
-use Rattle.channel_world_runs.specs.declared.doing.Doing.{Doing}
+use Rattle.channel_world_runs.specs.declared.activity.Activity.{Activity}
+use Rattle.channel_world_runs.specs.declared.calls.CallUnderWay.{CallUnderWay}
 use Rattle.channel_world_runs.specs.declared.world_state.WorldState.{WorldState}
 use Rattle.channel_world_runs.specs.declared.names.HandleEntry.{HandleEntry}
 use Rattle.channel_world_runs.specs.declared.names.OperationEntry.{OperationEntry}
@@ -138,19 +138,15 @@ module _ {T : Type 0} where
 
   -- ---- places
 
-  few_unannounced : (p : Party T Waiter) (d : Doing) → unannounced p.call.stage d ≤ d.taken
-  few_unannounced p d = by p.call.stage
-    where
-      by : (at : Stage (QueueCall T) T Waiter) → unannounced at d ≤ d.taken
-      by (Working (Leave x)) = omega arith
-      by at = omega arith
+  few_unannounced : (at : Stage (QueueCall T) T Waiter) (d : Activity) → unannounced at d ≤ d.taken
+  few_unannounced (Working (Leave x)) d = omega arith
+  few_unannounced at d = omega arith
 
-  all_few : (ps : List (Party T Waiter)) (ds : List Doing) → all_unannounced ps ds ≤ takings_of ds
-  all_few [] ds = omega arith
-  all_few (p ∷ ps) [] = omega arith
-  all_few (p ∷ ps) (d ∷ ds) =
-      let one = few_unannounced p d in
-      let rest = all_few ps ds in
+  all_few : (cs : List (CallUnderWay T)) → all_unannounced cs ≤ takings_of cs
+  all_few [] = omega arith
+  all_few (c ∷ cs) =
+      let one = few_unannounced c.party.call.stage c.activity in
+      let rest = all_few cs in
       omega (arith, one, rest)
 
   module _ (w : WorldState T) (k : Stands w) (apart : AreApart w.name_table) where
@@ -163,7 +159,7 @@ module _ {T : Type 0} where
     no_send_sleeps is_open fits = record {
       none = λ name asleep.
           let o = k.stands.owed in
-          let few = all_few w.parties.items w.doings.items in
+          let few = all_few w.calls.items in
           none_fits (observation_of w).capacity _ _ (omega (arith, few)) fits (o.sends name asleep is_open);
     }
 

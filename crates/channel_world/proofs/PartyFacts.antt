@@ -10,12 +10,12 @@ use Rattle.channel_world_model.specs.declared.run.Stopped.{Stopped}
 use Rattle.channel_steps.specs.Run.{EachStep, IsRun, end_of}
 use Rattle.channel_steps.specs.Configuration.{Configuration}
 use Rattle.channel_steps.proofs.Interface.{run_on}
-use Rattle.channel_world_runs.specs.WorldState.{name_state_of, Stands}
+use Rattle.channel_world_runs.specs.WorldState.{agents_of, name_state_of, Stands}
 use Rattle.channel_world_runs.specs.Refusal.{step_refusal}
 use Rattle.channel_world_runs.specs.Run.{NameState, StepIsMade, MayRefuseStep, StopsAt, name_state_ended, with_woken}
 use Rattle.channel_world_runs.specs.Runs.{Moment, LeadsBy, RanTo, accepted_in, left_in, moment_of}
 use Rattle.channel_world_runs.specs.declared.world_state.WorldState.{WorldState}
-use Rattle.channel_world_runs.specs.declared.names.Agent.{Agent}
+use Rattle.channel_world_runs.specs.Calls.{Agent}
 use Rattle.channel_world_runs.specs.declared.step.Entry.{Entry}
 use Rattle.channel_world_runs.specs.declared.step.PartyId.{PartyId}
 use Rattle.channel_world_runs.specs.declared.step.Step.{Step}
@@ -117,7 +117,7 @@ module _ {T : Type 0} where
     pub entry : Entry T
     pub entries : trace ≡ entry ∷ []
     pub ran : RanTo (step.Step p ∷ []) [] old (entry ∷ []) new
-    pub goes_on : entry.reply ≡ None → step_refusal new.name_table new.agents.items (step.Step p) ≡ None
+    pub goes_on : entry.reply ≡ None → step_refusal new.name_table (agents_of new) (step.Step p) ≡ None
 
   pub one_made : (p : PartyId) (left : List (Step T)) (old : WorldState T) (trace : List (Entry T)) (new : WorldState T) → Stands old
       → RanTo (step.Step p ∷ []) left old trace new → left ≡ [] → OneMade p old trace new

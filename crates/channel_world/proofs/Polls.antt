@@ -9,7 +9,7 @@ use Rattle.channel_calls.specs.declared.stage.WaitList.TheVariants.{Sends, Recei
 use Rattle.channel_steps.specs.solo.Alone.{Outcome, Alone}
 use Rattle.channel_world_runs.proofs.Interface.{none_under_way, no_agents}
 use Rattle.channel_world_runs.specs.Bookkeeping.{asks}
-use Rattle.channel_world_runs.specs.WorldState.{parts_in, name_state_of, HasPositions, Shown, IsKept, IsQuiet}
+use Rattle.channel_world_runs.specs.WorldState.{parts_in, name_state_of, HasPositions, Shown, IsQuiet, Stands}
 use Rattle.channel_world_runs.specs.WorldInvariant.{WorldInvariant}
 use Rattle.channel_world_runs.specs.Lone.{name_state_alone, BringsWithin, WakesAtMost}
 use Rattle.channel_world_runs.specs.Positions.{accepted_by, brings}
@@ -40,16 +40,17 @@ as_many held [] (w ∷ ws) h = absurd h
 as_many held (e ∷ es) [] h = absurd h
 as_many held (e ∷ es) (w ∷ ws) h = ap suc (as_many held es ws h.1)
 
-module _ {T : Type 0} (f : WorldState T) (kept : IsKept f) (quiet : IsQuiet f) where
+module _ {T : Type 0} (f : WorldState T) (kept : Stands f) (quiet : IsQuiet f) where
   -- as many stand untold in a line as wait on its list, where no call is under way
   pub as_many_wait : RestIsAWorld T → (line : WaitList)
       → length (listeners line (parts_in f).roster).waiting ≡ length (untold line (at_rest f).waiting)
   as_many_wait rests line =
-      let k = kept.listeners in
+      let k = kept.stands in
+      let s = kept.configuration in
       subst (λ (r : WaitLists Waiter). length (listeners line r).waiting ≡ length (untold line (at_rest f).waiting))
       (ap (λ (c : Channel T Waiter). c.roster) k.shown.shows.now)
-      (subst (λ (s : State T). length (listeners line k.configuration.now.roster).waiting ≡ length (untold line s.waiting))
-      (sym (at_rest_is f k.configuration k.shown quiet)) (shown k.configuration (rests (name_state_of f) k.configuration k.kept (none_under_way f k.configuration quiet k.shown)) line))
+      (subst (λ (x : State T). length (listeners line s.now.roster).waiting ≡ length (untold line x.waiting))
+      (sym (at_rest_is f s k.shown quiet)) (shown s (rests (name_state_of f) s k.kept (none_under_way f s quiet k.shown)) line))
     where
       shown : (s : Configuration T Waiter) → IsWorld (name_state_of f) s → (l : WaitList)
           → length (listeners l s.now.roster).waiting ≡ length (untold l (state_at (name_state_of f) s).waiting)
@@ -61,9 +62,10 @@ module _ {T : Type 0} (f : WorldState T) (kept : IsKept f) (quiet : IsQuiet f) w
   -- nobody is left asleep where no call is under way
   pub awake_at_rest : RestIsAWorld T → AwakeIn (at_rest f)
   awake_at_rest rests =
-      let k = kept.listeners in
-      let world = rests (name_state_of f) k.configuration k.kept (none_under_way f k.configuration quiet k.shown) in
-      subst (λ (x : State T). AwakeIn x) (sym (at_rest_is f k.configuration k.shown quiet)) world.awake
+      let k = kept.stands in
+      let s = kept.configuration in
+      let world = rests (name_state_of f) s k.kept (none_under_way f s quiet k.shown) in
+      subst (λ (x : State T). AwakeIn x) (sym (at_rest_is f s k.shown quiet)) world.awake
 
   module _ (answer : PollsAnswer T) (w : Waiter) (there : is_among w (at_rest f).waiting.woken ≡ true) where
     -- whatever the poll does alone, the model allows
@@ -71,7 +73,7 @@ module _ {T : Type 0} (f : WorldState T) (kept : IsKept f) (quiet : IsQuiet f) w
         → Alone (asks f.name_table (poll_of w)) s.now o → t.now ≡ o.channel
         → Answers (at_rest f) (poll_of w) (record { after = state_at (name_state_alone (name_state_of f) (poll_of w) o) t; reply = o.reply; woken = o.woken })
     allowed s t o sh k alone now =
-        let nobody = no_agents f kept.at_work quiet in
+        let nobody = no_agents f quiet in
         let a = answer (name_state_of f) s t w o k nobody (none_under_way f s quiet sh) there alone now in
         subst (λ (x : State T). Answers x (poll_of w)
         (record { after = state_at (name_state_alone (name_state_of f) (poll_of w) o) t; reply = o.reply; woken = o.woken }))
@@ -91,9 +93,9 @@ module _ {T : Type 0} (f : WorldState T) (kept : IsKept f) (quiet : IsQuiet f) w
     pub poll_answers : (g : WorldState T) (before : List Waiter) (x : Reply T) (after : List Waiter) → IsQuiet g
         → PollsAlone w f before x after g → Polls w (at_rest f) before x after (at_rest g)
     poll_answers g before x after still p =
-        let k = kept.listeners in
-        let d = p.called k.configuration k.shown k.kept in
-        let a = allowed k.configuration d.after d.outcome k.shown k.kept d.alone d.now in
+        let k = kept.stands in
+        let d = p.called kept.configuration k.shown k.kept in
+        let a = allowed kept.configuration d.after d.outcome k.shown k.kept d.alone d.now in
         let same : at_rest g ≡ state_at (name_state_alone (name_state_of f) (poll_of w) d.outcome) d.after =
         at_rest_is g d.after d.shown still ∙ ap (λ (b : NameState T). state_at b d.after) d.name_state in
         record { woken = p.woken; names = p.names; answers = rw (same, d.reply, d.woken) a }

@@ -22,7 +22,7 @@ use Rattle.channel_steps.specs.declared.run.Step.TheVariants as step
 use Rattle.channel_steps.proofs.Interface.{run_so}
 use Rattle.channel_world_runs.proofs.Interface.{led_further, none_under_way}
 use Rattle.channel_world_runs.specs.Counted.{tally}
-use Rattle.channel_world_runs.specs.Doing.{any_close, is_close}
+use Rattle.channel_world_runs.specs.Activity.{any_close, is_close}
 use Rattle.channel_world_runs.specs.WorldState.{IsQuiet, Stands}
 use Rattle.channel_world_runs.specs.Reaches.{replies_of}
 use Rattle.channel_world_runs.specs.declared.world_state.WorldState.{WorldState}

@@ -3,7 +3,6 @@ use Rattle.std.proofs.Common.{arith, ◌≡◌, ◌≤◌, ◌+◌, ℕ, suc, na
 use Rattle.std.specs.List.{AllByRecursion, count_by}
 use Rattle.std.specs.Map.{keys_of, lookup}
 use Rattle.std.proofs.lemmas.Cmp.{nat_eq_equiv}
-use Rattle.std.proofs.lemmas.List.{length-map}
 use Rattle.std.proofs.lemmas.List.Sums.{count_by-le-length}
 use Rattle.std.proofs.lemmas.Map.Views.{lookup-from_Contains}
 use Rattle.lru.proofs.Splits.{all_from}
@@ -18,20 +17,16 @@ use Rattle.channel_world_model.specs.declared.name.HandleKind.TheVariants as han
 use Rattle.channel_world_model.specs.declared.name.Waiter.{Waiter}
 use Rattle.channel_world_model.specs.declared.name.Waiter.TheVariants.{Op, Stream}
 use Rattle.channel_world_model.proofs.WaiterLemmas.{decided}
-use Rattle.channel_steps.specs.Configuration.{ActiveCall}
-use Rattle.channel_steps.specs.declared.party.Party.{Party}
 use Rattle.channel_world_runs.specs.Apart.{AreApart}
-use Rattle.channel_world_runs.specs.Doing.{doing_of}
 use Rattle.channel_world_runs.specs.WorldState.{calls_in, messages_in, observation_of, Stands}
 use Rattle.channel_world_runs.specs.Owed.{Owed, IsUnwoken, is_sending, is_receiving, is_woken_on, woken_on, all_unannounced}
-use Rattle.channel_world_runs.specs.Owners.{NameStatus, waits, status_by, status_on, no_stream_status, stream_status, send_status, operation_status, status, Together}
+use Rattle.channel_world_runs.specs.Owners.{NameStatus, waits, status_by, status_on, no_stream_status, stream_status, send_status, operation_status, status}
 use Rattle.channel_world_runs.specs.Pending.{stands_pending, how_many, operation_stands, stream_stands}
 use Rattle.channel_world_runs.specs.NameTable.{is_woken}
-use Rattle.channel_world_runs.specs.declared.doing.Doing.{Doing}
-use Rattle.channel_world_runs.specs.declared.doing.Role.{Role}
-use Rattle.channel_world_runs.specs.declared.doing.Role.TheVariants.{Sending, Receiving, Other}
+use Rattle.channel_world_runs.specs.declared.calls.CallUnderWay.{CallUnderWay}
+use Rattle.channel_world_runs.specs.declared.activity.Role.{Role}
+use Rattle.channel_world_runs.specs.declared.activity.Role.TheVariants.{Sending, Receiving, Other}
 use Rattle.channel_world_runs.specs.declared.world_state.WorldState.{WorldState}
-use Rattle.channel_world_runs.specs.declared.names.Agent.{Agent}
 use Rattle.channel_world_runs.specs.declared.names.HandleEntry.{HandleEntry}
 use Rattle.channel_world_runs.specs.declared.names.OperationEntry.{OperationEntry}
 use Rattle.channel_world_model.specs.declared.name.Operation.{Operation}
@@ -172,13 +167,14 @@ one_role Sending = omega arith
 one_role Receiving = omega arith
 one_role Other = omega arith
 
-few_roles : (ds : List Doing) → count_by (λ (d : Doing). is_sending d.role) ds + count_by (λ (d : Doing). is_receiving d.role) ds ≤ length ds
+few_roles : {T : Type 0} (cs : List (CallUnderWay T))
+    → count_by (λ (c : CallUnderWay T). is_sending c.activity.role) cs + count_by (λ (c : CallUnderWay T). is_receiving c.activity.role) cs ≤ length cs
 few_roles [] = omega arith
-few_roles (d ∷ ds) =
-    let rest = few_roles ds in
-    let one = one_role d.role in
-    let a = count_first (λ (x : Doing). is_sending x.role) d ds in
-    let b = count_first (λ (x : Doing). is_receiving x.role) d ds in
+few_roles {T} (c ∷ cs) =
+    let rest = few_roles cs in
+    let one = one_role c.activity.role in
+    let a = count_first (λ (x : CallUnderWay T). is_sending x.activity.role) c cs in
+    let b = count_first (λ (x : CallUnderWay T). is_receiving x.activity.role) c cs in
     omega (arith, rest, one, a, b)
 
 -- ---- places
@@ -269,35 +265,22 @@ module _ {T : Type 0} where
           (λ f k. woken_stands f.1 k) r.operations in
           omega (arith, more, others)
 
-  together_many : (p : Waiter → NameStatus) (agents : List (Agent T)) (us : List (ActiveCall T Waiter)) → Together p agents us → length us ≡ length agents
-  together_many p [] [] t = refl
-  together_many p [] (u ∷ us) t = absurd t
-  together_many p (a ∷ agents) [] t = absurd t
-  together_many p (a ∷ agents) (u ∷ us) t = ap (λ n. suc n) (together_many p agents us t.1)
-
-  none_unannounced : (ps : List (Party T Waiter)) (ds : List Doing) → length ds ≡ 0 → all_unannounced ps ds ≡ 0
-  none_unannounced [] ds e = refl
-  none_unannounced (p ∷ ps) [] e = refl
-  none_unannounced (p ∷ ps) (d ∷ ds) e = absurd (omega (arith, e))
+  none_unannounced : (cs : List (CallUnderWay T)) → length cs ≡ 0 → all_unannounced cs ≡ 0
+  none_unannounced [] e = refl
+  none_unannounced (c ∷ cs) e = absurd (omega (arith, e))
 
   module _ (w : WorldState T) (k : Stands w) (apart : AreApart w.name_table) where
     owed : Owed (observation_of w)
     owed = k.stands.owed
 
-    doings_many : length w.doings.items ≡ calls_in w
-    doings_many =
-        let noted = ap (λ (ds : List Doing). length ds) k.stands.shown.doings ∙ length-map k.configuration.under_way (λ (u : ActiveCall T Waiter). doing_of u) in
-        let together = together_many _ w.agents.items k.configuration.under_way k.stands.kept.owned.together in
-        noted ∙ together
-
     few_at_work : (observation_of w).sending + (observation_of w).receiving ≤ calls_in w
-    few_at_work = let few = few_roles w.doings.items in let many = doings_many in omega (arith, few, many)
+    few_at_work = few_roles w.calls.items
 
     few_sending : (observation_of w).sending ≤ calls_in w
     few_sending = let few = few_at_work in omega (arith, few)
 
     few_closers : (observation_of w).closers ≤ calls_in w
-    few_closers = let few = count_by-le-length (λ (d : Doing). d.has_closed) w.doings.items in let many = doings_many in omega (arith, few, many)
+    few_closers = count_by-le-length (λ (c : CallUnderWay T). c.activity.has_closed) w.calls.items
 
     pub receives_answered : ReceivesAreAnswered (view_of w)
     receives_answered name asleep =
@@ -340,7 +323,7 @@ module _ {T : Type 0} where
 
     pub no_send_beside_a_place : NoSendSleepsBesideAPlace (view_of w)
     no_send_beside_a_place quiet none is_open fits =
-        let freed = none_unannounced w.parties.items w.doings.items (doings_many ∙ quiet) in
+        let freed = none_unannounced w.calls.items quiet in
         record {
           none = λ name asleep.
               none_fits (observation_of w).capacity (messages_in w) _ (omega (arith, quiet, none, freed)) fits (sends_answered name asleep is_open);

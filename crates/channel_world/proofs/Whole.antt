@@ -4,7 +4,7 @@ use Rattle.channel_calls.specs.declared.reply.Reply.{Reply}
 use Rattle.channel_steps.specs.solo.Alone.{Outcome, Alone}
 use Rattle.channel_world_runs.proofs.Interface.{none_under_way, no_agents}
 use Rattle.channel_world_runs.specs.Bookkeeping.{asks}
-use Rattle.channel_world_runs.specs.WorldState.{name_state_of, Shown, IsKept, IsQuiet}
+use Rattle.channel_world_runs.specs.WorldState.{name_state_of, Shown, agents_of, IsQuiet, Stands}
 use Rattle.channel_world_runs.specs.WorldInvariant.{WorldInvariant}
 use Rattle.channel_world_runs.specs.Lone.{name_state_alone, CallsAlone, WakesAtMost}
 use Rattle.channel_world_runs.specs.Refusal as names
@@ -24,16 +24,15 @@ use Rattle.channel_world.proofs.Few.{few_woken}
 use Rattle.channel_world.proofs.Opening.{at_rest_is}
 
 module _ {T : Type 0} where
-  module _ (agree : RefusalsAgree T) (f : WorldState T) (kept : IsKept f) (quiet : IsQuiet f) (c : Call T) where
-    abbrev nobody : f.agents.items ≡ []
-    nobody = no_agents f kept.at_work quiet
+  module _ (agree : RefusalsAgree T) (f : WorldState T) (kept : Stands f) (quiet : IsQuiet f) (c : Call T) where
+    abbrev nobody : agents_of f ≡ []
+    nobody = no_agents f quiet
 
     -- why a call is refused
     pub refused_alike : names.begin_refusal f.name_table c ≡ refusal (at_rest f) c
     refused_alike =
-        let o = kept.listeners in
-        agree (name_state_of f) o.configuration c o.kept nobody
-        ∙ ap (λ (x : State T). refusal x c) (sym (at_rest_is f o.configuration o.shown quiet))
+        agree (name_state_of f) kept.configuration c kept.stands.kept nobody
+        ∙ ap (λ (x : State T). refusal x c) (sym (at_rest_is f kept.configuration kept.stands.shown quiet))
 
     module _ (answer : LoneCallsAnswer T) (fine : refusal (at_rest f) c ≡ None) where
       accepted : names.begin_refusal f.name_table c ≡ None
@@ -59,9 +58,9 @@ module _ {T : Type 0} where
       pub call_answers : (g : WorldState T) (x : Reply T) (woken : List Waiter) → IsQuiet g → CallsAlone c f x woken g
           → Answers (at_rest f) c (record { after = at_rest g; reply = x; woken = woken })
       call_answers g x woken still called =
-          let k = kept.listeners in
-          let d = called k.configuration k.shown k.kept in
-          let a = allowed k.configuration d.after d.outcome k.shown k.kept d.alone d.now in
+          let k = kept.stands in
+          let d = called kept.configuration k.shown k.kept in
+          let a = allowed kept.configuration d.after d.outcome k.shown k.kept d.alone d.now in
           let after : at_rest g ≡ state_at (name_state_alone (name_state_of f) c d.outcome) d.after =
           at_rest_is g d.after d.shown still ∙ ap (λ (b : NameState T). state_at b d.after) d.name_state in
           rw (after, d.reply, d.woken) a

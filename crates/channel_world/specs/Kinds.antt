@@ -5,7 +5,7 @@ use Rattle.channel_calls.specs.declared.stage.WaitList.{WaitList}
 use Rattle.channel_world_model.specs.Laws.{same_line}
 use Rattle.channel_world_runs.specs.Owed.{all_names}
 use Rattle.channel_world_runs.specs.Owners.{NameStatus, waits, status_by, operation_status, stream_status, status}
-use Rattle.channel_world_runs.specs.declared.doing.Doing.{Doing}
+use Rattle.channel_world_runs.specs.declared.calls.CallUnderWay.{CallUnderWay}
 use Rattle.channel_world_runs.specs.declared.names.HandleEntry.{HandleEntry}
 use Rattle.channel_world_runs.specs.declared.names.OperationEntry.{OperationEntry}
 use Rattle.channel_world_runs.specs.declared.name_table.NameTable.{NameTable}
@@ -19,12 +19,12 @@ is_pending_on line other = false
 abbrev pub stream_stance : Option HandleEntry → NameStatus
 stream_stance o = status_by (λ (x : HandleEntry). stream_status x.handle.kind x.poll_state) (Some o)
 
--- the messages that these calls have taken
-abbrev pub takings_of : List Doing → ℕ
-takings_of [] = 0
-takings_of (d ∷ ds) = d.taken + takings_of ds
-
 module _ {T : Type 0} where
+  -- the messages that these calls have taken
+  abbrev pub takings_of : List (CallUnderWay T) → ℕ
+  takings_of [] = 0
+  takings_of (c ∷ cs) = c.activity.taken + takings_of cs
+
   -- how an operation stands
   abbrev pub operation_stance : Option (OperationEntry T) → NameStatus
   operation_stance o = status_by (λ (x : OperationEntry T). operation_status x.operation x.poll_state) (Some o)

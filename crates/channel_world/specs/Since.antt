@@ -7,7 +7,7 @@ use Rattle.channel_world_model.specs.declared.name.Waiter.{Waiter}
 use Rattle.channel_steps.specs.Run.{new_configuration}
 use Rattle.channel_steps.specs.Configuration.{ActiveCall, Configuration}
 use Rattle.channel_world_runs.specs.Counted.{tally}
-use Rattle.channel_world_runs.specs.Doing.{any_close}
+use Rattle.channel_world_runs.specs.Activity.{any_close}
 use Rattle.channel_world.specs.Carried.{LeadsTo}
 use Rattle.channel_world.specs.View.{at_rest, IsQuiet, Stands, Led, WorldView}
 

@@ -61,7 +61,11 @@ module _ {T : Type 0} where
 
   -- how many messages these calls have taken
   abbrev pub taken_in : WorldView T → ℕ
-  taken_in w = takings_of w.inside.doings.items
+  taken_in w = takings_of w.inside.calls.items
+
+  -- these calls, each at its stage
+  abbrev pub active_calls : WorldView T → List (Party T Waiter)
+  active_calls w = world_state.parties_of w.inside
 
   -- the count of senders or of receivers
   abbrev pub count_in : Side → WorldView T → ℕ
@@ -69,11 +73,11 @@ module _ {T : Type 0} where
 
   -- how many drops of strong handles of this side are under way whose next step lowers the count; what they drop lives under no name
   abbrev pub to_lower : Side → WorldView T → ℕ
-  to_lower side w = tally (λ (p : Party T Waiter). is_lowering side p.call.stage) w.inside.parties.items
+  to_lower side w = tally (λ (p : Party T Waiter). is_lowering side p.call.stage) (active_calls w)
 
   -- how many drops of the last one are under way that are at closing the channel
   abbrev pub to_close : Side → WorldView T → ℕ
-  to_close side w = tally (λ (p : Party T Waiter). is_closing side p.call.stage) w.inside.parties.items
+  to_close side w = tally (λ (p : Party T Waiter). is_closing side p.call.stage) (active_calls w)
 
   -- with no call under way: the state of the model. While calls are made one at a time this is all that a world is
   abbrev pub at_rest : WorldView T → State T
@@ -111,11 +115,7 @@ module _ {T : Type 0} where
 
   -- names, with who may be woken and who is at work
   abbrev pub name_state_of : WorldView T → NameState T
-  name_state_of w = record { name_table = w.inside.name_table; order = w.inside.order; agents = w.inside.agents.items }
-
-  -- the calls under way, each at its stage
-  abbrev pub active_calls : WorldView T → List (Party T Waiter)
-  active_calls w = w.inside.parties.items
+  name_state_of w = record { name_table = w.inside.name_table; order = w.inside.order; agents = world_state.agents_of w.inside }
 
   abbrev pub moment_of : WorldView T → Configuration T Waiter → Moment T
   moment_of w s =
@@ -126,9 +126,6 @@ module _ {T : Type 0} where
   RanTo steps left old trace new = runs.RanTo steps left old.inside trace new.inside
 
   -- ---- what the functions of a world say to each other
-
-  abbrev pub IsKept : WorldView T → Type 0
-  IsKept w = world_state.IsKept w.inside
 
   abbrev pub has_one_place : WorldView T → Bool
   has_one_place w = w.inside.has_one_place

@@ -8,7 +8,7 @@ ghost use Rattle.channel_world.specs.Kinds.{is_pending_on, operation_stance, str
 use super::world::World;
 use channel_calls::stage::WaitList;
 use channel_world_model::name::HandleKind;
-use channel_world_runs::doing::Doing;
+use channel_world_runs::calls::CallUnderWay;
 use channel_world_runs::names::{HandleEntry, OperationEntry, PollState};
 
 /// Whether streams wait on this line.
@@ -76,13 +76,13 @@ fn is_stream_woken_on(line: WaitList, handle_entry: &Option<HandleEntry>) -> boo
 }
 
 /// How many messages these calls have taken. None where there is no such number.
-fn taken_by(doings: &Vec<Doing>) -> Option<u64>
-    ensures told { IfSome result (λ n. n ≡ takings_of doings.now.items) }
-    ensures known { takings_of doings.now.items < 2 ^ 64 → IsSome result }
+fn taken_by<T>(calls: &Vec<CallUnderWay<T>>) -> Option<u64>
+    ensures told { IfSome result (λ n. n ≡ takings_of calls.now.items) }
+    ensures known { takings_of calls.now.items < 2 ^ 64 → IsSome result }
 {
     let mut taken = 0u64;
-    for k in 0..doings.len() {
-        taken = taken.checked_add(doings[k].taken)?;
+    for k in 0..calls.len() {
+        taken = taken.checked_add(calls[k].activity.taken)?;
     }
     Some(taken)
 }
@@ -126,6 +126,6 @@ impl<T: Drop> World<T> {
         ensures told { IfSome result (λ n. n ≡ taken_in self.now) }
         ensures known { taken_in self.now < 2 ^ 64 → IsSome result }
     {
-        taken_by(&self.world_state.doings)
+        taken_by(&self.world_state.calls)
     }
 }

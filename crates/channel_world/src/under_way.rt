@@ -4,7 +4,8 @@ ghost use Rattle.std.specs.Prelude.{◌≡◌};
 ghost use Rattle.channel_world_runs.specs.Owed.{is_sending, is_receiving};
 
 use super::world::World;
-use channel_world_runs::doing::{Doing, Role};
+use channel_world_runs::activity::Role;
+use channel_world_runs::calls::CallUnderWay;
 
 /// How many calls are under way, by what they are to those who wait. One that has closed the channel is neither sending nor receiving,
 /// and so are questions, clones and drops. Own to this project.
@@ -19,20 +20,20 @@ pub struct UnderWay {
 }
 
 /// Whether it is sending.
-fn is_sending(doing: &Doing) -> bool
-    ensures { result ≡ is_sending doing.now.role }
+fn is_sending<T>(call: &CallUnderWay<T>) -> bool
+    ensures { result ≡ is_sending call.now.activity.role }
 {
-    match doing.role {
+    match call.activity.role {
         Role::Sending => true,
         Role::Receiving | Role::Other => false,
     }
 }
 
 /// Whether it is receiving.
-fn is_receiving(doing: &Doing) -> bool
-    ensures { result ≡ is_receiving doing.now.role }
+fn is_receiving<T>(call: &CallUnderWay<T>) -> bool
+    ensures { result ≡ is_receiving call.now.activity.role }
 {
-    match doing.role {
+    match call.activity.role {
         Role::Receiving => true,
         Role::Sending | Role::Other => false,
     }
@@ -48,11 +49,11 @@ impl<T: Drop> World<T> {
         ensures receiving { result.receiving ≡ (observation_of self.now).receiving }
         ensures closers { result.closers ≡ (observation_of self.now).closers }
     {
-        let doings = &self.world_state.doings;
+        let calls = &self.world_state.calls;
         UnderWay {
-            sending: doings.iter().filter(|doing| is_sending(*doing)).count(),
-            receiving: doings.iter().filter(|doing| is_receiving(*doing)).count(),
-            closers: doings.iter().filter(|doing| doing.has_closed).count(),
+            sending: calls.iter().filter(|call| is_sending(*call)).count(),
+            receiving: calls.iter().filter(|call| is_receiving(*call)).count(),
+            closers: calls.iter().filter(|call| call.activity.has_closed).count(),
         }
     }
 }

@@ -2,7 +2,6 @@
 use super::call::{Call, Done, WorldRefusal};
 use super::step::{Run, Step};
 use channel_calls::error::OpenError;
-use channel_steps::start::is_quiet;
 use channel_world_runs::rest_laws::a_call_made_alone_is_the_models;
 use channel_world_runs::world_state::WorldState;
 use concurrent_queue::cells::QueueForm;
@@ -24,7 +23,7 @@ pub struct World<T> {
 
 impl<T> Model for World<T> {
     ghost use Rattle.std.specs.Coded.{codes};
-    ghost use Rattle.channel_world_runs.specs.WorldState.{IsKept};
+    ghost use Rattle.channel_world_runs.specs.WorldState.{Stands};
     ghost use Rattle.channel_world.specs.View.{view_of, view_code, WorldView};
 
     ghost Value = { WorldView T };
@@ -33,7 +32,7 @@ impl<T> Model for World<T> {
 
     ghost view = { λ w. view_of w.world_state };
 
-    ghost invariant = { λ w. IsKept w.world_state };
+    ghost invariant = { λ w. Stands w.world_state };
 }
 
 impl<T: Drop> World<T> {
@@ -118,7 +117,7 @@ impl<T: Drop> World<T> {
     ghost use Rattle.channel_world.specs.Headline.{Headline};
     ghost use Rattle.channel_world.specs.StepsLeft.{EndsInFront};
     ghost use Rattle.channel_world.specs.TheEnd.{NothingComesAfter};
-    ghost use Rattle.channel_world.specs.View.{names_in, messages_in, capacity_in, is_closed, calls_in, at_rest, name_state_of, TellsQuiet, HasPositions, StandsIn, Stands, RanTo, IsKept};
+    ghost use Rattle.channel_world.specs.View.{names_in, messages_in, capacity_in, is_closed, calls_in, at_rest, name_state_of, TellsQuiet, HasPositions, StandsIn, Stands, RanTo};
 
     /// Runs steps of any parties, from the front. The first one that is refused stays in front, with nothing of it done;
     /// `stopped` says at which place of the list, counted from 0, and why.
@@ -173,9 +172,9 @@ impl<T: Drop> World<T> {
         self.keeps_names();
     }
 
-    /// Says what is always so, and that no name stands twice; and does nothing.
+    /// Says that it stands in a configuration, and that no name stands twice; and does nothing.
     pub(crate) fn keeps_names(&self)
-        ensures kept { IsKept self.now }
+        ensures stands { Stands self.now }
         ensures apart { AreApart (names_in self.now) }
     {
         let _handles = self.world_state.name_table.handles.iter();
@@ -186,14 +185,14 @@ impl<T: Drop> World<T> {
     pub fn is_quiet(&self) -> bool
         ensures { TellsQuiet self.now result }
     {
-        is_quiet(&self.world_state.parties)
+        self.world_state.calls.is_empty()
     }
 
     /// How many calls are under way. Own to this project.
     pub fn under_way(&self) -> usize
         ensures { result ≡ calls_in self.now }
     {
-        self.world_state.agents.len()
+        self.world_state.calls.len()
     }
 
     /// Whether the queue has positions for so many more messages. One place alone needs none, so there it is always so. Own to

@@ -13,7 +13,7 @@ use Rattle.channel_world_runs.specs.Owners.{NameStatus, status, Together}
 use Rattle.channel_world_runs.specs.Refusal.{begin_refusal, step_refusal}
 use Rattle.channel_world_runs.specs.NameTable.{is_at_work}
 use Rattle.channel_world_runs.specs.Run.{NameState, IsNameStateOf, name_state_ended, with_woken}
-use Rattle.channel_world_runs.specs.declared.names.Agent.{Agent}
+use Rattle.channel_world_runs.specs.Calls.{Agent}
 use Rattle.channel_world_runs.specs.declared.step.PartyId.{PartyId}
 use Rattle.channel_world_runs.specs.declared.step.Step.TheVariants as step
 use Rattle.channel_world_runs.proofs.OwnerTogether.{Parted, parted}

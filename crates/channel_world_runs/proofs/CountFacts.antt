@@ -24,7 +24,7 @@ use Rattle.channel_world_runs.specs.Counted.{tally, is_lowering, is_closing, is_
 use Rattle.channel_world_runs.specs.Owners.{NameStatus, status, wait_of, Suits, Together, Owned}
 use Rattle.channel_world_runs.specs.NameTable.{first_name_table}
 use Rattle.channel_world_runs.specs.Run.{NameState, name_state_begun, with_woken}
-use Rattle.channel_world_runs.specs.declared.names.Agent.{Agent}
+use Rattle.channel_world_runs.specs.Calls.{Agent}
 use Rattle.channel_world_runs.specs.declared.step.PartyId.{PartyId}
 use Rattle.channel_world_runs.proofs.AskStarts.{asks_lowering, asks_raising, lowering_same, raising_same, Starts, starts}
 use Rattle.channel_world_runs.proofs.CountBegins.{BeginsSo, begins_so}

@@ -10,7 +10,7 @@ use Rattle.channel_world_model.specs.declared.call.Call.{Call}
 use Rattle.channel_world_model.specs.declared.name.Waiter.{Waiter}
 use Rattle.channel_steps.specs.Answers.{asks_first}
 use Rattle.channel_steps.specs.Configuration.{ActiveCall, Configuration, OthersQuiet}
-use Rattle.channel_world_runs.specs.WorldState.{Shown, AreAtWork, IsQuiet, Led, LeadsOn, Stands, StandsIn}
+use Rattle.channel_world_runs.specs.WorldState.{agents_of, Shown, IsQuiet, Led, LeadsOn, Stands, StandsIn}
 use Rattle.channel_world_runs.specs.WorldInvariant.{WorldInvariant, AllTry, NamesKept}
 use Rattle.channel_world_runs.specs.Left.{calls_of_others}
 use Rattle.channel_world_runs.specs.Owed.{Owed}
@@ -45,8 +45,8 @@ module _ {T : Type 0} where
   none_under_way f s quiet sh = facts.none_under_way f s quiet sh
 
   -- and nobody is at work
-  pub no_agents : (f : WorldState T) → AreAtWork f → IsQuiet f → f.agents.items ≡ []
-  no_agents f at_work quiet = facts.no_agents f at_work quiet
+  pub no_agents : (f : WorldState T) → IsQuiet f → agents_of f ≡ []
+  no_agents f quiet = facts.no_agents f quiet
 
   -- a call under way asks no listener before it tries
   pub tries_at : (b : NameState T) (s : Configuration T Waiter) (before : List (ActiveCall T Waiter)) (u : ActiveCall T Waiter) (behind : List (ActiveCall T Waiter)) → WorldInvariant b s → s.under_way ≡ before ++ u ∷ behind

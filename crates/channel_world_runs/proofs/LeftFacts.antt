@@ -11,7 +11,7 @@ use Rattle.channel_steps.proofs.Interface.{hold_still}
 use Rattle.channel_steps.specs.Configuration.{ActiveCall, Configuration, ActiveCallWitness, OthersQuiet, Represents, Steps, sees, does, active_call_of, unless_ended, wanted_at, parties_in}
 use Rattle.channel_steps.specs.declared.party.Entry.{Entry as ChannelEntry}
 use Rattle.channel_steps.specs.declared.party.Party.{Party}
-use Rattle.channel_world_runs.specs.WorldState.{name_state_of, parts_in, lefts_in, StandsIn, LedByStep}
+use Rattle.channel_world_runs.specs.WorldState.{name_state_of, parties_of, parts_in, lefts_in, StandsIn, LedByStep}
 use Rattle.channel_world_runs.specs.WorldInvariant.{WorldInvariant}
 use Rattle.channel_world_runs.specs.Left.{calls_of_others, wanted_of, left_of}
 use Rattle.channel_world_runs.specs.Owners.{NameStatus, status, All, AllDiffer, Differ, Owned, Together}
@@ -19,7 +19,7 @@ use Rattle.channel_world_runs.specs.NameTable.{is_at_work}
 use Rattle.channel_world_runs.specs.Run.{NameState}
 use Rattle.channel_world_runs.specs.Runs.{Moment, ComesNearer, LeadsBy, moment_of}
 use Rattle.channel_world_runs.specs.declared.world_state.WorldState.{WorldState}
-use Rattle.channel_world_runs.specs.declared.names.Agent.{Agent}
+use Rattle.channel_world_runs.specs.Calls.{Agent}
 use Rattle.channel_world_runs.specs.declared.step.Entry.{Entry}
 use Rattle.channel_world_runs.specs.declared.step.PartyId.{PartyId}
 use Rattle.channel_world_runs.specs.declared.step.Step.{Step}
@@ -167,13 +167,13 @@ module _ {T : Type 0} where
       let after = after_is (name_state_of f) s o p.0 _ e.woken.items u n goes_on in
       let mine : ActiveCall T Waiter = does n.mine n.at_now e.mark s.now u.now in
       let less = t.nearer goes_on (subst (λ (us : List (ActiveCall T Waiter)). OthersQuiet s.now us) others handle_entry) in
-      let was : left_of p.0 (parts_in f) f.parties.items ≡ left_at (length n.before) (lefts_in f) =
-      left_is p.0 (parts_in f) n.before n.mine n.behind f.parties.items
-      (parties_shown (parts_in f) f.parties.items s k.shown.shows ∙ ap (λ (us : List (ActiveCall T Waiter)). map (λ (v : ActiveCall T Waiter). v.party) us) n.there)
+      let was : left_of p.0 (parts_in f) (parties_of f) ≡ left_at (length n.before) (lefts_in f) =
+      left_is p.0 (parts_in f) n.before n.mine n.behind (parties_of f)
+      (parties_shown (parts_in f) (parties_of f) s k.shown.shows ∙ ap (λ (us : List (ActiveCall T Waiter)). map (λ (v : ActiveCall T Waiter). v.party) us) n.there)
       free n.whose in
-      let is : left_of p.0 (parts_in g) g.parties.items ≡ left_at (length (map (sees u.now) n.before)) (lefts_in g) =
-      left_is p.0 (parts_in g) (map (sees u.now) n.before) mine (map (sees u.now) n.behind) g.parties.items
-      (parties_shown (parts_in g) g.parties.items u t.shown.shows ∙ ap (λ (us : List (ActiveCall T Waiter)). map (λ (v : ActiveCall T Waiter). v.party) us) after)
+      let is : left_of p.0 (parts_in g) (parties_of g) ≡ left_at (length (map (sees u.now) n.before)) (lefts_in g) =
+      left_is p.0 (parts_in g) (map (sees u.now) n.before) mine (map (sees u.now) n.behind) (parties_of g)
+      (parties_shown (parts_in g) (parties_of g) u t.shown.shows ∙ ap (λ (us : List (ActiveCall T Waiter)). map (λ (v : ActiveCall T Waiter). v.party) us) after)
       (none_seen p.0 u.now n.before free) n.whose in
       let place : length (map (sees u.now) n.before) ≡ length n.before = length-map n.before (sees u.now) in
       rw (was, is, place) less

@@ -35,7 +35,8 @@ pub mod OwedFacts
 mod OwedRows
 pub mod ShownFacts
 pub mod ObservationFacts
-pub mod DoingFacts
+pub mod CallFacts
+pub mod ActivityFacts
 pub mod UserFacts
 pub mod CountNames
 pub mod CountTurns

@@ -11,12 +11,11 @@ use Rattle.channel_world_model.specs.declared.call.Call.{Call}
 use Rattle.channel_world_model.specs.declared.name.Waiter.{Waiter}
 use Rattle.channel_world_model.specs.declared.run.Done.{Done as Answered}
 use Rattle.concurrent_queue.specs.Step.{FitsAt}
-use Rattle.channel_steps.specs.Configuration.{ActiveCall, Configuration, ActiveCallWitness, active_call_of, all_seats, Represents, parties_in}
-use Rattle.channel_steps.specs.Start.{EachConfigurationTellsQuiet as Tells}
+use Rattle.channel_steps.specs.Configuration.{ActiveCall, Configuration, ActiveCallWitness, active_call_of, all_seats, Represents}
 use Rattle.channel_world_runs.specs.Bookkeeping.{asks}
-use Rattle.channel_world_runs.specs.WorldState.{parts_in, name_state_of, AreCounted, HasOnePlace, Shown, AreAtWork, AreOwned, IsKept, IsQuiet, IsSame, LeadsOn, TellsQuiet}
+use Rattle.channel_world_runs.specs.WorldState.{parties_of, agents_of, parts_in, name_state_of, AreCounted, HasOnePlace, Shown, IsQuiet, IsSame, LeadsOn}
 use Rattle.channel_world_runs.specs.WorldState as place
-use Rattle.channel_world_runs.specs.Doing.{doing_of}
+use Rattle.channel_world_runs.specs.Activity.{activity_of}
 use Rattle.channel_world_runs.specs.WorldInvariant.{WorldInvariant}
 use Rattle.channel_world_runs.specs.Owners.{All}
 use Rattle.channel_world_runs.specs.Lone.{names_alone, order_alone, BringsWithin, CallsAlone, WakesAtMost}
@@ -26,58 +25,41 @@ use Rattle.channel_world_runs.specs.Run.{NameState}
 use Rattle.channel_world_runs.specs.Reaches.{Reaches, reply_of}
 use Rattle.channel_world_runs.specs.Woken.{Hears}
 use Rattle.channel_world_runs.specs.declared.world_state.WorldState.{WorldState}
-use Rattle.channel_world_runs.specs.declared.names.Agent.{Agent}
+use Rattle.channel_world_runs.specs.Calls.{agent_of}
+use Rattle.channel_world_runs.specs.declared.calls.CallUnderWay.{CallUnderWay}
 use Rattle.channel_world_runs.specs.declared.woken.Woken.{Woken as Sink}
 use Rattle.channel_world_runs.proofs.WorldInvariant.{kept_alone}
+use Rattle.channel_world_runs.proofs.CallFacts.{none_read}
 use Rattle.channel_world_runs.proofs.AccountFacts.{no_accounts, run_accounts}
-use Rattle.channel_world_runs.proofs.DoingFacts.{TookFew}
+use Rattle.channel_world_runs.proofs.ActivityFacts.{TookFew}
 use Rattle.channel_world_runs.proofs.OwnerBegins.{Admitted, admitted}
-use Rattle.channel_world_runs.proofs.WorldStateFacts.{no_parties, owned_same, owned_where, stands_in, stands_same}
+use Rattle.channel_world_runs.proofs.WorldStateFacts.{stands_in, stands_same}
 use Rattle.channel_world_runs.proofs.PlaceFacts.{Counted, came_most, counted_alone}
 use Rattle.channel_world_runs.proofs.ShownFacts.{has_position}
 use Rattle.channel_world_runs.proofs.ReachesFacts.{no_way, lone_way}
 use Rattle.channel_world_runs.proofs.WokenFacts.{all_heard, drop_front}
 
 module _ {T : Type 0} where
-  -- where there is no party, no call is under way
+  -- a configuration that is shown has none then
   pub none_under_way : (f : WorldState T) (s : Configuration T Waiter) → IsQuiet f → Shown f s → s.under_way ≡ []
-  none_under_way f s quiet sh = sh.shows.under_way ∙ nobody sh.shows.witnesses (sym sh.shows.parties_are ∙ quiet)
-    where
-      nobody : (xs : List (ActiveCallWitness T Waiter)) → map (λ (x : ActiveCallWitness T Waiter). x.party) xs ≡ [] → map active_call_of xs ≡ []
-      nobody [] e = refl
-      nobody (x ∷ xs) e = absurd cc
+  none_under_way f s quiet sh =
+      none_read activity_of s.under_way (sym sh.activities ∙ ap (λ (cs : List (CallUnderWay T)). map (λ (c : CallUnderWay T). c.activity) cs) quiet)
 
-  pub tells_quiet : (f : WorldState T) (quiet : Bool) → AreOwned f → Tells f.parties.items quiet → TellsQuiet f quiet
-  tells_quiet f quiet o tells = record { told = told quiet tells; busy = busy quiet tells }
-    where
-      told : (b : Bool) → Tells f.parties.items b → b ≡ true → IsQuiet f
-      told true h e = no_parties (parts_in f) f.parties.items o.configuration (h (parts_in f) o.configuration o.shown.shows) o.shown.shows
-      told false h e = absurd (let no : false ≡ true = e in cc)
+  pub no_agents : (f : WorldState T) → IsQuiet f → agents_of f ≡ []
+  no_agents f quiet = ap (λ (cs : List (CallUnderWay T)). map agent_of cs) quiet
 
-      busy : (b : Bool) → Tells f.parties.items b → b ≡ false → IsQuiet f → ⊥
-      busy true h e quiet = absurd (let no : true ≡ false = e in cc)
-      busy false h e quiet = h (parts_in f) o.configuration o.shown.shows (none_under_way f o.configuration quiet o.shown)
-
-  pub no_agents : (f : WorldState T) → AreAtWork f → IsQuiet f → f.agents.items ≡ []
-  no_agents f at_work quiet = none f.agents.items (at_work ∙ ap (λ ps. parties_in ps) quiet)
-    where
-      none : (xs : List (Agent T)) → map (λ (a : Agent T). a.party) xs ≡ [] → xs ≡ []
-      none [] e = refl
-      none (x ∷ xs) e = absurd cc
+  pub no_parties : (f : WorldState T) → IsQuiet f → parties_of f ≡ []
+  no_parties f quiet = ap (λ (cs : List (CallUnderWay T)). map (λ (c : CallUnderWay T). c.party) cs) quiet
 
   -- the cells are at rest
   pub is_at_rest : (f : WorldState T) (s : Configuration T Waiter) → Shown f s → IsQuiet f → IsAtRest (parts_in f)
   is_at_rest f s sh quiet =
       let q = sh.shows.queue in
-      let none = nobody sh.shows.witnesses (sym sh.shows.parties_are ∙ quiet) in (
+      let none = none_read active_call_of sh.shows.witnesses (sym sh.shows.under_way ∙ none_under_way f s quiet sh) in (
         q,
         subst (λ (x : Channel T Waiter). HasNextPosition x.queue) sh.shows.now (has_position f s sh),
         (s.blocks, subst (λ (xs : List (ActiveCallWitness T Waiter)). FitsAt s.blocks (parts_in f).cells q (all_seats xs)) none sh.shows.fits),
       )
-    where
-      nobody : (xs : List (ActiveCallWitness T Waiter)) → map (λ (x : ActiveCallWitness T Waiter). x.party) xs ≡ [] → xs ≡ []
-      nobody [] e = refl
-      nobody (x ∷ xs) e = absurd cc
 
   -- a call that was made alone left the messages that were counted within the positions
   counted_then : (old new : WorldState T) (b : Bool) (x : Reply T) (came : ℕ) (s t : Configuration T Waiter)
@@ -99,7 +81,7 @@ module _ {T : Type 0} where
   -- where there is a position for whatever a call may bring, there is one for what it does
   pub brings_within : (c : Call T) (f : WorldState T) → place.HasPosition c f → BringsWithin c f
   brings_within c f room s o sh all alone = by (brings f.name_table c) refl where
-    one : place.HasPositions (length f.parties.items + 1) f → place.HasPositions (accepted_by true o.reply) f
+    one : place.HasPositions (place.calls_in f + 1) f → place.HasPositions (accepted_by true o.reply) f
     one (inl single) = inl single
     one (inr left) = let most = came_most o.reply in inr (omega (arith, left, most))
 
@@ -116,15 +98,11 @@ module _ {T : Type 0} where
       → a ≡ asks old.name_table c → IsQuiet old → IsQuiet new → BringsWithin c old → came ≡ accepted_by (brings old.name_table c) d.reply
       → new.accepted ≡ min (old.accepted + came) (2 ^ 64 - 1) → new.has_one_place ≡ old.has_one_place
       → drop (length empty.names.items) full.names.items ≡ fresh → length empty.names.items + room ≤ vec_capacity empty.names
-      → WakesAtMost room c old → new.doings.items ≡ old.doings.items
-      → name_state_of new ≡ record {
-        name_table = names_alone old.name_table c d.reply d.kept fresh;
-        order = order_alone old.name_table c d.kept fresh old.order;
-        agents = [];
-      }
+      → WakesAtMost room c old → new.name_table ≡ names_alone old.name_table c d.reply d.kept fresh
+      → new.order ≡ order_alone old.name_table c d.kept fresh old.order
       → CallsAlone c old d.reply fresh new
-  is_called c old new a d empty full fresh room came ran asked quiet still place_left brought counts same_place behind enough few doings name_state s sh all =
-      let r = ran s 0 (has_position old s sh) (subst (λ ps. Represents (parts_in old) ps s) quiet sh.shows) in
+  is_called c old new a d empty full fresh room came ran asked quiet still place_left brought counts same_place behind enough few names order s sh all =
+      let r = ran s 0 (has_position old s sh) (subst (λ ps. Represents (parts_in old) ps s) (no_parties old quiet) sh.shows) in
       let alone : Alone (asks old.name_table c) s.now r.outcome =
       subst (λ (x : ChannelAsk T Waiter). Alone x s.now r.outcome) asked r.does in
       let most = few s r.outcome sh all alone in
@@ -148,28 +126,27 @@ module _ {T : Type 0} where
         run = run;
         now = r.now;
         shown = record {
-          shows = subst (λ ps. Represents (parts_in new) ps r.after) (sym still) r.shown;
+          shows = subst (λ ps. Represents (parts_in new) ps r.after) (sym (no_parties new still)) r.shown;
           place = same_place ∙ (sh.place ∙ sym (ap (λ (cap : Option ℕ). is_one_place cap) capacity));
           positions = counted_then old new (brings old.name_table c) r.outcome.reply came s r.after
               (counted_alone old.name_table c old.accepted s r.after r.outcome 0 run alone r.now (none_under_way old s quiet sh))
               (subst (λ n. place.HasPositions n old) (sym said) (place_left s r.outcome sh all alone)) said counts same_place run.over
               sh.positions;
           messages = r.counted sh.messages;
-          doings = doings ∙ (sh.doings ∙ (ap (λ (us : List (ActiveCall T Waiter)). map doing_of us) (none_under_way old s quiet sh)
-              ∙ sym (ap (λ (us : List (ActiveCall T Waiter)). map doing_of us) run.over)));
+          activities = rw (still, run.over) refl;
           few = subst (λ (us : List (ActiveCall T Waiter)). All (TookFew r.after.now.queue.removed) us) (sym run.over) tt;
         };
-        name_state = name_state ∙ rw (r.reply, r.kept, heard) refl;
+        name_state = rw (names, order, still, r.reply, r.kept, heard) refl;
       }
 
   -- a call made alone leads from a configuration in which the channel stood to one in which it stands
-  pub call_leads : (c : Call T) (old new : WorldState T) (x : Reply T) (names : List Waiter) → AreAtWork old → IsQuiet old
+  pub call_leads : (c : Call T) (old new : WorldState T) (x : Reply T) (names : List Waiter) → IsQuiet old
       → Admitted old.name_table c → CallsAlone c old x names new → LeadsOn old (x ∷ []) new
-  call_leads c old new x names at_work quiet fine called s k =
+  call_leads c old new x names quiet fine called s k =
       let d = called s k.shown k.kept in
       let kept : WorldInvariant (name_state_of new) d.after =
       subst (λ (b : NameState T). WorldInvariant b d.after) (sym d.name_state)
-      (kept_alone (name_state_of old) c s d.after d.outcome (no_agents old at_work quiet) fine d.run k.kept) in
+      (kept_alone (name_state_of old) c s d.after d.outcome (no_agents old quiet) fine d.run k.kept) in
       let way = lone_way s d.after 0 (asks old.name_table c) d.outcome d.run in
       record {
         last = d.after;
@@ -182,31 +159,10 @@ module _ {T : Type 0} where
   same_leads old new same s k =
       record { last = s; way = no_way s; stands = stands_same old new s same k; accounts = no_accounts s }
 
-  pub leads_whatever : (c : Call T) (old new : WorldState T) (result : Result (Answered T) (Call T)) → AreAtWork old → IsQuiet old
+  pub leads_whatever : (c : Call T) (old new : WorldState T) (result : Result (Answered T) (Call T)) → IsQuiet old
       → begin_refusal old.name_table c ≡ None
       → IfOk result (λ (d : Answered T). CallsAlone c old d.reply d.woken.items new)
       → OnErr result (IsSame old new) → LeadsOn old (reply_of result) new
-  leads_whatever c old new (Ok d) at_work quiet fine called same =
-      call_leads c old new d.reply d.woken.items at_work quiet (admitted old.name_table c fine) called
-  leads_whatever c old new (Err x) at_work quiet fine called same = same_leads old new same
-
-  -- what is kept, a call made alone keeps
-  pub call_kept : (c : Call T) (old new : WorldState T) (x : Reply T) (names : List Waiter) → IsKept old → IsQuiet old → AreAtWork new
-      → Admitted old.name_table c → CallsAlone c old x names new → IsKept new
-  call_kept c old new x names k quiet at_work fine called =
-      let o = k.listeners in
-      let l = call_leads c old new x names k.at_work quiet fine called o.configuration (stands_in old o.configuration o.shown o.kept) in
-      record {
-        listeners = owned_where new l.last l.stands;
-        at_work = at_work;
-      }
-
-  -- and so where it was handed back
-  pub kept_whatever : (c : Call T) (old new : WorldState T) (result : Result (Answered T) (Call T)) → IsKept old → IsQuiet old
-      → AreAtWork new → begin_refusal old.name_table c ≡ None
-      → IfOk result (λ (d : Answered T). CallsAlone c old d.reply d.woken.items new)
-      → OnErr result (IsSame old new) → IsKept new
-  kept_whatever c old new (Ok d) k quiet at_work fine called same =
-      call_kept c old new d.reply d.woken.items k quiet at_work (admitted old.name_table c fine) called
-  kept_whatever c old new (Err x) k quiet at_work fine called same =
-      record { listeners = owned_same old new same k.listeners; at_work = at_work }
+  leads_whatever c old new (Ok d) quiet fine called same =
+      call_leads c old new d.reply d.woken.items quiet (admitted old.name_table c fine) called
+  leads_whatever c old new (Err x) quiet fine called same = same_leads old new same

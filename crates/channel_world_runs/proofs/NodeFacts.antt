@@ -29,7 +29,7 @@ use Rattle.channel_world_model.specs.declared.name.Waiter.{Waiter}
 use Rattle.channel_world_model.specs.declared.name.Waiter.TheVariants.{Op, Stream}
 use Rattle.channel_steps.specs.Configuration.{Configuration, all_seats}
 use Rattle.channel_world_runs.specs.Bookkeeping.{asks}
-use Rattle.channel_world_runs.specs.WorldState.{parts_in, name_state_of, Shown, AreOwned}
+use Rattle.channel_world_runs.specs.WorldState.{parts_in, name_state_of, Shown, Stands}
 use Rattle.channel_world_runs.specs.WorldInvariant.{WorldInvariant}
 use Rattle.channel_world_runs.specs.OwnerOrder.{was_woken}
 use Rattle.channel_world_runs.specs.OwnerWoken.{IsTold}
@@ -163,7 +163,7 @@ module _ {T : Type 0} where
       (may_wait f s sh kept.sound.unlisted.unlisted h.0 told) f.name_table w h.1
 
   -- so its poll, made alone, is refused no memory
-  pub is_ample : (f : WorldState T) (w : Waiter) (a : ChannelAsk T Waiter) (x : Reply T) → AreOwned f → IsWoken w f → a ≡ asks f.name_table (poll_of w)
+  pub is_ample : (f : WorldState T) (w : Waiter) (a : ChannelAsk T Waiter) (x : Reply T) → Stands f → IsWoken w f → a ≡ asks f.name_table (poll_of w)
       → (HasNode a (parts_in f) → lacks_memory x ≡ false) → lacks_memory x ≡ false
   is_ample f w a x o woken asked ample =
-      ample (subst (λ (b : ChannelAsk T Waiter). HasNode b (parts_in f)) (sym asked) (has_node f o.configuration w o.shown o.kept woken))
+      ample (subst (λ (b : ChannelAsk T Waiter). HasNode b (parts_in f)) (sym asked) (has_node f o.configuration w o.stands.shown o.stands.kept woken))

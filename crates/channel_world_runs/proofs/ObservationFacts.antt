@@ -24,16 +24,17 @@ use Rattle.channel_steps.specs.Moments.{MarkedMoment}
 use Rattle.channel_steps.specs.Configuration.{ActiveCall, Configuration, ActiveCallWitness, AllKnown, active_call_of, all_seats}
 use Rattle.channel_steps.specs.Tellings.{Telling, takings, owed_takings, owed_besides}
 use Rattle.channel_steps.specs.declared.party.Party.{Party}
-use Rattle.channel_world_runs.specs.Doing.{is_close, any_close, doing_of}
-use Rattle.channel_world_runs.specs.WorldState.{name_state_of, parts_in, observation_of, AreCounted, HasOnePlace, Shown, IsSame}
+use Rattle.channel_world_runs.specs.Activity.{is_close, any_close, activity_of}
+use Rattle.channel_world_runs.specs.WorldState.{parties_of, activities_of, name_state_of, parts_in, observation_of, AreCounted, HasOnePlace, Shown, IsSame}
 use Rattle.channel_world_runs.specs.Owed.{Observation, Owed, is_sending, is_receiving, unannounced, all_unannounced, woken_on}
 use Rattle.channel_world_runs.specs.Owners.{All, AnyOf, Owned}
 use Rattle.channel_world_runs.specs.Run.{NameState}
 use Rattle.channel_world_runs.specs.ObservationAt.{unless_told, freed_by, all_freed, observation_at}
-use Rattle.channel_world_runs.specs.declared.doing.Doing.{Doing}
+use Rattle.channel_world_runs.specs.declared.activity.Activity.{Activity}
+use Rattle.channel_world_runs.specs.declared.calls.CallUnderWay.{CallUnderWay}
 use Rattle.channel_world_runs.specs.declared.world_state.WorldState.{WorldState}
 use Rattle.channel_world_runs.specs.declared.name_table.NameTable.{NameTable}
-use Rattle.channel_world_runs.proofs.DoingFacts.{TookFew}
+use Rattle.channel_world_runs.proofs.ActivityFacts.{TookFew}
 use Rattle.channel_world_runs.proofs.OwedCounts.{one_if, count_first}
 use Rattle.channel_world_runs.proofs.OwedFacts.{places, owed}
 use Rattle.channel_world_runs.proofs.OwedConfigurations.{OwedIn}
@@ -55,17 +56,16 @@ all_announced (t ∷ ts) n besides e = omega arith
 is_closing : (m : Mark) → m ≡ Close → is_close m ≡ true
 is_closing m e = ap is_close e
 
+counted : {A : Type 0} (f : A → Activity) (test : Activity → Bool) (xs : List A) → count_by test (map f xs) ≡ count_by (λ (x : A). test (f x)) xs
+counted f test [] = refl
+counted {A} f test (x ∷ xs) =
+    let here = count_first test (f x) (map f xs) in
+    let there = count_first (λ (y : A). test (f y)) x xs in
+    let rest = counted f test xs in
+    omega (arith, here, there, rest)
+
 module _ {T : Type 0} where
   -- ---- numbers
-
-  counted : (test : Doing → Bool) (us : List (ActiveCall T Waiter))
-      → count_by test (map doing_of us) ≡ count_by (λ (u : ActiveCall T Waiter). test (doing_of u)) us
-  counted test [] = refl
-  counted test (u ∷ us) =
-      let here = count_first test (doing_of u) (map doing_of us) in
-      let there = count_first (λ (v : ActiveCall T Waiter). test (doing_of v)) u us in
-      let rest = counted test us in
-      omega (arith, here, there, rest)
 
   some_counts : (P : ActiveCall T Waiter → Type 0) (test : ActiveCall T Waiter → Bool) → ((u : ActiveCall T Waiter) → P u → test u ≡ true)
       → (us : List (ActiveCall T Waiter)) → AnyOf P us → 0 < count_by test us
@@ -89,9 +89,18 @@ module _ {T : Type 0} where
 
   -- ---- what was freed
 
+  -- what the calls have not announced, by their parties and by what is noted of them
+  abbrev each_unannounced : List (Party T Waiter) → List Activity → ℕ
+  each_unannounced (p ∷ ps) (d ∷ ds) = unannounced p.call.stage d + each_unannounced ps ds
+  each_unannounced ps ds = 0
+
+  call_by_call : (cs : List (CallUnderWay T)) → all_unannounced cs ≡ each_unannounced (map (λ (c : CallUnderWay T). c.party) cs) (map (λ (c : CallUnderWay T). c.activity) cs)
+  call_by_call [] = refl
+  call_by_call (c ∷ cs) = ap (λ (n : ℕ). unannounced c.party.call.stage c.activity + n) (call_by_call cs)
+
   -- as far as a machine number goes
   no_more : (f : Phase T) (at : Stage (QueueCall T) T Waiter) (u : ActiveCall T Waiter) → ToldAt u.told (phase f at) u.marks
-      → min (freed_by u) (2 ^ 64 - 1) ≤ unannounced at (doing_of u)
+      → min (freed_by u) (2 ^ 64 - 1) ≤ unannounced at (activity_of u)
   no_more f (Working (Leave x)) u h =
       let none = all_announced u.told (takings u.marks) (owed_besides u.marks) h in omega (arith, none)
   no_more f at u h = let most = unless_most u.told (takings u.marks) in omega (arith, most)
@@ -101,7 +110,7 @@ module _ {T : Type 0} where
     all_no_more : (n : ℕ) → n < 2 ^ 61 → (xs : List (ActiveCallWitness T Waiter)) → AllKnown now (map active_call_of xs)
         → All (TookFew n) (map active_call_of xs)
         → all_freed (map active_call_of xs)
-        ≤ all_unannounced (map (λ (x : ActiveCallWitness T Waiter). x.party) xs) (map doing_of (map active_call_of xs))
+        ≤ each_unannounced (map (λ (x : ActiveCallWitness T Waiter). x.party) xs) (map activity_of (map active_call_of xs))
     all_no_more n low [] k few = omega arith
     all_no_more n low (x ∷ xs) k few =
         let known = k.0 in
@@ -114,7 +123,7 @@ module _ {T : Type 0} where
     -- and where any were, one is
     some_no_more : (xs : List (ActiveCallWitness T Waiter)) → AllKnown now (map active_call_of xs)
         → min (all_freed (map active_call_of xs)) 1
-        ≤ all_unannounced (map (λ (x : ActiveCallWitness T Waiter). x.party) xs) (map doing_of (map active_call_of xs))
+        ≤ each_unannounced (map (λ (x : ActiveCallWitness T Waiter). x.party) xs) (map activity_of (map active_call_of xs))
     some_no_more [] k = omega arith
     some_no_more (x ∷ xs) k =
         let known = k.0 in
@@ -133,8 +142,10 @@ module _ {T : Type 0} where
         let shown = shows (parts_in f).cells sh.shows.queue (all_seats sh.shows.witnesses) (_, sh.shows.fits) in
         ap (λ (q : Queue T). q.closed) shown_queue ∙ sym shown.flag
 
-    by_role : (test : Doing → Bool) → count_by test f.doings.items ≡ count_by (λ (u : ActiveCall T Waiter). test (doing_of u)) s.under_way
-    by_role test = ap (λ (ds : List Doing). count_by test ds) sh.doings ∙ counted test s.under_way
+    by_role : (test : Activity → Bool) → count_by (λ (c : CallUnderWay T). test c.activity) f.calls.items ≡ count_by (λ (u : ActiveCall T Waiter). test (activity_of u)) s.under_way
+    by_role test =
+        sym (counted (λ (c : CallUnderWay T). c.activity) test f.calls.items)
+        ∙ (ap (λ (ds : List Activity). count_by test ds) sh.activities ∙ counted activity_of test s.under_way)
 
     known : AllKnown s.now (map active_call_of sh.shows.witnesses)
     known = subst (λ (us : List (ActiveCall T Waiter)). AllKnown s.now us) sh.shows.under_way sh.shows.known
@@ -142,23 +153,24 @@ module _ {T : Type 0} where
     freed_here : all_freed s.under_way ≡ all_freed (map active_call_of sh.shows.witnesses)
     freed_here = ap (λ (us : List (ActiveCall T Waiter)). all_freed us) sh.shows.under_way
 
-    noted_here : all_unannounced f.parties.items f.doings.items
-        ≡ all_unannounced (map (λ (x : ActiveCallWitness T Waiter). x.party) sh.shows.witnesses) (map doing_of (map active_call_of sh.shows.witnesses))
+    noted_here : all_unannounced f.calls.items
+        ≡ each_unannounced (map (λ (x : ActiveCallWitness T Waiter). x.party) sh.shows.witnesses) (map activity_of (map active_call_of sh.shows.witnesses))
     noted_here =
-        ap (λ (ps : List (Party T Waiter)). all_unannounced ps f.doings.items) sh.shows.parties_are
-        ∙ ap (λ (ds : List Doing). all_unannounced (map (λ (x : ActiveCallWitness T Waiter). x.party) sh.shows.witnesses) ds)
-        (sh.doings ∙ ap (λ (us : List (ActiveCall T Waiter)). map doing_of us) sh.shows.under_way)
+        call_by_call f.calls.items
+        ∙ (ap (λ (ps : List (Party T Waiter)). each_unannounced ps (activities_of f)) sh.shows.parties_are
+        ∙ ap (λ (ds : List Activity). each_unannounced (map (λ (x : ActiveCallWitness T Waiter). x.party) sh.shows.witnesses) ds)
+        (sh.activities ∙ ap (λ (us : List (ActiveCall T Waiter)). map activity_of us) sh.shows.under_way))
 
     -- no more places than those that are counted, with so many besides
     places_noted : (items messages woken sends sending : ℕ) → messages ≡ items → sending ≡ sends
         → HasPlaces s.now.queue.capacity (items + (woken + (sends + all_freed s.under_way)))
-        → HasPlaces s.now.queue.capacity (messages + (woken + (sending + all_unannounced f.parties.items f.doings.items)))
+        → HasPlaces s.now.queue.capacity (messages + (woken + (sending + all_unannounced f.calls.items)))
     places_noted items messages woken sends sending same same_sends h = by sh.positions where
       before : ℕ
       before = items + (woken + (sends + all_freed s.under_way))
 
       after : ℕ
-      after = messages + (woken + (sending + all_unannounced f.parties.items f.doings.items))
+      after = messages + (woken + (sending + all_unannounced f.calls.items))
 
       by : HasOnePlace f ⊎ AreCounted f s → HasPlaces s.now.queue.capacity after
       by (inl one) =
@@ -168,7 +180,7 @@ module _ {T : Type 0} where
           let now : 1 ≤ after = omega (arith, same, same_sends, enough, some, freed_here, noted_here) in
           subst (λ (c : Option ℕ). HasPlaces c after) (sym slot) now
       by (inr k) =
-          let balanced = balanced_in (parts_in f) f.parties.items s sh.shows in
+          let balanced = balanced_in (parts_in f) (parties_of f) s sh.shows in
           let accepted = k.accepted in
           let within = k.within in
           let few = subst (λ (us : List (ActiveCall T Waiter)). All (TookFew s.now.queue.removed) us) sh.shows.under_way sh.few in
@@ -179,22 +191,22 @@ module _ {T : Type 0} where
     observation_owed o = record {
       receives = λ name i.
           let h = o.receives name i.0 i.1 in
-          omega (arith, h, sh.messages, by_role (λ (d : Doing). is_sending d.role), by_role (λ (d : Doing). is_receiving d.role));
+          omega (arith, h, sh.messages, by_role (λ (d : Activity). is_sending d.role), by_role (λ (d : Activity). is_receiving d.role));
       sends = λ name i is_open.
           let h = o.sends name i.0 i.1 (closed_is_so ∙ is_open) in
           subst (λ (c : Option ℕ). HasPlaces c ((observation_of f).messages + (woken_on Sends f.name_table + ((observation_of f).sending + (observation_of f).freed)))) (capacity_is f s sh)
-          (places_noted _ _ _ _ _ sh.messages (by_role (λ (d : Doing). is_sending d.role)) h);
+          (places_noted _ _ _ _ _ sh.messages (by_role (λ (d : Activity). is_sending d.role)) h);
       streams = λ name i some. stream (o.streams name i.0 i.1) some;
       closing = λ line name i shut.
           let h = o.closing name (record { line = line; key = i.0 }) i.1 (closed_is_so ∙ shut) in
           let one = some_counts (λ (u : ActiveCall T Waiter). HasClosed u.marks) (λ (u : ActiveCall T Waiter). any_close u.marks) (λ u k. closed_is u.marks k) s.under_way h in
-          omega (arith, one, by_role (λ (d : Doing). d.has_closed));
+          omega (arith, one, by_role (λ (d : Activity). d.has_closed));
     } where
       stream : (s.now.queue.items ≡ []) ⊎ AnyOf (λ u. configurations.is_sending u.ask ≡ true) s.under_way → 0 < f.messages → 0 < (observation_of f).sending
       stream (inl none) some = let empty = ap length none in omega (arith, empty, some, sh.messages)
       stream (inr i) some =
           let one = some_counts (λ (u : ActiveCall T Waiter). configurations.is_sending u.ask ≡ true) (λ (u : ActiveCall T Waiter). configurations.is_sending u.ask) (λ u k. k) s.under_way i in
-          omega (arith, one, by_role (λ (d : Doing). is_sending d.role))
+          omega (arith, one, by_role (λ (d : Activity). is_sending d.role))
 
   -- ---- the configuration by itself
 
@@ -218,22 +230,21 @@ module _ {T : Type 0} where
 
   -- ---- room that was taken changes nothing
 
-  abbrev observation_with : NameTable T → ℕ → PlainChannel T Waiter → List (Party T Waiter) → List Doing → Observation T
-  observation_with r n c ps ds = record {
+  abbrev observation_with : NameTable T → ℕ → PlainChannel T Waiter → List (CallUnderWay T) → Observation T
+  observation_with r n c calls = record {
     name_table = r;
     messages = n;
     capacity = capacity_of (parts_of c).cells.form;
     closed = closed_in (parts_of c).cells;
-    sending = count_by (λ (d : Doing). is_sending d.role) ds;
-    receiving = count_by (λ (d : Doing). is_receiving d.role) ds;
-    closers = count_by (λ (d : Doing). d.has_closed) ds;
-    freed = all_unannounced ps ds;
+    sending = count_by (λ (x : CallUnderWay T). is_sending x.activity.role) calls;
+    receiving = count_by (λ (x : CallUnderWay T). is_receiving x.activity.role) calls;
+    closers = count_by (λ (x : CallUnderWay T). x.activity.has_closed) calls;
+    freed = all_unannounced calls;
   }
 
   pub observation_same : (g h : WorldState T) → IsSame g h → observation_of h ≡ observation_of g
   observation_same g h same =
-      ap (λ (b : NameState T). observation_with b.name_table h.messages h.channel h.parties.items h.doings.items) same.name_state
-      ∙ (ap (λ (n : ℕ). observation_with g.name_table n h.channel h.parties.items h.doings.items) same.messages
-      ∙ (ap (λ (c : PlainChannel T Waiter). observation_with g.name_table g.messages c h.parties.items h.doings.items) same.channel
-      ∙ (ap (λ (ps : List (Party T Waiter)). observation_with g.name_table g.messages g.channel ps h.doings.items) same.parties
-      ∙ ap (λ (ds : List Doing). observation_with g.name_table g.messages g.channel g.parties.items ds) same.doings)))
+      ap (λ (r : NameTable T). observation_with r h.messages h.channel h.calls.items) same.name_table
+      ∙ (ap (λ (n : ℕ). observation_with g.name_table n h.channel h.calls.items) same.messages
+      ∙ (ap (λ (c : PlainChannel T Waiter). observation_with g.name_table g.messages c h.calls.items) same.channel
+      ∙ ap (λ (cs : List (CallUnderWay T)). observation_with g.name_table g.messages g.channel cs) same.calls))

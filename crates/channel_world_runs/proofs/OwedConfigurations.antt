@@ -10,7 +10,7 @@ use Rattle.channel_steps.specs.Moments.{Open, Shut}
 use Rattle.channel_steps.specs.Configuration.{ActiveCall, Configuration}
 use Rattle.channel_steps.specs.every_run.Closings.{HasClosed}
 use Rattle.channel_steps.specs.every_run.Sends.{HasPlaces}
-use Rattle.channel_world_runs.specs.Doing.{role_of}
+use Rattle.channel_world_runs.specs.Activity.{role_of}
 use Rattle.channel_world_runs.specs.Owed.{woken_on}
 use Rattle.channel_world_runs.specs.Owed as world
 use Rattle.channel_world_runs.specs.Owners.{waits, status, AnyOf}

@@ -37,7 +37,7 @@ use Rattle.channel_world_runs.specs.Owed.{is_woken_on, all_names, woken_on}
 use Rattle.channel_world_runs.specs.Owners.{IsAmong, NoneTwice, AnyOf, NameStatus, free, waits, status_by, status, holding, line_asked, Together, HoldsIn, Holder, named, calling, Owned}
 use Rattle.channel_world_runs.specs.OwnerOrder.{woken_key, woken_keys}
 use Rattle.channel_world_runs.specs.Run.{NameState}
-use Rattle.channel_world_runs.specs.declared.names.Agent.{Agent}
+use Rattle.channel_world_runs.specs.Calls.{Agent}
 use Rattle.channel_world_runs.specs.declared.name_table.NameTable.{NameTable}
 use Rattle.channel_world_runs.specs.ObservationAt.{unless_told, all_freed}
 use Rattle.channel_world_runs.proofs.OwedConfigurations.{is_sending, is_receiving, at_it, to_send}

@@ -19,13 +19,13 @@ use Rattle.channel_world_model.specs.declared.name.Waiter.{Waiter}
 use Rattle.channel_world_model.specs.declared.name.Waiter.TheVariants.{Op, Stream}
 use Rattle.channel_steps.specs.Count.{counted}
 use Rattle.channel_world_runs.specs.Bookkeeping.{asks}
-use Rattle.channel_world_runs.specs.Doing.{is_close, doing_begun, doing_after}
+use Rattle.channel_world_runs.specs.Activity.{is_close, activity_begun, activity_after}
 use Rattle.channel_world_runs.specs.Owed.{Observation, Owed, is_sending, is_receiving}
 use Rattle.channel_world_runs.specs.NameTable.{first_name_table}
 use Rattle.channel_world_runs.specs.Run.{NameState, name_state_begun, name_state_ended, with_woken}
-use Rattle.channel_world_runs.specs.declared.doing.Doing.{Doing}
-use Rattle.channel_world_runs.specs.declared.doing.Role.TheVariants.{Other}
-use Rattle.channel_world_runs.specs.declared.names.Agent.{Agent}
+use Rattle.channel_world_runs.specs.declared.activity.Activity.{Activity}
+use Rattle.channel_world_runs.specs.declared.activity.Role.TheVariants.{Other}
+use Rattle.channel_world_runs.specs.Calls.{Agent}
 use Rattle.channel_world_runs.specs.declared.names.OnReturn.TheVariants as on_return
 
 -- ---- steps
@@ -41,24 +41,24 @@ data Act : Type 0 where
 -- the names and the parties at work, what is noted of their calls, how many messages there are, and whether the channel is closed
 record Played : Type 0 where
   name_state : NameState ℕ
-  doings : List Doing
+  activities : List Activity
   messages : ℕ
   closed : Bool
 
 abbrev opened : Played
-opened = record { name_state = record { name_table = first_name_table; order = []; agents = [] }; doings = []; messages = 0; closed = false }
+opened = record { name_state = record { name_table = first_name_table; order = []; agents = [] }; activities = []; messages = 0; closed = false }
 
 abbrev nobody : Agent ℕ
 nobody = record { party = 0; on_return = on_return.Nothing }
 
-abbrev idle : Doing
+abbrev idle : Activity
 idle = record { role = Other; has_closed = false; taken = 0 }
 
 -- the k-th call under way answers, and leaves this to its operation
 abbrev answered : ℕ → Reply ℕ → Returned ℕ → Played → Played
 answered k x kept w = record {
   name_state = name_state_ended k (slice_index_or w.name_state.agents k nobody) (Some x) (Some kept) w.name_state;
-  doings = remove w.doings k;
+  activities = remove w.activities k;
   messages = w.messages;
   closed = w.closed;
 }
@@ -66,13 +66,13 @@ answered k x kept w = record {
 abbrev after : Act → Played → Played
 after (begins p c) w = record {
   name_state = name_state_begun (record { 0 = p }) c w.name_state;
-  doings = w.doings ++ (doing_begun (asks w.name_state.name_table c) ∷ []);
+  activities = w.activities ++ (activity_begun (asks w.name_state.name_table c) ∷ []);
   messages = w.messages;
   closed = w.closed;
 }
 after (steps k m names) w = record {
   name_state = with_woken names w.name_state;
-  doings = slice_set w.doings k (doing_after m (slice_index_or w.doings k idle));
+  activities = slice_set w.activities k (activity_after m (slice_index_or w.activities k idle));
   messages = counted w.messages m;
   closed = w.closed || is_close m;
 }
@@ -90,10 +90,10 @@ shown w = record {
   messages = w.messages;
   capacity = Some 5;
   closed = w.closed;
-  sending = count_by (λ (d : Doing). is_sending d.role) w.doings;
-  receiving = count_by (λ (d : Doing). is_receiving d.role) w.doings;
-  closers = count_by (λ (d : Doing). d.has_closed) w.doings;
-  freed = sum_by (λ (d : Doing). d.taken) w.doings;
+  sending = count_by (λ (d : Activity). is_sending d.role) w.activities;
+  receiving = count_by (λ (d : Activity). is_receiving d.role) w.activities;
+  closers = count_by (λ (d : Activity). d.has_closed) w.activities;
+  freed = sum_by (λ (d : Activity). d.taken) w.activities;
 }
 
 -- ---- calls

@@ -12,7 +12,7 @@ use Rattle.channel_world_runs.specs.OwnerPolled.{IsWorkedAt, PolledAtWork}
 use Rattle.channel_world_runs.specs.Owners.{IsAmong, NameStatus, waits, polled, status, subject, Owned}
 use Rattle.channel_world_runs.specs.NameTable.{first_name_table}
 use Rattle.channel_world_runs.specs.Run.{NameState, name_state_begun}
-use Rattle.channel_world_runs.specs.declared.names.Agent.{Agent}
+use Rattle.channel_world_runs.specs.Calls.{Agent}
 use Rattle.channel_world_runs.specs.declared.step.PartyId.{PartyId}
 use Rattle.channel_world_runs.proofs.OwnerBegins.{Admitted}
 use Rattle.channel_world_runs.proofs.OwnerCalls.{BeginsSo, begins_so}

@@ -21,7 +21,7 @@ use Rattle.channel_world_runs.specs.Owners.{IsAmong, All, AnyOf, NameStatus, fre
 use Rattle.channel_world_runs.specs.Refusal.{begin_refusal, step_refusal}
 use Rattle.channel_world_runs.specs.NameTable.{is_at_work}
 use Rattle.channel_world_runs.specs.Run.{NameState, name_state_ended, with_woken}
-use Rattle.channel_world_runs.specs.declared.names.Agent.{Agent}
+use Rattle.channel_world_runs.specs.Calls.{Agent}
 use Rattle.channel_world_runs.specs.declared.name_table.NameTable.{NameTable}
 use Rattle.channel_world_runs.specs.declared.step.PartyId.{PartyId}
 use Rattle.channel_world_runs.specs.declared.step.Step.TheVariants as step

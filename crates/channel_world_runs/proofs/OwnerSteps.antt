@@ -19,7 +19,7 @@ use Rattle.channel_world_runs.specs.Order.{order_begun}
 use Rattle.channel_world_runs.specs.Owners.{All, AnyOf, NameStatus, free, retired, invalid, rests, waits, polled, status_by, status, holding, wait_of, subject, Suits, Together, Differ, AllDiffer, IsListed, NoneListedTwice, Holder, named, calling, HoldsIn, Owned}
 use Rattle.channel_world_runs.specs.NameTable.{first_name_table, unused, is_at_work}
 use Rattle.channel_world_runs.specs.Run.{NameState, name_state_begun}
-use Rattle.channel_world_runs.specs.declared.names.Agent.{Agent}
+use Rattle.channel_world_runs.specs.Calls.{Agent}
 use Rattle.channel_world_runs.specs.declared.names.OnReturn.{OnReturn}
 use Rattle.channel_world_runs.specs.declared.names.OnReturn.TheVariants as on_return
 use Rattle.channel_world_model.specs.declared.name.HandleKind.TheVariants as handle_kind

@@ -8,7 +8,7 @@ use Rattle.channel_world_model.specs.declared.name.Waiter.{Waiter}
 use Rattle.channel_world_model.specs.declared.name.Waiter.TheVariants.{Op, Stream}
 use Rattle.channel_steps.specs.Configuration.{ActiveCall, sees}
 use Rattle.channel_world_runs.specs.Owners.{All, AnyOf, NameStatus, holding, subject, Suits, AgentFits, Together, Differ, AllDiffer}
-use Rattle.channel_world_runs.specs.declared.names.Agent.{Agent}
+use Rattle.channel_world_runs.specs.Calls.{Agent}
 use Rattle.channel_world_runs.specs.declared.names.OnReturn.{OnReturn}
 use Rattle.channel_world_runs.specs.declared.names.OnReturn.TheVariants as on_return
 use Rattle.channel_world_runs.proofs.OwnerBegins.{IsBusy}

@@ -17,7 +17,7 @@ use Rattle.channel_world_runs.specs.Order.{all_moved_last, order_settled}
 use Rattle.channel_world_runs.specs.Owners.{IsAmong, All, AnyOf, NameStatus, free, retired, invalid, rests, waits, polled, status, holding, task_at, wait_of, Bears, subject, Suits, Together, Differ, IsListed, WaitsToWake, named, calling, HoldsIn, Owned}
 use Rattle.channel_world_runs.specs.OwnerWoken.{IsAway, IsTold, NoneWorks, IsOwn, WokenSound}
 use Rattle.channel_world_runs.specs.Run.{NameState, with_woken}
-use Rattle.channel_world_runs.specs.declared.names.Agent.{Agent}
+use Rattle.channel_world_runs.specs.Calls.{Agent}
 use Rattle.channel_world_runs.specs.declared.names.OnReturn.{OnReturn}
 use Rattle.channel_world_runs.specs.declared.names.OnReturn.TheVariants as on_return
 use Rattle.channel_world_runs.specs.declared.name_table.NameTable.{NameTable}

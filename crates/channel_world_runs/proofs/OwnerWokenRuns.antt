@@ -18,7 +18,7 @@ use Rattle.channel_world_runs.specs.Owners.{NameStatus, retired, waits, polled, 
 use Rattle.channel_world_runs.specs.OwnerWoken.{IsAway, IsTold, NoneWorks, Works, IsOwn, WokenSound}
 use Rattle.channel_world_runs.specs.NameTable.{first_name_table}
 use Rattle.channel_world_runs.specs.Run.{NameState, name_state_begun}
-use Rattle.channel_world_runs.specs.declared.names.Agent.{Agent}
+use Rattle.channel_world_runs.specs.Calls.{Agent}
 use Rattle.channel_world_runs.specs.declared.step.PartyId.{PartyId}
 use Rattle.channel_world_runs.proofs.AskStarts.{holds_same, starts}
 use Rattle.channel_world_runs.proofs.OwnerBegins.{IsBusy, held_in, Quiet, Touches, Admitted}

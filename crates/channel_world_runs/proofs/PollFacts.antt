@@ -9,11 +9,12 @@ use Rattle.channel_world_model.specs.declared.call.Call.{Call}
 use Rattle.channel_world_model.specs.declared.name.Waiter.{Waiter}
 use Rattle.channel_steps.specs.Configuration.{Represents}
 use Rattle.channel_world_runs.specs.Bookkeeping.{asks}
-use Rattle.channel_world_runs.specs.WorldState.{parts_in, AreOwned, IsQuiet}
+use Rattle.channel_world_runs.specs.WorldState.{parts_in, Stands, IsQuiet}
 use Rattle.channel_world_runs.specs.Lone.{WakesAtMost}
 use Rattle.channel_world_runs.specs.Woken.{Hears}
 use Rattle.channel_world_runs.specs.declared.world_state.WorldState.{WorldState}
 use Rattle.channel_world_runs.specs.declared.woken.Woken.{Woken as Sink}
+use Rattle.channel_world_runs.proofs.LoneFacts.{no_parties}
 use Rattle.channel_world_runs.proofs.ShownFacts.{has_position}
 use Rattle.channel_world_runs.proofs.WokenFacts.{all_heard, room_stays, drop_front}
 
@@ -27,13 +28,14 @@ module _ {T : Type 0} where
   pub names_heard : (c : Call T) (old : WorldState T) (a : ChannelAsk T Waiter) (d : Done T) (empty full : Sink) (after : Parts T Waiter)
       (messages room : ℕ)
       → RunsInConfigurations Hears a (parts_in old) empty old.messages d after full messages → a ≡ asks old.name_table c
-      → AreOwned old → IsQuiet old → length empty.names.items + room ≤ vec_capacity empty.names
+      → Stands old → IsQuiet old → length empty.names.items + room ≤ vec_capacity empty.names
       → WakesAtMost room c old → Heard empty full
   names_heard c old a d empty full after messages room ran asked o quiet enough few =
-      let r = ran o.configuration 0 (has_position old o.configuration o.shown) (subst (λ ps. Represents (parts_in old) ps o.configuration) quiet o.shown.shows) in
+      let shown = o.stands.shown in
+      let r = ran o.configuration 0 (has_position old o.configuration shown) (subst (λ ps. Represents (parts_in old) ps o.configuration) (no_parties old quiet) shown.shows) in
       let alone : Alone (asks old.name_table c) o.configuration.now r.outcome =
       subst (λ (x : ChannelAsk T Waiter). Alone x o.configuration.now r.outcome) asked r.does in
-      let most = few o.configuration r.outcome o.shown o.kept alone in
+      let most = few o.configuration r.outcome shown o.stands.kept alone in
       let start : vec_len empty.names ≡ length empty.names.items = empty.names.ok.0 in
       let end : vec_len full.names ≡ length full.names.items = full.names.ok.0 in
       let fits : vec_len empty.names + length r.outcome.woken ≤ vec_capacity empty.names = omega (arith, most, enough, start) in

@@ -24,7 +24,7 @@ use Rattle.channel_world_runs.specs.NameTable.{first_name_table, is_at_work}
 use Rattle.channel_world_runs.specs.Refusal.{step_refusal}
 use Rattle.channel_world_runs.specs.Run.{NameState, StepIsMade, IsNameStateOf, name_state_begun, name_state_ended, with_woken}
 use Rattle.channel_world_runs.specs.Users.{FewUsers}
-use Rattle.channel_world_runs.specs.declared.names.Agent.{Agent}
+use Rattle.channel_world_runs.specs.Calls.{Agent}
 use Rattle.channel_world_runs.specs.declared.name_table.NameTable.{NameTable}
 use Rattle.channel_world_runs.specs.declared.step.Entry.{Entry}
 use Rattle.channel_world_runs.specs.declared.step.PartyId.{PartyId}

@@ -1,6 +1,6 @@
 -- Steps of an interleaved channel, and runs of them.
-use Rattle.std.specs.List.{remove}
-use Rattle.std.proofs.Common.{arith, ◌≡◌, ℕ, zero, suc, ◌+◌, ◌-◌, ◌^◌, ◌≤◌, ◌<◌, min, Bool, true, false, nat_lt, slice_index_or, List, [], ◌∷◌, ◌++◌, map, length, slice_get, vec_len, vec_capacity, Option, None, Some, ◌⊎◌, inl, inr, refl, sym, ap, ◌∙◌, subst, append_assoc}
+use Rattle.std.proofs.Common.{arith, ◌≡◌, ℕ, ◌+◌, ◌-◌, ◌^◌, ◌≤◌, ◌<◌, min, Bool, true, false, nat_lt, slice_index_or, List, [], ◌∷◌, ◌++◌, map, length, slice_get, vec_len, vec_capacity, Option, None, Some, ◌⊎◌, inl, inr, refl, sym, ap, ◌∙◌, subst, append_assoc}
+use Rattle.std.proofs.lemmas.List.{length-map, map-append}
 use Rattle.concurrent_queue.specs.Queue.{IsInRange}
 use Rattle.concurrent_queue.proofs.Interface.{shows}
 use Rattle.channel_steps.specs.solo.Run as queue
@@ -10,48 +10,50 @@ use Rattle.channel_calls.specs.Parts.{Parts, WaitLists, listeners}
 use Rattle.channel_calls.specs.Moves.{Channel}
 use Rattle.channel_calls.specs.Plain.{parts_of}
 use Rattle.channel_calls.specs.declared.plain.PlainChannel.{PlainChannel}
+use Rattle.channel_calls.specs.declared.mark.Mark.{Mark}
 use Rattle.channel_calls.specs.declared.mark.Mark.TheVariants.{Nothing}
 use Rattle.channel_calls.specs.declared.reply.Reply.{Reply}
-use Rattle.channel_calls.specs.declared.stage.Returned.{Returned}
 use Rattle.channel_calls.specs.declared.stage.WaitList.{WaitList}
 use Rattle.channel_world_model.specs.declared.call.Call.{Call}
 use Rattle.channel_world_model.specs.declared.name.Waiter.{Waiter}
 use Rattle.channel_steps.specs.Count.{counted, brought_in, taken_out}
-use Rattle.channel_steps.specs.Run.{IsRun, new_configuration, HasBegun, Begins}
+use Rattle.channel_steps.specs.Run.{IsRun, new_configuration, Begins, PartyBegins}
 use Rattle.channel_steps.specs.Tellings.{telling, dropping}
 use Rattle.channel_steps.specs.Left.{left_at}
-use Rattle.channel_steps.specs.Configuration.{Configuration, ActiveCallWitness, blocks_after, active_call_of, all_seats, IsBalanced, Represents, StepsAt, StepsNearer, parties_in, unless_answered, brought}
+use Rattle.channel_steps.specs.Configuration.{ActiveCall, Configuration, ActiveCallWitness, PartySteps, Represents, StepsAt, StepsNearer, active_call_of, after_step, all_seats, blocks_after, brought, left_by, IsBalanced}
 use Rattle.channel_steps.specs.Configuration.{Steps as ChannelSteps}
 use Rattle.channel_steps.specs.declared.party.Entry.{Entry as ChannelEntry}
 use Rattle.channel_steps.specs.declared.party.Party.{Party}
-use Rattle.channel_world_runs.specs.Bookkeeping.{asks}
-use Rattle.channel_world_runs.specs.Doing.{doing_begun, doing_of, noted}
+use Rattle.channel_world_runs.specs.Bookkeeping.{asks, names_begun, on_return_of}
+use Rattle.channel_world_runs.specs.Activity.{activity_after, activity_begun, activity_of}
+use Rattle.channel_world_runs.specs.Calls.{Agent, agent_of}
 use Rattle.channel_world_runs.specs.Left.{left_of}
 use Rattle.channel_world_runs.specs.Owed.{Observation, Owed}
-use Rattle.channel_world_runs.specs.WorldState.{parts_in, name_state_of, lefts_in, AreCounted, HasOnePlace, Shown, StandsIn, Stands, AreAtWork, AreOwned, IsSame, LedByStep, LeadsByStep, HasPositions, HasPosition}
+use Rattle.channel_world_runs.specs.WorldState.{parties_of, agents_of, activities_of, parts_in, name_state_of, calls_in, lefts_in, AreCounted, HasOnePlace, Shown, IsQuiet, StandsIn, IsSame, LedByStep, LeadsByStep, HasPositions, HasPosition}
 use Rattle.channel_world_runs.specs.Positions.{brings, is_one_place, yet_in}
 use Rattle.channel_world_model.specs.declared.refusal.WorldRefusal.{WorldRefusal}
 use Rattle.channel_world_model.specs.declared.run.Stopped.{Stopped}
 use Rattle.std.proofs.lemmas.Bool.Decides.{nat_tests}
 use Rattle.channel_world_runs.specs.Refusal.{step_refusal}
-use Rattle.channel_world_runs.specs.NameTable.{first_name_table, IsAgent}
+use Rattle.channel_world_runs.specs.NameTable.{first_name_table}
+use Rattle.channel_world_runs.specs.Order.{order_begun}
 use Rattle.channel_world_runs.specs.Run.{NameState, StepIsMade, MayRefuseStep, StopsAt, name_state_begun, name_state_ended, with_woken, channel_step}
 use Rattle.channel_world_runs.specs.Runs.{Moment, FewLeft, LeadsBy, accepted_in, left_in, moment_of, RanTo}
 use Rattle.channel_world_runs.specs.Woken.{Hears}
-use Rattle.channel_world_runs.specs.declared.doing.Doing.{Doing}
+use Rattle.channel_world_runs.specs.declared.calls.CallUnderWay.{CallUnderWay}
 use Rattle.channel_world_runs.specs.declared.world_state.WorldState.{WorldState}
-use Rattle.channel_world_runs.specs.declared.names.Agent.{Agent}
 use Rattle.channel_world_runs.specs.declared.step.PartyId.{PartyId}
 use Rattle.channel_world_runs.specs.declared.step.Entry.{Entry}
 use Rattle.channel_world_runs.specs.declared.step.Step.{Step}
 use Rattle.channel_world_runs.specs.declared.step.Step.TheVariants as step
 use Rattle.channel_world_runs.specs.declared.woken.Woken.{Woken as Sink}
-use Rattle.channel_steps.proofs.Interface.{run_none, run_on, few_left, messages_counted, messages_moved, blocks_begun}
+use Rattle.channel_steps.proofs.Interface.{get-map, map-after, run_none, run_on, few_left, messages_counted, messages_moved, blocks_begun}
 use Rattle.channel_world_runs.specs.WorldInvariant.{WorldInvariant}
 use Rattle.channel_world_runs.proofs.AccountFacts.{no_accounts, next_accounts}
+use Rattle.channel_world_runs.proofs.CallFacts.{none_read}
 use Rattle.channel_world_runs.proofs.WorldInvariant.{kept_first, kept_next}
 use Rattle.channel_world_runs.proofs.LeftFacts.{comes_nearer, few_of, parties_shown}
-use Rattle.channel_world_runs.proofs.DoingFacts.{begun_noted, begun_few, stepped_at, stepped_noted, stepped_few}
+use Rattle.channel_world_runs.proofs.ActivityFacts.{begun_noted, begun_few, stepped_noted, stepped_few}
 use Rattle.channel_world_runs.proofs.OwedFacts.{owed}
 use Rattle.channel_world_runs.proofs.ShownFacts.{balanced_in, has_position, in_range}
 use Rattle.channel_world_runs.proofs.ObservationFacts.{observation_owed, observation_same}
@@ -59,70 +61,48 @@ use Rattle.channel_world_runs.proofs.PlaceFacts.{brought_most, no_message}
 use Rattle.channel_world_runs.proofs.PositionFacts.{step_brings, begin_brings, yet_most}
 use Rattle.channel_world_runs.proofs.WokenFacts.{all_heard, few_woken}
 
--- ---- lists
-
-pub within : {A : Type 0} (xs : List A) (k : ℕ) (x : A) → slice_get xs k ≡ Some x → k < length xs
-within [] k x e = absurd cc
-within (y ∷ ys) zero x e = omega arith
-within (y ∷ ys) (suc k) x e = let rest = within ys k x e in omega (arith, rest)
-
-map-remove : {A B : Type 0} (f : A → B) (xs : List A) (k : ℕ) → map f (remove xs k) ≡ remove (map f xs) k
-map-remove f [] zero = refl
-map-remove f [] (suc k) = refl
-map-remove f (x ∷ xs) zero = refl
-map-remove f (x ∷ xs) (suc k) = ap (λ ys. f x ∷ ys) (map-remove f xs k)
-
 module _ {T : Type 0} where
-  abbrev moment_with : Parts T Waiter → List (Party T Waiter) → Configuration T Waiter → NameState T → Moment T
-  moment_with parts parties s b = record { parts = parts; configuration = s; name_state = b; left = λ party. left_of party parts parties }
+  -- ---- the calls under way
+
+  abbrev party_in : CallUnderWay T → Party T Waiter
+  party_in c = c.party
+
+  -- as many are noted as are under way
+  pub calls_many : (f : WorldState T) (s : Configuration T Waiter) → Shown f s → length s.under_way ≡ calls_in f
+  calls_many f s sh =
+      let same = ap length sh.activities in
+      let noted = length-map f.calls.items (λ (c : CallUnderWay T). c.activity) in
+      let are = length-map s.under_way (λ (u : ActiveCall T Waiter). activity_of u) in
+      omega (arith, same, noted, are)
 
   -- ---- at the start
 
   -- where no call is under way, there is no party
-  pub no_parties : (parts : Parts T Waiter) (parties : List (Party T Waiter)) (s : Configuration T Waiter) → s.under_way ≡ []
+  no_parties : (parts : Parts T Waiter) (parties : List (Party T Waiter)) (s : Configuration T Waiter) → s.under_way ≡ []
       → Represents parts parties s → parties ≡ []
-  no_parties parts parties s quiet sh = sh.parties_are ∙ none sh.witnesses (sym quiet ∙ sh.under_way) where
-    none : (xs : List (ActiveCallWitness T Waiter)) → [] ≡ map active_call_of xs → map (λ (x : ActiveCallWitness T Waiter). x.party) xs ≡ []
-    none [] e = refl
-    none (x ∷ xs) e = absurd cc
+  no_parties parts parties s quiet sh =
+      sh.parties_are ∙ ap (λ (xs : List (ActiveCallWitness T Waiter)). map (λ (x : ActiveCallWitness T Waiter). x.party) xs) (none_read active_call_of sh.witnesses (sym sh.under_way ∙ quiet))
 
-  pub new_shown : (f : WorldState T) (cap : Option ℕ) → Represents (parts_in f) f.parties.items (new_configuration cap) → f.messages ≡ 0
-      → f.accepted ≡ 0 → f.has_one_place ≡ is_one_place cap → f.doings.items ≡ [] → Shown f (new_configuration cap)
-  new_shown f cap sh none nothing place nobody = record {
-    shows = sh;
+  pub no_calls : (f : WorldState T) (s : Configuration T Waiter) → s.under_way ≡ [] → Shown f s → IsQuiet f
+  no_calls f s quiet sh = none_read party_in f.calls.items (no_parties (parts_in f) (parties_of f) s quiet sh.shows)
+
+  pub new_shown : (f : WorldState T) (parties : List (Party T Waiter)) (cap : Option ℕ) → Represents (parts_in f) parties (new_configuration cap) → f.messages ≡ 0
+      → f.accepted ≡ 0 → f.has_one_place ≡ is_one_place cap → f.calls.items ≡ [] → Shown f (new_configuration cap)
+  new_shown f parties cap sh none nothing place nobody = record {
+    shows = rw nobody (subst (λ (ps : List (Party T Waiter)). Represents (parts_in f) ps (new_configuration cap)) (no_parties (parts_in f) parties (new_configuration cap) refl sh) sh);
     place = place;
     positions = inr (record { accepted = omega arith; within = omega (arith, nothing) });
     messages = none;
-    doings = nobody;
+    activities = rw nobody refl;
     few = tt;
   }
 
-  pub new_at_work : (f : WorldState T) (cap : Option ℕ) → Represents (parts_in f) f.parties.items (new_configuration cap)
-      → f.agents.items ≡ [] → AreAtWork f
-  new_at_work f cap sh none = rw (none, no_parties (parts_in f) f.parties.items (new_configuration cap) refl sh) refl
-
-  pub new_kept : (f : WorldState T) (cap : Option ℕ) → name_state_of f ≡ record { name_table = first_name_table; order = []; agents = [] }
-      → WorldInvariant (name_state_of f) (new_configuration cap)
-  new_kept f cap name_state = subst (λ (b : NameState T). WorldInvariant b (new_configuration cap)) (sym name_state) (kept_first cap)
-
-  pub new_owned : (f : WorldState T) (cap : Option ℕ) → Shown f (new_configuration cap)
-      → name_state_of f ≡ record { name_table = first_name_table; order = []; agents = [] } → AreOwned f
-  new_owned f cap sh name_state = record { configuration = new_configuration cap; shown = sh; kept = new_kept f cap name_state }
-
   -- ---- a call begins
 
-  -- as many calls are under way as there are parties
-  witness_lengths : (xs : List (ActiveCallWitness T Waiter)) → length (map active_call_of xs) ≡ length (map (λ (x : ActiveCallWitness T Waiter). x.party) xs)
-  witness_lengths [] = refl
-  witness_lengths (x ∷ xs) = ap (λ (n : ℕ). suc n) (witness_lengths xs)
-
-  yet_few : (f : WorldState T) (s : Configuration T Waiter) → Represents (parts_in f) f.parties.items s → yet_in s.under_way ≤ length f.parties.items
-  yet_few f s sh =
-      let most = yet_most s.under_way in
-      let calls = ap length sh.under_way in
-      let parties = ap length sh.parties_are in
-      let same = witness_lengths sh.witnesses in
-      omega (arith, most, calls, parties, same)
+  -- what is read off the calls under way, once one more is
+  one_more : {A : Type 0} (f : CallUnderWay T → A) (old new : List (CallUnderWay T)) (x : CallUnderWay T) (y : A) → new ≡ old ++ x ∷ [] → f x ≡ y
+      → map f new ≡ map f old ++ y ∷ []
+  one_more {A} f old new x y calls is = ap (λ (cs : List (CallUnderWay T)). map f cs) calls ∙ (map-append f old (x ∷ []) ∙ ap (λ (z : A). map f old ++ z ∷ []) is)
 
   -- where a call begins that has a position, the messages that may yet come are within the positions
   begun_counted : (p : PartyId) (c : Call T) (f g : WorldState T) (s t : Configuration T Waiter) (entry : ChannelEntry T) → HasPosition c f
@@ -140,12 +120,13 @@ module _ {T : Type 0} where
         let least = k.accepted in
         record { accepted = omega (arith, counts, same, least); within = omega (arith, counts, within) }
 
-    brings_one : AreCounted f s → HasPositions (length f.parties.items + 1) f → HasOnePlace g ⊎ AreCounted g t
+    brings_one : AreCounted f s → HasPositions (calls_in f + 1) f → HasOnePlace g ⊎ AreCounted g t
     brings_one k (inl one) = inl (place ∙ one)
     brings_one k (inr left) =
-        let few = yet_few f s sh.shows in
+        let few = yet_most s.under_way in
+        let many = calls_many f s sh in
         let one = brought_most (asks f.name_table c) in
-        inr (counted_in k (omega (arith, more, left, few, one)))
+        inr (counted_in k (omega (arith, more, left, few, many, one)))
 
     may_bring : AreCounted f s → (x : Bool) → brings f.name_table c ≡ x → HasOnePlace g ⊎ AreCounted g t
     may_bring k true e = brings_one k (room e)
@@ -158,74 +139,52 @@ module _ {T : Type 0} where
     by (inl one) = inl (place ∙ one)
     by (inr k) = may_bring k (brings f.name_table c) refl
 
-  pub has_begun : (p : PartyId) (c : Call T) (old new : WorldState T) (e : Entry T) (entry : ChannelEntry T)
-      → HasBegun p.0 (asks old.name_table c) old.parties.items entry new.parties.items
+  pub has_begun : (p : PartyId) (c : Call T) (old new : WorldState T) (e : Entry T) (x : CallUnderWay T)
+      → PartyBegins p.0 (asks old.name_table c) x.party
+      → agent_of x ≡ record { party = p.0; on_return = on_return_of old.name_table c }
+      → x.activity ≡ activity_begun (asks old.name_table c) → new.calls.items ≡ old.calls.items ++ x ∷ []
       → e.mark ≡ Nothing → e.reply ≡ None → e.woken.items ≡ []
-      → new.channel ≡ old.channel → name_state_of new ≡ name_state_begun p c (name_state_of old) → new.messages ≡ old.messages → new.accepted ≡ old.accepted
-      → new.has_one_place ≡ old.has_one_place
-      → new.doings.items ≡ old.doings.items ++ (doing_begun (asks old.name_table c) ∷ [])
-      → HasPosition c old → step_refusal old.name_table old.agents.items (step.Begin p c) ≡ None
+      → new.channel ≡ old.channel → new.name_table ≡ names_begun old.name_table c → new.order ≡ order_begun c old.order
+      → new.messages ≡ old.messages → new.accepted ≡ old.accepted → new.has_one_place ≡ old.has_one_place
+      → HasPosition c old → step_refusal old.name_table (agents_of old) (step.Begin p c) ≡ None
       → LeadsByStep (step.Begin p c) old e new
-  has_begun p c old new e entry h mark reply woken same name_state messages counts place doings room fine s sh =
-      let b = h (parts_in old) s sh.shows in
+  has_begun p c old new e x h agent noted calls mark reply woken same names order messages counts place room fine s sh =
+      let entry : ChannelEntry T = record { mark = Nothing; reply = None; kept = None } in
+      let b = h (parties_of old) (parts_in old) s sh.shows in
       let parts : parts_in new ≡ parts_in old = ap parts_of same in
+      let parties : parties_of new ≡ parties_of old ++ x.party ∷ [] = one_more party_in old.calls.items new.calls.items x x.party calls refl in
+      let agents : agents_of new ≡ agents_of old ++ record { party = p.0; on_return = on_return_of old.name_table c } ∷ [] =
+      one_more agent_of old.calls.items new.calls.items x _ calls agent in
+      let activities : activities_of new ≡ activities_of old ++ activity_begun (asks old.name_table c) ∷ [] =
+      one_more (λ (y : CallUnderWay T). y.activity) old.calls.items new.calls.items x _ calls noted in
+      let name_state : name_state_of new ≡ name_state_begun p c (name_state_of old) = rw (names, order, agents) refl in
       record {
         after = b.after;
         touches = parts;
         blocks = subst (λ (p : Parts T Waiter). b.after.blocks ≡ blocks_after p.cells.form s.blocks (parts_in old).cells p.cells) (sym parts)
-            (blocks_begun (parts_in old) old.parties.items s b.after sh.shows b.begins.blocks);
+            (blocks_begun (parts_in old) (parties_of old) s b.after sh.shows b.begins.blocks);
         made = record {
           not_refused = fine;
           kept = None;
-          next = rw (mark, reply)
-              (subst (λ (x : ChannelEntry T). Begins s p.0 (asks old.name_table c) x b.after) b.begins.entry b.begins, woken);
+          next = rw (mark, reply) (b.begins, woken);
           name_state = name_state;
         };
         nearer = tt;
         shown = record {
-          shows = rw parts b.shown;
+          shows = rw (parts, parties) b.shown;
           place = place ∙ (sh.place ∙ sym (ap (λ (x : Channel T Waiter). is_one_place x.queue.capacity) b.begins.now));
           positions = begun_counted p c old new s b.after entry room sh b.begins counts place;
           messages = messages ∙ (sh.messages ∙ sym (ap (λ (x : Channel T Waiter). length x.queue.items) b.begins.now));
-          doings = doings ∙ begun_noted s p.0 (asks old.name_table c) entry b.after old.doings.items b.begins sh.doings;
+          activities = activities ∙ begun_noted s p.0 (asks old.name_table c) entry b.after (activities_of old) b.begins sh.activities;
           few = begun_few s p.0 (asks old.name_table c) entry b.after b.begins sh.few;
         };
       }
 
   -- ---- a call makes a step
 
-  -- the party of the k-th agent is that of the k-th call under way
-  pub party_at : (p k : ℕ) (agents : List (Agent T)) (parties : List (Party T Waiter))
-      → map (λ (a : Agent T). a.party) agents ≡ parties_in parties → IsAgent p agents k
-      → (x : Party T Waiter) × (slice_get parties k ≡ Some x) × (x.id ≡ p)
-  party_at p k [] parties e (a, there, his) = absurd cc
-  party_at p k (b ∷ bs) [] e h = absurd cc
-  party_at p zero (b ∷ bs) (y ∷ ys) e (a, there, his) =
-      let same : b ≡ a = cc in
-      let first : b.party ≡ y.id = cc in
-      (y, refl, sym first ∙ (ap (λ (x : Agent T). x.party) same ∙ his))
-  party_at p (suc k) (b ∷ bs) (y ∷ ys) e h =
-      let rest : map (λ (a : Agent T). a.party) bs ≡ parties_in ys = cc in
-      party_at p k bs ys rest h
-
-  -- who has answered is at work no more, and has no call under way
-  ended_at_work : (k : ℕ) (a : Agent T) (r : Option (Reply T)) (kept : Option (Returned T)) (b : NameState T)
-      → map (λ (x : Agent T). x.party) (name_state_ended k a r kept b).agents ≡ unless_answered k r (map (λ (x : Agent T). x.party) b.agents)
-  ended_at_work k a None kept b = refl
-  ended_at_work k a (Some r) kept b = map-remove (λ (x : Agent T). x.party) b.agents k
-
-  pub stepped_at_work : (k : ℕ) (a : Agent T) (r : Option (Reply T)) (kept : Option (Returned T)) (names : List Waiter)
-      (old : WorldState T) (new : NameState T) (parties : List (Party T Waiter)) → AreAtWork old
-      → new ≡ name_state_ended k a r kept (with_woken names (name_state_of old))
-      → parties_in parties ≡ unless_answered k r (parties_in old.parties.items)
-      → map (λ (x : Agent T). x.party) new.agents ≡ parties_in parties
-  stepped_at_work k a r kept names old new parties at_work name_state after =
-      ap (λ (b : NameState T). map (λ (x : Agent T). x.party) b.agents) name_state
-      ∙ (ended_at_work k a r kept (with_woken names (name_state_of old)) ∙ (ap (unless_answered k r) at_work ∙ sym after))
-
   -- the messages after a step are counted by its mark: one slot holds one at most
   counted_now : (new : WorldState T) (s : Configuration T Waiter) (p : ℕ) (e : ChannelEntry T) (names : List Waiter) (t : Configuration T Waiter)
-      → ChannelSteps s p e names t → IsBalanced s.now.queue → Represents (parts_in new) new.parties.items t
+      → ChannelSteps s p e names t → IsBalanced s.now.queue → Represents (parts_in new) (parties_of new) t
       → queue.HasNextPosition s.now.queue → counted (length s.now.queue.items) e.mark ≡ length t.now.queue.items
   counted_now new s p e names t n balanced sh (inr low) =
       messages_counted s p e names t n balanced (balanced_in _ _ t sh) (omega (arith, low))
@@ -258,37 +217,32 @@ module _ {T : Type 0} where
         within = omega (arith, within, fewer, brought, counts);
       })
 
-  -- what is noted of the calls under way after it
-  doings_now : (k : ℕ) (old new : WorldState T) (entry : ChannelEntry T) (s : Configuration T Waiter) (p : ℕ) (names : List Waiter)
-      (t : Configuration T Waiter) (n : ChannelSteps s p entry names t) → length n.before ≡ k → Shown old s
-      → ((d : Doing) → slice_get old.doings.items k ≡ Some d
-      → new.doings.items ≡ noted k d entry.mark entry.reply old.doings.items)
-      → new.doings.items ≡ map doing_of t.under_way
-  doings_now k old new entry s p names t n place sh doings =
-      let his = ap (λ (ds : List Doing). slice_get ds k) sh.doings ∙ stepped_at s p entry names t n k place in
-      doings (doing_of n.mine) his
-      ∙ (ap (λ (ds : List Doing). noted k (doing_of n.mine) entry.mark entry.reply ds) sh.doings
-      ∙ stepped_noted s p entry names t n k place)
+  -- what is read off the calls under way, once the k-th has become this one, or answered
+  read_off : {A : Type 0} (f : CallUnderWay T → A) (k : ℕ) (d : CallUnderWay T) (old new : WorldState T) (r : Option (Reply T))
+      → new.calls.items ≡ after_step old.calls.items k d r → map f new.calls.items ≡ after_step (map f old.calls.items) k (f d) r
+  read_off f k d old new r calls = ap (λ (cs : List (CallUnderWay T)). map f cs) calls ∙ map-after f old.calls.items k d r
 
-  pub has_stepped : (p : PartyId) (k n came : ℕ) (a : Agent T) (x : Party T Waiter) (old new : WorldState T) (empty full : Sink)
-      (e : Entry T) (entry : ChannelEntry T)
-      → slice_get old.parties.items k ≡ Some x → x.id ≡ p.0 → slice_get old.agents.items k ≡ Some a → a.party ≡ p.0
-      → StepsAt Hears (parts_in old) old.parties.items k empty entry (parts_in new) new.parties.items full
+  pub has_stepped : (p : PartyId) (k n came : ℕ) (c d : CallUnderWay T) (old new : WorldState T) (empty full : Sink) (e : Entry T)
+      → slice_get old.calls.items k ≡ Some c → c.party.id ≡ p.0
+      → PartySteps Hears (parts_in old) c.party empty e.reply (parts_in new) d.party full → e.mark ≡ d.party.call.mark
+      → d.activity ≡ activity_after d.party.call.mark c.activity
+      → new.calls.items ≡ after_step old.calls.items k d e.reply
       → empty.names.items ≡ [] → ((line : WaitList) → length (listeners line (parts_in old).roster).waiting ≤ n)
-      → n ≤ vec_capacity empty.names
-      → e.mark ≡ entry.mark → e.reply ≡ entry.reply → e.woken.items ≡ full.names.items
-      → name_state_of new ≡ name_state_ended k a entry.reply entry.kept (with_woken full.names.items (name_state_of old))
-      → new.messages ≡ counted old.messages entry.mark → came ≡ brought_in entry.mark
+      → n ≤ vec_capacity empty.names → e.woken.items ≡ full.names.items
+      → name_state_of new ≡ name_state_ended k (agent_of c) e.reply (left_by d.party e.reply) (with_woken full.names.items (name_state_of old))
+      → new.messages ≡ counted old.messages e.mark → came ≡ brought_in e.mark
       → new.accepted ≡ min (old.accepted + came) (2 ^ 64 - 1) → new.has_one_place ≡ old.has_one_place
-      → ((d : Doing) → slice_get old.doings.items k ≡ Some d
-      → new.doings.items ≡ noted k d entry.mark entry.reply old.doings.items)
-      → step_refusal old.name_table old.agents.items (step.Step p) ≡ None
+      → step_refusal old.name_table (agents_of old) (step.Step p) ≡ None
       → LeadsByStep (step.Step p) old e new
-  has_stepped p k n came a x old new empty full e entry there whose agent own steps none most room mark reply woken name_state messages
-      brought counts place doings fine s sh =
+  has_stepped p k n came c d old new empty full e there whose steps mark active calls none most room woken ended messages
+      brought counts place fine s sh =
+      let entry : ChannelEntry T = record { mark = e.mark; reply = e.reply; kept = left_by d.party e.reply } in
       let position = has_position old s sh in
       let range : IsInRange s.now.queue = in_range s.now.queue position in
-      let h = steps s x range sh.shows there in
+      let left : parties_of new ≡ after_step (parties_of old) k d.party e.reply = read_off party_in k d old new e.reply calls in
+      let made : StepsAt Hears (parts_in old) (parties_of old) k empty entry (parts_in new) (parties_of new) full =
+      rw (mark, left) (steps (parties_of old) k (get-map party_in old.calls.items k c there)) in
+      let h = made s c.party range sh.shows (get-map party_in old.calls.items k c there) in
       let roster : (parts_in old).roster ≡ s.now.roster = sym (ap (λ (c : Channel T Waiter). c.roster) sh.shows.now) in
       let most_now : ((line : WaitList) → length (listeners line s.now.roster).waiting ≤ n) =
       subst (λ (r : WaitLists Waiter). (line : WaitList) → length (listeners line r).waiting ≤ n) roster most in
@@ -297,29 +251,30 @@ module _ {T : Type 0} where
       let nobody : length empty.names.items ≡ 0 = ap length none in
       let heard : full.names.items ≡ h.names = all_heard empty h.names full h.woken (omega (arith, few, room, start, nobody))
       ∙ ap (λ (ws : List Waiter). ws ++ h.names) none in
-      let messages_now = counted_now new s x.id entry h.names h.after h.steps.step (balanced_in _ _ s sh.shows) h.shown position in
-      let kept_capacity = (step_bounded s h.after x.id entry h.names h.steps.step).capacity in
-      let his : StepsNearer k (lefts_in old) (lefts_in new) s p.0 (record { mark = e.mark; reply = e.reply; kept = entry.kept }) e.woken.items h.after =
-      rw (mark, reply, woken, heard, sym whose) h.steps in
+      let messages_now = counted_now new s c.party.id entry h.names h.after h.steps.step (balanced_in _ _ s sh.shows) h.shown position in
+      let kept_capacity = (step_bounded s h.after c.party.id entry h.names h.steps.step).capacity in
+      let his : StepsNearer k (lefts_in old) (lefts_in new) s p.0 entry e.woken.items h.after = rw (woken, heard, sym whose) h.steps in
       record {
         after = h.after;
         touches = h.one_place;
         blocks = h.blocks;
         made = record {
           not_refused = fine;
-          kept = entry.kept;
+          kept = left_by d.party e.reply;
           next = his.step;
-          name_state = (k, a, agent, own, rw (reply, woken) name_state);
+          name_state = (k, agent_of c, get-map agent_of old.calls.items k c there, whose, rw woken ended);
         };
         nearer = λ goes_on handle_entry.
             subst (λ (j : ℕ). left_at j (lefts_in new) < left_at j (lefts_in old)) (sym his.place) (his.nearer goes_on handle_entry);
         shown = record {
           shows = h.shown;
           place = place ∙ (sh.place ∙ sym (ap (λ (cap : Option ℕ). is_one_place cap) kept_capacity));
-          positions = counted_then old new s x.id entry h.names h.after came h.steps.step brought counts place sh.positions;
-          messages = messages ∙ (ap (λ m. counted m entry.mark) sh.messages ∙ messages_now);
-          doings = doings_now k old new entry s x.id h.names h.after h.steps.step h.steps.place sh doings;
-          few = stepped_few s x.id entry h.names h.after h.steps.step (balanced_in _ _ s sh.shows)
+          positions = counted_then old new s c.party.id entry h.names h.after came h.steps.step brought counts place sh.positions;
+          messages = messages ∙ (ap (λ m. counted m e.mark) sh.messages ∙ messages_now);
+          activities = read_off (λ (x : CallUnderWay T). x.activity) k d old new e.reply calls
+              ∙ stepped_noted s c.party.id entry h.names h.after h.steps.step k h.steps.place (activities_of old) c.activity d.activity sh.activities
+              (get-map (λ (x : CallUnderWay T). x.activity) old.calls.items k c there) (active ∙ ap (λ (m : Mark). activity_after m c.activity) (sym mark));
+          few = stepped_few s c.party.id entry h.names h.after h.steps.step (balanced_in _ _ s sh.shows)
               (balanced_in _ _ h.after h.shown) sh.few;
         };
       }
@@ -330,17 +285,17 @@ module _ {T : Type 0} where
   pub stands_in : (f : WorldState T) (s : Configuration T Waiter) → Shown f s → WorldInvariant (name_state_of f) s → StandsIn f s
   stands_in f s sh k = record { shown = sh; kept = k; owed = observation_owed f s sh (owed (name_state_of f) s k.owned k.sound) }
 
-  pub stands : (f : WorldState T) → AreOwned f → Stands f
-  stands f o = record { configuration = o.configuration; stands = stands_in f o.configuration o.shown o.kept }
-
-  pub owned_where : (f : WorldState T) (s : Configuration T Waiter) → StandsIn f s → AreOwned f
-  owned_where f s h = record { configuration = s; shown = h.shown; kept = h.kept }
+  -- what was just opened stands
+  pub new_stands : (f : WorldState T) (cap : Option ℕ) → Shown f (new_configuration cap)
+      → name_state_of f ≡ record { name_table = first_name_table; order = []; agents = [] } → StandsIn f (new_configuration cap)
+  new_stands f cap sh name_state =
+      stands_in f (new_configuration cap) sh (subst (λ (b : NameState T). WorldInvariant b (new_configuration cap)) (sym name_state) (kept_first cap))
 
   -- few steps are left in what stands
   pub few_in : (f : WorldState T) (s : Configuration T Waiter) → StandsIn f s → FewLeft (moment_of f s)
   few_in f s k party =
-      few_of party (parts_in f) f.parties.items s.under_way (parties_shown (parts_in f) f.parties.items s k.shown.shows)
-      (few_left (parts_in f) f.parties.items s k.shown.shows)
+      few_of party (parts_in f) (parties_of f) s.under_way (parties_shown (parts_in f) (parties_of f) s k.shown.shows)
+      (few_left (parts_in f) (parties_of f) s k.shown.shows)
 
   -- a step that was made leads from a configuration in which it stood to one in which it stands
   pub step_stands : (x : Step T) (f g : WorldState T) (e : Entry T) (s : Configuration T Waiter) (k : StandsIn f s) (t : LedByStep x f e g s)
@@ -449,15 +404,18 @@ module _ {T : Type 0} where
 
   -- ---- room that was taken changes nothing
 
-  pub shown_same : (g h : WorldState T) (s : Configuration T Waiter) → IsSame g h → Shown g s → Shown h s
+  pub names_same : (g h : WorldState T) → IsSame g h → name_state_of h ≡ name_state_of g
+  names_same g h same = rw (same.name_table, same.order, same.calls) refl
+
+  shown_same : (g h : WorldState T) (s : Configuration T Waiter) → IsSame g h → Shown g s → Shown h s
   shown_same g h s same sh =
       let parts : parts_in h ≡ parts_in g = ap (λ c. parts_of c) same.channel in
       record {
-        shows = rw (parts, same.parties) sh.shows;
+        shows = rw (parts, same.calls) sh.shows;
         place = same.place ∙ sh.place;
         positions = by sh.positions;
         messages = rw same.messages sh.messages;
-        doings = same.doings ∙ sh.doings;
+        activities = rw same.calls sh.activities;
         few = sh.few;
       }
     where
@@ -468,15 +426,18 @@ module _ {T : Type 0} where
   pub stands_same : (g h : WorldState T) (s : Configuration T Waiter) → IsSame g h → StandsIn g s → StandsIn h s
   stands_same g h s same k = record {
     shown = shown_same g h s same k.shown;
-    kept = rw same.name_state k.kept;
+    kept = rw (names_same g h same) k.kept;
     owed = subst (λ (w : Observation T). Owed w) (sym (observation_same g h same)) k.owed;
   }
 
+  abbrev moment_with : Parts T Waiter → List (CallUnderWay T) → Configuration T Waiter → NameState T → Moment T
+  moment_with parts calls s b = record { parts = parts; configuration = s; name_state = b; left = λ party. left_of party parts (map party_in calls) }
+
   moment_same : (g h : WorldState T) (s : Configuration T Waiter) → IsSame g h → moment_of h s ≡ moment_of g s
   moment_same g h s same =
-      ap (λ (c : PlainChannel T Waiter). moment_with (parts_of c) h.parties.items s (name_state_of h)) same.channel
-      ∙ (ap (λ (ps : List (Party T Waiter)). moment_with (parts_in g) ps s (name_state_of h)) same.parties
-      ∙ ap (λ (b : NameState T). moment_with (parts_in g) g.parties.items s b) same.name_state)
+      ap (λ (c : PlainChannel T Waiter). moment_with (parts_of c) h.calls.items s (name_state_of h)) same.channel
+      ∙ (ap (λ (cs : List (CallUnderWay T)). moment_with (parts_in g) cs s (name_state_of h)) same.calls
+      ∙ ap (λ (b : NameState T). moment_with (parts_in g) g.calls.items s b) (names_same g h same))
 
   pub ran_same : (steps left left' : List (Step T)) (f : WorldState T) (trace : List (Entry T)) (g h : WorldState T) → left' ≡ left
       → IsSame g h → RanTo steps left f trace g → RanTo steps left' f trace h
@@ -491,10 +452,3 @@ module _ {T : Type 0} where
         accounts = r.accounts;
         numbers = r.numbers;
       }
-
-  pub owned_same : (g h : WorldState T) → IsSame g h → AreOwned g → AreOwned h
-  owned_same g h same o = record {
-    configuration = o.configuration;
-    shown = shown_same g h o.configuration same o.shown;
-    kept = rw same.name_state o.kept;
-  }

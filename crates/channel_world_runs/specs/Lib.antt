@@ -1,3 +1,5 @@
+pub mod Activity
+pub mod Calls
 pub mod NameTable
 pub mod Pending
 pub mod Apart
@@ -8,7 +10,6 @@ pub mod Order
 pub mod Run
 pub mod AskedBy
 pub mod Owners
-pub mod Doing
 pub mod Owed
 pub mod ObservationAt
 pub mod OwnerWoken

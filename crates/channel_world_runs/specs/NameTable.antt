@@ -1,5 +1,5 @@
 -- What lives under which name.
-use Rattle.std.specs.Prelude.{◌≡◌, ℕ, ◌+◌, ◌-◌, ◌^◌, min, Bool, true, false, not, nat_eq, List, [], ◌∷◌, map, slice_get, Option, None, Some}
+use Rattle.std.specs.Prelude.{ℕ, ◌+◌, ◌-◌, ◌^◌, min, Bool, true, false, not, nat_eq, List, [], ◌∷◌, map, Option, None, Some}
 use Rattle.std.specs.List.{list_any}
 use Rattle.std.specs.Option.{option_map, option_map_or}
 use Rattle.event_listener.specs.declared.key.Key.{Key}
@@ -13,7 +13,7 @@ use Rattle.channel_world_model.specs.declared.name.HandleKind.TheVariants as han
 use Rattle.channel_world_model.specs.declared.name.Operation.{Operation}
 use Rattle.channel_world_model.specs.declared.name.Operation.TheVariants as live
 use Rattle.channel_world_model.specs.declared.name.Waiter.TheVariants.{Op, Stream}
-use Rattle.channel_world_runs.specs.declared.names.Agent.{Agent}
+use Rattle.channel_world_runs.specs.Calls.{Agent}
 use Rattle.channel_world_runs.specs.declared.names.HandleEntry.{HandleEntry}
 use Rattle.channel_world_runs.specs.declared.names.OperationEntry.{OperationEntry}
 use Rattle.channel_world_runs.specs.declared.names.PollState.{PollState}
@@ -130,7 +130,3 @@ module _ {T : Type 0} where
   -- whether a party has a call under way
   abbrev pub is_at_work : ℕ → List (Agent T) → Bool
   is_at_work party agents = list_any (λ (a : Agent T). nat_eq a.party party) agents
-
-  -- the k-th call under way is this party's
-  abbrev pub IsAgent : ℕ → List (Agent T) → ℕ → Type 0
-  IsAgent party agents k = (a : Agent T) × (slice_get agents k ≡ Some a) × (a.party ≡ party)

@@ -4,7 +4,7 @@ use Rattle.std.specs.List.{count_by}
 use Rattle.channel_world_model.specs.declared.name.Waiter.{Waiter}
 use Rattle.channel_steps.specs.Configuration.{ActiveCall, Configuration}
 use Rattle.channel_steps.specs.Tellings.{Telling, takings}
-use Rattle.channel_world_runs.specs.Doing.{role_of, any_close}
+use Rattle.channel_world_runs.specs.Activity.{role_of, any_close}
 use Rattle.channel_world_runs.specs.Owed.{Observation, is_sending, is_receiving}
 use Rattle.channel_world_runs.specs.declared.name_table.NameTable.{NameTable}
 

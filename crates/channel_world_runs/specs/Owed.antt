@@ -1,5 +1,5 @@
 -- The wake-ups owed to those who are pending and were not woken since their last poll, of a world as it is.
-use Rattle.std.specs.Prelude.{◌≡◌, ℕ, ◌+◌, ◌≤◌, ◌<◌, Bool, true, false, ◌&&◌, List, ◌∷◌, ◌++◌, map, Option}
+use Rattle.std.specs.Prelude.{◌≡◌, ℕ, ◌+◌, ◌≤◌, ◌<◌, Bool, true, false, ◌&&◌, List, [], ◌∷◌, ◌++◌, map, Option}
 use Rattle.std.specs.List.{count_by}
 use Rattle.std.specs.Map.{keys_of}
 use Rattle.concurrent_queue.specs.declared.queue_call.QueueCall.{QueueCall}
@@ -12,12 +12,12 @@ use Rattle.channel_calls.specs.declared.stage.ListStep.TheVariants.{Leave}
 use Rattle.channel_world_model.specs.Laws.{same_line}
 use Rattle.channel_world_model.specs.declared.name.Waiter.{Waiter}
 use Rattle.channel_world_model.specs.declared.name.Waiter.TheVariants.{Op, Stream}
-use Rattle.channel_steps.specs.declared.party.Party.{Party}
 use Rattle.channel_steps.specs.every_run.Sends.{HasPlaces}
 use Rattle.channel_world_runs.specs.Owners.{NameStatus, waits, not_woken, status}
-use Rattle.channel_world_runs.specs.declared.doing.Doing.{Doing}
-use Rattle.channel_world_runs.specs.declared.doing.Role.{Role}
-use Rattle.channel_world_runs.specs.declared.doing.Role.TheVariants.{Sending, Receiving}
+use Rattle.channel_world_runs.specs.declared.activity.Activity.{Activity}
+use Rattle.channel_world_runs.specs.declared.activity.Role.{Role}
+use Rattle.channel_world_runs.specs.declared.activity.Role.TheVariants.{Sending, Receiving}
+use Rattle.channel_world_runs.specs.declared.calls.CallUnderWay.{CallUnderWay}
 use Rattle.channel_world_runs.specs.declared.name_table.NameTable.{NameTable}
 
 -- whether one that stands so is pending on this line, and was woken
@@ -37,13 +37,13 @@ is_receiving r = false
 
 module _ {T : Type 0} where
   -- a call that has nothing left but to drop its listener has announced the places that it has freed
-  abbrev pub unannounced : Stage (QueueCall T) T Waiter → Doing → ℕ
+  abbrev pub unannounced : Stage (QueueCall T) T Waiter → Activity → ℕ
   unannounced (Working (Leave x)) d = 0
   unannounced at d = d.taken
 
-  abbrev pub all_unannounced : List (Party T Waiter) → List Doing → ℕ
-  all_unannounced (p ∷ ps) (d ∷ ds) = unannounced p.call.stage d + all_unannounced ps ds
-  all_unannounced ps ds = 0
+  abbrev pub all_unannounced : List (CallUnderWay T) → ℕ
+  all_unannounced [] = 0
+  all_unannounced (c ∷ cs) = unannounced c.party.call.stage c.activity + all_unannounced cs
 
 -- ---- what is owed
 

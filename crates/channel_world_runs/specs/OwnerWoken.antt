@@ -9,7 +9,7 @@ use Rattle.channel_world_model.specs.declared.name.Waiter.{Waiter}
 use Rattle.channel_steps.specs.Configuration.{ActiveCall, Configuration}
 use Rattle.channel_world_runs.specs.Owners.{IsAmong, All, NameStatus, retired, polled, waits, status, holding, subject, WaitsToWake, AnyOf}
 use Rattle.channel_world_runs.specs.Run.{NameState}
-use Rattle.channel_world_runs.specs.declared.names.Agent.{Agent}
+use Rattle.channel_world_runs.specs.Calls.{Agent}
 
 -- nothing lives under the name any more, or a poll of it is under way
 abbrev pub IsAway : NameStatus → Type 0

@@ -26,7 +26,7 @@ use Rattle.channel_world_model.specs.declared.name.Waiter.{Waiter}
 use Rattle.channel_world_model.specs.declared.name.Waiter.TheVariants.{Op, Stream}
 use Rattle.channel_steps.specs.Configuration.{ActiveCall, Configuration}
 use Rattle.channel_world_runs.specs.Run.{NameState}
-use Rattle.channel_world_runs.specs.declared.names.Agent.{Agent}
+use Rattle.channel_world_runs.specs.Calls.{Agent}
 use Rattle.channel_world_runs.specs.declared.names.OnReturn.{OnReturn}
 use Rattle.channel_world_runs.specs.declared.names.OnReturn.TheVariants as on_return
 use Rattle.channel_world_runs.specs.declared.names.HandleEntry.{HandleEntry}

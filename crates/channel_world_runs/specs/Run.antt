@@ -16,7 +16,7 @@ use Rattle.channel_steps.specs.declared.run.Step.TheVariants as channel
 use Rattle.channel_world_runs.specs.Bookkeeping.{asks, on_return_of, names_begun, written_back, all_woken}
 use Rattle.channel_world_runs.specs.Order.{order_begun, all_moved_last, order_settled}
 use Rattle.channel_world_runs.specs.Refusal.{step_refusal}
-use Rattle.channel_world_runs.specs.declared.names.Agent.{Agent}
+use Rattle.channel_world_runs.specs.Calls.{Agent}
 use Rattle.channel_world_runs.specs.declared.name_table.NameTable.{NameTable}
 use Rattle.channel_world_runs.specs.declared.step.PartyId.{PartyId}
 use Rattle.channel_world_runs.specs.declared.step.Entry.{Entry}

@@ -6,7 +6,7 @@ use Rattle.channel_steps.specs.Count.{brought_in, taken_out}
 use Rattle.channel_steps.specs.Left.{most_left}
 use Rattle.channel_steps.specs.Run.{IsRun, Accounts, Touches}
 use Rattle.channel_steps.specs.Configuration.{Configuration, OthersQuiet, blocks_after}
-use Rattle.channel_world_runs.specs.WorldState.{parts_in, name_state_of, StandsIn}
+use Rattle.channel_world_runs.specs.WorldState.{parts_in, parties_of, name_state_of, StandsIn}
 use Rattle.channel_world_runs.specs.WorldInvariant.{WorldInvariant}
 use Rattle.channel_world_runs.specs.Left.{left_of, calls_of_others, wanted_of}
 use Rattle.channel_world_runs.specs.Run.{NameState, StepIsMade, channel_step}
@@ -27,7 +27,7 @@ module _ {T : Type 0} where
   -- that of a channel by names, in a configuration
   abbrev pub moment_of : WorldState T → Configuration T Waiter → Moment T
   moment_of f s =
-      record { parts = parts_in f; configuration = s; name_state = name_state_of f; left = λ party. left_of party (parts_in f) f.parties.items }
+      record { parts = parts_in f; configuration = s; name_state = name_state_of f; left = λ party. left_of party (parts_in f) (parties_of f) }
 
   -- it is the moment of this channel, which stands in its configuration
   pub record IsOf (f : WorldState T) (m : Moment T) : Type 0 where

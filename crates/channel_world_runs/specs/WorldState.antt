@@ -10,9 +10,11 @@ use Rattle.channel_world_model.specs.declared.call.Call.{Call}
 use Rattle.channel_world_model.specs.declared.name.Waiter.{Waiter}
 use Rattle.channel_steps.specs.Left.{all_left, left_at}
 use Rattle.channel_steps.specs.Run.{new_configuration, Accounts, Touches}
-use Rattle.channel_steps.specs.Configuration.{ActiveCall, Configuration, Represents, OthersQuiet, blocks_after, parties_in}
+use Rattle.channel_steps.specs.Configuration.{ActiveCall, Configuration, Represents, OthersQuiet, blocks_after}
 use Rattle.channel_steps.specs.Tellings.{takings}
-use Rattle.channel_world_runs.specs.Doing.{doing_of}
+use Rattle.channel_steps.specs.declared.party.Party.{Party}
+use Rattle.channel_world_runs.specs.Activity.{activity_of}
+use Rattle.channel_world_runs.specs.Calls.{Agent, agent_of}
 use Rattle.channel_world_runs.specs.Owed.{Observation, Owed, is_sending, is_receiving, all_unannounced}
 use Rattle.channel_world_runs.specs.Owners.{All}
 use Rattle.channel_world_runs.specs.WorldInvariant.{WorldInvariant}
@@ -20,16 +22,32 @@ use Rattle.channel_world_runs.specs.Positions.{brings, is_one_place, yet_in}
 use Rattle.channel_world_runs.specs.NameTable.{first_name_table}
 use Rattle.channel_world_runs.specs.Run.{NameState, StepIsMade, channel_step}
 use Rattle.channel_world_runs.specs.Reaches.{Reaches}
-use Rattle.channel_world_runs.specs.declared.doing.Doing.{Doing}
+use Rattle.channel_world_runs.specs.declared.activity.Activity.{Activity}
+use Rattle.channel_world_runs.specs.declared.calls.CallUnderWay.{CallUnderWay}
 use Rattle.channel_world_runs.specs.declared.world_state.WorldState.{WorldState}
-use Rattle.channel_world_runs.specs.declared.names.Agent.{Agent}
 use Rattle.channel_world_runs.specs.declared.step.Entry.{Entry}
 use Rattle.channel_world_runs.specs.declared.step.Step.{Step}
 use Rattle.channel_world_runs.specs.declared.step.Step.TheVariants as step
 
 module _ {T : Type 0} where
+  -- ---- its calls under way, in the order in which they began
+
+  -- the parties, each with its call at its stage
+  abbrev pub parties_of : WorldState T → List (Party T Waiter)
+  parties_of f = map (λ (c : CallUnderWay T). c.party) f.calls.items
+
+  -- who is at work, with what is to be written back
+  abbrev pub agents_of : WorldState T → List (Agent T)
+  agents_of f = map agent_of f.calls.items
+
+  -- what the calls are to those who wait, and have done
+  abbrev pub activities_of : WorldState T → List Activity
+  activities_of f = map (λ (c : CallUnderWay T). c.activity) f.calls.items
+
+  -- ---- what it shows
+
   abbrev pub name_state_of : WorldState T → NameState T
-  name_state_of f = record { name_table = f.name_table; order = f.order; agents = f.agents.items }
+  name_state_of f = record { name_table = f.name_table; order = f.order; agents = agents_of f }
 
   abbrev pub parts_in : WorldState T → Parts T Waiter
   parts_in f = parts_of f.channel
@@ -41,10 +59,10 @@ module _ {T : Type 0} where
     messages = f.messages;
     capacity = capacity_of (parts_in f).cells.form;
     closed = closed_in (parts_in f).cells;
-    sending = count_by (λ (d : Doing). is_sending d.role) f.doings.items;
-    receiving = count_by (λ (d : Doing). is_receiving d.role) f.doings.items;
-    closers = count_by (λ (d : Doing). d.has_closed) f.doings.items;
-    freed = all_unannounced f.parties.items f.doings.items;
+    sending = count_by (λ (c : CallUnderWay T). is_sending c.activity.role) f.calls.items;
+    receiving = count_by (λ (c : CallUnderWay T). is_receiving c.activity.role) f.calls.items;
+    closers = count_by (λ (c : CallUnderWay T). c.activity.has_closed) f.calls.items;
+    freed = all_unannounced f.calls.items;
   }
 
   -- no more messages were accepted than are counted, and with those that the calls under way may yet bring they are within the
@@ -61,20 +79,16 @@ module _ {T : Type 0} where
   -- place, those that were accepted are counted too. What is noted of each call under way is what it is and has done there; none
   -- has taken more than were removed.
   pub record Shown (f : WorldState T) (s : Configuration T Waiter) : Type 0 where
-    pub shows : Represents (parts_in f) f.parties.items s
+    pub shows : Represents (parts_in f) (parties_of f) s
     pub place : f.has_one_place ≡ is_one_place s.now.queue.capacity
     pub positions : HasOnePlace f ⊎ AreCounted f s
     pub messages : f.messages ≡ length s.now.queue.items
-    pub doings : f.doings.items ≡ map doing_of s.under_way
+    pub activities : activities_of f ≡ map activity_of s.under_way
     pub few : All (λ (u : ActiveCall T Waiter). takings u.marks ≤ s.now.queue.removed) s.under_way
-
-  -- the parties at work are those whose calls are under way, in the same order
-  abbrev pub AreAtWork : WorldState T → Type 0
-  AreAtWork f = map (λ (a : Agent T). a.party) f.agents.items ≡ parties_in f.parties.items
 
   -- no call is under way
   abbrev pub IsQuiet : WorldState T → Type 0
-  IsQuiet f = f.parties.items ≡ []
+  IsQuiet f = f.calls.items ≡ []
 
   -- whether no call is under way
   pub record TellsQuiet (f : WorldState T) (quiet : Bool) : Type 0 where
@@ -87,7 +101,7 @@ module _ {T : Type 0} where
 
   -- how many calls are under way
   abbrev pub calls_in : WorldState T → ℕ
-  calls_in f = length f.agents.items
+  calls_in f = length f.calls.items
 
   -- there are positions for so many more messages; one place alone needs none
   abbrev pub HasPositions : ℕ → WorldState T → Type 0
@@ -95,24 +109,17 @@ module _ {T : Type 0} where
 
   -- a call that may bring a message has a position for it, beside those that the calls under way may yet bring
   abbrev pub HasPosition : Call T → WorldState T → Type 0
-  HasPosition c f = brings f.name_table c ≡ true → HasPositions (length f.parties.items + 1) f
+  HasPosition c f = brings f.name_table c ≡ true → HasPositions (calls_in f + 1) f
 
   -- nothing is changed but the room that was taken
   pub record IsSame (f g : WorldState T) : Type 0 where
     pub channel : g.channel ≡ f.channel
-    pub parties : g.parties.items ≡ f.parties.items
-    pub name_state : name_state_of g ≡ name_state_of f
+    pub calls : g.calls.items ≡ f.calls.items
+    pub name_table : g.name_table ≡ f.name_table
+    pub order : g.order ≡ f.order
     pub messages : g.messages ≡ f.messages
     pub accepted : g.accepted ≡ f.accepted
     pub place : g.has_one_place ≡ f.has_one_place
-    pub doings : g.doings.items ≡ f.doings.items
-
-  -- each listener has its owner, those who were woken are told, in the order of their waking, and nobody who waits is forgotten,
-  -- in a configuration that is shown
-  pub record AreOwned (f : WorldState T) : Type 0 where
-    pub configuration : Configuration T Waiter
-    pub shown : Shown f configuration
-    pub kept : WorldInvariant (name_state_of f) configuration
 
   -- The channel by names stands in this configuration: its cells and calls under way stand for it, all that every step keeps holds in it,
   -- and each who is pending and was not woken is owed no more than is to come.
@@ -121,15 +128,10 @@ module _ {T : Type 0} where
     pub kept : WorldInvariant (name_state_of f) s
     pub owed : Owed (observation_of f)
 
-  -- it stands in some configuration
+  -- it stands in some configuration, as it always does
   pub record Stands (f : WorldState T) : Type 0 where
     pub configuration : Configuration T Waiter
     pub stands : StandsIn f configuration
-
-  -- what is always so
-  pub record IsKept (f : WorldState T) : Type 0 where
-    pub listeners : AreOwned f
-    pub at_work : AreAtWork f
 
   -- a channel that was just opened: its first sender and its first receiver live, and nobody is at work
   pub record IsJustOpened (capacity : Option ℕ) (f : WorldState T) : Type 0 where
@@ -138,7 +140,7 @@ module _ {T : Type 0} where
 
   -- the steps that are left to the calls under way, in the order in which they began
   abbrev pub lefts_in : WorldState T → List ℕ
-  lefts_in f = all_left (parts_in f) f.parties.items
+  lefts_in f = all_left (parts_in f) (parties_of f)
 
   -- where the others are quiet, a step that does not end its call leaves it fewer
   abbrev pub Nearer : (x : Step T) (old : WorldState T) (e : Entry T) (new : WorldState T) (s t : Configuration T Waiter) → StepIsMade (name_state_of old) s x e (name_state_of new) t → Type 0

@@ -1,7 +1,8 @@
 //! What calls write back as they end, and whom they wake.
 
+use crate::calls::CallUnderWay;
 use crate::name_table::NameTable;
-use crate::names::{Agent, HandleEntry, OnReturn, OperationEntry, PollState};
+use crate::names::{HandleEntry, OnReturn, OperationEntry, PollState};
 use crate::order::Order;
 use channel_calls::reply::Reply;
 use channel_calls::stage::Returned;
@@ -90,33 +91,34 @@ impl<T: Drop> NameTable<T> {
     }
 }
 
-ghost use Rattle.std.specs.Prelude.{◌≡◌, ◌<◌, vec_len, slice_get, Some};
+ghost use Rattle.std.specs.Prelude.{◌≡◌, ◌<◌, map, vec_len, slice_get, Some};
+ghost use Rattle.channel_steps.specs.Configuration.{left_by, unless_answered};
+ghost use Rattle.channel_world_runs.specs.Calls.{agent_of};
 ghost use Rattle.channel_world_runs.specs.Run.{name_state_ended};
-ghost use Rattle.channel_world_runs.specs.declared.names.Agent.{Agent};
+ghost use Rattle.channel_world_runs.specs.declared.calls.CallUnderWay.{CallUnderWay};
 
-/// The k-th call writes back what it has to, if it has answered, and its party is at work no more then.
+/// The k-th call, if it has answered, writes back what it has to, and is under way no more.
 pub(crate) fn write_back<T: Drop>(
     name_table: &mut NameTable<T>,
     order: &mut Order,
-    agents: &mut Vec<Agent<T>>,
+    calls: &mut Vec<CallUnderWay<T>>,
     k: usize,
     reply: &Option<Reply<T>>,
-    kept: Option<Returned<T>>,
 )
-    requires { k < vec_len agents.old }
-    ensures { (a : Agent T) → slice_get agents.old.items k ≡ Some a
-        → record { name_table = name_table.new; order = order.new; agents = agents.new.items }
-        ≡ name_state_ended k a reply.now kept (record { name_table = name_table.old; order = order.old; agents = agents.old.items }) }
+    requires { k < vec_len calls.old }
+    ensures calls { calls.new.items ≡ unless_answered k reply.now calls.old.items }
+    ensures names { (c : CallUnderWay T) → slice_get calls.old.items k ≡ Some c
+        → record { name_table = name_table.new; order = order.new; agents = map agent_of calls.new.items }
+        ≡ name_state_ended k (agent_of c) reply.now (left_by c.party reply.now)
+        (record { name_table = name_table.old; order = order.old; agents = map agent_of calls.old.items }) }
 {
     if let Some(reply) = reply {
-        let Agent {
-            party: _,
+        let CallUnderWay {
+            party,
             on_return,
-        } = agents.remove(k);
-        let kept = kept.unwrap_or(Returned {
-            key: None,
-            message: None,
-        });
+            activity: _,
+        } = calls.remove(k);
+        let kept = party.into_kept();
         order.settle(&on_return, kept.key);
         name_table.settle(on_return, reply, kept);
     }

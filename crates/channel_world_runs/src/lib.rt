@@ -6,7 +6,7 @@
 //! begins, and what it writes back at its end), `Order` (who may be woken, in the order of waking), `Run` (one step), `Runs` (steps one
 //! after another, and what holds at each moment of them), `Lone` (calls made alone), `Owners` (who holds each listener), `OwnerWoken` (who
 //! was woken is told), `OwnerOrder` (in which order), `OwnerPolled` (who is polled, by whom), `WorldInvariant` (all that every step keeps of those
-//! who wait), `Doing` (what each call under way is to those who wait, and has done), `Owed` (the wake-ups owed to those who are pending, by
+//! who wait), `Calls` (the calls under way by name), `Activity` (what each of them is to those who wait, and has done), `Owed` (the wake-ups owed to those who are pending, by
 //! what a channel shows as it is), `WorldState` (the configurations in which a channel by names stands, and how what is done leads from one
 //! to another).
 //!
@@ -34,8 +34,9 @@
 //! one call at a time says of them (`refinement_laws`).
 #![tactic(auto)]
 
+pub mod activity;
 mod beginning;
-pub mod doing;
+pub mod calls;
 mod ending;
 mod lone;
 pub mod name_table;

@@ -11,7 +11,7 @@ use channel_world_model::run::Done;
 impl<T: Drop> WorldState<T> {
     ghost use Rattle.std.specs.Prelude.{◌≡◌, None, IfOk, IfErr, OnErr};
     ghost use Rattle.channel_world_runs.specs.Refusal.{begin_refusal};
-    ghost use Rattle.channel_world_runs.specs.WorldState.{AreAtWork, AreOwned, IsQuiet, IsSame};
+    ghost use Rattle.channel_world_runs.specs.WorldState.{Stands, IsQuiet, IsSame};
     ghost use Rattle.channel_world_runs.specs.Lone.{CallsAlone, WakesAtMost};
 
     /// Makes a call that is not refused, where no call is under way, from its beginning to its end; or hands it back where
@@ -21,13 +21,11 @@ impl<T: Drop> WorldState<T> {
     /// after it are what a call does that is made alone. `room` is no less than the number of names that it may wake; room for
     /// these, and for the listener of a poll, is taken before it begins. Nothing waits. Own to this project.
     pub fn call_alone(&mut self, call: Call<T>, room: usize) -> Result<Done<T>, Call<T>>
-        requires owned { AreOwned self.old }
-        requires at_work { AreAtWork self.old }
+        requires stands { Stands self.old }
         requires quiet { IsQuiet self.old }
         requires accepted { begin_refusal self.old.name_table call ≡ None }
         requires room { WakesAtMost room call self.old }
         ensures ok { IfOk result (λ d. CallsAlone call self.old d.reply d.woken.items self.new) }
-        ensures at_work { AreAtWork self.new }
         ensures quiet { IsQuiet self.new }
         ensures err { OnErr result (IsSame self.old self.new) }
         ensures back { IfErr result (λ c. c ≡ call) }

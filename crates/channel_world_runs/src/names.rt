@@ -238,34 +238,3 @@ pub enum OnReturn<T> {
         kind: HandleKind,
     },
 }
-
-/// A party with a call under way, and what that has to write back.
-#[derive(Drop)]
-pub struct Agent<T> {
-    /// The party.
-    pub party: u32,
-    /// What its call has to write back.
-    pub on_return: OnReturn<T>,
-}
-
-ghost use Rattle.std.specs.Prelude.{◌≡◌, IfSome};
-ghost use Rattle.channel_world_runs.specs.NameTable.{is_at_work, IsAgent};
-
-/// Whether a party has a call under way.
-pub(crate) fn is_at_work<T>(agents: &Vec<Agent<T>>, party: u32) -> bool
-    ensures { result ≡ is_at_work party agents.now.items }
-{
-    agents.iter().any(|agent| agent.party == party)
-}
-
-/// The place of a party's call among those under way.
-pub(crate) fn find_agent<T>(agents: &Vec<Agent<T>>, party: u32) -> Option<usize>
-    ensures { IfSome result (λ k. IsAgent party agents.now.items k) }
-{
-    for k in 0..agents.len() {
-        if agents[k].party == party {
-            return Some(k);
-        }
-    }
-    None
-}

@@ -110,6 +110,6 @@ impl<T> WorldState<T> {
         ensures enough { IsTrue result → HasPosition call.now self.now }
         ensures all { HasPosition call.now self.now → IsTrue result }
     {
-        !self.name_table.brings(call) || self.has_positions(self.parties.len().saturating_add(1))
+        !self.name_table.brings(call) || self.has_positions(self.calls.len().saturating_add(1))
     }
 }

@@ -23,7 +23,7 @@ fn stopped<T: Drop>(trace: Vec<Entry<T>>, why: WorldRefusal) -> Run<T>
 impl<T: Drop> WorldState<T> {
     ghost use Rattle.std.specs.Prelude.{◌≡◌, ◌<◌, IfNone, vec_len, vec_capacity};
     ghost use Rattle.channel_world_runs.specs.Run.{MayStopAt, StopsAt};
-    ghost use Rattle.channel_world_runs.specs.WorldState.{name_state_of, AreAtWork};
+    ghost use Rattle.channel_world_runs.specs.WorldState.{name_state_of};
     ghost use Rattle.channel_world_runs.specs.Runs.{RanTo};
 
     /// Why a run stops at this step, if it does; where it doesn't, there is room for an entry.
@@ -53,9 +53,7 @@ impl<T: Drop> WorldState<T> {
     /// pending and wasn't woken since its last poll is forgotten beside a message, a free place or a closing: see `specs/Owners`
     /// and `specs/Owed`. No step was made that is to be refused. Nothing waits. Own to this project.
     pub fn run_steps(&mut self, steps: &mut VecDeque<Step<T>>) -> Run<T>
-        requires at_work { AreAtWork self.old }
         ensures ran { RanTo steps.old.items steps.new.items self.old result.trace.items self.new }
-        ensures at_work { AreAtWork self.new }
         ensures stopped { StopsAt (name_state_of self.new) steps.new.items (vec_len result.trace) result.stopped }
     {
         let mut trace = Vec::new(self.alloc);

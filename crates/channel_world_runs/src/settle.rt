@@ -87,7 +87,7 @@ impl<T: Drop> WorldState<T> {
     ghost use Rattle.std.specs.Prelude.{◌≡◌, ◌≤◌, ◌+◌, ◌-◌, false, vec_len, vec_capacity};
     ghost use Rattle.channel_steps.specs.solo.Ample.{lacks_memory};
     ghost use Rattle.channel_world_model.specs.Settling.{poll_of};
-    ghost use Rattle.channel_world_runs.specs.WorldState.{AreAtWork, AreOwned, IsQuiet};
+    ghost use Rattle.channel_world_runs.specs.WorldState.{Stands, IsQuiet};
     ghost use Rattle.channel_world_runs.specs.Lone.{BringsWithin, WakesAtMost};
     ghost use Rattle.channel_world_runs.specs.Positions.{accepted_by, brings};
     ghost use Rattle.channel_world_runs.specs.Settle.{IsWoken, PollsAlone};
@@ -100,14 +100,12 @@ impl<T: Drop> WorldState<T> {
     /// the reply says that none was left. Only a send that is accepted brings a message, so only there is a position of the queue
     /// asked for. Nothing waits. Own to this project.
     pub fn poll_alone(&mut self, name: Waiter, names: Vec<Waiter>) -> Polled<T>
-        requires owned { AreOwned self.old }
-        requires at_work { AreAtWork self.old }
+        requires stands { Stands self.old }
         requires quiet { IsQuiet self.old }
         requires woken { IsWoken name self.old }
         requires limit { BringsWithin (poll_of name) self.old }
         requires room { WakesAtMost (vec_capacity names - vec_len names) (poll_of name) self.old }
         ensures polled { PollsAlone name self.old names.items result.reply result.names.items self.new }
-        ensures at_work { AreAtWork self.new }
         ensures quiet { IsQuiet self.new }
         ensures place { self.new.has_one_place ≡ self.old.has_one_place }
         ensures accepted { self.new.accepted ≤ self.old.accepted + accepted_by (brings self.old.name_table (poll_of name)) result.reply }

@@ -2,7 +2,7 @@
 use Rattle.std.proofs.Common.{◌≡◌, ℕ, ◌==◌, Bool, true, false, List, [], ◌∷◌, ◌++◌, map, Option, None, Some, Ok, Err, MatchOption, slice_set, if◌then◌else◌, refl, sym, ap, ◌∙◌, subst}
 use Rattle.std.specs.List.{remove}
 use Rattle.concurrent_queue.specs.Bridge as queue
-use Rattle.channel_steps.proofs.every_run.Words.{Contents, asked, QueueReply, QueueForm, QueueCall, first, kept_by, Deed, stepped, Done, Does, Parts, Takes, Leaves, WorkMakes, ChannelMakes, ChannelAsk, Mark, Reply, ListenerRef, Stage, Trying, Working, Finished, ListStep, TellReceive, TellStreams, TellSend, TellSends, TakeRoom, TellAll, Insert, Register, Leave, Lower, Count, Load, Raise, HasBegun, ActiveCall, Configuration, ActiveCallWitness, Represents, StepsAt, HasParty, active_call_of, Entry, Party, IsChannelStep, IsNewCall, parties_after, left_by, Act, on_queue, on_roster, on_nothing, Event, begins, Happening, Given, Notes, Acts, own, step_of, steps_of, given_by, given_to, Changes, InOneOrder, IsIdle}
+use Rattle.channel_steps.proofs.every_run.Words.{Contents, asked, QueueReply, QueueForm, QueueCall, first, kept_by, Deed, stepped, Done, Does, Parts, Takes, Leaves, WorkMakes, ChannelMakes, ChannelAsk, Mark, Reply, ListenerRef, Stage, Trying, Working, Finished, ListStep, TellReceive, TellStreams, TellSend, TellSends, TakeRoom, TellAll, Insert, Register, Leave, Lower, Count, Load, Raise, HasBegun, ActiveCall, Configuration, ActiveCallWitness, Represents, StepsAt, HasParty, active_call_of, Entry, Party, IsChannelStep, IsNewCall, after_step, left_by, Act, on_queue, on_roster, on_nothing, Event, begins, Happening, Given, Notes, Acts, own, step_of, steps_of, given_by, given_to, Changes, InOneOrder, IsIdle}
 use Rattle.concurrent_queue.specs.Deeds as cell
 use Rattle.concurrent_queue.specs.declared.call.QueueAsk.TheVariants as queue_ask
 use Rattle.concurrent_queue.proofs.Bridge.{call_noted, change_keeps_form}
@@ -12,7 +12,7 @@ use Rattle.channel_calls.proofs.Walking.{taken_of}
 use Rattle.channel_calls.specs.declared.mark.Mark.TheVariants.{Nothing}
 use Rattle.channel_steps.specs.declared.run.Step.TheVariants as step
 use Rattle.channel_steps.proofs.RunFacts as runs
-use Rattle.channel_steps.proofs.ConfigurationFacts.{stepped_at, made_at}
+use Rattle.channel_steps.proofs.ConfigurationFacts.{party_steps}
 use Rattle.channel_steps.specs.every_run.Bridge.{does}
 use Rattle.channel_steps.specs.every_run.Ends.{Each}
 use Rattle.channel_steps.proofs.every_run.BridgeLeads.{id_of, of, StepLeadsOn, GoThrough, leads_begun, leads_stepped, through_none, through_more}
@@ -216,7 +216,7 @@ module _ {T W S : Type 0} (wakes : S → W → S → Type 0) (form : QueueForm) 
         let old = h.0 in
         (old.call, h.1 ∙ ap (λ (n : ℕ). let z : Party T W = record { id = n; call = old.call } in Some z) h.2)
 
-    steps_so : (answer : Option (Reply T)) → ChannelMakes (Notes form) at on_nothing o m next answer → StepsAt wakes c.0 parties k c.1 (entry answer) d.0 (parties_after parties k mine answer) d.1
+    steps_so : (answer : Option (Reply T)) → ChannelMakes (Notes form) at on_nothing o m next answer → StepsAt wakes c.0 parties k c.1 (entry answer) d.0 (after_step parties k mine answer) d.1
     steps_so answer makes =
         let h = has_at id_of of p parties at there in
         let old = h.0 in
@@ -224,11 +224,10 @@ module _ {T W S : Type 0} (wakes : S → W → S → Type 0) (form : QueueForm) 
         let one : IsChannelStep wakes c.0 at c.1 d.0 next m answer d.1 = step_noted wakes form c d f at o m next answer makes change in
         let mine_steps : IsChannelStep wakes c.0 old.call.stage c.1 d.0 next m answer d.1 = subst (λ (s : Stage (QueueCall T) T W). IsChannelStep wakes c.0 s c.1 d.0 next m answer d.1) (sym h.3) one in
         let who : Party T W = record { id = p; call = old.call } in
-        stepped_at wakes c.0 d.0 parties (parties_after parties k mine answer) k c.1 d.1 (entry answer)
-        (made_at wakes c.0 d.0 parties (parties_after parties k mine answer) k c.1 d.1 who mine.call m answer (left_by mine answer) has refl mine_steps refl refl)
+        party_steps wakes c.0 d.0 c.1 d.1 who mine answer refl mine_steps parties k has
 
-    leads : (answer : Option (Reply T)) → ChannelMakes (Notes form) at on_nothing o m next answer → StepLeadsOn wakes c parties (step.Step p) (entry answer) d (parties_after parties k mine answer)
-    leads answer makes = leads_stepped wakes p c parties (entry answer) d (parties_after parties k mine answer) apart (is_there, steps_so answer makes)
+    leads : (answer : Option (Reply T)) → ChannelMakes (Notes form) at on_nothing o m next answer → StepLeadsOn wakes c parties (step.Step p) (entry answer) d (after_step parties k mine answer)
+    leads answer makes = leads_stepped wakes p c parties (entry answer) d (after_step parties k mine answer) apart (is_there, steps_so answer makes)
 
     made_on : (answer : Option (Reply T)) → ChannelMakes (Notes form) at on_nothing o m next answer
         → MatchOption answer (Acts form (Some next) (own p xs) (given p)) (λ x. (more : List (Given T)) × (given p ≡ record { reply = x; kept = kept_by next } ∷ more) × Acts form None (own p xs) more)

@@ -73,7 +73,7 @@ pub use Rattle.channel_steps.specs.Known.{Answered, HasTaken, IsFor, StageAt, To
 pub use Rattle.channel_steps.specs.Left.{all_left, most_left}
 pub use Rattle.channel_steps.specs.Moments.{Appended, ClosedIt, CountRaised, Crowded, Displaced, Dropped, LeftLast, MadeRoom, MarkedMoment, Once, Open, Replaced, Shut, Spent, Took, TookAll, Upgraded, is_empty, with_marked}
 pub use Rattle.channel_steps.specs.Run.{Begins, EachStep, HasBegun, HasRange, IsRun, Next, NextConfiguration, Touches, call_begun, end_of, new_configuration}
-pub use Rattle.channel_steps.specs.Configuration.{AllKnown, Finishes, HasParty, Known, MayFinish, MayHave, OthersQuiet, Represents, Configuration, ActiveCallWitness, Steps, StepsAt, ActiveCall, all_seats, blocks_after, brought, came_by, does, gone_by, left_by, parties_after, sees, active_call_of, unless_ended, wanted_at}
+pub use Rattle.channel_steps.specs.Configuration.{AllKnown, Finishes, HasParty, Known, MayFinish, MayHave, OthersQuiet, Represents, Configuration, ActiveCallWitness, Steps, StepsAt, ActiveCall, after_step, all_seats, blocks_after, brought, came_by, does, gone_by, left_by, sees, active_call_of, unless_ended, wanted_at}
 pub use Rattle.channel_steps.specs.Tellings.{Telling, all_of, more_of, one_of, owed_besides, owed_for, owed_takings, takings}
 pub use Rattle.channel_steps.specs.declared.party.Entry.{Entry}
 pub use Rattle.channel_steps.specs.declared.party.Party.{Party}

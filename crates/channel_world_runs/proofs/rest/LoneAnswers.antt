@@ -9,7 +9,7 @@ use Rattle.channel_world_runs.proofs.refinement.Streams.{poll_next}
 use Rattle.channel_world_runs.proofs.WokenPolls.{woken_admitted, poll_accepted}
 use Rattle.std.specs.Prelude.{zero, suc, nat_lt}
 use Rattle.channel_world_runs.specs.Users.{all_uses}
-use Rattle.channel_world_runs.specs.declared.names.Agent.{Agent}
+use Rattle.channel_world_runs.specs.Calls.{Agent}
 use Rattle.channel_world_model.specs.Asked.{KeysHeld as Holding}
 use Rattle.channel_calls.specs.Model.{ModelChannel as PlainChannel}
 use Rattle.channel_world_model.specs.Refusal as model

@@ -11,7 +11,7 @@ returns g c =
     let rests = c.a_channel_at_rest_is_a_world.ensures.as_in_the_world in
     let apart = c.keeps_names.ensures.apart in
     record {
-      calls = calls_at_rest w c.keeps_names.ensures.kept.at_work;
+      calls = calls_at_rest w;
       messages = messages_at_rest w k;
       pending = pending_at_rest w k rests apart;
       woken = woken_at_rest w k rests apart;

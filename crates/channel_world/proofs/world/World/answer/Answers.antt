@@ -1,14 +1,14 @@
 -- From the law that a call made alone is the model's.
 use Rattle.std.proofs.Common.{◌∙◌, sym}
-use Rattle.channel_world_runs.proofs.Interface.{leads_nowhere}
-use Rattle.channel_world_runs.proofs.LoneFacts.{kept_whatever, leads_whatever}
+use Rattle.channel_world_runs.proofs.Interface.{leads_nowhere, stands_led}
+use Rattle.channel_world_runs.proofs.LoneFacts.{leads_whatever}
 use Rattle.channel_world.proofs.Whole.{refused_alike, wakes_few, answers_whatever}
 use Rattle.channel_world.proofs.Inside.{world_state_of, inside_is}
 use Rattle.channel_world.proofs.world.World.answer.Goals as goal
 
 pub call_alone-requires-clause-accepted : goal.call_alone-requires-clause-accepted
 call_alone-requires-clause-accepted g c =
-    let accepted = refused_alike c.a_call_made_alone_is_the_models.ensures.refused (world_state_of c.args.self.now) c.keeps_names.ensures.kept c.requires.quiet c.args.call
+    let accepted = refused_alike c.a_call_made_alone_is_the_models.ensures.refused (world_state_of c.args.self.now) c.keeps_names.ensures.stands c.requires.quiet c.args.call
     ∙ c.requires.accepted in
     rw (inside_is c.self.inside.world_state c.args.self.now c.self.view_is) accepted
 
@@ -17,21 +17,22 @@ call_alone-requires-clause-room g c =
     let laws = c.a_call_made_alone_is_the_models.ensures in
     let k = c.keeps_names.ensures in
     rw (inside_is c.self.inside.world_state c.args.self.now c.self.view_is)
-    (wakes_few laws.refused (world_state_of c.args.self.now) k.kept c.requires.quiet c.args.call laws.answered c.requires.accepted c.in-Some.room c.in-Some.ensures)
+    (wakes_few laws.refused (world_state_of c.args.self.now) k.stands c.requires.quiet c.args.call laws.answered c.requires.accepted c.in-Some.room c.in-Some.ensures)
 
 pub invariant_of-self : goal.invariant_of-self
 invariant_of-self g c =
     let a = c.call_alone.ensures in
-    let accepted = refused_alike c.a_call_made_alone_is_the_models.ensures.refused (world_state_of c.args.self.now) c.keeps_names.ensures.kept c.requires.quiet c.args.call
+    let accepted = refused_alike c.a_call_made_alone_is_the_models.ensures.refused (world_state_of c.args.self.now) c.keeps_names.ensures.stands c.requires.quiet c.args.call
     ∙ c.requires.accepted in
-    kept_whatever c.args.call (world_state_of c.args.self.now) c.call_alone.new.self c.call_alone.result c.keeps_names.ensures.kept c.requires.quiet a.at_work
-    accepted (rw (sym (inside_is c.self.inside.world_state c.args.self.now c.self.view_is)) a.ok) (rw (sym (inside_is c.self.inside.world_state c.args.self.now c.self.view_is)) a.err)
+    stands_led (world_state_of c.args.self.now) c.call_alone.new.self _ c.keeps_names.ensures.stands
+    (leads_whatever c.args.call (world_state_of c.args.self.now) c.call_alone.new.self c.call_alone.result c.requires.quiet
+    accepted (rw (sym (inside_is c.self.inside.world_state c.args.self.now c.self.view_is)) a.ok) (rw (sym (inside_is c.self.inside.world_state c.args.self.now c.self.view_is)) a.err))
 
 pub returns-clause-ok : goal.returns-clause-ok
 returns-clause-ok g c =
     let laws = c.a_call_made_alone_is_the_models.ensures in
     let k = c.keeps_names.ensures in
-    answers_whatever laws.refused (world_state_of c.args.self.now) k.kept c.requires.quiet c.args.call laws.answered c.requires.accepted c.call_alone.new.self
+    answers_whatever laws.refused (world_state_of c.args.self.now) k.stands c.requires.quiet c.args.call laws.answered c.requires.accepted c.call_alone.new.self
     c.call_alone.result c.call_alone.ensures.quiet (rw (sym (inside_is c.self.inside.world_state c.args.self.now c.self.view_is)) c.call_alone.ensures.ok)
 
 pub returns-in_default-clause-leads : goal.returns-in_default-clause-leads
@@ -40,7 +41,7 @@ returns-in_default-clause-leads g c = leads_nowhere (world_state_of c.args.self.
 pub returns-clause-leads : goal.returns-clause-leads
 returns-clause-leads g c =
     let a = c.call_alone.ensures in
-    let accepted = refused_alike c.a_call_made_alone_is_the_models.ensures.refused (world_state_of c.args.self.now) c.keeps_names.ensures.kept c.requires.quiet c.args.call
+    let accepted = refused_alike c.a_call_made_alone_is_the_models.ensures.refused (world_state_of c.args.self.now) c.keeps_names.ensures.stands c.requires.quiet c.args.call
     ∙ c.requires.accepted in
-    leads_whatever c.args.call (world_state_of c.args.self.now) c.call_alone.new.self c.call_alone.result c.keeps_names.ensures.kept.at_work c.requires.quiet
+    leads_whatever c.args.call (world_state_of c.args.self.now) c.call_alone.new.self c.call_alone.result c.requires.quiet
     accepted (rw (sym (inside_is c.self.inside.world_state c.args.self.now c.self.view_is)) a.ok) (rw (sym (inside_is c.self.inside.world_state c.args.self.now c.self.view_is)) a.err)

@@ -18,6 +18,6 @@ returns-clause-all g c =
 
 pub returns-clause-one_place : goal.returns-clause-one_place
 returns-clause-one_place g c =
-    let o = c.self.invariant.listeners in
+    let o = c.self.invariant in
     subst (λ (f : WorldState g.row.T.Denot). (at_rest f).channel.capacity ≡ Some 1 → IsTrue c.has_positions.result) (inside_is c.self.inside.world_state c.args.self.now c.self.view_is)
-    (λ one. c.has_positions.ensures.all (inl (one_place c.self.inside.world_state o.configuration o.shown one)))
+    (λ one. c.has_positions.ensures.all (inl (one_place c.self.inside.world_state o.configuration o.stands.shown one)))

@@ -1,11 +1,11 @@
 use Rattle.std.proofs.Common.{subst}
 use Rattle.channel_world_runs.specs.WorldState.{TellsQuiet}
 use Rattle.channel_world_runs.specs.declared.world_state.WorldState.{WorldState}
-use Rattle.channel_world_runs.proofs.LoneFacts.{tells_quiet}
+use Rattle.channel_world.proofs.AsleepFacts.{tells_quiet}
 use Rattle.channel_world.proofs.Inside.{inside_is}
 use Rattle.channel_world.proofs.world.World.is_quiet.Goals as goal
 
 pub returns : goal.returns
 returns g c =
-    subst (λ (f : WorldState g.row.T.Denot). TellsQuiet f c.is_quiet.result) (inside_is c.self.inside.world_state c.args.self.now c.self.view_is)
-    (tells_quiet c.self.inside.world_state c.is_quiet.result c.self.invariant.listeners c.is_quiet.ensures)
+    subst (λ (f : WorldState g.row.T.Denot). TellsQuiet f c.is_empty.result) (inside_is c.self.inside.world_state c.args.self.now c.self.view_is)
+    (tells_quiet c.self.inside.world_state c.is_empty.result c.is_empty.ensures)

@@ -2,15 +2,14 @@
 use Rattle.std.proofs.Common.{subst}
 use Rattle.channel_world_runs.specs.Runs.{RanTo}
 use Rattle.channel_world_runs.specs.declared.world_state.WorldState.{WorldState}
-use Rattle.channel_world_runs.proofs.WorldStateFacts.{stands, owned_where}
 use Rattle.channel_world.proofs.Inside.{inside_is}
 use Rattle.channel_world.proofs.world.World.make_steps.Goals as goal
 
 pub invariant_of-self : goal.invariant_of-self
 invariant_of-self g c =
-    let before = stands c.self.inside.world_state c.self.invariant.listeners in
+    let before = c.self.invariant in
     let ran = c.run_steps.ensures.ran before.configuration before.stands in
-    record { listeners = owned_where c.run_steps.new.self ran.last ran.stands; at_work = c.run_steps.ensures.at_work }
+    record { configuration = ran.last; stands = ran.stands }
 
 pub returns-clause-ran : goal.returns-clause-ran
 returns-clause-ran g c =
@@ -19,6 +18,6 @@ returns-clause-ran g c =
 
 pub returns-clause-stands : goal.returns-clause-stands
 returns-clause-stands g c =
-    let before = stands c.self.inside.world_state c.self.invariant.listeners in
+    let before = c.self.invariant in
     let ran = c.run_steps.ensures.ran before.configuration before.stands in
     record { configuration = ran.last; stands = ran.stands }

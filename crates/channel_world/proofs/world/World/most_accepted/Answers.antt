@@ -1,7 +1,6 @@
 -- From the numbers of those who are pending on each line, and of the places that are free.
 use Rattle.std.proofs.Common.{arith, ◌≡◌, ◌∙◌, ◌+◌, length, false, Some, sym}
 use Rattle.channel_calls.specs.declared.stage.WaitList.TheVariants.{Sends, Receives, Streams}
-use Rattle.channel_world_runs.proofs.WorldStateFacts.{stands}
 use Rattle.channel_world.specs.Settled.{pending_on}
 use Rattle.channel_world.specs.World.{at_rest}
 use Rattle.channel_world.proofs.ComingIn.{bounded_in}
@@ -13,7 +12,7 @@ pub returns-then-sends-places : goal.returns-then-sends-places
 returns-then-sends-places g c =
     let f = world_state_of c.args.self.now in
     let s = at_rest f in
-    let k = stands f c.keeps_names.ensures.kept.listeners in
+    let k = c.keeps_names.ensures.stands in
     let held : c.messages.result ≡ length s.channel.messages = c.messages.ensures ∙ messages_at_rest f k c.requires.quiet in
     let is_open : s.channel.closed ≡ false = sym c.is_closed.ensures ∙ c.if-is_closed.false in
     let bound : s.channel.capacity ≡ Some c.in-Some.capacity = sym c.capacity.ensures ∙ c.in-Some.is in
@@ -29,7 +28,7 @@ pub returns-else-sends-places : goal.returns-else-sends-places
 returns-else-sends-places g c =
     let f = world_state_of c.args.self.now in
     let s = at_rest f in
-    let k = stands f c.keeps_names.ensures.kept.listeners in
+    let k = c.keeps_names.ensures.stands in
     let held : c.messages.result ≡ length s.channel.messages = c.messages.ensures ∙ messages_at_rest f k c.requires.quiet in
     let is_open : s.channel.closed ≡ false = sym c.is_closed.ensures ∙ c.if-is_closed.false in
     let bound : s.channel.capacity ≡ Some c.in-Some.capacity = sym c.capacity.ensures ∙ c.in-Some.is in

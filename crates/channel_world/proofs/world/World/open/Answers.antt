@@ -2,19 +2,17 @@
 use Rattle.std.proofs.Common.{refl}
 use Rattle.concurrent_queue.specs.Capacity.{capacity_of}
 use Rattle.channel_steps.specs.Run.{new_configuration}
-use Rattle.channel_world_runs.specs.WorldState.{parts_in}
-use Rattle.channel_world_runs.proofs.WorldStateFacts.{new_kept, no_parties, stands_in}
+use Rattle.channel_world_runs.proofs.WorldStateFacts.{new_stands, no_calls}
 use Rattle.channel_world.proofs.Opening.{opened_is}
 use Rattle.channel_world.proofs.world.World.open.Goals as goal
 
 pub returns-clause-shown : goal.returns-clause-shown
 returns-clause-shown g c =
     let o = c.in-Ok.ensures in
-    let first = new_configuration (capacity_of c.args.form) in
-    record { stands = stands_in c.in-Ok.world_state first o.shown (new_kept c.in-Ok.world_state (capacity_of c.args.form) o.name_state); name_state = o.name_state }
+    record { stands = new_stands c.in-Ok.world_state (capacity_of c.args.form) o.shown o.name_state; name_state = o.name_state }
 
 pub returns-clause-open : goal.returns-clause-open
 returns-clause-open g c =
     let f = c.in-Ok.world_state in
-    let quiet = no_parties (parts_in f) f.parties.items (new_configuration (capacity_of c.args.form)) refl c.in-Ok.ensures.shown.shows in
+    let quiet = no_calls f (new_configuration (capacity_of c.args.form)) refl c.in-Ok.ensures.shown in
     opened_is f (capacity_of c.args.form) (returns-clause-shown g c) quiet

@@ -19,7 +19,7 @@ returns g c =
     let wait : c.waiting.result ≡ length (listeners line (parts_in f).roster).waiting =
     subst (λ (x : WorldState g.row.T.Denot). c.waiting.result ≡ length (listeners line (parts_in x).roster).waiting) (inside_is c.self.inside.world_state c.args.self.now c.self.view_is)
     c.waiting.ensures in
-    let stand = as_many_wait f c.keeps_names.ensures.kept c.requires.quiet c.a_channel_at_rest_is_a_world.ensures.as_in_the_world line in
+    let stand = as_many_wait f c.keeps_names.ensures.stands c.requires.quiet c.a_channel_at_rest_is_a_world.ensures.as_in_the_world line in
     let told : c.in_ok-told.told ≡ woken_of_line line s =
     c.in_ok-told.ensures ∙ ap (λ (ws : List Waiter). count_of (line_at s.names) line ws) c.requires.woken in
     just_it _ c.checked_add.result _ (c.waiting.result + c.in_ok-told.told) c.checked_add.ensures (omega (arith, wait, stand, told))

@@ -1,7 +1,8 @@
 -- From the law that a poll of settling is the model's.
 use Rattle.std.proofs.Common.{sym}
 use Rattle.channel_world_runs.specs.Settle.{PollsAlone}
-use Rattle.channel_world_runs.proofs.LoneFacts.{call_kept, call_leads}
+use Rattle.channel_world_runs.proofs.Interface.{stands_led}
+use Rattle.channel_world_runs.proofs.LoneFacts.{call_leads}
 use Rattle.channel_world_runs.proofs.WokenPolls.{woken_admitted}
 use Rattle.channel_world_model.specs.Settling.{poll_of}
 use Rattle.channel_world.proofs.Polls.{poll_brings_within, poll_wakes_few, poll_answers}
@@ -12,14 +13,14 @@ pub poll_alone-requires-clause-room : goal.poll_alone-requires-clause-room
 poll_alone-requires-clause-room g c =
     let k = c.keeps_names.ensures in
     rw (inside_is c.self.inside.world_state c.args.self.now c.self.view_is)
-    (poll_wakes_few (world_state_of c.args.self.now) k.kept c.requires.quiet c.a_poll_of_settling_is_the_models.ensures c.args.name c.requires.woken _ _
+    (poll_wakes_few (world_state_of c.args.self.now) k.stands c.requires.quiet c.a_poll_of_settling_is_the_models.ensures c.args.name c.requires.woken _ _
     c.requires.room)
 
 pub poll_alone-requires-clause-limit : goal.poll_alone-requires-clause-limit
 poll_alone-requires-clause-limit g c =
     let k = c.keeps_names.ensures in
     rw (inside_is c.self.inside.world_state c.args.self.now c.self.view_is)
-    (poll_brings_within (world_state_of c.args.self.now) k.kept c.requires.quiet c.a_poll_of_settling_is_the_models.ensures c.args.name c.requires.woken
+    (poll_brings_within (world_state_of c.args.self.now) k.stands c.requires.quiet c.a_poll_of_settling_is_the_models.ensures c.args.name c.requires.woken
     c.requires.limit)
 
 pub invariant_of-self : goal.invariant_of-self
@@ -28,13 +29,14 @@ invariant_of-self g c =
     let old = (world_state_of c.args.self.now) in
     let p : PollsAlone c.args.name old c.args.names.items c.poll_alone.result.reply c.poll_alone.result.names.items c.poll_alone.new.self
     = rw (sym (inside_is c.self.inside.world_state c.args.self.now c.self.view_is)) a.polled in
-    call_kept (poll_of c.args.name) old c.poll_alone.new.self c.poll_alone.result.reply p.woken c.keeps_names.ensures.kept c.requires.quiet a.at_work
-    (woken_admitted old.name_table old.order c.args.name c.requires.woken) p.called
+    stands_led old c.poll_alone.new.self _ c.keeps_names.ensures.stands
+    (call_leads (poll_of c.args.name) old c.poll_alone.new.self c.poll_alone.result.reply p.woken c.requires.quiet
+    (woken_admitted old.name_table old.order c.args.name c.requires.woken) p.called)
 
 pub returns-clause-polled : goal.returns-clause-polled
 returns-clause-polled g c =
     let k = c.keeps_names.ensures in
-    poll_answers (world_state_of c.args.self.now) k.kept c.requires.quiet c.a_poll_of_settling_is_the_models.ensures c.args.name c.requires.woken
+    poll_answers (world_state_of c.args.self.now) k.stands c.requires.quiet c.a_poll_of_settling_is_the_models.ensures c.args.name c.requires.woken
     c.poll_alone.new.self c.args.names.items c.poll_alone.result.reply c.poll_alone.result.names.items c.poll_alone.ensures.quiet
     (rw (sym (inside_is c.self.inside.world_state c.args.self.now c.self.view_is)) c.poll_alone.ensures.polled)
 
@@ -44,5 +46,5 @@ returns-clause-leads g c =
     let old = (world_state_of c.args.self.now) in
     let p : PollsAlone c.args.name old c.args.names.items c.poll_alone.result.reply c.poll_alone.result.names.items c.poll_alone.new.self
     = rw (sym (inside_is c.self.inside.world_state c.args.self.now c.self.view_is)) a.polled in
-    call_leads (poll_of c.args.name) old c.poll_alone.new.self c.poll_alone.result.reply p.woken c.keeps_names.ensures.kept.at_work c.requires.quiet
+    call_leads (poll_of c.args.name) old c.poll_alone.new.self c.poll_alone.result.reply p.woken c.requires.quiet
     (woken_admitted old.name_table old.order c.args.name c.requires.woken) p.called

@@ -10,4 +10,4 @@ pub returns : goal.returns
 returns g c =
     c.refusal.ensures
     ∙ (ap (λ (f : WorldState g.row.T.Denot). names.begin_refusal f.name_table c.args.call.now) (inside_is c.self.inside.world_state c.args.self.now c.self.view_is)
-    ∙ refused_alike c.a_call_made_alone_is_the_models.ensures.refused (world_state_of c.args.self.now) c.keeps_names.ensures.kept c.requires.quiet c.args.call.now)
+    ∙ refused_alike c.a_call_made_alone_is_the_models.ensures.refused (world_state_of c.args.self.now) c.keeps_names.ensures.stands c.requires.quiet c.args.call.now)

@@ -2,7 +2,6 @@
 use Rattle.std.proofs.Common.{arith, rules, ◌≡◌, ◌∙◌, slice_get, Some, vec_len, refl}
 use Rattle.std.proofs.lemmas.Option.{slice_get_read}
 use Rattle.channel_world_runs.proofs.Interface.{leads_nowhere, stands_led}
-use Rattle.channel_world_runs.proofs.WorldStateFacts.{stands}
 use Rattle.channel_world.specs.Settled.{polls_in}
 use Rattle.channel_world.specs.World.{at_rest}
 use Rattle.channel_world.proofs.AsleepFacts.{no_receive_goes_on, no_send_goes_on, no_stream_goes_on}
@@ -18,7 +17,7 @@ use Rattle.channel_world.proofs.world.World.settle.Goals as goal
 pub loop-names-init : goal.loop-names-init
 loop-names-init g c =
     let now = (world_state_of c.args.self.now) in
-    let awake = awake_at_rest now c.keeps_names.ensures.kept c.requires.quiet c.a_channel_at_rest_is_a_world.ensures.as_in_the_world in
+    let awake = awake_at_rest now c.keeps_names.ensures.stands c.requires.quiet c.a_channel_at_rest_is_a_world.ensures.as_in_the_world in
     let r = c.in-Some.ensures in
     record {
       goes = rw r.polls (goes_first (at_rest now) c.in-Some.room.names.items awake r.names);
@@ -57,7 +56,7 @@ poll_woken-reply-requires-clause-limit g c =
     let next = next_poll (at_rest (world_state_of c.args.self.now)) (at_rest (world_state_of c.loop-names.self)) polls.items names.items place name c.loop-names.invariant.goes
     (c.len-in-loop-names-2.ensures ∙ polls.ok.0) here in
     let i = c.loop-names.invariant in
-    let before = stands (world_state_of c.args.self.now) c.keeps_names.ensures.kept.listeners in
+    let before = c.keeps_names.ensures.stands in
     let now = stands_led (world_state_of c.args.self.now) (world_state_of c.loop-names.self) _ before i.leads in
     one_position (world_state_of c.loop-names.self) now i.quiet (let goes = i.goes in goes.awake) name next.front (i.places name next.woken)
 
@@ -111,7 +110,7 @@ loop-names-preserved g c =
     let wider = pushed.capacity in
     let a = i.names in
     let b = i.polls in
-    let before = stands (world_state_of c.args.self.now) c.keeps_names.ensures.kept.listeners in
+    let before = c.keeps_names.ensures.stands in
     let now = stands_led (world_state_of c.args.self.now) (world_state_of c.loop-names.self) _ before i.leads in
     record {
       goes = goes_pushed (at_rest (world_state_of c.args.self.now)) u polls.items c.push_reserved.new.self.items name after.reply after.names.items pushed.items
@@ -196,7 +195,7 @@ returns-clause-leads g c = record { on = c.loop-names.invariant.leads }
 
 pub returns-clause-stands : goal.returns-clause-stands
 returns-clause-stands g c =
-    let before = stands (world_state_of c.args.self.now) c.keeps_names.ensures.kept.listeners in
+    let before = c.keeps_names.ensures.stands in
     stands_led (world_state_of c.args.self.now) (world_state_of c.loop-names.self) _ before c.loop-names.invariant.leads
 
 pub returns-clause-few_pending : goal.returns-clause-few_pending
@@ -205,7 +204,7 @@ returns-clause-few_pending g c =
     let polls = c.loop-names.polls in
     let end = goes_end (at_rest (world_state_of c.args.self.now)) (at_rest (world_state_of c.loop-names.self)) polls.items names.items c.loop-names.invariant.goes
     (let a = names.ok.0 in let b = polls.ok.0 in omega (arith, a, b, c.loop-names-test.false)) in
-    let before = stands (world_state_of c.args.self.now) c.keeps_names.ensures.kept.listeners in
+    let before = c.keeps_names.ensures.stands in
     let rests = c.a_channel_at_rest_is_a_world.ensures.as_in_the_world in
     let pending = pending_at_rest (world_state_of c.args.self.now) before rests c.keeps_names.ensures.apart c.requires.quiet in
     let few = end.few in
@@ -241,4 +240,4 @@ returns-clause-sends g c =
     no_send_goes_on (world_state_of c.loop-names.self) (messages_at_rest (world_state_of c.loop-names.self) (returns-clause-stands g c) c.loop-names.invariant.quiet) end.rests.1
 
 pub returns-in_default-clause-stands : goal.returns-in_default-clause-stands
-returns-in_default-clause-stands g c = stands (world_state_of c.args.self.now) c.keeps_names.ensures.kept.listeners
+returns-in_default-clause-stands g c = c.keeps_names.ensures.stands

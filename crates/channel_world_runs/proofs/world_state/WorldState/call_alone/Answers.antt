@@ -1,7 +1,7 @@
 use Rattle.std.proofs.Common.{arith, Bool, List, length, drop, refl, ap, ◌∙◌}
 use Rattle.channel_world_runs.specs.Positions.{accepted_by}
 use Rattle.channel_world_model.specs.declared.name.Waiter.{Waiter}
-use Rattle.channel_world_runs.proofs.LoneFacts.{brings_within, no_agents, is_at_rest, is_called}
+use Rattle.channel_world_runs.proofs.LoneFacts.{brings_within, is_at_rest, is_called}
 use Rattle.channel_world_runs.proofs.OwnerBegins.{admitted}
 use Rattle.channel_world_runs.proofs.world_state.WorldState.call_alone.Goals as goal
 
@@ -10,22 +10,19 @@ begin-requires-2 g c = let a = admitted c.args.self.now.name_table c.args.call c
 
 pub run_alone-reply-requires : goal.run_alone-reply-requires
 run_alone-reply-requires g c =
-    let o = c.requires.owned in
-    record { at_rest = is_at_rest c.args.self.now o.configuration o.shown c.requires.quiet }
+    let o = c.requires.stands in
+    record { at_rest = is_at_rest c.args.self.now o.configuration o.stands.shown c.requires.quiet }
 
 pub returns-clause-ok : goal.returns-clause-ok
 returns-clause-ok g c =
     let b = c.in_ok-ask.ensures.ok in
-    let none = no_agents c.args.self.now c.requires.at_work c.requires.quiet in
     let full = c.run_alone-reply.new.sink.names.items in
     is_called c.args.call c.args.self.now
     (record {
       channel = c.run_alone-reply.new.channel;
-      parties = c.args.self.now.parties;
+      calls = c.args.self.now.calls;
       name_table = c.settle-2.new.self;
       order = c.settle.new.self;
-      agents = c.args.self.now.agents;
-      doings = c.args.self.now.doings;
       messages = c.run_alone-reply.new.messages;
       has_one_place = c.args.self.now.has_one_place;
       accepted = c.saturating_add-self.result;
@@ -37,14 +34,6 @@ returns-clause-ok g c =
     (c.accepted_by.ensures ∙ ap (λ (b : Bool). accepted_by b c.run_alone-reply.result.reply) c.brings-brings.ensures) c.saturating_add-self.ensures refl
     (ap (λ (ws : List Waiter). drop (length ws) full) c.in-Ok.ensures.none)
     (let start = ap (λ (ws : List Waiter). length ws) c.in-Ok.ensures.none in omega (arith, start, c.in-Ok.ensures.room))
-    c.requires.room refl
-    (rw (
-      c.settle-2.ensures,
-      c.settle.ensures,
-      c.wake_all.ensures,
-      c.wake_all-2.ensures,
-      b.on_return,
-      b.names,
-      c.in-Ok-begin.ensures.ok,
-      none,
-    ) refl)
+    c.requires.room
+    (rw (c.settle-2.ensures, c.wake_all.ensures, b.on_return, b.names) refl)
+    (rw (c.settle.ensures, c.wake_all-2.ensures, b.on_return, c.in-Ok-begin.ensures.ok) refl)

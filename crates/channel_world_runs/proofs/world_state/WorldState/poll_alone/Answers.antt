@@ -1,7 +1,7 @@
 use Rattle.std.proofs.Common.{arith, ◌≡◌, ◌-◌, Bool, drop, length, vec_len, vec_capacity, refl, ap, ◌∙◌}
 use Rattle.channel_world_model.specs.Settling.{poll_of}
 use Rattle.channel_world_runs.specs.Positions.{accepted_by}
-use Rattle.channel_world_runs.proofs.LoneFacts.{no_agents, is_at_rest, is_called}
+use Rattle.channel_world_runs.proofs.LoneFacts.{is_at_rest, is_called}
 use Rattle.channel_world_runs.proofs.NodeFacts.{is_ample}
 use Rattle.channel_world_runs.proofs.PollFacts.{Heard, names_heard}
 use Rattle.channel_world_runs.proofs.WokenPolls.{poll_keeps_order}
@@ -11,7 +11,7 @@ use Rattle.channel_world_runs.proofs.world_state.WorldState.poll_alone.Goals as 
 
 pub run_alone-reply-requires : goal.run_alone-reply-requires
 run_alone-reply-requires g c =
-    let o = c.requires.owned in record { at_rest = is_at_rest c.args.self.now o.configuration o.shown c.requires.quiet }
+    let o = c.requires.stands in record { at_rest = is_at_rest c.args.self.now o.configuration o.stands.shown c.requires.quiet }
 
 pub wake_from-requires : goal.wake_from-requires
 wake_from-requires g c =
@@ -21,7 +21,7 @@ wake_from-requires g c =
     names_heard (poll_of c.args.name) c.args.self.now c.begin_poll-ask.result.ask c.run_alone-reply.result empty
     c.run_alone-reply.new.sink (parts_of c.run_alone-reply.new.channel) c.run_alone-reply.new.messages
     (vec_capacity c.args.names - vec_len c.args.names) c.run_alone-reply.ensures.configurations c.begin_poll-ask.ensures.ask
-    c.requires.owned c.requires.quiet (omega (arith, start)) c.requires.room in
+    c.requires.stands c.requires.quiet (omega (arith, start)) c.requires.room in
     let fits = h.fits in omega (arith, fits, c.len-from.ensures)
 
 pub wake_from-requires-2 : goal.wake_from-requires-2
@@ -32,7 +32,7 @@ wake_from-requires-2 g c =
     names_heard (poll_of c.args.name) c.args.self.now c.begin_poll-ask.result.ask c.run_alone-reply.result empty
     c.run_alone-reply.new.sink (parts_of c.run_alone-reply.new.channel) c.run_alone-reply.new.messages
     (vec_capacity c.args.names - vec_len c.args.names) c.run_alone-reply.ensures.configurations c.begin_poll-ask.ensures.ask
-    c.requires.owned c.requires.quiet (omega (arith, start)) c.requires.room in
+    c.requires.stands c.requires.quiet (omega (arith, start)) c.requires.room in
     let fits = h.fits in omega (arith, fits, c.len-from.ensures)
 
 pub returns-clause-capacity : goal.returns-clause-capacity
@@ -43,7 +43,7 @@ returns-clause-capacity g c =
     names_heard (poll_of c.args.name) c.args.self.now c.begin_poll-ask.result.ask c.run_alone-reply.result empty
     c.run_alone-reply.new.sink (parts_of c.run_alone-reply.new.channel) c.run_alone-reply.new.messages
     (vec_capacity c.args.names - vec_len c.args.names) c.run_alone-reply.ensures.configurations c.begin_poll-ask.ensures.ask
-    c.requires.owned c.requires.quiet (omega (arith, start)) c.requires.room in
+    c.requires.stands c.requires.quiet (omega (arith, start)) c.requires.room in
     h.capacity
 
 pub returns-clause-polled : goal.returns-clause-polled
@@ -54,12 +54,11 @@ returns-clause-polled g c =
     names_heard (poll_of c.args.name) c.args.self.now c.begin_poll-ask.result.ask c.run_alone-reply.result empty
     c.run_alone-reply.new.sink (parts_of c.run_alone-reply.new.channel) c.run_alone-reply.new.messages
     (vec_capacity c.args.names - vec_len c.args.names) c.run_alone-reply.ensures.configurations c.begin_poll-ask.ensures.ask
-    c.requires.owned c.requires.quiet (omega (arith, start)) c.requires.room in
+    c.requires.stands c.requires.quiet (omega (arith, start)) c.requires.room in
     let old = c.args.self.now in
     let b = c.begin_poll-ask.ensures in
     let full = c.run_alone-reply.new.sink.names.items in
     let fresh = drop (length c.args.names.items) full in
-    let none = no_agents old c.requires.at_work c.requires.quiet in
     let from_is : c.len-from.result ≡ length c.args.names.items = c.len-from.ensures ∙ start in
     let stays = poll_keeps_order old.name_table old.order c.args.name c.requires.woken in
     record {
@@ -68,11 +67,9 @@ returns-clause-polled g c =
       called = is_called (poll_of c.args.name) old
           (record {
             channel = c.run_alone-reply.new.channel;
-            parties = old.parties;
+            calls = old.calls;
             name_table = c.settle-2.new.self;
             order = c.settle.new.self;
-            agents = old.agents;
-            doings = old.doings;
             messages = c.run_alone-reply.new.messages;
             has_one_place = old.has_one_place;
             accepted = c.saturating_add-self.result;
@@ -82,18 +79,9 @@ returns-clause-polled g c =
           (vec_capacity c.args.names - vec_len c.args.names) c.accepted_by.result c.run_alone-reply.ensures.configurations b.ask c.requires.quiet
           c.requires.quiet c.requires.limit
           (c.accepted_by.ensures ∙ ap (λ (b : Bool). accepted_by b c.run_alone-reply.result.reply) c.brings_polled-brings.ensures)
-          c.saturating_add-self.ensures refl refl (omega (arith, start)) c.requires.room refl
-          (rw (
-            c.settle-2.ensures,
-            c.settle.ensures,
-            c.wake_from.ensures,
-            c.wake_from-2.ensures,
-            from_is,
-            b.on_return,
-            b.names,
-            stays,
-            none,
-          ) refl);
+          c.saturating_add-self.ensures refl refl (omega (arith, start)) c.requires.room
+          (rw (c.settle-2.ensures, c.wake_from.ensures, from_is, b.on_return, b.names) refl)
+          (rw (c.settle.ensures, c.wake_from-2.ensures, from_is, b.on_return, stays) refl);
     }
 
 pub returns-clause-accepted : goal.returns-clause-accepted
@@ -104,5 +92,5 @@ returns-clause-accepted g c =
 
 pub returns-clause-ample : goal.returns-clause-ample
 returns-clause-ample g c =
-    is_ample c.args.self.now c.args.name c.begin_poll-ask.result.ask c.run_alone-reply.result.reply c.requires.owned c.requires.woken
+    is_ample c.args.self.now c.args.name c.begin_poll-ask.result.ask c.run_alone-reply.result.reply c.requires.stands c.requires.woken
     c.begin_poll-ask.ensures.ask c.run_alone-reply.ensures.ample

@@ -12,10 +12,9 @@ begin-requires-2 g c =
 
 pub returns-clause-ok : goal.returns-clause-ok
 returns-clause-ok g c =
-    let b = c.in_ok-ask.ensures.ok in
-    has_begun c.args.party c.args.call c.args.self.now _ _ c.begin-3.result
-    (rw (← c.have_room.ensures.parties, ← b.ask) c.begin-3.ensures.begins)
-    refl refl c.new.ensures.items refl
-    (rw (c.append-2.ensures, c.have_room.ensures.agents, ← b.on_return, b.names, c.in-Ok.ensures.ok) refl)
-    refl refl refl (rw (c.append.ensures, c.have_room.ensures.doings, c.begun.ensures, b.ask) refl)
+    let b = c.in_ok-begun.ensures.ok in
+    has_begun c.args.party c.args.call c.args.self.now _ _ c.begun.result
+    (rw (← b.ask) c.begun.ensures.begins) (rw (← b.on_return) c.begun.ensures.agent) (rw (← b.ask) c.begun.ensures.activity)
+    (rw (c.push_reserved.ensures.items, c.reserve.ensures.items) refl)
+    refl refl c.new.ensures.items refl b.names c.in-Ok.ensures.ok refl refl refl
     (c.if-not-has_position.ensures.enough refl) c.requires.accepted

@@ -1,6 +1,7 @@
 -- What is noted of the calls under way is what they are and have done, from one step to the next.
-use Rattle.std.proofs.Common.{arith, ◌≡◌, ℕ, suc, ◌+◌, ◌-◌, ◌^◌, ◌≤◌, min, Bool, true, false, ◌||◌, List, [], ◌∷◌, ◌++◌, map, length, slice_get, slice_set, Option, None, Some, refl, sym, ap, ◌∙◌, subst}
+use Rattle.std.proofs.Common.{arith, ◌≡◌, ℕ, ◌+◌, ◌-◌, ◌^◌, ◌≤◌, min, Bool, true, false, ◌||◌, List, [], ◌∷◌, ◌++◌, map, length, slice_get, slice_set, Option, None, Some, refl, sym, ap, ◌∙◌, subst}
 use Rattle.std.specs.List.{remove}
+use Rattle.std.proofs.lemmas.List.{length-map, map-append}
 use Rattle.channel_calls.specs.Moves.{Channel}
 use Rattle.channel_calls.specs.declared.ask.ChannelAsk.{ChannelAsk}
 use Rattle.channel_calls.specs.declared.mark.Mark.{Mark}
@@ -12,14 +13,14 @@ use Rattle.channel_steps.proofs.Interface.{messages_moved}
 use Rattle.channel_steps.specs.Count.{taken_out}
 use Rattle.channel_steps.specs.Moments.{MarkedMoment, with_marked}
 use Rattle.channel_steps.specs.Run.{Begins, call_begun}
-use Rattle.channel_steps.specs.Configuration.{ActiveCall, Configuration, Steps, IsBalanced, sees, does, unless_ended}
+use Rattle.channel_steps.specs.Configuration.{ActiveCall, Configuration, Steps, IsBalanced, after_step, sees, does, unless_ended}
 use Rattle.channel_steps.specs.Tellings.{takings, with_taking}
 use Rattle.channel_steps.specs.declared.party.Entry.{Entry}
 use Rattle.concurrent_queue.specs.Queue.{Phase}
-use Rattle.channel_world_runs.specs.Doing.{is_close, any_close, role_of, doing_begun, doing_after, doing_of, noted}
+use Rattle.channel_world_runs.specs.Activity.{is_close, any_close, role_of, activity_begun, activity_after, activity_of}
 use Rattle.channel_world_runs.specs.Owners.{All}
-use Rattle.channel_world_runs.specs.declared.doing.Doing.{Doing}
-use Rattle.channel_world_runs.specs.declared.doing.Role.{Role}
+use Rattle.channel_world_runs.specs.declared.activity.Activity.{Activity}
+use Rattle.channel_world_runs.specs.declared.activity.Role.{Role}
 use Rattle.channel_world_runs.proofs.OwnerTogether.{all_join, all_left, all_right}
 use Rattle.channel_world_runs.proofs.PositionFacts.{step_brings}
 
@@ -37,14 +38,6 @@ remove_there : {A : Type 0} (xs : List A) (y : A) (ys : List A) → remove (xs +
 remove_there [] y ys = refl
 remove_there (x ∷ xs) y ys = ap (λ zs. x ∷ zs) (remove_there xs y ys)
 
-map_both : {A B : Type 0} (f : A → B) (xs ys : List A) → map f (xs ++ ys) ≡ map f xs ++ map f ys
-map_both f [] ys = refl
-map_both f (x ∷ xs) ys = ap (λ zs. f x ∷ zs) (map_both f xs ys)
-
-map_long : {A B : Type 0} (f : A → B) (xs : List A) → length (map f xs) ≡ length xs
-map_long f [] = refl
-map_long f (x ∷ xs) = ap (λ (n : ℕ). suc n) (map_long f xs)
-
 -- ---- marks
 
 or_false : (b : Bool) → (b || false) ≡ b
@@ -59,11 +52,11 @@ or_assoc : (a b c : Bool) → (a || (b || c)) ≡ ((a || b) || c)
 or_assoc true b c = refl
 or_assoc false b c = refl
 
-same_doing : (r : Role) (b c : Bool) (m n : ℕ) → b ≡ c → m ≡ n
-    → (let x : Doing = record { role = r; has_closed = b; taken = m } in x) ≡ record { role = r; has_closed = c; taken = n }
-same_doing r b c m n e f =
-    ap (λ (y : Bool). let x : Doing = record { role = r; has_closed = y; taken = m } in x) e
-    ∙ ap (λ (y : ℕ). let x : Doing = record { role = r; has_closed = c; taken = y } in x) f
+same_activity : (r : Role) (b c : Bool) (m n : ℕ) → b ≡ c → m ≡ n
+    → (let x : Activity = record { role = r; has_closed = b; taken = m } in x) ≡ record { role = r; has_closed = c; taken = n }
+same_activity r b c m n e f =
+    ap (λ (y : Bool). let x : Activity = record { role = r; has_closed = y; taken = m } in x) e
+    ∙ ap (λ (y : ℕ). let x : Activity = record { role = r; has_closed = c; taken = y } in x) f
 
 taking_more : (m : Mark) (n k : ℕ) → with_taking m (n + k) ≡ with_taking m n + k
 taking_more mark.Take n k = omega arith
@@ -79,12 +72,12 @@ at_most n = min n (2 ^ 64 - 1)
 
 -- what is noted after a step with this mark
 noted_so : (r : Role) (b : Bool) (n : ℕ) (m : Mark)
-    → doing_after m (record { role = r; has_closed = b; taken = at_most n })
+    → activity_after m (record { role = r; has_closed = b; taken = at_most n })
     ≡ record { role = r; has_closed = b || is_close m; taken = at_most (n + with_taking m 0) }
-noted_so r b n mark.Close = same_doing r true (b || true) (at_most n) (at_most (n + 0)) (sym (or_true b)) (omega arith)
+noted_so r b n mark.Close = same_activity r true (b || true) (at_most n) (at_most (n + 0)) (sym (or_true b)) (omega arith)
 noted_so r b n mark.Take =
-    same_doing r b (b || false) (min (at_most n + 1) (2 ^ 64 - 1)) (at_most (n + 1)) (sym (or_false b)) (omega arith)
-noted_so r b n m = same_doing r b (b || false) (at_most n) (at_most (n + 0)) (sym (or_false b)) (omega arith)
+    same_activity r b (b || false) (min (at_most n + 1) (2 ^ 64 - 1)) (at_most (n + 1)) (sym (or_false b)) (omega arith)
+noted_so r b n m = same_activity r b (b || false) (at_most n) (at_most (n + 0)) (sym (or_false b)) (omega arith)
 
 module _ {T W : Type 0} where
   close_more : (ds : List (MarkedMoment T W)) (d : MarkedMoment T W) → any_close (ds ++ (d ∷ [])) ≡ (any_close ds || is_close d.mark)
@@ -109,16 +102,16 @@ module _ {T W : Type 0} where
   close_by ds m c seen = close_more ds (record { mark = m; before = c; seen = seen })
 
   does_noted : (u : ActiveCall T W) (at : Stage (Phase T) T W) (m : Mark) (c d : Channel T W)
-      → doing_after m (doing_of u) ≡ doing_of (does u at m c d)
+      → activity_after m (activity_of u) ≡ activity_of (does u at m c d)
   does_noted u at m c d =
       noted_so (role_of u.ask) (any_close u.marks) (takings u.marks) m
-      ∙ same_doing (role_of u.ask) _ _ _ _ (sym (close_by u.marks m c u.seen))
+      ∙ same_activity (role_of u.ask) _ _ _ _ (sym (close_by u.marks m c u.seen))
       (ap (λ (n : ℕ). at_most n) (sym (takings_by u.marks m c u.seen)))
 
   -- others only see a step
-  seen_same : (c : Channel T W) (us : List (ActiveCall T W)) → map doing_of (map (sees c) us) ≡ map doing_of us
+  seen_same : (c : Channel T W) (us : List (ActiveCall T W)) → map activity_of (map (sees c) us) ≡ map activity_of us
   seen_same c [] = refl
-  seen_same c (u ∷ us) = ap (λ (ds : List Doing). doing_of u ∷ ds) (seen_same c us)
+  seen_same c (u ∷ us) = ap (λ (ds : List Activity). activity_of u ∷ ds) (seen_same c us)
 
 module _ {T : Type 0} where
   -- none has taken more than were removed
@@ -131,11 +124,11 @@ module _ {T : Type 0} where
 
   -- ---- a call begins
 
-  pub begun_noted : (s : Configuration T Waiter) (p : ℕ) (a : ChannelAsk T Waiter) (e : Entry T) (t : Configuration T Waiter) (doings : List Doing)
-      → Begins s p a e t → doings ≡ map doing_of s.under_way → doings ++ (doing_begun a ∷ []) ≡ map doing_of t.under_way
-  begun_noted s p a e t doings b same =
-      ap (λ (ds : List Doing). ds ++ (doing_begun a ∷ [])) same
-      ∙ (sym (map_both doing_of s.under_way (call_begun p a b.at s.now ∷ [])) ∙ ap (λ (us : List (ActiveCall T Waiter)). map doing_of us) (sym b.under_way))
+  pub begun_noted : (s : Configuration T Waiter) (p : ℕ) (a : ChannelAsk T Waiter) (e : Entry T) (t : Configuration T Waiter) (activities : List Activity)
+      → Begins s p a e t → activities ≡ map activity_of s.under_way → activities ++ (activity_begun a ∷ []) ≡ map activity_of t.under_way
+  begun_noted s p a e t activities b same =
+      ap (λ (ds : List Activity). ds ++ (activity_begun a ∷ [])) same
+      ∙ (sym (map-append activity_of s.under_way (call_begun p a b.at s.now ∷ [])) ∙ ap (λ (us : List (ActiveCall T Waiter)). map activity_of us) (sym b.under_way))
 
   pub begun_few : (s : Configuration T Waiter) (p : ℕ) (a : ChannelAsk T Waiter) (e : Entry T) (t : Configuration T Waiter) → Begins s p a e t
       → All (TookFew s.now.queue.removed) s.under_way → All (TookFew t.now.queue.removed) t.under_way
@@ -185,43 +178,42 @@ module _ {T : Type 0} where
       (all_join (TookFew k) (unless_ended (does n.mine n.at_now e.mark s.now t.now) e.reply) (map (sees t.now) n.behind) own behind))
 
   now_is : (s : Configuration T Waiter) (p : ℕ) (e : Entry T) (names : List Waiter) (t : Configuration T Waiter) (n : Steps s p e names t)
-      → map doing_of t.under_way
-      ≡ map doing_of n.before ++ (map doing_of (unless_ended (does n.mine n.at_now e.mark s.now t.now) e.reply) ++ map doing_of n.behind)
+      → map activity_of t.under_way
+      ≡ map activity_of n.before ++ (map activity_of (unless_ended (does n.mine n.at_now e.mark s.now t.now) e.reply) ++ map activity_of n.behind)
   now_is s p e names t n =
       let own = unless_ended (does n.mine n.at_now e.mark s.now t.now) e.reply in
-      ap (λ (us : List (ActiveCall T Waiter)). map doing_of us) n.left
-      ∙ (map_both doing_of (map (sees t.now) n.before) (own ++ map (sees t.now) n.behind)
-      ∙ (ap (λ (ds : List Doing). ds ++ map doing_of (own ++ map (sees t.now) n.behind)) (seen_same t.now n.before)
-      ∙ ap (λ (ds : List Doing). map doing_of n.before ++ ds)
-      (map_both doing_of own (map (sees t.now) n.behind) ∙ ap (λ (ds : List Doing). map doing_of own ++ ds) (seen_same t.now n.behind))))
+      ap (λ (us : List (ActiveCall T Waiter)). map activity_of us) n.left
+      ∙ (map-append activity_of (map (sees t.now) n.before) (own ++ map (sees t.now) n.behind)
+      ∙ (ap (λ (ds : List Activity). ds ++ map activity_of (own ++ map (sees t.now) n.behind)) (seen_same t.now n.before)
+      ∙ ap (λ (ds : List Activity). map activity_of n.before ++ ds)
+      (map-append activity_of own (map (sees t.now) n.behind) ∙ ap (λ (ds : List Activity). map activity_of own ++ ds) (seen_same t.now n.behind))))
 
   was : (s : Configuration T Waiter) (p : ℕ) (e : Entry T) (names : List Waiter) (t : Configuration T Waiter) (n : Steps s p e names t)
-      → map doing_of s.under_way ≡ map doing_of n.before ++ (doing_of n.mine ∷ map doing_of n.behind)
+      → map activity_of s.under_way ≡ map activity_of n.before ++ (activity_of n.mine ∷ map activity_of n.behind)
   was s p e names t n =
-      ap (λ (us : List (ActiveCall T Waiter)). map doing_of us) n.there ∙ map_both doing_of n.before (n.mine ∷ n.behind)
+      ap (λ (us : List (ActiveCall T Waiter)). map activity_of us) n.there ∙ map-append activity_of n.before (n.mine ∷ n.behind)
 
-  pub stepped_at : (s : Configuration T Waiter) (p : ℕ) (e : Entry T) (names : List Waiter) (t : Configuration T Waiter) (n : Steps s p e names t) (k : ℕ)
-      → length n.before ≡ k → slice_get (map doing_of s.under_way) k ≡ Some (doing_of n.mine)
-  stepped_at s p e names t n k place =
-      let long = map_long doing_of n.before in
-      ap (λ (ds : List Doing). slice_get ds k) (was s p e names t n)
-      ∙ (ap (λ (i : ℕ). slice_get (map doing_of n.before ++ (doing_of n.mine ∷ map doing_of n.behind)) i) (sym (long ∙ place))
-      ∙ there (map doing_of n.before) (doing_of n.mine) (map doing_of n.behind))
+  noted_parts : (before : List Activity) (d d' : Activity) (behind : List Activity) (r : Option (Reply T)) (u : ActiveCall T Waiter) → d' ≡ activity_of u
+      → after_step (before ++ (d ∷ behind)) (length before) d' r ≡ before ++ (map activity_of (unless_ended u r) ++ behind)
+  noted_parts before d d' behind None u e = set_there before d behind d' ∙ ap (λ (x : Activity). before ++ (x ∷ behind)) e
+  noted_parts before d d' behind (Some r) u e = remove_there before d behind
 
-  noted_parts : (before : List Doing) (d d' : Doing) (behind : List Doing) (m : Mark) (r : Option (Reply T)) (u : ActiveCall T Waiter)
-      → doing_after m d ≡ d' → doing_of u ≡ d'
-      → noted (length before) d m r (before ++ (d ∷ behind)) ≡ before ++ (map doing_of (unless_ended u r) ++ behind)
-  noted_parts before d d' behind m None u e f =
-      set_there before d behind (doing_after m d) ∙ ap (λ (x : Doing). before ++ (x ∷ behind)) (e ∙ sym f)
-  noted_parts before d d' behind m (Some r) u e f = remove_there before d behind
-
+  -- what is noted of the k-th is of the call that makes the step, and so it is after it
   pub stepped_noted : (s : Configuration T Waiter) (p : ℕ) (e : Entry T) (names : List Waiter) (t : Configuration T Waiter) (n : Steps s p e names t) (k : ℕ)
-      → length n.before ≡ k → noted k (doing_of n.mine) e.mark e.reply (map doing_of s.under_way) ≡ map doing_of t.under_way
-  stepped_noted s p e names t n k place =
-      let after = does n.mine n.at_now e.mark s.now t.now in
-      ap (λ (ds : List Doing). noted k (doing_of n.mine) e.mark e.reply ds) (was s p e names t n)
-      ∙ (ap (λ (i : ℕ). noted i (doing_of n.mine) e.mark e.reply (map doing_of n.before ++ (doing_of n.mine ∷ map doing_of n.behind)))
-      (sym (map_long doing_of n.before ∙ place))
-      ∙ (noted_parts (map doing_of n.before) (doing_of n.mine) (doing_of after) (map doing_of n.behind) e.mark e.reply after
-      (does_noted n.mine n.at_now e.mark s.now t.now) refl
-      ∙ sym (now_is s p e names t n)))
+      → length n.before ≡ k → (ds : List Activity) (d d' : Activity) → ds ≡ map activity_of s.under_way → slice_get ds k ≡ Some d → d' ≡ activity_after e.mark d
+      → after_step ds k d' e.reply ≡ map activity_of t.under_way
+  stepped_noted s p e names t n k place ds d d' noted at_k after =
+      let u : ActiveCall T Waiter = does n.mine n.at_now e.mark s.now t.now in
+      let front = map activity_of n.before in
+      let behind = map activity_of n.behind in
+      let long : length front ≡ k = length-map n.before activity_of ∙ place in
+      let are : ds ≡ front ++ (activity_of n.mine ∷ behind) = noted ∙ was s p e names t n in
+      let here : slice_get ds k ≡ Some (activity_of n.mine) =
+      ap (λ (xs : List Activity). slice_get xs k) are
+      ∙ (ap (λ (i : ℕ). slice_get (front ++ (activity_of n.mine ∷ behind)) i) (sym long) ∙ there front (activity_of n.mine) behind) in
+      let same : Some d ≡ Some (activity_of n.mine) = sym at_k ∙ here in
+      let mine : d ≡ activity_of n.mine = cc same in
+      let next : d' ≡ activity_of u = after ∙ (ap (activity_after e.mark) mine ∙ does_noted n.mine n.at_now e.mark s.now t.now) in
+      ap (λ (xs : List Activity). after_step xs k d' e.reply) are
+      ∙ (ap (λ (i : ℕ). after_step (front ++ (activity_of n.mine ∷ behind)) i d' e.reply) (sym long)
+      ∙ (noted_parts front (activity_of n.mine) d' behind e.reply u next ∙ sym (now_is s p e names t n)))

@@ -1,8 +1,7 @@
-//! What the calls under way are to those who wait, and what they have done so far.
+//! What calls under way are to those who wait, and what they have done so far.
 
 use channel_calls::ask::ChannelAsk;
 use channel_calls::mark::Mark;
-use channel_calls::reply::Reply;
 use channel_calls::stage::WaitList;
 
 /// What a call is to those who wait.
@@ -16,9 +15,9 @@ pub enum Role {
     Other,
 }
 
-/// A call under way.
+/// What a call under way is to those who wait, and what it has done.
 #[derive(Clone, Copy, Debug, PartialEq, Eq)]
-pub struct Doing {
+pub struct Activity {
     /// What it is.
     pub role: Role,
     /// Whether it has closed the channel.
@@ -27,13 +26,13 @@ pub struct Doing {
     pub taken: u64,
 }
 
-impl Doing {
+impl Activity {
     ghost use Rattle.std.specs.Prelude.{◌≡◌};
-    ghost use Rattle.channel_world_runs.specs.Doing.{role_of, doing_begun, doing_after};
+    ghost use Rattle.channel_world_runs.specs.Activity.{role_of, activity_begun, activity_after};
 
     /// A call that has made no step.
-    pub(crate) fn begun<T, W>(ask: &ChannelAsk<T, W>) -> Doing
-        ensures { result ≡ doing_begun ask.now }
+    pub(crate) fn begun<T, W>(ask: &ChannelAsk<T, W>) -> Activity
+        ensures { result ≡ activity_begun ask.now }
     {
         let role = match ask {
             ChannelAsk::TrySend(_)
@@ -50,7 +49,7 @@ impl Doing {
             | ChannelAsk::GiveUp(WaitList::Receives, _, _) => Role::Receiving,
             _ => Role::Other,
         };
-        Doing {
+        Activity {
             role,
             has_closed: false,
             taken: 0,
@@ -58,38 +57,19 @@ impl Doing {
     }
 
     /// The same call after a step with this mark.
-    fn after(self, mark: Mark) -> Doing
-        ensures { result ≡ doing_after mark self }
+    pub(crate) fn after(self, mark: Mark) -> Activity
+        ensures { result ≡ activity_after mark self }
     {
         match mark {
-            Mark::Close => Doing {
+            Mark::Close => Activity {
                 has_closed: true,
                 ..self
             },
-            Mark::Take => Doing {
+            Mark::Take => Activity {
                 taken: self.taken.saturating_add(1),
                 ..self
             },
             _ => self,
         }
-    }
-}
-
-ghost use Rattle.std.specs.Prelude.{◌≡◌, slice_get, Some};
-ghost use Rattle.channel_world_runs.specs.Doing.{noted};
-ghost use Rattle.channel_world_runs.specs.declared.doing.Doing.{Doing};
-
-/// The k-th call has made a step with this mark; it is under way no more, if it has answered.
-pub(crate) fn note<T>(doings: &mut Vec<Doing>, k: usize, mark: Mark, reply: &Option<Reply<T>>)
-    ensures { (d : Doing) → slice_get doings.old.items k ≡ Some d
-        → doings.new.items ≡ noted k d mark reply.now doings.old.items }
-{
-    if k >= doings.len() {
-        return;
-    }
-    if reply.is_some() {
-        doings.remove(k);
-    } else {
-        doings[k] = doings[k].after(mark);
     }
 }
