@@ -100,7 +100,7 @@ where
 
 /// The size of a crowd for which so many messages of each sender are asked for, and so many threads. These are two at least, of which no
 /// more receive than send.
-pub fn size_of(messages: Option<u64>, threads: Option<u64>) -> Size {
+pub fn crowd_size(messages: Option<u64>, threads: Option<u64>) -> Size {
     let threads = threads.unwrap_or(THREADS).max(2) as usize;
     let receivers = threads / 2;
     Size {

@@ -18,18 +18,18 @@ const HISTORIES: u64 = 1_000;
 
 const SEED: u64 = 20_261_123;
 
-/// Which histories are asked for.
+/// How many histories of each form are asked for, of how many threads, and the seed of the first.
 #[derive(Clone, Copy)]
-pub struct Asked {
+pub struct Amount {
     histories: u64,
     threads: Option<u64>,
     seed: u64,
 }
 
-impl Asked {
+impl Amount {
     /// So many of each form, of so many threads, the first of this seed.
-    pub fn new(histories: Option<u64>, threads: Option<u64>, seed: Option<u64>) -> Asked {
-        Asked {
+    pub fn new(histories: Option<u64>, threads: Option<u64>, seed: Option<u64>) -> Amount {
+        Amount {
             histories: histories.unwrap_or(HISTORIES),
             threads,
             seed: seed.unwrap_or(SEED),
@@ -161,13 +161,13 @@ where
 }
 
 /// All histories over this. Whether each fits; the first that doesn't is printed.
-fn check<R>(rt: R, alloc: Global, over: Over, name: &str, asked: Asked) -> io::Result<bool>
+fn check<R>(rt: R, alloc: Global, over: Over, name: &str, amount: Amount) -> io::Result<bool>
 where
     R: Runtime + Print + 'static,
 {
-    for number in 0..asked.histories {
-        let seed = asked.seed.wrapping_add(number);
-        let threads = asked.threads(number);
+    for number in 0..amount.histories {
+        let seed = amount.seed.wrapping_add(number);
+        let threads = amount.threads(number);
         if !check_one(rt, alloc, over, threads, seed)? {
             println!(&rt; "{name}: seed {seed}, {threads} threads")?;
             return Ok(false);
@@ -177,12 +177,12 @@ where
 }
 
 /// All histories of each kind. Whether each fits; what was found is printed.
-pub fn fit<R: Runtime + Print + 'static>(rt: R, alloc: Global, asked: Asked) -> io::Result<bool> {
+pub fn fit<R: Runtime + Print + 'static>(rt: R, alloc: Global, amount: Amount) -> io::Result<bool> {
     for (over, name, what) in &KINDS {
-        if !check(rt, alloc, *over, name, asked)? {
+        if !check(rt, alloc, *over, name, amount)? {
             return Ok(false);
         }
-        let histories = asked.histories;
+        let histories = amount.histories;
         println!(&rt; "{name}: {histories} {what} fit")?;
     }
     Ok(true)

@@ -29,8 +29,8 @@ mod referee;
 mod tries;
 
 use crate::crowds::crowd::Size;
-use crate::crowds::{hold, print_times, size_of};
-use crate::histories::fit;
+use crate::crowds::{crowd_size, hold, print_times};
+use crate::histories::{Amount, fit};
 use async_channel::Runtime;
 use std::alloc::Global;
 use std::env::Env;
@@ -43,7 +43,7 @@ enum Asked {
     /// All, as the gate has it.
     All,
     /// Histories.
-    Histories(histories::Asked),
+    Histories(Amount),
     /// Crowds of this size.
     Crowds(Size),
     /// How long it takes to wake one of many.
@@ -61,9 +61,9 @@ fn read(first: Option<String>, second: Option<String>, third: Option<String>) ->
         return Asked::All;
     };
     match word.as_str() {
-        "crowds" => Asked::Crowds(size_of(number(&second), number(&third))),
+        "crowds" => Asked::Crowds(crowd_size(number(&second), number(&third))),
         "times" => Asked::Times,
-        _ => Asked::Histories(histories::Asked::new(number(&first), number(&second), number(&third))),
+        _ => Asked::Histories(Amount::new(number(&first), number(&second), number(&third))),
     }
 }
 
@@ -77,8 +77,8 @@ fn read_words<R: Env + Alloc<A = Global>>(rt: &R) -> io::Result<Asked> {
 
 /// Makes all that the gate makes. Whether nothing is wrong.
 fn run_all<R: Runtime + Print + 'static>(rt: R, alloc: Global) -> io::Result<bool> {
-    if fit(rt, alloc, histories::Asked::new(None, None, None))? {
-        hold(rt, alloc, size_of(None, None))
+    if fit(rt, alloc, Amount::new(None, None, None))? {
+        hold(rt, alloc, crowd_size(None, None))
     } else {
         Ok(false)
     }
@@ -87,7 +87,7 @@ fn run_all<R: Runtime + Print + 'static>(rt: R, alloc: Global) -> io::Result<boo
 fn main(rt: HostRuntime) -> io::Result<ExitCode> {
     let is_well = match read_words(&rt)? {
         Asked::All => run_all(rt, rt.alloc())?,
-        Asked::Histories(asked) => fit(rt, rt.alloc(), asked)?,
+        Asked::Histories(amount) => fit(rt, rt.alloc(), amount)?,
         Asked::Crowds(size) => hold(rt, rt.alloc(), size)?,
         Asked::Times => {
             print_times(rt, rt.alloc())?;
