@@ -43,7 +43,7 @@ BODIES = {
     "a receive gives a message and leaves it in the queue": [],
     "a recorded call invents a receipt and stores no entry": [],
     "a recorded channel hands out another reply than it stored": [
-        "history_tests/every_receipt_stands_in_the_record",
+        "channel_world_tests/every_receipt_stands_in_the_record",
     ],
     "each growth is answered as refused: of a push, a listener, an opening, a settling, a record": [
         "concurrent_queue_tests/a_walk_gives_the_messages_in_order",

@@ -16,14 +16,15 @@ OUT = f"{program.HERE}/out"
 SECONDS = 60
 # A run takes much less than a second of processor time, and ends by itself where it has made too many points.
 HANGS = 300
-# The words of a program's run: for a seed, sizes that vary, so that few threads and many have their turn. Histories are of two and of
-# three threads: where four or more overlap as they do here, now and then there are too many orders for the judge to decide.
+# The words of a run of a program, or of a part of it: for a seed, sizes that vary, so that few threads and many have their turn. Histories
+# are of two and of three threads: where four or more overlap as they do here, now and then there are too many orders for the judge to
+# decide.
 WORDS = {
-    "channel_histories": lambda seed: [20, 2 + seed % 2, seed * 1000],
-    "channel_stress": lambda seed: [1 + seed % 4, 2 + seed // 4 % 5],
+    ("channel_histories", ""): lambda seed: [20, 2 + seed % 2, seed * 1000],
+    ("channel_histories", "crowds"): lambda seed: ["crowds", 1 + seed % 4, 2 + seed // 4 % 5],
 }
 COUNTS = ("rounds", "points", "switches", "timed out", "for no reason")
-Asked = collections.namedtuple("Asked", "seed seconds runs words threads", defaults=[None])
+Asked = collections.namedtuple("Asked", "seed seconds runs words threads part", defaults=[None, ""])
 Run = collections.namedtuple("Run", "seed words status said counts")
 
 
@@ -87,19 +88,20 @@ def seconds_used():
     return used.ru_utime + used.ru_stime
 
 
-def words_of(path, seed):
-    """The words of a run with this seed; for a crate's tests, the name of one of them."""
-    name = os.path.basename(path)
-    if name in WORDS:
-        return [str(it) for it in WORDS[name](seed)]
-    tests = tests_of(path)
+def words_of(path, part, seed):
+    """The words of a run with this seed; for a crate's tests, the name of one of them that begins with the part."""
+    words = WORDS.get((os.path.basename(path), part))
+    if words:
+        return [str(it) for it in words(seed)]
+    tests = tests_of(path, part)
     return [tests[seed % len(tests)]]
 
 
 @functools.lru_cache(maxsize=None)
-def tests_of(path):
+def tests_of(path, part):
     listed = subprocess.run([path, "--list"], stdout=subprocess.PIPE, stderr=subprocess.DEVNULL, text=True, check=False).stdout
-    return [line.partition(": ")[0] for line in listed.splitlines() if line.endswith(": test")] or [""]
+    names = [line.partition(": ")[0] for line in listed.splitlines() if line.endswith(": test")]
+    return [name for name in names if name.startswith(part)] or [""]
 
 
 def search(path, asked):
@@ -107,7 +109,7 @@ def search(path, asked):
     begin, totals, runs, wrong = seconds_used(), [0] * len(COUNTS), 0, None
     while not wrong and (runs < asked.runs if asked.runs else seconds_used() - begin < asked.seconds):
         seed = asked.seed + runs
-        words = asked.words or words_of(path, seed)
+        words = asked.words or words_of(path, asked.part, seed)
         ran = run_once(path, seed, words, asked.threads)
         runs += 1
         totals = [total + it for total, it in zip(totals, ran.counts)]

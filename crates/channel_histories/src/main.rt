@@ -1,18 +1,22 @@
-//! Random histories of calls that threads make on the handles of one channel, and on one shared queue: each is checked for
-//! being one of a plain channel that can be closed, in some order in which no call that had ended comes after one that began
-//! later. Others are made on one event, with timed waits: each notice that was counted as told is taken. A run in which nothing
-//! moves any more is ended, and says how its threads stand.
-//! `channel_histories HISTORIES THREADS SEED`; without words a thousand of each form, of three and four threads.
+//! Handles under attack by threads: random histories of calls, each checked for being one of a plain channel (`histories`), and
+//! crowds of threads whose messages are counted (`crowds`).
+//!
+//! Without words a thousand histories of each form are made, of three and four threads, and then the crowds.
+//! `channel_histories HISTORIES THREADS SEED` makes so many histories alone. `channel_histories crowds MESSAGES THREADS` makes the
+//! crowds alone, where each sender has so many messages, and which are of so many threads; `channel_histories times` says how long it
+//! takes to wake one of many.
 #![tactic(auto)]
 
 mod acts;
 mod answers;
 mod clones;
 mod crew;
+mod crowds;
 mod events;
 mod form;
 mod gate;
 mod handles;
+mod histories;
 mod job;
 mod leaving;
 mod operations;
@@ -24,198 +28,75 @@ mod random;
 mod referee;
 mod tries;
 
-use crate::crew::{Failure, Outcome};
-use crate::events::{Tally, over_event};
-use crate::form::Form;
-use crate::handles::over_handles;
-use crate::queue::over_queue;
+use crate::crowds::crowd::Size;
+use crate::crowds::{crowd_size, hold, print_times};
+use crate::histories::{Amount, fit};
 use async_channel::Runtime;
-use history_checker::history::History;
 use std::alloc::Global;
 use std::env::Env;
 use std::process::ExitCode;
 use std::{env, io};
 
-/// How many histories each form has, and the seed of the first one; each later one has the next seed.
-const HISTORIES: u64 = 1_000;
-
-const SEED: u64 = 20_261_123;
-
 /// What the program is asked for.
 #[derive(Clone, Copy)]
-struct Asked {
-    histories: u64,
-    threads: Option<u64>,
-    seed: u64,
-}
-
-impl Asked {
-    /// How many threads the history of this number has: three or four, unless a number was asked for.
-    fn threads(self, number: u64) -> usize {
-        match self.threads {
-            Some(threads) => threads as usize,
-            None if number % 2 == 0 => 3,
-            None => 4,
-        }
-    }
-}
-
-/// What the histories are over.
-#[derive(Clone, Copy)]
-enum Over {
-    Handles(Form),
-    Queue(Form),
-    Event,
-}
-
-/// Each kind of history, with its name, and what its histories are called.
-static KINDS: [(Over, &str, &str); 7] = [
-    (
-        Over::Handles(Form::OneSlot),
-        "handles, one slot",
-        "histories",
-    ),
-    (
-        Over::Handles(Form::RingOfThree),
-        "handles, ring of 3",
-        "histories",
-    ),
-    (
-        Over::Handles(Form::Unbounded),
-        "handles, unbounded",
-        "histories",
-    ),
-    (
-        Over::Queue(Form::OneSlot),
-        "shared queue, one slot",
-        "histories",
-    ),
-    (
-        Over::Queue(Form::RingOfThree),
-        "shared queue, ring of 3",
-        "histories",
-    ),
-    (
-        Over::Queue(Form::Unbounded),
-        "shared queue, unbounded",
-        "histories",
-    ),
-    (Over::Event, "event", "histories of timed waits"),
-];
-
-/// Whether this history fits; what is wrong with it is printed.
-fn fits<R: Print>(rt: &R, alloc: Global, history: &History) -> io::Result<bool> {
-    match history.fault(alloc) {
-        None => Ok(true),
-        Some(fault) => {
-            println!(rt; "{fault:?}:")?;
-            history.print(rt)?;
-            Ok(false)
-        }
-    }
-}
-
-/// Says why there is no history.
-fn print_failure<R: Print>(rt: &R, failure: Failure) -> io::Result<()> {
-    match failure {
-        Failure::Memory => println!(rt; "want of memory"),
-        Failure::Thread => println!(rt; "want of threads"),
-        Failure::Still(standings) => {
-            println!(rt; "nothing moves any more")?;
-            for (thread, standing) in standings.iter().enumerate() {
-                println!(rt; "thread {thread}: {standing:?}")?;
-            }
-            Ok(())
-        }
-    }
-}
-
-/// Whether this history of calls fits. What is wrong with it, or why there is none, is printed.
-fn fits_outcome<R: Print>(rt: &R, alloc: Global, outcome: Outcome) -> io::Result<bool> {
-    match outcome {
-        Ok(history) => fits(rt, alloc, &history),
-        Err(failure) => {
-            print_failure(rt, failure)?;
-            Ok(false)
-        }
-    }
-}
-
-/// Whether each notice of this history was taken. What is wrong with it, or why there is none, is printed.
-fn took_all<R: Print>(rt: &R, outcome: Result<Tally, Failure>) -> io::Result<bool> {
-    match outcome {
-        Ok(tally) if tally.is_right() => Ok(true),
-        Ok(tally) => {
-            println!(rt; "{tally:?}")?;
-            Ok(false)
-        }
-        Err(failure) => {
-            print_failure(rt, failure)?;
-            Ok(false)
-        }
-    }
-}
-
-/// The history of this seed. Whether it fits.
-fn check_one<R>(rt: R, alloc: Global, over: Over, threads: usize, seed: u64) -> io::Result<bool>
-where
-    R: Runtime + Print + 'static,
-{
-    match over {
-        Over::Handles(form) => {
-            let outcome = over_handles(rt, alloc, form, threads, seed);
-            fits_outcome(&rt, alloc, outcome)
-        }
-        Over::Queue(form) => {
-            let outcome = over_queue(rt, alloc, form, threads, seed);
-            fits_outcome(&rt, alloc, outcome)
-        }
-        Over::Event => took_all(&rt, over_event(rt, alloc, threads, seed)),
-    }
-}
-
-/// All histories over this. Whether each fits; the first that doesn't is printed.
-fn check<R>(rt: R, alloc: Global, over: Over, name: &str, asked: Asked) -> io::Result<bool>
-where
-    R: Runtime + Print + 'static,
-{
-    for number in 0..asked.histories {
-        let seed = asked.seed.wrapping_add(number);
-        let threads = asked.threads(number);
-        if !check_one(rt, alloc, over, threads, seed)? {
-            println!(&rt; "{name}: seed {seed}, {threads} threads")?;
-            return Ok(false);
-        }
-    }
-    Ok(true)
+enum Asked {
+    /// All, as the gate has it.
+    All,
+    /// Histories.
+    Histories(Amount),
+    /// Crowds of this size.
+    Crowds(Size),
+    /// How long it takes to wake one of many.
+    Times,
 }
 
 /// The number that a word says, if it says one.
-fn number(word: Option<String>) -> Option<u64> {
-    word?.as_str().parse::<u64>().ok()
+fn number(word: &Option<String>) -> Option<u64> {
+    word.as_ref()?.as_str().parse::<u64>().ok()
 }
 
-/// What the words ask for.
+/// What these words ask for.
+fn read(first: Option<String>, second: Option<String>, third: Option<String>) -> Asked {
+    let Some(word) = &first else {
+        return Asked::All;
+    };
+    match word.as_str() {
+        "crowds" => Asked::Crowds(crowd_size(number(&second), number(&third))),
+        "times" => Asked::Times,
+        _ => Asked::Histories(Amount::new(number(&first), number(&second), number(&third))),
+    }
+}
+
+/// What the words of the command line ask for.
 fn read_words<R: Env + Alloc<A = Global>>(rt: &R) -> io::Result<Asked> {
     let mut words = env::args(rt)?.skip(1);
-    let histories = number(words.next());
-    let threads = number(words.next());
-    let seed = number(words.next());
-    Ok(Asked {
-        histories: histories.unwrap_or(HISTORIES),
-        threads,
-        seed: seed.unwrap_or(SEED),
-    })
+    let (first, second, third) = (words.next(), words.next(), words.next());
+    drop(words);
+    Ok(read(first, second, third))
+}
+
+/// Makes all that the gate makes. Whether nothing is wrong.
+fn run_all<R: Runtime + Print + 'static>(rt: R, alloc: Global) -> io::Result<bool> {
+    if fit(rt, alloc, Amount::new(None, None, None))? {
+        hold(rt, alloc, crowd_size(None, None))
+    } else {
+        Ok(false)
+    }
 }
 
 fn main(rt: HostRuntime) -> io::Result<ExitCode> {
-    let asked = read_words(&rt)?;
-    for (over, name, what) in &KINDS {
-        if !check(rt, rt.alloc(), *over, name, asked)? {
-            return Ok(ExitCode::FAILURE);
+    let is_well = match read_words(&rt)? {
+        Asked::All => run_all(rt, rt.alloc())?,
+        Asked::Histories(amount) => fit(rt, rt.alloc(), amount)?,
+        Asked::Crowds(size) => hold(rt, rt.alloc(), size)?,
+        Asked::Times => {
+            print_times(rt, rt.alloc())?;
+            true
         }
-        let histories = asked.histories;
-        println!(&rt; "{name}: {histories} {what} fit")?;
-    }
-    Ok(ExitCode::SUCCESS)
+    };
+    Ok(if is_well {
+        ExitCode::SUCCESS
+    } else {
+        ExitCode::FAILURE
+    })
 }

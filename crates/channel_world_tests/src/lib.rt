@@ -1,6 +1,6 @@
 //! Tests of `channel_world`, of what no contract says: that calls are answered while there is memory, what worked rows come to,
-//! worked interleavings with the steps that each call takes, and the texts of refusals. A crate of their own, so that what they prove
-//! is proved once.
+//! worked interleavings with the steps that each call takes, and the texts of refusals. Those of recorded channels are in `recorded`,
+//! between threads too. A crate of their own, so that what they prove is proved once.
 #![tactic(auto)]
 
 #[cfg(test)]
@@ -22,6 +22,8 @@ mod many_rows;
 mod openings;
 #[cfg(test)]
 mod printed;
+#[cfg(test)]
+mod recorded;
 #[cfg(test)]
 mod refusals;
 #[cfg(test)]

@@ -8,7 +8,7 @@
 //! fits: `no_send_sleeps`. By kind, calls under way or not, each of the four lines is decided by numbers: `no_send_sleeps_by_kind`,
 //! `no_receive_sleeps_by_kind`, `no_stream_sleeps`, `nobody_sleeps_where_closed`, `is_awake`. Accounts are carried through calls, steps
 //! and calls: `carry` of `clients`. And a record has as many entries as the gathered seats made calls: `gather` of
-//! `history_tests`, in `uses`.
+//! `recorded`, in `uses`.
 
 ghost use Rattle.std.specs.Prelude.{◌≡◌, ◌+◌, ◌<◌, ◌≤◌, [], length, None, Some, true, IfOk, IfSome, vec_len};
 ghost use Rattle.channel_calls.specs.declared.stage.WaitList.{WaitList};

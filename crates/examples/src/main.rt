@@ -18,6 +18,7 @@ mod stream;
 mod timeouts;
 mod two_threads;
 mod waiting;
+pub mod waybills;
 mod world_calls;
 
 use async_channel::Runtime;
@@ -69,7 +70,7 @@ fn show_channels<R: Runtime + Print>(rt: R, alloc: Global, ids: &mut EventIds) -
 fn main(rt: HostRuntime) -> io::Result<ExitCode> {
     let mut ids = EventIds::new();
     show_parts(&rt, rt.alloc(), &mut ids)?;
-    let all = show_channels(rt, rt.alloc(), &mut ids)?;
+    let all = show_channels(rt, rt.alloc(), &mut ids)? && waybills::show(rt, rt.alloc(), &mut ids)?;
     Ok(if all {
         ExitCode::SUCCESS
     } else {

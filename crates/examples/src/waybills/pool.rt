@@ -1,0 +1,233 @@
+//! A pool of workers: jobs come by one channel, results go by another. The results are, in some order, one for each job.
+
+ghost use Rattle.std.specs.Prelude.{◌≡◌, ℕ, ◌*◌, ◌<◌, [], length, map, IfSome, IsPermutation};
+ghost use Rattle.waybill.specs.Accounts.{fresh, account, IsPartOf};
+ghost use Rattle.examples.specs.Pool.{squares};
+
+use async_channel::{Receiver, Sender, unbounded};
+use event_listener::id::EventIds;
+use std::alloc::Global;
+use std::marker::{Brand, Model};
+use std::sync::Wait;
+use std::thread;
+use std::thread::Threads;
+use waybill::{Inbox, Office, Opened, Parcel, Pass, Room};
+
+/// What is to be done with a job.
+fn squared(job: u32) -> u64
+    ensures { result ≡ job * job }
+{
+    job as u64 * job as u64
+}
+
+/// A worker: what it gave are the squares of what it took.
+#[derive(Drop)]
+pub(crate) struct Worker<B: Room, C: Room> {
+    took: Pass<u32, B>,
+    gave: Pass<u64, C>,
+}
+
+impl<B: Room, C: Room> Model for Worker<B, C> {
+    ghost use Rattle.std.specs.Prelude.{◌≡◌, []};
+    ghost use Rattle.waybill.specs.Accounts.{account};
+    ghost use Rattle.examples.specs.Pool.{squares};
+
+    ghost Value = { Unit {0} };
+
+    ghost view = { λ w. tt };
+
+    ghost invariant = { λ w. (w.took ≡ account 1 [] w.took.received []) × (w.gave ≡ account 1 (squares w.took.received) [] []) };
+}
+
+impl<B: Room, C: Room> Worker<B, C> {
+    /// One that did nothing yet.
+    pub(crate) fn new(took: Pass<u32, B>, gave: Pass<u64, C>) -> Worker<B, C>
+        requires { (took ≡ fresh 1) × (gave ≡ fresh 1) }
+    {
+        Worker { took, gave }
+    }
+
+    /// Does one job.
+    fn square(
+        &mut self,
+        jobs: &Office<u32, B>,
+        results: &Office<u64, C>,
+        job: Parcel<u32, B>,
+    ) -> Parcel<u64, C> {
+        let job = jobs.unpack(&mut self.took, job);
+        results.pack(&mut self.gave, squared(job))
+    }
+
+    /// Both passes.
+    pub(crate) fn into_passes(self) -> (Pass<u32, B>, Pass<u64, C>)
+        ensures took { result.0 ≡ account 1 [] result.0.received [] }
+        ensures gave { result.1 ≡ account 1 (squares result.0.received) [] [] }
+    {
+        (self.took, self.gave)
+    }
+}
+
+/// Does jobs until there are no more.
+pub(crate) fn work<B: Room, C: Room, R: Wait + Copy>(
+    jobs: &Office<u32, B>,
+    results: &Office<u64, C>,
+    todo: Receiver<Parcel<u32, B>, R>,
+    done: Sender<Parcel<u64, C>, R>,
+    mut worker: Worker<B, C>,
+) -> Worker<B, C> {
+    for job in todo.iter() {
+        let Ok(job) = job else {
+            break;
+        };
+        let _ = done.send_blocking(worker.square(jobs, results, job));
+    }
+    worker
+}
+
+/// Gives the jobs and lets the sender go.
+pub(crate) fn give<B: Room, R: Wait + Copy>(
+    todo: Sender<Parcel<u32, B>, R>,
+    jobs: Vec<Parcel<u32, B>>,
+) {
+    for job in jobs {
+        let _ = todo.send_blocking(job);
+    }
+}
+
+/// Gathers results until there are no more.
+pub(crate) fn gather<C: Room, R: Wait + Copy>(
+    results: &Office<u64, C>,
+    done: Receiver<Parcel<u64, C>, R>,
+    mut inbox: Inbox<u64, C>,
+) -> Inbox<u64, C> {
+    for parcel in done.iter() {
+        let Ok(parcel) = parcel else {
+            break;
+        };
+        if inbox.unpack(results, parcel).is_err() {
+            break;
+        }
+    }
+    inbox
+}
+
+/// Two workers who do what there is to do.
+fn two_workers<
+    B: Room + Send + Sync,
+    C: Room + Send + Sync,
+    R: Threads + Wait + Copy + Send + Sync,
+>(
+    rt: R,
+    jobs: &Office<u32, B>,
+    results: &Office<u64, C>,
+    todo: (Receiver<Parcel<u32, B>, R>, Receiver<Parcel<u32, B>, R>),
+    done: (Sender<Parcel<u64, C>, R>, Sender<Parcel<u64, C>, R>),
+    workers: (Worker<B, C>, Worker<B, C>),
+) -> (Worker<B, C>, Worker<B, C>) {
+    let (todo, todo_too) = todo;
+    let (done, done_too) = done;
+    let (worker, worker_too) = workers;
+    thread::join(
+        &rt,
+        move || work::<B, C, R>(jobs, results, todo, done, worker),
+        move || work::<B, C, R>(jobs, results, todo_too, done_too, worker_too),
+    )
+}
+
+/// A channel with two receivers, by which jobs come.
+fn job_line<P: Drop, R: Wait + Copy>(
+    rt: R,
+    alloc: Global,
+    ids: &mut EventIds,
+) -> Option<(Sender<P, R>, (Receiver<P, R>, Receiver<P, R>))> {
+    let (sender, receiver) = unbounded(rt, alloc, ids).ok()?;
+    let receiver_too = receiver.try_clone().ok()?;
+    Some((sender, (receiver, receiver_too)))
+}
+
+/// A channel with two senders, by which results go.
+fn result_line<P: Drop, R: Wait + Copy>(
+    rt: R,
+    alloc: Global,
+    ids: &mut EventIds,
+) -> Option<((Sender<P, R>, Sender<P, R>), Receiver<P, R>)> {
+    let (sender, receiver) = unbounded(rt, alloc, ids).ok()?;
+    let sender_too = sender.try_clone().ok()?;
+    Some(((sender, sender_too), receiver))
+}
+
+/// Both workers and the inbox after all jobs. `None` where there is no memory.
+fn all_done<B: Room + Send + Sync, C: Room + Send + Sync, R: Threads + Wait + Copy + Send + Sync>(
+    rt: R,
+    alloc: Global,
+    ids: &mut EventIds,
+    offices: (&Office<u32, B>, &Office<u64, C>),
+    parcels: Vec<Parcel<u32, B>>,
+    workers: (Worker<B, C>, Worker<B, C>),
+    inbox: Inbox<u64, C>,
+) -> Option<((Worker<B, C>, Worker<B, C>), Inbox<u64, C>)> {
+    let (jobs, results) = offices;
+    let (todo_sender, todo) = job_line(rt, alloc, ids)?;
+    let (done, done_receiver) = result_line(rt, alloc, ids)?;
+    give(todo_sender, parcels);
+    let workers = two_workers(rt, jobs, results, todo, done, workers);
+    Some((workers, gather(results, done_receiver, inbox)))
+}
+
+fn pool_in<B: Room + Send + Sync, C: Room + Send + Sync, R: Threads + Wait + Copy + Send + Sync>(
+    rt: R,
+    alloc: Global,
+    ids: &mut EventIds,
+    jobs: Opened<u32>,
+    results: Opened<u64>,
+    all: &[u32],
+) -> Option<Vec<u64>>
+    requires { (jobs ≡ B.table) × (results ≡ C.table) }
+    ensures part { IfSome result (λ got. IsPartOf got.items (squares all.now)) }
+    ensures each { IfSome result (λ got. length got.items ≡ length all.now → IsPermutation (squares all.now) got.items) }
+{
+    let (jobs, mut every_job) = jobs.enter::<B>();
+    let (results, mut every_result) = results.enter::<C>();
+    let Ok(parcels) = jobs.pack_each(alloc, &mut every_job, all) else {
+        return None;
+    };
+    let worker = Worker::new(
+        jobs.another(&mut every_job),
+        results.another(&mut every_result),
+    );
+    let worker_too = Worker::new(
+        jobs.another(&mut every_job),
+        results.another(&mut every_result),
+    );
+    let inbox = Inbox::new(alloc, results.another(&mut every_result));
+    let offices = (&jobs, &results);
+    let workers = (worker, worker_too);
+    let ((worker, worker_too), inbox) = all_done(rt, alloc, ids, offices, parcels, workers, inbox)?;
+    let (took, gave) = worker.into_passes();
+    let (took_too, gave_too) = worker_too.into_passes();
+    let (gathered, got) = inbox.into_parts();
+    jobs.absorb(&mut every_job, took);
+    jobs.absorb(&mut every_job, took_too);
+    results.absorb(&mut every_result, gave);
+    results.absorb(&mut every_result, gave_too);
+    results.absorb(&mut every_result, gathered);
+    jobs.learn(&mut every_job);
+    results.learn(&mut every_result);
+    Some(got)
+}
+
+/// What two workers made of these jobs: always some of what is to be made of them, and where there are as many results as jobs, one
+/// for each. `None` where there is no memory.
+pub fn pool<R: Threads + Wait + Copy + Send + Sync>(
+    rt: R,
+    alloc: Global,
+    ids: &mut EventIds,
+    all: &[u32],
+) -> Option<Vec<u64>>
+    ensures part { IfSome result (λ got. IsPartOf got.items (squares all.now)) }
+    ensures each { IfSome result (λ got. length got.items ≡ length all.now → IsPermutation (squares all.now) got.items) }
+{
+    let jobs = Opened::new(alloc).ok()?;
+    let results = Opened::new(alloc).ok()?;
+    pool_in::<Brand, Brand, R>(rt, alloc, ids, jobs, results, all)
+}

@@ -1,4 +1,0 @@
-use Rattle.history_tests.proofs.four.every_receipt_stands_in_the_record.Given as goal
-
-abbrev pub ghosts-four : goal.ghosts-four
-ghosts-four g a = record { name = a.blank.name; parts = a.blank.parts }

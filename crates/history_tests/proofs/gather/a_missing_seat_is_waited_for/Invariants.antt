@@ -1,4 +1,0 @@
-use Rattle.history_tests.proofs.gather.a_missing_seat_is_waited_for.Given as goal
-
-abbrev pub ghosts-gather : goal.ghosts-gather
-ghosts-gather g a = record { name = a.blank.name; parts = a.blank.parts }

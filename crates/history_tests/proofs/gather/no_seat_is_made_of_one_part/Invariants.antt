@@ -1,4 +1,0 @@
-use Rattle.history_tests.proofs.gather.no_seat_is_made_of_one_part.Given as goal
-
-abbrev pub ghosts-nobody : goal.ghosts-nobody
-ghosts-nobody g a = record { name = a.blank.name; parts = a.blank.parts }

@@ -1,4 +1,0 @@
-use Rattle.history_tests.proofs.uses.a_closing_stands_behind_a_send.Given as goal
-
-abbrev pub ghosts-close_second : goal.ghosts-close_second
-ghosts-close_second g a = record { name = a.blank.name; parts = a.blank.parts }

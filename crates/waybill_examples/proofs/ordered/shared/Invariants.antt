@@ -1,4 +1,0 @@
-use Rattle.waybill_examples.proofs.ordered.shared.Given as goal
-
-abbrev pub ghosts-shared_in : goal.ghosts-shared_in
-ghosts-shared_in g a = record { table = a.opened }

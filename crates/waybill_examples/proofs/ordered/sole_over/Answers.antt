@@ -1,6 +1,0 @@
-use Rattle.std.proofs.Common.{rules, [], ◌∷◌}
-use Rattle.waybill.proofs.Order.{are_beginnings}
-use Rattle.waybill_examples.proofs.ordered.sole_over.Goals as goal
-
-pub returns : goal.returns
-returns g c = are_beginnings _ _ c.in_ok-pass.got.items (c.args.first.now ∷ c.args.second.now ∷ []) c.learn.ensures.most (search rules) (search rules) (search rules)
