@@ -1,6 +1,8 @@
 -- From the law that a call made alone is the model's.
-use Rattle.std.proofs.Common.{◌∙◌, sym}
+use Rattle.std.proofs.Common.{◌∙◌, sym, ap}
 use Rattle.channel_world_runs.proofs.Interface.{leads_nowhere, stands_led}
+use Rattle.channel_world_runs.specs.Refusal.{begin_refusal}
+use Rattle.channel_world_runs.specs.declared.world_state.WorldState.{WorldState}
 use Rattle.channel_world_runs.proofs.LoneFacts.{leads_whatever}
 use Rattle.channel_world.proofs.Whole.{refused_alike, wakes_few, answers_whatever}
 use Rattle.channel_world.proofs.Inside.{world_state_of, inside_is}
@@ -8,9 +10,9 @@ use Rattle.channel_world.proofs.world.World.answer.Goals as goal
 
 pub call_alone-requires-clause-accepted : goal.call_alone-requires-clause-accepted
 call_alone-requires-clause-accepted g c =
-    let accepted = refused_alike c.a_call_made_alone_is_the_models.ensures.refused (world_state_of c.args.self.now) c.keeps_names.ensures.stands c.requires.quiet c.args.call
-    ∙ c.requires.accepted in
-    rw (inside_is c.self.inside.world_state c.args.self.now c.self.view_is) accepted
+    ap (λ (f : WorldState g.row.T.Denot). begin_refusal f.name_table c.args.call) (inside_is c.self.inside.world_state c.args.self.now c.self.view_is)
+    ∙ (refused_alike c.a_call_made_alone_is_the_models.ensures.refused (world_state_of c.args.self.now) c.keeps_names.ensures.stands c.requires.quiet c.args.call
+    ∙ c.requires.accepted)
 
 pub call_alone-requires-clause-room : goal.call_alone-requires-clause-room
 call_alone-requires-clause-room g c =
