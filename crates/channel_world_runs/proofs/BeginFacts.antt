@@ -1,7 +1,6 @@
 -- How calls begin: of what stands in the table as one call at a time sees it.
 use Rattle.std.proofs.Common.{◌≡◌, Option, None, refl, sym, ap, subst, ◌∙◌}
 use Rattle.std.specs.Option.{option_map, option_map_or}
-use Rattle.event_listener.specs.declared.key.Key.{Key}
 use Rattle.channel_calls.specs.declared.ask.ChannelAsk.{ChannelAsk}
 use Rattle.channel_world_model.specs.Asked.{giving_up_asked, drop_asked}
 use Rattle.channel_world_model.specs.Names.{at, without_name}

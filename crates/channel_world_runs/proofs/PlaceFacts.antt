@@ -27,7 +27,6 @@ use Rattle.channel_world_model.specs.Settling.{poll_of}
 use Rattle.channel_world_model.specs.Names.{at, own_message}
 use Rattle.channel_world_model.specs.declared.call.Call.{Call}
 use Rattle.channel_world_model.specs.declared.call.Call.TheVariants as call
-use Rattle.channel_world_model.specs.declared.name.HandleId.{HandleId}
 use Rattle.channel_world_model.specs.declared.name.OpId.{OpId}
 use Rattle.channel_world_model.specs.declared.name.Operation.{Operation}
 use Rattle.channel_world_model.specs.declared.name.Operation.TheVariants as live
