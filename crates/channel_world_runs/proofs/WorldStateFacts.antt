@@ -26,7 +26,7 @@ use Rattle.channel_steps.specs.declared.party.Entry.{Entry as ChannelEntry}
 use Rattle.channel_steps.specs.declared.party.Party.{Party}
 use Rattle.channel_world_runs.specs.Bookkeeping.{asks, names_begun, on_return_of}
 use Rattle.channel_world_runs.specs.Activity.{activity_after, activity_begun, activity_of}
-use Rattle.channel_world_runs.specs.Calls.{Agent, agent_of}
+use Rattle.channel_world_runs.specs.Calls.{agent_of}
 use Rattle.channel_world_runs.specs.Left.{left_of}
 use Rattle.channel_world_runs.specs.Owed.{Observation, Owed}
 use Rattle.channel_world_runs.specs.WorldState.{parties_of, agents_of, activities_of, parts_in, name_state_of, calls_in, lefts_in, AreCounted, HasOnePlace, Shown, IsQuiet, StandsIn, IsSame, LedByStep, LeadsByStep, HasPositions, HasPosition}

@@ -1,4 +1,4 @@
-use Rattle.std.proofs.Common.{arith, ◌≡◌, ◌<◌, ◌∙◌, length, vec_len, slice_get, Some, refl, sym, ap}
+use Rattle.std.proofs.Common.{arith, ◌≡◌, ◌∙◌, length, vec_len, refl, sym, ap}
 use Rattle.std.proofs.lemmas.Option.{slice_get_within, slice_get_read}
 use Rattle.channel_steps.proofs.Interface.{after-set, get-set}
 use Rattle.channel_world_runs.specs.declared.calls.CallUnderWay.{CallUnderWay}
