@@ -13,7 +13,7 @@ ghost use Rattle.channel_world.specs.View.{at_rest, IsQuiet};
 use super::end::ScriptEnd;
 use super::scene::Scene;
 use crate::world::World;
-use channel_world_language::command::{Opening, WaitList, parse_line, parse_opening};
+use channel_world_language::command::{Line, Opening, parse_line, parse_opening};
 use channel_world_language::table::{Sort, Table};
 use channel_world_language::words::first_line;
 use event_listener::id::EventIds;
@@ -34,7 +34,7 @@ fn add_line(out: &mut Vec<u8>, line: &[u8]) -> Result<(), AllocError>
 }
 
 /// What a line of this number says, if it can be read.
-fn readable(number: u32, line: &[u8]) -> Option<WaitList<'_>>
+fn readable(number: u32, line: &[u8]) -> Option<Line<'_>>
     ensures command { option_map said_line result ≡ readable today number line.entry.now }
     ensures small { OnSome result (number ≤ LINES_LIMIT) }
 {

@@ -14,7 +14,7 @@ ghost use Rattle.channel_world.specs.View.{at_rest, IsQuiet};
 use super::text::add_settling;
 use crate::world::World;
 use channel_world_language::call::{call_of, given, used};
-use channel_world_language::command::{Command, WaitList};
+use channel_world_language::command::{Command, Line};
 use channel_world_language::table::{Named, Table};
 use channel_world_language::text::{add_answer, add_refused};
 use channel_world_model::call::Call;
@@ -181,7 +181,7 @@ impl<'a> Scene<'a> {
 
     /// Does what a line says, and writes its reply line in place of what stands there. Where memory or serials are refused
     /// nothing is known of the scene.
-    pub fn obey(&mut self, line: &WaitList<'a>, reply: &mut Vec<u8>) -> Result<(), AllocError>
+    pub fn obey(&mut self, line: &Line<'a>, reply: &mut Vec<u8>) -> Result<(), AllocError>
         requires quiet { IsQuiet self.old.world }
         requires few { length self.old.table < 2 ^ 32 }
         ensures line { OnOk result (record { after = scene_of self.new; line = reply.new.items } ≡ obeyed (scene_of self.old) (said_line line.now)) }
@@ -189,8 +189,8 @@ impl<'a> Scene<'a> {
         ensures quiet { IsQuiet self.new.world }
     {
         match line {
-            WaitList::Call(command) => self.call(command, reply),
-            WaitList::Settle => self.settle(reply),
+            Line::Call(command) => self.call(command, reply),
+            Line::Settle => self.settle(reply),
         }
     }
 }
