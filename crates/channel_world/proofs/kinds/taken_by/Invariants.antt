@@ -3,4 +3,4 @@ use Rattle.channel_world.specs.Kinds.{takings_of}
 use Rattle.channel_world.proofs.kinds.taken_by.Given as goal
 
 abbrev pub invariant-loop-k : goal.invariant-loop-k
-invariant-loop-k l = l.taken + takings_of (drop l.k l.calls.items) ≡ takings_of l.calls.items
+invariant-loop-k g l = l.taken + takings_of (drop l.k l.calls.items) ≡ takings_of l.calls.items
