@@ -2,6 +2,7 @@ mod Inside
 pub mod Few
 pub mod FewListed
 pub mod Opening
+pub mod CountedCalls
 pub mod Carried
 pub mod AccountFacts
 mod Leading

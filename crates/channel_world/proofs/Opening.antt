@@ -6,6 +6,7 @@ use Rattle.concurrent_queue.proofs.Interface.{shows}
 use Rattle.channel_calls.specs.Moves.{Channel}
 use Rattle.channel_world_runs.specs.WorldState.{parts_in, name_state_of, Shown, IsJustOpened, IsQuiet}
 use Rattle.channel_world_runs.specs.Run.{NameState}
+use Rattle.channel_world_runs.specs.declared.calls.CallUnderWay.{CallUnderWay}
 use Rattle.channel_world_runs.specs.declared.world_state.WorldState.{WorldState}
 use Rattle.channel_world_model.specs.State.{start}
 use Rattle.channel_world_model.specs.declared.name.Waiter.{Waiter}
@@ -20,7 +21,7 @@ module _ {T : Type 0} where
   at_rest_is f s sh quiet =
       let parts = parts_in f in
       let q : Queue T = sh.shows.queue in
-      let none = nobody sh.shows.witnesses (sym sh.shows.parties_are ∙ quiet) in
+      let none = nobody sh.shows.witnesses (sym sh.shows.parties_are ∙ ap (map (λ (c : CallUnderWay T). c.party)) quiet) in
       let fits : FitsAt s.blocks parts.cells q [] =
       subst (λ (xs : List (ActiveCallWitness T Waiter)). FitsAt s.blocks parts.cells q (all_seats xs)) none sh.shows.fits in
       let shown = shows parts.cells q [] (s.blocks, fits) in
