@@ -1,9 +1,9 @@
 -- Who is pending on which line, and how many messages calls under way have taken: numbers that a world tells.
-use Rattle.std.specs.Prelude.{ℕ, ◌+◌, Bool, false, List, [], ◌∷◌, Option, Some}
+use Rattle.std.specs.Prelude.{ℕ, ◌+◌, Bool, true, false, List, [], ◌∷◌, Option, Some}
 use Rattle.std.specs.List.{count_by}
 use Rattle.channel_calls.specs.declared.stage.WaitList.{WaitList}
 use Rattle.channel_world_model.specs.Laws.{same_line}
-use Rattle.channel_world_runs.specs.Owed.{all_names}
+use Rattle.channel_world_runs.specs.Owed.{all_names, is_woken_on}
 use Rattle.channel_world_runs.specs.Owners.{NameStatus, waits, status_by, operation_status, stream_status, status}
 use Rattle.channel_world_runs.specs.declared.calls.CallUnderWay.{CallUnderWay}
 use Rattle.channel_world_runs.specs.declared.names.HandleEntry.{HandleEntry}
@@ -14,6 +14,11 @@ use Rattle.channel_world_runs.specs.declared.name_table.NameTable.{NameTable}
 abbrev pub is_pending_on : WaitList → NameStatus → Bool
 is_pending_on line (waits h is_woken) = same_line line h.line
 is_pending_on line other = false
+
+-- whether one that stands so is pending on this line; and was woken, where only the woken are asked for
+abbrev pub stands_on : Bool → WaitList → NameStatus → Bool
+stands_on false line p = is_pending_on line p
+stands_on true line p = is_woken_on line p
 
 -- how a receiver's stream stands under a name that was taken
 abbrev pub stream_stance : Option HandleEntry → NameStatus
@@ -32,3 +37,7 @@ module _ {T : Type 0} where
   -- how many are pending on this line
   abbrev pub pending_on_line : WaitList → NameTable T → ℕ
   pending_on_line line r = count_by (λ w. is_pending_on line (status r w)) (all_names r)
+
+  -- how many are pending on this line; of them those who were woken, where only these are asked for
+  abbrev pub standing_on_line : Bool → WaitList → NameTable T → ℕ
+  standing_on_line only_woken line r = count_by (λ w. stands_on only_woken line (status r w)) (all_names r)

@@ -1,9 +1,7 @@
 //! Those who are pending, and those of them who were woken, line by line; and what calls under way have taken.
 
 ghost use Rattle.std.specs.Prelude.{◌≡◌, ◌<◌, ◌^◌, IfSome, IsSome};
-ghost use Rattle.channel_world_runs.specs.Owed.{is_woken_on};
-ghost use Rattle.channel_world_model.specs.Laws.{same_line};
-ghost use Rattle.channel_world.specs.Kinds.{is_pending_on, operation_stance, stream_stance, takings_of};
+ghost use Rattle.channel_world.specs.Kinds.{operation_stance, stands_on, stream_stance, takings_of};
 
 use super::world::World;
 use channel_calls::stage::WaitList;
@@ -11,63 +9,29 @@ use channel_world_model::name::HandleKind;
 use channel_world_runs::calls::CallUnderWay;
 use channel_world_runs::names::{HandleEntry, OperationEntry, PollState};
 
-/// Whether streams wait on this line.
-fn is_of_streams(line: WaitList) -> bool
-    ensures { result ≡ same_line line WaitList.Streams }
-{
-    match line {
-        WaitList::Streams => true,
-        WaitList::Sends | WaitList::Receives | WaitList::Closings => false,
-    }
-}
-
-/// Whether an operation is pending on this line.
-fn pends_on<T>(line: WaitList, operation: &Option<OperationEntry<T>>) -> bool
-    ensures { result ≡ is_pending_on line (operation_stance operation.now) }
+/// Whether an operation is pending on this line; and was woken, where only the woken are asked for.
+fn stands_on<T>(line: WaitList, only_woken: bool, operation: &Option<OperationEntry<T>>) -> bool
+    ensures { result ≡ stands_on only_woken line (operation_stance operation.now) }
 {
     match operation {
         Some(entry) => match entry.poll_state {
-            PollState::Waits { .. } => entry.operation.is_on(line),
+            PollState::Waits { key: _, is_woken } => {
+                (is_woken || !only_woken) && entry.operation.is_on(line)
+            }
             PollState::Rests | PollState::IsPolled { .. } => false,
         },
         None => false,
     }
 }
 
-/// Whether an operation is pending on this line and was woken.
-fn is_woken_on<T>(line: WaitList, operation: &Option<OperationEntry<T>>) -> bool
-    ensures { result ≡ is_woken_on line (operation_stance operation.now) }
-{
-    match operation {
-        Some(entry) => match entry.poll_state {
-            PollState::Waits { key: _, is_woken } => is_woken && entry.operation.is_on(line),
-            PollState::Rests | PollState::IsPolled { .. } => false,
-        },
-        None => false,
-    }
-}
-
-/// Whether a receiver's stream is pending on this line.
-fn streams_on(line: WaitList, handle_entry: &Option<HandleEntry>) -> bool
-    ensures { result ≡ is_pending_on line (stream_stance handle_entry.now) }
-{
-    match handle_entry {
-        Some(handle_entry) => match (handle_entry.handle.kind, handle_entry.poll_state) {
-            (HandleKind::Receiver, PollState::Waits { .. }) => is_of_streams(line),
-            _ => false,
-        },
-        None => false,
-    }
-}
-
-/// Whether a receiver's stream is pending on this line and was woken.
-fn is_stream_woken_on(line: WaitList, handle_entry: &Option<HandleEntry>) -> bool
-    ensures { result ≡ is_woken_on line (stream_stance handle_entry.now) }
+/// Whether a receiver's stream is pending on this line; and was woken, where only the woken are asked for.
+fn streams_on(line: WaitList, only_woken: bool, handle_entry: &Option<HandleEntry>) -> bool
+    ensures { result ≡ stands_on only_woken line (stream_stance handle_entry.now) }
 {
     match handle_entry {
         Some(handle_entry) => match (handle_entry.handle.kind, handle_entry.poll_state) {
             (HandleKind::Receiver, PollState::Waits { key: _, is_woken }) => {
-                is_woken && is_of_streams(line)
+                (is_woken || !only_woken) && matches!(line, WaitList::Streams)
             }
             _ => false,
         },
@@ -90,34 +54,38 @@ fn taken_by<T>(calls: &Vec<CallUnderWay<T>>) -> Option<u64>
 impl<T: Drop> World<T> {
     ghost use Rattle.std.specs.Prelude.{◌≡◌, ◌<◌, ◌^◌, IfSome, IsSome};
     ghost use Rattle.channel_world_runs.specs.Owed.{woken_on};
-    ghost use Rattle.channel_world.specs.Kinds.{pending_on_line};
+    ghost use Rattle.channel_world.specs.Kinds.{pending_on_line, standing_on_line};
     ghost use Rattle.channel_world.specs.View.{names_in, taken_in};
+
+    /// How many are pending on this line; of them those who were woken, where only these are asked for. A walk over all names.
+    fn standing_on(&self, line: WaitList, only_woken: bool) -> usize
+        ensures { result ≡ standing_on_line only_woken line (names_in self.now) }
+    {
+        self.keeps_names();
+        let operations = self.world_state.name_table.operations.iter();
+        let operations = operations
+            .filter(|(_, x)| stands_on(line, only_woken, *x))
+            .count();
+        let streams = self.world_state.name_table.handles.iter();
+        let streams = streams
+            .filter(|(_, x)| streams_on(line, only_woken, *x))
+            .count();
+        operations + streams
+    }
 
     /// How many are pending on this line: they live, their last poll ended so, and no poll of them is under way. A walk over all
     /// names. Own to this project.
     pub fn pending_of(&self, line: WaitList) -> usize
         ensures { result ≡ pending_on_line line (names_in self.now) }
     {
-        self.keeps_names();
-        let operations = self.world_state.name_table.operations.iter();
-        let operations = operations.filter(|(_, x)| pends_on(line, *x)).count();
-        let streams = self.world_state.name_table.handles.iter();
-        let streams = streams.filter(|(_, x)| streams_on(line, *x)).count();
-        operations + streams
+        self.standing_on(line, false)
     }
 
     /// How many of those who are pending on this line were woken since their last poll. A walk over all names. Own to this project.
     pub fn woken_of(&self, line: WaitList) -> usize
         ensures { result ≡ woken_on line (names_in self.now) }
     {
-        self.keeps_names();
-        let operations = self.world_state.name_table.operations.iter();
-        let operations = operations.filter(|(_, x)| is_woken_on(line, *x)).count();
-        let streams = self.world_state.name_table.handles.iter();
-        let streams = streams
-            .filter(|(_, x)| is_stream_woken_on(line, *x))
-            .count();
-        operations + streams
+        self.standing_on(line, true)
     }
 
     /// How many messages the calls under way have taken: of these are the places that they have freed and not announced yet. None

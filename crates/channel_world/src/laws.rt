@@ -79,7 +79,6 @@ pub fn numbers_are_those_at_rest<T: Drop>(world: &World<T>)
     ensures woken { WokenAtRest world.now }
 {
     a_channel_at_rest_is_a_world::<T>();
-    world.keeps();
     world.keeps_names();
 }
 
@@ -105,7 +104,6 @@ pub fn at_rest_nobody_is_left_asleep<T: Drop>(world: &World<T>)
     ensures closing { NobodyIsLeftOnAClosed world.now }
 {
     a_channel_at_rest_is_a_world::<T>();
-    world.keeps();
     world.keeps_names();
 }
 
@@ -144,7 +142,6 @@ pub fn who_sleeps_is_answered_for<T: Drop>(world: &World<T>)
     ensures closing_by_kind { NobodySleepsWhereClosed world.now }
     ensures line_by_line { ALineIsAwake world.now }
 {
-    world.keeps();
     world.keeps_names();
 }
 

@@ -25,14 +25,11 @@ impl<T: Drop> World<T> {
     pub(crate) fn room_for(&self, call: &Call<T>) -> Option<usize>
         ensures { IfSome result (λ n. most_woken call.now (at_rest self.now).waiting ≤ n) }
     {
+        let channel = &self.world_state.channel;
         match call {
             Call::Close { .. } | Call::Drop { .. } => self.untold_count(),
-            Call::RecvMany { .. } => Some(self.world_state.channel.waiting(WaitList::Sends)),
-            _ => self
-                .world_state
-                .channel
-                .waiting(WaitList::Streams)
-                .checked_add(2),
+            Call::RecvMany { .. } => Some(channel.waiting(WaitList::Sends)),
+            _ => channel.waiting(WaitList::Streams).checked_add(2),
         }
     }
 }

@@ -23,20 +23,14 @@ pub struct UnderWay {
 fn is_sending<T>(call: &CallUnderWay<T>) -> bool
     ensures { result ≡ is_sending call.now.activity.role }
 {
-    match call.activity.role {
-        Role::Sending => true,
-        Role::Receiving | Role::Other => false,
-    }
+    matches!(call.activity.role, Role::Sending)
 }
 
 /// Whether it is receiving.
 fn is_receiving<T>(call: &CallUnderWay<T>) -> bool
     ensures { result ≡ is_receiving call.now.activity.role }
 {
-    match call.activity.role {
-        Role::Receiving => true,
-        Role::Sending | Role::Other => false,
-    }
+    matches!(call.activity.role, Role::Receiving)
 }
 
 impl<T: Drop> World<T> {

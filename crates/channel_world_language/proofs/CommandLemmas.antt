@@ -1,20 +1,39 @@
 -- Words that are left on a line, and words of a language.
-use Rattle.std.proofs.Common.{arith, ◌≡◌, ℕ, List, [], ◌∷◌, ◌++◌, length, ◌==◌, Bool, true, false, if◌then◌else◌, None, Some, sym}
+use Rattle.std.proofs.Common.{arith, ◌≡◌, ℕ, List, [], ◌∷◌, length, ◌==◌, map, Bool, true, false, not, cond, is_some, option_copied, Option, None, Some, Bor, refl, ap, ◌∙◌}
+use Rattle.std.specs.Bool.{then_some}
+use Rattle.std.specs.List.{find}
+use Rattle.std.specs.Option.{option_map}
 use Rattle.std.specs.Str.{bytes_eq}
-use Rattle.channel_world_language.specs.Command.{for_word}
+use Rattle.channel_world_language.specs.Command.{Command, Form, for_word, read, that_is}
 use Rattle.std.proofs.lemmas.List.Splits.{length-slice_split}
 use Rattle.std.proofs.lemmas.Bool.Decides.{nat_tests}
-use Rattle.channel_world_language.specs.Words.{words_of}
+use Rattle.channel_world_language.specs.Said.{form_of}
+use Rattle.channel_world_language.specs.Words.{words_of, words_after}
+use Rattle.channel_world_language.specs.declared.command.Verb.{Verb}
 
 -- after a space there is a word, if an empty one
-pub words_left : (rest : List ℕ) → false ≡ (length (words_of rest) == 0)
+words_left : (rest : List ℕ) → false ≡ (length (words_of rest) == 0)
 words_left rest = grind (arith, nat_tests, length-slice_split (λ (b : ℕ). b == 32) rest)
 
--- a word that stands in front
-pub word_in_front : {X : Type 0} (word : List ℕ) (xs ys : List (List ℕ × X)) (x : X) → Some x ≡ for_word word xs → for_word word (xs ++ ys) ≡ Some x
-word_in_front word [] ys x h = absurd (let no : Some x ≡ None = h in cc)
-word_in_front word (e ∷ es) ys x h = by (λ k. word_in_front word es ys x k) (bytes_eq word e.0) h
+-- what stands alone where there is no rest
+pub kept_alone : {X : Type 0} (x : X) (rest : Option (Bor (List ℕ))) (b : Bool) → is_some rest ≡ not b → then_some b x ≡ read (that_is x) (words_after (option_copied rest))
+kept_alone x None true h = refl
+kept_alone x None false h = cc h
+kept_alone x (Some r) true h = cc h
+kept_alone x (Some r) false h = rw (← (words_left r.now)) refl
+
+-- the first row of a word has its form
+form_of_row : (word : List ℕ) (rows : List (Bor (List ℕ) × Verb)) → option_map form_of (option_map (λ r. r.1) (find (λ r. bytes_eq word r.0.now) rows)) ≡ for_word word (map (λ r. (r.0.now, form_of r.1)) rows)
+form_of_row word [] = refl
+form_of_row word (row ∷ rows) = by (bytes_eq word row.0.now) (form_of_row word rows)
   where
-    by : (Some x ≡ for_word word es → for_word word (es ++ ys) ≡ Some x) → (b : Bool) → Some x ≡ (if b then Some e.1 else for_word word es) → (if b then Some e.1 else for_word word (es ++ ys)) ≡ Some x
-    by on true i = sym i
-    by on false i = on i
+    by : (b : Bool) → option_map form_of (option_map (λ r. r.1) (find (λ r. bytes_eq word r.0.now) rows)) ≡ for_word word (map (λ r. (r.0.now, form_of r.1)) rows)
+        → option_map form_of (option_map (λ r. r.1) (cond b (Some row) (find (λ r. bytes_eq word r.0.now) rows))) ≡ cond b (Some (form_of row.1)) (for_word word (map (λ r. (r.0.now, form_of r.1)) rows))
+    by true on = refl
+    by false on = on
+
+-- the verb of the row that was found has the form of the word
+pub form_of_found : (word : List ℕ) (rows : List (Bor (List ℕ) × Verb)) (forms : List (List ℕ × Form Command)) (row : Option (Bor (List ℕ) × Verb)) (verb : Option Verb)
+    → row ≡ find (λ r. bytes_eq word r.0.now) rows → verb ≡ option_map (λ r. r.1) row → map (λ r. (r.0.now, form_of r.1)) rows ≡ forms → option_map form_of verb ≡ for_word word forms
+form_of_found word rows forms row verb found its listed =
+    ap (option_map form_of) (its ∙ ap (option_map (λ r. r.1)) found) ∙ (form_of_row word rows ∙ ap (for_word word) listed)

@@ -134,25 +134,18 @@ pub fn call_of(table: &Table<'_>, command: &Command<'_>) -> Option<Call<u64>>
             sending,
             sender,
             msg,
-        } => {
-            let sender = handle_named(table, sender)?;
-            Some(sending_call(*sending, sender, *msg))
-        }
+        } => Some(sending_call(*sending, handle_named(table, sender)?, *msg)),
         Command::RecvMany { receiver, limit } => {
             let receiver = handle_named(table, receiver)?;
             let limit = *limit as usize;
             Some(Call::RecvMany { receiver, limit })
         }
-        Command::Send { op: _, sender, msg } => {
+        Command::Send { sender, msg, .. } => {
             let sender = handle_named(table, sender)?;
             let (op, msg) = (OpId(table.next()), *msg);
             Some(Call::NewSend { op, sender, msg })
         }
-        Command::New {
-            making,
-            new: _,
-            handle,
-        } => {
+        Command::New { making, handle, .. } => {
             let handle = handle_named(table, handle)?;
             Some(making_call(*making, table.next(), handle))
         }

@@ -1,10 +1,10 @@
 //! What a line of a script says.
-ghost use Rattle.std.specs.Prelude.{◌≡◌, ◌==◌, ◌∷◌, length, option_copied};
+ghost use Rattle.std.specs.Prelude.{◌≡◌, option_copied};
 ghost use Rattle.std.specs.Option.{option_map};
 ghost use Rattle.channel_world_language.specs.Words.{words_after};
-ghost use Rattle.channel_world_language.specs.Command.{openings, parse, parsed, read, that_is, for_word, call_commands, message_commands, operation_commands, handle_commands, question_commands};
+ghost use Rattle.channel_world_language.specs.Command.{openings, parse, read, that_is, for_word, call_commands};
 ghost use Rattle.channel_world_language.specs.Language.{today};
-ghost use Rattle.channel_world_language.specs.Said.{said, said_line, said_first, sent_by, made_by, form_of};
+ghost use Rattle.channel_world_language.specs.Said.{said, said_line, said_first, form_of};
 
 use crate::words::{first_word, next_name, next_number};
 
@@ -140,159 +140,51 @@ enum Verb {
     SameChannel,
 }
 
-/// The verb of a message that is spelled so.
-fn message_verb(word: &[u8]) -> Option<Verb>
-    ensures { option_map form_of result ≡ for_word word.now message_commands }
-{
-    if word == b"try_send".as_slice() {
-        return Some(Verb::Message(Sending::Try));
-    }
-    if word == b"force_send".as_slice() {
-        return Some(Verb::Message(Sending::Force));
-    }
-    if word == b"try_recv".as_slice() {
-        return Some(Verb::One(Doing::TryRecv));
-    }
-    if word == b"recv_many".as_slice() {
-        return Some(Verb::RecvMany);
-    }
-    if word == b"next".as_slice() {
-        return Some(Verb::One(Doing::Next));
-    }
-    None
-}
-
-/// The verb of an operation that is spelled so.
-fn operation_verb(word: &[u8]) -> Option<Verb>
-    ensures { option_map form_of result ≡ for_word word.now operation_commands }
-{
-    if word == b"send".as_slice() {
-        return Some(Verb::Send);
-    }
-    if word == b"recv".as_slice() {
-        return Some(Verb::New(Making::Recv));
-    }
-    if word == b"closed".as_slice() {
-        return Some(Verb::New(Making::Closed));
-    }
-    if word == b"poll".as_slice() {
-        return Some(Verb::One(Doing::Poll));
-    }
-    if word == b"is_terminated".as_slice() {
-        return Some(Verb::One(Doing::IsTerminated));
-    }
-    None
-}
-
-/// The verb of a handle that is spelled so.
-fn handle_verb(word: &[u8]) -> Option<Verb>
-    ensures { option_map form_of result ≡ for_word word.now handle_commands }
-{
-    if word == b"drop".as_slice() {
-        return Some(Verb::One(Doing::Drop));
-    }
-    if word == b"close".as_slice() {
-        return Some(Verb::One(Doing::Close));
-    }
-    if word == b"clone".as_slice() {
-        return Some(Verb::New(Making::Clone));
-    }
-    if word == b"downgrade".as_slice() {
-        return Some(Verb::New(Making::Downgrade));
-    }
-    if word == b"upgrade".as_slice() {
-        return Some(Verb::New(Making::Upgrade));
-    }
-    if word == b"same_channel".as_slice() {
-        return Some(Verb::SameChannel);
-    }
-    None
-}
-
-/// The question that is spelled so.
-fn question_spelled(word: &[u8]) -> Option<Question>
-    ensures { option_map (λ q. form_of (Verb.One (Doing.Ask q))) result ≡ for_word word.now question_commands }
-{
-    if word == b"is_closed".as_slice() {
-        return Some(Question::IsClosed);
-    }
-    if word == b"is_empty".as_slice() {
-        return Some(Question::IsEmpty);
-    }
-    if word == b"is_full".as_slice() {
-        return Some(Question::IsFull);
-    }
-    if word == b"len".as_slice() {
-        return Some(Question::Len);
-    }
-    if word == b"capacity".as_slice() {
-        return Some(Question::Capacity);
-    }
-    if word == b"sender_count".as_slice() {
-        return Some(Question::SenderCount);
-    }
-    if word == b"receiver_count".as_slice() {
-        return Some(Question::ReceiverCount);
-    }
-    None
-}
+/// The first word of each command that makes a call, and its verb.
+static VERBS: [(&[u8], Verb); 23] = [
+    (b"try_send", Verb::Message(Sending::Try)),
+    (b"force_send", Verb::Message(Sending::Force)),
+    (b"try_recv", Verb::One(Doing::TryRecv)),
+    (b"recv_many", Verb::RecvMany),
+    (b"next", Verb::One(Doing::Next)),
+    (b"send", Verb::Send),
+    (b"recv", Verb::New(Making::Recv)),
+    (b"closed", Verb::New(Making::Closed)),
+    (b"poll", Verb::One(Doing::Poll)),
+    (b"is_terminated", Verb::One(Doing::IsTerminated)),
+    (b"drop", Verb::One(Doing::Drop)),
+    (b"close", Verb::One(Doing::Close)),
+    (b"clone", Verb::New(Making::Clone)),
+    (b"downgrade", Verb::New(Making::Downgrade)),
+    (b"upgrade", Verb::New(Making::Upgrade)),
+    (b"same_channel", Verb::SameChannel),
+    (b"is_closed", Verb::One(Doing::Ask(Question::IsClosed))),
+    (b"is_empty", Verb::One(Doing::Ask(Question::IsEmpty))),
+    (b"is_full", Verb::One(Doing::Ask(Question::IsFull))),
+    (b"len", Verb::One(Doing::Ask(Question::Len))),
+    (b"capacity", Verb::One(Doing::Ask(Question::Capacity))),
+    (
+        b"sender_count",
+        Verb::One(Doing::Ask(Question::SenderCount)),
+    ),
+    (
+        b"receiver_count",
+        Verb::One(Doing::Ask(Question::ReceiverCount)),
+    ),
+];
 
 /// The verb that is spelled so.
 fn verb_spelled(word: &[u8]) -> Option<Verb>
     ensures { option_map form_of result ≡ for_word word.now call_commands }
 {
-    if let Some(verb) = message_verb(word) {
-        return Some(verb);
-    }
-    if let Some(verb) = operation_verb(word) {
-        return Some(verb);
-    }
-    if let Some(verb) = handle_verb(word) {
-        return Some(verb);
-    }
-    match question_spelled(word) {
-        Some(question) => Some(Verb::One(Doing::Ask(question))),
-        None => None,
-    }
+    VERBS.iter().find(|row| word == row.0).map(|row| row.1)
 }
 
-/// Whether a line has no more words.
-fn is_end(rest: Option<&[u8]>) -> bool
-    ensures { result ≡ (length (words_after (option_copied rest.entry)) == 0) }
+/// The value, where the line has no more words.
+fn whole<T: Copy>(value: T, rest: Option<&[u8]>) -> Option<T>
+    ensures { result ≡ read (that_is value) (words_after (option_copied rest.entry)) }
 {
-    match rest {
-        None => true,
-        Some(_more) => false,
-    }
-}
-
-/// The command, where the line has no more words.
-fn whole<'a>(command: Command<'a>, rest: Option<&[u8]>) -> Option<Command<'a>>
-    ensures { option_map said result ≡ read (that_is (said command.entry)) (words_after (option_copied rest.entry)) }
-{
-    if is_end(rest) { Some(command) } else { None }
-}
-
-/// A send of this message, which doesn't wait.
-fn message_sent<'a>(sending: Sending, sender: &'a [u8], msg: u64) -> Command<'a>
-    ensures { said result ≡ sent_by sending sender.now msg }
-{
-    Command::Message {
-        sending,
-        sender,
-        msg,
-    }
-}
-
-/// What is made under this name, through this handle.
-fn made_new<'a>(making: Making, new: &'a [u8], handle: &'a [u8]) -> Command<'a>
-    ensures { said result ≡ made_by making new.now handle.now }
-{
-    Command::New {
-        making,
-        new,
-        handle,
-    }
+    rest.is_none().then_some(value)
 }
 
 /// The command of a verb and what stands after it on its line.
@@ -300,48 +192,43 @@ fn complete<'a>(verb: Verb, rest: Option<&'a [u8]>) -> Option<Command<'a>>
     ensures { option_map said result ≡ read (form_of verb) (words_after (option_copied rest.entry)) }
 {
     let (name, rest) = next_name(rest)?;
-    match verb {
-        Verb::One(doing) => whole(Command::One { doing, name }, rest),
+    let (command, rest) = match verb {
+        Verb::One(doing) => (Command::One { doing, name }, rest),
         Verb::Message(sending) => {
             let (msg, rest) = next_number(rest)?;
-            whole(message_sent(sending, name, msg), rest)
+            let command = Command::Message {
+                sending,
+                sender: name,
+                msg,
+            };
+            (command, rest)
         }
         Verb::RecvMany => {
             let (limit, rest) = next_number(rest)?;
             let receiver = name;
-            whole(Command::RecvMany { receiver, limit }, rest)
+            (Command::RecvMany { receiver, limit }, rest)
         }
         Verb::New(making) => {
             let (handle, rest) = next_name(rest)?;
-            whole(made_new(making, name, handle), rest)
+            let command = Command::New {
+                making,
+                new: name,
+                handle,
+            };
+            (command, rest)
         }
         Verb::Send => {
             let (sender, rest) = next_name(rest)?;
             let (msg, rest) = next_number(rest)?;
             let op = name;
-            whole(Command::Send { op, sender, msg }, rest)
+            (Command::Send { op, sender, msg }, rest)
         }
         Verb::SameChannel => {
             let (b, rest) = next_name(rest)?;
-            whole(Command::SameChannel { a: name, b }, rest)
+            (Command::SameChannel { a: name, b }, rest)
         }
-    }
-}
-
-/// What a line says of this word and what stands after it.
-fn line_of<'a>(word: &[u8], rest: Option<&'a [u8]>) -> Option<Line<'a>>
-    ensures { option_map said_line result ≡ parsed today (word.now ∷ words_after (option_copied rest.entry)) }
-{
-    if let Some(verb) = verb_spelled(word) {
-        return match complete(verb, rest) {
-            Some(command) => Some(Line::Call(command)),
-            None => None,
-        };
-    }
-    if word == b"settle".as_slice() && is_end(rest) {
-        return Some(Line::Settle);
-    }
-    None
+    };
+    whole(command, rest)
 }
 
 /// What a line says; None where it can't be read.
@@ -352,29 +239,11 @@ pub fn parse_line(line: &[u8]) -> Option<Line<'_>>
         return None;
     }
     let (word, rest) = first_word(line);
-    line_of(word, rest)
-}
-
-/// The opening of this word and what stands after it on its line.
-fn opening_of(word: &[u8], rest: Option<&[u8]>) -> Option<Opening>
-    ensures { option_map said_first result ≡ parsed openings (word.now ∷ words_after (option_copied rest.entry)) }
-{
-    if word == b"bounded".as_slice() {
-        let (capacity, rest) = next_number(rest)?;
-        return if is_end(rest) {
-            Some(Opening::Bounded { capacity })
-        } else {
-            None
-        };
+    match verb_spelled(word) {
+        Some(verb) => complete(verb, rest).map(Line::Call),
+        None if word == b"settle".as_slice() => whole(Line::Settle, rest),
+        None => None,
     }
-    if word == b"unbounded".as_slice() {
-        return if is_end(rest) {
-            Some(Opening::Unbounded)
-        } else {
-            None
-        };
-    }
-    None
 }
 
 /// The channel that the first line of a script says; None where it can't be read.
@@ -385,5 +254,12 @@ pub fn parse_opening(line: &[u8]) -> Option<Opening>
         return None;
     }
     let (word, rest) = first_word(line);
-    opening_of(word, rest)
+    if word == b"bounded".as_slice() {
+        let (capacity, rest) = next_number(rest)?;
+        return whole(Opening::Bounded { capacity }, rest);
+    }
+    if word == b"unbounded".as_slice() {
+        return whole(Opening::Unbounded, rest);
+    }
+    None
 }

@@ -82,10 +82,8 @@ impl<'a> Table<'a> {
         ensures { result ≡ named_in self.now name.now }
     {
         let number = self.numbers.get(name).copied()?;
-        match self.entries.get(number as usize) {
-            Some(entry) => Some(numbered(entry.sort, number)),
-            None => None,
-        }
+        let entry = self.entries.get(number as usize)?;
+        Some(numbered(entry.sort, number))
     }
 
     /// Whether a name was given.
@@ -111,9 +109,7 @@ impl<'a> Table<'a> {
     {
         let number = self.entries.len() as u32;
         self.entries.reserve(1)?;
-        let Ok(_before) = self.numbers.insert(name, number) else {
-            return Err(AllocError);
-        };
+        self.numbers.insert(name, number)?;
         self.entries.push_reserved(Entry { name, sort });
         Ok(())
     }

@@ -70,12 +70,10 @@ fn add_polled(reply: &Reply<u64>, line: &mut Vec<u8>) -> Result<(), AllocError>
     ensures whole { OnOk result (wants_growth reply.now ≡ false) }
 {
     match reply {
-        Reply::SendPoll(Poll::Pending) | Reply::RecvPoll(Poll::Pending) => {
-            line.extend_from_slice(b"pending")
-        }
-        Reply::ClosedPoll(Poll::Pending) | Reply::Next(Poll::Pending) => {
-            line.extend_from_slice(b"pending")
-        }
+        Reply::SendPoll(Poll::Pending)
+        | Reply::RecvPoll(Poll::Pending)
+        | Reply::ClosedPoll(Poll::Pending)
+        | Reply::Next(Poll::Pending) => line.extend_from_slice(b"pending"),
         Reply::SendPoll(Poll::Ready(Ok(_))) => line.extend_from_slice(b"ok"),
         Reply::SendPoll(Poll::Ready(Err(Refused::Plain(SendError(msg))))) => {
             add_number(b"closed ", *msg, line)

@@ -36,27 +36,21 @@ pub fn first_word(text: &[u8]) -> (&[u8], Option<&[u8]>)
     }
 }
 
-fn is_name_byte(b: u8) -> bool
-    ensures { result ≡ is_name_byte b }
-{
-    b.is_ascii_lowercase() || b.is_ascii_digit()
-}
-
 fn are_name_bytes(bytes: &[u8]) -> bool
     ensures { result ≡ list_all is_name_byte bytes.now }
 {
-    bytes.iter().all(|b| is_name_byte(*b))
+    bytes
+        .iter()
+        .all(|b| b.is_ascii_lowercase() || b.is_ascii_digit())
 }
 
 /// Whether a word is a name: 1 to 8 lower-case letters and digits, a letter first.
 fn is_name(bytes: &[u8]) -> bool
     ensures { result ≡ is_name bytes.now }
 {
-    match bytes.split_first() {
-        None => false,
-        Some((first, rest)) => {
-            first.is_ascii_lowercase() && (are_name_bytes(rest) && rest.len() < 8)
-        }
+    match bytes {
+        [] => false,
+        [first, rest @ ..] => first.is_ascii_lowercase() && are_name_bytes(rest) && rest.len() < 8,
     }
 }
 
@@ -65,11 +59,7 @@ pub fn next_name(rest: Option<&[u8]>) -> Option<(&[u8], Option<&[u8]>)>
     ensures { option_map (λ p. (p.0.now, words_after (option_copied p.1))) result ≡ first_name (words_after (option_copied rest.entry)) }
 {
     let (word, after) = first_word(rest?);
-    if is_name(word) {
-        Some((word, after))
-    } else {
-        None
-    }
+    is_name(word).then_some((word, after))
 }
 
 fn are_digits(bytes: &[u8]) -> bool
@@ -107,6 +97,5 @@ pub fn next_number(rest: Option<&[u8]>) -> Option<(u64, Option<&[u8]>)>
     ensures { option_map (λ p. (p.0, words_after (option_copied p.1))) result ≡ first_number (words_after (option_copied rest.entry)) }
 {
     let (word, after) = first_word(rest?);
-    let value = number(word)?;
-    Some((value, after))
+    Some((number(word)?, after))
 }

@@ -102,13 +102,13 @@ module _ {T W : Type 0} where
       × ((side : Side) → is_lowering side s ≡ asks_lowering side a) × ((side : Side) → is_raising side s ≡ asks_raising side a)
 
   abbrev TurnStarts : ChannelAsk T W → NextStep T W → Type 0
-  TurnStarts a (Tries x aim) = (p : Phase T) → Starts a (Trying p aim)
+  TurnStarts a (Tries x purpose) = (p : Phase T) → Starts a (Trying p purpose)
   TurnStarts a (Works w) = (p : Phase T) → Starts a (Working w)
   TurnStarts a (Ends x kept) = ⊥
 
   taken : (a : ChannelAsk T W) (t : NextStep T W) (r : Option (Reply T)) (s : Stage (Phase T) T W) → Turned t r s
       → TurnStarts a t → Starts a s
-  taken a (Tries x aim) r s h k = subst (λ (z : Stage (Phase T) T W). Starts a z) (sym h.1) (k (asked x))
+  taken a (Tries x purpose) r s h k = subst (λ (z : Stage (Phase T) T W). Starts a z) (sym h.1) (k (asked x))
   taken a (Works w) r s h k = subst (λ (z : Stage (Phase T) T W). Starts a z) (sym h.1) (k (asked queue.Pop))
   taken a (Ends x kept) r s h k = absurd k
 

@@ -16,7 +16,7 @@ use Rattle.channel_calls.specs.Turns.{dropper, closer_ending, ends_by}
 use Rattle.channel_calls.specs.declared.ask.ChannelAsk.{ChannelAsk}
 use Rattle.channel_calls.specs.declared.ask.ChannelAsk.TheVariants as ask
 use Rattle.channel_calls.specs.declared.reply.Reply.{Reply}
-use Rattle.channel_calls.specs.declared.stage.Purpose.TheVariants as aim
+use Rattle.channel_calls.specs.declared.stage.Purpose.TheVariants as purpose
 use Rattle.channel_calls.specs.declared.stage.Closer.{Closer}
 use Rattle.channel_calls.specs.declared.stage.Closer.TheVariants as closer
 use Rattle.channel_calls.specs.declared.stage.Side.{Side}
@@ -44,18 +44,18 @@ module _ (T W : Type 0) where
   closed_so q m y s h = absurd h
 
   closer_asks : (x : ChannelAsk T W) (c : Closer) (a : QueueAsk T) (ds : List (MarkedMoment T W)) (seen : List (Channel T W))
-      → TriesFor x (aim.Close c) a ds seen → a ≡ queue.Close
+      → TriesFor x (purpose.Close c) a ds seen → a ≡ queue.Close
   closer_asks ask.Close closer.Call queue.Close ds seen h = refl
   closer_asks ask.DropSender closer.Sender queue.Close ds seen h = refl
   closer_asks (ask.DropReceiver k) (closer.Receiver key) queue.Close ds seen h = refl
   closer_asks x c a ds seen h = absurd h
 
   shuts : (c : Channel T W) (f : Phase T) (cl : Closer) (e : Effect T W) (r : Option (Reply T)) (s : Stage (Phase T) T W)
-      → f.ask ≡ queue.Close → Tried c f (aim.Close cl) e r s → Shut e.channel
+      → f.ask ≡ queue.Close → Tried c f (purpose.Close cl) e r s → Shut e.channel
   shuts c f cl e r s asks h = by h.how
     where
-      by : ((f' : Phase T) × Continues c.queue f h.mark f' × (r ≡ None) × (s ≡ Trying f' (aim.Close cl)))
-          ⊎ ((y : QueueReply T) × Answers c.queue f h.mark y × Turned (answered_next (aim.Close cl) y) r s) → Shut e.channel
+      by : ((f' : Phase T) × Continues c.queue f h.mark f' × (r ≡ None) × (s ≡ Trying f' (purpose.Close cl)))
+          ⊎ ((y : QueueReply T) × Answers c.queue f h.mark y × Turned (answered_next (purpose.Close cl) y) r s) → Shut e.channel
       by (inl g) = absurd (subst (λ (a : QueueAsk T). ContinuesBy c.queue a h.mark f.stage (let n : Phase T = g.0 in n.stage)) asks g.1.1)
       by (inr g) =
           ap (λ (x : Effect T W). x.channel.queue.closed) h.effect
@@ -66,7 +66,7 @@ module _ (T W : Type 0) where
   pub closing_shuts : (side : Side) (c : Channel T W) (x : ChannelAsk T W) (at : Stage (Phase T) T W) (e : Effect T W)
       (r : Option (Reply T)) (s : Stage (Phase T) T W) (ds : List (MarkedMoment T W)) (seen : List (Channel T W)) → StageAt c x at ds seen
       → Moves c at e r s → is_closing side at ≡ true → Shut e.channel
-  closing_shuts side c x (Trying f (aim.Close cl)) e r s ds seen k h sure = shuts c f cl e r s (closer_asks x cl f.ask ds seen k.0) h
+  closing_shuts side c x (Trying f (purpose.Close cl)) e r s ds seen k h sure = shuts c f cl e r s (closer_asks x cl f.ask ds seen k.0) h
   closing_shuts side c x at e r s ds seen k h sure = absurd (let no : false ≡ true = sure in cc)
 
   -- ---- a drop that lowers the count
@@ -77,7 +77,7 @@ module _ (T W : Type 0) where
 
   left : (side z : Side) (key : Option Key) (n : ℕ) (r : Option (Reply T)) (s : Stage (Phase T) T W) (b : Bool) → (n == 1) ≡ b → 1 ≤ n
       → is_last_of side (dropper z key) ≡ true
-      → Turned (if b then Tries queue.Close (aim.Close (dropper z key)) else ends_by (closer_ending (dropper z key) false)) r s
+      → Turned (if b then Tries queue.Close (purpose.Close (dropper z key)) else ends_by (closer_ending (dropper z key) false)) r s
       → Left side r s (n - 1)
   left side z key n r s true e low last h = inr (h.0, ap (λ (x : Stage (Phase T) T W). is_closing side x) h.1 ∙ last)
   left side z key n r s false e low last h = inl (not_one n e low)

@@ -14,7 +14,7 @@ use Rattle.channel_calls.specs.declared.ask.ChannelAsk.{ChannelAsk}
 use Rattle.channel_calls.specs.declared.reply.Reply.{Reply}
 use Rattle.channel_calls.specs.declared.reply.Reply.TheVariants as reply
 use Rattle.channel_calls.specs.declared.stage.Purpose.{Purpose}
-use Rattle.channel_calls.specs.declared.stage.Purpose.TheVariants as aim
+use Rattle.channel_calls.specs.declared.stage.Purpose.TheVariants as purpose
 use Rattle.channel_calls.specs.declared.stage.Ending.{Ending}
 use Rattle.channel_calls.specs.declared.stage.ListenerRef.{ListenerRef}
 use Rattle.channel_calls.specs.declared.stage.WaitList.{WaitList}
@@ -189,7 +189,7 @@ module _ (T W : Type 0) where
         as_it (Working (Raise s n m)) r at e _ h.0 (raised s n m (is_raised s n c.roster) r at refl h.1)
 
     goes_on : (f f' : Phase T) (a : Purpose T W) → is_raising side (Trying f' a) ≡ is_raising side (Trying f a)
-    goes_on f f' aim.TrySend = refl
+    goes_on f f' purpose.TrySend = refl
     goes_on f f' x = refl
 
     continues : (f f' : Phase T) (a : Purpose T W) (r : Option (Reply T)) (s : Stage (Phase T) T W) → r ≡ None → s ≡ Trying f' a

@@ -33,6 +33,7 @@ pub mod OwedConfigurations
 pub mod OwedCounts
 pub mod OwedFacts
 mod OwedRows
+mod ResultFacts
 pub mod ShownFacts
 pub mod ObservationFacts
 pub mod CallFacts

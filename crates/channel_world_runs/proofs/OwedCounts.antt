@@ -14,7 +14,7 @@ use Rattle.channel_calls.specs.declared.mark.Mark.TheVariants.{Append, Replace, 
 use Rattle.channel_calls.specs.Parts.{listeners}
 use Rattle.channel_calls.specs.declared.ask.ChannelAsk.{ChannelAsk}
 use Rattle.channel_calls.specs.declared.ask.ChannelAsk.TheVariants as ask
-use Rattle.channel_calls.specs.declared.stage.Purpose.TheVariants as aim
+use Rattle.channel_calls.specs.declared.stage.Purpose.TheVariants as purpose
 use Rattle.channel_calls.specs.declared.stage.ListenerRef.{ListenerRef}
 use Rattle.channel_calls.specs.declared.stage.WaitList.{WaitList}
 use Rattle.channel_calls.specs.declared.stage.WaitList.TheVariants.{Sends, Receives, Streams, Closings}
@@ -267,7 +267,7 @@ module _ {T : Type 0} where
   trying_most x = omega arith
 
   anew : (line : WaitList) (at : stage.Stage (Phase T) T Waiter) → is_trying_anew at + in_hand line (holding at) ≤ 1
-  anew line (Trying f (aim.Poll l None task)) = omega (arith, trying_most f.stage)
+  anew line (Trying f (purpose.Poll l None task)) = omega (arith, trying_most f.stage)
   anew line at = let h = hand_most line (holding at) in omega (arith, h)
 
   appended_most : (x : Stage T) → has_appended x ≤ 1
@@ -357,7 +357,7 @@ module _ {T : Type 0} where
   -- no more are to be told than were taken and not announced
   announces : (now : Channel T Waiter) (a : ChannelAsk T Waiter) (at : stage.Stage (Phase T) T Waiter) (told : List Telling) (ds : List (MarkedMoment T Waiter)) (seen : List (Channel T Waiter))
       → StageAt now a at ds seen → ToldAt told at ds → is_to_tell_send at ≤ unless_told told (takings ds)
-  announces now a (Trying f (aim.RecvMany g)) told ds seen h k = untold _ (takings ds) told k (let t = h.1 in tries_take now g.taken f.ask f.stage ds t.0 seen t.1 t.2)
+  announces now a (Trying f (purpose.RecvMany g)) told ds seen h k = untold _ (takings ds) told k (let t = h.1 in tries_take now g.taken f.ask f.stage ds t.0 seen t.1 t.2)
   announces now a (Trying f y) told ds seen h k = untold _ (takings ds) told k (try_takes now f.ask f.stage ds seen h.1)
   announces now a (Working (TellSend x)) told ds seen h k = to_announce 1 (takings ds) told ds k
   announces now a (Working (TellSends n x)) told ds seen h k = to_announce n (takings ds) told ds k

@@ -5,7 +5,7 @@ use Rattle.event_listener.specs.declared.key.Key.{Key}
 use Rattle.channel_calls.specs.Parts.{listeners}
 use Rattle.channel_calls.specs.declared.ask.ChannelAsk.{ChannelAsk}
 use Rattle.channel_calls.specs.declared.ask.ChannelAsk.TheVariants as ask
-use Rattle.channel_calls.specs.declared.stage.Purpose.TheVariants as aim
+use Rattle.channel_calls.specs.declared.stage.Purpose.TheVariants as purpose
 use Rattle.channel_calls.specs.declared.stage.ListenerRef.{ListenerRef}
 use Rattle.channel_calls.specs.declared.stage.WaitList.{WaitList}
 use Rattle.channel_calls.specs.declared.stage.WaitList.TheVariants.{Sends, Receives, Streams}
@@ -49,7 +49,7 @@ module _ {T : Type 0} where
   -- ---- what is in hand
 
   listener_held : (line : WaitList) (key : Key) (at : Stage (Phase T) T Waiter) → HoldsListener line key at → holding at ≡ Some (this line key)
-  listener_held line key (Trying f (aim.Poll l (Some k) task)) h = both l line k key h.0 h.1
+  listener_held line key (Trying f (purpose.Poll l (Some k) task)) h = both l line k key h.0 h.1
   listener_held line key (Working (TellReceive x)) h = h
   listener_held line key (Working (TellStreams x)) h = h
   listener_held line key (Working (TellSend x)) h = h
@@ -57,13 +57,13 @@ module _ {T : Type 0} where
   listener_held line key at h = absurd h
 
   looks_held : (line : WaitList) (key : Key) (at : Stage (Phase T) T Waiter) → LooksAgain line key at → holding at ≡ Some (this line key)
-  looks_held line key (Trying f (aim.Poll l (Some k) task)) h = both l line k key h.0 h.1
+  looks_held line key (Trying f (purpose.Poll l (Some k) task)) h = both l line k key h.0 h.1
   looks_held line key (Working (TellSend x)) h = h
   looks_held line key (Working (Leave x)) h = h
   looks_held line key at h = absurd h
 
   stream_held : (key : Key) (at : Stage (Phase T) T Waiter) → HasInHand key at → holding at ≡ Some (this Streams key)
-  stream_held key (Trying f (aim.Poll Streams (Some k) task)) h = both Streams Streams k key refl h
+  stream_held key (Trying f (purpose.Poll Streams (Some k) task)) h = both Streams Streams k key refl h
   stream_held key (Working (TellSend x)) h = h
   stream_held key (Working (Leave x)) h = h
   stream_held key at h = absurd h

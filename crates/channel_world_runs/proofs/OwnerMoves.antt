@@ -360,32 +360,32 @@ module _ (T W : Type 0) where
         (on_it_goes (Working (Raise side n making)) r s _ _ (raised (is_raised side n c.roster) side n None) h.1
         (raised_has T W side making (is_raised side n c.roster)))
 
-    goes_on : (f f' : Phase T) (aim : Purpose T W) (r : Option (Reply T)) (s : Stage (Phase T) T W) (d : Channel T W) → r ≡ None
-        → s ≡ Trying f' aim → Then x (Trying f aim) r s (holding (Trying f aim)) d
-    goes_on f f' aim None s d e same = subst (λ (z : Stage (Phase T) T W). (holding z ≡ holding (Trying f aim))
-        × MayBear (task_at z) (task_at (Trying f aim))) (sym same) (refl, inr refl)
-    goes_on f f' aim (Some y) s d e same = absurd (let no : Some y ≡ None = e in cc)
+    goes_on : (f f' : Phase T) (purpose : Purpose T W) (r : Option (Reply T)) (s : Stage (Phase T) T W) (d : Channel T W) → r ≡ None
+        → s ≡ Trying f' purpose → Then x (Trying f purpose) r s (holding (Trying f purpose)) d
+    goes_on f f' purpose None s d e same = subst (λ (z : Stage (Phase T) T W). (holding z ≡ holding (Trying f purpose))
+        × MayBear (task_at z) (task_at (Trying f purpose))) (sym same) (refl, inr refl)
+    goes_on f f' purpose (Some y) s d e same = absurd (let no : Some y ≡ None = e in cc)
 
     -- any step
     pub turnout : (at : Stage (Phase T) T W) (e : Effect T W) (r : Option (Reply T)) (s : Stage (Phase T) T W)
         (ds : List (MarkedMoment T W)) (seen : List (Channel T W)) → StageAt c x at ds seen → Bears (task_at at) (wait_of x)
         → Moves c at e r s → Out at r s e
-    turnout (Trying f aim) e r s ds seen k b h = tried h.how
+    turnout (Trying f purpose) e r s ds seen k b h = tried h.how
       where
-        tried : ((f' : Phase T) × Continues c.queue f h.mark f' × (r ≡ None) × (s ≡ Trying f' aim))
-            ⊎ ((y : QueueReply T) × Answers c.queue f h.mark y × Turned (answered_next aim y) r s) → Out (Trying f aim) r s e
+        tried : ((f' : Phase T) × Continues c.queue f h.mark f' × (r ≡ None) × (s ≡ Trying f' purpose))
+            ⊎ ((y : QueueReply T) × Answers c.queue f h.mark y × Turned (answered_next purpose y) r s) → Out (Trying f purpose) r s e
         tried (inl g) =
-            as_it (Trying f aim) r s e (queued f h.mark c) h.effect
+            as_it (Trying f purpose) r s e (queued f h.mark c) h.effect
             (record {
-              has = holding (Trying f aim);
-              lists = still c.roster [] (holding (Trying f aim));
+              has = holding (Trying f purpose);
+              lists = still c.roster [] (holding (Trying f purpose));
               how = inl refl;
               own = λ i e. inl e;
-              next = goes_on f g.0 aim r s (queued f h.mark c).channel g.2 g.3;
+              next = goes_on f g.0 purpose r s (queued f h.mark c).channel g.2 g.3;
             })
         tried (inr g) =
-            as_it (Trying f aim) r s e (queued f h.mark c) h.effect
-            (on_it_goes (Trying f aim) r s (queued f h.mark c) _ (still c.roster [] (holding (Trying f aim))) g.2
-            (answered_has T W f c.queue x aim f.ask h.mark g.0 f.stage ds seen k.0 g.1).0)
+            as_it (Trying f purpose) r s e (queued f h.mark c) h.effect
+            (on_it_goes (Trying f purpose) r s (queued f h.mark c) _ (still c.roster [] (holding (Trying f purpose))) g.2
+            (answered_has T W f c.queue x purpose f.ask h.mark g.0 f.stage ds seen k.0 g.1).0)
     turnout (Working w) e r s ds seen k b h = works w e r s ds seen k b h
     turnout (Finished kept) e r s ds seen k b h = absurd k

@@ -21,7 +21,7 @@ use Rattle.channel_calls.specs.declared.ask.ChannelAsk.TheVariants as ask
 use Rattle.channel_calls.specs.declared.reply.Reply.{Reply}
 use Rattle.channel_calls.specs.declared.reply.Reply.TheVariants as reply
 use Rattle.channel_calls.specs.declared.stage.Purpose.{Purpose}
-use Rattle.channel_calls.specs.declared.stage.Purpose.TheVariants as aim
+use Rattle.channel_calls.specs.declared.stage.Purpose.TheVariants as purpose
 use Rattle.channel_calls.specs.declared.stage.Closer.{Closer}
 use Rattle.channel_calls.specs.declared.stage.Closer.TheVariants as closer
 use Rattle.channel_calls.specs.declared.stage.Ending.{Ending}
@@ -43,7 +43,7 @@ use Rattle.channel_calls.specs.declared.stage.ListStep.TheVariants.{Leave}
 use Rattle.channel_calls.specs.declared.stage.ListStep.TheVariants as work
 use Rattle.channel_steps.specs.Known.{TriesFor}
 use Rattle.channel_world_runs.specs.Counted.{same_side, is_lowering, is_raising}
-use Rattle.channel_world_runs.specs.Owners.{closer_holds, aim_holds, aim_task, work_holds, work_task}
+use Rattle.channel_world_runs.specs.Owners.{closer_holds, purpose_holds, purpose_task, work_holds, work_task}
 use Rattle.channel_world_runs.proofs.RefusalLemmas.{and_false}
 
 module _ {W : Type 0} where
@@ -89,7 +89,7 @@ module _ {T : Type 0} where
 module _ (T W : Type 0) where
   -- after this turn the call has this listener in hand, for this task; where it ends, it has none
   abbrev pub Has : Option ListenerRef → Option W → NextStep T W → Type 0
-  Has h task (Tries x a) = (aim_holds a ≡ h) × MayBear (aim_task a) task
+  Has h task (Tries x a) = (purpose_holds a ≡ h) × MayBear (purpose_task a) task
   Has h task (Works w) = (work_holds w ≡ h) × MayBear (work_task w) task
   Has h task (Ends x kept) = (h ≡ None) × (kept.key ≡ None)
 
@@ -135,7 +135,7 @@ module _ (T W : Type 0) where
   told_all_has Closings c task = closer_has c true task
   told_all_has line c task = ((refl, inl refl), λ side. (refl, refl))
 
-  lowered_or : (b : Bool) (side : Side) (key : Option Key) (task : Option W) → Goes (closer_holds (dropper side key)) task never (if b then Tries queue.Close (aim.Close (dropper side key)) else ends_by (closer_ending (dropper side key) false))
+  lowered_or : (b : Bool) (side : Side) (key : Option Key) (task : Option W) → Goes (closer_holds (dropper side key)) task never (if b then Tries queue.Close (purpose.Close (dropper side key)) else ends_by (closer_ending (dropper side key) false))
   lowered_or true side key task = ((refl, inl refl), λ s. refl)
   lowered_or false side key task = closer_has (dropper side key) false task
 
@@ -239,19 +239,19 @@ module _ (T W : Type 0) where
 
   -- a call of the channel goes on with what it has in hand
   pub answered_has : (f : Phase T) (q : Queue T) (x : ChannelAsk T W) (y : Purpose T W) (a : QueueAsk T) (m : QueueMark) (r : QueueReply T) (s : Stage T) (ds : _) (seen : _)
-      → TriesFor x y a ds seen → AnswersTo q a m r s → Goes (aim_holds y) (aim_task y) (λ side. is_raising side (Trying f y)) (answered_next y r)
-  answered_has f q x aim.TrySend a m r s ds seen t h = sent_has r
-  answered_has f q x aim.ForceSend a m r s ds seen t h = forced_has r
-  answered_has f q x aim.TryRecv a m r s ds seen t h = received_has r
-  answered_has f q x (aim.RecvMany g) a m r s ds seen t h = several_has r g
-  answered_has f q x aim.Ask a m r s ds seen t h = asked_has r
-  answered_has f q x aim.IsTerminated a m r s ds seen t h = terminated_has r
-  answered_has f q x (aim.Upgrade side) a m r s ds seen t h = upgraded_has r side
-  answered_has f q (ask.PollSend v k u) (aim.Poll Sends key task) (queue.Push w) m r s ds seen t h = send_has r key task (push_is q w m r s h)
-  answered_has f q (ask.PollRecv k u) (aim.Poll Receives key task) queue.Pop m r s ds seen t h = receive_has r key task (pop_is q m r s h)
-  answered_has f q (ask.PollNext k u) (aim.Poll Streams key task) queue.Pop m r s ds seen t h = stream_has r key task (pop_is q m r s h)
-  answered_has f q (ask.PollClosed k u) (aim.Poll Closings key task) queue.IsClosed m r s ds seen t h = closing_has r key task (flag_is q m r s h)
-  answered_has f q ask.Close (aim.Close closer.Call) queue.Close m r s ds seen t h = closed_has r closer.Call (closing_is q m r s h)
-  answered_has f q ask.DropSender (aim.Close closer.Sender) queue.Close m r s ds seen t h = closed_has r closer.Sender (closing_is q m r s h)
-  answered_has f q (ask.DropReceiver k) (aim.Close (closer.Receiver key)) queue.Close m r s ds seen t h = closed_has r (closer.Receiver key) (closing_is q m r s h)
+      → TriesFor x y a ds seen → AnswersTo q a m r s → Goes (purpose_holds y) (purpose_task y) (λ side. is_raising side (Trying f y)) (answered_next y r)
+  answered_has f q x purpose.TrySend a m r s ds seen t h = sent_has r
+  answered_has f q x purpose.ForceSend a m r s ds seen t h = forced_has r
+  answered_has f q x purpose.TryRecv a m r s ds seen t h = received_has r
+  answered_has f q x (purpose.RecvMany g) a m r s ds seen t h = several_has r g
+  answered_has f q x purpose.Ask a m r s ds seen t h = asked_has r
+  answered_has f q x purpose.IsTerminated a m r s ds seen t h = terminated_has r
+  answered_has f q x (purpose.Upgrade side) a m r s ds seen t h = upgraded_has r side
+  answered_has f q (ask.PollSend v k u) (purpose.Poll Sends key task) (queue.Push w) m r s ds seen t h = send_has r key task (push_is q w m r s h)
+  answered_has f q (ask.PollRecv k u) (purpose.Poll Receives key task) queue.Pop m r s ds seen t h = receive_has r key task (pop_is q m r s h)
+  answered_has f q (ask.PollNext k u) (purpose.Poll Streams key task) queue.Pop m r s ds seen t h = stream_has r key task (pop_is q m r s h)
+  answered_has f q (ask.PollClosed k u) (purpose.Poll Closings key task) queue.IsClosed m r s ds seen t h = closing_has r key task (flag_is q m r s h)
+  answered_has f q ask.Close (purpose.Close closer.Call) queue.Close m r s ds seen t h = closed_has r closer.Call (closing_is q m r s h)
+  answered_has f q ask.DropSender (purpose.Close closer.Sender) queue.Close m r s ds seen t h = closed_has r closer.Sender (closing_is q m r s h)
+  answered_has f q (ask.DropReceiver k) (purpose.Close (closer.Receiver key)) queue.Close m r s ds seen t h = closed_has r (closer.Receiver key) (closing_is q m r s h)
   answered_has f q x y a m r s ds seen t h = absurd t

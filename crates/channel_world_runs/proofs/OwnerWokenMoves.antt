@@ -178,7 +178,7 @@ module _ {T W : Type 0} where
     -- any step
     pub follows : (at : Stage (Phase T) T W) (e : Effect T W) (r : Option (Reply T)) (s : Stage (Phase T) T W)
         → Moves c at e r s → After (holding at) (task_at at) e
-    follows (Trying f aim) e r s h =
+    follows (Trying f purpose) e r s h =
         as_it _ _ e (queued f h.mark c) h.effect (as_before c (queued f h.mark c).channel _ _ (λ line. refl))
     follows (Working w) e r s h = works w e r s h
     follows (Finished kept) e r s h = as_it None None e _ h.0 (as_before c c None None (λ line. refl))

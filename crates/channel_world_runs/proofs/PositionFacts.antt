@@ -26,7 +26,7 @@ use Rattle.channel_calls.specs.declared.ask.ChannelAsk.TheVariants as channel
 use Rattle.channel_calls.specs.declared.reply.Reply.{Reply}
 use Rattle.channel_calls.specs.declared.reply.Reply.TheVariants as reply
 use Rattle.channel_calls.specs.declared.stage.Purpose.{Purpose}
-use Rattle.channel_calls.specs.declared.stage.Purpose.TheVariants as aim
+use Rattle.channel_calls.specs.declared.stage.Purpose.TheVariants as purpose
 use Rattle.channel_calls.specs.declared.stage.Closer.{Closer}
 use Rattle.channel_calls.specs.declared.stage.Ending.{Ending}
 use Rattle.channel_calls.specs.declared.stage.ListenerRef.{ListenerRef}
@@ -226,7 +226,7 @@ module _ (T W : Type 0) where
   told_yet x y = refl
 
   lowered_yet : (b : Bool) (y : Closer)
-      → yet_after (let t : NextStep T W = (if b then Tries ask.Close (aim.Close y) else ends_by (closer_ending y false)) in t) ≡ 0
+      → yet_after (let t : NextStep T W = (if b then Tries ask.Close (purpose.Close y) else ends_by (closer_ending y false)) in t) ≡ 0
   lowered_yet true y = refl
   lowered_yet false y = ended_yet W (closer_ending y false)
 
@@ -253,15 +253,15 @@ no_more n m e = omega (arith, e)
 
 module _ {T W : Type 0} where
   answered_yet : (a : Purpose T W) (r : QueueReply T) → FewYet (answered_next a r) r
-  answered_yet aim.TrySend r = sent_yet W r
-  answered_yet aim.ForceSend r = forced_yet W r
-  answered_yet aim.TryRecv r = received_yet W r
-  answered_yet (aim.RecvMany g) r = several_yet W r g
-  answered_yet (aim.Poll line key task) r = polled_yet line r key task
-  answered_yet (aim.Close c) r = closed_yet W r c
-  answered_yet aim.Ask r = asked_yet W r
-  answered_yet aim.IsTerminated r = terminated_yet W r
-  answered_yet (aim.Upgrade side) r = upgraded_yet W r side
+  answered_yet purpose.TrySend r = sent_yet W r
+  answered_yet purpose.ForceSend r = forced_yet W r
+  answered_yet purpose.TryRecv r = received_yet W r
+  answered_yet (purpose.RecvMany g) r = several_yet W r g
+  answered_yet (purpose.Poll line key task) r = polled_yet line r key task
+  answered_yet (purpose.Close c) r = closed_yet W r c
+  answered_yet purpose.Ask r = asked_yet W r
+  answered_yet purpose.IsTerminated r = terminated_yet W r
+  answered_yet (purpose.Upgrade side) r = upgraded_yet W r side
 
   -- ---- one step of a call
 

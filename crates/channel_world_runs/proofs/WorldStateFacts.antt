@@ -243,9 +243,9 @@ module _ {T : Type 0} where
       let made : StepsAt Hears (parts_in old) (parties_of old) k empty entry (parts_in new) (parties_of new) full =
       rw (mark, left) (steps (parties_of old) k (get-map party_in old.calls.items k c there)) in
       let h = made s c.party range sh.shows (get-map party_in old.calls.items k c there) in
-      let roster : (parts_in old).roster ≡ s.now.roster = sym (ap (λ (c : Channel T Waiter). c.roster) sh.shows.now) in
+      let wait_lists : (parts_in old).roster ≡ s.now.roster = sym (ap (λ (c : Channel T Waiter). c.roster) sh.shows.now) in
       let most_now : ((line : WaitList) → length (listeners line s.now.roster).waiting ≤ n) =
-      subst (λ (r : WaitLists Waiter). (line : WaitList) → length (listeners line r).waiting ≤ n) roster most in
+      subst (λ (r : WaitLists Waiter). (line : WaitList) → length (listeners line r).waiting ≤ n) wait_lists most in
       let few = few_woken n s.now most_now (telling h.steps.step.mine.at) (dropping h.steps.step.mine.at) h.names h.steps.step.named in
       let start : vec_len empty.names ≡ length empty.names.items = empty.names.ok.0 in
       let nobody : length empty.names.items ≡ 0 = ap length none in

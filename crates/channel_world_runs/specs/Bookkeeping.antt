@@ -31,6 +31,13 @@ use Rattle.channel_world_model.specs.declared.plan.Kinship.TheVariants as kinshi
 use Rattle.channel_world_model.specs.declared.plan.Plan.{Plan}
 use Rattle.channel_world_model.specs.declared.plan.Plan.TheVariants as plan
 
+-- whether a call of this plan brings nothing but names of what lives
+abbrev pub is_named : Plan → Bool
+is_named (plan.Through wanted handle) = false
+is_named (plan.Makes wanted handle op kind) = false
+is_named (plan.Mints wanted from new to) = false
+is_named p = true
+
 module _ {T : Type 0} where
   -- ---- the beginning
 
@@ -127,11 +134,6 @@ module _ {T : Type 0} where
   mint_asked kinship.Own h = clone_asked h
   mint_asked kinship.Weak h = ask.Make
   mint_asked kinship.Strong h = upgrade_asked h
-
-  -- whether a poll was refused its waker
-  abbrev pub is_poll_refused : Call T → Bool
-  is_poll_refused (call.PollRefused op) = true
-  is_poll_refused c = false
 
   -- a call has begun
   pub record BeginsByName (old : NameTable T) (c : Call T) (begun : Begun T) (new : NameTable T) : Type 0 where

@@ -1,7 +1,7 @@
 -- What the counts of senders and receivers count: the strong handles that live, and the calls under way that are to lower them.
 use Rattle.std.specs.Prelude.{◌≡◌, ◌⊎◌, ℕ, ◌+◌, ◌≤◌, Bool, true, false, cond, List, [], ◌∷◌, map, Option, None, Some}
 use Rattle.channel_calls.specs.Parts.{count}
-use Rattle.channel_calls.specs.declared.stage.Purpose.TheVariants as aim
+use Rattle.channel_calls.specs.declared.stage.Purpose.TheVariants as purpose
 use Rattle.channel_calls.specs.declared.stage.Closer.{Closer}
 use Rattle.channel_calls.specs.declared.stage.Closer.TheVariants as closer
 use Rattle.channel_calls.specs.declared.stage.Side.{Side}
@@ -64,12 +64,12 @@ module _ {Q T W : Type 0} where
 
   -- the drop of the last one, which has lowered the count to nothing and is to close the channel
   abbrev pub is_closing : Side → Stage Q T W → Bool
-  is_closing side (Trying q (aim.Close c)) = is_last_of side c
+  is_closing side (Trying q (purpose.Close c)) = is_last_of side c
   is_closing side at = false
 
   -- a clone or an upgrade that may yet raise the count, in the step that ends it
   abbrev pub is_raising : Side → Stage Q T W → Bool
-  is_raising side (Trying q (aim.Upgrade s)) = same_side side s
+  is_raising side (Trying q (purpose.Upgrade s)) = same_side side s
   is_raising side (Working (Load s making)) = same_side side s
   is_raising side (Working (Raise s n making)) = same_side side s
   is_raising side at = false

@@ -9,7 +9,7 @@ use Rattle.channel_calls.specs.Turns.{held_on, line_of}
 use Rattle.channel_calls.specs.declared.ask.ChannelAsk.{ChannelAsk}
 use Rattle.channel_calls.specs.declared.ask.ChannelAsk.TheVariants as ask
 use Rattle.channel_calls.specs.declared.stage.Purpose.{Purpose}
-use Rattle.channel_calls.specs.declared.stage.Purpose.TheVariants as aim
+use Rattle.channel_calls.specs.declared.stage.Purpose.TheVariants as purpose
 use Rattle.channel_calls.specs.declared.stage.Closer.{Closer}
 use Rattle.channel_calls.specs.declared.stage.Closer.TheVariants as closer
 use Rattle.channel_calls.specs.declared.stage.ListenerRef.{ListenerRef}
@@ -117,14 +117,14 @@ closer_holds (closer.Receiver key) = held_on Streams key
 closer_holds c = None
 
 module _ {T W : Type 0} where
-  abbrev pub aim_holds : Purpose T W → Option ListenerRef
-  aim_holds (aim.Poll line key task) = held_on line key
-  aim_holds (aim.Close c) = closer_holds c
-  aim_holds a = None
+  abbrev pub purpose_holds : Purpose T W → Option ListenerRef
+  purpose_holds (purpose.Poll line key task) = held_on line key
+  purpose_holds (purpose.Close c) = closer_holds c
+  purpose_holds a = None
 
-  abbrev pub aim_task : Purpose T W → Option W
-  aim_task (aim.Poll line key task) = Some task
-  aim_task a = None
+  abbrev pub purpose_task : Purpose T W → Option W
+  purpose_task (purpose.Poll line key task) = Some task
+  purpose_task a = None
 
 module _ {W : Type 0} where
   -- the task of its listener is that of its operation
@@ -146,7 +146,7 @@ module _ {T W : Type 0} where
 
   -- the listener that a call at this stage has in hand
   abbrev pub holding : Stage (Phase T) T W → Option ListenerRef
-  holding (Trying f a) = aim_holds a
+  holding (Trying f a) = purpose_holds a
   holding (Working w) = work_holds w
   holding (Finished kept) = None
 
@@ -157,7 +157,7 @@ module _ {T W : Type 0} where
 
   -- the task that its listener is to wake
   abbrev pub task_at : Stage (Phase T) T W → Option W
-  task_at (Trying f a) = aim_task a
+  task_at (Trying f a) = purpose_task a
   task_at (Working w) = work_task w
   task_at (Finished kept) = None
 

@@ -44,7 +44,7 @@ module _ {T W : Type 0} where
 
   -- how many messages a call at this stage may yet bring
   abbrev pub yet : Stage (Phase T) T W → ℕ
-  yet (Trying f aim) = yet_tried f.ask f.stage
+  yet (Trying f purpose) = yet_tried f.ask f.stage
   yet (Working w) = yet_worked w
   yet (Finished kept) = 0
 

@@ -57,19 +57,14 @@ impl Activity {
     }
 
     /// The same call after a step with this mark.
-    pub(crate) fn after(self, mark: Mark) -> Activity
+    pub(crate) fn after(mut self, mark: Mark) -> Activity
         ensures { result ≡ activity_after mark self }
     {
         match mark {
-            Mark::Close => Activity {
-                has_closed: true,
-                ..self
-            },
-            Mark::Take => Activity {
-                taken: self.taken.saturating_add(1),
-                ..self
-            },
-            _ => self,
+            Mark::Close => self.has_closed = true,
+            Mark::Take => self.taken = self.taken.saturating_add(1),
+            _ => {}
         }
+        self
     }
 }

@@ -1,8 +1,8 @@
 //! What calls do to the names as they begin, what they ask of the channel, and what they will have to write back.
 
 ghost use Rattle.std.specs.Prelude.{◌≡◌, Some};
-ghost use Rattle.channel_world_model.specs.Asked.{poll_asked, refusal_asked, drop_asked, clone_asked, upgrade_asked, plain_asked};
-ghost use Rattle.channel_world_runs.specs.Bookkeeping.{is_poll_refused, mint_asked, new_message, unpolled};
+ghost use Rattle.channel_world_model.specs.Asked.{poll_asked, refusal_asked, drop_asked, plain_asked};
+ghost use Rattle.channel_world_runs.specs.Bookkeeping.{mint_asked, new_message, unpolled};
 
 use crate::name_table::NameTable;
 use crate::names::{OnReturn, OperationEntry, PollState};
@@ -22,35 +22,20 @@ pub(crate) struct Begun<T> {
     pub(crate) on_return: OnReturn<T>,
 }
 
-/// What a clone of a handle asks: a weak one is not counted.
-fn clone_ask<T>(handle: Handle) -> ChannelAsk<T, Waiter>
-    ensures { result ≡ clone_asked (Some handle) }
-{
-    match handle.kind {
-        HandleKind::Sender => ChannelAsk::CloneHandle(Side::Senders),
-        HandleKind::Receiver => ChannelAsk::CloneHandle(Side::Receivers),
-        HandleKind::WeakSender | HandleKind::WeakReceiver => ChannelAsk::Make,
-    }
-}
-
-/// What an upgrade of a handle asks.
-fn upgrade_ask<T>(handle: Handle) -> ChannelAsk<T, Waiter>
-    ensures { result ≡ upgrade_asked (Some handle) }
-{
-    match handle.kind {
-        HandleKind::Sender | HandleKind::WeakSender => ChannelAsk::Upgrade(Side::Senders),
-        HandleKind::Receiver | HandleKind::WeakReceiver => ChannelAsk::Upgrade(Side::Receivers),
-    }
-}
-
-/// What the making of a handle from another asks.
+/// What the making of a handle from another asks: a weak one is not counted.
 fn mint_ask<T>(kinship: Kinship, handle: Handle) -> ChannelAsk<T, Waiter>
     ensures { result ≡ mint_asked kinship (Some handle) }
 {
-    match kinship {
-        Kinship::Own => clone_ask(handle),
-        Kinship::Weak => ChannelAsk::Make,
-        Kinship::Strong => upgrade_ask(handle),
+    match (kinship, handle.kind) {
+        (Kinship::Own, HandleKind::Sender) => ChannelAsk::CloneHandle(Side::Senders),
+        (Kinship::Own, HandleKind::Receiver) => ChannelAsk::CloneHandle(Side::Receivers),
+        (Kinship::Strong, HandleKind::Sender | HandleKind::WeakSender) => {
+            ChannelAsk::Upgrade(Side::Senders)
+        }
+        (Kinship::Strong, HandleKind::Receiver | HandleKind::WeakReceiver) => {
+            ChannelAsk::Upgrade(Side::Receivers)
+        }
+        _ => ChannelAsk::Make,
     }
 }
 
@@ -66,28 +51,30 @@ fn drop_ask<T>(handle: Handle, key: Option<Key>) -> ChannelAsk<T, Waiter>
 }
 
 /// What a poll of an operation asks.
-fn poll_ask<T>(operation: Operation<T>, key: Option<Key>, op: OpId) -> ChannelAsk<T, Waiter>
-    ensures { result ≡ poll_asked key op (Some operation) }
+fn poll_ask<T>(operation: Option<Operation<T>>, key: Option<Key>, op: OpId) -> ChannelAsk<T, Waiter>
+    ensures { result ≡ poll_asked key op operation }
 {
     match operation {
-        Operation::Send {
-            handle: _,
-            message: Some(message),
-        } => ChannelAsk::PollSend(message, lent(key), Waiter::Op(op)),
-        Operation::Send {
-            handle: _,
-            message: None,
-        } => ChannelAsk::PollFinishedSend,
-        Operation::Receive { .. } => ChannelAsk::PollRecv(lent(key), Waiter::Op(op)),
-        Operation::Closing { .. } => ChannelAsk::PollClosed(key, Waiter::Op(op)),
+        Some(Operation::Send { handle: _, message }) => match message {
+            Some(message) => ChannelAsk::PollSend(message, lent(key), Waiter::Op(op)),
+            None => ChannelAsk::PollFinishedSend,
+        },
+        Some(Operation::Receive { .. }) => ChannelAsk::PollRecv(lent(key), Waiter::Op(op)),
+        Some(Operation::Closing { .. }) => ChannelAsk::PollClosed(key, Waiter::Op(op)),
+        None => ChannelAsk::Make,
     }
 }
 
 /// What a poll of an operation asks that was refused its waker.
-fn refusal_ask<T>(operation: Operation<T>, key: Option<Key>) -> ChannelAsk<T, Waiter>
-    ensures { result ≡ refusal_asked key (Some operation) }
+fn refusal_ask<T>(operation: Option<Operation<T>>, key: Option<Key>) -> ChannelAsk<T, Waiter>
+    ensures { result ≡ refusal_asked key operation }
 {
-    ChannelAsk::RefusePoll(operation.waits_in(), operation.into_message(), key)
+    match operation {
+        Some(operation) => {
+            ChannelAsk::RefusePoll(operation.waits_in(), operation.into_message(), key)
+        }
+        None => ChannelAsk::Make,
+    }
 }
 
 /// What a call asks that goes through one handle. A receive of several messages takes its room from `alloc`, at its first step.
@@ -108,10 +95,7 @@ fn plain_ask<T: Drop>(call: Call<T>, alloc: Global) -> ChannelAsk<T, Waiter>
         Call::Capacity { .. } => ChannelAsk::Capacity,
         Call::SenderCount { .. } => ChannelAsk::HandleCount(Side::Senders),
         Call::ReceiverCount { .. } => ChannelAsk::HandleCount(Side::Receivers),
-        other => {
-            drop(other);
-            ChannelAsk::Make
-        }
+        _ => ChannelAsk::Make,
     }
 }
 
@@ -121,18 +105,8 @@ fn new_message<T: Drop>(call: Call<T>) -> Option<T>
 {
     match call {
         Call::NewSend { msg, .. } => Some(msg),
-        other => {
-            drop(other);
-            None
-        }
+        _ => None,
     }
-}
-
-/// Whether a poll was refused its waker.
-fn is_poll_refused<T>(call: &Call<T>) -> bool
-    ensures { result ≡ is_poll_refused call.now }
-{
-    matches!(call, Call::PollRefused { .. })
 }
 
 /// An operation whose name was taken is being made.
@@ -151,13 +125,13 @@ fn making<T>(op: OpId, operation: Operation<T>) -> Begun<T>
 }
 
 impl<T: Drop> NameTable<T> {
-    ghost use Rattle.std.specs.Prelude.{◌≡◌, None, Some, List, false, IfOk, OnErr, IfErr, IfSome, IfNone};
+    ghost use Rattle.std.specs.Prelude.{◌≡◌, None, Some, List, true, false, IfOk, OnErr, IfErr, IfSome, IfNone};
     ghost use Rattle.std.specs.Bool.{OnTrue, OnFalse};
     ghost use Rattle.channel_world_model.specs.Names.{at, is_taken};
-    ghost use Rattle.channel_world_model.specs.Plan.{kin};
+    ghost use Rattle.channel_world_model.specs.Plan.{kin, plan_of};
     ghost use Rattle.channel_world_model.specs.declared.name.Waiter.{Waiter};
     ghost use Rattle.channel_world_model.specs.declared.name.Waiter.TheVariants.{Op};
-    ghost use Rattle.channel_world_runs.specs.Bookkeeping.{BeginsByName, Starts, lent_to_poll, mint_asked, new_from, operation_named, handle_named, with_operation};
+    ghost use Rattle.channel_world_runs.specs.Bookkeeping.{BeginsByName, Starts, is_named, lent_to_poll, mint_asked, new_from, operation_named, handle_named, with_operation};
     ghost use Rattle.channel_world_runs.specs.NameTable.{held_of, names_of, with_lent, with_borrowed};
     ghost use Rattle.channel_world_runs.specs.Order.{order_begun};
     ghost use Rattle.channel_world_runs.specs.Refusal.{takes_again};
@@ -201,30 +175,21 @@ impl<T: Drop> NameTable<T> {
         let Some(entry) = self.operations.take(op.0) else {
             return (None, None);
         };
-        let OperationEntry {
-            operation,
-            poll_state,
-        } = entry;
+        let brings = entry.operation.has_message();
         let lent = OperationEntry {
-            operation: operation.without_message(),
-            poll_state: PollState::IsPolled {
-                brings: operation.has_message(),
-            },
+            operation: entry.operation.without_message(),
+            poll_state: PollState::IsPolled { brings },
         };
         self.operations.set(op.0, lent);
-        (Some(operation), poll_state.key())
+        (Some(entry.operation), entry.poll_state.key())
     }
 
     pub(crate) fn poll(&mut self, op: OpId) -> Begun<T>
         ensures { BeginsByName self.old (Call.Poll op) result self.new }
     {
         let (operation, key) = self.lend_operation(op);
-        let ask = match operation {
-            Some(operation) => poll_ask(operation, key, op),
-            None => ChannelAsk::Make,
-        };
         Begun {
-            ask,
+            ask: poll_ask(operation, key, op),
             on_return: OnReturn::Poll { op },
         }
     }
@@ -233,12 +198,8 @@ impl<T: Drop> NameTable<T> {
         ensures { BeginsByName self.old (Call.PollRefused op) result self.new }
     {
         let (operation, key) = self.lend_operation(op);
-        let ask = match operation {
-            Some(operation) => refusal_ask(operation, key),
-            None => ChannelAsk::Make,
-        };
         Begun {
-            ask,
+            ask: refusal_ask(operation, key),
             on_return: OnReturn::Poll { op },
         }
     }
@@ -252,18 +213,12 @@ impl<T: Drop> NameTable<T> {
                 on_return: OnReturn::Nothing,
             };
         };
-        let OperationEntry {
-            operation,
-            poll_state,
-        } = entry;
-        let handle = operation.handle();
+        let handle = entry.operation.handle();
         self.hand_over(handle);
+        let waits_in = entry.operation.waits_in();
+        let message = entry.operation.into_message();
         Begun {
-            ask: ChannelAsk::GiveUp(
-                operation.waits_in(),
-                operation.into_message(),
-                poll_state.key(),
-            ),
+            ask: ChannelAsk::GiveUp(waits_in, message, entry.poll_state.key()),
             on_return: OnReturn::Leave { handle },
         }
     }
@@ -341,6 +296,23 @@ impl<T: Drop> NameTable<T> {
         }
     }
 
+    /// A call begins that brings nothing but names of what lives, each in its own way.
+    fn begin_named(&mut self, call: Call<T>) -> Begun<T>
+        requires { is_named (plan_of call) ≡ true }
+        ensures { BeginsByName self.old call result self.new }
+    {
+        match call {
+            Call::Poll { op } => self.poll(op),
+            Call::PollRefused { op } => self.poll_refused(op),
+            Call::GiveUp { op } => self.give_up(op),
+            Call::SendIsTerminated { op } => self.send_is_terminated(op),
+            Call::PollNext { receiver } => self.poll_next(receiver),
+            Call::Drop { handle } => self.drop_handle(handle),
+            Call::SameChannel { a, b } => self.same_channel(a, b),
+            _ => unreachable!(),
+        }
+    }
+
     /// A call that is not refused begins, by its plan; or it comes back where its new name found no room, with nothing changed.
     /// One that comes back gives and takes no place. A receive of several messages takes its room from `alloc`, at its first step.
     pub(crate) fn begin(&mut self, call: Call<T>, alloc: Global) -> Result<Begun<T>, Call<T>>
@@ -352,23 +324,14 @@ impl<T: Drop> NameTable<T> {
     {
         match Plan::of(&call) {
             Plan::Through(_, handle) => Ok(self.through(handle, plain_ask(call, alloc))),
-            Plan::ThroughBoth(a, b) => Ok(self.same_channel(a, b)),
             Plan::Makes(_, handle, op, kind) => {
                 if !self.name_operation(op, handle) {
                     return Err(call);
                 }
                 Ok(making(op, Operation::new(kind, handle, new_message(call))))
             }
-            Plan::Polls(op) if is_poll_refused(&call) => Ok(self.poll_refused(op)),
-            Plan::Polls(op) => Ok(self.poll(op)),
-            Plan::GivesUp(op) => Ok(self.give_up(op)),
-            Plan::Asks(op) => Ok(self.send_is_terminated(op)),
-            Plan::Streams(receiver) => Ok(self.poll_next(receiver)),
-            Plan::Drops(handle) => Ok(self.drop_handle(handle)),
-            Plan::Mints(_, from, new, kinship) => match self.mint(from, new, kinship) {
-                Some(begun) => Ok(begun),
-                None => Err(call),
-            },
+            Plan::Mints(_, from, new, kinship) => self.mint(from, new, kinship).ok_or(call),
+            _ => Ok(self.begin_named(call)),
         }
     }
 }

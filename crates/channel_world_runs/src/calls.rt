@@ -36,12 +36,10 @@ impl<T: Drop> CallUnderWay<T> {
         ensures agent { agent_of result ≡ record { party = party.0; on_return = begun.on_return } }
         ensures activity { result.activity ≡ activity_begun begun.ask }
     {
-        let Begun { ask, on_return } = begun;
-        let activity = Activity::begun(&ask);
         CallUnderWay {
-            party: Party::new(party.0, ask),
-            on_return,
-            activity,
+            activity: Activity::begun(&begun.ask),
+            party: Party::new(party.0, begun.ask),
+            on_return: begun.on_return,
         }
     }
 

@@ -1,15 +1,14 @@
 //! What calls write back as they end, and whom they wake.
 
-use crate::calls::CallUnderWay;
 use crate::name_table::NameTable;
 use crate::names::{HandleEntry, OnReturn, OperationEntry, PollState};
-use crate::order::Order;
+use crate::world_state::WorldState;
 use channel_calls::reply::Reply;
 use channel_calls::stage::Returned;
 use channel_world_model::name::{HandleId, HandleKind, OpId, Waiter};
 
 impl<T: Drop> NameTable<T> {
-    ghost use Rattle.std.specs.Prelude.{◌≡◌, Option};
+    ghost use Rattle.std.specs.Prelude.{◌≡◌, Option, drop};
     ghost use Rattle.channel_world_runs.specs.Bookkeeping.{with_operation, restored, installed, written_back, with_one_woken, all_woken};
 
     /// The operation gets back what its poll left to it.
@@ -64,13 +63,9 @@ impl<T: Drop> NameTable<T> {
     {
         match name {
             Waiter::Op(op) => {
-                if let Some(entry) = self.operations.take(op.0) {
-                    let poll_state = entry.poll_state.told();
-                    let told = OperationEntry {
-                        poll_state,
-                        ..entry
-                    };
-                    self.operations.set(op.0, told);
+                if let Some(mut entry) = self.operations.take(op.0) {
+                    entry.poll_state = entry.poll_state.told();
+                    self.operations.set(op.0, entry);
                 }
             }
             Waiter::Stream(receiver) => {
@@ -81,45 +76,37 @@ impl<T: Drop> NameTable<T> {
         }
     }
 
-    /// These are woken, in order.
-    pub(crate) fn wake_all(&mut self, names: &Vec<Waiter>)
-        ensures { self.new ≡ all_woken names.now.items self.old }
+    /// The names from this place on are woken, in order.
+    pub(crate) fn wake_from(&mut self, names: &Vec<Waiter>, from: usize)
+        ensures { self.new ≡ all_woken (drop from names.now.items) self.old }
     {
-        for k in 0..names.len() {
+        for k in from..names.len() {
             self.wake(names[k]);
         }
     }
 }
 
-ghost use Rattle.std.specs.Prelude.{◌≡◌, ◌<◌, map, vec_len, slice_get, Some};
-ghost use Rattle.channel_steps.specs.Configuration.{left_by, unless_answered};
-ghost use Rattle.channel_world_runs.specs.Calls.{agent_of};
-ghost use Rattle.channel_world_runs.specs.Run.{name_state_ended};
-ghost use Rattle.channel_world_runs.specs.declared.calls.CallUnderWay.{CallUnderWay};
+impl<T: Drop> WorldState<T> {
+    ghost use Rattle.std.specs.Prelude.{◌≡◌, ◌<◌, vec_len, slice_get, Some};
+    ghost use Rattle.channel_steps.specs.Configuration.{left_by, unless_answered};
+    ghost use Rattle.channel_world_runs.specs.Calls.{agent_of};
+    ghost use Rattle.channel_world_runs.specs.Run.{name_state_ended};
+    ghost use Rattle.channel_world_runs.specs.WorldState.{name_state_of};
+    ghost use Rattle.channel_world_runs.specs.declared.calls.CallUnderWay.{CallUnderWay};
 
-/// The k-th call, if it has answered, writes back what it has to, and is under way no more.
-pub(crate) fn write_back<T: Drop>(
-    name_table: &mut NameTable<T>,
-    order: &mut Order,
-    calls: &mut Vec<CallUnderWay<T>>,
-    k: usize,
-    reply: &Option<Reply<T>>,
-)
-    requires { k < vec_len calls.old }
-    ensures calls { calls.new.items ≡ unless_answered k reply.now calls.old.items }
-    ensures names { (c : CallUnderWay T) → slice_get calls.old.items k ≡ Some c
-        → record { name_table = name_table.new; order = order.new; agents = map agent_of calls.new.items }
-        ≡ name_state_ended k (agent_of c) reply.now (left_by c.party reply.now)
-        (record { name_table = name_table.old; order = order.old; agents = map agent_of calls.old.items }) }
-{
-    if let Some(reply) = reply {
-        let CallUnderWay {
-            party,
-            on_return,
-            activity: _,
-        } = calls.remove(k);
-        let kept = party.into_kept();
-        order.settle(&on_return, kept.key);
-        name_table.settle(on_return, reply, kept);
+    /// The k-th call, if it has answered, writes back what it has to, and is under way no more.
+    pub(crate) fn write_back(&mut self, k: usize, reply: &Option<Reply<T>>)
+        requires { k < vec_len self.old.calls }
+        ensures calls { self.new.calls.items ≡ unless_answered k reply.now self.old.calls.items }
+        ensures names { (c : CallUnderWay T) → slice_get self.old.calls.items k ≡ Some c
+            → name_state_of self.new ≡ name_state_ended k (agent_of c) reply.now (left_by c.party reply.now) (name_state_of self.old) }
+        ensures rest { self.new ≡ record self.old { name_table = self.new.name_table; order = self.new.order; calls = self.new.calls } }
+    {
+        if let Some(reply) = reply {
+            let call = self.calls.remove(k);
+            let kept = call.party.into_kept();
+            self.order.settle(&call.on_return, kept.key);
+            self.name_table.settle(call.on_return, reply, kept);
+        }
     }
 }

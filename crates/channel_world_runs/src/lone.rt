@@ -31,15 +31,12 @@ impl<T: Drop> WorldState<T> {
         ensures back { IfErr result (λ c. c ≡ call) }
     {
         let brings = self.name_table.brings(&call);
-        if !self.has_position(&call) {
-            return Err(call);
-        }
         let Ok(mut sink) = Woken::with_room(room, self.alloc) else {
             return Err(call);
         };
-        let Ok(()) = self.order.begin(&call) else {
+        if !self.has_position(&call) || self.order.begin(&call).is_err() {
             return Err(call);
-        };
+        }
         let Begun { ask, on_return } = self.name_table.begin(call, self.alloc)?;
         let Ended { reply, kept } = run_alone(
             ask,
@@ -49,8 +46,8 @@ impl<T: Drop> WorldState<T> {
         );
         self.accepted = self.accepted.saturating_add(accepted_by(brings, &reply));
         let Woken { names } = sink;
-        self.name_table.wake_all(&names);
-        self.order.wake_all(&names);
+        self.name_table.wake_from(&names, 0);
+        self.order.wake_from(&names, 0);
         self.order.settle(&on_return, kept.key);
         self.name_table.settle(on_return, &reply, kept);
         Ok(Done {

@@ -91,20 +91,14 @@ impl<T> NameTable<T> {
     pub(crate) fn seen(&self, handle: HandleId) -> Option<Handle>
         ensures { result ≡ at handle.0 (names_of self.now).handles }
     {
-        match self.handles.get(handle.0) {
-            Some(handle_entry) => Some(handle_entry.handle),
-            None => None,
-        }
+        Some(self.handles.get(handle.0)?.handle)
     }
 
     /// How a handle stands as a stream.
     pub(crate) fn poll_state(&self, handle: HandleId) -> Option<PollState>
         ensures { result ≡ option_map (λ (h : HandleEntry). h.poll_state) (at handle.0 self.now.handles) }
     {
-        match self.handles.get(handle.0) {
-            Some(handle_entry) => Some(handle_entry.poll_state),
-            None => None,
-        }
+        Some(self.handles.get(handle.0)?.poll_state)
     }
 
     /// A handle stands so from now on.
@@ -112,10 +106,8 @@ impl<T> NameTable<T> {
         ensures { self.new ≡ with_poll_state poll_state handle self.old }
     {
         if let Some(handle_entry) = self.handles.get(handle.0) {
-            let stands = HandleEntry {
-                poll_state,
-                ..*handle_entry
-            };
+            let mut stands = *handle_entry;
+            stands.poll_state = poll_state;
             self.handles.set(handle.0, stands);
         }
     }
@@ -138,40 +130,28 @@ ghost use Rattle.channel_world_runs.specs.Pending.{stands_pending, operation_sta
 fn is_pending<T>(operation: &Option<OperationEntry<T>>) -> bool
     ensures { result ≡ operation_stands stands_pending operation.now }
 {
-    match operation {
-        Some(operation) => operation.poll_state.key().is_some(),
-        None => false,
-    }
+    matches!(operation, Some(entry) if entry.poll_state.key().is_some())
 }
 
 /// Whether a stream is pending.
 fn is_stream_pending(handle_entry: &Option<HandleEntry>) -> bool
     ensures { result ≡ stream_stands stands_pending handle_entry.now }
 {
-    match handle_entry {
-        Some(handle_entry) => handle_entry.poll_state.key().is_some(),
-        None => false,
-    }
+    matches!(handle_entry, Some(entry) if entry.poll_state.key().is_some())
 }
 
 /// Whether an operation is pending and was woken.
 fn is_woken<T>(operation: &Option<OperationEntry<T>>) -> bool
     ensures { result ≡ operation_stands is_woken operation.now }
 {
-    match operation {
-        Some(operation) => operation.poll_state.is_woken(),
-        None => false,
-    }
+    matches!(operation, Some(entry) if entry.poll_state.is_woken())
 }
 
 /// Whether a stream is pending and was woken.
 fn is_stream_woken(handle_entry: &Option<HandleEntry>) -> bool
     ensures { result ≡ stream_stands is_woken handle_entry.now }
 {
-    match handle_entry {
-        Some(handle_entry) => handle_entry.poll_state.is_woken(),
-        None => false,
-    }
+    matches!(handle_entry, Some(entry) if entry.poll_state.is_woken())
 }
 
 impl<T> NameTable<T> {

@@ -53,20 +53,14 @@ impl PollState {
     pub(crate) fn is_polled(self) -> bool
         ensures { result ≡ is_polled self }
     {
-        match self {
-            PollState::IsPolled { brings: _ } => true,
-            PollState::Rests | PollState::Waits { .. } => false,
-        }
+        matches!(self, PollState::IsPolled { .. })
     }
 
     /// Whether it is pending and was woken.
     pub(crate) fn is_woken(self) -> bool
         ensures { result ≡ is_woken self }
     {
-        match self {
-            PollState::Waits { key: _, is_woken } => is_woken,
-            PollState::Rests | PollState::IsPolled { brings: _ } => false,
-        }
+        matches!(self, PollState::Waits { is_woken: true, .. })
     }
 
     /// The same, woken where it is pending.
@@ -100,23 +94,8 @@ impl<T> OperationEntry<T> {
     pub(crate) fn is_finished(&self) -> bool
         ensures { result ≡ is_done self.now }
     {
-        match (&self.operation, self.poll_state) {
-            (
-                Operation::Send {
-                    handle: _,
-                    message: None,
-                },
-                PollState::IsPolled { brings },
-            ) => !brings,
-            (
-                Operation::Send {
-                    handle: _,
-                    message: None,
-                },
-                _,
-            ) => true,
-            _ => false,
-        }
+        let is_lent = matches!(self.poll_state, PollState::IsPolled { brings: true });
+        matches!(&self.operation, Operation::Send { message: None, .. }) && !is_lent
     }
 }
 
@@ -147,50 +126,35 @@ impl HandleEntry {
     }
 
     /// The same, used by one more call.
-    pub(crate) fn used_more(self) -> HandleEntry
+    pub(crate) fn used_more(mut self) -> HandleEntry
         ensures { result ≡ used_more self }
     {
-        HandleEntry {
-            users: self.users.saturating_add(1),
-            ..self
-        }
+        self.users = self.users.saturating_add(1);
+        self
     }
 
     /// The same, used by one fewer.
-    pub(crate) fn used_less(self) -> HandleEntry
+    pub(crate) fn used_less(mut self) -> HandleEntry
         ensures { result ≡ used_less self }
     {
-        HandleEntry {
-            users: self.users.saturating_sub(1),
-            ..self
-        }
+        self.users = self.users.saturating_sub(1);
+        self
     }
 
     /// The same, borrowed by one more operation. None where as many borrow it as can be counted.
-    pub(crate) fn borrowed_more(self) -> Option<HandleEntry>
+    pub(crate) fn borrowed_more(mut self) -> Option<HandleEntry>
         ensures { IfSome result (λ h. h ≡ borrowed_more self) }
     {
-        let Handle { kind, borrowers } = self.handle;
-        if borrowers == usize::MAX {
-            return None;
-        }
-        let borrowers = borrowers + 1;
-        Some(HandleEntry {
-            handle: Handle { kind, borrowers },
-            ..self
-        })
+        self.handle.borrowers = self.handle.borrowers.checked_add(1)?;
+        Some(self)
     }
 
     /// The same, once the call that gives up an operation uses it, and the operation borrows it no more.
-    pub(crate) fn handed_over(self) -> HandleEntry
+    pub(crate) fn handed_over(mut self) -> HandleEntry
         ensures { result ≡ handed_over self }
     {
-        let Handle { kind, borrowers } = self.handle;
-        let borrowers = borrowers.saturating_sub(1);
-        HandleEntry {
-            handle: Handle { kind, borrowers },
-            ..self.used_more()
-        }
+        self.handle.borrowers = self.handle.borrowers.saturating_sub(1);
+        self.used_more()
     }
 }
 

@@ -32,7 +32,7 @@ impl Model for Order {
 }
 
 impl Order {
-    ghost use Rattle.std.specs.Prelude.{◌≡◌, [], IfOk, OnOk, OnErr};
+    ghost use Rattle.std.specs.Prelude.{◌≡◌, [], IfOk, OnOk, OnErr, drop};
     ghost use Rattle.channel_world_model.specs.Lines.{without_waiter};
     ghost use Rattle.channel_world_runs.specs.Order.{placed, moved_last, all_moved_last, kept_place};
     ghost use Rattle.channel_world_runs.specs.OwnerOrder.{woken_in};
@@ -76,11 +76,11 @@ impl Order {
         let _removed = self.places.pop(&w);
     }
 
-    /// These are woken, in order.
-    pub(crate) fn wake_all(&mut self, names: &Vec<Waiter>)
-        ensures { self.new ≡ all_moved_last names.now.items self.old }
+    /// The names from this place on are woken, in order.
+    pub(crate) fn wake_from(&mut self, names: &Vec<Waiter>, from: usize)
+        ensures { self.new ≡ all_moved_last (drop from names.now.items) self.old }
     {
-        for k in 0..names.len() {
+        for k in from..names.len() {
             self.wake(names[k]);
         }
     }
@@ -125,18 +125,13 @@ impl Order {
         ensures err { OnErr result (self.new ≡ self.old) }
     {
         match Plan::of(call) {
-            Plan::Polls(op) => self.place(Waiter::Op(op)),
-            Plan::Streams(receiver) => self.place(Waiter::Stream(receiver)),
-            Plan::GivesUp(op) => {
-                self.leave(Waiter::Op(op));
-                Ok(())
-            }
-            Plan::Drops(handle) => {
-                self.leave(Waiter::Stream(handle));
-                Ok(())
-            }
-            _ => Ok(()),
+            Plan::Polls(op) => self.place(Waiter::Op(op))?,
+            Plan::Streams(receiver) => self.place(Waiter::Stream(receiver))?,
+            Plan::GivesUp(op) => self.leave(Waiter::Op(op)),
+            Plan::Drops(handle) => self.leave(Waiter::Stream(handle)),
+            _ => {}
         }
+        Ok(())
     }
 
     /// A call with this to write back has left this listener, or none.

@@ -15,7 +15,7 @@ pub(crate) const MOST_MESSAGES: u64 = (1 << 61) - 1;
 ghost use Rattle.std.specs.Prelude.{◌≡◌};
 ghost use Rattle.concurrent_queue.specs.Capacity.{capacity_of};
 ghost use Rattle.channel_steps.specs.Count.{brought_in};
-ghost use Rattle.channel_world_runs.specs.Positions.{is_one_place, came_in, accepted_by};
+ghost use Rattle.channel_world_runs.specs.Positions.{is_one_place, accepted_by};
 
 /// Whether a queue of this form has one place alone: it counts no positions.
 pub(crate) fn is_one_place(form: QueueForm) -> bool
@@ -37,22 +37,15 @@ pub(crate) fn brought_in(mark: Mark) -> u64
     }
 }
 
-/// How many messages a call that may bring one has brought in, by its reply.
-fn came_in<T>(reply: &Reply<T>) -> u64
-    ensures { result ≡ came_in reply.now }
-{
-    match reply {
-        Reply::TrySend(Ok(())) | Reply::ForceSend(Ok(_)) | Reply::SendPoll(Poll::Ready(Ok(()))) =>
-            1,
-        _ => 0,
-    }
-}
-
 /// How many messages a call made alone has brought in, by its reply: none where it had none.
 pub(crate) fn accepted_by<T>(brings: bool, reply: &Reply<T>) -> u64
     ensures { result ≡ accepted_by brings reply.now }
 {
-    if brings { came_in(reply) } else { 0 }
+    match reply {
+        Reply::TrySend(Ok(())) | Reply::ForceSend(Ok(_)) | Reply::SendPoll(Poll::Ready(Ok(())))
+            if brings => 1,
+        _ => 0,
+    }
 }
 
 impl<T> NameTable<T> {

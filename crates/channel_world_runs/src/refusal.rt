@@ -98,12 +98,8 @@ impl<T> NameTable<T> {
         ensures { result ≡ unfit_send (operation_at op self.now) }
     {
         match self.operations.get(op.0) {
-            Some(entry) => match entry.operation {
-                Operation::Send { .. } => None,
-                Operation::Receive { .. } | Operation::Closing { .. } => {
-                    Some(WorldRefusal::WrongKind)
-                }
-            },
+            Some(entry) if matches!(entry.operation, Operation::Send { .. }) => None,
+            Some(_) => Some(WorldRefusal::WrongKind),
             None => Some(WorldRefusal::UnknownName),
         }
     }

@@ -2,7 +2,6 @@
 
 use crate::beginning::Begun;
 use crate::name_table::NameTable;
-use crate::order::Order;
 use crate::position::accepted_by;
 use crate::woken::Woken;
 use crate::world_state::WorldState;
@@ -20,9 +19,9 @@ pub struct Polled<T> {
 }
 
 impl<T: Drop> NameTable<T> {
-    ghost use Rattle.std.specs.Prelude.{◌≡◌, ◌≤◌, drop, vec_len};
+    ghost use Rattle.std.specs.Prelude.{◌≡◌};
     ghost use Rattle.channel_world_model.specs.Settling.{poll_of};
-    ghost use Rattle.channel_world_runs.specs.Bookkeeping.{BeginsByName, all_woken};
+    ghost use Rattle.channel_world_runs.specs.Bookkeeping.{BeginsByName};
     ghost use Rattle.channel_world_runs.specs.OwnerOrder.{was_woken};
     ghost use Rattle.channel_world_runs.specs.Owners.{status};
 
@@ -36,12 +35,9 @@ impl<T: Drop> NameTable<T> {
                 None => false,
             },
             Waiter::Stream(receiver) => match self.handles.get(receiver.0) {
-                Some(handle_entry) => match handle_entry.handle.kind {
-                    HandleKind::Receiver => handle_entry.poll_state.is_woken(),
-                    HandleKind::Sender | HandleKind::WeakSender | HandleKind::WeakReceiver => {
-                        false
-                    }
-                },
+                Some(entry) => {
+                    matches!(entry.handle.kind, HandleKind::Receiver) && entry.poll_state.is_woken()
+                }
                 None => false,
             },
         }
@@ -54,31 +50,6 @@ impl<T: Drop> NameTable<T> {
         match name {
             Waiter::Op(op) => self.poll(op),
             Waiter::Stream(receiver) => self.poll_next(receiver),
-        }
-    }
-
-    /// The names from this place on are woken, in order.
-    fn wake_from(&mut self, names: &Vec<Waiter>, from: usize)
-        requires { from ≤ vec_len names.now }
-        ensures { self.new ≡ all_woken (drop from names.now.items) self.old }
-    {
-        for k in from..names.len() {
-            self.wake(names[k]);
-        }
-    }
-}
-
-impl Order {
-    ghost use Rattle.std.specs.Prelude.{◌≡◌, ◌≤◌, drop, vec_len};
-    ghost use Rattle.channel_world_runs.specs.Order.{all_moved_last};
-
-    /// The names from this place on are woken, in order.
-    fn wake_from(&mut self, names: &Vec<Waiter>, from: usize)
-        requires { from ≤ vec_len names.now }
-        ensures { self.new ≡ all_moved_last (drop from names.now.items) self.old }
-    {
-        for k in from..names.len() {
-            self.wake(names[k]);
         }
     }
 }

@@ -17,10 +17,7 @@ impl Wakes<Waiter> for Woken {
 
     fn wake(&mut self, task: Waiter) {
         // Room was taken for all whom a step may wake, before it was made.
-        match self.names.push(task) {
-            Ok(()) => {}
-            Err(_) => {}
-        }
+        let _ = self.names.push(task);
     }
 }
 

@@ -1,7 +1,6 @@
 //! The parts of a channel by names with the calls of several parties under way, and one step of it.
 
 use crate::calls::{CallUnderWay, find_call, is_at_work};
-use crate::ending::write_back;
 use crate::name_table::NameTable;
 use crate::order::Order;
 use crate::position::{brought_in, is_one_place};
@@ -43,7 +42,6 @@ impl<T: Drop> WorldState<T> {
     ghost use Rattle.concurrent_queue.specs.Capacity.{capacity_of};
     ghost use Rattle.concurrent_queue.specs.Made.{CanBeMade};
     ghost use Rattle.channel_steps.specs.Run.{new_configuration};
-    ghost use Rattle.channel_world_runs.specs.Calls.{IsCallOf};
     ghost use Rattle.channel_world_runs.specs.NameTable.{first_name_table};
     ghost use Rattle.channel_world_runs.specs.Refusal.{step_refusal};
     ghost use Rattle.channel_world_runs.specs.WorldState.{name_state_of, agents_of, Shown, Stands, IsSame, LeadsByStep};
@@ -75,18 +73,12 @@ impl<T: Drop> WorldState<T> {
         ensures { result ≡ step_refusal self.now.name_table (agents_of self.now) step.now }
     {
         match step {
-            Step::Begin { party, call } => {
-                if is_at_work(&self.calls, *party) {
-                    return Some(WorldRefusal::Busy);
-                }
-                self.name_table.refusal(call)
+            Step::Begin { party, .. } if is_at_work(&self.calls, *party) => {
+                Some(WorldRefusal::Busy)
             }
-            Step::Step { party } => {
-                if !is_at_work(&self.calls, *party) {
-                    return Some(WorldRefusal::Idle);
-                }
-                None
-            }
+            Step::Begin { call, .. } => self.name_table.refusal(call),
+            Step::Step { party } if is_at_work(&self.calls, *party) => None,
+            Step::Step { .. } => Some(WorldRefusal::Idle),
         }
     }
 
@@ -97,12 +89,12 @@ impl<T: Drop> WorldState<T> {
         ensures err { OnErr result (IsSame self.old self.new) }
         ensures back { IfErr result (λ c. c ≡ call) }
     {
-        if !self.has_position(&call) || self.calls.reserve(1).is_err() {
+        if !self.has_position(&call)
+            || self.calls.reserve(1).is_err()
+            || self.order.begin(&call).is_err()
+        {
             return Err(call);
         }
-        let Ok(()) = self.order.begin(&call) else {
-            return Err(call);
-        };
         let begun = self.name_table.begin(call, self.alloc)?;
         self.calls.push_reserved(CallUnderWay::begun(party, begun));
         Ok(Entry {
@@ -112,13 +104,13 @@ impl<T: Drop> WorldState<T> {
         })
     }
 
-    /// One step of the k-th call under way. None where there was no room for those whom it might wake.
-    fn go_on(&mut self, party: PartyId, k: usize) -> Option<Entry<T>>
-        requires party { IsCallOf party.0 self.old.calls.items k }
+    /// One step of the party's call. None where there was no room for those whom it might wake.
+    fn go_on(&mut self, party: PartyId) -> Option<Entry<T>>
         requires accepted { step_refusal self.old.name_table (agents_of self.old) (Step.Step party) ≡ None }
         ensures some { IfSome result (λ e. LeadsByStep (Step.Step party) self.old e self.new) }
         ensures none { IfNone result (IsSame self.old self.new) }
     {
+        let k = find_call(&self.calls, party)?;
         let room = self.channel.most_listeners();
         let Ok(mut sink) = Woken::with_room(room, self.alloc) else {
             return None;
@@ -129,15 +121,9 @@ impl<T: Drop> WorldState<T> {
         self.accepted = self.accepted.saturating_add(brought_in(mark));
         self.messages = counted(self.messages, mark);
         let Woken { names } = sink;
-        self.name_table.wake_all(&names);
-        self.order.wake_all(&names);
-        write_back(
-            &mut self.name_table,
-            &mut self.order,
-            &mut self.calls,
-            k,
-            &reply,
-        );
+        self.name_table.wake_from(&names, 0);
+        self.order.wake_from(&names, 0);
+        self.write_back(k, &reply);
         Some(Entry {
             mark,
             woken: names,
@@ -157,13 +143,7 @@ impl<T: Drop> WorldState<T> {
                 Ok(entry) => Ok(entry),
                 Err(call) => Err(Step::Begin { party, call }),
             },
-            Step::Step { party } => match find_call(&self.calls, party) {
-                Some(k) => match self.go_on(party, k) {
-                    Some(entry) => Ok(entry),
-                    None => Err(Step::Step { party }),
-                },
-                None => Err(Step::Step { party }),
-            },
+            Step::Step { party } => self.go_on(party).ok_or(Step::Step { party }),
         }
     }
 }

@@ -37,6 +37,30 @@ call second 4 5 take 2
 call second 6 7 take 1
 verdict = fits
 
+row one_number_for_two_messages
+call first 0 1 append 1
+call first 2 3 append 2
+call second 4 5 take 1
+call second 6 7 take 2
+call first 8 9 append 1
+call second 10 11 take 1
+verdict = fits
+
+row in_first_what_leaves_first
+call first 0 20 append 1
+call second 2 3 append 2
+call third 4 5 take 1
+call third 6 7 take 2
+verdict = fits
+forget third
+call third 4 5 take 2
+call third 6 7 take 1
+verdict = fits
+forget third
+call third 4 8 take 2
+call second 5 9 take 1
+verdict = fits
+
 row empty_beside_a_message
 call second 2 3 bare
 call second 4 5 take 1

@@ -25,3 +25,4 @@ pub mod point;
 pub mod rest;
 #[cfg(test)]
 mod rows;
+mod told;

@@ -2,6 +2,7 @@
 
 use crate::log::{Log, Moment};
 use crate::plain::Plain;
+use crate::told::Told;
 use std::alloc::{AllocError, Global};
 use std::collections::HashSet;
 
@@ -52,17 +53,17 @@ impl State {
     }
 
     /// The thread's next moment.
-    fn next(&self, logs: &[Log], thread: usize) -> Option<Moment> {
+    fn next(&self, told: &Told<'_>, thread: usize) -> Option<Moment> {
         let made = self.made.get(thread)?;
-        let moment = logs.get(thread)?.moments.get(*made)?;
+        let moment = told.logs.get(thread)?.moments.get(*made)?;
         Some(*moment)
     }
 
     /// The least end of a moment that is still to come: whatever begins later comes later. None where nothing is to come.
-    fn limit(&self, logs: &[Log]) -> Option<u64> {
+    fn limit(&self, told: &Told<'_>) -> Option<u64> {
         let mut least = None;
-        for thread in 0..logs.len() {
-            if let Some(moment) = self.next(logs, thread) {
+        for thread in 0..told.logs.len() {
+            if let Some(moment) = self.next(told, thread) {
                 let end = least.unwrap_or(moment.end);
                 least = Some(moment.end.min(end));
             }
@@ -71,9 +72,11 @@ impl State {
     }
 
     /// The thread's next moment, if it can come now.
-    fn choice(&self, logs: &[Log], thread: usize, limit: u64) -> Option<Moment> {
-        let moment = self.next(logs, thread)?;
-        (moment.begin < limit && self.plain.may(moment.point)).then_some(moment)
+    fn choice(&self, told: &Told<'_>, thread: usize, limit: u64) -> Option<Moment> {
+        let moment = self.next(told, thread)?;
+        let may_come = self.plain.may(moment.point)
+            && told.allows(self.made.as_slice(), moment.point);
+        (moment.begin < limit && may_come).then_some(moment)
     }
 
     fn make(&mut self, moment: Moment, thread: usize) -> Result<(), AllocError> {
@@ -86,9 +89,9 @@ impl State {
 
     /// Lets one moment come that changes nothing, if there is one. Whatever fits without that fits after it too, so no choice
     /// is lost.
-    fn pass_one(&mut self, logs: &[Log], limit: u64) -> Result<bool, AllocError> {
-        for thread in 0..logs.len() {
-            if let Some(moment) = self.choice(logs, thread, limit) {
+    fn pass_one(&mut self, told: &Told<'_>, limit: u64) -> Result<bool, AllocError> {
+        for thread in 0..told.logs.len() {
+            if let Some(moment) = self.choice(told, thread, limit) {
                 if self.plain.is_still(moment.point, thread) {
                     self.make(moment, thread)?;
                     return Ok(true);
@@ -100,12 +103,12 @@ impl State {
 
     /// Lets moments come that change nothing, as long as there are such. It answers the limit for what comes next, `None` where
     /// nothing is to come.
-    fn pass(&mut self, logs: &[Log]) -> Result<Option<u64>, AllocError> {
+    fn pass(&mut self, told: &Told<'_>) -> Result<Option<u64>, AllocError> {
         for _ in 0..MOST {
-            let Some(limit) = self.limit(logs) else {
+            let Some(limit) = self.limit(told) else {
                 return Ok(None);
             };
-            if !self.pass_one(logs, limit)? {
+            if !self.pass_one(told, limit)? {
                 return Ok(Some(limit));
             }
         }
@@ -113,10 +116,10 @@ impl State {
     }
 
     /// The states after each moment that can come now, the one that has to end first being last.
-    fn go_on(self, logs: &[Log], limit: u64, states: &mut Vec<State>) -> Result<(), AllocError> {
+    fn go_on(self, told: &Told<'_>, limit: u64, states: &mut Vec<State>) -> Result<(), AllocError> {
         let mut first = None;
-        for thread in 0..logs.len() {
-            if let Some(moment) = self.choice(logs, thread, limit) {
+        for thread in 0..told.logs.len() {
+            if let Some(moment) = self.choice(told, thread, limit) {
                 if moment.end == limit && first.is_none() {
                     first = Some((moment, thread));
                 } else {
@@ -161,25 +164,25 @@ impl Search {
     }
 
     /// Goes on from this state, unless it did before: whether an order was found.
-    fn go_on(&mut self, state: State, logs: &[Log]) -> Result<bool, AllocError> {
+    fn go_on(&mut self, state: State, told: &Told<'_>) -> Result<bool, AllocError> {
         let mut state = state;
-        let Some(limit) = state.pass(logs)? else {
+        let Some(limit) = state.pass(told)? else {
             return Ok(true);
         };
         let numbers = state.numbers(self.alloc)?;
         if self.seen.insert(numbers)? {
-            state.go_on(logs, limit, &mut self.states)?;
+            state.go_on(told, limit, &mut self.states)?;
         }
         Ok(false)
     }
 
     /// Goes on from states as long as there are such.
-    fn run(&mut self, logs: &[Log]) -> Result<Verdict, AllocError> {
+    fn run(&mut self, told: &Told<'_>) -> Result<Verdict, AllocError> {
         for _ in 0..MOST {
             let Some(state) = self.states.pop() else {
                 return Ok(Verdict::Refused);
             };
-            if self.go_on(state, logs)? {
+            if self.go_on(state, told)? {
                 return Ok(Verdict::Fits);
             }
         }
@@ -189,8 +192,9 @@ impl Search {
 
 /// Searches from this channel on.
 fn find(plain: Plain, logs: &[Log], alloc: Global) -> Result<Verdict, AllocError> {
+    let told = Told::new(logs, alloc)?;
     let first = State::new(plain, logs, alloc)?;
-    Search::new(first, alloc)?.run(logs)
+    Search::new(first, alloc)?.run(&told)
 }
 
 /// Whether a plain channel that begins so does what these logs say, in some order that fits the stamps.

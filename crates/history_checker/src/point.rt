@@ -63,6 +63,28 @@ pub enum Point {
     Sees(Sight),
 }
 
+impl Point {
+    /// The message that comes in.
+    pub fn brings(self) -> Option<u64> {
+        match self {
+            Point::Append(message) | Point::Arrive(message) | Point::Replace(_, message) => {
+                Some(message)
+            }
+            _ => None,
+        }
+    }
+
+    /// The message that leaves.
+    pub fn takes(self) -> Option<u64> {
+        match self {
+            Point::Take(message) | Point::Displace(message) | Point::Replace(message, _) => {
+                Some(message)
+            }
+            _ => None,
+        }
+    }
+}
+
 /// What a call did, as its answer says: what happened at moments of it, in this order.
 #[derive(Clone, Copy, PartialEq, Eq, Debug)]
 pub enum Did {

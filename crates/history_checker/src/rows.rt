@@ -7,7 +7,7 @@ use crate::history_rows::{ORDERS, RESTS, SEVERAL};
 #[test]
 fn orders(rt: HostRuntime) {
     let mut histories = Histories::new(rt.alloc()).expect(&rt, "memory");
-    expect_rows(&rt, ORDERS, &mut histories, 8);
+    expect_rows(&rt, ORDERS, &mut histories, 10);
 }
 
 #[test]

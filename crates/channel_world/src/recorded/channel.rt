@@ -57,9 +57,8 @@ impl<T: Copy, L: Ledger> HeldChannel<T, L> {
 
     /// The channel, for calls of its seats and for more seats. Own to this project.
     pub fn share(self) -> RecordedChannel<T, L> {
-        let HeldChannel { recording } = self;
         RecordedChannel {
-            inner: Mutex::new(recording),
+            inner: Mutex::new(self.recording),
         }
     }
 }
@@ -95,7 +94,7 @@ impl<T: Copy, L: Ledger> RecordedChannel<T, L> {
         ensures used_up { IfErr result (λ e. e.0 ≡ OpenError.IdsUsedUp → 2 ^ 64 - 1 < ids.old + 4) }
     {
         match World::bounded(alloc, capacity, ids) {
-            Ok(world) => Ok(Self::over(alloc, Some(capacity), world, blank, parts)),
+            Ok(world) => Ok(Self::over(Some(capacity), world, blank, parts)),
             Err(why) => Err((why, blank)),
         }
     }
@@ -115,27 +114,20 @@ impl<T: Copy, L: Ledger> RecordedChannel<T, L> {
         ensures used_up { IfErr result (λ e. e.0 ≡ OpenError.IdsUsedUp → 2 ^ 64 - 1 < ids.old + 4) }
     {
         match World::unbounded(alloc, ids) {
-            Ok(world) => Ok(Self::over(alloc, None, world, blank, parts)),
+            Ok(world) => Ok(Self::over(None, world, blank, parts)),
             Err(why) => Err((why, blank)),
         }
     }
 
     // A world that was just opened, under its lock.
-    fn over(
-        alloc: Global,
-        capacity: Option<usize>,
-        world: World<T>,
-        blank: Blank,
-        parts: u64,
-    ) -> Self
+    fn over(capacity: Option<usize>, world: World<T>, blank: Blank, parts: u64) -> Self
         requires opened { at_rest world ≡ start capacity }
         requires quiet { IsQuiet world }
         requires name { blank.name ≡ L.name }
         requires parts { (blank.parts ≡ L.parts) × (blank.parts ≡ parts) }
     {
-        let recording = Recording::new(alloc, capacity, world, blank, parts);
         RecordedChannel {
-            inner: Mutex::new(recording),
+            inner: Mutex::new(Recording::new(capacity, world, blank, parts)),
         }
     }
 
@@ -183,8 +175,7 @@ impl<T: Copy, L: Ledger> RecordedChannel<T, L> {
         ensures missing { IfErr result (λ m. length m.seats.items < m.channel.seats) }
         ensures back { IfErr result (λ m. m.seats.items ≡ seats.items) }
     {
-        let RecordedChannel { inner } = self;
-        match inner.into_inner().finish(seats) {
+        match self.inner.into_inner().finish(seats) {
             Ok(record) => Ok(record),
             Err((recording, seats)) => Err(MissingSeat {
                 channel: HeldChannel { recording },

@@ -55,6 +55,18 @@ fn plainly<X: Copy>(poll: &Poll<X>) -> Poll<X>
     }
 }
 
+/// Copies of these, in the room that was taken for them.
+pub(crate) fn filled<T: Copy>(mut room: Vec<T>, items: &[T]) -> Vec<T>
+    requires empty { room.items ≡ [] }
+    requires room { length items.now ≤ vec_capacity room }
+    ensures { result.items ≡ items.now }
+{
+    let Ok(()) = room.extend_from_slice(items) else {
+        unreachable!()
+    };
+    room
+}
+
 /// A copy of an answer that may hold several messages, in the room that was taken for them.
 fn several<T: Copy>(
     answer: &Result<Messages<T>, Refused<TryRecvError>>,
@@ -65,13 +77,7 @@ fn several<T: Copy>(
     ensures { result ≡ answer.now }
 {
     match answer {
-        Ok(messages) => {
-            let mut items = room;
-            let Ok(()) = items.extend_from_slice(messages.as_slice()) else {
-                unreachable!()
-            };
-            Ok(Messages::new(items))
-        }
+        Ok(messages) => Ok(Messages::new(filled(room, messages.as_slice()))),
         Err(error) => Err(refused(error)),
     }
 }

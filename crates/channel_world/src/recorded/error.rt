@@ -38,8 +38,7 @@ impl<T> RecordError<T> {
         ensures { result ≡ call_in self }
     {
         match self {
-            RecordError::World { call, .. } => call,
-            RecordError::NoRoom { call } => call,
+            RecordError::World { call, .. } | RecordError::NoRoom { call } => call,
         }
     }
 }

@@ -1,6 +1,6 @@
 //! Lists of names.
 
-ghost use Rattle.std.specs.Prelude.{◌≡◌, ◌≤◌, [], length, vec_capacity};
+ghost use Rattle.std.specs.Prelude.{◌≡◌};
 
 use crate::name::Waiter;
 use std::marker::Model;
@@ -35,19 +35,6 @@ impl Names {
         ensures { result.now ≡ self.now }
     {
         self.items.as_slice()
-    }
-
-    // A copy of these names, in the room that was taken for it.
-    pub(crate) fn copied(&self, room: Vec<Waiter>) -> Names
-        requires empty { room.items ≡ [] }
-        requires room { length self.now ≤ vec_capacity room }
-        ensures { result ≡ self.now }
-    {
-        let mut items = room;
-        let Ok(()) = items.extend_from_slice(self.items.as_slice()) else {
-            unreachable!()
-        };
-        Names { items }
     }
 }
 

@@ -6,7 +6,7 @@ ghost use Rattle.channel_world.specs.Listed.{listed, most_listed};
 ghost use Rattle.channel_world.specs.World.{most_woken};
 ghost use Rattle.channel_world.specs.View.{at_rest};
 
-use super::copies::{copied_call, copied_reply, most_listed};
+use super::copies::{copied_call, copied_reply, filled, most_listed};
 use super::error::{RecordError, SeatsUsedUp};
 use super::names::Names;
 use super::receipt::Receipt;
@@ -15,7 +15,6 @@ use super::seat::RecordSeat;
 use crate::call::{Call, CallRun, Done, Stopped, WorldRefusal};
 use crate::name::Waiter;
 use crate::world::World;
-use std::alloc::Global;
 use std::collections::VecDeque;
 use std::marker::Model;
 use std::sync::ledger::{Blank, Book, Ledger, Share};
@@ -31,7 +30,6 @@ const CALL_WEIGHT: u64 = u64::MAX;
 /// and the numbers of the seats that were made.
 #[derive(Drop)]
 pub(crate) struct Recording<T: Copy, L: Ledger> {
-    alloc: Global,
     /// The capacity with which the channel was opened.
     capacity: Option<usize>,
     world: World<T>,
@@ -66,13 +64,7 @@ impl<T: Copy, L: Ledger> Recording<T, L> {
     ghost use Rattle.channel_world.specs.View.{at_rest, IsQuiet};
 
     /// A world that was just opened, with an empty record and all parts of the ledger.
-    pub(crate) fn new(
-        alloc: Global,
-        capacity: Option<usize>,
-        world: World<T>,
-        blank: Blank,
-        parts: u64,
-    ) -> Self
+    pub(crate) fn new(capacity: Option<usize>, world: World<T>, blank: Blank, parts: u64) -> Self
         requires opened { at_rest world ≡ start capacity }
         requires quiet { IsQuiet world }
         requires name { blank.name ≡ L.name }
@@ -81,11 +73,10 @@ impl<T: Copy, L: Ledger> Recording<T, L> {
     {
         let (book, rest) = blank.open::<L>();
         Recording {
-            alloc,
             capacity,
+            asked: VecDeque::new(world.alloc()),
+            entries: Vec::new(world.alloc()),
             world,
-            asked: VecDeque::new(alloc),
-            entries: Vec::new(alloc),
             book,
             rest,
             left: parts,
@@ -149,23 +140,17 @@ impl<T: Copy, L: Ledger> Recording<T, L> {
         ensures unchanged { OnErr result (self.new ≡ self.old) }
         ensures idle { OnErr result (seat.new ≡ seat.old) }
     {
-        let room = ask(
-            self.alloc,
-            &self.world,
-            &mut self.asked,
-            &mut self.entries,
-            &call,
-        );
-        let Some(lists) = room else {
+        let Some(lists) = ask(&self.world, &mut self.asked, &mut self.entries, &call) else {
             return Err(RecordError::NoRoom { call });
         };
         let CallRun { mut done, stopped } = self.world.run_calls(&mut self.asked);
         self.asked.clear();
         match done.pop() {
             Some(done) => {
-                let place = self.entries.len();
                 self.book.audit(&mut seat.mine);
-                let (entry, receipt) = twice(place, seat.number, call, done, lists);
+                let place = self.entries.len();
+                let entry = entry_of(place, seat.number, call, done);
+                let receipt = copied_receipt(&entry, lists);
                 self.entries.push_reserved(entry);
                 self.book.add(&mut seat.mine, CALL_WEIGHT);
                 Ok(receipt)
@@ -193,25 +178,17 @@ impl<T: Copy, L: Ledger> Recording<T, L> {
         if (seats.len() as u64) < self.made {
             return Err((self, seats));
         }
-        let Recording {
-            alloc: _,
-            capacity,
-            world: _,
-            asked: _,
-            entries,
-            mut book,
-            rest,
-            left: _,
-            made: _,
-        } = self;
-        let mut all = rest;
+        let mut all = self.rest;
         let mut seats = seats;
         while let Some(seat) = seats.pop() {
-            let RecordSeat { number: _, mine } = seat;
-            all.merge(mine);
+            all.merge(seat.mine);
         }
+        let mut book = self.book;
         book.audit(&mut all);
-        Ok(Record { capacity, entries })
+        Ok(Record {
+            capacity: self.capacity,
+            entries: self.entries,
+        })
     }
 }
 
@@ -225,7 +202,6 @@ struct Lists<T> {
 /// Hands a copy of the call to the world's list, once there is room for it, for its entry and for the lists of its receipt.
 /// That for the lists is what comes back; None where room is refused.
 fn ask<T: Copy>(
-    alloc: Global,
     world: &World<T>,
     asked: &mut VecDeque<Call<T>>,
     entries: &mut Vec<Receipt<T>>,
@@ -240,46 +216,41 @@ fn ask<T: Copy>(
     ensures refused { IfNone result (asked.new.items ≡ []) }
 {
     let most = world.room_for(call)?;
-    let names = Vec::with_capacity(alloc, most).ok()?;
-    let messages = Vec::with_capacity(alloc, most_listed(call)).ok()?;
+    let names = Vec::with_capacity(world.alloc(), most).ok()?;
+    let messages = Vec::with_capacity(world.alloc(), most_listed(call)).ok()?;
     entries.reserve(1).ok()?;
     asked.reserve(1).ok()?;
     asked.push_back_reserved(copied_call(call));
     Some(Lists { names, messages })
 }
 
-/// The entry of a call that was made, and its receipt, whose lists lie in the room that was taken for them.
-fn twice<T: Copy>(
-    place: usize,
-    seat: u32,
-    call: Call<T>,
-    done: Done<T>,
-    lists: Lists<T>,
-) -> (Receipt<T>, Receipt<T>)
-    requires empty { (lists.names.items ≡ []) × (lists.messages.items ≡ []) }
-    requires names { length done.woken.items ≤ vec_capacity lists.names }
-    requires messages { length (listed done.reply) ≤ vec_capacity lists.messages }
-    ensures entry { result.0 ≡ record { place = place; seat = seat; call = call; reply = done.reply; woken = done.woken.items } }
-    ensures same { result.1 ≡ result.0 }
+/// The entry of a call that was made.
+fn entry_of<T>(place: usize, seat: u32, call: Call<T>, done: Done<T>) -> Receipt<T>
+    ensures { result ≡ record { place = place; seat = seat; call = call; reply = done.reply; woken = done.woken.items } }
 {
-    let Done { reply, woken } = done;
-    let Lists { names, messages } = lists;
-    let woken = Names::new(woken);
-    let receipt = Receipt {
-        place,
-        seat,
-        call: copied_call(&call),
-        reply: copied_reply(&reply, messages),
-        woken: woken.copied(names),
-    };
-    let entry = Receipt {
+    Receipt {
         place,
         seat,
         call,
-        reply,
-        woken,
-    };
-    (entry, receipt)
+        reply: done.reply,
+        woken: Names::new(done.woken),
+    }
+}
+
+/// The receipt of an entry: its copy, whose lists lie in the room that was taken for them.
+fn copied_receipt<T: Copy>(entry: &Receipt<T>, lists: Lists<T>) -> Receipt<T>
+    requires empty { (lists.names.items ≡ []) × (lists.messages.items ≡ []) }
+    requires names { length entry.now.woken ≤ vec_capacity lists.names }
+    requires messages { length (listed entry.now.reply) ≤ vec_capacity lists.messages }
+    ensures same { result ≡ entry.now }
+{
+    Receipt {
+        place: entry.place,
+        seat: entry.seat,
+        call: copied_call(&entry.call),
+        reply: copied_reply(&entry.reply, lists.messages),
+        woken: Names::new(filled(lists.names, entry.woken.as_slice())),
+    }
 }
 
 /// Why a run stopped that did not make its one call.

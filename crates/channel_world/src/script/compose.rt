@@ -13,6 +13,7 @@ ghost use Rattle.channel_world.specs.View.{at_rest, IsQuiet};
 use super::end::ScriptEnd;
 use super::scene::Scene;
 use crate::world::World;
+use channel_calls::error::OpenError;
 use channel_world_language::command::{Line, Opening, parse_line, parse_opening};
 use channel_world_language::table::{Sort, Table};
 use channel_world_language::words::first_line;
@@ -103,7 +104,7 @@ fn first_names<'a>(alloc: Global) -> Result<Table<'a>, AllocError>
 }
 
 /// A channel of this capacity, or of any number of messages.
-fn open(alloc: Global, capacity: Option<usize>) -> Result<World<u64>, AllocError>
+fn open(alloc: Global, capacity: Option<usize>) -> Result<World<u64>, OpenError>
     requires { IfSome capacity (λ c. 0 < c) }
     ensures world { IfOk result (λ world. at_rest world ≡ start capacity) }
     ensures quiet { IfOk result (λ world. IsQuiet world) }
@@ -111,14 +112,8 @@ fn open(alloc: Global, capacity: Option<usize>) -> Result<World<u64>, AllocError
 {
     let mut ids = EventIds::new();
     match capacity {
-        Some(capacity) => match World::bounded(alloc, capacity, &mut ids) {
-            Ok(world) => Ok(world),
-            Err(_) => Err(AllocError),
-        },
-        None => match World::unbounded(alloc, &mut ids) {
-            Ok(world) => Ok(world),
-            Err(_) => Err(AllocError),
-        },
+        Some(capacity) => World::bounded(alloc, capacity, &mut ids),
+        None => World::unbounded(alloc, &mut ids),
     }
 }
 

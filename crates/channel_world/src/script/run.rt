@@ -29,13 +29,11 @@ fn read_input<R: Read>(alloc: Global, reader: &mut R) -> Result<Vec<u8>, ScriptE
     let mut piece = [0u8; PIECE];
     for _ in 0..ASKS_LIMIT {
         let count = match reader.read(&mut piece) {
+            Ok(0) => return Ok(input),
             Ok(count) => count,
             Err(error) if error.kind() == ErrorKind::Interrupted => continue,
             Err(_) => return Err(ScriptEnd::Fault),
         };
-        if count == 0 {
-            return Ok(input);
-        }
         if INPUT_LIMIT - input.len() < count {
             return Err(ScriptEnd::Fault);
         }
@@ -53,13 +51,10 @@ fn write_text<W: Write>(writer: &mut W, text: &[u8]) -> bool
 {
     let mut rest = text;
     while !rest.is_empty() {
-        let Ok(count) = writer.write(rest) else {
-            return false;
-        };
-        if count == 0 {
-            return false;
+        match writer.write(rest) {
+            Ok(0) | Err(_) => return false,
+            Ok(count) => rest = &rest[count..],
         }
-        rest = &rest[count..];
     }
     true
 }

@@ -142,10 +142,10 @@ module _ (kind : Kind) (held : KeysHeld) (closed : Bool) (a : WaitLists Waiter) 
       (λ other apart. unmoved kind new closed other (listeners (list_of other) a) m (at_last line w m) (with_other_line line other (untold line m ++ w ∷ []) m apart)
       (ap (λ (ws : List Waiter). of_line kind other ws) (with_same_woken line (untold line m ++ w ∷ []) m)) (g other))
 
-  -- the roster of one who listened and was registered
-  pub joins_roster : (b : WaitLists Waiter) → b ≡ with_listeners (list_of line) (listened key (listeners (list_of line) a)) a
+  -- the wait lists of one who listened and was registered
+  pub joins_wait_lists : (b : WaitLists Waiter) → b ≡ with_listeners (list_of line) (listened key (listeners (list_of line) a)) a
       → with_listeners (list_of line) (registration key w (listeners (list_of line) b)) b ≡ with_listeners (list_of line) (joined key w (listeners (list_of line) a)) a
-  joins_roster b e =
+  joins_wait_lists b e =
       let x : Listeners Waiter = listeners (list_of line) a in
       ap (λ (r : WaitLists Waiter). with_listeners (list_of line) (registration key w (listeners (list_of line) r)) r) e
       ∙ twice line (listened key x) (registration key w (listeners (list_of line) (with_listeners (list_of line) (listened key x) a))) a

@@ -7,7 +7,7 @@ use Rattle.channel_world_runs.proofs.refinement.Telling.{replaced}
 use Rattle.channel_world_runs.proofs.refinement.Standing.{Nowhere, gone_nowhere, nowhere_gone, keyless_nowhere, rekeyed_lines, keys_gone}
 use Rattle.channel_world_runs.proofs.refinement.Departing.{same_senders, same_receivers}
 use Rattle.channel_world_runs.proofs.refinement.Leaving.{StreamsAreStreams, own_gone, other_gone}
-use Rattle.channel_world_runs.proofs.refinement.Listening.{joins_keys, joins_lines, joins_roster, joined, at_last}
+use Rattle.channel_world_runs.proofs.refinement.Listening.{joins_keys, joins_lines, joins_wait_lists, joined, at_last}
 
 -- ---- keys held
 
@@ -29,7 +29,7 @@ same_list : (line : WaitList) (a : WaitLists Waiter) → with_listeners (list_of
 same_list Sends a = refl
 same_list line a = refl
 
--- the roster b that shows m after the roster a, with w holding this key
+-- the wait lists b that show m after the wait lists a, with w holding this key
 pub record Waited (kind : Kind) (held : KeysHeld) (closed : Bool) (w : Waiter) (a b : WaitLists Waiter) (key : Option Key) (m : Waiting) : Type 0 where
   pub senders : b.senders ≡ a.senders
   pub receivers : b.receivers ≡ a.receivers
@@ -102,7 +102,7 @@ module _ (kind : Kind) (held : KeysHeld) (closed : Bool) (streams : StreamsAreSt
       let same_task : with_task key w x ≡ x =
       ap (λ (es : List (Key × Option Waiter)). let y : Listeners Waiter = record { told = x.told; waiting = es } in y) (set_value_same (same_key key) x.waiting (Some w) found) in
       let same : registration key w x ≡ x = second_of (is_some (told_as x key)) (is_some (waits_as x key)) _ _ _ untold_is waits_is ∙ same_task in
-      let roster : with_listeners (list_of line) (registration key w x) a ≡ a = ap (λ (y : Listeners Waiter). with_listeners (list_of line) y a) same ∙ same_list line a in
+      let wait_lists : with_listeners (list_of line) (registration key w x) a ≡ a = ap (λ (y : Listeners Waiter). with_listeners (list_of line) y a) same ∙ same_list line a in
       let stood : standing line w l ≡ l = rw u refl in (
         waits_by (is_some (told_as x key)) (is_some (waits_as x key)) untold_is waits_is,
         record {
@@ -110,7 +110,7 @@ module _ (kind : Kind) (held : KeysHeld) (closed : Bool) (streams : StreamsAreSt
           receivers = same_receivers line (registration key w x) a;
           lines =
               subst (λ (m : Waiting). ShowsLines kind (with_held w (Some key) held) closed (with_listeners (list_of line) (registration key w x) a) m) (sym stood)
-              (subst (λ (b : WaitLists Waiter). ShowsLines kind (with_held w (Some key) held) closed b l) (sym roster) (subst (λ (g : KeysHeld). ShowsLines kind g closed a l) (sym (held_same w (Some key) held e)) h));
+              (subst (λ (b : WaitLists Waiter). ShowsLines kind (with_held w (Some key) held) closed b l) (sym wait_lists) (subst (λ (g : KeysHeld). ShowsLines kind g closed a l) (sym (held_same w (Some key) held e)) h));
           keys = subst (λ (m : Waiting). KeysFit kind (with_held w (Some key) held) m) (sym stood) (subst (λ (g : KeysHeld). KeysFit kind g l) (sym (held_same w (Some key) held e)) keys);
         },
       )
@@ -141,4 +141,4 @@ module _ (kind : Kind) (held : KeysHeld) (closed : Bool) (streams : StreamsAreSt
       (Some key) (standing line w l)
   listens_so b key u none g =
       comes b key u none g _
-      (joins_roster kind (with_held w None held) closed b (gone w l) line w key k (placed_gone kind w l placed) g.keys (nowhere_gone w l) none g.lines (with_listeners (list_of line) (listened key (listeners (list_of line) b)) b) refl)
+      (joins_wait_lists kind (with_held w None held) closed b (gone w l) line w key k (placed_gone kind w l placed) g.keys (nowhere_gone w l) none g.lines (with_listeners (list_of line) (listened key (listeners (list_of line) b)) b) refl)

@@ -53,14 +53,14 @@ as_many (e ∷ es) = let on = as_many es in omega (arith, on)
 -- ---- one list of four
 
 module _ (kind : Kind) (held : KeysHeld) (closed : Bool) where
-  pub replaced : (line : WaitList) (new : Listeners Waiter) (roster : WaitLists Waiter) (l : Waiting) → ShowsLine kind held closed line new l
-      → ((other : WaitList) → same_line other line ≡ false → ShowsLine kind held closed other (listeners (list_of other) roster) l)
-      → ShowsLines kind held closed (with_listeners (list_of line) new roster) l
-  replaced Sends new roster l own others Sends = own
-  replaced Receives new roster l own others Receives = own
-  replaced Streams new roster l own others Streams = own
-  replaced Closings new roster l own others Closings = own
-  replaced line new roster l own others other = others other refl
+  pub replaced : (line : WaitList) (new : Listeners Waiter) (wait_lists : WaitLists Waiter) (l : Waiting) → ShowsLine kind held closed line new l
+      → ((other : WaitList) → same_line other line ≡ false → ShowsLine kind held closed other (listeners (list_of other) wait_lists) l)
+      → ShowsLines kind held closed (with_listeners (list_of line) new wait_lists) l
+  replaced Sends new wait_lists l own others Sends = own
+  replaced Receives new wait_lists l own others Receives = own
+  replaced Streams new wait_lists l own others Streams = own
+  replaced Closings new wait_lists l own others Closings = own
+  replaced line new wait_lists l own others other = others other refl
 
   pub unmoved : (other : WaitList) (x : Listeners Waiter) (l m : Waiting) → untold other m ≡ untold other l → of_line kind other m.woken ≡ of_line kind other l.woken
       → ShowsLine kind held closed other x l → ShowsLine kind held closed other x m
@@ -125,19 +125,19 @@ module _ (kind : Kind) (held : KeysHeld) (closed : Bool) where
             (subst (λ (es : List (Key × Notice Unit)). AreTold held closed line (x.told ++ es) (of_line kind line l.woken ++ take 1 (untold line l))) (sym (first_told a tag n x.waiting e)) told);
       }
 
-  pub next_others : (line other : WaitList) (roster : WaitLists Waiter) (l : Waiting) → Lined kind l → ShowsLines kind held closed roster l → same_line other line ≡ false
-      → ShowsLine kind held closed other (listeners (list_of other) roster) (after_news (NextIn line) l)
-  next_others line other roster l lined h off =
-      unmoved other (listeners (list_of other) roster) l (after_news (NextIn line) l) (next_other line other l off)
+  pub next_others : (line other : WaitList) (wait_lists : WaitLists Waiter) (l : Waiting) → Lined kind l → ShowsLines kind held closed wait_lists l → same_line other line ≡ false
+      → ShowsLine kind held closed other (listeners (list_of other) wait_lists) (after_news (NextIn line) l)
+  next_others line other wait_lists l lined h off =
+      unmoved other (listeners (list_of other) wait_lists) l (after_news (NextIn line) l) (next_other line other l off)
       (others_woken line other off l.woken (take 1 (untold line l)) (all_of_first line (untold line l) (lined line))) (h other)
 
   -- the next of a line is told as one more
-  pub one_told : (line : WaitList) (roster : WaitLists Waiter) (l : Waiting) → Lined kind l → (closed ≡ false → IsToldSo line true) → ShowsLines kind held closed roster l
-      → ShowsLines kind held closed (with_listeners (list_of line) (told_one (listeners (list_of line) roster)) roster) (after_news (NextIn line) l)
-  one_told line roster l lined so h =
-      let x : Listeners Waiter = listeners (list_of line) roster in
-      replaced line (told_one x) roster (after_news (NextIn line) l) (next_line line true tt (min 1 (length x.waiting)) x l refl so (lined line) (h line))
-      (λ other off. next_others line other roster l lined h off)
+  pub one_told : (line : WaitList) (wait_lists : WaitLists Waiter) (l : Waiting) → Lined kind l → (closed ≡ false → IsToldSo line true) → ShowsLines kind held closed wait_lists l
+      → ShowsLines kind held closed (with_listeners (list_of line) (told_one (listeners (list_of line) wait_lists)) wait_lists) (after_news (NextIn line) l)
+  one_told line wait_lists l lined so h =
+      let x : Listeners Waiter = listeners (list_of line) wait_lists in
+      replaced line (told_one x) wait_lists (after_news (NextIn line) l) (next_line line true tt (min 1 (length x.waiting)) x l refl so (lined line) (h line))
+      (λ other off. next_others line other wait_lists l lined h off)
 
   pub one_woken : (line : WaitList) (x : Listeners Waiter) (l : Waiting) → ShowsLine kind held closed line x l → told_one_wakes x ≡ take 1 (untold line l)
   one_woken line x l h =
@@ -156,12 +156,12 @@ module _ (kind : Kind) (held : KeysHeld) (closed : Bool) where
         told = subst (λ (ws : List Waiter). AreTold held closed line (told_all x).told ws) (sym (own_woken line l.woken (untold line l) all)) told;
       }
 
-  pub all_are_told : (line : WaitList) (roster : WaitLists Waiter) (l : Waiting) → Lined kind l → (closed ≡ false → IsToldSo line false) → ShowsLines kind held closed roster l
-      → ShowsLines kind held closed (with_listeners (list_of line) (told_all (listeners (list_of line) roster)) roster) (all_told line l)
-  all_are_told line roster l lined so h =
-      let x : Listeners Waiter = listeners (list_of line) roster in
-      replaced line (told_all x) roster (all_told line l) (all_line line x l so (lined line) (h line))
-      (λ other off. unmoved other (listeners (list_of other) roster) l (all_told line l) (all_other line other l off) (others_woken line other off l.woken (untold line l) (lined line)) (h other))
+  pub all_are_told : (line : WaitList) (wait_lists : WaitLists Waiter) (l : Waiting) → Lined kind l → (closed ≡ false → IsToldSo line false) → ShowsLines kind held closed wait_lists l
+      → ShowsLines kind held closed (with_listeners (list_of line) (told_all (listeners (list_of line) wait_lists)) wait_lists) (all_told line l)
+  all_are_told line wait_lists l lined so h =
+      let x : Listeners Waiter = listeners (list_of line) wait_lists in
+      replaced line (told_all x) wait_lists (all_told line l) (all_line line x l so (lined line) (h line))
+      (λ other off. unmoved other (listeners (list_of other) wait_lists) l (all_told line l) (all_other line other l off) (others_woken line other off l.woken (untold line l) (lined line)) (h other))
 
   pub all_woken : (line : WaitList) (x : Listeners Waiter) (l : Waiting) → ShowsLine kind held closed line x l → told_all_wakes x ≡ untold line l
   all_woken line x l h = tasks_are held x.waiting (untold line l) h.untold

@@ -61,8 +61,8 @@ pub record ShowsLine (kind : Kind) (held : KeysHeld) (closed : Bool) (line : Wai
 
 -- the four lists show the four lines
 abbrev pub ShowsLines : Kind → KeysHeld → Bool → WaitLists Waiter → Waiting → Type 0
-ShowsLines kind held closed roster waiting =
-    (line : WaitList) → ShowsLine kind held closed line (listeners (list_of line) roster) waiting
+ShowsLines kind held closed wait_lists waiting =
+    (line : WaitList) → ShowsLine kind held closed line (listeners (list_of line) wait_lists) waiting
 
 -- only who waits holds a key, and no two of a line hold the same
 pub record KeysFit (kind : Kind) (held : KeysHeld) (waiting : Waiting) : Type 0 where

@@ -6,7 +6,7 @@ use Rattle.channel_world.proofs.laws.at_rest_nobody_is_left_asleep.Goals as goal
 pub returns : goal.returns
 returns g c =
     let w = (world_state_of c.args.world.now) in
-    let k = c.keeps.ensures in
+    let k = c.keeps_names.ensures.stands in
     let rests = c.a_channel_at_rest_is_a_world.ensures.as_in_the_world in
     let apart = c.keeps_names.ensures.apart in
     record {

@@ -7,7 +7,7 @@ use Rattle.channel_world.proofs.laws.who_sleeps_is_answered_for.Goals as goal
 pub returns : goal.returns
 returns g c =
     let w = (world_state_of c.args.world.now) in
-    let k = c.keeps.ensures in
+    let k = c.keeps_names.ensures.stands in
     let apart = c.keeps_names.ensures.apart in
     record {
       owed = k.stands.owed;

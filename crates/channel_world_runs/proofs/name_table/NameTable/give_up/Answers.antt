@@ -8,4 +8,4 @@ returns-in_default g c = gives_up c.args.self.now c.args.op None c.in_default.en
 pub returns : goal.returns
 returns g c =
     gives_up c.args.self.now c.args.op (Some c.in-Some.entry) c.in-Some.ensures.found _ _
-    (rw (c.waits_in.ensures, c.into_message.ensures, c.key.ensures) refl, rw c.handle-handle.ensures refl, rw (c.hand_over.ensures, c.handle-handle.ensures, c.in-Some.ensures.rest) refl)
+    (rw (c.waits_in-waits_in.ensures, c.into_message-message.ensures, c.key.ensures) refl, rw c.handle-handle.ensures refl, rw (c.hand_over.ensures, c.handle-handle.ensures, c.in-Some.ensures.rest) refl)

@@ -3,6 +3,7 @@ use Rattle.channel_world_runs.specs.Positions.{accepted_by}
 use Rattle.channel_world_model.specs.declared.name.Waiter.{Waiter}
 use Rattle.channel_world_runs.proofs.LoneFacts.{brings_within, is_at_rest, is_called}
 use Rattle.channel_world_runs.proofs.OwnerBegins.{admitted}
+use Rattle.channel_world_runs.proofs.ResultFacts.{on_ok}
 use Rattle.channel_world_runs.proofs.world_state.WorldState.call_alone.Goals as goal
 
 pub begin-requires-2 : goal.begin-requires-2
@@ -35,5 +36,5 @@ returns-clause-ok g c =
     (ap (λ (ws : List Waiter). drop (length ws) full) c.in-Ok.ensures.none)
     (let start = ap (λ (ws : List Waiter). length ws) c.in-Ok.ensures.none in omega (arith, start, c.in-Ok.ensures.room))
     c.requires.room
-    (rw (c.settle-2.ensures, c.wake_all.ensures, b.on_return, b.names) refl)
-    (rw (c.settle.ensures, c.wake_all-2.ensures, b.on_return, c.in-Ok-begin.ensures.ok) refl)
+    (rw (c.settle-2.ensures, c.wake_from.ensures, b.on_return, b.names) refl)
+    (rw (c.settle.ensures, c.wake_from-2.ensures, b.on_return, on_ok _ _ c.if-is_err.ensures.value c.begin.ensures.ok) refl)

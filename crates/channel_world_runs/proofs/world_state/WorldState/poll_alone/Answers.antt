@@ -13,28 +13,6 @@ pub run_alone-reply-requires : goal.run_alone-reply-requires
 run_alone-reply-requires g c =
     let o = c.requires.stands in record { at_rest = is_at_rest c.args.self.now o.configuration o.stands.shown c.requires.quiet }
 
-pub wake_from-requires : goal.wake_from-requires
-wake_from-requires g c =
-    let empty : Sink = record { names = c.args.names } in
-    let start : vec_len c.args.names ≡ length c.args.names.items = c.args.names.ok.0 in
-    let h : Heard empty c.run_alone-reply.new.sink =
-    names_heard (poll_of c.args.name) c.args.self.now c.begin_poll-ask.result.ask c.run_alone-reply.result empty
-    c.run_alone-reply.new.sink (parts_of c.run_alone-reply.new.channel) c.run_alone-reply.new.messages
-    (vec_capacity c.args.names - vec_len c.args.names) c.run_alone-reply.ensures.configurations c.begin_poll-ask.ensures.ask
-    c.requires.stands c.requires.quiet (omega (arith, start)) c.requires.room in
-    let fits = h.fits in omega (arith, fits, c.len-from.ensures)
-
-pub wake_from-requires-2 : goal.wake_from-requires-2
-wake_from-requires-2 g c =
-    let empty : Sink = record { names = c.args.names } in
-    let start : vec_len c.args.names ≡ length c.args.names.items = c.args.names.ok.0 in
-    let h : Heard empty c.run_alone-reply.new.sink =
-    names_heard (poll_of c.args.name) c.args.self.now c.begin_poll-ask.result.ask c.run_alone-reply.result empty
-    c.run_alone-reply.new.sink (parts_of c.run_alone-reply.new.channel) c.run_alone-reply.new.messages
-    (vec_capacity c.args.names - vec_len c.args.names) c.run_alone-reply.ensures.configurations c.begin_poll-ask.ensures.ask
-    c.requires.stands c.requires.quiet (omega (arith, start)) c.requires.room in
-    let fits = h.fits in omega (arith, fits, c.len-from.ensures)
-
 pub returns-clause-capacity : goal.returns-clause-capacity
 returns-clause-capacity g c =
     let empty : Sink = record { names = c.args.names } in

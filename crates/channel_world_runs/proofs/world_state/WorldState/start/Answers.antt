@@ -3,6 +3,7 @@ use Rattle.channel_world_runs.specs.WorldState.{name_state_of}
 use Rattle.channel_world_runs.proofs.OwnerBegins.{admitted}
 use Rattle.channel_world_runs.proofs.OwnerRuns.{idle_and_free}
 use Rattle.channel_world_runs.proofs.WorldStateFacts.{has_begun}
+use Rattle.channel_world_runs.proofs.ResultFacts.{on_ok}
 use Rattle.channel_world_runs.proofs.world_state.WorldState.start.Goals as goal
 
 pub begin-requires-2 : goal.begin-requires-2
@@ -16,5 +17,5 @@ returns-clause-ok g c =
     has_begun c.args.party c.args.call c.args.self.now _ _ c.begun.result
     (rw (← b.ask) c.begun.ensures.begins) (rw (← b.on_return) c.begun.ensures.agent) (rw (← b.ask) c.begun.ensures.activity)
     (rw (c.push_reserved.ensures.items, c.reserve.ensures.items) refl)
-    refl refl c.new.ensures.items refl b.names c.in-Ok.ensures.ok refl refl refl
+    refl refl c.new.ensures.items refl b.names (on_ok _ _ c.if-is_err-2.ensures.value c.begin.ensures.ok) refl refl refl
     (c.if-not-has_position.ensures.enough refl) c.requires.accepted

@@ -4,6 +4,7 @@ use Rattle.channel_world_model.specs.Run.{MayBeDone, MayStop}
 use Rattle.channel_world.proofs.Few.{few_woken}
 use Rattle.channel_world.proofs.FewListed.{few_listed}
 use Rattle.channel_world.proofs.RecordLemmas.{one_done, made_so, none_done, one_recorded, still_recording, sum_is_small}
+use Rattle.channel_world.specs.Listed.{listed}
 use Rattle.channel_world.specs.RecordReplay.{MadeAsSaid}
 use Rattle.channel_world.specs.RecordSeat.{SeatView}
 use Rattle.channel_world.specs.Recording.{RecordingView, IsRecording}
@@ -11,41 +12,43 @@ use Rattle.channel_world.specs.View.{at_rest}
 use Rattle.channel_world.specs.declared.recorded.receipt.Receipt.{Receipt}
 use Rattle.channel_world.proofs.recorded.recording.Recording.call.Goals as goal
 
-pub twice-entry-requires-clause-names : goal.twice-entry-requires-clause-names
-twice-entry-requires-clause-names g c =
+pub copied_receipt-receipt-requires-clause-names : goal.copied_receipt-receipt-requires-clause-names
+copied_receipt-receipt-requires-clause-names g c =
     let before = at_rest c.self.inside.world in
     let after = at_rest c.run_calls-done.new.self in
     let done = c.in-Some-pop.done in
     let does : MayBeDone before c.args.call done after =
-    one_done before after c.args.call c.ask-room.new.asked.items c.run_calls-done.new.calls.items c.pop.new.self.items c.run_calls-done.result.done.items done _
+    one_done before after c.args.call c.ask.new.asked.items c.run_calls-done.new.calls.items c.pop.new.self.items c.run_calls-done.result.done.items done _
     c.run_calls-done.ensures.run c.in-Some.ensures.asked c.in-Some-pop.ensures.items in
     let a : Answer g.row.T.Denot = record { after = after; reply = done.reply; woken = done.woken.items } in
     let few = few_woken before c.args.call a does.1 in
     let room = c.in-Some.ensures.names.1 in
-    omega (arith, few, room)
+    let woken = ap (λ (r : Receipt g.row.T.Denot). length r.woken) c.entry_of-entry.ensures in
+    omega (arith, few, room, woken)
 
-pub twice-entry-requires-clause-messages : goal.twice-entry-requires-clause-messages
-twice-entry-requires-clause-messages g c =
+pub copied_receipt-receipt-requires-clause-messages : goal.copied_receipt-receipt-requires-clause-messages
+copied_receipt-receipt-requires-clause-messages g c =
     let before = at_rest c.self.inside.world in
     let after = at_rest c.run_calls-done.new.self in
     let done = c.in-Some-pop.done in
     let does : MayBeDone before c.args.call done after =
-    one_done before after c.args.call c.ask-room.new.asked.items c.run_calls-done.new.calls.items c.pop.new.self.items c.run_calls-done.result.done.items done _
+    one_done before after c.args.call c.ask.new.asked.items c.run_calls-done.new.calls.items c.pop.new.self.items c.run_calls-done.result.done.items done _
     c.run_calls-done.ensures.run c.in-Some.ensures.asked c.in-Some-pop.ensures.items in
     let a : Answer g.row.T.Denot = record { after = after; reply = done.reply; woken = done.woken.items } in
     let few = few_listed before c.args.call a does.1 in
     let room = c.in-Some.ensures.messages.1 in
-    omega (arith, few, room)
+    let list = ap (λ (r : Receipt g.row.T.Denot). length (listed r.reply)) c.entry_of-entry.ensures in
+    omega (arith, few, room, list)
 
 pub invariant_of-self-in-Some-pop : goal.invariant_of-self-in-Some-pop
 invariant_of-self-in-Some-pop g c =
     let before = at_rest c.self.inside.world in
     let after = at_rest c.run_calls-done.new.self in
     let done = c.in-Some-pop.done in
-    let entry = c.twice-entry.result.0 in
-    let is = c.twice-entry.ensures.entry in
+    let entry = c.entry_of-entry.result in
+    let is = c.entry_of-entry.ensures in
     let does : MayBeDone before c.args.call done after =
-    one_done before after c.args.call c.ask-room.new.asked.items c.run_calls-done.new.calls.items c.pop.new.self.items c.run_calls-done.result.done.items done _
+    one_done before after c.args.call c.ask.new.asked.items c.run_calls-done.new.calls.items c.pop.new.self.items c.run_calls-done.result.done.items done _
     c.run_calls-done.ensures.run c.in-Some.ensures.asked c.in-Some-pop.ensures.items in
     let made : MadeAsSaid before entry after = made_so before after c.args.call done c.len-place.result c.seat.inside.number entry does is in
     let old = c.self.inside.entries.items in
@@ -75,7 +78,7 @@ invariant_of-self g c =
     let v : RecordingView g.row.T.Denot = record { capacity = c.self.inside.capacity; state = state; entries = c.self.inside.entries.items; seats = c.self.inside.made; parts = c.self.inside.left } in (
       c.self.invariant.0,
       c.in_default.ensures.refused,
-      still_recording v state c.ask-room.new.entries.items (vec_len c.self.inside.entries) (vec_len c.ask-room.new.entries) c.self.inside.book.total
+      still_recording v state c.ask.new.entries.items (vec_len c.self.inside.entries) (vec_len c.ask.new.entries) c.self.inside.book.total
           c.self.inside.rest.parts c.self.inside.rest.amount g.L.Ledger.parts c.self.invariant.2 refl c.in_default.ensures.entries.0 c.in_default.ensures.entries.1,
     )
 
@@ -86,19 +89,19 @@ invariant_of-self-in-None-pop g c =
     let done = c.run_calls-done.result.done in
     let empty = c.in-None.ensures.cases.0 in
     let long : vec_len done ≡ length done.items = done.ok.0 in
-    let none = none_done before after c.args.call c.ask-room.new.asked.items c.run_calls-done.new.calls.items done.items c.run_calls-done.result.stopped
+    let none = none_done before after c.args.call c.ask.new.asked.items c.run_calls-done.new.calls.items done.items c.run_calls-done.result.stopped
     c.reason.result c.run_calls-done.ensures.run c.in-Some.ensures.asked (omega (arith, empty, long)) c.reason.ensures in
     let v : RecordingView g.row.T.Denot = record { capacity = c.self.inside.capacity; state = before; entries = c.self.inside.entries.items; seats = c.self.inside.made; parts = c.self.inside.left } in (
       c.run_calls-done.ensures.quiet,
       c.clear.ensures.items,
-      still_recording v after c.ask-room.new.entries.items (vec_len c.self.inside.entries) (vec_len c.ask-room.new.entries) c.self.inside.book.total
+      still_recording v after c.ask.new.entries.items (vec_len c.self.inside.entries) (vec_len c.ask.new.entries) c.self.inside.book.total
           c.self.inside.rest.parts c.self.inside.rest.amount g.L.Ledger.parts c.self.invariant.2 none.0 c.in-Some.ensures.entries.0 c.in-Some.ensures.entries.1,
     )
 
 pub returns-in-Some-pop-clause-place : goal.returns-in-Some-pop-clause-place
 returns-in-Some-pop-clause-place g c =
-    let is = c.twice-entry.ensures.same ∙ c.twice-entry.ensures.entry in
-    let place : c.twice-entry.result.1.place ≡ c.len-place.result = ap (λ (r : Receipt g.row.T.Denot). r.place) is in
+    let is = c.copied_receipt-receipt.ensures.same ∙ c.entry_of-entry.ensures in
+    let place : c.copied_receipt-receipt.result.place ≡ c.len-place.result = ap (λ (r : Receipt g.row.T.Denot). r.place) is in
     let len = c.len-place.ensures in
     let still = c.in-Some.ensures.entries.1 in
     let long : vec_len c.self.inside.entries ≡ length c.self.inside.entries.items = c.self.inside.entries.ok.0 in
@@ -110,12 +113,12 @@ returns-in-Some-pop-clause-made g c =
     let before = at_rest c.self.inside.world in
     let after = at_rest c.run_calls-done.new.self in
     let done = c.in-Some-pop.done in
-    let receipt = c.twice-entry.result.1 in
+    let receipt = c.copied_receipt-receipt.result in
     let does : MayBeDone before c.args.call done after =
-    one_done before after c.args.call c.ask-room.new.asked.items c.run_calls-done.new.calls.items c.pop.new.self.items c.run_calls-done.result.done.items done _
+    one_done before after c.args.call c.ask.new.asked.items c.run_calls-done.new.calls.items c.pop.new.self.items c.run_calls-done.result.done.items done _
     c.run_calls-done.ensures.run c.in-Some.ensures.asked c.in-Some-pop.ensures.items in
     let made : MadeAsSaid before receipt after =
-    made_so before after c.args.call done c.len-place.result c.seat.inside.number receipt does (c.twice-entry.ensures.same ∙ c.twice-entry.ensures.entry) in
+    made_so before after c.args.call done c.len-place.result c.seat.inside.number receipt does (c.copied_receipt-receipt.ensures.same ∙ c.entry_of-entry.ensures) in
     subst (λ (v : RecordingView g.row.T.Denot). MadeAsSaid v.state receipt after) c.self.view_is made
 
 pub returns-in-Some-pop-clause-ends : goal.returns-in-Some-pop-clause-ends
@@ -123,10 +126,10 @@ returns-in-Some-pop-clause-ends g c =
     let before = at_rest c.self.inside.world in
     let after = at_rest c.run_calls-done.new.self in
     let done = c.in-Some-pop.done in
-    let receipt = c.twice-entry.result.1 in
-    let is = c.twice-entry.ensures.same ∙ c.twice-entry.ensures.entry in
+    let receipt = c.copied_receipt-receipt.result in
+    let is = c.copied_receipt-receipt.ensures.same ∙ c.entry_of-entry.ensures in
     let does : MayBeDone before c.args.call done after =
-    one_done before after c.args.call c.ask-room.new.asked.items c.run_calls-done.new.calls.items c.pop.new.self.items c.run_calls-done.result.done.items done _
+    one_done before after c.args.call c.ask.new.asked.items c.run_calls-done.new.calls.items c.pop.new.self.items c.run_calls-done.result.done.items done _
     c.run_calls-done.ensures.run c.in-Some.ensures.asked c.in-Some-pop.ensures.items in
     let place : receipt.place ≡ c.len-place.result = ap (λ (r : Receipt g.row.T.Denot). r.place) is in
     let len = c.len-place.ensures in
@@ -143,8 +146,8 @@ returns-in-Some-pop-clause-ends g c =
 
 pub returns-in-Some-pop-clause-behind : goal.returns-in-Some-pop-clause-behind
 returns-in-Some-pop-clause-behind g c =
-    let is = c.twice-entry.ensures.same ∙ c.twice-entry.ensures.entry in
-    let place : c.twice-entry.result.1.place ≡ c.len-place.result = ap (λ (r : Receipt g.row.T.Denot). r.place) is in
+    let is = c.copied_receipt-receipt.ensures.same ∙ c.entry_of-entry.ensures in
+    let place : c.copied_receipt-receipt.result.place ≡ c.len-place.result = ap (λ (r : Receipt g.row.T.Denot). r.place) is in
     let len = c.len-place.ensures in
     let still = c.in-Some.ensures.entries.1 in
     let bound = c.audit.ensures.bound in
@@ -157,13 +160,13 @@ returns-in-Some-pop-clause-behind g c =
 
 pub returns-in-Some-pop-clause-recorded : goal.returns-in-Some-pop-clause-recorded
 returns-in-Some-pop-clause-recorded g c =
-    let receipt = c.twice-entry.result.1 in
+    let receipt = c.copied_receipt-receipt.result in
     let view = c.self.view_is in
-    let old : c.ask-room.new.entries.items ≡ c.args.self.now.entries = c.in-Some.ensures.entries.0 ∙ ap (λ (v : RecordingView g.row.T.Denot). v.entries) view in
+    let old : c.ask.new.entries.items ≡ c.args.self.now.entries = c.in-Some.ensures.entries.0 ∙ ap (λ (v : RecordingView g.row.T.Denot). v.entries) view in
     let items : c.push_reserved.new.self.items ≡ c.args.self.now.entries ++ receipt ∷ [] =
     c.push_reserved.ensures.items
-    ∙ (ap (λ (es : List (Receipt g.row.T.Denot)). es ++ c.twice-entry.result.0 ∷ []) old
-    ∙ ap (λ (r : Receipt g.row.T.Denot). c.args.self.now.entries ++ r ∷ []) (sym c.twice-entry.ensures.same)) in
+    ∙ (ap (λ (es : List (Receipt g.row.T.Denot)). es ++ c.entry_of-entry.result ∷ []) old
+    ∙ ap (λ (r : Receipt g.row.T.Denot). c.args.self.now.entries ++ r ∷ []) (sym c.copied_receipt-receipt.ensures.same)) in
     let capacity = ap (λ (v : RecordingView g.row.T.Denot). v.capacity) view in
     let seats = ap (λ (v : RecordingView g.row.T.Denot). v.seats) view in
     let parts = ap (λ (v : RecordingView g.row.T.Denot). v.parts) view in
@@ -176,6 +179,6 @@ returns-in-None-clause-why g c =
     let done = c.run_calls-done.result.done in
     let empty = c.in-None.ensures.cases.0 in
     let long : vec_len done ≡ length done.items = done.ok.0 in
-    let none = none_done before after c.args.call c.ask-room.new.asked.items c.run_calls-done.new.calls.items done.items c.run_calls-done.result.stopped
+    let none = none_done before after c.args.call c.ask.new.asked.items c.run_calls-done.new.calls.items done.items c.run_calls-done.result.stopped
     c.reason.result c.run_calls-done.ensures.run c.in-Some.ensures.asked (omega (arith, empty, long)) c.reason.ensures in
     subst (λ (v : RecordingView g.row.T.Denot). MayStop v.state c.args.call (Some c.reason.result)) c.self.view_is none.1

@@ -1,4 +1,4 @@
-use Rattle.std.proofs.Common.{◌≡◌, ◌∙◌, ◌∷◌, ◌++◌, [], ℕ, List, ap, arith, length, vec_len, refl}
+use Rattle.std.proofs.Common.{◌≡◌, ◌∙◌, ◌∷◌, ◌++◌, [], ℕ, List, ap, arith, length, vec_len}
 use Rattle.channel_world.proofs.RecordLemmas.{calls_snoc, none_counted, numbers_snoc, told_apart}
 use Rattle.channel_world.specs.RecordSeat.{SeatView, calls_of, numbers_of, sum_below}
 use Rattle.channel_world.specs.View.{at_rest}
@@ -28,8 +28,6 @@ loop-seat-preserved g c =
       within = c.merge.ensures.apart;
       amounts = omega (arith, amount, mine, made, number, calls, numbers, q);
       small = omega (arith, number, few, numbers, len, s);
-      total = refl;
-      entries = refl;
     }
 
 pub returns-clause-counted : goal.returns-clause-counted
@@ -48,13 +46,12 @@ returns-clause-counted g c =
     let gathered = c.if-len-self.false in
     let long = c.len.ensures in
     let whole = c.audit.ensures.whole (omega (arith, p, seats, none, within, gathered, long)) in
-    let total = i.total in
     let entries : vec_len c.self.inside.entries ≡ length c.self.inside.entries.items = c.self.inside.entries.ok.0 in
     let items : vec_len c.args.seats ≡ length c.args.seats.items = c.args.seats.ok.0 in
     let as_many : c.self.inside.made ≡ length c.args.seats.items = omega (arith, p, seats, none, within, gathered, long, items) in
     let told =
     told_apart c.self.inside.made (numbers_of c.args.seats.items) (calls_of c.args.seats.items) (length c.self.inside.entries.items)
-    old.numbered (omega (arith, s, rest, none, left, as_many, items)) (omega (arith, q, rest, whole, total, counted, entries)) in
+    old.numbered (omega (arith, s, rest, none, left, as_many, items)) (omega (arith, q, rest, whole, counted, entries)) in
     (told.0 ∙ ap (λ (n : ℕ). sum_below n) as_many, told.1)
 
 pub returns-then-len-self-clause-gathered : goal.returns-then-len-self-clause-gathered

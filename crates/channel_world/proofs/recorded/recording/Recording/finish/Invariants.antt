@@ -10,8 +10,6 @@ invariant-loop-seat g l = record {
   amounts : l.all.amount + amount_of (numbers_of l.seats.items) (calls_of l.seats.items)
       ≡ amount_of (numbers_of l.fn.seats.items) (calls_of l.fn.seats.items);
   small : numbers_of l.fn.seats.items + (2 ^ 32 - 1) * vec_len l.seats ≤ numbers_of l.seats.items + (2 ^ 32 - 1) * vec_len l.fn.seats;
-  total : l.book.total ≡ l.self-inside.book.total;
-  entries : l.entries ≡ l.self-inside.entries;
 }
 
 abbrev pub decreases-loop-seat : goal.decreases-loop-seat

@@ -4,13 +4,13 @@ use Rattle.std.proofs.lemmas.Option.{get_or_from_slice_get}
 use Rattle.channel_world_runs.specs.Calls.{agent_of}
 use Rattle.channel_world_runs.specs.declared.calls.CallUnderWay.{CallUnderWay}
 use Rattle.channel_world_runs.proofs.CallFacts.{agents_left}
-use Rattle.channel_world_runs.proofs.ending.write_back.Goals as goal
+use Rattle.channel_world_runs.proofs.world_state.WorldState.write_back.Goals as goal
 
 pub returns-in-Some-clause-names : goal.returns-in-Some-clause-names
 returns-in-Some-clause-names g c = λ x there.
-    let calls = c.args.calls.now.items in
-    let y = c.remove-party.result in
-    let same : y ≡ x = c.remove-party.ensures.value ∙ get_or_from_slice_get calls c.args.k x y there in
-    let agents : map (agent_of {T = g.row.T.Denot}) c.remove-party.new.self.items ≡ remove (map agent_of calls) c.args.k =
-    ap (λ (cs : List (CallUnderWay g.row.T.Denot)). map agent_of cs) c.remove-party.ensures.items ∙ agents_left calls c.args.k y c.in-Some.reply in
+    let calls = c.args.self.now.calls.items in
+    let y = c.remove-call.result in
+    let same : y ≡ x = c.remove-call.ensures.value ∙ get_or_from_slice_get calls c.args.k x y there in
+    let agents : map (agent_of {T = g.row.T.Denot}) c.remove-call.new.self.items ≡ remove (map agent_of calls) c.args.k =
+    ap (λ (cs : List (CallUnderWay g.row.T.Denot)). map agent_of cs) c.remove-call.ensures.items ∙ agents_left calls c.args.k y c.in-Some.reply in
     rw (c.in-Some.is, sym same, agents, c.settle-in-Some.ensures, c.settle.ensures, c.into_kept-kept.ensures) refl
