@@ -21,6 +21,13 @@ const SENT: [Did; 3] = [
 /// One who waits for a place is told.
 const RECEIVED: [Did; 2] = [Did::Operated, Did::OneTold(WaitList::Sends)];
 
+/// So did a receive whose message came while it listened, before it was to sleep: its listener leaves.
+const RECEIVED_LISTENING: [Did; 3] = [
+    Did::Operated,
+    Did::OneTold(WaitList::Sends),
+    Did::TakenOff(WaitList::Receives),
+];
+
 /// All who wait are told.
 const CLOSED: [Did; 5] = [
     Did::Operated,
@@ -164,13 +171,15 @@ fn logs_of_two_closings(rt: HostRuntime) {
     }
 }
 
-/// Whether a receive that blocked ended by a message, and told one who waits for a place as the last thing. A call that slept
-/// registered before and after it.
+/// Whether a receive that blocked ended by a message: it told one who waits for a place, and left no listener behind. A call that slept
+/// had asked for a task.
 fn waited<R: Wait + Copy>(r: &Receiver<u64, R>, alloc: Global) -> bool {
     let (received, log) = recv_blocking_logged(r, Log::new(alloc));
-    let slept = log.lines.contains(&Did::Slept);
-    let parked = log.lines.contains(&Did::Parked);
-    let last = log.lines.last() == Some(&Did::OneTold(WaitList::Sends));
+    let lines = log.lines.as_slice();
+    let slept = lines.contains(&Did::Slept);
+    let parked = lines.contains(&Did::Parked);
+    let listened = lines.contains(&Did::Inserted(WaitList::Receives));
+    let last = lines.ends_with(&RECEIVED) || listened && lines.ends_with(&RECEIVED_LISTENING);
     let came = received.is_ok();
     drop((received, log));
     came && last && (parked || !slept)
